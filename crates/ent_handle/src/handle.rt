@@ -1,0 +1,69 @@
+ghost use Rattle.std.specs.Prelude.{◌≡◌, ◌+◌, ◌-◌, ◌*◌, ◌^◌, ◌<◌, ◌≤◌, ◌↔◌, ◌≢◌, IsSome, IfSome, IfNone};
+ghost use Rattle.ent_handle.specs.Handle.{Handle, IsHandle, bits};
+
+use std::marker::Model;
+
+/// Names one tenant of one slot: the slot's index, and the generation that tells its tenants apart.
+///
+/// An index is 0 to 4,294,967,294 and a generation 1 to 2,147,483,647. Handles are ordered by index,
+/// then by generation. As in Bevy, a handle whose slot was given anew is another handle.
+#[derive(Clone, Copy, Debug, PartialEq, Eq, Hash, PartialOrd, Ord)]
+pub struct Handle {
+    index: u32,
+    generation: u32,
+}
+
+impl Model for Handle {
+    ghost use Rattle.ent_handle.specs.Handle.{Handle, IsHandle};
+
+    ghost Value = { Handle };
+
+    ghost view = { λ h. record { index = h.index; generation = h.generation } };
+
+    ghost invariant = { λ h. IsHandle (record { index = h.index; generation = h.generation }) };
+
+    ghost inverse = { λ h. record { index = h.index; generation = h.generation } };
+}
+
+impl Handle {
+    /// The handle of these numbers, or `None` where one of them is out of range.
+    pub fn new(index: u32, generation: u32) -> Option<Self>
+        ensures in_range { IsSome result ↔ IsHandle (record { index = index; generation = generation }) }
+        ensures value { IfSome result (λ h. h ≡ record { index = index; generation = generation }) }
+    {
+        if index < u32::MAX && 1 <= generation && generation < 1 << 31 {
+            Some(Handle { index, generation })
+        } else {
+            None
+        }
+    }
+
+    /// Which slot it is, 0 to 4,294,967,294.
+    pub fn index(self) -> u32
+        ensures { result ≡ self.index }
+    {
+        self.index
+    }
+
+    /// Which tenant of the slot it is, 1 to 2,147,483,647.
+    pub fn generation(self) -> u32
+        ensures { result ≡ self.generation }
+    {
+        self.generation
+    }
+
+    /// The handle in one number: the generation times 2^32, and the index.
+    pub fn to_bits(self) -> u64
+        ensures { result ≡ bits self }
+    {
+        (u64::from(self.generation) << 32) + u64::from(self.index)
+    }
+
+    /// The handle of these bits, or `None` where they are no handle's.
+    pub fn from_bits(of: u64) -> Option<Self>
+        ensures found { IfSome result (λ h. bits h ≡ of) }
+        ensures none { IfNone result ((h : Handle) → IsHandle h → bits h ≢ of) }
+    {
+        Handle::new((of & 0xffff_ffff) as u32, (of >> 32) as u32)
+    }
+}
