@@ -1,0 +1,133 @@
+-- The sequential allocator: what one caller alone would see. Each call of this crate is one of its steps,
+-- and the calls of many threads are compared with it.
+use Rattle.std.specs.Prelude.{ℕ, ◌+◌, ◌-◌, ℤ, pos, negsuc, suc, zero, ◌-ℤ◌, Bool, nat_lt, nat_le, ◌==◌, if◌then◌else◌, List, [], ◌∷◌, ◌++◌, length, take, drop, reverse, filter, Result, Ok, Err}
+use Rattle.std.specs.List.{list_any}
+use Rattle.std.specs.Ordering.{eq_by_cmp}
+use Rattle.std.specs.FinSet as set
+use Rattle.std.specs.FinMap as map
+use Rattle.ent_handle.specs.Handle.{Handle, handle_cmp}
+use Rattle.ent_alloc.specs.Limits.{Limits}
+use Rattle.ent_alloc.specs.declared.space.Space.{Space}
+use Rattle.ent_alloc.specs.declared.state.State.{State}
+use Rattle.ent_alloc.specs.declared.state.State.TheVariants.{Alive, Reserved, Gone}
+
+-- Where a handle stands: alive, or in a list of those that may be given. The pool is given from its front;
+-- taken is what was given and is not yet alive; aside is what a refused wish has passed over. made counts the
+-- slots that have ever had a tenant, asked all that was wished for since the last flush. rows is what a caller
+-- keeps with a living handle.
+pub record Allocator : Type 0 where
+  pub limits : Limits
+  pub live : set.FinSet handle_cmp
+  pub rows : map.FinMap handle_cmp ℕ
+  pub pool : List Handle
+  pub taken : List Handle
+  pub aside : List Handle
+  pub made : ℕ
+  pub asked : ℕ
+
+-- the first tenants of so many slots, from an index on
+unfoldable pub fresh : ℕ → ℕ → List Handle
+fresh index zero = []
+fresh index (suc slots) = record { index = index; generation = 1 } ∷ fresh (index + 1) slots
+
+-- the allocator that has given nothing
+abbrev pub opening : Limits → Allocator
+opening limits = record {
+  limits = limits;
+  live = set.empty;
+  rows = map.empty;
+  pool = fresh 0 limits.slots;
+  taken = [];
+  aside = [];
+  made = 0;
+  asked = 0;
+}
+
+-- its slot has had a tenant; it hasn't
+abbrev pub is_old : ℕ → Handle → Bool
+is_old made h = nat_lt h.index made
+
+abbrev pub is_fresh : ℕ → Handle → Bool
+is_fresh made h = nat_le made h.index
+
+-- what there was to give after the last flush, in the order in which it is given
+abbrev pub available : Allocator → List Handle
+available s = s.taken ++ (s.aside ++ s.pool)
+
+-- how many old handles there were to give
+abbrev pub top : Allocator → ℕ
+top s = length (filter (is_old s.made) (available s))
+
+-- what the atomic word counts down
+abbrev pub cursor : Allocator → ℤ
+cursor s = pos (top s) -ℤ pos s.asked
+
+-- A wish takes the front of the pool where there is enough; else the whole pool is passed over.
+abbrev pub after_take : Allocator → ℕ → Allocator
+after_take s n =
+    if nat_le n (length s.pool)
+    then record s { taken = s.taken ++ take n s.pool; pool = drop n s.pool; asked = s.asked + n }
+    else record s { aside = s.aside ++ s.pool; pool = []; asked = s.asked + n }
+
+-- how a reply lists what it gives: the old handles, the last of the pool first, then the fresh ones
+abbrev pub listed : ℕ → List Handle → List Handle
+listed made given = reverse (filter (is_old made) given) ++ filter (is_fresh made) given
+
+-- the reply to a wish for n where this is the pool
+abbrev pub reply_from : ℕ → List Handle → ℕ → Result (List Handle) Space
+reply_from made pool n =
+    if nat_le n (length pool) then Ok (listed made (take n pool)) else Err (record { wanted = n; left = length pool })
+
+abbrev pub reply_to : Allocator → ℕ → Result (List Handle) Space
+reply_to s n = reply_from s.made s.pool n
+
+-- what a flush brings to life, in its order: the fresh handles, then the old ones, the last of the pool first
+abbrev pub born : Allocator → List Handle
+born s = filter (is_fresh s.made) s.taken ++ reverse (filter (is_old s.made) s.taken)
+
+-- what was taken comes to life, and what was passed over is available again
+abbrev pub after_flush : Allocator → Allocator
+after_flush s = record s {
+  live = set.union s.live (set.from_list s.taken);
+  pool = s.aside ++ s.pool;
+  taken = [];
+  aside = [];
+  made = s.made + length (filter (is_fresh s.made) s.taken);
+  asked = 0;
+}
+
+-- the handle at the front of the pool comes to life at once
+abbrev pub after_alloc : Allocator → Handle → Allocator
+after_alloc s h = record s {
+  live = set.insert s.live h;
+  pool = drop 1 s.pool;
+  made = if is_old s.made h then s.made else s.made + 1;
+}
+
+-- what the slot gives after this handle: the next generation, and the first one after the last
+abbrev pub next : Limits → Handle → Handle
+next limits h = record { index = h.index; generation = if h.generation == limits.generations then 1 else h.generation + 1 }
+
+-- a living handle goes, and its slot's next one stands at the front of the pool
+abbrev pub after_free : Allocator → Handle → Allocator
+after_free s h = record s {
+  live = set.remove s.live h;
+  rows = map.remove s.rows h;
+  pool = next s.limits h ∷ s.pool;
+}
+
+-- how much had been asked where the cursor is high
+abbrev pub asked_at : ℕ → ℤ → ℕ
+asked_at top (pos high) = top - high
+asked_at top (negsuc below) = top + suc below
+
+-- what was left of the pool there
+abbrev pub pool_at : Allocator → ℤ → List Handle
+pool_at s high = drop (asked_at (top s) high) (available s)
+
+abbrev pub stands_in : List Handle → Handle → Bool
+stands_in handles h = list_any (eq_by_cmp handle_cmp h) handles
+
+-- what became of a handle
+abbrev pub state_of : Allocator → Handle → State
+state_of s h = if set.contains s.live h then Alive else (if stands_in s.taken h then Reserved else Gone)

@@ -1,0 +1,63 @@
+ghost use Rattle.std.specs.Prelude.{◌≡◌, ◌-◌, ◌^◌, ◌<◌, ◌≤◌, ◌↔◌, IsSome, IfSome};
+ghost use Rattle.ent_alloc.specs.Limits.{AreLimits};
+
+use std::marker::Model;
+
+/// How far an allocator may go: how many slots it may make, and the last generation of a slot.
+///
+/// This project's own; Bevy has the greatest limits alone.
+#[derive(Clone, Copy, Debug, PartialEq, Eq)]
+pub struct Limits {
+    slots: u32,
+    generations: u32,
+}
+
+impl Model for Limits {
+    ghost use Rattle.ent_alloc.specs.Limits.{Limits, AreLimits};
+
+    ghost Value = { Limits };
+
+    ghost view = { λ l. record { slots = l.slots; generations = l.generations } };
+
+    ghost invariant = { λ l. AreLimits (record { slots = l.slots; generations = l.generations }) };
+
+    ghost inverse = { λ l. record { slots = l.slots; generations = l.generations } };
+}
+
+impl Limits {
+    /// Slots 1 to 4,294,967,295 and generations 1 to 2,147,483,647; `None` where one is out of its range.
+    pub fn new(slots: u32, generations: u32) -> Option<Self>
+        ensures in_range { IsSome result ↔ AreLimits (record { slots = slots; generations = generations }) }
+        ensures value { IfSome result (λ l. l ≡ record { slots = slots; generations = generations }) }
+    {
+        if 1 <= slots && 1 <= generations && generations < 1 << 31 {
+            Some(Limits { slots, generations })
+        } else {
+            None
+        }
+    }
+
+    /// The greatest limits, which are Bevy's.
+    pub fn default_limits() -> Self
+        ensures { result ≡ record { slots = 2 ^ 32 - 1; generations = 2 ^ 31 - 1 } }
+    {
+        Limits {
+            slots: u32::MAX,
+            generations: (1 << 31) - 1,
+        }
+    }
+
+    /// How many slots may be made: an index is below it.
+    pub fn slots(self) -> u32
+        ensures { result ≡ self.slots }
+    {
+        self.slots
+    }
+
+    /// The last generation of a slot.
+    pub fn generations(self) -> u32
+        ensures { result ≡ self.generations }
+    {
+        self.generations
+    }
+}

@@ -1,0 +1,8 @@
+/// A wish for handles that the pool couldn't serve.
+#[derive(Clone, Copy, Debug, PartialEq, Eq)]
+pub struct Space {
+    /// How many handles were wished for.
+    pub wanted: u32,
+    /// How many the pool still had.
+    pub left: u32,
+}
