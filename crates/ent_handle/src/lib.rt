@@ -3,10 +3,17 @@
 
 mod birth;
 mod component;
+mod decimal;
 mod handle;
 mod memory;
+mod text;
 
 pub use birth::Birth;
 pub use component::ComponentId;
+pub use decimal::read_decimal;
 pub use handle::Handle;
 pub use memory::Memory;
+pub use text::{TextFault, split_once};
+
+#[cfg(test)]
+mod tests;
