@@ -1,0 +1,173 @@
+-- The handles of some rows, by birth and then by handle.
+use Rattle.std.proofs.Common.{◌≡◌, ◌≢◌, ℕ, zero, suc, ◌<◌, Bool, true, false, cond, List, [], ◌∷◌, map, length, get_or, Option, Some, None, Contains, IsSomeAnd, IsTrue, unwrap_or, refl, sym, ap, subst, ◌∙◌, arith}
+use Rattle.std.specs.declared.cmp.Ordering.{Ordering}
+use Rattle.std.specs.declared.cmp.Ordering.TheVariants.{Less, Equal, Greater}
+use Rattle.std.specs.Ordering.{is_lt, is_eq, eq_by_cmp, ordering_then, ordering_reverse}
+use Rattle.std.specs.Option.{option_map, option_cmp}
+use Rattle.std.specs.Cmp.{IsTotalOrder, then_total, nat_cmp_total, on_total, eq_by_cmp_equiv}
+use Rattle.std.specs.List.{All, AllPairs, filter, IsDistinct}
+use Rattle.std.proofs.lemmas.List.{get_or-map, get_or_default, length-map}
+use Rattle.std.proofs.lemmas.List.Sorted.{sorted_far, ranks_by, All-permutation, Contains-permutation}
+use Rattle.std.proofs.lemmas.List.Elements.{All-filter, filter_passes}
+use Rattle.std.proofs.lemmas.List.Kept.{AllPairs-filter}
+use Rattle.std.proofs.lemmas.Map.Keys.{IsDistinct-from_apart, IsDistinct-IsPermutation, apart_from_distinct}
+use Rattle.std.specs.FinMap as finite
+use Rattle.std.specs.FinMap.{FinMap}
+use Rattle.ent_handle.specs.declared.birth.Birth.{Birth}
+use Rattle.ent_handle.specs.Handle.{Handle, handle_cmp, handle_cmp_total, handle_cmp-IsAntisymmetric}
+use Rattle.ent_storage.specs.declared.row.Row.{Row}
+use Rattle.ent_storage.specs.Entities.{Entity}
+use Rattle.ent_storage.specs.Rows.{entity_of, entities_of, IsIndexed}
+use Rattle.ent_storage.specs.BirthOrder.{birth_cmp, birth_order, born_cmp, ListsByBirth, IsInOrder}
+use Rattle.ent_storage.proofs.Keys.{apart}
+use Rattle.ent_storage.proofs.Indexed.{some_row, get_placed, placed_from_get, distinct}
+
+-- ---- the order is total
+
+birth_cmp_total : IsTotalOrder birth_cmp
+birth_cmp_total =
+    then_total (on_total (λ (b : Birth). b.frame) nat_cmp_total) (then_total (on_total (λ (b : Birth). b.system) nat_cmp_total) (on_total (λ (b : Birth). b.ordinal) nat_cmp_total))
+
+born_cmp_total : IsTotalOrder born_cmp
+born_cmp_total =
+    then_total (on_total (λ (b : Birth × Handle). b.0) birth_cmp_total) (on_total (λ (b : Birth × Handle). b.1) handle_cmp_total)
+
+-- an order that does not turn, at handles that differ
+strictly : (r s : Ordering) → is_lt (ordering_reverse (ordering_then r s)) ≡ false → is_eq s ≡ false → ordering_then r s ≡ Less
+strictly Less s h n = refl
+strictly Equal Less h n = refl
+strictly Equal Equal h n = cc
+strictly Equal Greater h n = cc
+strictly Greater s h n = cc
+
+same_entity : (a b : Entity) → Some a ≡ Some b → a ≡ b
+same_entity a b e = ap (λ (o : Option Entity). unwrap_or o a) e
+
+-- ---- membership
+
+contains_map : {X Y : Type 0} (f : X → Y) (xs : List X) (x : X) → Contains xs x → Contains (map f xs) (f x)
+contains_map f xs x h = (h.0, omega (arith, length-map xs f, h.1), get_or-map f xs h.0 x (f x) h.1 ∙ ap f h.2)
+
+later : {X : Type 0} (xs : List X) (y x : X) → Contains xs x → Contains (y ∷ xs) x
+later xs y x h = (suc h.0, omega (arith, h.1), h.2)
+
+contains_filter : {X : Type 0} (p : X → Bool) (xs : List X) (x : X) (k : ℕ) → k < length xs → get_or xs k x ≡ x → p x ≡ true → Contains (filter p xs) x
+contains_filter p [] x k l e pass = absurd (omega arith)
+contains_filter p (y ∷ ys) x zero l e pass =
+    subst (λ b. Contains (cond b (y ∷ filter p ys) (filter p ys)) x) (sym (ap p e ∙ pass)) (0, omega arith, e)
+contains_filter p (y ∷ ys) x (suc k) l e pass =
+    let rest = contains_filter p ys x k (omega arith) e pass in
+    elim (p y) as (λ b. Contains (cond b (y ∷ filter p ys) (filter p ys)) x) [ true ↦ later _ y x rest | false ↦ rest ]
+
+pub filter-all : {X : Type 0} (xs : List X) → filter (λ _. true) xs ≡ xs
+filter-all [] = refl
+filter-all (x ∷ xs) = ap (λ ys. x ∷ ys) (filter-all xs)
+
+-- ---- the births of the rows that pass
+
+abbrev born_of : Row → Birth × Handle
+born_of row = (row.birth, row.handle)
+
+module _ (rows : List Row) (index : FinMap handle_cmp ℕ) (indexed : IsIndexed rows index) (passes : Entity → Bool) where
+  abbrev chosen : List Row
+  chosen = filter (λ row. passes (entity_of row)) rows
+
+  abbrev births : List (Birth × Handle)
+  births = map born_of chosen
+
+  -- an entity that passes has this birth and this handle
+  record IsBorn (b : Birth × Handle) : Type 0 where
+    entity : Entity
+    there : finite.get (entities_of rows) b.1 ≡ Some entity
+    birth : entity.birth ≡ b.0
+    pass : passes entity ≡ true
+
+  all_there : All (λ row. finite.get (entities_of rows) row.handle ≡ Some (entity_of row)) rows
+  all_there k d l = get_placed rows index indexed (get_or rows k d).handle k d (indexed.each_row k l d)
+
+  all_born : All IsBorn births
+  all_born k d l =
+      let r : Row = some_row d.1 in
+      let below : k < length chosen = omega (arith, length-map {B = Birth × Handle} chosen born_of) in
+      let at = get_or-map born_of chosen k r d below in
+      subst IsBorn (sym at) (record {
+        entity = entity_of (get_or chosen k r);
+        there = All-filter (λ row. passes (entity_of row)) (λ row. finite.get (entities_of rows) row.handle ≡ Some (entity_of row)) rows all_there k r below;
+        birth = refl;
+        pass = filter_passes (λ row. passes (entity_of row)) rows k r below;
+      })
+
+  abbrev alike : Birth × Handle → Birth × Handle → Bool
+  alike a b = eq_by_cmp handle_cmp a.1 b.1
+
+  births_apart : IsDistinct alike births
+  births_apart = IsDistinct-from_apart alike births (λ i j d l k.
+      let r : Row = some_row d.1 in
+      let below : j < length chosen = omega (arith, length-map {B = Birth × Handle} chosen born_of) in
+      let at_i = get_or-map born_of chosen i r d (omega arith) in
+      let at_j = get_or-map born_of chosen j r d below in
+      let differ = AllPairs-filter (λ (a b : Row). a.handle ≢ b.handle) (λ row. passes (entity_of row)) rows (λ i j d l k e. let twice : i ≡ j = distinct rows index indexed i j d (omega arith) k e in absurd (omega arith)) i j r l below in
+      rw (at_i, at_j) (apart handle_cmp_total handle_cmp-IsAntisymmetric _ _ differ))
+
+  module _ (handles : List Handle) (ordered : IsInOrder births handles) where
+    abbrev sorted : List (Birth × Handle)
+    sorted = ordered.sorted
+
+    all_sorted : All IsBorn sorted
+    all_sorted = All-permutation IsBorn births sorted ordered.permutation all_born
+
+    sorted_apart : IsDistinct alike sorted
+    sorted_apart =
+        IsDistinct-IsPermutation alike (λ x y. (eq_by_cmp_equiv handle_cmp_total).symm x.1 y.1) births sorted ordered.permutation births_apart
+
+    in_order : (i j : ℕ) (b : Birth × Handle) → i < j → j < length sorted → birth_order (entities_of rows) (get_or sorted i b).1 (get_or sorted j b).1 ≡ Less
+    in_order i j b l k =
+        let x = get_or sorted i b in
+        let y = get_or sorted j b in
+        let born_x : IsBorn (get_or sorted i b) = all_sorted i b (omega arith) in
+        let born_y : IsBorn (get_or sorted j b) = all_sorted j b k in
+        let birth_x = ap (λ (o : Option Entity). option_map (λ (e : Entity). e.birth) o) born_x.there ∙ ap Some born_x.birth in
+        let birth_y = ap (λ (o : Option Entity). option_map (λ (e : Entity). e.birth) o) born_y.there ∙ ap Some born_y.birth in
+        let unturned = sorted_far (λ (p q : Birth × Handle). is_lt (born_cmp p q)) (ranks_by born_cmp_total (λ p. p)) sorted ordered.in_order i j b (omega arith) k in
+        let turned = ap is_lt (sym (born_cmp_total.antisymm y x)) ∙ unturned in
+        let differ = apart_from_distinct alike sorted i j b sorted_apart l k in
+        (λ t. ordering_then (option_cmp birth_cmp (birth_x t) (birth_y t)) (handle_cmp x.1 y.1)) ∙ strictly (birth_cmp x.0 y.0) (handle_cmp x.1 y.1) turned differ
+
+    rising : AllPairs (λ a b. birth_order (entities_of rows) a b ≡ Less) (map (λ (born : Birth × Handle). born.1) sorted)
+    rising i j d l k =
+        let b : Birth × Handle = (record { frame = 0; system = 0; ordinal = 0 }, d) in
+        let below : j < length sorted = omega (arith, length-map {B = Handle} sorted (λ born. born.1)) in
+        let at_i = get_or-map (λ (born : Birth × Handle). born.1) sorted i b d (omega arith) in
+        let at_j = get_or-map (λ (born : Birth × Handle). born.1) sorted j b d below in
+        (λ t. birth_order (entities_of rows) (at_i t) (at_j t)) ∙ in_order i j b l below
+
+    from_list : (h : Handle) → Contains (map (λ (born : Birth × Handle). born.1) sorted) h → IsSomeAnd (finite.get (entities_of rows) h) (λ e. IsTrue (passes e))
+    from_list h at =
+        let b : Birth × Handle = (record { frame = 0; system = 0; ordinal = 0 }, h) in
+        let below : at.0 < length sorted = omega (arith, length-map {B = Handle} sorted (λ born. born.1), at.1) in
+        let is = sym (get_or-map (λ (born : Birth × Handle). born.1) sorted at.0 b h below) ∙ at.2 in
+        let born : IsBorn (get_or sorted at.0 b) = all_sorted at.0 b below in
+        subst (λ (o : Option Entity). IsSomeAnd o (λ e. IsTrue (passes e))) (sym (ap (finite.get (entities_of rows)) (sym is) ∙ born.there)) born.pass
+
+    of_row : (h : Handle) (e : Entity) (i : ℕ) → finite.get (entities_of rows) h ≡ Some e → finite.get index h ≡ Some i → passes e ≡ true → Contains (map (λ (born : Birth × Handle). born.1) sorted) h
+    of_row h e i found placed pass =
+        let r : Row = some_row h in
+        let row : Row = get_or rows i r in
+        let at = indexed.each_place h i placed in
+        let is : entity_of row ≡ e = same_entity (entity_of row) e (sym (get_placed rows index indexed h i r placed) ∙ found) in
+        let read = get_or_default rows i row r at.0 in
+        let among = contains_filter (λ row. passes (entity_of row)) rows row i at.0 read (ap passes is ∙ pass) in
+        let listed = Contains-permutation births sorted (born_of row) ordered.permutation (contains_map born_of chosen row among) in
+        subst (λ q. Contains (map (λ (born : Birth × Handle). born.1) sorted) q) (at.1 r) (contains_map (λ (born : Birth × Handle). born.1) sorted (born_of row) listed)
+
+    to_list : (h : Handle) (o : Option Entity) → finite.get (entities_of rows) h ≡ o → IsSomeAnd o (λ e. IsTrue (passes e)) → Contains (map (λ (born : Birth × Handle). born.1) sorted) h
+    to_list h None found pass = absurd pass
+    to_list h (Some e) found pass =
+        let place = placed_from_get rows index indexed h e found in
+        of_row h e place.0 found place.1 pass
+
+    pub lists : ListsByBirth passes (entities_of rows) handles
+    lists = subst (ListsByBirth passes (entities_of rows)) (sym ordered.are) (record {
+      rising = rising;
+      holds = λ h. (from_list h, to_list h _ refl);
+    })

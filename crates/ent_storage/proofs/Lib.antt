@@ -1,0 +1,7 @@
+pub mod ByBirth
+pub mod HandleOrder
+pub mod Indexed
+pub mod Keys
+pub mod Missing
+pub mod PlacesLemmas
+pub mod Rising

@@ -1,0 +1,45 @@
+-- Lists of handles in the order of birth.
+use Rattle.std.specs.Prelude.{◌≡◌, Bool, true, ◌↔◌, List, map, Contains, IsTrue, IsSomeAnd}
+use Rattle.std.specs.Option.{option_cmp}
+use Rattle.std.specs.declared.cmp.Ordering.{Ordering}
+use Rattle.std.specs.declared.cmp.Ordering.TheVariants.{Less}
+use Rattle.std.specs.Ordering.{nat_cmp, ordering_then}
+use Rattle.std.specs.List.{AllPairs}
+use Rattle.std.specs.List.Sorted.{IsPermutation, IsSorted}
+use Rattle.std.specs.FinMap as finite
+use Rattle.ent_handle.specs.declared.birth.Birth.{Birth}
+use Rattle.ent_handle.specs.declared.component.ComponentId.{ComponentId}
+use Rattle.ent_handle.specs.Handle.{Handle, handle_cmp}
+use Rattle.ent_storage.specs.Entities.{Entity, Entities, birth_of}
+
+-- by frame, then by system, then by ordinal
+abbrev pub birth_cmp : Birth → Birth → Ordering
+birth_cmp a b = ordering_then (nat_cmp a.frame b.frame) (ordering_then (nat_cmp a.system b.system) (nat_cmp a.ordinal b.ordinal))
+
+-- by birth, then by handle
+abbrev pub birth_order : Entities → Handle → Handle → Ordering
+birth_order m a b = ordering_then (option_cmp birth_cmp (birth_of m a) (birth_of m b)) (handle_cmp a b)
+
+-- the list has each entity that passes, and no other handle, each before those that come later in the order of birth
+pub record ListsByBirth (passes : Entity → Bool) (m : Entities) (handles : List Handle) : Type 0 where
+  pub rising : AllPairs (λ a b. birth_order m a b ≡ Less) handles
+  pub holds : (h : Handle) → Contains handles h ↔ IsSomeAnd (finite.get m h) (λ e. IsTrue (passes e))
+
+-- all entities
+abbrev pub ListsAll : Entities → List Handle → Type 0
+ListsAll = ListsByBirth (λ _. true)
+
+-- the entities that have the component
+abbrev pub ListsWith : ComponentId → Entities → List Handle → Type 0
+ListsWith id = ListsByBirth (λ e. finite.contains_key e.components id)
+
+-- births with their handles, as they are compared
+abbrev pub born_cmp : (a b : Birth × Handle) → Ordering
+born_cmp a b = ordering_then (birth_cmp a.0 b.0) (handle_cmp a.1 b.1)
+
+-- the handles are those of the births, in order
+pub record IsInOrder (births : List (Birth × Handle)) (handles : List Handle) : Type 0 where
+  pub sorted : List (Birth × Handle)
+  pub permutation : IsPermutation births sorted
+  pub in_order : IsSorted born_cmp sorted
+  pub are : handles ≡ map (λ born. born.1) sorted

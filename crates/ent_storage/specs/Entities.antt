@@ -1,0 +1,52 @@
+-- Living entities: a finite map from handles to births and components.
+use Rattle.std.specs.Prelude.{ℕ, ℤ, Option, refl, option_and_then}
+use Rattle.std.specs.Coded.{Coded, code_by, coded×, coded_ℕ}
+use Rattle.std.specs.Option.{option_map, option_map_or}
+use Rattle.std.specs.FinMap as map
+use Rattle.ent_handle.specs.declared.birth.Birth.{Birth}
+use Rattle.ent_handle.specs.declared.component.ComponentId.{ComponentId}
+use Rattle.ent_handle.specs.Handle.{Handle, handle_cmp, handle_code}
+use Rattle.ent_storage.specs.Component.{Components, components_code}
+
+-- when an entity was brought to life, and what it has
+pub record Entity : Type 0 where
+  pub birth : Birth
+  pub components : Components
+
+-- each living entity, under its handle
+abbrev pub Entities : Type 0
+Entities = map.FinMap handle_cmp Entity
+
+-- an entity as it is born
+abbrev pub newborn : Birth → Entity
+newborn birth = record { birth = birth; components = map.empty }
+
+abbrev pub birth_of : Entities → Handle → Option Birth
+birth_of m h = option_map (λ e. e.birth) (map.get m h)
+
+abbrev pub components_of : Entities → Handle → Option Components
+components_of m h = option_map (λ e. e.components) (map.get m h)
+
+abbrev pub value_of : Entities → Handle → ComponentId → Option ℤ
+value_of m h id = option_and_then (λ e. map.get e.components id) (map.get m h)
+
+-- the map after the components of the entity under a handle were changed
+abbrev pub with_components : Entities → Handle → (Components → Components) → Entities
+with_components m h change =
+    option_map_or (λ e. map.insert m h (record e { components = change e.components })) (map.get m h) m
+
+-- what a storage stands for: its entities, and for how many more it has room
+pub record Store : Type 0 where
+  pub entities : Entities
+  pub spare : ℕ
+
+abbrev pub birth_code : Coded Birth
+birth_code =
+    code_by (ℕ × (ℕ × ℕ)) (coded× coded_ℕ (coded× coded_ℕ coded_ℕ)) (λ b. (b.frame, (b.system, b.ordinal))) (λ p. record { frame = p.0; system = p.1.0; ordinal = p.1.1 }) (λ _. refl)
+
+abbrev pub entity_code : Coded Entity
+entity_code = code_by (Birth × Components) (coded× birth_code components_code) (λ e. (e.birth, e.components)) (λ p. record { birth = p.0; components = p.1 }) (λ _. refl)
+
+-- a store is stored as the pair of its parts
+abbrev pub store_code : Coded Store
+store_code = code_by (Entities × ℕ) (coded× (map.code handle_code entity_code) coded_ℕ) (λ s. (s.entities, s.spare)) (λ p. record { entities = p.0; spare = p.1 }) (λ _. refl)

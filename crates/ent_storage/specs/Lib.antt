@@ -1,0 +1,6 @@
+pub mod Component
+pub mod Entities
+pub mod BirthOrder
+pub mod Place
+pub mod Places
+pub mod Rows

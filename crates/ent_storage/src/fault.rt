@@ -1,0 +1,45 @@
+ghost use Rattle.std.specs.Prelude.{◌≡◌};
+ghost use Rattle.ent_storage.specs.declared.fault.StorageFault.TheVariants.{Memory};
+
+use std::alloc::AllocError;
+use std::error::Error;
+use std::fmt;
+
+/// Why a storage refused a call. It is then as it was before.
+#[derive(Clone, Copy, Debug, PartialEq, Eq)]
+pub enum StorageFault {
+    /// No entity has that handle.
+    Absent,
+    /// An entity has that handle already.
+    Present,
+    /// Memory ran out: a growth was really refused.
+    Memory,
+}
+
+impl fmt::Display for StorageFault {
+    fn fmt<W: fmt::Write>(&self, f: &mut fmt::Formatter<W>) -> fmt::Result {
+        f.write_str(match self {
+            StorageFault::Absent => "no such entity",
+            StorageFault::Present => "the entity is there already",
+            StorageFault::Memory => "out of memory",
+        })
+    }
+}
+
+impl Error for StorageFault {}
+
+impl From<AllocError> for StorageFault {
+    ghost from_gives = { λ _ fault. fault ≡ Memory };
+
+    fn from(_refused: AllocError) -> Self {
+        StorageFault::Memory
+    }
+}
+
+impl From<ent_handle::Memory> for StorageFault {
+    ghost from_gives = { λ _ fault. fault ≡ Memory };
+
+    fn from(_refused: ent_handle::Memory) -> Self {
+        StorageFault::Memory
+    }
+}

@@ -1,0 +1,52 @@
+ghost use Rattle.std.specs.Prelude.{◌≡◌};
+ghost use Rattle.std.specs.Iterator.{YieldsFirst, item_count};
+
+use ent_handle::ComponentId;
+use std::marker::Model;
+
+/// The components of one entity and their values, by rising number.
+#[derive(Drop)]
+pub struct Items<'a> {
+    left: &'a [(ComponentId, i64)],
+}
+
+impl<'a> Model for Items<'a> {
+    ghost use Rattle.std.specs.Prelude.{ℤ, List};
+    ghost use Rattle.ent_handle.specs.declared.component.ComponentId.{ComponentId};
+
+    ghost Value = { List (ComponentId × ℤ) };
+
+    ghost view = { λ a. a.left.now };
+}
+
+impl<'a> Items<'a> {
+    pub(crate) fn new(left: &'a [(ComponentId, i64)]) -> Self
+        ensures { result ≡ left.now }
+    {
+        Items { left }
+    }
+}
+
+impl Iterator for Items<'_> {
+    type Item = (ComponentId, i64);
+
+    ghost next_gives = { YieldsFirst (λ items. items) };
+
+    ghost remaining = { item_count (λ items. items) };
+
+    fn next(&mut self) -> Option<(ComponentId, i64)> {
+        let (first, others) = self.left.split_first()?;
+        self.left = others;
+        Some(*first)
+    }
+
+    fn size_hint(&self) -> (usize, Option<usize>) {
+        (self.left.len(), Some(self.left.len()))
+    }
+}
+
+impl ExactSizeIterator for Items<'_> {
+    fn len(&self) -> usize {
+        self.left.len()
+    }
+}
