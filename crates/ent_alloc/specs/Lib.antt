@@ -1,2 +1,4 @@
 pub mod Limits
 pub mod Sequential
+pub mod Sound
+pub mod Given

@@ -1,0 +1,58 @@
+-- What a flush brings to life: exactly what was taken, the fresh handles in rising order of index.
+use Rattle.std.proofs.Common.{◌≡◌, sym, subst, ◌-◌, ◌<◌, ◌++◌, length, get_or, take, reverse, filter, All, AllPairs, Contains, IsPermutation, ◌⊎◌}
+use Rattle.std.proofs.lemmas.List.Elements.{All-contains_itself}
+use Rattle.std.proofs.lemmas.List.Sorted.{IsPermutation-refl, IsPermutation-trans, IsPermutation-append, IsPermutation-append_comm, IsPermutation-reverse, IsPermutation-filter_both, All-permutation}
+use Rattle.ent_handle.specs.Handle.{Handle}
+use Rattle.ent_alloc.specs.Sequential.{Allocator, after_flush, born, fresh, top, is_old, is_fresh}
+use Rattle.ent_alloc.specs.Sound.{IsSound, AreApart, IsLive}
+use Rattle.ent_alloc.proofs.ListLaws.{AllPairs-left, AllPairs-IsPermutation, All-left}
+use Rattle.ent_alloc.proofs.FreshHandles.{AllPairs-fresh}
+use Rattle.ent_alloc.proofs.HandleSets.{in_union_list, union_list_keeps, union_list_has}
+use Rattle.ent_alloc.proofs.LaidOut.{old_ones}
+use Rattle.ent_alloc.proofs.Taken.{taken-old, taken-fresh}
+use Rattle.ent_alloc.proofs.Replies.{fresh_is_not_old, apart_both, not_apart}
+
+-- who is alive after a flush was alive or was taken
+pub live-after_flush : (s : Allocator) (x : Handle) → IsLive (after_flush s) x → IsLive s x ⊎ Contains s.taken x
+live-after_flush s x alive = in_union_list s.live s.taken x alive
+
+-- who was alive stays so
+pub live-stays : (s : Allocator) (x : Handle) → IsLive s x → IsLive (after_flush s) x
+live-stays s x alive = union_list_keeps s.live s.taken x alive
+
+-- what was taken comes to life
+pub taken-lives : (s : Allocator) (x : Handle) → Contains s.taken x → IsLive (after_flush s) x
+taken-lives s x in_taken = union_list_has s.live s.taken x in_taken
+
+-- what is born is what was taken, in another order
+pub born-IsPermutation : (s : Allocator) → IsPermutation s.taken (born s)
+born-IsPermutation s =
+    let old = filter (is_old s.made) s.taken in
+    let new = filter (is_fresh s.made) s.taken in
+    IsPermutation-trans s.taken (old ++ new) (new ++ reverse old)
+    (IsPermutation-filter_both (is_old s.made) (is_fresh s.made) (fresh_is_not_old s.made) s.taken)
+    (IsPermutation-trans (old ++ new) (new ++ old) (new ++ reverse old)
+    (IsPermutation-append_comm old new)
+    (IsPermutation-append new new old (reverse old) (IsPermutation-refl new) (IsPermutation-reverse old)))
+
+-- each that is born is alive then
+pub born-lives : (s : Allocator) → All (IsLive (after_flush s)) (born s)
+born-lives s = All-permutation (IsLive (after_flush s)) s.taken (born s) (born-IsPermutation s) (λ k d lt. taken-lives s _ (All-contains_itself s.taken k d lt))
+
+module _ (s : Allocator) (h : IsSound s) where
+  -- the first tenants of the new slots, and then the old handles, the last of the pool first
+  pub born_is : born s ≡ fresh s.made (length s.taken - top s) ++ reverse (take (length s.taken) (old_ones s))
+  born_is = rw (taken-fresh s h, taken-old s h)
+
+  -- the fresh ones rise in index
+  pub born-fresh_rise : AllPairs (λ g h. g.index < h.index) (filter (is_fresh s.made) s.taken)
+  born-fresh_rise = subst (AllPairs (λ g h. g.index < h.index)) (sym (taken-fresh s h)) (AllPairs-fresh s.made (length s.taken - top s))
+
+  -- no two are of one slot
+  pub born-apart : AllPairs AreApart (born s)
+  born-apart = AllPairs-IsPermutation AreApart apart_both s.taken (born s) (born-IsPermutation s) (AllPairs-left AreApart s.taken (s.aside ++ s.pool) h.apart)
+
+  -- none was alive
+  pub born-not_live : All (λ x. ¬ (IsLive s x)) (born s)
+  born-not_live = All-permutation (λ x. ¬ (IsLive s x)) s.taken (born s) (born-IsPermutation s)
+      (λ k d lt alive. not_apart (get_or s.taken k d) (All-left (AreApart (get_or s.taken k d)) s.taken (s.aside ++ s.pool) (h.live (get_or s.taken k d) alive).apart k d lt))

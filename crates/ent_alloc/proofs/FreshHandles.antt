@@ -1,0 +1,114 @@
+-- Laws of `fresh`, the first tenants of slots that were never made. Nothing here computes it at a number.
+use Rattle.std.proofs.Common.{◌≡◌, refl, ap, ◌∙◌, ℕ, zero, suc, ◌+◌, ◌-◌, ◌<◌, ◌≤◌, true, false, List, [], ◌∷◌, ◌++◌, length, get_or, take, drop, filter, All, AllPairs, arith, lt-ltb, le-ltb, le-leb, append-nil}
+use Rattle.std.proofs.lemmas.Bool.{lt-leb}
+use Rattle.std.proofs.lemmas.List.Elements.{All-weaker, filter-append}
+use Rattle.ent_handle.specs.Handle.{Handle}
+use Rattle.ent_alloc.specs.Sequential.{fresh, is_old, is_fresh}
+use Rattle.ent_alloc.specs.Sound.{AreApart}
+use Rattle.ent_alloc.proofs.ListLaws.{filter_all, filter_none, take-append, drop-append}
+
+-- the first tenant of a slot
+abbrev pub first_of_slot : ℕ → Handle
+first_of_slot index = record { index = index; generation = 1 }
+
+-- how many they are
+pub length-fresh : (index slots : ℕ) → length (fresh index slots) ≡ slots
+unfolding fresh
+length-fresh index zero = refl
+length-fresh index (suc slots) = ap (λ n. suc n) (length-fresh (index + 1) slots)
+
+-- the next of them, and the rest
+pub fresh-next : (index slots : ℕ) → fresh index (suc slots) ≡ first_of_slot index ∷ fresh (index + 1) slots
+unfolding fresh
+fresh-next index slots = refl
+
+-- of no slots there are none
+pub fresh-none : (index : ℕ) → fresh index 0 ≡ []
+unfolding fresh
+fresh-none index = refl
+
+-- the one at a place
+pub get_or-fresh : (index slots k : ℕ) (d : Handle) → k < slots → get_or (fresh index slots) k d ≡ first_of_slot (index + k)
+unfolding fresh
+get_or-fresh index zero k d lt = absurd (omega arith)
+get_or-fresh index (suc slots) zero d lt = ap first_of_slot (omega arith)
+get_or-fresh index (suc slots) (suc k) d lt =
+    let shift : index + 1 + k ≡ index + suc k = omega arith in
+    get_or-fresh (index + 1) slots k d (omega arith) ∙ ap first_of_slot shift
+
+-- what is left of them
+pub drop-fresh : (k index slots : ℕ) → drop k (fresh index slots) ≡ fresh (index + k) (slots - k)
+unfolding fresh
+drop-fresh zero index slots = let same : index + 0 ≡ index = omega arith in let all : slots - 0 ≡ slots = omega arith in rw (same, all)
+drop-fresh (suc k) index zero = let none : 0 - suc k ≡ 0 = omega arith in rw none
+drop-fresh (suc k) index (suc slots) =
+    let shift : index + 1 + k ≡ index + suc k = omega arith in
+    let fewer : suc slots - suc k ≡ slots - k = omega arith in
+    rw (← shift, fewer) (drop-fresh k (index + 1) slots)
+
+-- the front of them
+pub take-fresh : (k index slots : ℕ) → k ≤ slots → take k (fresh index slots) ≡ fresh index k
+unfolding fresh
+take-fresh zero index slots le = refl
+take-fresh (suc k) index zero le = absurd (omega arith)
+take-fresh (suc k) index (suc slots) le = ap (first_of_slot index ∷◌) (take-fresh k (index + 1) slots (omega arith))
+
+-- each is of a slot in the range, and its first tenant
+pub All-fresh : (P : Handle → Type 0) (index slots : ℕ) → ((k : ℕ) → k < slots → P (first_of_slot (index + k))) → All P (fresh index slots)
+All-fresh P index slots each k d lt =
+    let within : k < slots = omega (arith, length-fresh index slots) in
+    rw (get_or-fresh index slots k d within) (each k within)
+
+-- their indexes rise
+pub AllPairs-fresh : (index slots : ℕ) → AllPairs (λ g h. g.index < h.index) (fresh index slots)
+AllPairs-fresh index slots i j d lt within =
+    let j_within : j < slots = omega (arith, length-fresh index slots) in
+    let i_within : i < slots = omega arith in
+    rw (get_or-fresh index slots i d i_within, get_or-fresh index slots j d j_within) (omega arith)
+
+-- no two of them are of one slot
+pub fresh_apart : (index slots : ℕ) → AllPairs AreApart (fresh index slots)
+fresh_apart index slots i j d lt within same = let rises = AllPairs-fresh index slots i j d lt within in omega arith
+
+-- none of them is old where they begin
+pub no_fresh_is_old : (made index slots : ℕ) → made ≤ index → filter (is_old made) (fresh index slots) ≡ []
+no_fresh_is_old made index slots le =
+    filter_none (is_old made) (fresh index slots) (All-fresh (λ h. is_old made h ≡ false) index slots (λ k lt. le-ltb _ _ (omega arith)))
+
+-- each of them is fresh where they begin
+pub each_fresh_is_fresh : (made index slots : ℕ) → made ≤ index → All (λ h. is_fresh made h ≡ true) (fresh index slots)
+each_fresh_is_fresh made index slots le = All-fresh (λ h. is_fresh made h ≡ true) index slots (λ k lt. le-leb _ _ (omega arith))
+
+-- so a filter of the fresh keeps all
+pub all_fresh_are_fresh : (made index slots : ℕ) → made ≤ index → filter (is_fresh made) (fresh index slots) ≡ fresh index slots
+all_fresh_are_fresh made index slots le = filter_all (is_fresh made) (fresh index slots) (each_fresh_is_fresh made index slots le)
+
+-- old handles are no fresh ones
+pub no_old_is_fresh : (made : ℕ) (old : List Handle) → All (λ h. h.index < made) old → filter (is_fresh made) old ≡ []
+no_old_is_fresh made old below = filter_none (is_fresh made) old (All-weaker (λ h. h.index < made) (λ h. is_fresh made h ≡ false) (λ h lt. lt-leb _ _ lt) old below)
+
+-- a filter of the old keeps all old handles
+pub all_old_are_old : (made : ℕ) (old : List Handle) → All (λ h. h.index < made) old → filter (is_old made) old ≡ old
+all_old_are_old made old below = filter_all (is_old made) old (All-weaker (λ h. h.index < made) (λ h. is_old made h ≡ true) (λ h lt. lt-ltb _ _ lt) old below)
+
+-- old handles and then fresh ones: a filter takes them apart again
+module _ (made slots : ℕ) (old : List Handle) (below : All (λ h. h.index < made) old) where
+  -- the old ones
+  pub old_of_joined : filter (is_old made) (old ++ fresh made slots) ≡ old
+  old_of_joined =
+      filter-append (is_old made) old (fresh made slots)
+      ∙ rw (all_old_are_old made old below, no_fresh_is_old made made slots (omega arith)) (append-nil old)
+
+  -- the fresh ones
+  pub fresh_of_joined : filter (is_fresh made) (old ++ fresh made slots) ≡ fresh made slots
+  fresh_of_joined =
+      filter-append (is_fresh made) old (fresh made slots)
+      ∙ rw (no_old_is_fresh made old below, all_fresh_are_fresh made made slots (omega arith)) refl
+
+  -- the front of both
+  pub take_joined : (k : ℕ) → k ≤ length old + slots → take k (old ++ fresh made slots) ≡ take k old ++ fresh made (k - length old)
+  take_joined k enough = take-append k old (fresh made slots) ∙ ap (take k old ++◌) (take-fresh (k - length old) made slots (omega arith))
+
+  -- what is left of both
+  pub drop_joined : (k : ℕ) → drop k (old ++ fresh made slots) ≡ drop k old ++ fresh (made + (k - length old)) (slots - (k - length old))
+  drop_joined k = drop-append k old (fresh made slots) ∙ ap (drop k old ++◌) (drop-fresh (k - length old) made slots)

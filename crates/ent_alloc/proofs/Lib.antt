@@ -1,0 +1,13 @@
+pub mod FreshHandles
+pub mod HandleSets
+pub mod LaidOut
+pub mod ListLaws
+pub mod Soundness
+pub mod Taken
+pub mod PoolLaw
+pub mod Replies
+pub mod Flushes
+pub mod Rows
+pub mod GivenOnce
+pub mod Wishes
+pub mod Settled

@@ -1,0 +1,176 @@
+-- The one law of the pool: after wishes for so many handles in all, served or refused, the pool is what is left of
+-- the pool before them. So a reply depends on the cursor alone, and can be computed later.
+use Rattle.std.proofs.Common.{◌≡◌, refl, sym, ap, ◌∙◌, ℕ, ◌+◌, ◌≤◌, ℤ, pos, negsuc, ◌-ℤ◌, List, [], ◌∷◌, ◌++◌, length, take, drop, filter, sum, Ok, nat_le, true, le-leb, arith, append-nil, inl, inr}
+use Rattle.std.proofs.lemmas.Bool.{cases_lt}
+use Rattle.std.proofs.lemmas.Int.{ints}
+use Rattle.std.proofs.lemmas.List.{take_all, drop-drop, drop_all, length-append}
+use Rattle.std.proofs.lemmas.List.Sums.{sum_by-cons}
+use Rattle.std.proofs.Math.Seq.{take-append_seam, drop-append_seam}
+use Rattle.ent_alloc.specs.Sequential.{Allocator, available, top, cursor, after_take, asked_at, pool_at, reply_from, reply_to, is_old}
+use Rattle.ent_alloc.specs.Sound.{IsSound}
+use Rattle.ent_alloc.proofs.Taken.{after_take-served, after_take-refused, available-after_take, length-pool}
+use Rattle.ent_alloc.proofs.Soundness.{after_take-sound}
+
+-- the cursor tells how much was asked
+asked_at_is : (top asked : ℕ) (high : ℤ) → high ≡ pos top -ℤ pos asked → asked_at top high ≡ asked
+asked_at_is top asked (pos high) is = omega (arith, ints)
+asked_at_is top asked (negsuc below) is = omega (arith, ints)
+
+-- at the cursor it is what was asked
+pub asked_at-cursor : (s : Allocator) → asked_at (top s) (cursor s) ≡ s.asked
+asked_at-cursor s = asked_at_is (top s) s.asked (cursor s) refl
+
+-- and so what is left of the pool
+pub pool_at-cursor : (s : Allocator) → IsSound s → pool_at s (cursor s) ≡ s.pool
+pool_at-cursor s h = ap (λ n. drop n (available s)) (asked_at-cursor s) ∙ sym h.pool
+
+-- and the reply to any wish
+pub reply-cursor : (s : Allocator) (n : ℕ) → IsSound s → reply_from s.made (pool_at s (cursor s)) n ≡ reply_to s n
+reply-cursor s n h = ap (λ pool. reply_from s.made pool n) (pool_at-cursor s h)
+
+-- a wish leaves the limits as they are
+pub limits-after_take : (s : Allocator) (n : ℕ) → (after_take s n).limits ≡ s.limits
+limits-after_take s n = elim (cases_lt (length s.pool) n) [
+  | inl short ↦ rw (after_take-refused s n short)
+  | inr enough ↦ rw (after_take-served s n enough)
+]
+
+-- who is alive
+pub live-after_take : (s : Allocator) (n : ℕ) → (after_take s n).live ≡ s.live
+live-after_take s n = elim (cases_lt (length s.pool) n) [
+  | inl short ↦ rw (after_take-refused s n short)
+  | inr enough ↦ rw (after_take-served s n enough)
+]
+
+-- the rows
+pub rows-after_take : (s : Allocator) (n : ℕ) → (after_take s n).rows ≡ s.rows
+rows-after_take s n = elim (cases_lt (length s.pool) n) [
+  | inl short ↦ rw (after_take-refused s n short)
+  | inr enough ↦ rw (after_take-served s n enough)
+]
+
+-- the made slots
+pub made-after_take : (s : Allocator) (n : ℕ) → (after_take s n).made ≡ s.made
+made-after_take s n = elim (cases_lt (length s.pool) n) [
+  | inl short ↦ rw (after_take-refused s n short)
+  | inr enough ↦ rw (after_take-served s n enough)
+]
+
+-- the wish is added
+pub asked-after_take : (s : Allocator) (n : ℕ) → (after_take s n).asked ≡ s.asked + n
+asked-after_take s n = elim (cases_lt (length s.pool) n) [
+  | inl short ↦ rw (after_take-refused s n short)
+  | inr enough ↦ rw (after_take-served s n enough)
+]
+
+-- the front of the pool goes, served or not
+pub pool-after_take : (s : Allocator) (n : ℕ) → (after_take s n).pool ≡ drop n s.pool
+pool-after_take s n = elim (cases_lt (length s.pool) n) [
+  | inl short ↦ rw (after_take-refused s n short) (sym (drop_all n s.pool (omega arith)))
+  | inr enough ↦ rw (after_take-served s n enough)
+]
+
+-- how many old handles there were
+pub top-after_take : (s : Allocator) (n : ℕ) → IsSound s → top (after_take s n) ≡ top s
+top-after_take s n h = λ i. length (filter (is_old (made-after_take s n i)) (available-after_take s n h i))
+
+-- the cursor falls by the wish
+pub cursor-after_take : (s : Allocator) (n : ℕ) → IsSound s → cursor (after_take s n) ≡ cursor s -ℤ pos n
+cursor-after_take s n h = rw (top-after_take s n h, asked-after_take s n) (omega (arith, ints))
+
+-- the allocator after each wish in turn
+abbrev pub after_takes : Allocator → List ℕ → Allocator
+after_takes s [] = s
+after_takes s (n ∷ wishes) = after_takes (after_take s n) wishes
+
+-- they keep the allocator sound
+pub after_takes-sound : (s : Allocator) (wishes : List ℕ) → IsSound s → IsSound (after_takes s wishes)
+after_takes-sound s [] h = h
+after_takes-sound s (n ∷ wishes) h = after_takes-sound (after_take s n) wishes (after_take-sound s n h)
+
+-- what there was to give stays
+pub available-after_takes : (s : Allocator) (wishes : List ℕ) → IsSound s → available (after_takes s wishes) ≡ available s
+available-after_takes s [] h = refl
+available-after_takes s (n ∷ wishes) h = available-after_takes (after_take s n) wishes (after_take-sound s n h) ∙ available-after_take s n h
+
+-- the limits stay
+pub limits-after_takes : (s : Allocator) (wishes : List ℕ) → (after_takes s wishes).limits ≡ s.limits
+limits-after_takes s [] = refl
+limits-after_takes s (n ∷ wishes) = limits-after_takes (after_take s n) wishes ∙ limits-after_take s n
+
+-- who is alive stays
+pub live-after_takes : (s : Allocator) (wishes : List ℕ) → (after_takes s wishes).live ≡ s.live
+live-after_takes s [] = refl
+live-after_takes s (n ∷ wishes) = live-after_takes (after_take s n) wishes ∙ live-after_take s n
+
+-- the rows stay
+pub rows-after_takes : (s : Allocator) (wishes : List ℕ) → (after_takes s wishes).rows ≡ s.rows
+rows-after_takes s [] = refl
+rows-after_takes s (n ∷ wishes) = rows-after_takes (after_take s n) wishes ∙ rows-after_take s n
+
+-- the made slots stay
+pub made-after_takes : (s : Allocator) (wishes : List ℕ) → (after_takes s wishes).made ≡ s.made
+made-after_takes s [] = refl
+made-after_takes s (n ∷ wishes) = made-after_takes (after_take s n) wishes ∙ made-after_take s n
+
+-- all wishes are added
+pub asked-after_takes : (s : Allocator) (wishes : List ℕ) → (after_takes s wishes).asked ≡ s.asked + sum wishes
+asked-after_takes s [] = omega arith
+asked-after_takes s (n ∷ wishes) = let rest = asked-after_takes (after_take s n) wishes in omega (arith, asked-after_take s n, sum_by-cons (λ x. x) n wishes)
+
+-- how many old handles there were stays
+pub top-after_takes : (s : Allocator) (wishes : List ℕ) → IsSound s → top (after_takes s wishes) ≡ top s
+top-after_takes s [] h = refl
+top-after_takes s (n ∷ wishes) h = top-after_takes (after_take s n) wishes (after_take-sound s n h) ∙ top-after_take s n h
+
+-- the cursor falls by the sum of the wishes
+pub cursor-after_takes : (s : Allocator) (wishes : List ℕ) → IsSound s → cursor (after_takes s wishes) ≡ cursor s -ℤ pos (sum wishes)
+cursor-after_takes s wishes h = rw (top-after_takes s wishes h, asked-after_takes s wishes) (omega (arith, ints))
+
+-- the law of the pool
+pub pool-after_takes : (s : Allocator) (wishes : List ℕ) → (after_takes s wishes).pool ≡ drop (sum wishes) s.pool
+pool-after_takes s [] = refl
+pool-after_takes s (n ∷ wishes) =
+    let all : n + sum wishes ≡ sum (n ∷ wishes) = omega (arith, sum_by-cons (λ x. x) n wishes) in
+    pool-after_takes (after_take s n) wishes ∙ ap (drop (sum wishes)) (pool-after_take s n) ∙ drop-drop (sum wishes) n s.pool ∙ ap (λ k. drop k s.pool) all
+
+-- what was left of the pool at a cursor can be told after any wishes that follow
+pub pool_at-later : (s : Allocator) (wishes : List ℕ) → IsSound s → pool_at (after_takes s wishes) (cursor s) ≡ s.pool
+pool_at-later s wishes h = rw (top-after_takes s wishes h, available-after_takes s wishes h) (pool_at-cursor s h)
+
+-- and so the reply
+pub reply-later : (s : Allocator) (wishes : List ℕ) (n : ℕ) → IsSound s → reply_from (after_takes s wishes).made (pool_at (after_takes s wishes) (cursor s)) n ≡ reply_to s n
+reply-later s wishes n h = λ i. reply_from (made-after_takes s wishes i) (pool_at-later s wishes h i) n
+
+-- a wish for nothing changes nothing
+pub after_take-none : (s : Allocator) → after_take s 0 ≡ s
+after_take-none s = after_take-served s 0 (omega arith) ∙ (λ i. record s { taken = append-nil s.taken i; asked = all i })
+  where
+    all : s.asked + 0 ≡ s.asked
+    all = omega arith
+
+-- and lists nothing
+pub reply-none : (s : Allocator) → reply_to s 0 ≡ Ok []
+reply-none s = let test : nat_le 0 (length s.pool) ≡ true = le-leb _ _ (omega arith) in rw test
+
+-- where there was enough, all that was asked for is taken
+pub length-taken : (s : Allocator) → IsSound s → s.asked ≤ length (available s) → length s.taken ≡ s.asked
+length-taken s h enough =
+    let none : s.aside ≡ [] = h.aside enough in
+    omega (arith, length-pool s h, length-append s.taken (s.aside ++ s.pool), length-append s.aside s.pool, ap length none)
+
+-- all lists, by two numbers: how many are taken, and how many were asked for
+pub taken_is : (s : Allocator) → s.taken ≡ take (length s.taken) (available s)
+taken_is s = sym (take-append_seam s.taken (s.aside ++ s.pool))
+
+-- what was passed over stands behind it
+pub aside_is : (s : Allocator) → IsSound s → s.aside ≡ drop (length s.taken) (take s.asked (available s))
+aside_is s h = elim (cases_lt (length (available s)) s.asked) [
+  | inl beyond ↦
+      let none : s.pool ≡ [] = h.pool ∙ drop_all s.asked (available s) (omega arith) in
+      let all : take s.asked (available s) ≡ available s = take_all s.asked (available s) (omega arith) in
+      sym (ap (drop (length s.taken)) all ∙ drop-append_seam s.taken (s.aside ++ s.pool) ∙ ap (s.aside ++◌) none ∙ append-nil s.aside)
+  | inr enough ↦
+      let long : s.asked ≡ length s.taken = sym (length-taken s h enough) in
+      h.aside enough ∙ sym (ap (λ n. drop (length s.taken) (take n (available s))) long ∙ ap (drop (length s.taken)) (take-append_seam s.taken (s.aside ++ s.pool)) ∙ drop_all (length s.taken) s.taken (omega arith))
+]

@@ -1,0 +1,91 @@
+-- Two numbers tell what wishes leave of a flushed allocator: how many handles were given, and how many were asked for.
+use Rattle.std.proofs.Common.{◌≡◌, sym, ap, ◌∙◌, ℕ, ◌+◌, ◌<◌, ◌≤◌, List, [], ◌++◌, length, take, drop, sum, Err, arith, nat_le, false, append_assoc}
+use Rattle.std.proofs.lemmas.Bool.{lt-leb}
+use Rattle.std.proofs.lemmas.List.{take-append-drop, take-take, drop_all, length-take}
+use Rattle.std.proofs.lemmas.List.Sorted.{length_permutation}
+use Rattle.ent_handle.specs.Handle.{Handle}
+use Rattle.ent_alloc.specs.Sequential.{Allocator, available, after_take, reply_to}
+use Rattle.ent_alloc.specs.Sound.{IsSound}
+use Rattle.ent_alloc.proofs.LaidOut.{flushed-laid_out}
+use Rattle.ent_alloc.proofs.Taken.{length-pool, after_take-refused}
+use Rattle.ent_alloc.proofs.PoolLaw.{limits-after_takes, live-after_takes, rows-after_takes, after_takes, after_takes-sound, available-after_takes, made-after_takes, asked-after_takes, pool-after_takes, taken_is, aside_is, length-taken}
+use Rattle.ent_alloc.proofs.Soundness.{IsSound-moved}
+use Rattle.ent_alloc.proofs.Wishes.{given_by, taken-since_flush}
+
+-- so many handles given of so many asked for
+abbrev pub settled_lists : Allocator → ℕ → ℕ → Allocator
+settled_lists s given asked = record s {
+  taken = s.taken ++ take given s.pool;
+  aside = s.aside ++ drop given (take asked s.pool);
+  pool = drop asked s.pool;
+  asked = s.asked + asked;
+}
+
+-- the front of a list, the rest of what was asked for, and what is left
+three_parts : (given asked : ℕ) (pool : List Handle) → given ≤ asked → take given pool ++ (drop given (take asked pool) ++ drop asked pool) ≡ pool
+three_parts given asked pool le =
+    let front : take given (take asked pool) ≡ take given pool = take-take given asked pool le in
+    ap (λ xs. xs ++ (drop given (take asked pool) ++ drop asked pool)) (sym front)
+    ∙ sym (append_assoc (take given (take asked pool)) (drop given (take asked pool)) (drop asked pool))
+    ∙ ap (◌++ drop asked pool) (take-append-drop given (take asked pool))
+    ∙ take-append-drop asked pool
+
+module _ (s : Allocator) (h : IsSound s) (flushed : s.asked ≡ 0) where
+  -- a flushed allocator has taken nothing
+  nothing_taken : s.taken ≡ []
+  nothing_taken = (flushed-laid_out s h flushed).taken
+
+  -- nor passed anything over
+  nothing_aside : s.aside ≡ []
+  nothing_aside = (flushed-laid_out s h flushed).aside
+
+  -- so all there is to give is in the pool
+  all_in_pool : available s ≡ s.pool
+  all_in_pool = rw (nothing_taken, nothing_aside)
+
+  -- any two numbers that wishes may leave
+  pub settled-sound : (given asked : ℕ) → given ≤ asked → (asked ≤ length s.pool → given ≡ asked) → IsSound (settled_lists s given asked)
+  settled-sound given asked le enough =
+      IsSound-moved s (s.taken ++ take given s.pool) (s.aside ++ drop given (take asked s.pool)) (drop asked s.pool) (s.asked + asked) h
+      (rw (nothing_taken, nothing_aside) (three_parts given asked s.pool le))
+      (rw (all_in_pool, flushed) (ap (λ n. drop n s.pool) (omega arith)))
+      (λ within.
+      let all : given ≡ asked = enough (omega (arith, ap length all_in_pool)) in
+      rw nothing_aside (drop_all given (take asked s.pool) (omega (arith, length-take asked s.pool))))
+
+  -- wishes leave such a state
+  pub after_takes-settled : (wishes : List ℕ) → after_takes s wishes ≡ settled_lists s (length (given_by s wishes)) (sum wishes)
+  after_takes-settled wishes =
+      let t = after_takes s wishes in
+      let sound = after_takes-sound s wishes h in
+      let pool : available t ≡ s.pool = available-after_takes s wishes h ∙ all_in_pool in
+      let long : length t.taken ≡ length (given_by s wishes) = length_permutation (given_by s wishes) t.taken (taken-since_flush s wishes h flushed) in
+      let asked : t.asked ≡ sum wishes = asked-after_takes s wishes ∙ ap (◌+ sum wishes) flushed ∙ omega arith in
+      let taken : t.taken ≡ s.taken ++ take (length (given_by s wishes)) s.pool =
+      taken_is t ∙ (λ i. take (long i) (pool i)) ∙ sym (ap (◌++ take (length (given_by s wishes)) s.pool) nothing_taken) in
+      let aside : t.aside ≡ s.aside ++ drop (length (given_by s wishes)) (take (sum wishes) s.pool) =
+      aside_is t sound ∙ (λ i. drop (long i) (take (asked i) (pool i))) ∙ sym (ap (◌++ drop (length (given_by s wishes)) (take (sum wishes) s.pool)) nothing_aside) in
+      λ i. record {
+        limits = limits-after_takes s wishes i;
+        live = live-after_takes s wishes i;
+        rows = rows-after_takes s wishes i;
+        pool = pool-after_takes s wishes i;
+        taken = taken i;
+        aside = aside i;
+        made = made-after_takes s wishes i;
+        asked = asked-after_takes s wishes i;
+      }
+
+-- as long as something is left, all that was asked for was given
+pub all_given : (s : Allocator) (wishes : List ℕ) → IsSound s → s.asked ≡ 0 → 0 < length (after_takes s wishes).pool → length (given_by s wishes) ≡ sum wishes
+all_given s wishes h flushed some =
+    let t = after_takes s wishes in
+    let sound = after_takes-sound s wishes h in
+    let asked : t.asked ≡ s.asked + sum wishes = asked-after_takes s wishes in
+    let long : length t.taken ≡ length (given_by s wishes) = length_permutation (given_by s wishes) t.taken (taken-since_flush s wishes h flushed) in
+    let within : t.asked ≤ length (available t) = omega (arith, length-pool t sound) in
+    omega (arith, length-taken t sound within)
+
+-- after a refusal every wish for something is refused, with nothing left
+pub shut : (s : Allocator) (n m : ℕ) → length s.pool < n → 0 < m → reply_to (after_take s n) m ≡ Err (record { wanted = m; left = 0 })
+shut s n m short some = let test : nat_le m 0 ≡ false = lt-leb m 0 some in rw (after_take-refused s n short, test)

@@ -1,0 +1,221 @@
+-- Every step of the sequential allocator leads from a sound state to a sound state.
+use Rattle.std.proofs.Common.{◌≡◌, refl, sym, ap, ◌∙◌, subst, ℕ, zero, suc, ◌+◌, ◌-◌, ◌<◌, ◌≤◌, true, false, true≢false, List, [], ◌∷◌, ◌++◌, length, get_or, take, drop, All, arith, append-nil, lt-ltb, le-ltb, is_some, ◌==◌, ◌≢◌, eq-eqb, ne_eqb, inl, inr}
+use Rattle.std.proofs.lemmas.Bool.{cases_lt, cases_eq}
+use Rattle.std.specs.FinSet as set
+use Rattle.std.specs.FinMap as map
+use Rattle.std.proofs.lemmas.List.{drop-drop, drop_all}
+use Rattle.std.proofs.lemmas.List.Elements.{All-drop, All-head, All-tail, All-nil, All-cons, All-weaker, All-filter}
+use Rattle.std.proofs.lemmas.List.Kept.{AllPairs-filter, AllPairs-cons}
+use Rattle.ent_handle.specs.Handle.{Handle, IsHandle, handle_cmp}
+use Rattle.ent_alloc.specs.Limits.{Limits, AreLimits}
+use Rattle.ent_alloc.specs.Sequential.{Allocator, opening, available, after_take, after_flush, after_alloc, after_free, next, fresh, is_old}
+use Rattle.ent_alloc.specs.Sound.{IsSound, IsWithin, AreApart, IsLive}
+use Rattle.ent_alloc.proofs.ListLaws.{AllPairs-left, AllPairs-across, All-left, AllPairs-drop, AllPairs-head, AllPairs-tail}
+use Rattle.ent_alloc.proofs.FreshHandles.{fresh-next, fresh-none, first_of_slot}
+use Rattle.ent_alloc.proofs.HandleSets.{inserted_keeps, in_removed, removed_keeps, in_removed_keys, union_list_keeps, one_tenant_inserted, one_tenant_joined, of_inserted, of_joined}
+use Rattle.ent_alloc.proofs.LaidOut.{old_ones, old_ones_below, IsLaidOut, laid_out-sound, flushed-laid_out, apart_by_made}
+use Rattle.ent_alloc.proofs.Taken.{aside_or_pool, length-pool, take_moves, after_take-served, after_take-refused, enough, left-parts, taken_below, made-after_flush}
+
+-- the allocator that has given nothing
+pub opening-sound : (limits : Limits) → AreLimits limits → IsSound (opening limits)
+opening-sound limits ok =
+    let no_one : (h : Handle) → IsLive (opening limits) h → ⊥ = λ h alive. true≢false (sym alive ∙ set.contains-empty handle_cmp h) in
+    let all : limits.slots - 0 ≡ limits.slots = omega arith in
+    laid_out-sound (opening limits) [] record {
+      limits = ok;
+      made = omega arith;
+      taken = refl;
+      aside = refl;
+      asked = refl;
+      pool = rw all;
+      within = All-nil (IsWithin limits);
+      below = All-nil (λ h. h.index < 0);
+      apart = λ i j d lt within. absurd (omega arith);
+      live_within = λ h alive. absurd (no_one h alive);
+      live_below = λ h alive. absurd (no_one h alive);
+      live_apart = λ h alive. absurd (no_one h alive);
+      one_tenant = λ g h alive _ _. absurd (no_one g alive);
+      rows = λ h kept. absurd (true≢false (sym kept ∙ ap is_some (map.get-empty handle_cmp h)));
+    }
+
+-- other lists of the same handles, as far as the wishes have reached
+pub IsSound-moved : (s : Allocator) (taken aside pool : List Handle) (asked : ℕ) → IsSound s → taken ++ (aside ++ pool) ≡ available s → pool ≡ drop asked (available s)
+    → (asked ≤ length (available s) → aside ≡ []) → IsSound (record s { taken = taken; aside = aside; pool = pool; asked = asked })
+IsSound-moved s taken aside pool asked h same rest enough = record {
+  limits = h.limits;
+  made = h.made;
+  order = rw same h.order;
+  within = rw same h.within;
+  apart = rw same h.apart;
+  pool = rw same rest;
+  aside = λ le. enough (rw same at le);
+  live = λ x alive. let was = h.live x alive in record { within = was.within; made = was.made; apart = rw same was.apart };
+  one_tenant = h.one_tenant;
+  rows = h.rows;
+}
+
+-- a wish, served or refused
+pub after_take-sound : (s : Allocator) (n : ℕ) → IsSound s → IsSound (after_take s n)
+after_take-sound s n h = elim (cases_lt (length s.pool) n) [
+  | inl short ↦
+      let long = length-pool s h in
+      rw (after_take-refused s n short) (
+      IsSound-moved s s.taken (s.aside ++ s.pool) [] (s.asked + n) h
+      (ap (s.taken ++◌) (append-nil (s.aside ++ s.pool)))
+      (sym (drop_all (s.asked + n) (available s) (omega arith)))
+      (λ enough. absurd (omega arith))
+      )
+  | inr enough ↦
+      rw (after_take-served s n enough) (
+      IsSound-moved s (s.taken ++ take n s.pool) s.aside (drop n s.pool) (s.asked + n) h
+      (take_moves s.taken s.aside s.pool n (aside_or_pool s h))
+      (ap (drop n) h.pool ∙ drop-drop n s.asked (available s))
+      (λ enough. h.aside (omega arith))
+      )
+]
+
+-- what the limits allow is in a handle's ranges
+pub IsHandle-within : (limits : Limits) (h : Handle) → AreLimits limits → IsWithin limits h → IsHandle h
+IsHandle-within limits h ok within = record { index = omega (arith, ok.slots, within.index); least = within.least; greatest = omega (arith, ok.generations, within.greatest) }
+
+-- after the last generation comes the first
+pub next-last : (limits : Limits) (h : Handle) → h.generation ≡ limits.generations → (next limits h).generation ≡ 1
+next-last limits h last = let test : (h.generation == limits.generations) ≡ true = eq-eqb _ _ last in rw test
+
+-- else the next one
+pub next-later : (limits : Limits) (h : Handle) → h.generation ≢ limits.generations → (next limits h).generation ≡ h.generation + 1
+next-later limits h before = let test : (h.generation == limits.generations) ≡ false = ne_eqb _ _ before in rw test
+
+-- the limits allow what follows
+pub next-within : (limits : Limits) (h : Handle) → AreLimits limits → IsWithin limits h → IsWithin limits (next limits h)
+next-within limits h ok within = elim (cases_eq h.generation limits.generations) [
+  | inl last ↦ let is : (next limits h).generation ≡ 1 = next-last limits h last in
+      record { index = within.index; least = omega arith; greatest = omega (arith, ok.some_generation) }
+  | inr before ↦ let is : (next limits h).generation ≡ h.generation + 1 = next-later limits h before in
+      record { index = within.index; least = omega arith; greatest = omega (arith, within.greatest) }
+]
+
+-- a living handle goes
+pub after_free-sound : (s : Allocator) (x : Handle) → IsSound s → s.asked ≡ 0 → IsLive s x → IsSound (after_free s x)
+after_free-sound s x h flushed alive =
+    let was = flushed-laid_out s h flushed in
+    laid_out-sound (after_free s x) (next s.limits x ∷ old_ones s) record {
+      limits = was.limits;
+      made = was.made;
+      taken = was.taken;
+      aside = was.aside;
+      asked = was.asked;
+      pool = ap (next s.limits x ∷◌) was.pool;
+      within = All-cons (IsWithin s.limits) (next s.limits x) (old_ones s) (next-within s.limits x h.limits (was.live_within x alive)) was.within;
+      below = All-cons (λ h. h.index < s.made) (next s.limits x) (old_ones s) (was.live_below x alive) was.below;
+      apart = AllPairs-cons AreApart (next s.limits x) (old_ones s) (was.live_apart x alive) was.apart;
+      live_within = λ y kept. was.live_within y (in_removed s.live x y kept).1;
+      live_below = λ y kept. was.live_below y (in_removed s.live x y kept).1;
+      live_apart = λ y kept.
+          let other = in_removed s.live x y kept in
+          All-cons (AreApart y) (next s.limits x) (old_ones s) (λ same. other.0 (was.one_tenant y x other.1 alive same)) (was.live_apart y other.1);
+      one_tenant = λ g y kept_g kept_y same. was.one_tenant g y (in_removed s.live x g kept_g).1 (in_removed s.live x y kept_y).1 same;
+      rows = λ y kept. let other = in_removed_keys s.rows x y kept in removed_keeps s.live x y other.0 (was.rows y other.1);
+    }
+
+-- an old handle that comes to life
+pub after_alloc-old : (s : Allocator) (x : Handle) → x.index < s.made → after_alloc s x ≡ record s { live = set.insert s.live x; pool = drop 1 s.pool }
+after_alloc-old s x old = let test : is_old s.made x ≡ true = lt-ltb _ _ old in rw test
+
+-- a fresh handle that comes to life: its slot is made
+pub after_alloc-fresh : (s : Allocator) (x : Handle) → s.made ≤ x.index → after_alloc s x ≡ record s { live = set.insert s.live x; pool = drop 1 s.pool; made = s.made + 1 }
+after_alloc-fresh s x new = let test : is_old s.made x ≡ false = le-ltb _ _ new in rw test
+
+-- the first old handle comes to life
+alloc_of_old : (s : Allocator) (x : Handle) (old : List Handle) → IsLaidOut s (x ∷ old) → IsLaidOut (record s { live = set.insert s.live x; pool = drop 1 s.pool }) old
+alloc_of_old s x old was = record {
+  limits = was.limits;
+  made = was.made;
+  taken = was.taken;
+  aside = was.aside;
+  asked = was.asked;
+  pool = ap (drop 1) was.pool;
+  within = All-tail (IsWithin s.limits) x old was.within;
+  below = All-tail (λ h. h.index < s.made) x old was.below;
+  apart = AllPairs-tail AreApart x old was.apart;
+  live_within = of_inserted (IsWithin s.limits) s.live x (All-head (IsWithin s.limits) x old was.within) was.live_within;
+  live_below = of_inserted (λ h. h.index < s.made) s.live x (All-head (λ h. h.index < s.made) x old was.below) was.live_below;
+  live_apart = of_inserted (λ h. All (AreApart h) old) s.live x (AllPairs-head AreApart x old was.apart) (λ y alive. All-tail (AreApart y) x old (was.live_apart y alive));
+  one_tenant = one_tenant_inserted s.live x (λ y alive. All-head (AreApart y) x old (was.live_apart y alive)) was.one_tenant;
+  rows = λ y kept. inserted_keeps s.live x y (was.rows y kept);
+}
+
+-- where no old handle waits, the first tenant of a new slot does
+alloc_of_fresh : (s : Allocator) (more : ℕ) → IsLaidOut s [] → s.limits.slots - s.made ≡ suc more → IsLaidOut (record s { live = set.insert s.live (first_of_slot s.made); pool = drop 1 s.pool; made = s.made + 1 }) []
+alloc_of_fresh s more was some =
+    let x = first_of_slot s.made in
+    let fewer : s.limits.slots - (s.made + 1) ≡ more = omega arith in
+    record {
+      limits = was.limits;
+      made = omega arith;
+      taken = was.taken;
+      aside = was.aside;
+      asked = was.asked;
+      pool = ap (drop 1) (was.pool ∙ ap (fresh s.made) some ∙ fresh-next s.made more) ∙ ap (fresh (s.made + 1)) (sym fewer);
+      within = All-nil (IsWithin s.limits);
+      below = All-nil (λ h. h.index < s.made + 1);
+      apart = λ i j d lt within. absurd (omega arith);
+      live_within = of_inserted (IsWithin s.limits) s.live x (record { index = omega arith; least = omega arith; greatest = was.limits.some_generation }) was.live_within;
+      live_below = of_inserted (λ h. h.index < s.made + 1) s.live x (omega arith) (λ y alive. let below = was.live_below y alive in omega arith);
+      live_apart = λ y alive. All-nil (AreApart y);
+      one_tenant = one_tenant_inserted s.live x (λ y alive. apart_by_made s.made y x (was.live_below y alive) (omega arith)) was.one_tenant;
+      rows = λ y kept. inserted_keeps s.live x y (was.rows y kept);
+    }
+
+-- the handle at the front of the pool comes to life
+pub after_alloc-sound : (s : Allocator) (x : Handle) (rest : List Handle) → IsSound s → s.asked ≡ 0 → s.pool ≡ x ∷ rest → IsSound (after_alloc s x)
+after_alloc-sound s x rest h flushed front = by_first (old_ones s) (flushed-laid_out s h flushed)
+  where
+    no_handle : [] ≡ x ∷ rest → ⊥
+    no_handle e = cc
+
+    of_new : (more : ℕ) → s.limits.slots - s.made ≡ more → IsLaidOut s [] → IsSound (after_alloc s x)
+    of_new zero none was = absurd (no_handle (sym (fresh-none s.made) ∙ ap (fresh s.made) (sym none) ∙ sym was.pool ∙ front))
+    of_new (suc more) some was =
+        let joined : x ∷ rest ≡ first_of_slot s.made ∷ fresh (s.made + 1) more = sym front ∙ was.pool ∙ ap (fresh s.made) some ∙ fresh-next s.made more in
+        let is : x ≡ first_of_slot s.made = cc in
+        rw (is, after_alloc-fresh s (first_of_slot s.made) (omega arith)) (laid_out-sound _ [] (alloc_of_fresh s more was some))
+
+    by_first : (old : List Handle) → IsLaidOut s old → IsSound (after_alloc s x)
+    by_first [] was = of_new (s.limits.slots - s.made) refl was
+    by_first (y ∷ old) was =
+        let joined : x ∷ rest ≡ y ∷ (old ++ fresh s.made (s.limits.slots - s.made)) = sym front ∙ was.pool in
+        let is : x ≡ y = cc in
+        rw (is, after_alloc-old s y (All-head (λ h. h.index < s.made) y old was.below)) (laid_out-sound _ old (alloc_of_old s y old was))
+
+-- a flush leaves the old handles that were not taken
+pub flush-laid_out : (s : Allocator) → IsSound s → IsLaidOut (after_flush s) (drop (length s.taken) (old_ones s))
+flush-laid_out s h =
+    let k = length s.taken in
+    let old = drop k (old_ones s) in
+    let more : s.made ≤ (after_flush s).made = omega arith in
+    record {
+      limits = h.limits;
+      made = omega (arith, made-after_flush s h, enough s h, h.made);
+      taken = refl;
+      aside = refl;
+      asked = refl;
+      pool = left-parts s h;
+      within = All-drop (IsWithin s.limits) k (old_ones s) (All-filter (is_old s.made) (IsWithin s.limits) (available s) h.within);
+      below = All-drop (λ h. h.index < (after_flush s).made) k (old_ones s) (All-weaker (λ h. h.index < s.made) (λ h. h.index < (after_flush s).made) (λ h lt. omega arith) (old_ones s) (old_ones_below s));
+      apart = AllPairs-drop AreApart k (old_ones s) (AllPairs-filter AreApart (is_old s.made) (available s) h.apart);
+      live_within = of_joined (IsWithin s.limits) s.live s.taken (λ x alive. (h.live x alive).within) (All-left (IsWithin s.limits) s.taken (s.aside ++ s.pool) h.within);
+      live_below = of_joined (λ h. h.index < (after_flush s).made) s.live s.taken (λ x alive. let was = (h.live x alive).made in omega arith) (taken_below s h);
+      live_apart = of_joined (λ h. All (AreApart h) old) s.live s.taken
+          (λ x alive. All-drop (AreApart x) k (old_ones s) (All-filter (is_old s.made) (AreApart x) (available s) (h.live x alive).apart))
+          (λ i d lt. All-left (AreApart (get_or s.taken i d)) old _ (subst (All (AreApart (get_or s.taken i d))) (left-parts s h) (AllPairs-across AreApart s.taken (s.aside ++ s.pool) h.apart i d lt)));
+      one_tenant = one_tenant_joined s.live s.taken
+          (λ x alive. All-left (AreApart x) s.taken (s.aside ++ s.pool) (h.live x alive).apart)
+          (AllPairs-left AreApart s.taken (s.aside ++ s.pool) h.apart)
+          h.one_tenant;
+      rows = λ x kept. union_list_keeps s.live s.taken x (h.rows x kept);
+    }
+
+-- what was taken comes to life
+pub after_flush-sound : (s : Allocator) → IsSound s → IsSound (after_flush s)
+after_flush-sound s h = laid_out-sound (after_flush s) _ (flush-laid_out s h)

@@ -1,0 +1,93 @@
+-- What a wish does to the lists of a sound allocator, and what is taken by all wishes.
+use Rattle.std.proofs.Common.{◌≡◌, sym, ap, ◌∙◌, subst, ℕ, ◌+◌, ◌-◌, ◌<◌, ◌≤◌, true, false, nat_le, List, [], ◌++◌, length, take, drop, filter, All, arith, append_assoc, append-nil, le-leb, ◌⊎◌, inl, inr}
+use Rattle.std.proofs.lemmas.Bool.{cases_lt, lt-leb}
+use Rattle.std.proofs.Math.Seq.{take-append_seam, drop-append_seam}
+use Rattle.std.proofs.lemmas.List.{take-append-drop, length-append, length-drop, drop_all}
+use Rattle.std.proofs.lemmas.List.Elements.{All-take, All-append, All-weaker}
+use Rattle.ent_handle.specs.Handle.{Handle}
+use Rattle.ent_alloc.specs.Sequential.{Allocator, top, available, after_take, after_flush, fresh, is_old, is_fresh}
+use Rattle.ent_alloc.specs.Sound.{IsSound}
+use Rattle.ent_alloc.proofs.ListLaws.{take-nil, drop-nil}
+use Rattle.ent_alloc.proofs.FreshHandles.{All-fresh, old_of_joined, fresh_of_joined, take_joined, drop_joined, length-fresh}
+use Rattle.ent_alloc.proofs.LaidOut.{old_ones, old_ones_below}
+
+-- something was passed over, or something is left
+pub aside_or_pool : (s : Allocator) → IsSound s → (s.aside ≡ []) ⊎ (s.pool ≡ [])
+aside_or_pool s h = elim (cases_lt (length (available s)) s.asked) [
+  | inl beyond ↦ inr (h.pool ∙ drop_all s.asked (available s) (omega arith))
+  | inr enough ↦ inl (h.aside enough)
+]
+
+-- how many are left
+pub length-pool : (s : Allocator) → IsSound s → length s.pool ≡ length (available s) - s.asked
+length-pool s h = ap length h.pool ∙ length-drop s.asked (available s)
+
+-- a wish takes nothing out of what may be given, and changes no order
+pub take_moves : (taken aside pool : List Handle) (n : ℕ) → (aside ≡ []) ⊎ (pool ≡ []) → (taken ++ take n pool) ++ (aside ++ drop n pool) ≡ taken ++ (aside ++ pool)
+take_moves taken aside pool n (inl none) = rw none (append_assoc taken (take n pool) (drop n pool) ∙ ap (taken ++◌) (take-append-drop n pool))
+take_moves taken aside pool n (inr none) = rw (none, take-nil n, drop-nil n, append-nil taken)
+
+-- a wish for no more than the pool has
+pub after_take-served : (s : Allocator) (n : ℕ) → n ≤ length s.pool → after_take s n ≡ record s { taken = s.taken ++ take n s.pool; pool = drop n s.pool; asked = s.asked + n }
+after_take-served s n enough = let test : nat_le n (length s.pool) ≡ true = le-leb _ _ enough in rw test
+
+-- a wish for more than the pool has
+pub after_take-refused : (s : Allocator) (n : ℕ) → length s.pool < n → after_take s n ≡ record s { aside = s.aside ++ s.pool; pool = []; asked = s.asked + n }
+after_take-refused s n short = let test : nat_le n (length s.pool) ≡ false = lt-leb _ _ short in rw test
+
+-- what there was to give stays
+pub available-after_take : (s : Allocator) (n : ℕ) → IsSound s → available (after_take s n) ≡ available s
+available-after_take s n h = elim (cases_lt (length s.pool) n) [
+  | inl short ↦ rw (after_take-refused s n short) (ap (s.taken ++◌) (append-nil (s.aside ++ s.pool)))
+  | inr enough ↦ rw (after_take-served s n enough) (take_moves s.taken s.aside s.pool n (aside_or_pool s h))
+]
+
+-- what is taken: old handles, and fresh ones once there are no more old ones
+module _ (s : Allocator) (h : IsSound s) where
+  -- no more is taken than there was
+  pub enough : length s.taken ≤ length (old_ones s) + (s.limits.slots - s.made)
+  enough =
+      let all : length (available s) ≡ length (old_ones s) + (s.limits.slots - s.made) =
+      ap length h.order ∙ length-append (old_ones s) (fresh s.made (s.limits.slots - s.made)) ∙ ap (length (old_ones s) +◌) (length-fresh s.made (s.limits.slots - s.made)) in
+      omega (arith, all, length-append s.taken (s.aside ++ s.pool))
+
+  -- first the old ones, then fresh ones
+  pub taken-parts : s.taken ≡ take (length s.taken) (old_ones s) ++ fresh s.made (length s.taken - top s)
+  taken-parts =
+      sym (take-append_seam s.taken (s.aside ++ s.pool)) ∙ ap (take (length s.taken)) h.order
+      ∙ take_joined s.made (s.limits.slots - s.made) (old_ones s) (old_ones_below s) (length s.taken) enough
+
+  -- slots of old ones were made
+  taken_old_below : All (λ h. h.index < s.made) (take (length s.taken) (old_ones s))
+  taken_old_below = All-take (λ h. h.index < s.made) (length s.taken) (old_ones s) (old_ones_below s)
+
+  -- the old ones of what is taken
+  pub taken-old : filter (is_old s.made) s.taken ≡ take (length s.taken) (old_ones s)
+  taken-old = ap (filter (is_old s.made)) taken-parts ∙ old_of_joined s.made (length s.taken - top s) (take (length s.taken) (old_ones s)) taken_old_below
+
+  -- the fresh ones
+  pub taken-fresh : filter (is_fresh s.made) s.taken ≡ fresh s.made (length s.taken - top s)
+  taken-fresh = ap (filter (is_fresh s.made)) taken-parts ∙ fresh_of_joined s.made (length s.taken - top s) (take (length s.taken) (old_ones s)) taken_old_below
+
+  -- the flush makes the slots of the fresh ones
+  pub made-after_flush : (after_flush s).made ≡ s.made + (length s.taken - top s)
+  made-after_flush = ap (s.made +◌) (ap length taken-fresh ∙ length-fresh s.made (length s.taken - top s))
+
+  -- what is left by the flush
+  pub left-parts : s.aside ++ s.pool ≡ drop (length s.taken) (old_ones s) ++ fresh (after_flush s).made (s.limits.slots - (after_flush s).made)
+  left-parts =
+      let fewer : s.limits.slots - s.made - (length s.taken - top s) ≡ s.limits.slots - (s.made + (length s.taken - top s)) = omega arith in
+      rw made-after_flush (
+      sym (drop-append_seam s.taken (s.aside ++ s.pool)) ∙ ap (drop (length s.taken)) h.order
+      ∙ drop_joined s.made (s.limits.slots - s.made) (old_ones s) (old_ones_below s) (length s.taken)
+      ∙ ap (λ n. drop (length s.taken) (old_ones s) ++ fresh (s.made + (length s.taken - top s)) n) fewer
+      )
+
+  -- and so every slot from which something is taken
+  pub taken_below : All (λ h. h.index < (after_flush s).made) s.taken
+  taken_below =
+      let more : s.made + (length s.taken - top s) ≡ (after_flush s).made = sym made-after_flush in
+      subst (All (λ h. h.index < (after_flush s).made)) (sym taken-parts) (All-append (λ h. h.index < (after_flush s).made)
+      (take (length s.taken) (old_ones s)) (fresh s.made (length s.taken - top s))
+      (All-weaker (λ h. h.index < s.made) (λ h. h.index < (after_flush s).made) (λ h lt. omega arith) (take (length s.taken) (old_ones s)) taken_old_below)
+      (All-fresh (λ h. h.index < (after_flush s).made) s.made (length s.taken - top s) (λ k lt. omega arith)))
