@@ -4,22 +4,13 @@ use Rattle.std.proofs.lemmas.Bool.{lt-leb}
 use Rattle.std.proofs.lemmas.List.{take-append-drop, take-take, drop_all, length-take}
 use Rattle.std.proofs.lemmas.List.Sorted.{length_permutation}
 use Rattle.ent_handle.specs.Handle.{Handle}
-use Rattle.ent_alloc.specs.Sequential.{Allocator, available, after_take, reply_to}
+use Rattle.ent_alloc.specs.Sequential.{Allocator, available, after_take, reply_to, settled}
 use Rattle.ent_alloc.specs.Sound.{IsSound}
 use Rattle.ent_alloc.proofs.LaidOut.{flushed-laid_out}
 use Rattle.ent_alloc.proofs.Taken.{length-pool, after_take-refused}
 use Rattle.ent_alloc.proofs.PoolLaw.{limits-after_takes, live-after_takes, rows-after_takes, after_takes, after_takes-sound, available-after_takes, made-after_takes, asked-after_takes, pool-after_takes, taken_is, aside_is, length-taken}
 use Rattle.ent_alloc.proofs.Soundness.{IsSound-moved}
 use Rattle.ent_alloc.proofs.Wishes.{given_by, taken-since_flush}
-
--- so many handles given of so many asked for
-abbrev pub settled_lists : Allocator → ℕ → ℕ → Allocator
-settled_lists s given asked = record s {
-  taken = s.taken ++ take given s.pool;
-  aside = s.aside ++ drop given (take asked s.pool);
-  pool = drop asked s.pool;
-  asked = s.asked + asked;
-}
 
 -- the front of a list, the rest of what was asked for, and what is left
 three_parts : (given asked : ℕ) (pool : List Handle) → given ≤ asked → take given pool ++ (drop given (take asked pool) ++ drop asked pool) ≡ pool
@@ -44,7 +35,7 @@ module _ (s : Allocator) (h : IsSound s) (flushed : s.asked ≡ 0) where
   all_in_pool = rw (nothing_taken, nothing_aside)
 
   -- any two numbers that wishes may leave
-  pub settled-sound : (given asked : ℕ) → given ≤ asked → (asked ≤ length s.pool → given ≡ asked) → IsSound (settled_lists s given asked)
+  pub settled-sound : (given asked : ℕ) → given ≤ asked → (asked ≤ length s.pool → given ≡ asked) → IsSound (settled s given asked)
   settled-sound given asked le enough =
       IsSound-moved s (s.taken ++ take given s.pool) (s.aside ++ drop given (take asked s.pool)) (drop asked s.pool) (s.asked + asked) h
       (rw (nothing_taken, nothing_aside) (three_parts given asked s.pool le))
@@ -54,7 +45,7 @@ module _ (s : Allocator) (h : IsSound s) (flushed : s.asked ≡ 0) where
       rw nothing_aside (drop_all given (take asked s.pool) (omega (arith, length-take asked s.pool))))
 
   -- wishes leave such a state
-  pub after_takes-settled : (wishes : List ℕ) → after_takes s wishes ≡ settled_lists s (length (given_by s wishes)) (sum wishes)
+  pub after_takes-settled : (wishes : List ℕ) → after_takes s wishes ≡ settled s (length (given_by s wishes)) (sum wishes)
   after_takes-settled wishes =
       let t = after_takes s wishes in
       let sound = after_takes-sound s wishes h in

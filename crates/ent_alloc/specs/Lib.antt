@@ -1,4 +1,8 @@
 pub mod Limits
 pub mod Sequential
+pub mod Roster
+pub mod Slots
 pub mod Sound
+pub mod Reserved
+pub mod Entities
 pub mod Given

@@ -1,12 +1,13 @@
 -- The sequential allocator: what one caller alone would see. Each call of this crate is one of its steps,
 -- and the calls of many threads are compared with it.
-use Rattle.std.specs.Prelude.{ℕ, ◌+◌, ◌-◌, ℤ, pos, negsuc, suc, zero, ◌-ℤ◌, Bool, nat_lt, nat_le, ◌==◌, if◌then◌else◌, List, [], ◌∷◌, ◌++◌, length, take, drop, reverse, filter, Result, Ok, Err}
+use Rattle.std.specs.Prelude.{ℕ, ◌+◌, ◌-◌, ℤ, pos, negsuc, suc, zero, ◌-ℤ◌, Bool, nat_lt, nat_le, ◌==◌, if◌then◌else◌, List, [], ◌∷◌, ◌++◌, length, take, drop, reverse, filter, Result, Ok, Err, refl}
 use Rattle.std.specs.List.{list_any}
 use Rattle.std.specs.Ordering.{eq_by_cmp}
+use Rattle.std.specs.Coded.{Coded, code_by, coded×, coded_ℕ, coded_list}
 use Rattle.std.specs.FinSet as set
 use Rattle.std.specs.FinMap as map
-use Rattle.ent_handle.specs.Handle.{Handle, handle_cmp}
-use Rattle.ent_alloc.specs.Limits.{Limits}
+use Rattle.ent_handle.specs.Handle.{Handle, handle_cmp, handle_code}
+use Rattle.ent_alloc.specs.Limits.{Limits, limits_code}
 use Rattle.ent_alloc.specs.declared.space.Space.{Space}
 use Rattle.ent_alloc.specs.declared.state.State.{State}
 use Rattle.ent_alloc.specs.declared.state.State.TheVariants.{Alive, Reserved, Gone}
@@ -116,6 +117,15 @@ after_free s h = record s {
   pool = next s.limits h ∷ s.pool;
 }
 
+-- the allocator after wishes for so many handles in all, of which the first given were served
+abbrev pub settled : Allocator → ℕ → ℕ → Allocator
+settled s given asked = record s {
+  taken = s.taken ++ take given s.pool;
+  aside = s.aside ++ drop given (take asked s.pool);
+  pool = drop asked s.pool;
+  asked = s.asked + asked;
+}
+
 -- how much had been asked where the cursor is high
 abbrev pub asked_at : ℕ → ℤ → ℕ
 asked_at top (pos high) = top - high
@@ -131,3 +141,13 @@ stands_in handles h = list_any (eq_by_cmp handle_cmp h) handles
 -- what became of a handle
 abbrev pub state_of : Allocator → Handle → State
 state_of s h = if set.contains s.live h then Alive else (if stands_in s.taken h then Reserved else Gone)
+
+-- an allocator is stored as the tuple of its fields
+abbrev pub allocator_code : Coded Allocator
+allocator_code =
+    code_by
+    (Limits × (set.FinSet handle_cmp × (map.FinMap handle_cmp ℕ × (List Handle × (List Handle × (List Handle × (ℕ × ℕ)))))))
+    (coded× limits_code (coded× (set.code handle_code) (coded× (map.code handle_code coded_ℕ) (coded× (coded_list handle_code) (coded× (coded_list handle_code) (coded× (coded_list handle_code) (coded× coded_ℕ coded_ℕ)))))))
+    (λ s. (s.limits, (s.live, (s.rows, (s.pool, (s.taken, (s.aside, (s.made, s.asked))))))))
+    (λ p. record { limits = p.0; live = p.1.0; rows = p.1.1.0; pool = p.1.1.1.0; taken = p.1.1.1.1.0; aside = p.1.1.1.1.1.0; made = p.1.1.1.1.1.1.0; asked = p.1.1.1.1.1.1.1 })
+    (λ _. refl)

@@ -1,10 +1,10 @@
 -- What a vector of records and a list of pending indexes stand for.
-use Rattle.std.specs.Prelude.{◌≡◌, ℕ, ◌+◌, ◌^◌, ◌<◌, ◌≤◌, Bool, true, false, ◌&&◌, ◌==◌, if◌then◌else◌, List, [], ◌∷◌, length, map, slice_index, slice_index_or, Option, None, Some}
+use Rattle.std.specs.Prelude.{◌≡◌, ℕ, ◌+◌, ◌^◌, ◌<◌, ◌≤◌, Bool, true, false, ◌&&◌, ◌==◌, if◌then◌else◌, List, [], ◌∷◌, length, map, slice_index, slice_index_or, slice_set, Option, None, Some}
 use Rattle.std.specs.Option.{option_map, option_to_list}
 use Rattle.std.specs.FinSet as set
 use Rattle.std.specs.FinMap as maps
 use Rattle.ent_handle.specs.Handle.{Handle}
-use Rattle.ent_alloc.specs.Limits.{Limits}
+use Rattle.ent_alloc.specs.Limits.{Limits, AreLimits}
 use Rattle.ent_alloc.specs.Roster.{Roster}
 use Rattle.ent_alloc.specs.declared.record.Record.{Record}
 use Rattle.ent_alloc.specs.declared.record.Tenancy.{Tenancy}
@@ -22,6 +22,10 @@ row_of (Pending place) = None
 abbrev pub blank : Record
 blank = record { generation = 0; tenancy = Pending 0 }
 
+-- the record of a new slot, with its first tenant
+abbrev pub newborn : Record
+newborn = record { generation = 1; tenancy = Alive None }
+
 -- the record of a slot
 abbrev pub record_at : List Record → ℕ → Record
 record_at records index = slice_index_or records index blank
@@ -30,10 +34,13 @@ record_at records index = slice_index_or records index blank
 abbrev pub handle_at : List Record → ℕ → Handle
 handle_at records index = record { index = index; generation = (record_at records index).generation }
 
+-- the record has this living tenant
+abbrev pub has_tenant : Record → ℕ → Bool
+has_tenant r generation = is_alive r.tenancy && r.generation == generation
+
 -- the handle names the living tenant of its slot
 abbrev pub is_tenant : List Record → Handle → Bool
-is_tenant records h =
-    is_alive (record_at records h.index).tenancy && ((record_at records h.index).generation == h.generation)
+is_tenant records h = has_tenant (record_at records h.index) h.generation
 
 -- the living tenants of the slots from an index on
 abbrev pub tenants : ℕ → List Record → List Handle
@@ -52,6 +59,14 @@ abbrev pub kept : ℕ → List Record → List (Handle × ℕ)
 kept index [] = []
 kept index (r ∷ records) = with_row (record { index = index; generation = r.generation }) (row_of r.tenancy) (kept (index + 1) records)
 
+-- the records after these slots got their next tenants
+abbrev pub wake : Record → Record
+wake r = record { generation = r.generation; tenancy = Alive None }
+
+abbrev pub woken : List Record → List ℕ → List Record
+woken records [] = records
+woken records (index ∷ indices) = woken (slice_set records index (wake (record_at records index))) indices
+
 -- the roster that the vectors stand for
 abbrev pub roster_of : Limits → List Record → List ℕ → Roster
 roster_of limits records pending = record {
@@ -62,9 +77,13 @@ roster_of limits records pending = record {
   made = length records;
 }
 
--- Each pending place and the record of its slot point at each other, and generations are within the limit.
-pub record AreLinked (limits : Limits) (records : List Record) (pending : List ℕ) : Type 0 where
+-- Each pending place and the record of its slot point at each other, generations are within the limit, and live
+-- counts the tenants.
+pub record AreLinked (limits : Limits) (records : List Record) (pending : List ℕ) (live : ℕ) : Type 0 where
+  pub limited : AreLimits limits
   pub few : length records ≤ limits.slots
+  pub counted : live ≡ length (tenants 0 records)
+  pub each_once : live + length pending ≤ length records
   pub least : (index : ℕ) → index < length records → 1 ≤ (record_at records index).generation
   pub greatest : (index : ℕ) → index < length records → (record_at records index).generation ≤ limits.generations
   pub made : (place : ℕ) → place < length pending → slice_index pending place < length records

@@ -1,10 +1,20 @@
 //! Bevy's entity allocator for one thread: exclusive calls, and the arithmetic of reservations.
 #![tactic(auto)]
 
+mod entities;
+mod fault;
 mod limits;
+mod record;
+mod reserved;
+mod slots;
 mod space;
+mod span;
 mod state;
 
+pub use entities::Entities;
+pub use fault::{AllocFault, FreeFault, Freed};
 pub use limits::Limits;
+pub use reserved::Reserved;
 pub use space::Space;
+pub use span::Span;
 pub use state::State;

@@ -1,11 +1,12 @@
-ghost use Rattle.std.specs.Prelude.{◌≡◌, ℕ, ◌+◌, ◌-◌, ◌^◌, ◌<◌, ◌≤◌, IfOk, OnOk, OnErr, true, [], ◌∷◌, ◌++◌, length, take, drop, slice_get, if◌then◌else◌, ◌==◌};
+ghost use Rattle.std.specs.Prelude.{◌≡◌, ℕ, ◌+◌, ◌-◌, ◌^◌, ◌<◌, ◌≤◌, IfOk, OnOk, OnErr, true, [], ◌∷◌, ◌++◌, length, take, drop, pos, slice_get, if◌then◌else◌, ◌==◌};
 ghost use Rattle.std.specs.FinSet as set;
 ghost use Rattle.std.specs.FinMap as maps;
 ghost use Rattle.ent_handle.specs.Handle.{IsHandle};
-ghost use Rattle.ent_alloc.specs.Sequential.{fresh, next};
+ghost use Rattle.ent_alloc.specs.Limits.{AreLimits};
+ghost use Rattle.ent_alloc.specs.Sequential.{fresh, fresh as fresh_handles, next};
 
 use crate::limits::Limits;
-use crate::record::{Record, Tenancy};
+use crate::record::{Record, Tenancy, is_tenant, wake_all};
 use ent_handle::{Handle, Memory};
 use std::alloc::Global;
 use std::marker::Model;
@@ -16,6 +17,7 @@ pub(crate) struct Slots {
     limits: Limits,
     records: Vec<Record>,
     pending: Vec<u32>,
+    live: u32,
 }
 
 impl Model for Slots {
@@ -29,19 +31,21 @@ impl Model for Slots {
 
     ghost view = { λ s. roster_of s.limits s.records.items s.pending.items };
 
-    ghost invariant = { λ s. AreLinked s.limits s.records.items s.pending.items };
+    ghost invariant = { λ s. AreLinked s.limits s.records.items s.pending.items s.live };
 }
 
 impl Slots {
     ghost use Rattle.ent_alloc.specs.Roster.{Roster};
 
     pub(crate) fn new(alloc: Global, limits: Limits) -> Self
-        ensures { result ≡ record { limits = limits; live = set.empty; rows = maps.empty; pending = []; made = 0 } }
+        ensures value { result ≡ record { limits = limits; live = set.empty; rows = maps.empty; pending = []; made = 0 } }
+        ensures limited { AreLimits limits }
     {
         Slots {
             limits,
             records: Vec::new(alloc),
             pending: Vec::new(alloc),
+            live: 0,
         }
     }
 
@@ -55,26 +59,39 @@ impl Slots {
     pub(crate) fn made(&self) -> u32
         ensures value { result ≡ self.now.made }
         ensures within { result ≤ self.now.limits.slots }
+        ensures fits { self.now.limits.slots < 2 ^ 32 }
     {
         self.records.len() as u32
     }
 
     /// How many slots wait for their next tenant.
     pub(crate) fn waiting(&self) -> u32
-        ensures { result ≡ length self.now.pending }
+        ensures value { result ≡ length self.now.pending }
+        ensures within { result ≤ self.now.made }
+        ensures few { self.now.made ≤ self.now.limits.slots }
+        ensures fits { self.now.limits.slots < 2 ^ 32 }
     {
         self.pending.len() as u32
+    }
+
+    /// The same as a place: the one past the last that waits.
+    pub(crate) fn top(&self) -> i64
+        ensures { result ≡ pos (length self.now.pending) }
+    {
+        i64::from(self.waiting())
+    }
+
+    /// How many tenants live.
+    pub(crate) fn live(&self) -> u32
+        ensures { result ≡ set.len self.now.live }
+    {
+        self.live
     }
 
     pub(crate) fn is_alive(&self, handle: Handle) -> bool
         ensures { result ≡ set.contains self.now.live handle }
     {
-        self.records
-            .get(handle.index() as usize)
-            .is_some_and(|record| {
-                record.generation == handle.generation()
-                    && matches!(record.tenancy, Tenancy::Alive { .. })
-            })
+        is_tenant(&self.records, handle)
     }
 
     /// The handle that waits at a place.
@@ -86,22 +103,44 @@ impl Slots {
         handle_of(index, self.records[index as usize].generation)
     }
 
+    /// Appends the first tenants of the next slots to be made. After a refusal some may stand there.
+    pub(crate) fn list_fresh(&self, count: u32, out: &mut Vec<Handle>) -> Result<(), Memory>
+        requires { self.now.made + count ≤ self.now.limits.slots }
+        ensures ok { OnOk result (out.new.items ≡ out.old.items ++ fresh self.now.made count) }
+        ensures kept { take (length out.old.items) out.new.items ≡ out.old.items }
+    {
+        let made = self.made();
+        for index in made..made + count {
+            out.push(first_tenant(index))?;
+        }
+        Ok(())
+    }
+
+    /// Appends the handles that wait from a place on. After a refusal some may stand there.
+    pub(crate) fn list_pending(&self, from: usize, out: &mut Vec<Handle>) -> Result<(), Memory>
+        requires { from ≤ length self.now.pending }
+        ensures ok { OnOk result (out.new.items ≡ out.old.items ++ drop from self.now.pending) }
+        ensures kept { take (length out.old.items) out.new.items ≡ out.old.items }
+    {
+        for place in from..self.waiting() as usize {
+            out.push(self.pending_at(place))?;
+        }
+        Ok(())
+    }
+
     /// Gives so many new slots their first tenants.
     pub(crate) fn make(&mut self, count: u32) -> Result<(), Memory>
         requires { self.old.made + count ≤ self.old.limits.slots }
         ensures ok { OnOk result (self.new ≡ record self.old {
-            live = set.union self.old.live (set.from_list (fresh self.old.made count));
-            made = self.old.made + count }) }
+          live = set.union self.old.live (set.from_list (fresh self.old.made count));
+          made = self.old.made + count;
+        }) }
         ensures err { OnErr result (self.new ≡ self.old) }
     {
         let made = self.records.len();
-        self.records.resize(
-            made + count as usize,
-            Record {
-                generation: 1,
-                tenancy: Tenancy::Alive { row: None },
-            },
-        )?;
+        self.records
+            .resize(made + count as usize, Record::newborn())?;
+        self.live += count;
         Ok(())
     }
 
@@ -109,36 +148,120 @@ impl Slots {
     pub(crate) fn wake(&mut self, from: usize)
         requires { from ≤ length self.old.pending }
         ensures { self.new ≡ record self.old {
-            live = set.union self.old.live (set.from_list (drop from self.old.pending));
-            pending = take from self.old.pending } }
+          live = set.union self.old.live (set.from_list (drop from self.old.pending));
+          pending = take from self.old.pending;
+        } }
     {
-        for place in from..self.pending.len() {
-            let index = self.pending[place];
-            self.records[index as usize].tenancy = Tenancy::Alive { row: None };
-        }
+        wake_all(&mut self.records, &self.pending[from..]);
+        self.live += (self.pending.len() - from) as u32;
         self.pending.truncate(from);
+    }
+
+    /// Gives the slot that waits last its next tenant.
+    pub(crate) fn wake_last(&mut self) -> Handle
+        requires { 0 < length self.old.pending }
+        ensures last { slice_get self.old.pending (length self.old.pending - 1) ≡ Some result }
+        ensures ok { self.new ≡ record self.old {
+          live = set.union self.old.live (set.from_list (result ∷ []));
+          pending = take (length self.old.pending - 1) self.old.pending;
+        } }
+    {
+        let place = self.waiting() as usize - 1;
+        let handle = self.pending_at(place);
+        self.wake(place);
+        handle
+    }
+
+    /// Gives one new slot its first tenant.
+    pub(crate) fn make_one(&mut self) -> Result<Handle, Memory>
+        requires { self.old.made < self.old.limits.slots }
+        ensures first { IfOk result (λ h. h ≡ record { index = self.old.made; generation = 1 }) }
+        ensures ok { IfOk result (λ h. self.new ≡ record self.old {
+          live = set.union self.old.live (set.from_list (h ∷ []));
+          made = self.old.made + 1;
+        }) }
+        ensures err { OnErr result (self.new ≡ self.old) }
+    {
+        let handle = first_tenant(self.made());
+        self.make(1)?;
+        Ok(handle)
+    }
+
+    /// Brings to life the first tenants of so many new slots and the handles that wait from a place on, and
+    /// appends them. Nothing changes where memory runs out.
+    pub(crate) fn bear(
+        &mut self,
+        kept: usize,
+        fresh: u32,
+        out: &mut Vec<Handle>,
+    ) -> Result<(), Memory>
+        requires waiting { kept ≤ length self.old.pending }
+        requires room { self.old.made + fresh ≤ self.old.limits.slots }
+        ensures ok { OnOk result (self.new ≡ record self.old {
+          live = set.union (set.union self.old.live (set.from_list (fresh_handles self.old.made fresh))) (set.from_list (drop kept self.old.pending));
+          pending = take kept self.old.pending;
+          made = self.old.made + fresh;
+        }) }
+        ensures born { OnOk result (out.new.items ≡ out.old.items ++ (fresh_handles self.old.made fresh ++ drop kept self.old.pending)) }
+        ensures err { OnErr result (self.new ≡ self.old) }
+        ensures unchanged { OnErr result (out.new.items ≡ out.old.items) }
+    {
+        let before = out.len();
+        if let Err(refused) = self.grow(kept, fresh, out) {
+            out.truncate(before);
+            return Err(refused);
+        }
+        self.wake(kept);
+        Ok(())
+    }
+
+    /// The part of `bear` that memory may refuse: the list of the handles, and the new slots.
+    fn grow(&mut self, kept: usize, fresh: u32, out: &mut Vec<Handle>) -> Result<(), Memory>
+        requires waiting { kept ≤ length self.old.pending }
+        requires room { self.old.made + fresh ≤ self.old.limits.slots }
+        ensures ok { OnOk result (self.new ≡ record self.old {
+          live = set.union self.old.live (set.from_list (fresh_handles self.old.made fresh));
+          made = self.old.made + fresh;
+        }) }
+        ensures born { OnOk result (out.new.items ≡ out.old.items ++ (fresh_handles self.old.made fresh ++ drop kept self.old.pending)) }
+        ensures err { OnErr result (self.new ≡ self.old) }
+        ensures kept { take (length out.old.items) out.new.items ≡ out.old.items }
+    {
+        self.list_fresh(fresh, out)?;
+        self.list_pending(kept, out)?;
+        self.make(fresh)
     }
 
     /// Takes a tenant out of its slot, which then waits behind all others for the next one.
     pub(crate) fn release(&mut self, handle: Handle) -> Result<Handle, Memory>
         requires { set.contains self.old.live handle ≡ true }
         ensures ok { OnOk result (self.new ≡ record self.old {
-            live = set.remove self.old.live handle;
-            rows = maps.remove self.old.rows handle;
-            pending = self.old.pending ++ next self.old.limits handle ∷ [] }) }
+          live = set.remove self.old.live handle;
+          rows = maps.remove self.old.rows handle;
+          pending = self.old.pending ++ next self.old.limits handle ∷ [];
+        }) }
         ensures next { IfOk result (λ h. h ≡ next self.old.limits handle) }
         ensures err { OnErr result (self.new ≡ self.old) }
     {
         let index = handle.index();
+        let generation = following(self.limits, handle.generation());
         let place = self.pending.len() as u32;
         self.pending.push(index)?;
-        let generation = following(self.limits, handle.generation());
         self.records[index as usize] = Record {
             generation,
             tenancy: Tenancy::Pending { place },
         };
+        self.live -= 1;
         Ok(handle_of(index, generation))
     }
+}
+
+/// The first tenant of a slot.
+pub(crate) fn first_tenant(index: u32) -> Handle
+    requires { index < 2 ^ 32 - 1 }
+    ensures { result ≡ record { index = index; generation = 1 } }
+{
+    handle_of(index, 1)
 }
 
 /// The handle of two numbers that are in its ranges.

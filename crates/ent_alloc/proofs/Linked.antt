@@ -1,0 +1,350 @@
+-- What the calls of the slots do to their vectors keeps them linked, and does to the roster what it should.
+use Rattle.std.proofs.Common.{◌≡◌, ◌≢◌, ℕ, ◌+◌, ◌-◌, ◌<◌, ◌≤◌, Bool, true, false, cond, not, ◌&&◌, eqb, List, [], ◌∷◌, ◌++◌, length, get_or, set, take, drop, map, replicate, refl, sym, ap, ◌∙◌, arith, inl, inr, suc, zero, Option, None, Some}
+use Rattle.std.specs.FinSet as sets
+use Rattle.std.specs.FinMap as maps
+use Rattle.std.proofs.lemmas.Bool.{cases_lt, cases_eq, false≢true, and_parts, eqb-true, eqb-false}
+use Rattle.std.proofs.lemmas.Bool.Decides.{nat_tests}
+use Rattle.std.proofs.lemmas.List.{get_or-take, get_or-drop, length-take, length-drop, length-take-le, length-append, length-replicate, length-set, length_push, drop-map, take-map, map_push, get_or-set_same, get_or-set_other, get_or_append_left, get_or-append_right, get_or-replicate, get_or_past, get_or_push}
+use Rattle.ent_handle.specs.Handle.{Handle, handle_cmp, handle_cmp_total, handle_cmp-IsAntisymmetric}
+use Rattle.ent_alloc.specs.Limits.{Limits, AreLimits}
+use Rattle.ent_alloc.specs.Sequential.{fresh, next}
+use Rattle.ent_alloc.specs.Roster.{Roster}
+use Rattle.ent_alloc.specs.declared.record.Record.{Record}
+use Rattle.ent_alloc.specs.declared.record.Tenancy.{Tenancy}
+use Rattle.ent_alloc.specs.declared.record.Tenancy.TheVariants.{Alive, Pending}
+use Rattle.ent_alloc.specs.Slots.{tenants, is_tenant, has_tenant, is_alive, row_of, record_at, blank, newborn, handle_at, kept, woken, roster_of, AreLinked}
+use Rattle.ent_alloc.proofs.Tenants.{contains_tenants, is_tenant-set, row_at, row_at-set, get_kept, ties, one, length-tenants-set, tenants-append, tenants-newborn, length-fresh, kept-made, from_list-append}
+use Rattle.ent_alloc.proofs.Woken.{Wait, Alive≢Pending, place_of, length-woken, generation-woken, waiting-woken, waited-woken, length-tenants-woken, kept-woken, live-woken}
+
+-- ---- waking
+
+module _ (limits : Limits) (records : List Record) (pending : List ℕ) (live from : ℕ) (linked : AreLinked limits records pending live) (within : from ≤ length pending) where
+  pub Wait-drop : Wait records from (drop from pending)
+  Wait-drop = record {
+    made = λ k below.
+        let at : from + k < length pending = omega (arith, length-drop from pending) in
+        let h : get_or pending (from + k) 0 < length records = linked.made (from + k) at in
+        omega (arith, get_or-drop from pending k 0);
+    pending = λ k below.
+        let at : from + k < length pending = omega (arith, length-drop from pending) in
+        ap (λ n. (record_at records n).tenancy) (get_or-drop from pending k 0) ∙ linked.forward (from + k) at;
+  }
+
+  abbrev awake : List Record
+  awake = woken records (drop from pending)
+
+  same_generation : (index : ℕ) → (record_at awake index).generation ≡ (record_at records index).generation
+  same_generation index = generation-woken records from (drop from pending) index Wait-drop
+
+  place_below : (index place : ℕ) → index < length records → (record_at awake index).tenancy ≡ Pending place → place < from
+  place_below index place made is =
+      let still = waited-woken records from (drop from pending) index place Wait-drop is in
+      let listed : place < length pending = linked.listed index place made still.before in
+      let back : get_or pending place 0 ≡ index = linked.back index place made still.before in
+      let clash : from ≤ place → ⊥ =
+      λ above.
+      let at : place - from < length (drop from pending) = omega (arith, length-drop from pending) in
+      let there : from + (place - from) ≡ place = omega arith in
+      still.apart (place - from) at (get_or-drop from pending (place - from) 0 ∙ ap (λ n. get_or pending n 0) there ∙ back) in
+      elim (cases_lt place from) [ inl below ↦ below | inr above ↦ absurd (clash above) ]
+
+  pub wake_keeps_links : AreLinked limits awake (take from pending) (live + (length pending - from))
+  wake_keeps_links =
+      let as_long : length awake ≡ length records = length-woken records (drop from pending) in
+      let few : length (take from pending) ≡ from = length-take-le from pending within in
+      let more = length-tenants-woken records from (drop from pending) Wait-drop in
+      let rest = length-drop from pending in
+      let before = linked.each_once in
+      let counted = linked.counted in
+      let slots = linked.few in
+      record {
+        limited = linked.limited;
+        few = omega arith;
+        counted = omega arith;
+        each_once = omega arith;
+        least = λ index made. let h = linked.least index (omega arith) in omega (arith, same_generation index);
+        greatest = λ index made. let h = linked.greatest index (omega arith) in omega (arith, same_generation index);
+        made = λ place below. let h = linked.made place (omega arith) in omega (arith, get_or-take from pending place 0 (omega arith));
+        forward = λ place below.
+            ap (λ n. (record_at awake n).tenancy) (get_or-take from pending place 0 (omega arith))
+            ∙ waiting-woken records from (drop from pending) (get_or pending place 0) place Wait-drop (linked.forward place (omega arith)) (omega arith);
+        listed = λ index place made is. let h = place_below index place (omega arith) is in omega arith;
+        back = λ index place made is.
+            let below = place_below index place (omega arith) is in
+            let still = waited-woken records from (drop from pending) index place Wait-drop is in
+            get_or-take from pending place 0 below ∙ linked.back index place (omega arith) still.before;
+      }
+
+  same_map : (is : List ℕ) → map (handle_at awake) is ≡ map (handle_at records) is
+  same_map [] = refl
+  same_map (i ∷ is) = λ k. record { index = i; generation = same_generation i k } ∷ same_map is k
+
+  pub roster_of-wake : roster_of limits awake (take from pending) ≡ record (roster_of limits records pending) {
+    live = sets.union (roster_of limits records pending).live (sets.from_list (drop from (roster_of limits records pending).pending));
+    pending = take from (roster_of limits records pending).pending;
+  }
+  roster_of-wake =
+      let live_is = live-woken records from (drop from pending) Wait-drop ∙ ap (λ (hs : List Handle). sets.union (sets.from_list (tenants 0 records)) (sets.from_list hs)) (sym (drop-map (handle_at records) from pending)) in
+      let rows_is = ap maps.from_entries (kept-woken records from (drop from pending) Wait-drop) in
+      let pending_is = same_map (take from pending) ∙ sym (take-map (handle_at records) from pending) in
+      let made_is = length-woken records (drop from pending) in
+      λ i. record { limits = limits; live = live_is i; rows = rows_is i; pending = pending_is i; made = made_is i }
+
+-- ---- making
+
+-- two functions that agree at each element of a list
+pub map_alike : {X : Type 0} (f g : ℕ → X) (xs : List ℕ) → ((k : ℕ) → k < length xs → f (get_or xs k 0) ≡ g (get_or xs k 0)) → map f xs ≡ map g xs
+map_alike f g [] alike = refl
+map_alike f g (x ∷ xs) alike = λ i. alike 0 (omega arith) i ∷ map_alike f g xs (λ k below. alike (suc k) (omega arith)) i
+
+module _ (limits : Limits) (records : List Record) (pending : List ℕ) (live count : ℕ) (linked : AreLinked limits records pending live) (room : length records + count ≤ limits.slots) where
+  abbrev grown : List Record
+  grown = records ++ replicate count newborn
+
+  old_stays : (index : ℕ) → index < length records → record_at grown index ≡ record_at records index
+  old_stays index made = get_or_append_left records (replicate count newborn) blank index made
+
+  new_is : (index : ℕ) → length records ≤ index → index < length grown → record_at grown index ≡ newborn
+  new_is index past within =
+      let below : index - length records < count = omega (arith, length-append records (replicate count newborn), length-replicate count newborn) in
+      get_or-append_right records (replicate count newborn) (length records) index blank refl past
+      ∙ get_or-replicate count (index - length records) newborn blank below
+
+  waits_in_old : (index place : ℕ) → index < length grown → (record_at grown index).tenancy ≡ Pending place → index < length records
+  waits_in_old index place within is =
+      elim (cases_lt index (length records)) [
+        | inl made ↦ made
+        | inr past ↦ absurd (Alive≢Pending (sym (ap (λ (r : Record). r.tenancy) (new_is index past within)) ∙ is))
+      ]
+
+  pub make_keeps_links : AreLinked limits grown pending (live + count)
+  make_keeps_links =
+      let long : length grown ≡ length records + count = length-append records (replicate count newborn) ∙ ap (λ n. length records + n) (length-replicate count newborn) in
+      let more : length (tenants 0 grown) ≡ length (tenants 0 records) + count =
+      ap length (tenants-append 0 records (replicate count newborn) ∙ ap (λ hs. tenants 0 records ++ hs) (tenants-newborn (0 + length records) count))
+      ∙ length-append (tenants 0 records) (fresh (0 + length records) count)
+      ∙ ap (λ n. length (tenants 0 records) + n) (length-fresh (0 + length records) count) in
+      let counted = linked.counted in
+      let each = linked.each_once in
+      let some = linked.limited.some_generation in
+      record {
+        limited = linked.limited;
+        few = omega arith;
+        counted = omega arith;
+        each_once = omega arith;
+        least = λ index within.
+            elim (cases_lt index (length records)) [
+              | inl made ↦ (let h = linked.least index made in omega (arith, ap (λ (r : Record). r.generation) (old_stays index made)))
+              | inr past ↦ omega (arith, ap (λ (r : Record). r.generation) (new_is index past within))
+            ];
+        greatest = λ index within.
+            elim (cases_lt index (length records)) [
+              | inl made ↦ (let h = linked.greatest index made in omega (arith, ap (λ (r : Record). r.generation) (old_stays index made)))
+              | inr past ↦ omega (arith, ap (λ (r : Record). r.generation) (new_is index past within))
+            ];
+        made = λ place below. let h = linked.made place below in omega arith;
+        forward = λ place below. ap (λ (r : Record). r.tenancy) (old_stays (get_or pending place 0) (linked.made place below)) ∙ linked.forward place below;
+        listed = λ index place within is.
+            let made = waits_in_old index place within is in
+            linked.listed index place made (sym (ap (λ (r : Record). r.tenancy) (old_stays index made)) ∙ is);
+        back = λ index place within is.
+            let made = waits_in_old index place within is in
+            linked.back index place made (sym (ap (λ (r : Record). r.tenancy) (old_stays index made)) ∙ is);
+      }
+
+  pub roster_of-make : roster_of limits grown pending ≡ record (roster_of limits records pending) {
+    live = sets.union (roster_of limits records pending).live (sets.from_list (fresh (roster_of limits records pending).made count));
+    made = (roster_of limits records pending).made + count;
+  }
+  roster_of-make =
+      let zero_plus : 0 + length records ≡ length records = omega arith in
+      let live_is =
+      ap (λ (hs : List Handle). sets.from_list {R = handle_cmp} hs) (tenants-append 0 records (replicate count newborn) ∙ ap (λ hs. tenants 0 records ++ hs) (tenants-newborn (0 + length records) count ∙ ap (λ n. fresh n count) zero_plus))
+      ∙ from_list-append (tenants 0 records) (fresh (length records) count) in
+      let rows_is = ap (λ (es : List (Handle × ℕ)). maps.from_entries {R = handle_cmp} es) (kept-made 0 count records) in
+      let pending_is = map_alike (handle_at grown) (handle_at records) pending (λ k below i. record { index = get_or pending k 0; generation = (old_stays (get_or pending k 0) (linked.made k below) i).generation }) in
+      let made_is : length grown ≡ length records + count = length-append records (replicate count newborn) ∙ ap (λ n. length records + n) (length-replicate count newborn) in
+      λ i. record { limits = limits; live = live_is i; rows = rows_is i; pending = pending_is i; made = made_is i }
+
+-- ---- releasing
+
+-- a tenant's slot was made, and its record is alive with this generation
+pub tenant_made : (records : List Record) (h : Handle) → is_tenant records h ≡ true → h.index < length records
+tenant_made records h is =
+    elim (cases_lt h.index (length records)) [
+      | inl made ↦ made
+      | inr past ↦ absurd (false≢true (sym (ap (λ (r : Record). has_tenant r h.generation) (get_or_past records h.index blank past)) ∙ is))
+    ]
+
+pub tenant_alive : (records : List Record) (h : Handle) → is_tenant records h ≡ true → is_alive (record_at records h.index).tenancy ≡ true
+tenant_alive records h is = (and_parts (is_alive (record_at records h.index).tenancy) (eqb (record_at records h.index).generation h.generation) is).0
+
+pub tenant_generation : (records : List Record) (h : Handle) → is_tenant records h ≡ true → (record_at records h.index).generation ≡ h.generation
+tenant_generation records h is = eqb-true (record_at records h.index).generation h.generation (and_parts (is_alive (record_at records h.index).tenancy) (eqb (record_at records h.index).generation h.generation) is).1
+
+gone_test : (same gen old : Bool) → (same ≡ true → old ≡ gen) → cond same false old ≡ (not (same && gen) && old)
+gone_test true true old is = refl
+gone_test true false old is = sym (is refl)
+gone_test false gen old is = refl
+
+gone_row : (same gen : Bool) (old : Option ℕ) → (same ≡ true → gen ≡ false → old ≡ None) → cond same None old ≡ cond (same && gen) None old
+gone_row true true old is = refl
+gone_row true false old is = sym (is refl refl)
+gone_row false gen old is = refl
+
+eqb_sym : (a b : ℕ) → eqb a b ≡ eqb b a
+eqb_sym a b = grind (arith, nat_tests)
+
+never : (b : Bool) (row : Option ℕ) → row ≡ None → cond b row None ≡ None
+never true row is = is
+never false row is = refl
+
+module _ (limits : Limits) (records : List Record) (pending : List ℕ) (live : ℕ) (h : Handle) (linked : AreLinked limits records pending live) (lives : is_tenant records h ≡ true) where
+  abbrev vacant : Record
+  vacant = record { generation = (next limits h).generation; tenancy = Pending (length pending) }
+
+  abbrev released : List Record
+  released = set records h.index vacant
+
+  made_slot : h.index < length records
+  made_slot = tenant_made records h lives
+
+  pub next_generation : (1 ≤ (next limits h).generation) × ((next limits h).generation ≤ limits.generations)
+  next_generation =
+      let same = tenant_generation records h lives in
+      let g = linked.greatest h.index made_slot in
+      let some = linked.limited.some_generation in
+      let within : h.generation ≤ limits.generations = omega arith in
+      by_test (eqb h.generation limits.generations) refl within some
+    where
+      by_test : (b : Bool) → eqb h.generation limits.generations ≡ b → h.generation ≤ limits.generations → 1 ≤ limits.generations → (1 ≤ cond b 1 (h.generation + 1)) × (cond b 1 (h.generation + 1) ≤ limits.generations)
+      by_test true e within some = (omega arith, some)
+      by_test false e within some =
+          let differ : h.generation ≢ limits.generations = eqb-false h.generation limits.generations e in
+          (omega arith, omega arith)
+
+  apart : (place : ℕ) → place < length pending → get_or pending place 0 ≢ h.index
+  apart place below e =
+      let alive = tenant_alive records h lives in
+      let waits : is_alive (record_at records h.index).tenancy ≡ false = ap (λ n. is_alive (record_at records n).tenancy) (sym e) ∙ ap is_alive (linked.forward place below) in
+      false≢true (sym waits ∙ alive)
+
+  other : (at : ℕ) → at ≢ h.index → record_at released at ≡ record_at records at
+  other at ne = get_or-set_other records h.index at vacant blank ne
+
+  same : record_at released h.index ≡ vacant
+  same = get_or-set_same records h.index vacant blank made_slot
+
+  same_at : (at : ℕ) → at ≡ h.index → record_at released at ≡ vacant
+  same_at at e = ap (record_at released) e ∙ same
+
+  fewer : length (tenants 0 released) + 1 ≡ length (tenants 0 records)
+  fewer =
+      let step = length-tenants-set 0 records h.index vacant made_slot in
+      let was : one (is_alive (record_at records h.index).tenancy) ≡ 1 = ap one (tenant_alive records h lives) in
+      omega (arith, step)
+
+  pub one_lives : 1 ≤ live
+  one_lives = let counted = linked.counted in omega (arith, fewer)
+
+  pub release_keeps_links : AreLinked limits released (pending ++ h.index ∷ []) (live - 1)
+  release_keeps_links =
+      let long : length released ≡ length records = length-set records h.index vacant in
+      let more : length (pending ++ h.index ∷ []) ≡ length pending + 1 = length_push pending h.index in
+      let counted = linked.counted in
+      let each = linked.each_once in
+      let few = linked.few in
+      let range = next_generation in
+      record {
+        limited = linked.limited;
+        few = omega arith;
+        counted = omega (arith, fewer);
+        each_once = omega (arith, fewer);
+        least = λ index within.
+            elim (cases_eq index h.index) [
+              | inl e ↦ omega (arith, range.0, ap (λ (r : Record). r.generation) (same_at index e))
+              | inr ne ↦ (let b = linked.least index (omega arith) in omega (arith, ap (λ (r : Record). r.generation) (other index ne)))
+            ];
+        greatest = λ index within.
+            elim (cases_eq index h.index) [
+              | inl e ↦ omega (arith, range.1, ap (λ (r : Record). r.generation) (same_at index e))
+              | inr ne ↦ (let b = linked.greatest index (omega arith) in omega (arith, ap (λ (r : Record). r.generation) (other index ne)))
+            ];
+        made = λ place below.
+            elim (cases_lt place (length pending)) [
+              | inl old ↦ (let b = linked.made place old in omega (arith, get_or_append_left pending (h.index ∷ []) 0 place old))
+              | inr new ↦ (let b = made_slot in omega (arith, get_or_push pending h.index 0 place (omega arith)))
+            ];
+        forward = λ place below.
+            elim (cases_lt place (length pending)) [
+              | inl old ↦
+                  ap (λ n. (record_at released n).tenancy) (get_or_append_left pending (h.index ∷ []) 0 place old)
+                  ∙ ap (λ (r : Record). r.tenancy) (other (get_or pending place 0) (apart place old))
+                  ∙ linked.forward place old
+              | inr new ↦
+                  ap (λ n. (record_at released n).tenancy) (get_or_push pending h.index 0 place (omega arith))
+                  ∙ ap (λ (r : Record). r.tenancy) same
+                  ∙ ap Pending (omega arith)
+            ];
+        listed = λ index place within is.
+            elim (cases_eq index h.index) [
+              | inl e ↦
+                  (let at : Pending (length pending) ≡ Pending place = sym (ap (λ (r : Record). r.tenancy) (same_at index e)) ∙ is in
+                  let there : length pending ≡ place = ap place_of at in omega arith)
+              | inr ne ↦
+                  (let b = linked.listed index place (omega arith) (sym (ap (λ (r : Record). r.tenancy) (other index ne)) ∙ is) in omega arith)
+            ];
+        back = λ index place within is.
+            elim (cases_eq index h.index) [
+              | inl e ↦
+                  (let at : Pending (length pending) ≡ Pending place = sym (ap (λ (r : Record). r.tenancy) (same_at index e)) ∙ is in
+                  let there : length pending ≡ place = ap place_of at in
+                  get_or_push pending h.index 0 place there ∙ sym e)
+              | inr ne ↦
+                  (let old_is = sym (ap (λ (r : Record). r.tenancy) (other index ne)) ∙ is in
+                  let b = linked.listed index place (omega arith) old_is in
+                  get_or_append_left pending (h.index ∷ []) 0 place b ∙ linked.back index place (omega arith) old_is)
+            ];
+      }
+
+  live_is : sets.from_list {R = handle_cmp} (tenants 0 released) ≡ sets.remove (sets.from_list (tenants 0 records)) h
+  live_is =
+      sets.same_set handle_cmp_total handle_cmp-IsAntisymmetric _ _ (λ q.
+      contains_tenants released q
+      ∙ is_tenant-set records h.index vacant q made_slot
+      ∙ gone_test (eqb q.index h.index) (eqb q.generation h.generation) (is_tenant records q) (at_h q)
+      ∙ (λ i. not (sym (ties q h) i) && sym (contains_tenants records q) i)
+      ∙ sym (sets.contains-remove handle_cmp_total (sets.from_list (tenants 0 records)) h q))
+    where
+      at_h : (q : Handle) → eqb q.index h.index ≡ true → is_tenant records q ≡ eqb q.generation h.generation
+      at_h q e =
+          ap (λ n. has_tenant (record_at records n) q.generation) (eqb-true q.index h.index e)
+          ∙ (λ i. tenant_alive records h lives i && eqb (tenant_generation records h lives i) q.generation)
+          ∙ eqb_sym h.generation q.generation
+
+  rows_is : maps.from_entries {R = handle_cmp} (kept 0 released) ≡ maps.remove (maps.from_entries (kept 0 records)) h
+  rows_is =
+      maps.same_map handle_cmp_total handle_cmp-IsAntisymmetric _ _ (λ q.
+      get_kept released q
+      ∙ row_at-set records h.index vacant q made_slot
+      ∙ (λ i. cond (eqb q.index h.index) (never (eqb (next limits h).generation q.generation) None refl i) (row_at records q))
+      ∙ gone_row (eqb q.index h.index) (eqb q.generation h.generation) (row_at records q) (at_h q)
+      ∙ (λ i. cond (sym (ties q h) i) None (sym (get_kept records q) i))
+      ∙ sym (maps.get-remove handle_cmp_total (maps.from_entries (kept 0 records)) h q))
+    where
+      at_h : (q : Handle) → eqb q.index h.index ≡ true → eqb q.generation h.generation ≡ false → row_at records q ≡ None
+      at_h q e ne =
+          ap (λ n. row_at records (record { index = n; generation = q.generation })) (eqb-true q.index h.index e)
+          ∙ (λ i. cond (eqb (tenant_generation records h lives i) q.generation) (row_of (record_at records h.index).tenancy) None)
+          ∙ (λ i. cond ((eqb_sym h.generation q.generation ∙ ne) i) (row_of (record_at records h.index).tenancy) None)
+
+  pub roster_of-release : roster_of limits released (pending ++ h.index ∷ []) ≡ record (roster_of limits records pending) {
+    live = sets.remove (roster_of limits records pending).live h;
+    rows = maps.remove (roster_of limits records pending).rows h;
+    pending = (roster_of limits records pending).pending ++ next limits h ∷ [];
+  }
+  roster_of-release =
+      let pending_is =
+      map_push (handle_at released) pending h.index
+      ∙ (λ i. map_alike (handle_at released) (handle_at records) pending (λ k below j. record { index = get_or pending k 0; generation = (other (get_or pending k 0) (apart k below) j).generation }) i ++ record { index = h.index; generation = (same i).generation } ∷ []) in
+      λ i. record { limits = limits; live = live_is i; rows = rows_is i; pending = pending_is i; made = length-set records h.index vacant i }

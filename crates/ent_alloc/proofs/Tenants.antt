@@ -1,0 +1,317 @@
+-- What the set of tenants holds, and how many they are.
+use Rattle.std.proofs.Common.{◌≡◌, ◌≢◌, ℕ, ◌+◌, ◌-◌, ◌<◌, ◌≤◌, Bool, true, false, cond, ◌&&◌, ◌||◌, eqb, leb, ltb, List, [], ◌∷◌, ◌++◌, length, get_or, set, map, refl, sym, ap, ◌∙◌, arith, inl, inr, suc, zero, replicate, Option, None, Some}
+use Rattle.std.specs.List.{list_any}
+use Rattle.std.specs.Ordering.{eq_by_cmp, nat_cmp, is_eq, ordering_then}
+use Rattle.std.specs.declared.cmp.Ordering.{Ordering}
+use Rattle.std.specs.declared.cmp.Ordering.TheVariants.{Less, Equal, Greater}
+use Rattle.std.specs.FinSet as sets
+use Rattle.std.specs.FinMap as maps
+use Rattle.std.proofs.lemmas.Bool.Decides.{nat_tests}
+use Rattle.std.proofs.lemmas.Bool.{cases_order, cases_eq, eq-eqb, ne_eqb, lt-leb, le-leb, cond-true, cond-false}
+use Rattle.ent_handle.specs.Handle.{Handle, handle_cmp, handle_cmp_total, handle_cmp-IsAntisymmetric}
+use Rattle.ent_alloc.specs.declared.record.Record.{Record}
+use Rattle.ent_alloc.specs.Slots.{tenants, is_tenant, has_tenant, record_at, blank, is_alive, row_of, kept, with_row, newborn}
+use Rattle.ent_alloc.specs.Sequential.{fresh}
+use Rattle.std.specs.FinMap.{find}
+use Rattle.std.specs.Option.{is_some}
+use Rattle.std.proofs.lemmas.List.{get_or-set_same, get_or-set_other}
+
+-- the test of two orderings, one after the other
+is_eq-then : (x y : Ordering) → is_eq (ordering_then x (ordering_then y Equal)) ≡ (is_eq x && is_eq y)
+is_eq-then Less y = refl
+is_eq-then Equal Less = refl
+is_eq-then Equal Equal = refl
+is_eq-then Equal Greater = refl
+is_eq-then Greater y = refl
+
+is_eq-nat_cmp : (a b : ℕ) → is_eq (nat_cmp a b) ≡ eqb a b
+is_eq-nat_cmp a b = grind (arith, nat_tests)
+
+-- two handles tie where both numbers are equal
+pub ties : (a b : Handle) → eq_by_cmp handle_cmp a b ≡ (eqb a.index b.index && eqb a.generation b.generation)
+ties a b =
+    is_eq-then (nat_cmp a.index b.index) (nat_cmp a.generation b.generation)
+    ∙ (λ i. is_eq-nat_cmp a.index b.index i && is_eq-nat_cmp a.generation b.generation i)
+
+and-false : (b : Bool) → (b && false) ≡ false
+and-false true = refl
+and-false false = refl
+
+-- what stands in the list of the tenants from an index on
+abbrev at_from : ℕ → List Record → Handle → Bool
+at_from index records q = leb index q.index && has_tenant (get_or records (q.index - index) blank) q.generation
+
+one_tenant : (alive : Bool) (rest : List Handle) (h q : Handle) → list_any (eq_by_cmp handle_cmp q) (cond alive (h ∷ rest) rest) ≡ ((alive && eq_by_cmp handle_cmp q h) || list_any (eq_by_cmp handle_cmp q) rest)
+one_tenant true rest h q = refl
+one_tenant false rest h q = refl
+
+or-false : (b : Bool) → (b || false) ≡ b
+or-false true = refl
+or-false false = refl
+
+eqb_sym : (a b : ℕ) → eqb a b ≡ eqb b a
+eqb_sym a b = grind (arith, nat_tests)
+
+here : (alive a b h : Bool) → a ≡ b → ((alive && (true && a)) || (false && h)) ≡ (true && (alive && b))
+here true a b h e = or-false a ∙ e
+here false a b h e = refl
+
+before : (alive a h g : Bool) → ((alive && (false && a)) || (false && h)) ≡ (false && g)
+before true a h g = refl
+before false a h g = refl
+
+after : (alive a h g : Bool) → h ≡ g → ((alive && (false && a)) || (true && h)) ≡ (true && g)
+after true a h g e = e
+after false a h g e = e
+
+at_head : (index : ℕ) (r : Record) (records : List Record) (q : Handle) → ((is_alive r.tenancy && (eqb q.index index && eqb q.generation r.generation)) || at_from (index + 1) records q) ≡ at_from index (r ∷ records) q
+at_head index r records q =
+    let alive = is_alive r.tenancy in
+    let later = has_tenant (get_or records (q.index - (index + 1)) blank) q.generation in
+    let now = has_tenant (get_or (r ∷ records) (q.index - index) blank) q.generation in
+    elim (cases_order q.index index) [
+      | inl e ↦
+          let E : eqb q.index index ≡ true = eq-eqb q.index index e in
+          let L : leb (index + 1) q.index ≡ false = lt-leb (index + 1) q.index (omega arith) in
+          let M : leb index q.index ≡ true = le-leb index q.index (omega arith) in
+          let zero_off : q.index - index ≡ 0 = omega arith in
+          (λ i. (alive && (E i && eqb q.generation r.generation)) || (L i && later))
+          ∙ here alive (eqb q.generation r.generation) (eqb r.generation q.generation) later (eqb_sym q.generation r.generation)
+          ∙ sym (λ i. M i && has_tenant (get_or (r ∷ records) (zero_off i) blank) q.generation)
+      | inr (inl l) ↦
+          let E : eqb q.index index ≡ false = ne_eqb q.index index (λ e. absurd (omega arith)) in
+          let L : leb (index + 1) q.index ≡ false = lt-leb (index + 1) q.index (omega arith) in
+          let M : leb index q.index ≡ false = lt-leb index q.index (omega arith) in
+          (λ i. (alive && (E i && eqb q.generation r.generation)) || (L i && later))
+          ∙ before alive (eqb q.generation r.generation) later now
+          ∙ sym (λ i. M i && now)
+      | inr (inr g) ↦
+          let E : eqb q.index index ≡ false = ne_eqb q.index index (λ e. absurd (omega arith)) in
+          let L : leb (index + 1) q.index ≡ true = le-leb (index + 1) q.index (omega arith) in
+          let M : leb index q.index ≡ true = le-leb index q.index (omega arith) in
+          let off : q.index - index ≡ suc (q.index - (index + 1)) = omega arith in
+          (λ i. (alive && (E i && eqb q.generation r.generation)) || (L i && later))
+          ∙ after alive (eqb q.generation r.generation) later later refl
+          ∙ sym (λ i. M i && has_tenant (get_or (r ∷ records) (off i) blank) q.generation)
+    ]
+
+list_any-tenants : (index : ℕ) (records : List Record) (q : Handle) → list_any (eq_by_cmp handle_cmp q) (tenants index records) ≡ at_from index records q
+list_any-tenants index [] q = sym (and-false (leb index q.index))
+list_any-tenants index (r ∷ records) q =
+    one_tenant (is_alive r.tenancy) (tenants (index + 1) records) (record { index = index; generation = r.generation }) q
+    ∙ (λ i. (is_alive r.tenancy && ties q (record { index = index; generation = r.generation }) i) || list_any-tenants (index + 1) records q i)
+    ∙ at_head index r records q
+
+from_zero : (records : List Record) (q : Handle) → at_from 0 records q ≡ is_tenant records q
+from_zero records q =
+    let all : leb 0 q.index ≡ true = le-leb 0 q.index (omega arith) in
+    let off : q.index - 0 ≡ q.index = omega arith in
+    λ i. all i && has_tenant (get_or records (off i) blank) q.generation
+
+-- the set of the tenants holds just these
+pub contains_tenants : (records : List Record) (q : Handle) → sets.contains {R = handle_cmp} (sets.from_list (tenants 0 records)) q ≡ is_tenant records q
+contains_tenants records q = sets.contains-from_list handle_cmp_total (tenants 0 records) q ∙ list_any-tenants 0 records q ∙ from_zero records q
+
+absent_below : (index : ℕ) (records : List Record) (generation : ℕ) → sets.contains {R = handle_cmp} (sets.from_list (tenants (index + 1) records)) (record { index = index; generation = generation }) ≡ false
+absent_below index records generation =
+    sets.contains-from_list handle_cmp_total (tenants (index + 1) records) (record { index = index; generation = generation })
+    ∙ list_any-tenants (index + 1) records (record { index = index; generation = generation })
+    ∙ (λ i. lt-leb (index + 1) index (omega arith) i && has_tenant (get_or records (index - (index + 1)) blank) generation)
+
+one_more : (alive : Bool) (h : Handle) (rest : List Handle) → sets.contains {R = handle_cmp} (sets.from_list rest) h ≡ false → sets.len {R = handle_cmp} (sets.from_list rest) ≡ length rest → sets.len {R = handle_cmp} (sets.from_list (cond alive (h ∷ rest) rest)) ≡ length (cond alive (h ∷ rest) rest)
+one_more true h rest absent known =
+    sets.len-insert handle_cmp_total (sets.from_list rest) h
+    ∙ (λ i. cond (absent i) (sets.len {R = handle_cmp} (sets.from_list rest)) (sets.len {R = handle_cmp} (sets.from_list rest) + 1))
+    ∙ omega (arith, known)
+one_more false h rest absent known = known
+
+-- and no tenant twice, so it has as many as the list
+pub len_tenants : (index : ℕ) (records : List Record) → sets.len {R = handle_cmp} (sets.from_list (tenants index records)) ≡ length (tenants index records)
+len_tenants index [] = sets.len-empty handle_cmp
+len_tenants index (r ∷ records) =
+    one_more (is_alive r.tenancy) (record { index = index; generation = r.generation }) (tenants (index + 1) records) (absent_below index records r.generation) (len_tenants (index + 1) records)
+
+-- which record stands at an index after one is set
+pub record-set : (records : List Record) (index : ℕ) (r : Record) (at : ℕ) → index < length records → record_at (set records index r) at ≡ cond (eqb at index) r (record_at records at)
+record-set records index r at within =
+    elim (cases_eq at index) [
+      | inl e ↦ ap (λ n. record_at (set records index r) n) e ∙ get_or-set_same records index r blank within ∙ sym (cond-true (eqb at index) r (record_at records at) (eq-eqb at index e))
+      | inr ne ↦ get_or-set_other records index at r blank ne ∙ sym (cond-false (eqb at index) r (record_at records at) (ne_eqb at index ne))
+    ]
+
+-- ---- the rows
+
+-- the row that a record keeps with its tenant of a generation
+abbrev row_in : Record → ℕ → Option ℕ
+row_in r generation = cond (eqb r.generation generation) (row_of r.tenancy) None
+
+abbrev row_from : ℕ → List Record → Handle → Option ℕ
+row_from index records q = cond (leb index q.index) (row_in (get_or records (q.index - index) blank) q.generation) None
+
+-- the row that is kept with a handle
+abbrev pub row_at : List Record → Handle → Option ℕ
+row_at records q = row_in (record_at records q.index) q.generation
+
+abbrev nothing : Option ℕ
+nothing = None
+
+cond-none : (b c : Bool) → cond b (cond c nothing nothing) nothing ≡ nothing
+cond-none true true = refl
+cond-none true false = refl
+cond-none false c = refl
+
+found : (h q : Handle) (row : Option ℕ) (entries : List (Handle × ℕ)) → find handle_cmp q (with_row h row entries) ≡ cond (eq_by_cmp handle_cmp q h) (cond (is_some row) row (find handle_cmp q entries)) (find handle_cmp q entries)
+found h q None entries = same (eq_by_cmp handle_cmp q h)
+  where
+    same : (b : Bool) → find handle_cmp q entries ≡ cond b (find handle_cmp q entries) (find handle_cmp q entries)
+    same true = refl
+    same false = refl
+found h q (Some row) entries = refl
+
+row_here : (row : Option ℕ) → cond (is_some row) row None ≡ row
+row_here None = refl
+row_here (Some x) = refl
+
+row_split : (g : Bool) (row : Option ℕ) → cond g (cond (is_some row) row None) None ≡ cond g row None
+row_split true row = row_here row
+row_split false row = refl
+
+row_head : (index : ℕ) (r : Record) (records : List Record) (q : Handle) → cond (eqb q.index index && eqb q.generation r.generation) (cond (is_some (row_of r.tenancy)) (row_of r.tenancy) (row_from (index + 1) records q)) (row_from (index + 1) records q) ≡ row_from index (r ∷ records) q
+row_head index r records q =
+    elim (cases_order q.index index) [
+      | inl e ↦
+          let E : eqb q.index index ≡ true = eq-eqb q.index index e in
+          let L : leb (index + 1) q.index ≡ false = lt-leb (index + 1) q.index (omega arith) in
+          let M : leb index q.index ≡ true = le-leb index q.index (omega arith) in
+          let zero_off : q.index - index ≡ 0 = omega arith in
+          let gone : row_from (index + 1) records q ≡ None = λ i. cond (L i) (row_in (get_or records (q.index - (index + 1)) blank) q.generation) None in
+          (λ i. cond (E i && eqb q.generation r.generation) (cond (is_some (row_of r.tenancy)) (row_of r.tenancy) (gone i)) (gone i))
+          ∙ row_split (eqb q.generation r.generation) (row_of r.tenancy)
+          ∙ (λ i. cond (eqb_sym q.generation r.generation i) (row_of r.tenancy) None)
+          ∙ sym (λ i. cond (M i) (row_in (get_or (r ∷ records) (zero_off i) blank) q.generation) None)
+      | inr (inl l) ↦
+          let E : eqb q.index index ≡ false = ne_eqb q.index index (λ e. absurd (omega arith)) in
+          let L : leb (index + 1) q.index ≡ false = lt-leb (index + 1) q.index (omega arith) in
+          let M : leb index q.index ≡ false = lt-leb index q.index (omega arith) in
+          let gone : row_from (index + 1) records q ≡ None = λ i. cond (L i) (row_in (get_or records (q.index - (index + 1)) blank) q.generation) None in
+          (λ i. cond (E i && eqb q.generation r.generation) (cond (is_some (row_of r.tenancy)) (row_of r.tenancy) (row_from (index + 1) records q)) (row_from (index + 1) records q))
+          ∙ gone
+          ∙ sym (λ i. cond (M i) (row_in (get_or (r ∷ records) (q.index - index) blank) q.generation) None)
+      | inr (inr g) ↦
+          let E : eqb q.index index ≡ false = ne_eqb q.index index (λ e. absurd (omega arith)) in
+          let L : leb (index + 1) q.index ≡ true = le-leb (index + 1) q.index (omega arith) in
+          let M : leb index q.index ≡ true = le-leb index q.index (omega arith) in
+          let off : q.index - index ≡ suc (q.index - (index + 1)) = omega arith in
+          (λ i. cond (E i && eqb q.generation r.generation) (cond (is_some (row_of r.tenancy)) (row_of r.tenancy) (row_from (index + 1) records q)) (row_from (index + 1) records q))
+          ∙ (λ i. cond (L i) (row_in (get_or records (q.index - (index + 1)) blank) q.generation) None)
+          ∙ sym (λ i. cond (M i) (row_in (get_or (r ∷ records) (off i) blank) q.generation) None)
+    ]
+
+find-kept : (index : ℕ) (records : List Record) (q : Handle) → find handle_cmp q (kept index records) ≡ row_from index records q
+find-kept index [] q = sym (cond-none (leb index q.index) (eqb 0 q.generation))
+find-kept index (r ∷ records) q =
+    found (record { index = index; generation = r.generation }) q (row_of r.tenancy) (kept (index + 1) records)
+    ∙ (λ i. cond (ties q (record { index = index; generation = r.generation }) i) (cond (is_some (row_of r.tenancy)) (row_of r.tenancy) (find-kept (index + 1) records q i)) (find-kept (index + 1) records q i))
+    ∙ row_head index r records q
+
+-- the map of the rows answers with these
+pub get_kept : (records : List Record) (q : Handle) → maps.get {R = handle_cmp} (maps.from_entries (kept 0 records)) q ≡ row_at records q
+get_kept records q =
+    let all : leb 0 q.index ≡ true = le-leb 0 q.index (omega arith) in
+    let off : q.index - 0 ≡ q.index = omega arith in
+    maps.get-from_entries handle_cmp_total (kept 0 records) q ∙ find-kept 0 records q ∙ (λ i. cond (all i) (row_in (get_or records (off i) blank) q.generation) None)
+
+-- ---- one record set
+
+-- the set and the map see one record set at its index alone
+pub is_tenant-set : (records : List Record) (index : ℕ) (r : Record) (q : Handle) → index < length records → is_tenant (set records index r) q ≡ cond (eqb q.index index) (has_tenant r q.generation) (is_tenant records q)
+is_tenant-set records index r q within = ap (λ at. has_tenant at q.generation) (record-set records index r q.index within) ∙ out (eqb q.index index)
+  where
+    out : (b : Bool) → has_tenant (cond b r (record_at records q.index)) q.generation ≡ cond b (has_tenant r q.generation) (is_tenant records q)
+    out true = refl
+    out false = refl
+
+pub row_at-set : (records : List Record) (index : ℕ) (r : Record) (q : Handle) → index < length records → row_at (set records index r) q ≡ cond (eqb q.index index) (row_in r q.generation) (row_at records q)
+row_at-set records index r q within = ap (λ at. row_in at q.generation) (record-set records index r q.index within) ∙ out (eqb q.index index)
+  where
+    out : (b : Bool) → row_in (cond b r (record_at records q.index)) q.generation ≡ cond b (row_in r q.generation) (row_at records q)
+    out true = refl
+    out false = refl
+
+-- a test as a number
+abbrev pub one : Bool → ℕ
+one b = cond b 1 0
+
+length-one : (b : Bool) (h : Handle) (rest : List Handle) → length (cond b (h ∷ rest) rest) ≡ one b + length rest
+length-one true h rest = omega arith
+length-one false h rest = omega arith
+
+-- how many tenants there are after one record is set
+pub length-tenants-set : (from : ℕ) (records : List Record) (index : ℕ) (r : Record) → index < length records → length (tenants from (set records index r)) + one (is_alive (record_at records index).tenancy) ≡ length (tenants from records) + one (is_alive r.tenancy)
+length-tenants-set from [] index r within = absurd (omega arith)
+length-tenants-set from (x ∷ records) zero r within =
+    let new = length-one (is_alive r.tenancy) (record { index = from; generation = r.generation }) (tenants (from + 1) records) in
+    let old = length-one (is_alive x.tenancy) (record { index = from; generation = x.generation }) (tenants (from + 1) records) in
+    omega (arith, new, old)
+length-tenants-set from (x ∷ records) (suc index) r within =
+    let new = length-one (is_alive x.tenancy) (record { index = from; generation = x.generation }) (tenants (from + 1) (set records index r)) in
+    let old = length-one (is_alive x.tenancy) (record { index = from; generation = x.generation }) (tenants (from + 1) records) in
+    omega (arith, new, old, length-tenants-set (from + 1) records index r (omega arith))
+
+-- a record that keeps no row set for one that kept none leaves the rows
+pub kept-set : (from : ℕ) (records : List Record) (index : ℕ) (r : Record) → row_of r.tenancy ≡ None → row_of (record_at records index).tenancy ≡ None → kept from (set records index r) ≡ kept from records
+kept-set from [] index r new old = refl
+kept-set from (x ∷ records) zero r new old =
+    (λ i. with_row (record { index = from; generation = r.generation }) (new i) (kept (from + 1) records))
+    ∙ sym (λ i. with_row (record { index = from; generation = x.generation }) (old i) (kept (from + 1) records))
+kept-set from (x ∷ records) (suc index) r new old =
+    ap (λ rest. with_row (record { index = from; generation = x.generation }) (row_of x.tenancy) rest) (kept-set (from + 1) records index r new old)
+
+-- ---- records put behind
+
+list_any-append : (p : Handle → Bool) (xs ys : List Handle) → list_any p (xs ++ ys) ≡ (list_any p xs || list_any p ys)
+list_any-append p [] ys = refl
+list_any-append p (x ∷ xs) ys = ap (λ b. p x || b) (list_any-append p xs ys) ∙ or_assoc (p x) (list_any p xs) (list_any p ys)
+  where
+    or_assoc : (a b c : Bool) → (a || (b || c)) ≡ ((a || b) || c)
+    or_assoc true b c = refl
+    or_assoc false b c = refl
+
+-- the set of two lists is the union of theirs
+pub from_list-append : (xs ys : List Handle) → sets.from_list {R = handle_cmp} (xs ++ ys) ≡ sets.union (sets.from_list xs) (sets.from_list ys)
+from_list-append xs ys =
+    sets.same_set handle_cmp_total handle_cmp-IsAntisymmetric _ _ (λ q.
+    sets.contains-from_list handle_cmp_total (xs ++ ys) q
+    ∙ list_any-append (eq_by_cmp handle_cmp q) xs ys
+    ∙ (λ i. sym (sets.contains-from_list handle_cmp_total xs q) i || sym (sets.contains-from_list handle_cmp_total ys q) i)
+    ∙ sym (sets.contains-union handle_cmp_total (sets.from_list xs) (sets.from_list ys) q))
+
+cond-append : (b : Bool) (h : Handle) (xs ys : List Handle) → cond b (h ∷ (xs ++ ys)) (xs ++ ys) ≡ cond b (h ∷ xs) xs ++ ys
+cond-append true h xs ys = refl
+cond-append false h xs ys = refl
+
+pub tenants-append : (from : ℕ) (records more : List Record) → tenants from (records ++ more) ≡ tenants from records ++ tenants (from + length records) more
+tenants-append from [] more = ap (λ n. tenants n more) (omega arith)
+tenants-append from (r ∷ records) more =
+    let step : from + 1 + length records ≡ from + suc (length records) = omega arith in
+    (λ i. cond (is_alive r.tenancy) (record { index = from; generation = r.generation } ∷ (tenants-append (from + 1) records more ∙ ap (λ n. tenants (from + 1) records ++ tenants n more) step) i) ((tenants-append (from + 1) records more ∙ ap (λ n. tenants (from + 1) records ++ tenants n more) step) i))
+    ∙ cond-append (is_alive r.tenancy) (record { index = from; generation = r.generation }) (tenants (from + 1) records) (tenants (from + suc (length records)) more)
+
+pub tenants-newborn : (from count : ℕ) → tenants from (replicate count newborn) ≡ fresh from count
+unfolding fresh
+tenants-newborn from zero = refl
+tenants-newborn from (suc count) = ap (λ rest. record { index = from; generation = 1 } ∷ rest) (tenants-newborn (from + 1) count)
+
+pub length-fresh : (from count : ℕ) → length (fresh from count) ≡ count
+unfolding fresh
+length-fresh from zero = refl
+length-fresh from (suc count) = ap suc (length-fresh (from + 1) count)
+
+kept-newborn : (from count : ℕ) → kept from (replicate count newborn) ≡ []
+kept-newborn from zero = refl
+kept-newborn from (suc count) = kept-newborn (from + 1) count
+
+pub kept-made : (from count : ℕ) (records : List Record) → kept from (records ++ replicate count newborn) ≡ kept from records
+kept-made from count [] = kept-newborn from count
+kept-made from count (r ∷ records) =
+    ap (λ rest. with_row (record { index = from; generation = r.generation }) (row_of r.tenancy) rest) (kept-made (from + 1) count records)

@@ -1,0 +1,280 @@
+ghost use Rattle.std.specs.Prelude.{◌≡◌, ℕ, ◌+◌, ◌-◌, ◌^◌, ◌<◌, ◌≤◌, ◌↔◌, pos, ◌-ℤ◌, ◌≤ℤ◌, neg_ℤ, IsTrue, IfOk, OnOk, OnErr, IsErrOf, Some, true, false, [], ◌∷◌, ◌++◌, length, slice_get};
+ghost use Rattle.std.specs.FinSet as set;
+ghost use Rattle.ent_alloc.specs.Sequential.{opening, top, cursor, born, after_flush, after_alloc, after_free, after_take, next, reply_from, pool_at, settled, asked_at, available};
+ghost use Rattle.ent_alloc.specs.Sound.{IsSound};
+
+use crate::fault::{AllocFault, FreeFault, Freed};
+use crate::limits::Limits;
+use crate::reserved::Reserved;
+use crate::slots::Slots;
+use crate::space::Space;
+use crate::span::Span;
+use ent_handle::{Handle, Memory};
+use std::alloc::Global;
+use std::marker::Model;
+
+/// Gives out the handles of entities and knows which are alive, as Bevy's `Entities` does.
+///
+/// A caller sees it as the sequential allocator: who is alive, the pool of handles that are given
+/// from its front, those that are reserved, and those that a refused wish has passed over.
+#[derive(Drop)]
+pub struct Entities {
+    slots: Slots,
+    cursor: i64,
+    floor: i64,
+}
+
+impl Model for Entities {
+    ghost use Rattle.ent_alloc.specs.Sequential.{Allocator, allocator_code};
+
+    ghost Value = { Allocator };
+
+    ghost coded = { allocator_code };
+
+    ghost use Rattle.ent_alloc.specs.Entities.{allocator_of, beneath, AreReserved};
+
+    ghost view = { λ e. allocator_of e.slots (beneath e.slots e.cursor) (beneath e.slots e.floor) };
+
+    ghost invariant = { λ e. AreReserved e.slots e.cursor e.floor };
+}
+
+impl Entities {
+    /// An allocator with no entities. It takes no memory, whatever the limits.
+    pub fn new(alloc: Global, limits: Limits) -> Self
+        ensures { result ≡ opening limits }
+    {
+        Entities {
+            slots: Slots::new(alloc, limits),
+            cursor: 0,
+            floor: 0,
+        }
+    }
+
+    /// How many entities are alive.
+    pub fn len(&self) -> u32
+        ensures { result ≡ set.len self.now.live }
+    {
+        self.slots.live()
+    }
+
+    /// Whether no entity is alive.
+    pub fn is_empty(&self) -> bool
+        ensures { IsTrue result ↔ (set.len self.now.live ≡ 0) }
+    {
+        self.slots.live() == 0
+    }
+
+    /// How many slots have ever had a tenant.
+    pub fn total(&self) -> u32
+        ensures { result ≡ self.now.made }
+    {
+        self.slots.made()
+    }
+
+    /// How many slots could still get their first tenant.
+    pub fn room(&self) -> u32
+        ensures { result ≡ self.now.limits.slots - self.now.made }
+    {
+        self.slots.limits().slots() - self.slots.made()
+    }
+
+    /// How many old slots waited for their next tenant at the last flush, alloc or free.
+    pub fn top(&self) -> u32
+        ensures { result ≡ top self.now }
+    {
+        self.slots.waiting()
+    }
+
+    /// The number that each reservation lowers: the top where nothing is reserved. Below 0 it counts
+    /// the fresh slots that are asked for.
+    pub fn cursor(&self) -> i64
+        ensures value { result ≡ cursor self.now }
+
+        // No slot stands twice among the living and what may be given, and the rest of what is true of every state.
+        ensures sound { IsSound self.now }
+    {
+        self.cursor
+    }
+
+    /// How many handles were wished for since the last flush, at most 2^50.
+    pub fn asked(&self) -> u64
+        ensures value { result ≡ self.now.asked }
+        ensures within { result ≤ 2 ^ 50 }
+    {
+        distance(self.slots.waiting(), self.cursor)
+    }
+
+    /// Whether any handle was wished for since the last flush.
+    pub fn needs_flush(&self) -> bool
+        ensures { IsTrue result ↔ (0 < self.now.asked) }
+    {
+        self.asked() > 0
+    }
+
+    /// How many handles the next flush brings to life.
+    pub fn reserved(&self) -> u32
+        ensures { result ≡ length self.now.taken }
+    {
+        distance(self.slots.waiting(), self.floor) as u32
+    }
+
+    /// Gives a handle that is alive at once: the next tenant of the slot that was freed last, or else the
+    /// first tenant of a new slot.
+    ///
+    /// # Errors
+    ///
+    /// Nothing changes. `NeedsFlush` where handles are reserved, `Space` where every slot has a living
+    /// tenant, and `Memory`, which only a new slot can meet.
+    pub fn alloc(&mut self) -> Result<Handle, AllocFault>
+        ensures front { IfOk result (λ h. slice_get self.old.pool 0 ≡ Some h) }
+        ensures ok { IfOk result (λ h. self.new ≡ after_alloc self.old h) }
+        ensures needs_flush { IsErrOf result AllocFault.NeedsFlush ↔ (0 < self.old.asked) }
+        ensures space { IsErrOf result AllocFault.Space ↔ ((self.old.asked ≡ 0) × (self.old.pool ≡ [])) }
+        ensures memory { IsErrOf result AllocFault.Memory → top self.old ≡ 0 }
+        ensures err { OnErr result (self.new ≡ self.old) }
+    {
+        if self.needs_flush() {
+            return Err(AllocFault::NeedsFlush);
+        }
+        let handle = if self.slots.waiting() > 0 {
+            self.slots.wake_last()
+        } else {
+            if self.room() == 0 {
+                return Err(AllocFault::Space);
+            }
+            match self.slots.make_one() {
+                Ok(handle) => handle,
+                Err(_) => return Err(AllocFault::Memory),
+            }
+        };
+        let top = self.slots.top();
+        self.cursor = top;
+        self.floor = top;
+        Ok(handle)
+    }
+
+    /// Takes a living entity out. Its slot is the first to be given again, with the next generation.
+    ///
+    /// After the last generation comes the first one again, as in Bevy, which warns of it.
+    ///
+    /// # Errors
+    ///
+    /// Nothing changes. `NeedsFlush` where handles are reserved, then `NotAlive`, then `Memory`.
+    pub fn free(&mut self, handle: Handle) -> Result<Freed, FreeFault>
+        ensures ok { OnOk result (self.new ≡ after_free self.old handle) }
+        ensures next { IfOk result (λ freed. freed.next ≡ next self.old.limits handle) }
+        ensures wrapped { IfOk result (λ freed. IsTrue freed.wrapped ↔ (handle.generation ≡ self.old.limits.generations)) }
+        ensures lived { OnOk result (set.contains self.old.live handle ≡ true) }
+        ensures needs_flush { IsErrOf result FreeFault.NeedsFlush ↔ (0 < self.old.asked) }
+        ensures not_alive { IsErrOf result FreeFault.NotAlive ↔ ((self.old.asked ≡ 0) × (set.contains self.old.live handle ≡ false)) }
+        ensures err { OnErr result (self.new ≡ self.old) }
+    {
+        if self.needs_flush() {
+            return Err(FreeFault::NeedsFlush);
+        }
+        if !self.slots.is_alive(handle) {
+            return Err(FreeFault::NotAlive);
+        }
+        let last = self.slots.limits().generations();
+        let next = match self.slots.release(handle) {
+            Ok(next) => next,
+            Err(_) => return Err(FreeFault::Memory),
+        };
+        let top = self.slots.top();
+        self.cursor = top;
+        self.floor = top;
+        Ok(Freed {
+            next,
+            wrapped: handle.generation() == last,
+        })
+    }
+
+    /// Brings to life what is reserved, and appends it: the fresh handles, then the reused ones. What a
+    /// refused wish has passed over is available again. With nothing reserved it appends nothing.
+    ///
+    /// # Errors
+    ///
+    /// Nothing changes, `out` neither, where memory runs out.
+    pub fn flush(&mut self, out: &mut Vec<Handle>) -> Result<(), Memory>
+        ensures ok { OnOk result (self.new ≡ after_flush self.old) }
+        ensures born { OnOk result (out.new.items ≡ out.old.items ++ born self.old) }
+        ensures err { OnErr result (self.new ≡ self.old) }
+        ensures unchanged { OnErr result (out.new.items ≡ out.old.items) }
+    {
+        let top = u64::from(self.slots.waiting());
+        let reserved = distance(self.slots.waiting(), self.floor);
+        let kept = top.saturating_sub(reserved) as usize;
+        let fresh = reserved.saturating_sub(top) as u32;
+        self.slots.bear(kept, fresh, out)?;
+        let top = self.slots.top();
+        self.cursor = top;
+        self.floor = top;
+        Ok(())
+    }
+
+    /// Lowers the cursor by a wish for `n` handles, and answers the places that it passed.
+    pub fn lower(&mut self, n: u32) -> Span
+        requires { self.old.asked + n ≤ 2 ^ 50 }
+        ensures span { result ≡ record { high = cursor self.old; low = cursor self.old -ℤ pos n } }
+        ensures step { self.new ≡ after_take self.old n }
+    {
+        let available = self.available();
+        let asked = self.asked() + u64::from(n);
+        let span = Span::new(self.cursor, n);
+        self.cursor = span.low;
+        if asked <= available {
+            self.floor = span.low;
+        }
+        span
+    }
+
+    /// What the reservation of these places gives: the old handles first, in the order of their places, then
+    /// the fresh ones; or how much was left where they reach past the last slot.
+    pub fn reply(&self, span: Span) -> Result<Reserved<'_>, Space>
+        requires least { neg_ℤ (pos (2 ^ 60)) ≤ℤ span.high }
+        requires passed { span.high ≤ℤ pos (top self.now) }
+        requires short { (span.high -ℤ pos (2 ^ 32 - 1)) ≤ℤ span.low }
+        requires ordered { span.low ≤ℤ span.high }
+        ensures { (n : ℕ) → span.low ≡ span.high -ℤ pos n → result ≡ reply_from self.now.made (pool_at self.now span.high) n }
+    {
+        let available = self.available();
+        let waiting = self.slots.waiting();
+        let before = distance(waiting, span.high);
+        let after = distance(waiting, span.low);
+        if before == after {
+            return Ok(Reserved::new(&self.slots, 0, 0, 0, 0));
+        }
+        if available < after {
+            return Err(Space {
+                wanted: (after - before) as u32,
+                left: available.saturating_sub(before) as u32,
+            });
+        }
+        let top = u64::from(waiting);
+        let made = u64::from(self.slots.made());
+        Ok(Reserved::new(
+            &self.slots,
+            top.saturating_sub(after) as usize,
+            top.saturating_sub(before) as usize,
+            (made + before.saturating_sub(top)) as u32,
+            (made + after.saturating_sub(top)) as u32,
+        ))
+    }
+
+    /// How many handles there were to give after the last flush.
+    fn available(&self) -> u64
+        ensures value { result ≡ length (available self.now) }
+        ensures fits { result < 2 ^ 32 }
+    {
+        u64::from(self.slots.waiting()) + u64::from(self.room())
+    }
+}
+
+/// How far a place is below the top.
+fn distance(top: u32, place: i64) -> u64
+    requires least { neg_ℤ (pos (2 ^ 61)) ≤ℤ place }
+    requires passed { place ≤ℤ pos top }
+    ensures { result ≡ asked_at top place }
+{
+    (i64::from(top) - place) as u64
+}

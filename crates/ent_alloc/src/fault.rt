@@ -1,0 +1,39 @@
+use ent_handle::Handle;
+use thiserror::Error;
+
+/// Why `Entities::alloc` gave no handle. Nothing has changed then.
+#[derive(Clone, Copy, Debug, PartialEq, Eq, Error)]
+pub enum AllocFault {
+    /// Handles are reserved that no flush has brought to life.
+    #[error("entities are reserved and not flushed")]
+    NeedsFlush,
+    /// Every slot has a living tenant.
+    #[error("no slot is free")]
+    Space,
+    /// Memory ran out.
+    #[error("out of memory")]
+    Memory,
+}
+
+/// Why `Entities::free` freed nothing. Nothing has changed then.
+#[derive(Clone, Copy, Debug, PartialEq, Eq, Error)]
+pub enum FreeFault {
+    /// Handles are reserved that no flush has brought to life.
+    #[error("entities are reserved and not flushed")]
+    NeedsFlush,
+    /// The handle isn't alive.
+    #[error("the entity is not alive")]
+    NotAlive,
+    /// Memory ran out.
+    #[error("out of memory")]
+    Memory,
+}
+
+/// What `Entities::free` answers.
+#[derive(Clone, Copy, Debug, PartialEq, Eq)]
+pub struct Freed {
+    /// The handle that the slot gives next.
+    pub next: Handle,
+    /// The generations of the slot begin anew, so `next` may alias a handle that was given before.
+    pub wrapped: bool,
+}

@@ -1,0 +1,93 @@
+ghost use Rattle.std.specs.Prelude.{◌≡◌, ◌+◌, ◌-◌, ◌^◌, ◌<◌, ◌≤◌, [], ◌++◌, length, take, drop};
+ghost use Rattle.std.specs.Iterator.{YieldsFirst, item_count};
+ghost use Rattle.ent_alloc.specs.Sequential.{fresh};
+
+use crate::slots::{Slots, first_tenant};
+use ent_handle::Handle;
+use std::marker::Model;
+
+/// The handles that one reservation was given, in the order of the reply: reused slots first, then fresh ones.
+///
+/// It borrows the allocator and copies nothing; each handle is looked up as it is yielded.
+#[derive(Drop)]
+pub struct Reserved<'a> {
+    slots: &'a Slots,
+    place: usize,
+    end: usize,
+    index: u32,
+    index_end: u32,
+}
+
+impl<'a> Model for Reserved<'a> {
+    ghost use Rattle.std.specs.Prelude.{List};
+    ghost use Rattle.std.specs.Coded.{coded_list};
+    ghost use Rattle.ent_handle.specs.Handle.{Handle, handle_code};
+
+    ghost Value = { List Handle };
+
+    ghost coded = { coded_list handle_code };
+
+    ghost use Rattle.ent_alloc.specs.Reserved.{handles_of, IsInRange};
+
+    ghost view = { λ r. handles_of r.slots.now r.place r.end r.index r.index_end };
+
+    ghost invariant = { λ r. IsInRange r.slots.now r.place r.end r.index r.index_end };
+}
+
+impl<'a> Reserved<'a> {
+    ghost use Rattle.ent_alloc.specs.Reserved.{handles_of, IsInRange};
+
+    /// The handles that wait from `place` up to `end`, and the first tenants of the slots from `index` up to
+    /// `index_end`.
+    pub(crate) fn new(
+        slots: &'a Slots,
+        place: usize,
+        end: usize,
+        index: u32,
+        index_end: u32,
+    ) -> Self
+        requires { IsInRange slots.now place end index index_end }
+        ensures { result ≡ handles_of slots.now place end index index_end }
+    {
+        Reserved {
+            slots,
+            place,
+            end,
+            index,
+            index_end,
+        }
+    }
+}
+
+impl Iterator for Reserved<'_> {
+    type Item = Handle;
+
+    ghost next_gives = { YieldsFirst (λ handles. handles) };
+
+    ghost remaining = { item_count (λ handles. handles) };
+
+    fn next(&mut self) -> Option<Handle> {
+        if self.place < self.end {
+            let handle = self.slots.pending_at(self.place);
+            self.place += 1;
+            return Some(handle);
+        }
+        if self.index < self.index_end {
+            let handle = first_tenant(self.index);
+            self.index += 1;
+            return Some(handle);
+        }
+        None
+    }
+
+    fn size_hint(&self) -> (usize, Option<usize>) {
+        let left = self.len();
+        (left, Some(left))
+    }
+}
+
+impl ExactSizeIterator for Reserved<'_> {
+    fn len(&self) -> usize {
+        (self.end - self.place) + (self.index_end - self.index) as usize
+    }
+}
