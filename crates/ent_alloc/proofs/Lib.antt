@@ -16,3 +16,4 @@ pub mod Woken
 pub mod Linked
 pub mod Listing
 pub mod Meaning
+pub mod Looked

@@ -1,19 +1,17 @@
 -- What the calls of the slots do to their vectors keeps them linked, and does to the roster what it should.
-use Rattle.std.proofs.Common.{◌≡◌, ◌≢◌, ℕ, ◌+◌, ◌-◌, ◌<◌, ◌≤◌, Bool, true, false, cond, not, ◌&&◌, eqb, List, [], ◌∷◌, ◌++◌, length, get_or, set, take, drop, map, replicate, refl, sym, ap, ◌∙◌, arith, inl, inr, suc, zero, Option, None, Some}
+use Rattle.std.proofs.Common.{◌≡◌, ◌≢◌, ℕ, ◌+◌, ◌-◌, ◌<◌, ◌≤◌, Bool, true, false, cond, not, ◌&&◌, eqb, List, [], ◌∷◌, ◌++◌, length, get_or, set, take, drop, map, replicate, refl, sym, ap, ◌∙◌, arith, inl, inr, suc, Option, None}
 use Rattle.std.specs.FinSet as sets
 use Rattle.std.specs.FinMap as maps
 use Rattle.std.proofs.lemmas.Bool.{cases_lt, cases_eq, false≢true, and_parts, eqb-true, eqb-false}
 use Rattle.std.proofs.lemmas.Bool.Decides.{nat_tests}
-use Rattle.std.proofs.lemmas.List.{get_or-take, get_or-drop, length-take, length-drop, length-take-le, length-append, length-replicate, length-set, length_push, drop-map, take-map, map_push, get_or-set_same, get_or-set_other, get_or_append_left, get_or-append_right, get_or-replicate, get_or_past, get_or_push}
+use Rattle.std.proofs.lemmas.List.{get_or-take, get_or-drop, length-drop, length-take-le, length-append, length-replicate, length-set, length_push, drop-map, take-map, map_push, get_or-set_same, get_or-set_other, get_or_append_left, get_or-append_right, get_or-replicate, get_or_past, get_or_push}
 use Rattle.ent_handle.specs.Handle.{Handle, handle_cmp, handle_cmp_total, handle_cmp-IsAntisymmetric}
-use Rattle.ent_alloc.specs.Limits.{Limits, AreLimits}
+use Rattle.ent_alloc.specs.Limits.{Limits}
 use Rattle.ent_alloc.specs.Sequential.{fresh, next}
-use Rattle.ent_alloc.specs.Roster.{Roster}
 use Rattle.ent_alloc.specs.declared.record.Record.{Record}
-use Rattle.ent_alloc.specs.declared.record.Tenancy.{Tenancy}
-use Rattle.ent_alloc.specs.declared.record.Tenancy.TheVariants.{Alive, Pending}
-use Rattle.ent_alloc.specs.Slots.{tenants, is_tenant, has_tenant, is_alive, row_of, record_at, blank, newborn, handle_at, kept, woken, roster_of, AreLinked}
-use Rattle.ent_alloc.proofs.Tenants.{contains_tenants, is_tenant-set, row_at, row_at-set, get_kept, ties, one, length-tenants-set, tenants-append, tenants-newborn, length-fresh, kept-made, from_list-append}
+use Rattle.ent_alloc.specs.declared.record.Tenancy.TheVariants.{Pending}
+use Rattle.ent_alloc.specs.Slots.{tenants, is_tenant, has_tenant, is_alive, row_of, row_at, record_at, blank, newborn, handle_at, kept, woken, roster_of, AreLinked}
+use Rattle.ent_alloc.proofs.Tenants.{contains_tenants, is_tenant-set, row_at-set, get_kept, ties, one, length-tenants-set, tenants-append, tenants-newborn, length-fresh, kept-made, from_list-append}
 use Rattle.ent_alloc.proofs.Woken.{Wait, Alive≢Pending, place_of, length-woken, generation-woken, waiting-woken, waited-woken, length-tenants-woken, kept-woken, live-woken}
 
 -- ---- waking

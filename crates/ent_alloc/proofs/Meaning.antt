@@ -1,28 +1,30 @@
 -- What an `Entities` stands for, and what its calls make of that.
-use Rattle.std.proofs.Common.{◌≡◌, ◌≢◌, ℕ, ℤ, pos, negsuc, ◌+ℤ◌, ◌-ℤ◌, ◌≤ℤ◌, ◌+◌, ◌-◌, ◌<◌, ◌≤◌, ◌^◌, Bool, true, false, cond, ◌||◌, List, [], ◌∷◌, ◌++◌, length, take, drop, reverse, filter, refl, sym, ap, ◌∙◌, arith, inl, inr, suc, zero, slice_get, Some, subst, All, nat_le, Ok, Err, IsTrue, ◌↔◌, to_z, of_z, w64}
+use Rattle.std.proofs.Common.{◌≡◌, ℕ, ℤ, pos, negsuc, ◌+ℤ◌, ◌-ℤ◌, ◌≤ℤ◌, ◌+◌, ◌-◌, ◌<◌, ◌≤◌, ◌^◌, Bool, true, false, cond, ◌||◌, List, [], ◌∷◌, ◌++◌, length, take, drop, reverse, filter, refl, sym, ap, ◌∙◌, arith, inl, inr, suc, zero, slice_get, Some, subst, All, nat_le, Ok, Err, IsTrue, ◌↔◌, to_z, of_z, w64, Option, ◌⊎◌}
 use Rattle.std.specs.List.{list_any}
+use Rattle.std.specs.Option.{is_some}
 use Rattle.std.specs.Ordering.{eq_by_cmp}
 use Rattle.std.specs.FinSet as sets
 use Rattle.std.specs.FinMap as maps
 use Rattle.std.proofs.lemmas.Int.{ints}
 use Rattle.std.proofs.lemmas.Bool.{cases_lt, false≢true, lt-ltb, le-ltb, le-leb, lt-leb, cond-true, cond-false}
-use Rattle.std.proofs.lemmas.List.{append_assoc, append_cancel_right, append-nil, length-append, length-reverse, length-take, length-take-le, length-drop, take-append-drop, drop-take, take_all, drop_all, drop_at, take_at, reverse-append, reverse-reverse, drop-drop, take_more, nil_from_length}
+use Rattle.std.proofs.lemmas.List.{append_cancel_right, append-nil, length-append, length-reverse, length-take, length-take-le, length-drop, take-append-drop, drop-take, take_all, drop_all, drop_at, take_at, reverse-append, reverse-reverse, drop-drop, take_more, nil_from_length}
 use Rattle.std.proofs.lemmas.List.Folds.{list_any-append}
 use Rattle.std.proofs.lemmas.List.Elements.{All-take, All-drop, All-head, filter-append}
 use Rattle.std.proofs.Math.Seq.{take-add}
 use Rattle.std.proofs.lemmas.Option.{get_or_from_slice_get}
 use Rattle.ent_handle.specs.Handle.{Handle, handle_cmp, handle_cmp_total, handle_cmp-IsAntisymmetric}
-use Rattle.ent_alloc.specs.Limits.{Limits, AreLimits}
+use Rattle.ent_alloc.specs.Limits.{Limits}
 use Rattle.ent_alloc.specs.Roster.{Roster}
-use Rattle.ent_alloc.specs.Sequential.{Allocator, opening, fresh, is_old, is_fresh, available, top, cursor, after_take, after_flush, after_alloc, after_free, next, born, listed, asked_at, pool_at, reply_from, stands_in}
-use Rattle.ent_alloc.specs.Sound.{IsSound}
+use Rattle.ent_alloc.specs.Sequential.{Allocator, opening, fresh, is_old, is_fresh, available, top, cursor, after_take, after_flush, after_alloc, after_free, next, born, listed, asked_at, pool_at, reply_from, stands_in, settled, after_set_row}
+use Rattle.ent_alloc.specs.Sound.{IsSound, IsLive}
 use Rattle.ent_alloc.specs.Entities.{idle, allocator_of, beneath, AreReserved}
-use Rattle.ent_alloc.proofs.FreshHandles.{length-fresh, fresh-none, fresh-next, take-fresh, take_joined, drop_joined, old_of_joined, fresh_of_joined, all_old_are_old, no_fresh_is_old, no_old_is_fresh, all_fresh_are_fresh}
+use Rattle.ent_alloc.proofs.FreshHandles.{length-fresh, fresh-next, take-fresh, take_joined, drop_joined, old_of_joined, fresh_of_joined, all_old_are_old, no_fresh_is_old, no_old_is_fresh, all_fresh_are_fresh}
 use Rattle.ent_alloc.proofs.ListLaws.{take-append}
 use Rattle.ent_alloc.specs.Reserved.{handles_of}
-use Rattle.ent_alloc.proofs.HandleSets.{contains-union_list}
+use Rattle.ent_alloc.proofs.HandleSets.{contains-union_list, same_handle}
 use Rattle.ent_alloc.proofs.LaidOut.{old_ones_below}
 use Rattle.ent_alloc.proofs.Soundness.{after_take-sound}
+use Rattle.ent_alloc.proofs.Settled.{settled-sound}
 
 -- ---- the two cursors
 
@@ -204,6 +206,13 @@ module _ (r : Roster) (asked given : ℕ) (within : given ≤ asked) (enough : g
 
   taken_fresh : filter (is_fresh r.made) (take given (idle r)) ≡ fresh r.made news
   taken_fresh = ap (filter (is_fresh r.made)) taken_is ∙ fresh_of_joined r.made news (reverse (drop kept r.pending)) taken_below
+
+  -- who is reserved
+  pub stands_in_taken : (h : Handle) → (stands_in (drop kept r.pending) h || stands_in (fresh r.made news) h) ≡ stands_in (take given (idle r)) h
+  stands_in_taken h =
+      (λ i. sym (list_any-reverse (eq_by_cmp handle_cmp h) (drop kept r.pending)) i || stands_in (fresh r.made news) h)
+      ∙ sym (list_any-append (eq_by_cmp handle_cmp h) (reverse (drop kept r.pending)) (fresh r.made news))
+      ∙ ap (λ hs. stands_in hs h) (sym taken_is)
 
   pub born_is_listed : born (allocator_of r asked given) ≡ fresh r.made news ++ drop kept r.pending
   born_is_listed = (λ i. taken_fresh i ++ reverse (taken_old i)) ∙ ap (λ hs. fresh r.made news ++ hs) (reverse-reverse (drop kept r.pending))
@@ -507,3 +516,67 @@ cursor_is r at floor s reserved view =
 pub length_available : (r : Roster) (at floor : ℤ) (s : Allocator) → AreReserved r at floor → allocator_of r (beneath r at) (beneath r floor) ≡ s → length (available s) ≡ length r.pending + (r.limits.slots - r.made)
 length_available r at floor s reserved view =
     ap (λ (t : Allocator). length (available t)) (sym view) ∙ ap length (available_is r (beneath r at) (beneath r floor) reserved.given_least) ∙ length-idle r
+
+-- ---- settle
+
+-- what the two places leave of an allocator that nothing is reserved of
+pub settled_is : (r : Roster) (asked given : ℕ) → allocator_of r asked given ≡ settled (allocator_of r 0 0) given asked
+settled_is r asked given =
+    let same : asked ≡ 0 + asked = omega arith in
+    λ i. record (allocator_of r asked given) { asked = same i }
+
+pub settled_view : (r : Roster) (at floor cursor' floor' : ℤ) (s : Allocator) → AreReserved r at floor → allocator_of r (beneath r at) (beneath r floor) ≡ s → s.asked ≡ 0 → allocator_of r (beneath r cursor') (beneath r floor') ≡ settled s (asked_at (top s) floor') (asked_at (top s) cursor')
+settled_view r at floor cursor' floor' s reserved view none =
+    let tops : length r.pending ≡ top s = sym (top_is r (beneath r at) (beneath r floor) reserved.given_least reserved.sound) ∙ ap top view in
+    settled_is r (beneath r cursor') (beneath r floor')
+    ∙ (λ i. settled (rest_is r at floor s reserved view none i) (asked_at (tops i) floor') (asked_at (tops i) cursor'))
+
+pub settled_reserved : (r : Roster) (at floor cursor' floor' : ℤ) (s : Allocator) → AreReserved r at floor → allocator_of r (beneath r at) (beneath r floor) ≡ s → s.asked ≡ 0
+    → pos (length r.pending) ≤ℤ (cursor' +ℤ pos (2 ^ 50)) → floor' ≤ℤ pos (length r.pending) → cursor' ≤ℤ floor' → pos 0 ≤ℤ (floor' +ℤ pos (r.limits.slots - r.made))
+    → (pos 0 ≤ℤ (cursor' +ℤ pos (r.limits.slots - r.made)) → floor' ≡ cursor') → AreReserved r cursor' floor'
+settled_reserved r at floor cursor' floor' s reserved view none least greatest ordered reachable all =
+    let cursor_in : cursor' ≤ℤ pos (length r.pending) = omega (arith, ints) in
+    let asks = asked_at-is (length r.pending) cursor' cursor_in in
+    let gives = asked_at-is (length r.pending) floor' greatest in
+    let le : beneath r floor' ≤ beneath r cursor' = omega (arith, ints) in
+    let equal : beneath r cursor' ≤ length r.pending + (r.limits.slots - r.made) → beneath r floor' ≡ beneath r cursor' =
+    λ within. ap (beneath r) (all (omega (arith, ints))) in
+    let tops : length r.pending ≡ top s = sym (top_is r (beneath r at) (beneath r floor) reserved.given_least reserved.sound) ∙ ap top view in
+    let long : length s.pool ≡ length r.pending + (r.limits.slots - r.made) =
+    sym (ap (λ (t : Allocator). length t.pool) (rest_is r at floor s reserved view none)) ∙ length-idle r in
+    record {
+      sound = subst IsSound (sym (settled_view r at floor cursor' floor' s reserved view none))
+          (subst (λ n. IsSound (settled s (asked_at n floor') (asked_at n cursor'))) tops
+          (settled-sound s (subst IsSound view reserved.sound) none (beneath r floor') (beneath r cursor') le (λ within. equal (omega arith))));
+      cursor_in = cursor_in;
+      floor_in = greatest;
+      asked_in = omega (arith, ints);
+      given_in = omega (arith, ints);
+      given_least = le;
+      given_all = equal;
+    }
+
+-- ---- rows
+
+either_row : (same : Bool) (row : ℕ) (old : Option ℕ) → is_some (cond same (Some row) old) ≡ true → (same ≡ true) ⊎ (is_some old ≡ true)
+either_row true row old is = inl refl
+either_row false row old is = inr is
+
+-- a row kept with a living handle
+pub rows-sound : (s : Allocator) (h : Handle) (row : ℕ) → IsSound s → IsLive s h → IsSound (after_set_row s h row)
+rows-sound s h row sound lives = record {
+  limits = sound.limits;
+  made = sound.made;
+  order = sound.order;
+  within = sound.within;
+  apart = sound.apart;
+  pool = sound.pool;
+  aside = sound.aside;
+  live = λ x is. record { within = (sound.live x is).within; made = (sound.live x is).made; apart = (sound.live x is).apart };
+  one_tenant = sound.one_tenant;
+  rows = λ x is.
+      elim (either_row (eq_by_cmp handle_cmp x h) row (maps.get s.rows x) (ap is_some (sym (maps.get-insert handle_cmp_total s.rows h row x)) ∙ is)) [
+        | inl same ↦ subst (IsLive s) (sym (same_handle x h same)) lives
+        | inr old ↦ sound.rows x old
+      ];
+}

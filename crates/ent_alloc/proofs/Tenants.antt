@@ -1,5 +1,5 @@
 -- What the set of tenants holds, and how many they are.
-use Rattle.std.proofs.Common.{◌≡◌, ◌≢◌, ℕ, ◌+◌, ◌-◌, ◌<◌, ◌≤◌, Bool, true, false, cond, ◌&&◌, ◌||◌, eqb, leb, ltb, List, [], ◌∷◌, ◌++◌, length, get_or, set, map, refl, sym, ap, ◌∙◌, arith, inl, inr, suc, zero, replicate, Option, None, Some}
+use Rattle.std.proofs.Common.{◌≡◌, ℕ, ◌+◌, ◌-◌, ◌<◌, Bool, true, false, cond, ◌&&◌, ◌||◌, eqb, leb, List, [], ◌∷◌, ◌++◌, length, get_or, set, refl, sym, ap, ◌∙◌, arith, inl, inr, suc, zero, replicate, Option, None, Some}
 use Rattle.std.specs.List.{list_any}
 use Rattle.std.specs.Ordering.{eq_by_cmp, nat_cmp, is_eq, ordering_then}
 use Rattle.std.specs.declared.cmp.Ordering.{Ordering}
@@ -10,7 +10,7 @@ use Rattle.std.proofs.lemmas.Bool.Decides.{nat_tests}
 use Rattle.std.proofs.lemmas.Bool.{cases_order, cases_eq, eq-eqb, ne_eqb, lt-leb, le-leb, cond-true, cond-false}
 use Rattle.ent_handle.specs.Handle.{Handle, handle_cmp, handle_cmp_total, handle_cmp-IsAntisymmetric}
 use Rattle.ent_alloc.specs.declared.record.Record.{Record}
-use Rattle.ent_alloc.specs.Slots.{tenants, is_tenant, has_tenant, record_at, blank, is_alive, row_of, kept, with_row, newborn}
+use Rattle.ent_alloc.specs.Slots.{tenants, is_tenant, has_tenant, record_at, blank, is_alive, row_of, row_in, row_at, kept, with_row, newborn}
 use Rattle.ent_alloc.specs.Sequential.{fresh}
 use Rattle.std.specs.FinMap.{find}
 use Rattle.std.specs.Option.{is_some}
@@ -141,16 +141,8 @@ record-set records index r at within =
 
 -- ---- the rows
 
--- the row that a record keeps with its tenant of a generation
-abbrev row_in : Record → ℕ → Option ℕ
-row_in r generation = cond (eqb r.generation generation) (row_of r.tenancy) None
-
 abbrev row_from : ℕ → List Record → Handle → Option ℕ
 row_from index records q = cond (leb index q.index) (row_in (get_or records (q.index - index) blank) q.generation) None
-
--- the row that is kept with a handle
-abbrev pub row_at : List Record → Handle → Option ℕ
-row_at records q = row_in (record_at records q.index) q.generation
 
 abbrev nothing : Option ℕ
 nothing = None

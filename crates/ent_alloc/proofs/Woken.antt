@@ -1,17 +1,17 @@
 -- What becomes of the records when pending slots get their next tenants.
-use Rattle.std.proofs.Common.{◌≡◌, ◌≢◌, ℕ, ◌+◌, ◌-◌, ◌<◌, ◌≤◌, Bool, true, false, cond, ◌&&◌, ◌||◌, eqb, leb, ltb, List, [], ◌∷◌, ◌++◌, length, get_or, set, map, refl, sym, ap, ◌∙◌, arith, inl, inr, suc, zero, Option, None, Some}
+use Rattle.std.proofs.Common.{◌≡◌, ◌≢◌, ℕ, ◌+◌, ◌<◌, Bool, true, false, cond, ◌&&◌, ◌||◌, eqb, List, [], ◌∷◌, length, get_or, set, map, refl, sym, ap, ◌∙◌, arith, inl, inr, suc, zero, Option, None}
 use Rattle.std.specs.List.{list_any}
 use Rattle.std.specs.Ordering.{eq_by_cmp}
 use Rattle.std.specs.FinSet as sets
 use Rattle.std.proofs.lemmas.Bool.Decides.{nat_tests}
-use Rattle.std.proofs.lemmas.Bool.{cases_eq, eq-eqb, ne_eqb, cond-true, cond-false}
+use Rattle.std.proofs.lemmas.Bool.{cases_eq}
 use Rattle.std.proofs.lemmas.List.{get_or-set_same, get_or-set_other, length-set}
 use Rattle.ent_handle.specs.Handle.{Handle, handle_cmp, handle_cmp_total, handle_cmp-IsAntisymmetric}
 use Rattle.ent_alloc.specs.declared.record.Record.{Record}
 use Rattle.ent_alloc.specs.declared.record.Tenancy.{Tenancy}
 use Rattle.ent_alloc.specs.declared.record.Tenancy.TheVariants.{Alive, Pending}
 use Rattle.ent_alloc.specs.Slots.{tenants, is_tenant, has_tenant, record_at, blank, is_alive, row_of, kept, wake, woken, handle_at}
-use Rattle.ent_alloc.proofs.Tenants.{contains_tenants, is_tenant-set, record-set, length-tenants-set, kept-set, ties, one}
+use Rattle.ent_alloc.proofs.Tenants.{contains_tenants, is_tenant-set, length-tenants-set, kept-set, ties, one}
 
 -- The slots of these indexes wait at the places from a first one on.
 pub record Wait (records : List Record) (from : ℕ) (indices : List ℕ) : Type 0 where

@@ -117,6 +117,10 @@ after_free s h = record s {
   pool = next s.limits h ∷ s.pool;
 }
 
+-- a row is kept with a living handle
+abbrev pub after_set_row : Allocator → Handle → ℕ → Allocator
+after_set_row s h row = record s { rows = map.insert s.rows h row }
+
 -- the allocator after wishes for so many handles in all, of which the first given were served
 abbrev pub settled : Allocator → ℕ → ℕ → Allocator
 settled s given asked = record s {

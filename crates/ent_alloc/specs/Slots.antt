@@ -1,6 +1,5 @@
 -- What a vector of records and a list of pending indexes stand for.
-use Rattle.std.specs.Prelude.{◌≡◌, ℕ, ◌+◌, ◌^◌, ◌<◌, ◌≤◌, Bool, true, false, ◌&&◌, ◌==◌, if◌then◌else◌, List, [], ◌∷◌, length, map, slice_index, slice_index_or, slice_set, Option, None, Some}
-use Rattle.std.specs.Option.{option_map, option_to_list}
+use Rattle.std.specs.Prelude.{◌≡◌, ℕ, ◌+◌, ◌<◌, ◌≤◌, Bool, true, false, ◌&&◌, ◌==◌, nat_lt, nat_le, if◌then◌else◌, List, [], ◌∷◌, length, map, slice_index, slice_index_or, slice_set, Option, None, Some}
 use Rattle.std.specs.FinSet as set
 use Rattle.std.specs.FinMap as maps
 use Rattle.ent_handle.specs.Handle.{Handle}
@@ -41,6 +40,25 @@ has_tenant r generation = is_alive r.tenancy && r.generation == generation
 -- the handle names the living tenant of its slot
 abbrev pub is_tenant : List Record → Handle → Bool
 is_tenant records h = has_tenant (record_at records h.index) h.generation
+
+-- the row that a record keeps with its tenant of a generation
+abbrev pub row_in : Record → ℕ → Option ℕ
+row_in r generation = if r.generation == generation then row_of r.tenancy else None
+
+-- the slot waits at this place or behind it
+abbrev pub waits_behind : Tenancy → ℕ → Bool
+waits_behind (Alive row) from = false
+waits_behind (Pending place) from = nat_le from place
+
+-- the handle is the next one of a slot that waits at this place or behind it
+abbrev pub waits_from : List Record → Handle → ℕ → Bool
+waits_from records h from =
+    nat_lt h.index (length records)
+    && (waits_behind (record_at records h.index).tenancy from && (record_at records h.index).generation == h.generation)
+
+-- the row that is kept with the tenant that a handle names
+abbrev pub row_at : List Record → Handle → Option ℕ
+row_at records h = row_in (record_at records h.index) h.generation
 
 -- the living tenants of the slots from an index on
 abbrev pub tenants : ℕ → List Record → List Handle

@@ -1,6 +1,7 @@
-ghost use Rattle.std.specs.Prelude.{◌≡◌, ℕ, ◌+◌, ◌-◌, ◌^◌, ◌<◌, ◌≤◌, ◌↔◌, pos, ◌-ℤ◌, ◌≤ℤ◌, neg_ℤ, IsTrue, IfOk, OnOk, OnErr, IsErrOf, Some, true, false, [], ◌∷◌, ◌++◌, length, slice_get};
+ghost use Rattle.std.specs.Prelude.{◌≡◌, ℕ, ◌+◌, ◌-◌, ◌^◌, ◌<◌, ◌≤◌, ◌↔◌, pos, ◌+ℤ◌, ◌-ℤ◌, ◌≤ℤ◌, neg_ℤ, IsTrue, IfOk, OnOk, OnErr, IsErrOf, Some, true, false, [], ◌∷◌, ◌++◌, length, slice_get};
 ghost use Rattle.std.specs.FinSet as set;
-ghost use Rattle.ent_alloc.specs.Sequential.{opening, top, cursor, born, after_flush, after_alloc, after_free, after_take, next, reply_from, pool_at, settled, asked_at, available};
+ghost use Rattle.std.specs.FinMap as map;
+ghost use Rattle.ent_alloc.specs.Sequential.{opening, top, cursor, born, after_flush, after_alloc, after_free, after_set_row, after_take, state_of, next, reply_from, pool_at, settled, asked_at, available, stands_in};
 ghost use Rattle.ent_alloc.specs.Sound.{IsSound};
 
 use crate::fault::{AllocFault, FreeFault, Freed};
@@ -9,6 +10,7 @@ use crate::reserved::Reserved;
 use crate::slots::Slots;
 use crate::space::Space;
 use crate::span::Span;
+use crate::state::State;
 use ent_handle::{Handle, Memory};
 use std::alloc::Global;
 use std::marker::Model;
@@ -212,6 +214,50 @@ impl Entities {
         Ok(())
     }
 
+    /// What became of a handle.
+    pub fn state(&self, handle: Handle) -> State
+        ensures { result ≡ state_of self.now handle }
+    {
+        if self.slots.is_alive(handle) {
+            State::Alive
+        } else if self.is_reserved(handle) {
+            State::Reserved
+        } else {
+            State::Gone
+        }
+    }
+
+    /// The row that a caller keeps with a living entity; `None` where the handle isn't alive or no row was
+    /// set since it came to life.
+    pub fn row(&self, handle: Handle) -> Option<u32>
+        ensures { result ≡ map.get self.now.rows handle }
+    {
+        self.slots.row(handle)
+    }
+
+    /// Keeps a row with a living entity, until it is freed.
+    pub fn set_row(&mut self, handle: Handle, row: u32)
+        requires { set.contains self.old.live handle ≡ true }
+        ensures { self.new ≡ after_set_row self.old handle row }
+    {
+        self.slots.set_row(handle, row);
+    }
+
+    /// The state after reservations that leave the cursor and the floor at these places: what is asked for is
+    /// all from the top down to the cursor, and what is reserved is all down to the floor.
+    pub fn settle(&mut self, cursor: i64, floor: i64)
+        requires flushed { self.old.asked ≡ 0 }
+        requires least { pos (top self.old) ≤ℤ (cursor +ℤ pos (2 ^ 50)) }
+        requires greatest { floor ≤ℤ pos (top self.old) }
+        requires ordered { cursor ≤ℤ floor }
+        requires reachable { pos 0 ≤ℤ (floor +ℤ pos (self.old.limits.slots - self.old.made)) }
+        requires all_given { pos 0 ≤ℤ (cursor +ℤ pos (self.old.limits.slots - self.old.made)) → floor ≡ cursor }
+        ensures { self.new ≡ settled self.old (asked_at (top self.old) floor) (asked_at (top self.old) cursor) }
+    {
+        self.cursor = cursor;
+        self.floor = floor;
+    }
+
     /// Lowers the cursor by a wish for `n` handles, and answers the places that it passed.
     pub fn lower(&mut self, n: u32) -> Span
         requires { self.old.asked + n ≤ 2 ^ 50 }
@@ -259,6 +305,20 @@ impl Entities {
             (made + before.saturating_sub(top)) as u32,
             (made + after.saturating_sub(top)) as u32,
         ))
+    }
+
+    /// Whether a reservation gave the handle, and no flush has brought it to life yet.
+    fn is_reserved(&self, handle: Handle) -> bool
+        ensures { result ≡ stands_in self.now.taken handle }
+    {
+        let top = u64::from(self.slots.waiting());
+        let reserved = distance(self.slots.waiting(), self.floor);
+        let kept = top.saturating_sub(reserved) as usize;
+        let fresh = reserved.saturating_sub(top) as u32;
+        if self.slots.waits_from(handle, kept) {
+            return true;
+        }
+        self.slots.is_next(handle, fresh)
     }
 
     /// How many handles there were to give after the last flush.

@@ -1,5 +1,5 @@
 ghost use Rattle.std.specs.Prelude.{◌≡◌, ◌<◌, length, All};
-ghost use Rattle.ent_alloc.specs.Slots.{has_tenant, is_tenant, newborn, woken};
+ghost use Rattle.ent_alloc.specs.Slots.{has_tenant, is_tenant, newborn, row_at, row_in, waits_behind, waits_from, woken};
 
 use ent_handle::Handle;
 
@@ -38,6 +38,29 @@ impl Record {
     {
         matches!(self.tenancy, Tenancy::Alive { .. }) && self.generation == generation
     }
+
+    /// Whether the slot waits at this place or behind it.
+    pub(crate) fn waits_behind(&self, from: usize) -> bool
+        ensures { result ≡ waits_behind self.now.tenancy from }
+    {
+        match self.tenancy {
+            Tenancy::Alive { .. } => false,
+            Tenancy::Pending { place } => from <= place as usize,
+        }
+    }
+
+    /// The row that is kept with the tenant of this generation.
+    pub(crate) fn row_of(&self, generation: u32) -> Option<u32>
+        ensures { result ≡ row_in self.now generation }
+    {
+        if self.generation != generation {
+            return None;
+        }
+        match self.tenancy {
+            Tenancy::Alive { row } => row,
+            Tenancy::Pending { .. } => None,
+        }
+    }
 }
 
 /// Whether the handle names the living tenant of its slot.
@@ -47,6 +70,26 @@ pub(crate) fn is_tenant(records: &[Record], handle: Handle) -> bool
     match records.get(handle.index() as usize) {
         Some(record) => record.has_tenant(handle.generation()),
         None => false,
+    }
+}
+
+/// Whether the handle is the next one of a slot that waits at this place or behind it.
+pub(crate) fn waits_from(records: &[Record], handle: Handle, from: usize) -> bool
+    ensures { result ≡ waits_from records.now handle from }
+{
+    match records.get(handle.index() as usize) {
+        Some(record) => record.waits_behind(from) && record.generation == handle.generation(),
+        None => false,
+    }
+}
+
+/// The row that is kept with the tenant that the handle names.
+pub(crate) fn row_at(records: &[Record], handle: Handle) -> Option<u32>
+    ensures { result ≡ row_at records.now handle }
+{
+    match records.get(handle.index() as usize) {
+        Some(record) => record.row_of(handle.generation()),
+        None => None,
     }
 }
 

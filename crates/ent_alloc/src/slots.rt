@@ -3,10 +3,10 @@ ghost use Rattle.std.specs.FinSet as set;
 ghost use Rattle.std.specs.FinMap as maps;
 ghost use Rattle.ent_handle.specs.Handle.{IsHandle};
 ghost use Rattle.ent_alloc.specs.Limits.{AreLimits};
-ghost use Rattle.ent_alloc.specs.Sequential.{fresh, fresh as fresh_handles, next};
+ghost use Rattle.ent_alloc.specs.Sequential.{fresh, fresh as fresh_handles, next, stands_in};
 
 use crate::limits::Limits;
-use crate::record::{Record, Tenancy, is_tenant, wake_all};
+use crate::record::{Record, Tenancy, is_tenant, row_at, waits_from, wake_all};
 use ent_handle::{Handle, Memory};
 use std::alloc::Global;
 use std::marker::Model;
@@ -92,6 +92,41 @@ impl Slots {
         ensures { result ≡ set.contains self.now.live handle }
     {
         is_tenant(&self.records, handle)
+    }
+
+    /// Whether the handle waits at this place or behind it.
+    pub(crate) fn waits_from(&self, handle: Handle, from: usize) -> bool
+        ensures { result ≡ stands_in (drop from self.now.pending) handle }
+    {
+        waits_from(&self.records, handle, from)
+    }
+
+    /// Whether the handle is the first tenant of one of the next slots to be made.
+    pub(crate) fn is_next(&self, handle: Handle, count: u32) -> bool
+        ensures { result ≡ stands_in (fresh self.now.made count) handle }
+    {
+        if handle.generation() != 1 {
+            return false;
+        }
+        match handle.index().checked_sub(self.made()) {
+            Some(past) => past < count,
+            None => false,
+        }
+    }
+
+    /// The row that is kept with a tenant.
+    pub(crate) fn row(&self, handle: Handle) -> Option<u32>
+        ensures { result ≡ maps.get self.now.rows handle }
+    {
+        row_at(&self.records, handle)
+    }
+
+    /// Keeps a row with a tenant.
+    pub(crate) fn set_row(&mut self, handle: Handle, row: u32)
+        requires { set.contains self.old.live handle ≡ true }
+        ensures { self.new ≡ record self.old { rows = maps.insert self.old.rows handle row } }
+    {
+        self.records[handle.index() as usize].tenancy = Tenancy::Alive { row: Some(row) };
     }
 
     /// The handle that waits at a place.

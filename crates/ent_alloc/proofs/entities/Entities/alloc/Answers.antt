@@ -1,4 +1,4 @@
-use Rattle.std.proofs.Common.{◌≡◌, ◌≢◌, ◌+◌, ◌-◌, ◌<◌, pos, List, [], ◌∷◌, length, slice_get, Some, take, reverse, ◌++◌, refl, sym, ap, subst, ◌∙◌, arith, to_z, of_z, w64}
+use Rattle.std.proofs.Common.{◌≡◌, ◌+◌, ◌-◌, pos, List, [], ◌∷◌, length, slice_get, Some, take, reverse, ◌++◌, refl, sym, ap, subst, ◌∙◌, arith, to_z, of_z, w64}
 use Rattle.std.specs.FinSet as sets
 use Rattle.std.proofs.lemmas.Int.{ints}
 use Rattle.ent_handle.specs.Handle.{Handle}

@@ -1,8 +1,8 @@
-use Rattle.std.proofs.Common.{◌≡◌, ◌+◌, ◌-◌, ◌<◌, ◌≤◌, ◌^◌, pos, ◌-ℤ◌, length, sym, ap, ◌∙◌, arith, to_z, of_z, w64}
+use Rattle.std.proofs.Common.{◌≡◌, pos, ◌-ℤ◌, ap, ◌∙◌, arith}
 use Rattle.std.proofs.lemmas.Int.{ints}
 use Rattle.ent_alloc.specs.declared.span.Span.{Span}
-use Rattle.ent_alloc.specs.Sequential.{Allocator, cursor}
-use Rattle.ent_alloc.specs.Entities.{allocator_of, beneath, AreReserved}
+use Rattle.ent_alloc.specs.Sequential.{Allocator}
+use Rattle.ent_alloc.specs.Entities.{allocator_of, beneath}
 use Rattle.ent_alloc.proofs.Meaning.{as_word, cursor_is, length_available, beneath_low, served_view, served_reserved, refused_view, refused_reserved}
 use Rattle.ent_alloc.proofs.entities.Entities.lower.Goals as goal
 

@@ -1,12 +1,11 @@
-use Rattle.std.proofs.Common.{◌≡◌, [], pos, sym, subst}
+use Rattle.std.proofs.Common.{[], pos, sym, subst}
 use Rattle.std.specs.FinSet as sets
 use Rattle.std.specs.FinMap as maps
-use Rattle.ent_alloc.specs.Sequential.{Allocator}
 use Rattle.ent_alloc.specs.Roster.{Roster}
 use Rattle.ent_alloc.specs.Sound.{IsSound}
 use Rattle.ent_alloc.specs.Entities.{AreReserved}
 use Rattle.ent_alloc.proofs.Soundness.{opening-sound}
-use Rattle.ent_alloc.proofs.Meaning.{AreReserved-flushed, opening_is, flush_is, free_is, alloc_old_is, alloc_fresh_is}
+use Rattle.ent_alloc.proofs.Meaning.{AreReserved-flushed, opening_is}
 use Rattle.ent_alloc.proofs.entities.Entities.new.Goals as goal
 
 pub invariant_of-result : goal.invariant_of-result

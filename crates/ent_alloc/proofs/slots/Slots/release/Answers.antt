@@ -1,14 +1,13 @@
-use Rattle.std.proofs.Common.{if◌then◌else◌, ◌==◌, ◌≡◌, ℕ, ◌+◌, ◌-◌, ◌<◌, ◌≤◌, ◌^◌, List, [], ◌∷◌, ◌++◌, length, set, true, sym, ap, ◌∙◌, arith}
+use Rattle.std.proofs.Common.{if◌then◌else◌, ◌==◌, ◌≡◌, ℕ, ◌+◌, List, [], ◌∷◌, ◌++◌, length, set, true, sym, ap, ◌∙◌, arith}
 use Rattle.std.specs.FinSet as sets
 use Rattle.std.specs.FinMap as maps
-use Rattle.std.proofs.lemmas.List.{length-map}
 use Rattle.ent_handle.specs.Handle.{Handle}
 use Rattle.ent_alloc.specs.Limits.{Limits}
 use Rattle.ent_alloc.specs.declared.record.Record.{Record}
 use Rattle.ent_alloc.specs.declared.record.Tenancy.TheVariants.{Pending}
 use Rattle.ent_alloc.specs.Sequential.{next}
 use Rattle.ent_alloc.specs.Roster.{Roster}
-use Rattle.ent_alloc.specs.Slots.{roster_of, is_tenant, record_at, handle_at, AreLinked}
+use Rattle.ent_alloc.specs.Slots.{roster_of, is_tenant}
 use Rattle.ent_alloc.proofs.Tenants.{contains_tenants}
 use Rattle.ent_alloc.proofs.Linked.{tenant_made, tenant_generation, next_generation, one_lives, release_keeps_links, roster_of-release}
 use Rattle.ent_alloc.proofs.slots.Slots.release.Goals as goal

@@ -1,4 +1,4 @@
-use Rattle.std.proofs.Common.{◌-◌, ◌+◌, ◌≤◌, ℕ, sym, ap, ◌∙◌, arith, ◌≡◌, length, take, drop, List, subst}
+use Rattle.std.proofs.Common.{◌-◌, ◌+◌, ◌≤◌, ℕ, sym, ap, ◌∙◌, arith, ◌≡◌, length, take, drop, List}
 use Rattle.std.specs.FinSet as sets
 use Rattle.std.proofs.lemmas.List.{with_items_is, take_rest, length-map}
 use Rattle.ent_alloc.specs.declared.record.Record.{Record}

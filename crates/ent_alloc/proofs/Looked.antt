@@ -1,0 +1,194 @@
+-- What looking a handle up in the records tells of the pending list, of the fresh handles and of the rows.
+use Rattle.std.proofs.Common.{◌≡◌, ◌≢◌, ℕ, ◌+◌, ◌-◌, ◌<◌, ◌≤◌, Bool, true, false, cond, ◌&&◌, eqb, ltb, List, length, get_or, set, drop, map, refl, sym, ap, ◌∙◌, arith, inl, inr, Option, None, Some}
+use Rattle.std.specs.List.{Contains}
+use Rattle.std.specs.FinSet as sets
+use Rattle.std.specs.FinMap as maps
+use Rattle.std.proofs.lemmas.Bool.{cases_eq, false≢true, and_parts, and_from, eqb-true, leb-true, ltb-true, eq-eqb, le-leb, lt-ltb, false_from_ne_true}
+use Rattle.std.proofs.lemmas.Bool.Decides.{nat_tests}
+use Rattle.std.proofs.lemmas.List.{get_or-drop, get_or-map, length-drop, length-map, length-set, get_or-set_same, get_or-set_other}
+use Rattle.ent_handle.specs.Handle.{Handle, handle_cmp, handle_cmp_total, handle_cmp-IsAntisymmetric}
+use Rattle.ent_alloc.specs.Limits.{Limits}
+use Rattle.ent_alloc.specs.Sequential.{fresh, stands_in}
+use Rattle.ent_alloc.specs.declared.record.Record.{Record}
+use Rattle.ent_alloc.specs.declared.record.Tenancy.{Tenancy}
+use Rattle.ent_alloc.specs.declared.record.Tenancy.TheVariants.{Alive, Pending}
+use Rattle.ent_alloc.specs.Slots.{tenants, is_tenant, has_tenant, is_alive, row_of, row_at, record_at, blank, handle_at, kept, waits_behind, waits_from, roster_of, AreLinked}
+use Rattle.ent_alloc.proofs.HandleSets.{Contains-from_stands_in, stands_in-from_Contains}
+use Rattle.ent_alloc.proofs.FreshHandles.{length-fresh, get_or-fresh}
+use Rattle.ent_alloc.proofs.Tenants.{contains_tenants, is_tenant-set, row_at-set, get_kept, ties, one, length-tenants-set}
+use Rattle.ent_alloc.proofs.Woken.{Alive≢Pending}
+use Rattle.ent_alloc.proofs.Linked.{tenant_made, tenant_alive, tenant_generation, map_alike}
+
+-- two tests that imply each other
+same_test : (a b : Bool) → (a ≡ true → b ≡ true) → (b ≡ true → a ≡ true) → a ≡ b
+same_test true b f g = sym (f refl)
+same_test false true f g = g refl
+same_test false false f g = refl
+
+-- the place that a slot waits at
+waiting_place : (t : Tenancy) (from : ℕ) → waits_behind t from ≡ true → (place : ℕ) × (t ≡ Pending place) × (from ≤ place)
+waiting_place (Alive row) from is = absurd (false≢true is)
+waiting_place (Pending place) from is = (place, refl, leb-true from place is)
+
+module _ (limits : Limits) (records : List Record) (pending : List ℕ) (live : ℕ) (linked : AreLinked limits records pending live) where
+  at_place : (from k : ℕ) (d : Handle) → from + k < length pending → get_or (drop from (map (handle_at records) pending)) k d ≡ handle_at records (get_or pending (from + k) 0)
+  at_place from k d within = get_or-drop from (map (handle_at records) pending) k d ∙ get_or-map (handle_at records) pending (from + k) 0 d within
+
+  long : (from : ℕ) → length (drop from (map (handle_at records) pending)) ≡ length pending - from
+  long from = length-drop from (map (handle_at records) pending) ∙ ap (λ n. n - from) (length-map pending (handle_at records))
+
+  found : (h : Handle) (from : ℕ) → Contains (drop from (map (handle_at records) pending)) h → waits_from records h from ≡ true
+  found h from (k, within, is) =
+      let below : from + k < length pending = omega (arith, long from) in
+      let index = get_or pending (from + k) 0 in
+      let same : handle_at records index ≡ h = sym (at_place from k h below) ∙ is in
+      let at : index ≡ h.index = ap (λ (x : Handle). x.index) same in
+      let made = linked.made (from + k) below in
+      and_from (ltb h.index (length records)) _ (lt-ltb h.index (length records) (omega arith))
+      (and_from (waits_behind (record_at records h.index).tenancy from) _
+      (ap (λ t. waits_behind t from) (sym (ap (λ n. (record_at records n).tenancy) at) ∙ linked.forward (from + k) below) ∙ le-leb from (from + k) (omega arith))
+      (eq-eqb _ _ (sym (ap (λ n. (record_at records n).generation) at) ∙ ap (λ (x : Handle). x.generation) same)))
+
+  waiting : (h : Handle) (from : ℕ) → waits_from records h from ≡ true → Contains (drop from (map (handle_at records) pending)) h
+  waiting h from is =
+      let parts = and_parts (ltb h.index (length records)) _ is in
+      let rest = and_parts (waits_behind (record_at records h.index).tenancy from) _ parts.1 in
+      let made = ltb-true h.index (length records) parts.0 in
+      let place = waiting_place (record_at records h.index).tenancy from rest.0 in
+      let listed : place.0 < length pending = linked.listed h.index place.0 made place.1 in
+      let back : get_or pending place.0 0 ≡ h.index = linked.back h.index place.0 made place.1 in
+      let there : from + (place.0 - from) ≡ place.0 = (let least : from ≤ place.0 = place.2 in omega arith) in
+      let below : from + (place.0 - from) < length pending = omega arith in
+      let index : get_or pending (from + (place.0 - from)) 0 ≡ h.index = ap (λ n. get_or pending n 0) there ∙ back in
+      let generation : (record_at records h.index).generation ≡ h.generation = eqb-true _ _ rest.1 in (
+        place.0 - from,
+        omega (arith, long from),
+        at_place from (place.0 - from) h below ∙ (λ i. record { index = index i; generation = ((ap (λ n. (record_at records n).generation) index) ∙ generation) i }),
+      )
+
+  -- who waits behind a place is told by the record
+  pub stands_in-pending : (h : Handle) (from : ℕ) → waits_from records h from ≡ stands_in (drop from (map (handle_at records) pending)) h
+  stands_in-pending h from =
+      same_test _ _
+      (λ is. stands_in-from_Contains (drop from (map (handle_at records) pending)) h (waiting h from is))
+      (λ is. found h from (Contains-from_stands_in (drop from (map (handle_at records) pending)) h is))
+
+-- ---- fresh handles
+
+pub fresh_yes : (h : Handle) (made count : ℕ) → h.generation ≡ 1 → made ≤ h.index → h.index - made < count → stands_in (fresh made count) h ≡ true
+fresh_yes h made count first after within =
+    let at : made + (h.index - made) ≡ h.index = omega arith in
+    stands_in-from_Contains (fresh made count) h
+    (h.index - made, omega (arith, length-fresh made count), get_or-fresh made count (h.index - made) h within ∙ (λ i. record { index = at i; generation = sym first i }))
+
+pub fresh_no : (h : Handle) (made count : ℕ) → (h.generation ≡ 1 → made ≤ h.index → h.index - made < count → ⊥) → stands_in (fresh made count) h ≡ false
+fresh_no h made count none =
+    false_from_ne_true _ (λ is.
+    let there = Contains-from_stands_in (fresh made count) h is in
+    let within : there.0 < count = (let below = there.1 in omega (arith, length-fresh made count)) in
+    let same = sym (get_or-fresh made count there.0 h within) ∙ there.2 in
+    let index : made + there.0 ≡ h.index = ap (λ (x : Handle). x.index) same in
+    none (sym (ap (λ (x : Handle). x.generation) same)) (omega arith) (omega arith))
+
+-- ---- rows
+
+kept_test : (same gen old : Bool) → (same ≡ true → old ≡ gen) → cond same gen old ≡ old
+kept_test true gen old is = sym (is refl)
+kept_test false gen old is = refl
+
+new_row : (same gen : Bool) (row old : Option ℕ) → (same ≡ true → gen ≡ false → old ≡ None) → cond same (cond gen row None) old ≡ cond (same && gen) row old
+new_row true true row old is = refl
+new_row true false row old is = sym (is refl refl)
+new_row false gen row old is = refl
+
+eqb_sym : (a b : ℕ) → eqb a b ≡ eqb b a
+eqb_sym a b = grind (arith, nat_tests)
+
+module _ (limits : Limits) (records : List Record) (pending : List ℕ) (live : ℕ) (h : Handle) (row : ℕ) (linked : AreLinked limits records pending live) (lives : is_tenant records h ≡ true) where
+  abbrev labelled : Record
+  labelled = record { generation = (record_at records h.index).generation; tenancy = Alive (Some row) }
+
+  abbrev relabelled : List Record
+  relabelled = set records h.index labelled
+
+  slot_made : h.index < length records
+  slot_made = tenant_made records h lives
+
+  others : (at : ℕ) → at ≢ h.index → record_at relabelled at ≡ record_at records at
+  others at ne = get_or-set_other records h.index at labelled blank ne
+
+  itself : (at : ℕ) → at ≡ h.index → record_at relabelled at ≡ labelled
+  itself at e = ap (record_at relabelled) e ∙ get_or-set_same records h.index labelled blank slot_made
+
+  generations : (at : ℕ) → (record_at relabelled at).generation ≡ (record_at records at).generation
+  generations at =
+      elim (cases_eq at h.index) [
+        | inl e ↦ ap (λ (r : Record). r.generation) (itself at e) ∙ ap (λ n. (record_at records n).generation) (sym e)
+        | inr ne ↦ ap (λ (r : Record). r.generation) (others at ne)
+      ]
+
+  alive_there : (at place : ℕ) → (record_at records at).tenancy ≡ Pending place → at ≢ h.index
+  alive_there at place waits e =
+      false≢true (sym (ap is_alive (sym (ap (λ n. (record_at records n).tenancy) e) ∙ waits)) ∙ tenant_alive records h lives)
+
+  waited : (at place : ℕ) → (record_at relabelled at).tenancy ≡ Pending place → (record_at records at).tenancy ≡ Pending place
+  waited at place is =
+      elim (cases_eq at h.index) [
+        | inl e ↦ absurd (Alive≢Pending (sym (ap (λ (r : Record). r.tenancy) (itself at e)) ∙ is))
+        | inr ne ↦ sym (ap (λ (r : Record). r.tenancy) (others at ne)) ∙ is
+      ]
+
+  pub set_row_keeps_links : AreLinked limits relabelled pending live
+  set_row_keeps_links =
+      let as_long : length relabelled ≡ length records = length-set records h.index labelled in
+      let step = length-tenants-set 0 records h.index labelled slot_made in
+      let was : one (is_alive (record_at records h.index).tenancy) ≡ 1 = ap one (tenant_alive records h lives) in
+      let counted = linked.counted in
+      let each = linked.each_once in
+      let few = linked.few in
+      record {
+        limited = linked.limited;
+        few = omega arith;
+        counted = omega arith;
+        each_once = omega arith;
+        least = λ index within. let b = linked.least index (omega arith) in omega (arith, generations index);
+        greatest = λ index within. let b = linked.greatest index (omega arith) in omega (arith, generations index);
+        made = λ place below. let b = linked.made place below in omega arith;
+        forward = λ place below. ap (λ (r : Record). r.tenancy) (others (get_or pending place 0) (alive_there (get_or pending place 0) place (linked.forward place below))) ∙ linked.forward place below;
+        listed = λ index place within is. linked.listed index place (omega arith) (waited index place is);
+        back = λ index place within is. linked.back index place (omega arith) (waited index place is);
+      }
+
+  same_live : sets.from_list {R = handle_cmp} (tenants 0 relabelled) ≡ sets.from_list (tenants 0 records)
+  same_live =
+      sets.same_set handle_cmp_total handle_cmp-IsAntisymmetric _ _ (λ q.
+      contains_tenants relabelled q
+      ∙ is_tenant-set records h.index labelled q slot_made
+      ∙ kept_test (eqb q.index h.index) (has_tenant labelled q.generation) (is_tenant records q) (here q)
+      ∙ sym (contains_tenants records q))
+    where
+      here : (q : Handle) → eqb q.index h.index ≡ true → is_tenant records q ≡ has_tenant labelled q.generation
+      here q e =
+          ap (λ n. has_tenant (record_at records n) q.generation) (eqb-true q.index h.index e)
+          ∙ (λ i. tenant_alive records h lives i && eqb (record_at records h.index).generation q.generation)
+
+  new_rows : maps.from_entries {R = handle_cmp} (kept 0 relabelled) ≡ maps.insert (maps.from_entries (kept 0 records)) h row
+  new_rows =
+      maps.same_map handle_cmp_total handle_cmp-IsAntisymmetric _ _ (λ q.
+      get_kept relabelled q
+      ∙ row_at-set records h.index labelled q slot_made
+      ∙ (λ i. cond (eqb q.index h.index) (cond ((ap (λ n. eqb n q.generation) (tenant_generation records h lives) ∙ eqb_sym h.generation q.generation) i) (Some row) None) (row_at records q))
+      ∙ new_row (eqb q.index h.index) (eqb q.generation h.generation) (Some row) (row_at records q) (here q)
+      ∙ (λ i. cond (sym (ties q h) i) (Some row) (sym (get_kept records q) i))
+      ∙ sym (maps.get-insert handle_cmp_total (maps.from_entries (kept 0 records)) h row q))
+    where
+      here : (q : Handle) → eqb q.index h.index ≡ true → eqb q.generation h.generation ≡ false → row_at records q ≡ None
+      here q e ne =
+          ap (λ n. row_at records (record { index = n; generation = q.generation })) (eqb-true q.index h.index e)
+          ∙ (λ i. cond (eqb (tenant_generation records h lives i) q.generation) (row_of (record_at records h.index).tenancy) None)
+          ∙ (λ i. cond ((eqb_sym h.generation q.generation ∙ ne) i) (row_of (record_at records h.index).tenancy) None)
+
+  pub roster_of-set_row : roster_of limits relabelled pending ≡ record (roster_of limits records pending) { rows = maps.insert (roster_of limits records pending).rows h row }
+  roster_of-set_row =
+      let pending_is = map_alike (handle_at relabelled) (handle_at records) pending (λ k below i. record { index = get_or pending k 0; generation = generations (get_or pending k 0) i }) in
+      λ i. record { limits = limits; live = same_live i; rows = new_rows i; pending = pending_is i; made = length-set records h.index labelled i }
