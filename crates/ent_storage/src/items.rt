@@ -1,5 +1,6 @@
-ghost use Rattle.std.specs.Prelude.{◌≡◌};
-ghost use Rattle.std.specs.Iterator.{YieldsFirst, item_count};
+ghost use Rattle.std.specs.Prelude.{◌≡◌, IfSome, length};
+ghost use Rattle.std.specs.Iterator.{YieldsFirst, UpTo, item_count};
+ghost use Rattle.std.specs.Iterator.SizeHint.{IsWithinCount};
 
 use ent_handle::ComponentId;
 use std::marker::Model;
@@ -40,7 +41,11 @@ impl Iterator for Items<'_> {
         Some(*first)
     }
 
-    fn size_hint(&self) -> (usize, Option<usize>) {
+    fn size_hint(&self) -> (usize, Option<usize>)
+        ensures lower { IsWithinCount result.0 (item_count (λ items. items) self.now) }
+        ensures upper { IfSome result.1 (UpTo (item_count (λ items. items) self.now)) }
+        ensures exact { result ≡ (length self.now, Some (length self.now)) }
+    {
         (self.left.len(), Some(self.left.len()))
     }
 }

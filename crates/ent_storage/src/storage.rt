@@ -1,4 +1,4 @@
-ghost use Rattle.std.specs.Prelude.{◌≡◌, ◌+◌, ◌≤◌, ◌<◌, ◌↔◌, IsTrue, IsErrOf, IfOk, IfSome, IfErr, OnOk, OnErr, All, Ok, None};
+ghost use Rattle.std.specs.Prelude.{◌≡◌, ◌+◌, ◌≤◌, ◌<◌, ◌↔◌, IsTrue, IsErrOf, IfOk, IfSome, IfErr, OnOk, OnErr, IsOk, None};
 ghost use Rattle.std.specs.Option.{option_map};
 ghost use Rattle.std.specs.FinMap as map;
 ghost use Rattle.ent_storage.specs.Component.{with_items, missing};
@@ -113,7 +113,7 @@ impl Storage {
         ensures ok { OnOk result (additional ≤ self.new.spare) }
         ensures err { OnErr result (self.new.spare < additional) }
         ensures grows { self.old.spare ≤ self.new.spare }
-        ensures succeeds { additional ≤ self.old.spare → result ≡ Ok tt }
+        ensures succeeds { additional ≤ self.old.spare → IsOk result }
     {
         self.rows.reserve(additional)?;
         self.index.reserve(additional)?;
@@ -230,6 +230,7 @@ impl Storage {
         Ok(handles_in_order(self.alloc, births)?)
     }
 
+    /// The entity's row, if the entity is there.
     fn row(&self, handle: Handle) -> Option<&Row>
         ensures { option_map (λ row. entity_of row.now) result ≡ map.get self.now.entities handle }
     {
@@ -237,3 +238,6 @@ impl Storage {
         Some(&self.rows[place])
     }
 }
+
+#[cfg(test)]
+mod tests;
