@@ -1,0 +1,12 @@
+use Rattle.std.proofs.Common.{◌++◌, take, arith}
+use Rattle.std.proofs.lemmas.Grind.{common_steps}
+use Rattle.spawnrun.proofs.DeviceLemmas.{Consumes-append}
+use Rattle.spawnrun.proofs.input.read_all.Goals as goal
+
+-- the piece that passes the limit brings one byte more than there was room for
+pub returns-then-count-room-clause-stops : goal.returns-then-count-room-clause-stops
+returns-then-count-room-clause-stops g c = λ _. (
+  c.loop.bytes.items ++ take c.in_ok-count.count c.take.new.buffer,
+  grind (arith, common_steps),
+  Consumes-append _ _ _ _ _ c.loop.invariant.taken c.in_ok-count.ensures.bytes,
+)

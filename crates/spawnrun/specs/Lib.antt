@@ -1,0 +1,4 @@
+pub mod Device
+pub mod Counted
+pub mod CommandLine
+pub mod Status

@@ -1,0 +1,104 @@
+ghost use Rattle.std.specs.Prelude.{◌≡◌, ◌+◌, ◌<◌, ◌≤◌, length, take, IfOk, OnOk, OnErr};
+ghost use Rattle.std.specs.Io.KnownBytes.{Appends, Consumes, IsAtEnd, Keeps};
+ghost use Rattle.spawnrun.specs.Device.{most_failures, told};
+ghost use Rattle.spawnrun.specs.Counted.{device_of, failures_of};
+
+use super::{Failed, Sink, Source};
+use std::io;
+use std::io::{ErrorKind, Read, Write};
+
+/// Any `io::Read` or `io::Write` as a device that counts its failures.
+///
+/// The count is exact, so it must never wrap and never stand still at a failure: a device that has
+/// failed 2^64 - 1 times is given up. From then on it's no longer called, the source is at its end,
+/// the sink drops what it's given, and neither tells its bytes. No program runs long enough to see
+/// this.
+#[derive(Drop)]
+pub struct Counted<T> {
+    device: T,
+    failures: u64,
+}
+
+impl<T> Counted<T> {
+    /// The device, with no failure yet.
+    pub fn new(device: T) -> Self
+        ensures device { device_of result ≡ device }
+        ensures failures { failures_of result ≡ 0 }
+    {
+        Counted {
+            device,
+            failures: 0,
+        }
+    }
+
+    // Notes a failed call of a device that isn't given up.
+    fn fail(&mut self) -> Failed
+        requires { failures_of self.old < most_failures }
+        ensures device { device_of self.new ≡ device_of self.old }
+        ensures counted { failures_of self.new ≡ failures_of self.old + 1 }
+    {
+        self.failures += 1;
+        Failed
+    }
+}
+
+impl<R: Read> Source for Counted<R> {
+    ghost remaining = { λ source. told (failures_of source) (R.remaining (device_of source)) };
+
+    ghost failures = { failures_of };
+
+    fn take(&mut self, buffer: &mut [u8]) -> Result<usize, Failed> {
+        if self.failures == u64::MAX {
+            return Ok(0);
+        }
+        match read_on(&mut self.device, buffer) {
+            Ok(count) => Ok(count),
+            Err(_) => Err(self.fail()),
+        }
+    }
+}
+
+impl<W: Write> Sink for Counted<W> {
+    ghost written = { λ sink. told (failures_of sink) (W.contents (device_of sink)) };
+
+    ghost failures = { failures_of };
+
+    fn put(&mut self, piece: &[u8]) -> Result<(), Failed> {
+        if self.failures == u64::MAX {
+            return Ok(());
+        }
+        match write_through(&mut self.device, piece) {
+            Ok(()) => Ok(()),
+            Err(_) => Err(self.fail()),
+        }
+    }
+}
+
+// One read, asked again where a signal interrupts it.
+fn read_on<R: Read>(reader: &mut R, buffer: &mut [u8]) -> io::Result<usize>
+    ensures within { IfOk result (λ count. count ≤ length buffer.new) }
+    ensures bytes { IfOk result (λ count.
+        Consumes (R.remaining reader.old) (R.remaining reader.new) (take count buffer.new)) }
+    ensures end { IfOk result (λ count.
+        count ≡ 0 → 0 < length buffer.new → IsAtEnd (R.remaining reader.new)) }
+    ensures kept { OnErr result (Keeps (R.remaining reader.old) (R.remaining reader.new)) }
+{
+    for _ in 0..u64::MAX {
+        match reader.read(buffer) {
+            Err(error) if error.kind() == ErrorKind::Interrupted => {}
+            result => return result,
+        }
+    }
+    Err(io::Error::from(ErrorKind::TimedOut))
+}
+
+// Writes the whole piece, and on through any buffer of the writer's.
+fn write_through<W: Write>(writer: &mut W, piece: &[u8]) -> io::Result<()>
+    ensures { OnOk result (Appends (W.contents writer.old) (W.contents writer.new) piece.now) }
+{
+    writer.write_all(piece)?;
+    writer.flush()
+}
+
+#[cfg(test)]
+mod tests;
