@@ -17,3 +17,4 @@ pub mod Linked
 pub mod Listing
 pub mod Meaning
 pub mod Looked
+pub mod Histories

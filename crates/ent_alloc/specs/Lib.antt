@@ -6,3 +6,4 @@ pub mod Sound
 pub mod Reserved
 pub mod Entities
 pub mod Given
+pub mod History

@@ -1,0 +1,35 @@
+-- Histories: the reservations of many callers in one order, and what the sequential allocator says to them.
+use Rattle.std.specs.Prelude.{◌≡◌, ℕ, ◌<◌, List, [], ◌∷◌, ◌++◌, map, Result, Ok, Err}
+use Rattle.ent_handle.specs.Handle.{Handle}
+use Rattle.ent_alloc.specs.declared.space.Space.{Space}
+use Rattle.ent_alloc.specs.Sequential.{Allocator, after_take, reply_to}
+
+-- one reservation: who asked, for how many handles, and what was answered
+pub record Call : Type 0 where
+  pub caller : ℕ
+  pub wish : ℕ
+  pub reply : Result (List Handle) Space
+
+-- Each call in turn asks for something, and is answered what the allocator says at its point.
+abbrev pub IsLegal : Allocator → List Call → Type 0
+IsLegal s [] = Unit {0}
+IsLegal s (call ∷ calls) = (0 < call.wish) × (call.reply ≡ reply_to s call.wish) × IsLegal (after_take s call.wish) calls
+
+-- the allocator after all calls
+abbrev pub after_history : Allocator → List Call → Allocator
+after_history s [] = s
+after_history s (call ∷ calls) = after_history (after_take s call.wish) calls
+
+-- the handles of a reply
+abbrev pub handles_in : Result (List Handle) Space → List Handle
+handles_in (Ok handles) = handles
+handles_in (Err space) = []
+
+-- the handles of all replies
+abbrev pub given_in : List Call → List Handle
+given_in [] = []
+given_in (call ∷ calls) = handles_in call.reply ++ given_in calls
+
+-- how much was asked for in all
+abbrev pub wishes_of : List Call → List ℕ
+wishes_of calls = map (λ (call : Call). call.wish) calls

@@ -1,0 +1,200 @@
+-- The end of a phase: the history of all records is legal, and the cursor and the least floor tell the allocator after it.
+use Rattle.std.proofs.Common.{◌≡◌, ◌≢◌, ℕ, ◌+◌, ◌-◌, ◌*◌, ◌^◌, ◌<◌, ◌≤◌, ℤ, pos, ◌+ℤ◌, ◌-ℤ◌, ◌≤ℤ◌, List, [], ◌∷◌, ◌++◌, length, map, refl, sym, ap, subst, ◌∙◌, arith, sum, length-append, All, AllPairs, inl, inr}
+use Rattle.std.specs.List.{sum_by, filter, flat_map}
+use Rattle.std.specs.Int.{int_min}
+use Rattle.std.proofs.lemmas.List.Sums.{sum_by-cons}
+use Rattle.std.proofs.lemmas.Bool.{cases_lt}
+use Rattle.std.proofs.lemmas.List.Sorted.{length_permutation}
+use Rattle.std.proofs.lemmas.Int.{ints}
+use Rattle.ent_alloc.specs.Sequential.{Allocator, available, cursor, top, is_old, fresh, asked_at, settled}
+use Rattle.ent_alloc.specs.Sound.{IsSound, IsLive}
+use Rattle.ent_alloc.specs.History as history
+use Rattle.ent_alloc.proofs.FreshHandles.{length-fresh}
+use Rattle.ent_alloc.proofs.PoolLaw.{after_takes-sound, available-after_takes, asked-after_takes, length-taken}
+use Rattle.ent_alloc.proofs.LaidOut.{flushed-laid_out}
+use Rattle.ent_alloc.proofs.Meaning.{asked_at-is}
+use Rattle.ent_alloc.proofs.Histories.{after_history-takes, given_in-distinct, given_in-not_live, given_in-taken, after_history-settled}
+use Rattle.ent_shared.specs.declared.record.Call.{Call}
+use mir.Syntax.{w64}
+use mir.Val.{to_z, of_z}
+use Rattle.ent_shared.specs.declared.record.Record.{Record}
+use Rattle.ent_shared.specs.declared.rule.Opening.{Opening}
+use Rattle.ent_shared.specs.Record.{credit, own_calls}
+use Rattle.ent_shared.specs.Rule.{floor_of, least_floor, IsStart, IsClosed}
+use Rattle.ent_shared.specs.Order.{as_call, calls_of, history_of, Respects}
+use Rattle.ent_shared.proofs.Steps.{wish, follow_asked}
+use Rattle.ent_shared.proofs.Histories.{calls_are, respects_all}
+use Rattle.ent_shared.proofs.Settling.{IsLater, legal_from, min_right, floor_below, taken_floor, floor_sorted, floor_of_all}
+
+-- how many handles there are to give
+pub length_available : (s : Allocator) → IsSound s → length (available s) ≡ top s + (s.limits.slots - s.made)
+length_available s h =
+    ap length h.order ∙ (length-append (filter (is_old s.made) (available s)) (fresh s.made (s.limits.slots - s.made)) ∙ ap (λ (n : ℕ). top s + n) (length-fresh s.made (s.limits.slots - s.made)))
+
+sum_wishes : (cs : List Call) → sum (history.wishes_of (map as_call cs)) ≡ sum_by wish cs
+sum_wishes [] = refl
+sum_wishes (c ∷ cs) =
+    let rest = sum_wishes cs in
+    let first : sum (c.wish ∷ history.wishes_of (map as_call cs)) ≡ c.wish + sum (history.wishes_of (map as_call cs)) = sum_by-cons (λ (n : ℕ). n) c.wish (history.wishes_of (map as_call cs)) in
+    let others : sum_by wish (c ∷ cs) ≡ c.wish + sum_by wish cs = sum_by-cons wish c cs in
+    omega arith
+
+few_asked : (n count : ℕ) → n ≤ count * credit → count ≤ 1024 → n ≤ 2 ^ 50
+unfolding credit
+few_asked n count le few = omega arith
+
+module _ (start : Allocator) (count : ℕ) (records : List Record) (at : ℤ) (k : IsClosed start count records at) (sound : IsSound start) (flushed : start.asked ≡ 0) where
+  pub asked_in_all : cursor start ≡ at +ℤ pos (sum_by wish k.log)
+  asked_in_all = follow_asked (cursor start) k.log at k.follow
+
+  pub cursor_least : count ≤ 1024 → pos (top start) ≤ℤ (at +ℤ pos (2 ^ 50))
+  cursor_least few = let all = asked_in_all in let most = few_asked (sum_by wish k.log) count k.asked few in omega (arith, ints)
+
+  pub cursor_greatest : at ≤ℤ pos (top start)
+  cursor_greatest = let all = asked_in_all in omega (arith, ints)
+
+  module _ (whole : length records ≡ count) where
+    abbrev final : Allocator
+    final = history.after_history start (history_of records)
+
+    history_is : history_of records ≡ map as_call k.log
+    history_is = ap (map as_call) (calls_are start count records at k whole)
+
+    itself : IsLater start start
+    itself = record { sound = sound; available_is = refl; made_is = refl }
+
+    pub legal : history.IsLegal start (history_of records)
+    legal = subst (history.IsLegal start) (sym history_is) (legal_from start start k.log at itself k.follow k.answered)
+
+    pub respected : All (Respects (calls_of records)) records
+    respected = respects_all start count records at k whole
+
+    pub distinct : AllPairs (λ g h. g ≢ h) (history.given_in (history_of records))
+    distinct = given_in-distinct start (history_of records) sound legal
+
+    pub not_live : All (λ h. ¬ (IsLive start h)) (history.given_in (history_of records))
+    not_live = given_in-not_live start (history_of records) sound legal
+
+    -- the least floor tells how many are taken
+    pub floor_is : least_floor (cursor start) records ≡ pos (top start) -ℤ pos (length final.taken)
+    floor_is =
+        let f : ℤ = floor_of start k.log in
+        let of_log : least_floor (cursor start) records ≡ f =
+        floor_of_all start at k.log records k.each ∙ (sym (floor_sorted start (flat_map (λ (r : Record). own_calls r.entries) records)) ∙ ap (floor_of start) (calls_are start count records at k whole)) in
+        let none : length start.taken ≡ 0 = ap length (flushed-laid_out start sound flushed).taken in
+        let below = floor_below start k.log in
+        let high : ℤ = pos (top start) -ℤ pos (length start.taken) in
+        let down : f ≤ℤ high = omega (arith, ints) in
+        let taken : int_min high f ≡ pos (top start) -ℤ pos (length (history.after_history start (map as_call k.log)).taken) = taken_floor start start k.log at flushed itself k.follow in
+        of_log ∙ (sym (min_right high f down) ∙ (taken ∙ ap (λ (calls : List history.Call). pos (top start) -ℤ pos (length (history.after_history start calls).taken)) (sym history_is)))
+
+    asked_is : sum (history.wishes_of (history_of records)) ≡ sum_by wish k.log
+    asked_is = ap (λ (calls : List history.Call). sum (history.wishes_of calls)) history_is ∙ sum_wishes k.log
+
+    final_asked : final.asked ≡ sum_by wish k.log
+    final_asked =
+        let asked = asked-after_takes start (history.wishes_of (history_of records)) in
+        let is = asked_is in
+        ap (λ (s : Allocator). s.asked) (after_history-takes start (history_of records)) ∙ omega arith
+
+    final_sound : IsSound final
+    final_sound = subst IsSound (sym (after_history-takes start (history_of records))) (after_takes-sound start (history.wishes_of (history_of records)) sound)
+
+    final_available : available final ≡ available start
+    final_available = ap available (after_history-takes start (history_of records)) ∙ available-after_takes start (history.wishes_of (history_of records)) sound
+
+    taken_few : length final.taken ≤ top start + (start.limits.slots - start.made)
+    taken_few =
+        let all : length (available final) ≡ top start + (start.limits.slots - start.made) = ap length final_available ∙ length_available start sound in
+        let parts = length-append final.taken (final.aside ++ final.pool) in
+        omega arith
+
+    taken_all : sum_by wish k.log ≤ top start + (start.limits.slots - start.made) → length final.taken ≡ sum_by wish k.log
+    taken_all enough =
+        let all : length (available final) ≡ top start + (start.limits.slots - start.made) = ap length final_available ∙ length_available start sound in
+        let asked = final_asked in
+        length-taken final final_sound (omega arith) ∙ asked
+
+    module _ (floor : ℤ) (is : floor ≡ least_floor (pos (top start)) records) where
+      floor_here : floor ≡ pos (top start) -ℤ pos (length final.taken)
+      floor_here =
+          let top_is : pos (top start) ≡ cursor start = omega (arith, ints) in
+          is ∙ (ap (λ (z : ℤ). least_floor z records) top_is ∙ floor_is)
+
+      pub floor_greatest : floor ≤ℤ pos (top start)
+      floor_greatest = let here = floor_here in omega (arith, ints)
+
+      pub floor_all : pos 0 ≤ℤ (at +ℤ pos (start.limits.slots - start.made)) → floor ≡ at
+      floor_all within =
+          let here = floor_here in
+          let all = asked_in_all in
+          let taken = taken_all (omega (arith, ints)) in
+          omega (arith, ints)
+
+      pub floor_ordered : at ≤ℤ floor
+      floor_ordered =
+          let here = floor_here in
+          let all = asked_in_all in
+          let few = taken_few in
+          elim (cases_lt (top start + (start.limits.slots - start.made)) (sum_by wish k.log)) [
+            | inl more ↦ omega (arith, ints)
+            | inr enough ↦ (let taken = taken_all enough in omega (arith, ints))
+          ]
+
+      pub floor_reachable : pos 0 ≤ℤ (floor +ℤ pos (start.limits.slots - start.made))
+      floor_reachable = let here = floor_here in let few = taken_few in omega (arith, ints)
+
+      -- settling at these two numbers gives the allocator after the history
+      pub settled_is : settled start (asked_at (top start) floor) (asked_at (top start) at) ≡ final
+      settled_is =
+          let given : asked_at (top start) floor ≡ length final.taken = (let e = asked_at-is (top start) floor floor_greatest in let here = floor_here in omega (arith, ints)) in
+          let asked : asked_at (top start) at ≡ sum (history.wishes_of (history_of records)) = (let e = asked_at-is (top start) at cursor_greatest in let all = asked_in_all in let total = asked_is in omega (arith, ints)) in
+          let long : length final.taken ≡ length (history.given_in (history_of records)) = length_permutation (history.given_in (history_of records)) final.taken (given_in-taken start (history_of records) sound legal flushed) in
+          (λ i. settled start ((given ∙ long) i) (asked i)) ∙ sym (after_history-settled start (history_of records) sound legal flushed)
+
+-- what the closing call owes and gives, in the numbers of its code
+pub record Ended (here start : Allocator) (records : List Record) (at floor : ℤ) : Type 0 where
+  pub least : pos (top here) ≤ℤ (at +ℤ pos (2 ^ 50))
+  pub greatest : floor ≤ℤ pos (top here)
+  pub ordered : at ≤ℤ floor
+  pub reachable : pos 0 ≤ℤ (floor +ℤ pos (here.limits.slots - here.made))
+  pub all_given : pos 0 ≤ℤ (at +ℤ pos (here.limits.slots - here.made)) → floor ≡ at
+  pub is_legal : history.IsLegal start (history_of records)
+  pub respects : All (Respects (calls_of records)) records
+  pub after : settled here (asked_at (top here) floor) (asked_at (top here) at) ≡ history.after_history start (history_of records)
+  pub all_distinct : AllPairs (λ g h. g ≢ h) (history.given_in (history_of records))
+  pub none_live : All (λ h. ¬ (IsLive start h)) (history.given_in (history_of records))
+
+ended_at : (start : Allocator) (count : ℕ) (records : List Record) (at floor : ℤ) → IsSound start → start.asked ≡ 0 → count ≤ 1024 → length records ≡ count → IsClosed start count records at
+    → floor ≡ least_floor (pos (top start)) records → Ended start start records at floor
+ended_at start count records at floor sound flushed few whole k is = record {
+  least = cursor_least start count records at k sound flushed few;
+  greatest = floor_greatest start count records at k sound flushed whole floor is;
+  ordered = floor_ordered start count records at k sound flushed whole floor is;
+  reachable = floor_reachable start count records at k sound flushed whole floor is;
+  all_given = floor_all start count records at k sound flushed whole floor is;
+  is_legal = legal start count records at k sound flushed whole;
+  respects = respected start count records at k sound flushed whole;
+  after = settled_is start count records at k sound flushed whole floor is;
+  all_distinct = distinct start count records at k sound flushed whole;
+  none_live = not_live start count records at k sound flushed whole;
+}
+
+-- a cursor between the bounds is what the code makes of it
+pub in_word : (top : ℕ) (z : ℤ) → top < 2 ^ 32 → pos top ≤ℤ (z +ℤ pos (2 ^ 50)) → z ≤ℤ pos top → to_z w64 (of_z w64 z) ≡ z
+in_word top z small least greatest = omega (arith, ints)
+
+pub ended : (here start : Allocator) (n count : ℕ) (key : Opening) (records : List Record) (at floor from : ℤ) → IsStart here → IsSound here → n ≤ 1024 → key ≡ record { entities = here; count = n }
+    → here ≡ start → n ≡ count → length records ≡ count → IsClosed key.entities key.count records at → from ≡ pos (top here) → floor ≡ least_floor (to_z w64 (of_z w64 from)) records
+    → Ended here start records (to_z w64 (of_z w64 at)) (to_z w64 (of_z w64 floor))
+ended here start n count key records at floor from begins sound few key_is here_is n_is whole closed from_is floor_is =
+    let small = begins.top in
+    let k : IsClosed here n records at = subst (λ (o : Opening). IsClosed o.entities o.count records at) key_is closed in
+    let from_word : to_z w64 (of_z w64 from) ≡ pos (top here) = omega (arith, ints) in
+    let e : Ended here here records at floor = ended_at here n records at floor sound begins.flushed few (whole ∙ sym n_is) k (floor_is ∙ ap (λ (z : ℤ). least_floor z records) from_word) in
+    let ordered = e.ordered in
+    let least = e.least in
+    let greatest = e.greatest in
+    let at_word : to_z w64 (of_z w64 at) ≡ at = in_word (top here) at small least (omega (arith, ints)) in
+    let floor_word : to_z w64 (of_z w64 floor) ≡ floor = in_word (top here) floor small (omega (arith, ints)) greatest in
+    subst (λ (x : Allocator × ℤ × ℤ). Ended here x.0 records x.1 x.2) (λ i. (here_is i, sym at_word i, sym floor_word i)) e

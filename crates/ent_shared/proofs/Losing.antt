@@ -1,0 +1,166 @@
+-- The end of a phase where some reservers are lost: the front of the pool counts as reserved.
+use Rattle.std.proofs.Common.{◌≡◌, ℕ, ◌+◌, ◌-◌, ◌*◌, ◌^◌, ◌<◌, ◌≤◌, ℤ, pos, ◌+ℤ◌, ◌-ℤ◌, ◌≤ℤ◌, List, [], ◌∷◌, ◌++◌, length, take, drop, sym, ap, subst, ◌∙◌, arith, All, Contains, inl, inr, ⊎_elim, ◌⊎◌, neg_ℤ, zero-add, Ok, Err}
+use Rattle.std.specs.Prelude.{Result, Bool, true, false, cond, nat_le}
+use Rattle.std.specs.List.{sum_by}
+use Rattle.std.proofs.lemmas.List.{drop-take, take-take, take_all, drop_all, length-take}
+use Rattle.std.proofs.lemmas.List.Elements.{All-head, All-tail, All-nil, All-cons, All-append, All-weaker, All-take, All-drop, All-contains, All-contains_itself}
+use Rattle.std.proofs.lemmas.List.Sorted.{All-permutation}
+use Rattle.std.specs.Int.{int_max}
+use Rattle.std.proofs.lemmas.Int.{ints, by_lt_z}
+use mir.Syntax.{w64}
+use mir.Val.{to_z, of_z}
+use Rattle.ent_handle.specs.Handle.{Handle}
+use Rattle.ent_alloc.specs.declared.space.Space.{Space}
+use Rattle.ent_alloc.specs.Sequential.{Allocator, available, cursor, top, asked_at, pool_at, listed, settled}
+use Rattle.ent_alloc.specs.Sound.{IsSound}
+use Rattle.ent_alloc.specs.History as history
+use Rattle.ent_alloc.proofs.LaidOut.{flushed-laid_out}
+use Rattle.ent_alloc.proofs.Meaning.{asked_at-is}
+use Rattle.ent_alloc.proofs.Replies.{listed-IsPermutation}
+use Rattle.ent_shared.specs.declared.record.Call.{Call}
+use Rattle.ent_shared.specs.declared.record.Record.{Record}
+use Rattle.ent_shared.specs.declared.rule.Opening.{Opening}
+use Rattle.ent_shared.specs.Record.{low, credit, own_calls}
+use Rattle.ent_shared.specs.Phase.{after_loss}
+use Rattle.ent_shared.specs.Rule.{Follow, IsAnswered, IsKept, IsStart, IsClosed}
+use Rattle.ent_shared.specs.Order.{handles_of}
+use Rattle.ent_shared.proofs.Steps.{wish}
+use Rattle.ent_shared.proofs.Records.{all_own}
+use Rattle.ent_shared.proofs.Closing.{length_available, asked_in_all, cursor_least, cursor_greatest, in_word}
+
+-- what lies inside the front of a list is in it
+front_contains : (xs : List Handle) (k n asked : ℕ) → k + n ≤ asked → All (Contains (take asked xs)) (take n (drop k xs))
+front_contains xs k n asked le =
+    let P : Handle → Type 0 = Contains (take asked xs) in
+    let all : All P (take (k + n) (take asked xs)) = All-take P (k + n) (take asked xs) (All-contains_itself (take asked xs)) in
+    let same : take (k + n) (take asked xs) ≡ take (k + n) xs = take-take (k + n) asked xs le in
+    subst (All P) (drop-take k n xs) (All-drop P k (take (k + n) xs) (subst (All P) same all))
+
+-- the handles of a call are in the front that reaches as far
+call_contains : (start : Allocator) (c : Call) (asked : ℕ) → IsAnswered start c → asked_at (top start) c.high + c.wish ≤ asked → All (Contains (take asked (available start))) (history.handles_in c.reply)
+call_contains start c asked answered le =
+    let pool : List Handle = pool_at start c.high in
+    let P : Handle → Type 0 = Contains (take asked (available start)) in
+    let inside : All P (take c.wish pool) = front_contains (available start) (asked_at (top start) c.high) c.wish asked le in
+    let given : All P (listed start.made (take c.wish pool)) = All-permutation P (take c.wish pool) (listed start.made (take c.wish pool)) (listed-IsPermutation start.made (take c.wish pool)) inside in
+    let space : Space = record { wanted = c.wish; left = length pool } in
+    let goal : Bool → Type 0 = λ b. All P (history.handles_in (cond {A = Result (List Handle) Space} b (Ok (listed start.made (take c.wish pool))) (Err space))) in
+    subst (λ (r : Result (List Handle) Space). All P (history.handles_in r)) (sym answered)
+    (elim (nat_le c.wish (length pool)) as goal [ true ↦ given | false ↦ All-nil P ])
+
+calls_contain : (start : Allocator) (asked : ℕ) (cs : List Call) → All (IsAnswered start) cs → All (λ (c : Call). asked_at (top start) c.high + c.wish ≤ asked) cs → All (Contains (take asked (available start))) (handles_of cs)
+calls_contain start asked [] answered within = All-nil (Contains (take asked (available start)))
+calls_contain start asked (c ∷ cs) answered within =
+    let P : Handle → Type 0 = Contains (take asked (available start)) in
+    let W : Call → Type 0 = λ (d : Call). asked_at (top start) d.high + d.wish ≤ asked in
+    All-append P (history.handles_in c.reply) (handles_of cs)
+    (call_contains start c asked (All-head (IsAnswered start) c cs answered) (All-head W c cs within))
+    (calls_contain start asked cs (All-tail (IsAnswered start) c cs answered) (All-tail W c cs within))
+
+-- each call lies between the top and the cursor
+calls_within : (start : Allocator) (high : ℤ) (cs : List Call) (end : ℤ) (asked : ℕ) → high ≤ℤ pos (top start) → pos (top start) ≡ end +ℤ pos asked → Follow high cs end
+    → All (λ (c : Call). asked_at (top start) c.high + c.wish ≤ asked) cs × (end ≤ℤ high)
+calls_within start high [] end asked up is f = (All-nil (λ (c : Call). asked_at (top start) c.high + c.wish ≤ asked), omega (arith, ints, f))
+calls_within start high (c ∷ cs) end asked up is f =
+    let at : c.high ≡ high = f.0 in
+    let rest = calls_within start (low c) cs end asked (omega (arith, ints)) is f.2 in
+    let down : end ≤ℤ low c = rest.1 in
+    let passed : pos (asked_at (top start) c.high) ≡ pos (top start) -ℤ c.high = asked_at-is (top start) c.high (omega (arith, ints)) in
+    (All-cons (λ (d : Call). asked_at (top start) d.high + d.wish ≤ asked) c cs (omega (arith, ints)) rest.0, omega (arith, ints))
+
+-- what the closing call with lost reservers owes and gives
+pub record Lost (here start : Allocator) (count : ℕ) (records : List Record) (at floor : ℤ) : Type 0 where
+  pub asked : ℕ
+  pub most : asked ≤ count * credit
+  pub least : pos (top here) ≤ℤ (at +ℤ pos (2 ^ 50))
+  pub greatest : floor ≤ℤ pos (top here)
+  pub all_given : pos 0 ≤ℤ (at +ℤ pos (here.limits.slots - here.made)) → floor ≡ at
+  pub after : settled here (asked_at (top here) floor) (asked_at (top here) at) ≡ after_loss start asked
+  pub given : All (λ (r : Record). All (Contains (take asked start.pool)) (handles_of (own_calls r.entries))) records
+
+max_right : (a b : ℤ) → a ≤ℤ b → int_max a b ≡ b
+max_right a b le = grind (arith, ints)
+
+max_left : (a b : ℤ) → b ≤ℤ a → int_max a b ≡ a
+max_left a b le = grind (arith, ints)
+
+-- the two numbers that are set
+module _ (start : Allocator) (sound : IsSound start) (flushed : start.asked ≡ 0) where
+  all_pool : available start ≡ start.pool
+  all_pool = let f = flushed-laid_out start sound flushed in (λ i. f.taken i ++ (f.aside i ++ start.pool))
+
+  length_pool : length start.pool ≡ top start + (start.limits.slots - start.made)
+  length_pool = ap length (sym all_pool) ∙ length_available start sound
+
+  loss_is : (given asked : ℕ) → given ≤ asked → (given ≡ asked) ⊎ (given ≡ length start.pool) → settled start given asked ≡ after_loss start asked
+  loss_is given asked le which =
+      let f = flushed-laid_out start sound flushed in
+      let front : take given start.pool ≡ take asked start.pool = ⊎_elim (λ (e : given ≡ asked). ap (λ (n : ℕ). take n start.pool) e)
+      (λ (e : given ≡ length start.pool). take_all given start.pool (omega arith) ∙ sym (take_all asked start.pool (omega arith))) which in
+      let short = length-take asked start.pool in
+      let none_aside : drop given (take asked start.pool) ≡ [] = ⊎_elim (λ (e : given ≡ asked). drop_all given (take asked start.pool) (omega arith))
+      (λ (e : given ≡ length start.pool). drop_all given (take asked start.pool) (omega arith)) which in
+      λ i. record start {
+        taken = ((λ j. f.taken j ++ take given start.pool) ∙ front) i;
+        aside = ((λ j. f.aside j ++ drop given (take asked start.pool)) ∙ none_aside) i;
+        pool = drop asked start.pool;
+        asked = (ap (λ (n : ℕ). n + asked) flushed ∙ zero-add asked) i;
+      }
+
+lost_at : (start : Allocator) (count : ℕ) (records : List Record) (at floor : ℤ) → IsSound start → start.asked ≡ 0 → count ≤ 1024 → IsClosed start count records at
+    → (floor ≡ at) × (neg_ℤ (pos (start.limits.slots - start.made)) ≤ℤ at) ⊎ (floor ≡ neg_ℤ (pos (start.limits.slots - start.made))) × (at ≤ℤ floor) → Lost start start count records at floor
+lost_at start count records at floor sound flushed few k which =
+    let asked : ℕ = sum_by wish k.log in
+    let all = asked_in_all start count records at k sound flushed in
+    let below = cursor_greatest start count records at k sound flushed in
+    let top_is : pos (top start) ≡ cursor start = omega (arith, ints) in
+    let within : pos (top start) ≡ at +ℤ pos asked = top_is ∙ all in
+    let pool = length_pool start sound flushed in
+    let floor_in : floor ≤ℤ pos (top start) = ⊎_elim (λ (p : (floor ≡ at) × (neg_ℤ (pos (start.limits.slots - start.made)) ≤ℤ at)). let e = p.0 in omega (arith, ints)) (λ (p : (floor ≡ neg_ℤ (pos (start.limits.slots - start.made))) × (at ≤ℤ floor)). let e = p.0 in omega (arith, ints)) which in
+    let a = asked_at-is (top start) at below in
+    let g = asked_at-is (top start) floor floor_in in
+    let asked_is : asked_at (top start) at ≡ asked = omega (arith, ints) in
+    let given : ℕ = asked_at (top start) floor in
+    let cases : (given ≡ asked) ⊎ (given ≡ length start.pool) = ⊎_elim
+    (λ (p : (floor ≡ at) × (neg_ℤ (pos (start.limits.slots - start.made)) ≤ℤ at)). inl (ap (asked_at (top start)) p.0 ∙ asked_is))
+    (λ (p : (floor ≡ neg_ℤ (pos (start.limits.slots - start.made))) × (at ≤ℤ floor)). let e = p.0 in inr (omega (arith, ints))) which in
+    let le : given ≤ asked = ⊎_elim (λ (p : (floor ≡ at) × (neg_ℤ (pos (start.limits.slots - start.made)) ≤ℤ at)). let e = p.0 in omega (arith, ints)) (λ (p : (floor ≡ neg_ℤ (pos (start.limits.slots - start.made))) × (at ≤ℤ floor)). let e = p.0 in let l = p.1 in omega (arith, ints)) which in
+    let P : Handle → Type 0 = Contains (take asked start.pool) in
+    let W : Call → Type 0 = λ (c : Call). asked_at (top start) c.high + c.wish ≤ asked in
+    let log_within : All W k.log = (calls_within start (cursor start) k.log at asked (omega (arith, ints)) within k.follow).0 in
+    record {
+      asked = asked;
+      most = k.asked;
+      least = cursor_least start count records at k sound flushed few;
+      greatest = floor_in;
+      all_given = λ room. ⊎_elim (λ (p : (floor ≡ at) × (neg_ℤ (pos (start.limits.slots - start.made)) ≤ℤ at)). p.0) (λ (p : (floor ≡ neg_ℤ (pos (start.limits.slots - start.made))) × (at ≤ℤ floor)). let e = p.0 in let l = p.1 in omega (arith, ints)) which;
+      after = ap (settled start given) asked_is ∙ loss_is start sound flushed given asked le cases;
+      given = All-weaker (IsKept start at k.log) (λ (r : Record). All P (handles_of (own_calls r.entries)))
+          (λ r kept.
+          let own : All (Contains k.log) (own_calls r.entries) = all_own (Contains k.log) r.entries kept.marks.known in
+          subst (λ (xs : List Handle). All (Contains (take asked xs)) (handles_of (own_calls r.entries))) (all_pool start sound flushed)
+          (calls_contain start asked (own_calls r.entries)
+          (All-weaker (Contains k.log) (IsAnswered start) (λ c inside. All-contains (IsAnswered start) k.log c k.answered inside) (own_calls r.entries) own)
+          (All-weaker (Contains k.log) W (λ c inside. All-contains W k.log c log_within inside) (own_calls r.entries) own)))
+          records k.each;
+    }
+
+pub lost : (here start : Allocator) (n count room : ℕ) (key : Opening) (records : List Record) (at floor roomed : ℤ) → IsStart here → IsSound here → n ≤ 1024 → key ≡ record { entities = here; count = n }
+    → here ≡ start → n ≡ count → IsClosed key.entities key.count records at → room ≡ here.limits.slots - here.made → room < 2 ^ 32 → roomed ≡ pos room
+    → floor ≡ int_max (to_z w64 (of_z w64 at)) (to_z w64 (of_z w64 (pos 0 -ℤ to_z w64 (of_z w64 roomed))))
+    → Lost here start count records (to_z w64 (of_z w64 at)) (to_z w64 (of_z w64 floor))
+lost here start n count room key records at floor roomed begins sound few key_is here_is n_is closed room_is room_small roomed_is floor_is =
+    let small = begins.top in
+    let flushed = begins.flushed in
+    let k : IsClosed here n records at = subst (λ (o : Opening). IsClosed o.entities o.count records at) key_is closed in
+    let least = cursor_least here n records at k sound flushed few in
+    let greatest = cursor_greatest here n records at k sound flushed in
+    let end : ℤ = neg_ℤ (pos (here.limits.slots - here.made)) in
+    let at_word : to_z w64 (of_z w64 at) ≡ at = in_word (top here) at small least greatest in
+    let end_word : to_z w64 (of_z w64 (pos 0 -ℤ to_z w64 (of_z w64 roomed))) ≡ end = omega (arith, ints) in
+    let max_is : floor ≡ int_max at end = floor_is ∙ (λ i. int_max (at_word i) (end_word i)) in
+    let which : (floor ≡ at) × (end ≤ℤ at) ⊎ (floor ≡ end) × (at ≤ℤ floor) = by_lt_z {P = (floor ≡ at) × (end ≤ℤ at) ⊎ (floor ≡ end) × (at ≤ℤ floor)} at end
+    (λ less. let is : floor ≡ end = max_is ∙ max_right at end (omega (arith, ints)) in inr (is, omega (arith, ints)))
+    (λ more. inl (max_is ∙ max_left at end more, more)) in
+    let floor_word : to_z w64 (of_z w64 floor) ≡ floor = ⊎_elim (λ (p : (floor ≡ at) × (end ≤ℤ at)). let e = p.0 in omega (arith, ints)) (λ (p : (floor ≡ end) × (at ≤ℤ floor)). let e = p.0 in omega (arith, ints)) which in
+    subst (λ (x : Allocator × ℕ × ℤ × ℤ). Lost here x.0 x.1 records x.2 x.3) (λ i. (here_is i, n_is i, sym at_word i, sym floor_word i)) (lost_at here n records at floor sound flushed few k which)

@@ -1,0 +1,51 @@
+use Rattle.std.proofs.Common.{ap, ◌∙◌, pos}
+use Rattle.ent_shared.specs.Phase.{Shared}
+use Rattle.ent_shared.proofs.Closing.{ended, Ended}
+use Rattle.ent_shared.proofs.Gathering.{owns, length-owns}
+use Rattle.ent_shared.proofs.shared.Shared.close.Goals as goal
+use Rattle.std.proofs.Common.{to_z, of_z, w64}
+
+-- what is known before the allocator is settled, and after it
+known : (c : goal.After-entities-2-1) → Ended c.self.inside.entities c.args.self.start (owns c.args.reservers.items) (to_z w64 (of_z w64 c.gather-cursor.result.0)) (to_z w64 (of_z w64 c.gather-cursor.result.1))
+known c =
+    let phase = c.self.invariant in
+    ended c.self.inside.entities c.args.self.start c.self.inside.count c.args.self.count c.self.inside.word.shared.key (owns c.args.reservers.items) c.gather-cursor.result.0 c.gather-cursor.result.1 c.from.result
+    phase.begins phase.sound phase.few phase.key_is (ap (λ (s : Shared). s.start) c.self.view_is) (ap (λ (s : Shared). s.count) c.self.view_is)
+    (length-owns c.args.reservers.items ∙ c.requires.all) c.gather-cursor.ensures.cursor (c.from.ensures ∙ ap pos c.top.ensures) c.gather-cursor.ensures.floor
+
+after : (c : goal.After-settle) → Ended c.self.inside.entities c.args.self.start (owns c.args.reservers.items) (to_z w64 (of_z w64 c.gather-cursor.result.0)) (to_z w64 (of_z w64 c.gather-cursor.result.1))
+after c =
+    let phase = c.self.invariant in
+    ended c.self.inside.entities c.args.self.start c.self.inside.count c.args.self.count c.self.inside.word.shared.key (owns c.args.reservers.items) c.gather-cursor.result.0 c.gather-cursor.result.1 c.from.result
+    phase.begins phase.sound phase.few phase.key_is (ap (λ (s : Shared). s.start) c.self.view_is) (ap (λ (s : Shared). s.count) c.self.view_is)
+    (length-owns c.args.reservers.items ∙ c.requires.all) c.gather-cursor.ensures.cursor (c.from.ensures ∙ ap pos c.top.ensures) c.gather-cursor.ensures.floor
+
+pub settle-requires-clause-least : goal.settle-requires-clause-least
+settle-requires-clause-least c = (known c).least
+
+pub settle-requires-clause-greatest : goal.settle-requires-clause-greatest
+settle-requires-clause-greatest c = (known c).greatest
+
+pub settle-requires-clause-ordered : goal.settle-requires-clause-ordered
+settle-requires-clause-ordered c = (known c).ordered
+
+pub settle-requires-clause-reachable : goal.settle-requires-clause-reachable
+settle-requires-clause-reachable c = (known c).reachable
+
+pub settle-requires-clause-all_given : goal.settle-requires-clause-all_given
+settle-requires-clause-all_given c = (known c).all_given
+
+pub returns-clause-legal : goal.returns-clause-legal
+returns-clause-legal c = (after c).is_legal
+
+pub returns-clause-respects : goal.returns-clause-respects
+returns-clause-respects c = (after c).respects
+
+pub returns-clause-after : goal.returns-clause-after
+returns-clause-after c = c.settle.ensures ∙ (after c).after
+
+pub returns-clause-distinct : goal.returns-clause-distinct
+returns-clause-distinct c = (after c).all_distinct
+
+pub returns-clause-not_live : goal.returns-clause-not_live
+returns-clause-not_live c = (after c).none_live

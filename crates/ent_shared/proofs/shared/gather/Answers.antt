@@ -1,0 +1,57 @@
+use Rattle.std.proofs.Common.{◌≡◌, w64, to_z, of_z, List, [], ◌∷◌, arith, sym, ap, subst, ◌∙◌}
+use Rattle.std.proofs.lemmas.Int.{ints, to_z-of_z}
+use Rattle.ent_shared.specs.declared.record.Record.{Record}
+use Rattle.ent_shared.specs.Phase.{Reserver, own_of}
+use Rattle.ent_shared.specs.Rule.{IsClosed, least_floor}
+use Rattle.ent_shared.proofs.Gathering.{item_is, items_on, items_all, records_on, floor_on, owns, nothing_left}
+use Rattle.ent_shared.proofs.shared.gather.Goals as goal
+
+pub gather-requires-clause-word : goal.gather-requires-clause-word
+gather-requires-clause-word c =
+    let i = c.loop-reserver.invariant in
+    let own = item_is (λ (r : Reserver). r.word ≡ c.args.word.shared.table_id) c.args.reservers.items c.loop-reserver.yielded c.loop-reserver.reserver-iterator.rest.items c.next.new.self.rest.items c.in-Some.reserver i.all c.in-Some.ensures.steps.0 c.requires.own in
+    (c.requires.word.0, i.seat, ap (λ (r : Reserver). r.word) c.reserver.view_is ∙ own, i.bare)
+
+pub loop-reserver-preserved : goal.loop-reserver-preserved
+loop-reserver-preserved c =
+    let i = c.loop-reserver.invariant in
+    let view = c.reserver.invariant in
+    record {
+      all = items_on c.args.reservers.items c.loop-reserver.yielded c.loop-reserver.reserver-iterator.rest.items c.next.new.self.rest.items c.in-Some.reserver i.all c.in-Some.ensures.steps.0;
+      seat = c.gather.ensures.kept ∙ i.seat;
+      bare = c.gather.ensures.gathers.0;
+      records =
+          records_on c.loop-reserver.all.me.0 c.gather.new.all.me.0 c.loop-reserver.yielded c.in-Some.reserver (own_of c.reserver.inside.badge.views ∷ []) i.records
+          (c.gather.ensures.gathers.1 (own_of c.reserver.inside.badge.views ∷ []) view.views_is) (ap (λ (r : Reserver). r.own ∷ []) c.reserver.view_is);
+      floor =
+          let fits = c.min-floor.type_inv in
+          let ranges = c.reserver.ranges in
+          let after : to_z w64 (of_z w64 c.min-floor.result) ≡ c.min-floor.result = omega (arith, ints) in
+          let own : to_z w64 (of_z w64 c.reserver.inside.floor) ≡ c.reserver.inside.floor = omega (arith, ints) in
+          floor_on (to_z w64 (of_z w64 c.args.top)) (to_z w64 c.loop-reserver.floor-bits) (to_z w64 (of_z w64 c.min-floor.result)) (to_z w64 (of_z w64 c.reserver.inside.floor)) c.loop-reserver.yielded c.in-Some.reserver i.floor
+          (after ∙ c.min-floor.ensures.value)
+          (own ∙ (view.floor_is ∙ ap (λ (r : Reserver). r.own.floor) c.reserver.view_is));
+    }
+
+pub close-requires : goal.close-requires
+close-requires c = record { word = (c.requires.word.0, c.requires.word.1, c.loop-reserver.invariant.seat) }
+
+-- all that were handed in were taken in
+all_in : (c : goal.After-close) → c.loop-reserver.yielded ≡ c.args.reservers.items
+all_in c =
+    let ok = c.loop-reserver.reserver-iterator.rest.ok in
+    items_all c.args.reservers.items c.loop-reserver.yielded c.loop-reserver.reserver-iterator.rest.items c.loop-reserver.invariant.all (nothing_left c.loop-reserver.reserver-iterator.rest.items (sym ok.0 ∙ c.in-None.ensures.steps.0))
+
+pub returns-clause-cursor : goal.returns-clause-cursor
+returns-clause-cursor c =
+    let i = c.loop-reserver.invariant in
+    let records : c.loop-reserver.all.me.0 ≡ owns c.args.reservers.items = i.records ∙ ap owns (all_in c) in
+    let fits = c.close.type_inv in
+    let at : to_z w64 (of_z w64 c.close.result) ≡ c.close.result = omega (arith, ints) in
+    rw at (subst (λ (rs : List Record). IsClosed c.args.word.shared.key.entities c.args.word.shared.key.count rs c.close.result) records c.close.ensures)
+
+pub returns-clause-floor : goal.returns-clause-floor
+returns-clause-floor c =
+    let i = c.loop-reserver.invariant in
+    let top : to_z w64 (of_z w64 c.args.top) ≡ c.args.top = to_z-of_z w64 c.args.top c.ranges.top in
+    i.floor ∙ (λ k. least_floor (top k) (owns (all_in c k)))

@@ -1,0 +1,6 @@
+pub mod Record
+pub mod Moves
+pub mod Rule
+pub mod Phase
+pub mod Order
+pub mod Replies

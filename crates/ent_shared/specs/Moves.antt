@@ -1,0 +1,18 @@
+-- How records move from seat to seat, and what a meeting adds.
+use Rattle.std.specs.Prelude.{List, [], ◌∷◌, ◌++◌}
+use Rattle.std.specs.Int.{int_min}
+use Rattle.ent_shared.specs.declared.record.Record.{Record}
+use Rattle.ent_shared.specs.declared.record.Entry.TheVariants.{Met}
+use Rattle.ent_shared.specs.Record.{known_calls}
+
+-- the record of a reserver that meets another one
+abbrev pub after_meeting : Record → Record → Record
+after_meeting r met = record r {
+  entries = r.entries ++ Met (known_calls met.entries) ∷ [];
+  mark = int_min r.mark met.mark;
+}
+
+-- two seats in one, of which the first one's reserver has met the second one's
+abbrev pub met_in : List Record → List Record → List Record
+met_in (r ∷ rs) (met ∷ others) = after_meeting r met ∷ met ∷ others
+met_in rs others = rs ++ others

@@ -1,0 +1,62 @@
+-- What contracts see of a shared allocator and of its reservers.
+use Rattle.std.specs.Prelude.{◌≡◌, ℕ, ◌≤◌, ℤ, pos, List, [], ◌∷◌, take, drop, refl}
+use Rattle.std.specs.Coded.{Coded, code_by, coded×, coded_ℕ}
+use Rattle.atomic_table.specs.Seated.{TableId, table_id_coded}
+use Rattle.ent_alloc.specs.Sequential.{Allocator, allocator_code, opening}
+use Rattle.ent_alloc.specs.Sound.{IsSound}
+use Rattle.ent_shared.specs.contracts.record.Record as recorded
+use Rattle.ent_shared.specs.declared.record.Record.{Record}
+use Rattle.ent_shared.specs.declared.rule.Opening.{Opening}
+use Rattle.ent_shared.specs.Rule.{IsStart}
+
+-- which word it is, the allocator as it was shared, and how many reservers there are
+pub record Shared : Type 0 where
+  pub word : TableId
+  pub start : Allocator
+  pub count : ℕ
+
+-- which word it draws from, and what it has done
+pub record Reserver : Type 0 where
+  pub word : TableId
+  pub own : Record
+
+abbrev pub shared_code : Coded Shared
+shared_code =
+    code_by (TableId × (Allocator × ℕ)) (coded× table_id_coded (coded× allocator_code coded_ℕ)) (λ s. (s.word, (s.start, s.count)))
+    (λ p. record { word = p.0; start = p.1.0; count = p.1.1 }) (λ _. refl)
+
+abbrev pub reserver_code : Coded Reserver
+reserver_code = code_by (TableId × Record) (coded× table_id_coded recorded.the_row.coded) (λ r. (r.word, r.own)) (λ p. record { word = p.0; own = p.1 }) (λ _. refl)
+
+-- the reserver is one of those that came with this allocator
+abbrev pub IsOf : Shared → Reserver → Type 0
+IsOf shared r = (r.word ≡ shared.word) × (r.own.start ≡ shared.start)
+
+-- no reserver's record
+abbrev pub blank : Record
+blank = record { start = opening (record { slots = 0; generations = 0 }); number = 0; entries = []; left = 0; mark = pos 0; floor = pos 0 }
+
+-- the one record of what a badge knows
+abbrev pub own_of : List (List Record) → Record
+own_of ((r ∷ rs) ∷ views) = r
+own_of _ = blank
+
+-- A reserver's fields say what its record says.
+pub record IsSeated (views : List (List Record)) (number left : ℕ) (floor : ℤ) : Type 0 where
+  pub views_is : views ≡ (own_of views ∷ []) ∷ []
+  pub number_is : number ≡ (own_of views).number
+  pub left_is : left ≡ (own_of views).left
+  pub floor_is : floor ≡ (own_of views).floor
+
+-- the allocator lies unchanged beside the word
+pub record IsPhase (start : Allocator) (count : ℕ) (key : Opening) (word : TableId) : Type 0 where
+  pub begins : IsStart start
+  pub sound : IsSound start
+  pub few : count ≤ 1024
+  pub key_is : key ≡ record { entities = start; count = count }
+  pub words : word.words ≡ 1
+  pub slots : word.slots ≡ 0
+
+-- an allocator of which so much was asked, where the front of the pool counts as reserved, as far as it goes
+abbrev pub after_loss : Allocator → ℕ → Allocator
+after_loss s asked = record s { taken = take asked s.pool; aside = []; pool = drop asked s.pool; asked = asked }

@@ -1,0 +1,16 @@
+//! Reservation by many threads at once: one atomic word counts down, and each caller draws from it through a shared reference.
+#![tactic(auto)]
+
+mod phase;
+mod record;
+mod refused;
+mod reserver;
+mod rule;
+mod shared;
+mod word;
+
+pub use phase::share;
+pub use record::{Call, Entry, Record};
+pub use refused::Refused;
+pub use reserver::Reserver;
+pub use shared::Shared;

@@ -1,0 +1,46 @@
+ghost use Rattle.std.specs.Prelude.{◌≡◌, ◌<◌, ◌≤◌, map, All, IfOk, IfErr};
+ghost use Rattle.ent_shared.specs.Record.{opened_records};
+ghost use Rattle.ent_shared.specs.Phase.{IsOf};
+
+use crate::reserver::Reserver;
+use crate::rule::Opening;
+use crate::shared::Shared;
+use crate::word;
+use ent_alloc::Entities;
+use ent_handle::Memory;
+use std::alloc::Global;
+
+/// Shares an allocator with so many reservers, each of which has all its credit.
+///
+/// # Errors
+///
+/// `Memory`, and then the allocator comes back as it was.
+pub fn share(
+    alloc: Global,
+    entities: Entities,
+    n: usize,
+) -> Result<(Shared, Vec<Reserver>), (Entities, Memory)>
+    requires flushed { entities.asked ≡ 0 }
+    requires some { 0 < n }
+    requires few { n ≤ 1024 }
+    ensures shared { IfOk result (λ made. (made.0.start ≡ entities) × (made.0.count ≡ n)) }
+    ensures reservers { IfOk result (λ made. map (λ r. r.own) made.1.items ≡ opened_records entities 0 n) }
+    ensures own { IfOk result (λ made. All (IsOf made.0) made.1.items) }
+    ensures err { IfErr result (λ refused. refused.0 ≡ entities) }
+{
+    let mut reservers = match Vec::with_capacity(alloc, n) {
+        Ok(reservers) => reservers,
+        Err(_) => return Err((entities, Memory)),
+    };
+    let top = i64::from(entities.top());
+    let opening = Opening { entities, count: n };
+    let Ok((word, mut all)) = word::open(alloc, &opening) else {
+        let Opening { entities, .. } = opening;
+        return Err((entities, Memory));
+    };
+    for number in 0..n {
+        reservers.push_reserved(Reserver::new(word::deal(&word, &mut all), number, top));
+    }
+    let Opening { entities, count } = opening;
+    Ok((Shared::new(entities, word, count), reservers))
+}

@@ -1,0 +1,17 @@
+/// Why a reservation gave no handle.
+#[derive(Clone, Copy, Debug, PartialEq, Eq)]
+pub enum Refused {
+    /// The pool had fewer handles than were wished for. The wish is taken from the reserver's credit, and the pool
+    /// gives no more until the next flush.
+    Space {
+        /// How many handles were wished for.
+        wanted: u32,
+        /// How many the pool still had.
+        left: u32,
+    },
+    /// The wish was above the reserver's credit. Nothing has changed.
+    Quota {
+        /// The credit that is left.
+        left: u64,
+    },
+}

@@ -1,0 +1,61 @@
+ghost use Rattle.std.specs.Prelude.{◌≡◌};
+
+use crate::rule::View;
+use atomic_table::Badge;
+use std::marker::Model;
+
+/// How many handles a reserver may wish for in one phase.
+const CREDIT: u64 = 1 << 40;
+
+/// The right of one caller to reserve from a shared allocator, and what is left of its credit.
+#[derive(Drop)]
+pub struct Reserver {
+    pub(crate) badge: Badge<View>,
+    pub(crate) number: usize,
+    pub(crate) left: u64,
+    pub(crate) floor: i64,
+}
+
+impl Model for Reserver {
+    ghost use Rattle.ent_shared.specs.Phase.{Reserver, reserver_code, own_of, IsSeated};
+
+    ghost Value = { Reserver };
+
+    ghost coded = { reserver_code };
+
+    ghost view = { λ r. record { word = r.badge.table_id; own = own_of r.badge.views } };
+
+    ghost invariant = { λ r. IsSeated r.badge.views r.number r.left r.floor };
+}
+
+impl Reserver {
+    ghost use Rattle.std.specs.Prelude.{◌≡◌};
+    ghost use Rattle.ent_shared.specs.Record.{credit};
+    ghost use Rattle.ent_shared.specs.Phase.{own_of, IsSeated};
+
+    pub(crate) fn new(badge: Badge<View>, number: usize, floor: i64) -> Self
+        requires { IsSeated badge.views number credit floor }
+        ensures { result ≡ record { word = badge.table_id; own = own_of badge.views } }
+    {
+        Reserver {
+            badge,
+            number,
+            left: CREDIT,
+            floor,
+        }
+    }
+
+    /// Its place in the list that `share` gave.
+    pub fn number(&self) -> usize
+        ensures { result ≡ self.now.own.number }
+    {
+        self.number
+    }
+
+    /// How many handles it may still wish for in this phase.
+    pub fn left(&self) -> u64
+        ensures { result ≡ self.now.own.left }
+    {
+        self.left
+    }
+}

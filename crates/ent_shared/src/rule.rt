@@ -1,0 +1,78 @@
+//! The rule over the cursor word and the records of all reservers, and what its steps tell.
+ghost use Rattle.ent_shared.specs.Rule.{IsRuled, Draws};
+ghost use Rattle.ent_shared.specs.Record.{opened_records};
+ghost use Rattle.std.specs.Prelude.{◌≡◌, List, [], ◌∷◌, ◌++◌, take, drop};
+ghost use Rattle.ent_shared.specs.Moves.{met_in};
+
+use crate::record::Record;
+use atomic_table::{Join, Play, Split, TableRule};
+use ent_alloc::Entities;
+use std::collections::LinkedList;
+
+/// What a seat knows: the records of the reservers that it stands for.
+pub(crate) type View = LinkedList<Record>;
+
+/// What a phase begins with.
+#[derive(Drop)]
+pub(crate) struct Opening {
+    pub(crate) entities: Entities,
+    pub(crate) count: usize,
+}
+
+pub(crate) struct Cursor;
+
+impl TableRule<(), View, Opening> for Cursor {
+    ghost holds = { λ opening. IsRuled opening.entities opening.count };
+
+    ghost first = { λ opening. opened_records opening.entities 0 opening.count };
+}
+
+/// A reservation.
+pub(crate) struct Draw;
+
+impl Play<(), View> for Draw {
+    ghost then = { λ step before found after. Draws step.first before found after };
+}
+
+/// A seat that has no record yet.
+pub(crate) struct Enter;
+
+impl Play<(), View> for Enter {
+    ghost then = { λ step before found after. after.0 ≡ [] };
+}
+
+/// The first record goes to a seat of its own.
+pub(crate) struct Deal;
+
+impl Split<View> for Deal {
+    ghost left = { λ records. drop 1 records };
+
+    ghost right = { λ records. take 1 records };
+}
+
+/// All records in one seat.
+pub(crate) struct Gather;
+
+impl Join<View> for Gather {
+    ghost both = { λ some others. some ++ others };
+
+    ghost spent = { [] };
+}
+
+/// The first one meets the second.
+pub(crate) struct Meet;
+
+impl Join<View> for Meet {
+    ghost both = { met_in };
+
+    ghost spent = { [] };
+}
+
+/// The one that was met goes back to a seat of its own.
+pub(crate) struct Part;
+
+impl Split<View> for Part {
+    ghost left = { λ records. take 1 records };
+
+    ghost right = { λ records. drop 1 records };
+}

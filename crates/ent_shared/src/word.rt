@@ -1,0 +1,102 @@
+//! The cursor as one atomic word: what each kind of step does to the word and to the records.
+ghost use Rattle.std.specs.Prelude.{◌≡◌, ℕ, ℤ, pos, ◌+ℤ◌, ◌-ℤ◌, ◌≤ℤ◌, ◌<ℤ◌, ◌<◌, ◌≤◌, ◌+◌, ◌-◌, ◌^◌, ◌*◌, List, [], ◌∷◌, ◌++◌, length, take, drop, IfOk};
+ghost use Rattle.ent_alloc.specs.Sequential.{cursor};
+ghost use Rattle.ent_shared.specs.Record.{opened_records, after_call};
+ghost use Rattle.ent_shared.specs.Rule.{IsStart, IsClosed};
+ghost use Rattle.ent_shared.specs.declared.record.Record.{Record};
+ghost use Rattle.ent_shared.specs.Moves.{after_meeting};
+ghost use Rattle.ent_shared.specs.Phase.{own_of, IsPhase};
+
+use crate::rule::{Cursor, Deal, Draw, Enter, Gather, Meet, Opening, Part, View};
+use atomic_table::{Badge, Seat, Table};
+use std::alloc::{AllocError, Global};
+use std::mem;
+
+/// What is added to the cursor, so that the word is never negative.
+const OFFSET: i64 = 1 << 62;
+
+pub(crate) type Word = Table<(), View, Opening, Cursor, Global>;
+
+pub(crate) type Place = Seat<(), View>;
+
+/// A word at the cursor of the allocator, and the seat of all its records.
+pub(crate) fn open(alloc: Global, opening: &Opening) -> Result<(Word, Place), AllocError>
+    requires start { IsStart opening.now.entities }
+    requires count { opening.now.count ≤ 1024 }
+    ensures word { IfOk result (λ made. IsPhase opening.now.entities opening.now.count made.0.shared.key made.0.shared.table_id) }
+    ensures seat { IfOk result (λ made. (made.1.table_id ≡ made.0.shared.table_id) × (made.1.me ≡ (opened_records opening.now.entities 0 opening.now.count, []))) }
+{
+    let cursor = opening.entities.cursor();
+    Table::of_words(alloc, &[(cursor + OFFSET) as u64], opening)
+}
+
+/// A seat of its own for the first record.
+pub(crate) fn deal(word: &Word, all: &mut Place) -> Badge<View>
+    requires word { (word.now.shared.table_id.words ≡ 1) × (all.old.table_id ≡ word.now.shared.table_id) × (all.old.me.1 ≡ []) }
+    ensures kept { (all.new.table_id ≡ all.old.table_id) × (all.new.me ≡ (drop 1 all.old.me.0, [])) }
+    ensures dealt { (result.table_id ≡ all.old.table_id) × (result.views ≡ take 1 all.old.me.0 ∷ []) }
+{
+    word.shared.split_seat::<Deal>(all).into_badge()
+}
+
+/// The reservation step: the word goes down by `n`, and the old cursor is answered.
+pub(crate) fn draw(word: &Word, badge: &mut Badge<View>, n: u32) -> i64
+    requires word { (word.now.shared.table_id.words ≡ 1) × (badge.old.table_id ≡ word.now.shared.table_id) }
+    requires alone { badge.old.views ≡ (own_of badge.old.views ∷ []) ∷ [] }
+    requires some { 0 < n }
+    requires credit { n ≤ (own_of badge.old.views).left }
+    ensures same { badge.new.table_id ≡ badge.old.table_id }
+    ensures gains { badge.new.views ≡ (after_call (own_of badge.old.views) result n ∷ []) ∷ [] }
+    ensures mark { result ≤ℤ (own_of badge.old.views).mark }
+    ensures least { (pos 0 -ℤ pos (2 ^ 50)) ≤ℤ result }
+    ensures greatest { result ≤ℤ cursor (own_of badge.old.views).start }
+{
+    let mut seat = mem::replace(badge, Badge::blank()).into_seat();
+    let found = word.shared.fetch_sub::<Draw>(&mut seat, 0, n.into());
+    *badge = seat.into_badge();
+    found as i64 - OFFSET
+}
+
+/// The meeting step: the first one's record lists what the second one has made and met.
+pub(crate) fn meet(word: &Word, a: &mut Badge<View>, b: &mut Badge<View>)
+    requires word { (word.now.shared.table_id.words ≡ 1) × (a.old.table_id ≡ word.now.shared.table_id) × (b.old.table_id ≡ word.now.shared.table_id) }
+    requires first { a.old.views ≡ (own_of a.old.views ∷ []) ∷ [] }
+    requires second { b.old.views ≡ (own_of b.old.views ∷ []) ∷ [] }
+    ensures same { (a.new.table_id ≡ a.old.table_id) × (b.new.table_id ≡ b.old.table_id) }
+    ensures meets { a.new.views ≡ (after_meeting (own_of a.old.views) (own_of b.old.views) ∷ []) ∷ [] }
+    ensures met { b.new.views ≡ b.old.views }
+{
+    let mut seat = mem::replace(a, Badge::blank()).into_seat();
+    let other = mem::replace(b, Badge::blank()).into_seat();
+    word.shared.join_seat::<Meet>(&mut seat, other);
+    *b = word.shared.split_seat::<Part>(&mut seat).into_badge();
+    *a = seat.into_badge();
+}
+
+/// A seat that takes in the records of the reservers.
+pub(crate) fn enter(word: &Word) -> Place
+    requires { word.now.shared.table_id.words ≡ 1 }
+    ensures { (result.table_id ≡ word.now.shared.table_id) × (result.me ≡ ([], [])) }
+{
+    word.shared.load_new_seat::<Enter>(0).1
+}
+
+pub(crate) fn gather(word: &Word, all: &mut Place, badge: Badge<View>)
+    requires word { (word.now.shared.table_id.words ≡ 1) × (all.old.table_id ≡ word.now.shared.table_id) × (badge.table_id ≡ word.now.shared.table_id) × (all.old.me.1 ≡ []) }
+    requires one { (records : List Record) × (badge.views ≡ records ∷ []) }
+    ensures kept { all.new.table_id ≡ all.old.table_id }
+    ensures gathers { (all.new.me.1 ≡ []) × ((records : List Record) → badge.views ≡ records ∷ [] → all.new.me.0 ≡ all.old.me.0 ++ records) }
+{
+    word.shared.join_seat::<Gather>(all, badge.into_seat());
+}
+
+/// The cursor at the end, where a seat knows these records.
+pub(crate) fn close(word: Word, all: Place) -> i64
+    requires word { (word.shared.table_id.words ≡ 1) × (word.shared.table_id.slots ≡ 0) × (all.table_id ≡ word.shared.table_id) }
+    ensures { IsClosed word.shared.key.entities word.shared.key.count all.me.0 result }
+{
+    let closed = word.close_with(all);
+    let last = closed.word(0);
+    closed.free();
+    last as i64 - OFFSET
+}
