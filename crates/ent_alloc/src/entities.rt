@@ -63,7 +63,7 @@ impl Entities {
     pub fn is_empty(&self) -> bool
         ensures { IsTrue result ↔ (set.len self.now.live ≡ 0) }
     {
-        self.slots.live() == 0
+        self.len() == 0
     }
 
     /// How many slots have ever had a tenant.
@@ -312,9 +312,9 @@ impl Entities {
         ensures { result ≡ stands_in self.now.taken handle }
     {
         let top = u64::from(self.slots.waiting());
-        let reserved = distance(self.slots.waiting(), self.floor);
-        let kept = top.saturating_sub(reserved) as usize;
-        let fresh = reserved.saturating_sub(top) as u32;
+        let given = distance(self.slots.waiting(), self.floor);
+        let kept = top.saturating_sub(given) as usize;
+        let fresh = given.saturating_sub(top) as u32;
         if self.slots.waits_from(handle, kept) {
             return true;
         }

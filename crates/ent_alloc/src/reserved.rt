@@ -1,6 +1,6 @@
-ghost use Rattle.std.specs.Prelude.{◌≡◌, ◌+◌, ◌-◌, ◌^◌, ◌<◌, ◌≤◌, [], ◌++◌, length, take, drop};
-ghost use Rattle.std.specs.Iterator.{YieldsFirst, item_count};
-ghost use Rattle.ent_alloc.specs.Sequential.{fresh};
+ghost use Rattle.std.specs.Prelude.{◌≡◌, IfSome, length};
+ghost use Rattle.std.specs.Iterator.{YieldsFirst, UpTo, item_count};
+ghost use Rattle.std.specs.Iterator.SizeHint.{IsWithinCount};
 
 use crate::slots::{Slots, first_tenant};
 use ent_handle::Handle;
@@ -80,7 +80,11 @@ impl Iterator for Reserved<'_> {
         None
     }
 
-    fn size_hint(&self) -> (usize, Option<usize>) {
+    fn size_hint(&self) -> (usize, Option<usize>)
+        ensures lower { IsWithinCount result.0 (item_count (λ handles. handles) self.now) }
+        ensures upper { IfSome result.1 (UpTo (item_count (λ handles. handles) self.now)) }
+        ensures exact { result ≡ (length self.now, Some (length self.now)) }
+    {
         let left = self.len();
         (left, Some(left))
     }
