@@ -1,4 +1,4 @@
-ghost use Rattle.std.specs.Prelude.{◌≡◌, ◌≢◌, ◌+◌, ◌<◌, length, vec_len, vec_capacity, ◌∷◌, ◌++◌, ◌↔◌, IfOk, IsSome, IfSome, IfNone, OnOk, OnErr, IsErrOf, All};
+ghost use Rattle.std.specs.Prelude.{◌≡◌, ◌≢◌, ◌+◌, ◌<◌, ◌≤◌, length, vec_len, vec_capacity, ◌∷◌, ◌++◌, ◌↔◌, IfOk, IsSome, IfSome, IfNone, OnOk, OnErr, IsErrOf, All};
 ghost use Rattle.ent_handle.specs.Handle.{Handle as HandleValue, IsHandle};
 ghost use Rattle.ent_handle.specs.Text.{IsDecimal, handle_text, HasHandleForm, written, handle_of};
 
@@ -88,6 +88,7 @@ impl Handle {
         ensures ok { OnOk result (out.new.items ≡ out.old.items ++ handle_text self.now) }
         ensures err { OnErr result (out.new.items ≡ out.old.items) }
         ensures full { OnErr result (vec_capacity out.old < vec_len out.old + length (handle_text self.now)) }
+        ensures capacity { vec_capacity out.old ≤ vec_capacity out.new }
     {
         let mut index = Buffer::new();
         let index = index.format(self.index()).as_bytes();
