@@ -1,0 +1,5 @@
+pub mod OutcomeLemmas
+pub mod ScheduleEvents
+pub mod ScheduleLaws
+pub mod ScheduleLoop
+pub mod ScheduleWords

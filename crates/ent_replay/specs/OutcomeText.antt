@@ -1,0 +1,54 @@
+-- The line of each outcome and of each fault.
+use Rattle.std.specs.Prelude.{ℕ, Bool, List, [], ◌∷◌, ◌++◌, map, if◌then◌else◌, codes, Result, Ok, Err}
+use Rattle.std.specs.Fmt.{decimal, signed_decimal}
+use Rattle.std.specs.List.{flat_map, join_with_byte}
+use Rattle.ent_handle.specs.Handle.{Handle}
+use Rattle.ent_handle.specs.Text.{handle_text}
+use Rattle.ent_replay.specs.declared.outcome.Outcome.{Outcome}
+use Rattle.ent_replay.specs.declared.outcome.Outcome.TheVariants as outcomes
+use Rattle.ent_replay.specs.declared.fault.ReplayFault.{ReplayFault}
+use Rattle.ent_replay.specs.declared.fault.ReplayFault.TheVariants as faults
+
+-- handles with one space between
+abbrev pub handles_text : List Handle → List ℕ
+handles_text handles = join_with_byte 32 (map handle_text handles)
+
+-- a space before each handle
+abbrev pub spaced : List Handle → List ℕ
+spaced handles = flat_map (λ h. 32 ∷ handle_text h) handles
+
+abbrev pub born_text : List Handle → List ℕ
+born_text handles = codes "born" ++ spaced handles
+
+abbrev pub freed_text : Handle → Handle → Bool → List ℕ
+freed_text handle next wrapped = codes "freed " ++ handle_text handle ++ codes " next " ++ handle_text next ++ (if wrapped then codes " wrapped" else [])
+
+abbrev pub space_text : ℕ → ℕ → List ℕ
+space_text wanted left = codes "space wanted " ++ decimal wanted ++ codes " left " ++ decimal left
+
+abbrev pub outcome_text : Outcome → List ℕ
+outcome_text (outcomes.Handle h) = handle_text h
+outcome_text outcomes.NeedsFlush = codes "needs flush"
+outcome_text (outcomes.Freed handle next wrapped) = freed_text handle next wrapped
+outcome_text outcomes.NotAlive = codes "not alive"
+outcome_text (outcomes.Born handles) = born_text handles
+outcome_text outcomes.Open = codes "open"
+outcome_text (outcomes.Cursor cursor) = codes "cursor " ++ signed_decimal cursor
+outcome_text (outcomes.Handles handles) = handles_text handles
+outcome_text (outcomes.Space wanted left) = space_text wanted left
+
+-- want of memory has no text: no line is written of it
+abbrev pub fault_text : ReplayFault → List ℕ
+fault_text faults.Busy = codes "busy"
+fault_text faults.NotOpen = codes "not open"
+fault_text faults.AlreadyOpen = codes "already open"
+fault_text faults.NotStepped = codes "not stepped"
+fault_text faults.AlreadyStepped = codes "already stepped"
+fault_text (faults.Quota left) = codes "quota left " ++ decimal left
+fault_text faults.Caller = codes "caller"
+fault_text faults.Memory = []
+
+-- the text, and a line feed
+abbrev pub line_of : Result Outcome ReplayFault → List ℕ
+line_of (Ok outcome) = outcome_text outcome ++ 10 ∷ []
+line_of (Err fault) = fault_text fault ++ 10 ∷ []

@@ -1,0 +1,75 @@
+ghost use Rattle.std.specs.Prelude.{◌≡◌, ◌↔◌, [], length, nat_eq, IsTrue, List};
+ghost use Rattle.std.proofs.Common.{rules};
+ghost use Rattle.std.specs.Cmp.Lexicographic.{pointwise};
+ghost use Rattle.std.specs.Cmp.Rules.{comparing};
+ghost use Rattle.std.specs.Ordering.{eq_of_both, on};
+
+use ent_handle::Handle;
+use std::marker::Model;
+
+/// Handles in order.
+#[derive(Debug, Drop)]
+pub struct HandleList {
+    handles: Vec<Handle>,
+}
+
+impl Model for HandleList {
+    ghost use Rattle.std.specs.Prelude.{List};
+    ghost use Rattle.ent_handle.specs.Handle.{Handle};
+
+    ghost Value = { List Handle };
+
+    ghost view = { λ a. a.handles.items };
+}
+
+impl HandleList {
+    /// The list of these handles. It takes no memory.
+    pub fn new(handles: Vec<Handle>) -> Self
+        ensures { result ≡ handles.items }
+    {
+        HandleList { handles }
+    }
+
+    /// The handles.
+    pub fn as_slice(&self) -> &[Handle]
+        ensures { result.now ≡ self.now }
+    {
+        &self.handles
+    }
+
+    /// How many there are.
+    pub fn len(&self) -> usize
+        ensures { result ≡ length self.now }
+    {
+        self.handles.len()
+    }
+
+    /// Whether there is none.
+    pub fn is_empty(&self) -> bool
+        ensures { IsTrue result ↔ (self.now ≡ []) }
+    {
+        self.handles.is_empty()
+    }
+
+    /// Gives the handles back, with their memory.
+    pub fn into_vec(self) -> Vec<Handle>
+        ensures { result.items ≡ self }
+    {
+        let HandleList { handles } = self;
+        handles
+    }
+}
+
+impl PartialEq for HandleList {
+    ghost eq = { pointwise (eq_of_both (on (λ h. h.index) nat_eq) (on (λ h. h.generation) nat_eq)) };
+
+    ghost laws = { Prim.search (comparing, rules) };
+
+    fn eq(&self, other: &HandleList) -> bool {
+        self.as_slice() == other.as_slice()
+    }
+}
+
+impl Eq for HandleList {
+    ghost laws = { Prim.search (comparing, rules) };
+}

@@ -1,0 +1,37 @@
+use crate::handle_list::HandleList;
+use ent_handle::Handle;
+
+/// What an event that was applied gave.
+#[derive(Debug, PartialEq, Eq, Drop)]
+pub enum Outcome {
+    /// The handle that `Alloc` took.
+    Handle(Handle),
+    /// `Alloc` or `Free` while something was asked since the last flush. Nothing changed.
+    NeedsFlush,
+    /// `Free` gave a handle back.
+    Freed {
+        /// The handle that was freed.
+        handle: Handle,
+        /// The handle that its slot gives next.
+        next: Handle,
+        /// Whether the generation began anew, so that an old handle may name the slot again.
+        wrapped: bool,
+    },
+    /// `Free` of a handle that was not alive. Nothing changed.
+    NotAlive,
+    /// What `Flush` brought to life, in order.
+    Born(HandleList),
+    /// `Begin` opened a call.
+    Open,
+    /// The cursor after a `Step`.
+    Cursor(i64),
+    /// What a served call was given, in order.
+    Handles(HandleList),
+    /// There were too few handles.
+    Space {
+        /// How many were wished.
+        wanted: u32,
+        /// How many were left.
+        left: u32,
+    },
+}

@@ -1,0 +1,78 @@
+ghost use Rattle.std.specs.Prelude.{◌≡◌};
+ghost use Rattle.ent_replay.specs.ScheduleText.{cause_text};
+ghost use Rattle.ent_replay.specs.declared.read_fault.ReadFault.TheVariants.{Memory};
+
+use std::alloc::{AllocError, AllocFailed};
+use std::error::Error;
+use std::fmt;
+
+/// What is wrong with a line: the first of these that is.
+#[derive(Clone, Copy, Debug, PartialEq, Eq, Hash)]
+pub enum Cause {
+    /// The first word names no event.
+    Word,
+    /// There are not as many words as that event has.
+    Count,
+    /// A word for a number is no decimal below 2^32.
+    Number,
+    /// The word for a handle is not the text of one.
+    Handle,
+}
+
+impl Cause {
+    /// The word that names it: `word`, `count`, `number` or `handle`.
+    pub fn text(self) -> &'static str
+        ensures { result.now ≡ cause_text self }
+    {
+        match self {
+            Cause::Word => "word",
+            Cause::Count => "count",
+            Cause::Number => "number",
+            Cause::Handle => "handle",
+        }
+    }
+}
+
+/// Why a text is no schedule, or could not be read.
+#[derive(Clone, Copy, Debug, PartialEq, Eq, Hash)]
+pub enum ReadFault {
+    /// The first line that names no event.
+    Line {
+        /// Its number, from 1.
+        line: usize,
+        /// What is wrong with it.
+        cause: Cause,
+    },
+    /// Memory ran out.
+    Memory,
+}
+
+impl fmt::Display for ReadFault {
+    fn fmt<W: fmt::Write>(&self, f: &mut fmt::Formatter<W>) -> fmt::Result {
+        match self {
+            ReadFault::Line { line, cause } => {
+                let cause = cause.text();
+                write!(f, "line {line}: {cause}")
+            }
+            ReadFault::Memory => f.write_str("out of memory"),
+        }
+    }
+}
+
+impl Error for ReadFault {}
+
+impl From<AllocError> for ReadFault {
+    ghost from_gives = { λ _ fault. fault ≡ Memory };
+
+    fn from(_refused: AllocError) -> Self {
+        ReadFault::Memory
+    }
+}
+
+impl<T: Drop> From<AllocFailed<T>> for ReadFault {
+    ghost from_gives = { λ _ fault. fault ≡ Memory };
+
+    fn from(_refused: AllocFailed<T>) -> Self {
+        ReadFault::Memory
+    }
+}

@@ -1,0 +1,177 @@
+ghost use Rattle.std.specs.Prelude.{◌≡◌, ◌≢◌, ◌+◌, ◌<◌, ◌≤◌, ◌++◌, Err, length, take, vec_len, vec_capacity, OnOk, OnErr};
+ghost use Rattle.ent_replay.specs.OutcomeText.{spaced, handles_text, born_text, freed_text, space_text, outcome_text, fault_text, line_of};
+
+use crate::fault::ReplayFault;
+use crate::handle_list::HandleList;
+use crate::outcome::Outcome;
+use ent_handle::{Handle, Memory};
+use itoa::{Buffer, Integer};
+
+fn append(out: &mut Vec<u8>, text: &[u8]) -> Result<(), Memory>
+    ensures ok { OnOk result (out.new.items ≡ out.old.items ++ text.now) }
+    ensures err { OnErr result (out.new.items ≡ out.old.items) }
+    ensures full { OnErr result (vec_capacity out.old < vec_len out.old + length text.now) }
+    ensures capacity { vec_capacity out.old ≤ vec_capacity out.new }
+{
+    Ok(out.extend_from_slice(text)?)
+}
+
+fn append_number<N: Integer>(out: &mut Vec<u8>, number: N) -> Result<(), Memory>
+    ensures ok { OnOk result (out.new.items ≡ out.old.items ++ N.text number) }
+    ensures err { OnErr result (out.new.items ≡ out.old.items) }
+    ensures full { OnErr result (vec_capacity out.old < vec_len out.old + length (N.text number)) }
+    ensures capacity { vec_capacity out.old ≤ vec_capacity out.new }
+{
+    append(out, Buffer::new().format(number).as_bytes())
+}
+
+/// Appends a space before each handle.
+fn append_spaced(out: &mut Vec<u8>, handles: &[Handle]) -> Result<(), Memory>
+    ensures ok { OnOk result (out.new.items ≡ out.old.items ++ spaced handles.now) }
+    ensures kept { OnErr result (take (vec_len out.old) out.new.items ≡ out.old.items) }
+    ensures full { OnErr result (vec_capacity out.old < vec_len out.old + length (spaced handles.now)) }
+    ensures capacity { vec_capacity out.old ≤ vec_capacity out.new }
+{
+    for handle in handles {
+        append(out, b" ")?;
+        handle.write_text(out)?;
+    }
+    Ok(())
+}
+
+fn write_handles(out: &mut Vec<u8>, handles: &HandleList) -> Result<(), Memory>
+    ensures ok { OnOk result (out.new.items ≡ out.old.items ++ handles_text handles.now) }
+    ensures kept { OnErr result (take (vec_len out.old) out.new.items ≡ out.old.items) }
+    ensures full { OnErr result (vec_capacity out.old < vec_len out.old + length (handles_text handles.now)) }
+    ensures capacity { vec_capacity out.old ≤ vec_capacity out.new }
+{
+    let Some((first, others)) = handles.as_slice().split_first() else {
+        return Ok(());
+    };
+    first.write_text(out)?;
+    append_spaced(out, others)
+}
+
+fn write_born(out: &mut Vec<u8>, handles: &HandleList) -> Result<(), Memory>
+    ensures ok { OnOk result (out.new.items ≡ out.old.items ++ born_text handles.now) }
+    ensures kept { OnErr result (take (vec_len out.old) out.new.items ≡ out.old.items) }
+    ensures full { OnErr result (vec_capacity out.old < vec_len out.old + length (born_text handles.now)) }
+    ensures capacity { vec_capacity out.old ≤ vec_capacity out.new }
+{
+    append(out, b"born")?;
+    append_spaced(out, handles.as_slice())
+}
+
+fn write_freed(out: &mut Vec<u8>, handle: Handle, next: Handle, wrapped: bool) -> Result<(), Memory>
+    ensures ok { OnOk result (out.new.items ≡ out.old.items ++ freed_text handle next wrapped) }
+    ensures kept { OnErr result (take (vec_len out.old) out.new.items ≡ out.old.items) }
+    ensures full { OnErr result (vec_capacity out.old < vec_len out.old + length (freed_text handle next wrapped)) }
+    ensures capacity { vec_capacity out.old ≤ vec_capacity out.new }
+{
+    append(out, b"freed ")?;
+    handle.write_text(out)?;
+    append(out, b" next ")?;
+    next.write_text(out)?;
+    if wrapped {
+        append(out, b" wrapped")?;
+    }
+    Ok(())
+}
+
+fn write_space(out: &mut Vec<u8>, wanted: u32, left: u32) -> Result<(), Memory>
+    ensures ok { OnOk result (out.new.items ≡ out.old.items ++ space_text wanted left) }
+    ensures kept { OnErr result (take (vec_len out.old) out.new.items ≡ out.old.items) }
+    ensures full { OnErr result (vec_capacity out.old < vec_len out.old + length (space_text wanted left)) }
+    ensures capacity { vec_capacity out.old ≤ vec_capacity out.new }
+{
+    append(out, b"space wanted ")?;
+    append_number(out, wanted)?;
+    append(out, b" left ")?;
+    append_number(out, left)
+}
+
+fn write_text(outcome: &Outcome, out: &mut Vec<u8>) -> Result<(), Memory>
+    ensures ok { OnOk result (out.new.items ≡ out.old.items ++ outcome_text outcome.now) }
+    ensures kept { OnErr result (take (vec_len out.old) out.new.items ≡ out.old.items) }
+    ensures full { OnErr result (vec_capacity out.old < vec_len out.old + length (outcome_text outcome.now)) }
+    ensures capacity { vec_capacity out.old ≤ vec_capacity out.new }
+{
+    match outcome {
+        Outcome::Handle(handle) => handle.write_text(out),
+        Outcome::NeedsFlush => append(out, b"needs flush"),
+        Outcome::Freed {
+            handle,
+            next,
+            wrapped,
+        } => write_freed(out, *handle, *next, *wrapped),
+        Outcome::NotAlive => append(out, b"not alive"),
+        Outcome::Born(handles) => write_born(out, handles),
+        Outcome::Open => append(out, b"open"),
+        Outcome::Cursor(cursor) => {
+            append(out, b"cursor ")?;
+            append_number(out, *cursor)
+        }
+        Outcome::Handles(handles) => write_handles(out, handles),
+        Outcome::Space { wanted, left } => write_space(out, *wanted, *left),
+    }
+}
+
+fn write_fault(fault: ReplayFault, out: &mut Vec<u8>) -> Result<(), Memory>
+    requires { fault ≢ ReplayFault.Memory }
+    ensures ok { OnOk result (out.new.items ≡ out.old.items ++ fault_text fault) }
+    ensures kept { OnErr result (take (vec_len out.old) out.new.items ≡ out.old.items) }
+    ensures full { OnErr result (vec_capacity out.old < vec_len out.old + length (fault_text fault)) }
+    ensures capacity { vec_capacity out.old ≤ vec_capacity out.new }
+{
+    match fault {
+        ReplayFault::Busy => append(out, b"busy"),
+        ReplayFault::NotOpen => append(out, b"not open"),
+        ReplayFault::AlreadyOpen => append(out, b"already open"),
+        ReplayFault::NotStepped => append(out, b"not stepped"),
+        ReplayFault::AlreadyStepped => append(out, b"already stepped"),
+        ReplayFault::Quota { left } => {
+            append(out, b"quota left ")?;
+            append_number(out, left)
+        }
+        ReplayFault::Caller => append(out, b"caller"),
+        ReplayFault::Memory => unreachable!(),
+    }
+}
+
+fn write_line(outcome: &Result<Outcome, ReplayFault>, out: &mut Vec<u8>) -> Result<(), Memory>
+    requires { outcome.now ≢ Err ReplayFault.Memory }
+    ensures ok { OnOk result (out.new.items ≡ out.old.items ++ line_of outcome.now) }
+    ensures kept { OnErr result (take (vec_len out.old) out.new.items ≡ out.old.items) }
+    ensures full { OnErr result (vec_capacity out.old < vec_len out.old + length (line_of outcome.now)) }
+    ensures capacity { vec_capacity out.old ≤ vec_capacity out.new }
+{
+    match outcome {
+        Ok(outcome) => write_text(outcome, out)?,
+        Err(fault) => write_fault(*fault, out)?,
+    }
+    append(out, b"\n")
+}
+
+/// Appends the line of an event: what it gave, or why it was not applied.
+///
+/// # Errors
+///
+/// `Memory` where there is no room for all of the line, and then `out` keeps its items.
+pub fn write_outcome(
+    outcome: &Result<Outcome, ReplayFault>,
+    out: &mut Vec<u8>,
+) -> Result<(), Memory>
+    // Of an event that met want of memory no line is written.
+    requires { outcome.now ≢ Err ReplayFault.Memory }
+    ensures ok { OnOk result (out.new.items ≡ out.old.items ++ line_of outcome.now) }
+    ensures err { OnErr result (out.new.items ≡ out.old.items) }
+    ensures full { OnErr result (vec_capacity out.old < vec_len out.old + length (line_of outcome.now)) }
+    ensures capacity { vec_capacity out.old ≤ vec_capacity out.new }
+{
+    let len = out.len();
+    let written = write_line(outcome, out);
+    if written.is_err() {
+        out.truncate(len);
+    }
+    written
+}
