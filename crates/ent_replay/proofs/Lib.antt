@@ -3,3 +3,7 @@ pub mod ScheduleEvents
 pub mod ScheduleLaws
 pub mod ScheduleLoop
 pub mod ScheduleWords
+pub mod Maps
+pub mod Totals
+pub mod Playing
+pub mod Schedules

@@ -1,2 +1,5 @@
 pub mod OutcomeText
 pub mod ScheduleText
+pub mod Schedule
+pub mod Totals
+pub mod Machine

@@ -1,9 +1,12 @@
-//! Schedules of allocator events: their text, their outcomes and the lines that report them.
+//! Schedules of allocator events: their text, the machine that applies them, and the lines that report their outcomes.
 #![tactic(auto)]
 
+mod by_caller;
+mod call;
 mod event;
 mod fault;
 mod handle_list;
+mod machine;
 mod outcome;
 mod read_fault;
 mod reading;
@@ -12,6 +15,7 @@ mod writing;
 pub use event::Event;
 pub use fault::ReplayFault;
 pub use handle_list::HandleList;
+pub use machine::{Machine, RunMemory};
 pub use outcome::Outcome;
 pub use read_fault::{Cause, ReadFault};
 pub use reading::read_schedule;

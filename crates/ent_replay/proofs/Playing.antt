@@ -1,0 +1,431 @@
+-- What each event does to the fields of a `Machine`, and that it keeps them in order.
+use Rattle.std.proofs.Common.{◌≡◌, ◌≢◌, refl, sym, ap, subst, ◌∙◌, ℕ, ◌+◌, ◌-◌, ◌*◌, ◌^◌, ◌<◌, ◌≤◌, ℤ, pos, ◌-ℤ◌, ◌≤ℤ◌, Bool, true, false, IsTrue, cond, not, nat_lt, nat_le, List, [], ◌∷◌, length, drop, filter, slice_get, Option, Some, None, Result, Ok, Err, arith, inl, inr}
+use Rattle.std.proofs.lemmas.Int.{ints}
+use Rattle.std.proofs.lemmas.Bool.{lt-leb}
+use Rattle.std.specs.Prelude.{◌==◌}
+use Rattle.std.specs.Option.{option_map, unwrap_or, is_some}
+use Rattle.std.specs.Result.{OnOk, OnErr, is_err}
+use Rattle.std.specs.Ordering.{nat_cmp}
+use Rattle.std.specs.FinSet as set
+use Rattle.std.specs.FinMap as finite
+use Rattle.std.specs.FinMap.{FinMap, get-empty, len-empty, empty_of_len}
+use Rattle.std.proofs.lemmas.Bool.Decides.{nat_tests}
+use Rattle.std.proofs.lemmas.Option.{same_Some}
+use native.Mathlib.Decide.{ℕ_discrete}
+use Rattle.ent_handle.specs.Handle.{Handle}
+use Rattle.ent_alloc.specs.declared.space.Space.{Space}
+use Rattle.ent_alloc.specs.declared.span.Span.{Span}
+use Rattle.ent_alloc.specs.Limits.{Limits, AreLimits}
+use Rattle.ent_alloc.specs.Sequential.{Allocator, available, top, cursor, opening, after_take, after_alloc, after_free, after_flush, next, born, reply_from, reply_to, pool_at, asked_at, is_old}
+use Rattle.ent_alloc.specs.Sound.{IsSound, IsLive}
+use Rattle.ent_alloc.proofs.Taken.{available-after_take}
+use Rattle.ent_alloc.proofs.Soundness.{after_take-sound, after_alloc-sound, after_free-sound, after_flush-sound}
+use Rattle.ent_alloc.proofs.PoolLaw.{made-after_take, asked-after_take, top-after_take, cursor-after_take, reply-cursor}
+use Rattle.ent_replay.specs.declared.call.Call.{Call}
+use Rattle.ent_replay.specs.declared.outcome.Outcome.{Outcome}
+use Rattle.ent_replay.specs.declared.outcome.Outcome.TheVariants as outcome
+use Rattle.ent_replay.specs.declared.fault.ReplayFault.{ReplayFault}
+use Rattle.ent_replay.specs.declared.fault.ReplayFault.TheVariants as fault
+use Rattle.ent_replay.specs.Schedule.{Schedule, OpenCall, Answered, Reply, starting, is_busy, needs_flush, on_alloc, on_free, on_flush, on_begin, on_step, on_answer, alloc_front, begin_with, step_with, step_open, answer_with, answer_open, spent_by, left_of, callers, credit, reported, refuse, say, wraps}
+use Rattle.ent_replay.specs.Totals.{total}
+use Rattle.ent_replay.specs.Machine.{map_values, replied, schedule_of, unasked, awaited, HasPassed, IsPlayed, Makes}
+use Rattle.ent_replay.proofs.Totals.{total-changed, total-bound, total-part, total-none}
+use Rattle.ent_replay.proofs.Maps.{no_test, maps_alike, get-inserted, get-insert_other, get-removed, get-remove_other, insert-remove, get-map_values, map_values-insert, map_values-remove, map_values-empty}
+
+-- ---- tests
+
+pub when : {A : Type 0} (b : Bool) (x y : A) → b ≡ true → cond b x y ≡ x
+when true x y is = refl
+when false x y is = absurd (subst (λ b. IsFalse b) is tt)
+  where
+    IsFalse : Bool → Type 0
+    IsFalse false = Unit {0}
+    IsFalse true = ⊥
+
+pub unless : {A : Type 0} (b : Bool) (x y : A) → b ≡ false → cond b x y ≡ y
+unless true x y is = absurd (subst (λ b. IsTrue_ b) is tt)
+  where
+    IsTrue_ : Bool → Type 0
+    IsTrue_ true = Unit {0}
+    IsTrue_ false = ⊥
+unless false x y is = refl
+
+-- The machine did what the step says, or refused for want of memory: told of the values that a contract sees.
+pub done : (on : Schedule → Answered) (inside now : Schedule) → inside ≡ now → (result answer : Result Outcome ReplayFault) → result ≡ answer → (after next : Schedule) → after ≡ next
+    → on inside ≡ (answer, next) → Makes (on now) now result after
+done on inside now view result answer is after next is_next step =
+    inl (is ∙ ap (λ p. p.0) (sym step) ∙ ap (λ v. (on v).0) view, is_next ∙ ap (λ p. p.1) (sym step) ∙ ap (λ v. (on v).1) view)
+
+pub refused : (on : Schedule → Answered) (inside now : Schedule) → inside ≡ now → (result : Result Outcome ReplayFault) → result ≡ Err fault.Memory → (after : Schedule) → after ≡ inside → Makes (on now) now result after
+refused on inside now view result is after unchanged = inr (is, unchanged ∙ view)
+
+-- two tests that say the same are one
+pub same_test : (b : Bool) (m n : ℕ) → (IsTrue b → m ≡ n) × (m ≡ n → IsTrue b) → b ≡ (m == n)
+same_test true m n both = let same = both.0 refl in grind (arith, nat_tests)
+same_test false m n both = elim (ℕ_discrete m n) [
+  | yes same ↦ absurd (no_test (both.1 same))
+  | no other ↦ grind (arith, nat_tests)
+]
+
+-- what a test of an answer tells
+pub some_of : {X : Type 0} (o : Option X) → true ≡ is_some o → (x : X) × (o ≡ Some x)
+some_of None is = absurd (no_test (sym is))
+some_of (Some x) is = (x, refl)
+
+pub none_of : {X : Type 0} (o : Option X) → false ≡ is_some o → o ≡ None
+none_of None is = refl
+none_of (Some x) is = absurd (no_test is)
+
+pub on_ok : {T E : Type 0} {P : Type 0} (r : Result T E) → false ≡ is_err r → OnOk r P → P
+on_ok (Ok x) is holds = holds
+on_ok (Err e) is holds = absurd (no_test is)
+
+pub on_err : {T E : Type 0} {P : Type 0} (r : Result T E) → true ≡ is_err r → OnErr r P → P
+on_err (Ok x) is holds = absurd (no_test (sym is))
+on_err (Err e) is holds = holds
+
+-- an answer is no refusal
+pub ok_not_err : {T E : Type 0} (x : T) (e : E) → Ok x ≡ Err e → ⊥
+ok_not_err x e is = cc
+
+front : {X : Type 0} (xs : List X) (x : X) → slice_get xs 0 ≡ Some x → xs ≡ x ∷ drop 1 xs
+front [] x is = absurd cc
+front (y ∷ ys) x is = let same : y ≡ x = cc in ap (λ z. z ∷ ys) same
+
+none_is_none : {X Y : Type 0} (f : X → Y) (o : Option X) → option_map f o ≡ None → o ≡ None
+none_is_none f None is = refl
+none_is_none f (Some x) is = absurd cc
+
+module _ (s : Allocator) (spent : FinMap nat_cmp ℕ) (calls : FinMap nat_cmp Call) where
+  -- ---- whether a call is open
+
+  pub quiet : calls ≡ finite.empty → is_busy (schedule_of s spent calls) ≡ false
+  quiet none = ap (λ m. not (finite.len (map_values (replied s) m) == 0)) none
+      ∙ ap (λ m. not (finite.len m == 0)) (map_values-empty (replied s))
+      ∙ ap (λ n. not (n == 0)) (len-empty nat_cmp OpenCall)
+
+  pub busy : ¬ (calls ≡ finite.empty) → is_busy (schedule_of s spent calls) ≡ true
+  busy some = go (finite.len (map_values (replied s) calls) == 0) refl
+    where
+      nothing : finite.len (map_values (replied s) calls) ≡ 0 → calls ≡ finite.empty
+      nothing is = maps_alike calls finite.empty (λ q.
+          none_is_none (replied s) (finite.get calls q) (sym (get-map_values (replied s) calls q) ∙ ap (λ m. finite.get m q) (empty_of_len (map_values (replied s) calls) is) ∙ get-empty nat_cmp q)
+          ∙ sym (get-empty nat_cmp q))
+
+      go : (b : Bool) → (finite.len (map_values (replied s) calls) == 0) ≡ b → not (finite.len (map_values (replied s) calls) == 0) ≡ true
+      go true is = absurd (some (nothing (let test : (finite.len (map_values (replied s) calls) == 0) ≡ true = is in grind (arith, nat_tests))))
+      go false is = ap not is
+
+  -- with no call open the allocator may change
+  pub quiet_calls : calls ≡ finite.empty → (t : Allocator) → map_values (replied s) calls ≡ map_values (replied t) calls
+  quiet_calls none t = ap (map_values (replied s)) none ∙ map_values-empty (replied s) ∙ sym (map_values-empty (replied t)) ∙ ap (map_values (replied t)) (sym none)
+
+  pub quiet_played : IsPlayed s spent calls → calls ≡ finite.empty → (t : Allocator) → IsSound t → t.asked ≡ s.asked → IsPlayed t spent calls
+  quiet_played h none t sound same = record {
+    sound = sound;
+    credit = h.credit;
+    asked = let before = h.asked in omega arith;
+    wishes = h.wishes;
+    spans = λ q call span is _. absurd (absent q call is);
+  }
+    where
+      absent : (q : ℕ) (call : Call) → finite.get calls q ≡ Some call → ⊥
+      absent q call is = let nothing : finite.get calls q ≡ None = ap (λ m. finite.get m q) none ∙ get-empty nat_cmp q in cc
+
+  -- what was asked for, and what is still to be, is within what a span can have
+  pub asked-bound : IsPlayed s spent calls → s.asked + total (λ q. awaited (finite.get calls q)) callers ≤ 2 ^ 50
+  asked-bound h =
+      let before = h.asked in
+      let bound : total (λ q. unwrap_or (finite.get spent q) 0) callers ≤ callers * credit = total-bound (λ q. unwrap_or (finite.get spent q) 0) credit callers h.credit in
+      omega arith
+
+  -- ---- events that need the allocator to themselves
+
+  pub busy-alloc : ¬ (calls ≡ finite.empty) → on_alloc (schedule_of s spent calls) ≡ (Err fault.Busy, schedule_of s spent calls)
+  busy-alloc some = when (is_busy (schedule_of s spent calls)) _ _ (busy some)
+
+  pub busy-free : ¬ (calls ≡ finite.empty) → (h : Handle) → on_free (schedule_of s spent calls) h ≡ (Err fault.Busy, schedule_of s spent calls)
+  busy-free some h = when (is_busy (schedule_of s spent calls)) _ _ (busy some)
+
+  pub busy-flush : ¬ (calls ≡ finite.empty) → on_flush (schedule_of s spent calls) ≡ (Err fault.Busy, schedule_of s spent calls)
+  busy-flush some = when (is_busy (schedule_of s spent calls)) _ _ (busy some)
+
+  module _ (none : calls ≡ finite.empty) where
+    pub alloc-needs_flush : 0 < s.asked → on_alloc (schedule_of s spent calls) ≡ (Ok outcome.NeedsFlush, schedule_of s spent calls)
+    alloc-needs_flush some = unless (is_busy (schedule_of s spent calls)) _ _ (quiet none) ∙ when (nat_lt 0 s.asked) _ _ (grind (arith, nat_tests))
+
+    alloc-flushed : ¬ (0 < s.asked) → on_alloc (schedule_of s spent calls) ≡ alloc_front (schedule_of s spent calls) s.pool
+    alloc-flushed rest = unless (is_busy (schedule_of s spent calls)) _ _ (quiet none) ∙ unless (nat_lt 0 s.asked) _ _ (grind (arith, nat_tests))
+
+    pub alloc-space : s.asked ≡ 0 → s.pool ≡ [] → on_alloc (schedule_of s spent calls) ≡ (Ok (outcome.Space 1 0), schedule_of s spent calls)
+    alloc-space rest empty = alloc-flushed (λ some. absurd (omega arith)) ∙ ap (alloc_front (schedule_of s spent calls)) empty
+
+    pub alloc-given : (h : Handle) → ¬ (0 < s.asked) → slice_get s.pool 0 ≡ Some h → on_alloc (schedule_of s spent calls) ≡ (Ok (outcome.Handle h), schedule_of (after_alloc s h) spent calls)
+    alloc-given h rest first =
+        alloc-flushed rest ∙ ap (alloc_front (schedule_of s spent calls)) (front s.pool h first)
+        ∙ ap (λ m. (Ok (outcome.Handle h), record { allocator = after_alloc s h; spent = spent; calls = m })) (quiet_calls none (after_alloc s h))
+
+    pub alloc-played : (h : Handle) → IsPlayed s spent calls → ¬ (0 < s.asked) → slice_get s.pool 0 ≡ Some h → IsPlayed (after_alloc s h) spent calls
+    alloc-played h played rest first =
+        let flushed : s.asked ≡ 0 = omega arith in
+        quiet_played played none (after_alloc s h) (after_alloc-sound s h (drop 1 s.pool) played.sound flushed (front s.pool h first)) refl
+
+    pub free-needs_flush : (h : Handle) → 0 < s.asked → on_free (schedule_of s spent calls) h ≡ (Ok outcome.NeedsFlush, schedule_of s spent calls)
+    free-needs_flush h some = unless (is_busy (schedule_of s spent calls)) _ _ (quiet none) ∙ when (nat_lt 0 s.asked) _ _ (grind (arith, nat_tests))
+
+    pub free-not_alive : (h : Handle) → s.asked ≡ 0 → set.contains s.live h ≡ false → on_free (schedule_of s spent calls) h ≡ (Ok outcome.NotAlive, schedule_of s spent calls)
+    free-not_alive h rest gone =
+        unless (is_busy (schedule_of s spent calls)) _ _ (quiet none) ∙ unless (nat_lt 0 s.asked) _ _ (grind (arith, nat_tests))
+        ∙ unless (set.contains s.live h) _ _ gone
+
+    pub free-freed : (h : Handle) → ¬ (0 < s.asked) → set.contains s.live h ≡ true
+        → on_free (schedule_of s spent calls) h ≡ (Ok (outcome.Freed h (next s.limits h) (wraps s.limits h)), schedule_of (after_free s h) spent calls)
+    free-freed h rest lives =
+        unless (is_busy (schedule_of s spent calls)) _ _ (quiet none) ∙ unless (nat_lt 0 s.asked) _ _ (grind (arith, nat_tests))
+        ∙ when (set.contains s.live h) _ _ lives
+        ∙ ap (λ m. (Ok (outcome.Freed h (next s.limits h) (wraps s.limits h)), record { allocator = after_free s h; spent = spent; calls = m })) (quiet_calls none (after_free s h))
+
+    pub free-played : (h : Handle) → IsPlayed s spent calls → ¬ (0 < s.asked) → set.contains s.live h ≡ true → IsPlayed (after_free s h) spent calls
+    free-played h played rest lives =
+        let flushed : s.asked ≡ 0 = omega arith in
+        quiet_played played none (after_free s h) (after_free-sound s h played.sound flushed lives) refl
+
+    pub flush-flushed : on_flush (schedule_of s spent calls) ≡ (Ok (outcome.Born (born s)), schedule_of (after_flush s) finite.empty calls)
+    flush-flushed =
+        unless (is_busy (schedule_of s spent calls)) _ _ (quiet none)
+        ∙ ap (λ m. (Ok (outcome.Born (born s)), record { allocator = after_flush s; spent = finite.empty; calls = m })) (quiet_calls none (after_flush s))
+
+    pub flush-played : IsPlayed s spent calls → IsPlayed (after_flush s) finite.empty calls
+    flush-played played = record {
+      sound = after_flush-sound s played.sound;
+      credit = λ q. let nothing : unwrap_or (finite.get (finite.empty {X = ℕ} {R = nat_cmp}) q) 0 ≡ 0 = ap (λ o. unwrap_or o 0) (get-empty nat_cmp q) in omega arith;
+      asked =
+          let waits : total (λ q. awaited (finite.get calls q)) callers ≡ 0 = total-none (λ q. awaited (finite.get calls q)) callers (λ q. ap (λ m. awaited (finite.get m q)) none ∙ ap awaited (get-empty nat_cmp q)) in
+          omega arith;
+      wishes = played.wishes;
+      spans = λ q call span is _. absurd (absent q call is);
+    }
+      where
+        absent : (q : ℕ) (call : Call) → finite.get calls q ≡ Some call → ⊥
+        absent q call is = let nothing : finite.get calls q ≡ None = ap (λ m. finite.get m q) none ∙ get-empty nat_cmp q in cc
+
+  -- ---- the events of a call
+
+  pub no_caller-begin : (caller n : ℕ) → callers ≤ caller → on_begin (schedule_of s spent calls) caller n ≡ (Err fault.Caller, schedule_of s spent calls)
+  no_caller-begin caller n above = unless (nat_lt caller callers) _ _ (grind (arith, nat_tests))
+
+  pub no_caller-step : (caller : ℕ) → callers ≤ caller → on_step (schedule_of s spent calls) caller ≡ (Err fault.Caller, schedule_of s spent calls)
+  no_caller-step caller above = unless (nat_lt caller callers) _ _ (grind (arith, nat_tests))
+
+  pub no_caller-answer : (caller : ℕ) → callers ≤ caller → on_answer (schedule_of s spent calls) caller ≡ (Err fault.Caller, schedule_of s spent calls)
+  no_caller-answer caller above = unless (nat_lt caller callers) _ _ (grind (arith, nat_tests))
+
+  module _ (caller : ℕ) (below : caller < callers) where
+    is_caller : nat_lt caller callers ≡ true
+    is_caller = grind (arith, nat_tests)
+
+    opened : (o : Option Call) → finite.get calls caller ≡ o → finite.get (map_values (replied s) calls) caller ≡ option_map (replied s) o
+    opened o is = get-map_values (replied s) calls caller ∙ ap (option_map (replied s)) is
+
+    -- what waits for this caller is counted
+    pub awaited-bound : IsPlayed s spent calls → (call : Call) → finite.get calls caller ≡ Some call → s.asked + unasked call.wish call.span ≤ 2 ^ 50
+    awaited-bound h call is =
+        let all = asked-bound h in
+        let one : awaited (finite.get calls caller) ≤ total (λ q. awaited (finite.get calls q)) callers = total-part (λ q. awaited (finite.get calls q)) caller callers below in
+        let here = ap awaited is in
+        omega arith
+
+    pub begin-open : (n : ℕ) (call : Call) → finite.get calls caller ≡ Some call → on_begin (schedule_of s spent calls) caller n ≡ (Err fault.AlreadyOpen, schedule_of s spent calls)
+    begin-open n call is = when (nat_lt caller callers) _ _ is_caller ∙ ap (begin_with (schedule_of s spent calls) caller n) (opened (Some call) is)
+
+    pub begin-quota : (n : ℕ) → finite.get calls caller ≡ None → left_of (schedule_of s spent calls) caller < n
+        → on_begin (schedule_of s spent calls) caller n ≡ (Err (fault.Quota (left_of (schedule_of s spent calls) caller)), schedule_of s spent calls)
+    begin-quota n is short =
+        when (nat_lt caller callers) _ _ is_caller ∙ ap (begin_with (schedule_of s spent calls) caller n) (opened None is)
+        ∙ when (nat_lt (left_of (schedule_of s spent calls) caller) n) _ _ (grind (arith, nat_tests))
+
+    -- the call as it begins
+    abbrev begun : ℕ → Call
+    begun n = record { wish = n; span = None }
+
+    abbrev more : ℕ → ℕ
+    more n = unwrap_or (finite.get spent caller) 0 + n
+
+    pub begin-begun : (n : ℕ) → finite.get calls caller ≡ None → n ≤ left_of (schedule_of s spent calls) caller
+        → on_begin (schedule_of s spent calls) caller n ≡ (Ok outcome.Open, schedule_of s (finite.insert spent caller (more n)) (finite.insert calls caller (begun n)))
+    begin-begun n is enough =
+        when (nat_lt caller callers) _ _ is_caller ∙ ap (begin_with (schedule_of s spent calls) caller n) (opened None is)
+        ∙ unless (nat_lt (left_of (schedule_of s spent calls) caller) n) _ _ (grind (arith, nat_tests))
+        ∙ ap (λ m. (Ok outcome.Open, record { allocator = s; spent = finite.insert spent caller (more n); calls = m })) (sym (map_values-insert (replied s) calls caller (begun n)))
+
+    pub begin-played : IsPlayed s spent calls → (n : ℕ) → finite.get calls caller ≡ None → n < 2 ^ 32 → n ≤ left_of (schedule_of s spent calls) caller
+        → IsPlayed s (finite.insert spent caller (more n)) (finite.insert calls caller (begun n))
+    begin-played h n is small enough = record {
+      sound = h.sound;
+      credit = λ q. elim (ℕ_discrete q caller) [
+        | yes same ↦
+            let new : unwrap_or (finite.get (finite.insert spent caller (more n)) q) 0 ≡ more n = ap (λ p. unwrap_or (finite.get (finite.insert spent caller (more n)) p) 0) same ∙ ap (λ o. unwrap_or o 0) (get-inserted spent caller (more n)) in
+            let old = h.credit caller in
+            omega arith
+        | no other ↦
+            let new : unwrap_or (finite.get (finite.insert spent caller (more n)) q) 0 ≡ unwrap_or (finite.get spent q) 0 = ap (λ o. unwrap_or o 0) (get-insert_other spent caller (more n) q other) in
+            let old = h.credit q in
+            omega arith
+      ];
+      asked =
+          let before = h.asked in
+          let waits = total-changed (λ q. awaited (finite.get calls q)) (λ q. awaited (finite.get (finite.insert calls caller (begun n)) q)) caller callers below
+          (λ q other. ap awaited (sym (get-insert_other calls caller (begun n) q other))) in
+          let spends = total-changed (λ q. unwrap_or (finite.get spent q) 0) (λ q. unwrap_or (finite.get (finite.insert spent caller (more n)) q) 0) caller callers below
+          (λ q other. ap (λ o. unwrap_or o 0) (sym (get-insert_other spent caller (more n) q other))) in
+          let waited : awaited (finite.get calls caller) ≡ 0 = ap awaited is in
+          let waits_now : awaited (finite.get (finite.insert calls caller (begun n)) caller) ≡ n = ap awaited (get-inserted calls caller (begun n)) in
+          let spent_now : unwrap_or (finite.get (finite.insert spent caller (more n)) caller) 0 ≡ more n = ap (λ o. unwrap_or o 0) (get-inserted spent caller (more n)) in
+          omega arith;
+      wishes = λ q call at. elim (ℕ_discrete q caller) [
+        | yes same ↦
+            let here : Some (begun n) ≡ Some call = sym (get-inserted calls caller (begun n)) ∙ ap (finite.get (finite.insert calls caller (begun n))) (sym same) ∙ at in
+            let wish : n ≡ call.wish = ap (λ c. c.wish) (same_Some (begun n) call here) in
+            omega arith
+        | no other ↦ h.wishes q call (sym (get-insert_other calls caller (begun n) q other) ∙ at)
+      ];
+      spans = λ q call span at passed. elim (ℕ_discrete q caller) [
+        | yes same ↦
+            let here : Some (begun n) ≡ Some call = sym (get-inserted calls caller (begun n)) ∙ ap (finite.get (finite.insert calls caller (begun n))) (sym same) ∙ at in
+            let nothing : None ≡ call.span = ap (λ c. c.span) (same_Some (begun n) call here) in
+            absurd cc
+        | no other ↦ h.spans q call span (sym (get-insert_other calls caller (begun n) q other) ∙ at) passed
+      ];
+    }
+
+    pub step-not_open : finite.get calls caller ≡ None → on_step (schedule_of s spent calls) caller ≡ (Err fault.NotOpen, schedule_of s spent calls)
+    step-not_open is = when (nat_lt caller callers) _ _ is_caller ∙ ap (step_open (schedule_of s spent calls) caller) (opened None is)
+
+    pub answer-not_open : finite.get calls caller ≡ None → on_answer (schedule_of s spent calls) caller ≡ (Err fault.NotOpen, schedule_of s spent calls)
+    answer-not_open is = when (nat_lt caller callers) _ _ is_caller ∙ ap (answer_open (schedule_of s spent calls) caller) (opened None is)
+
+    module _ (call : Call) (is : finite.get calls caller ≡ Some call) where
+      pub step-stepped : (span : Span) → call.span ≡ Some span → on_step (schedule_of s spent calls) caller ≡ (Err fault.AlreadyStepped, schedule_of s spent calls)
+      step-stepped span passed =
+          when (nat_lt caller callers) _ _ is_caller ∙ ap (step_open (schedule_of s spent calls) caller) (opened (Some call) is)
+          ∙ ap (λ o. step_with (schedule_of s spent calls) caller call.wish (option_map (λ span. reply_from s.made (pool_at s span.high) call.wish) o)) passed
+
+      -- the call after its step
+      abbrev stepped : Call
+      stepped = record { wish = call.wish; span = Some (record { high = cursor s; low = cursor s -ℤ pos call.wish }) }
+
+      pub step-taken : IsSound s → call.span ≡ None
+          → on_step (schedule_of s spent calls) caller ≡ (Ok (outcome.Cursor (cursor s -ℤ pos call.wish)), schedule_of (after_take s call.wish) spent (finite.insert calls caller stepped))
+      step-taken sound waits =
+          let t = after_take s call.wish in
+          when (nat_lt caller callers) _ _ is_caller ∙ ap (step_open (schedule_of s spent calls) caller) (opened (Some call) is)
+          ∙ ap (λ o. step_with (schedule_of s spent calls) caller call.wish (option_map (λ span. reply_from s.made (pool_at s span.high) call.wish) o)) waits
+          ∙ (λ i. (Ok (outcome.Cursor (cursor-after_take s call.wish sound i)), record { allocator = t; spent = spent; calls = inserted i }))
+        where
+          -- what a span replies stays through the step
+          same : replied s ≡ replied (after_take s call.wish)
+          same = λ i c. record {
+            wish = c.wish;
+            reply = option_map (λ span. reply_from (sym (made-after_take s call.wish) i) (drop (asked_at (length (filter (is_old (sym (made-after_take s call.wish) i)) (sym (available-after_take s call.wish sound) i))) span.high) (sym (available-after_take s call.wish sound) i)) c.wish) c.span;
+          }
+
+          inserted : finite.insert (map_values (replied s) calls) caller (record { wish = call.wish; reply = Some (reply_to s call.wish) }) ≡ map_values (replied (after_take s call.wish)) (finite.insert calls caller stepped)
+          inserted =
+              ap (λ r. finite.insert (map_values (replied s) calls) caller (record { wish = call.wish; reply = Some r })) (sym (reply-cursor s call.wish sound))
+              ∙ sym (map_values-insert (replied s) calls caller stepped)
+              ∙ ap (λ f. map_values f (finite.insert calls caller stepped)) same
+
+      pub step-played : IsPlayed s spent calls → call.span ≡ None → IsPlayed (after_take s call.wish) spent (finite.insert calls caller stepped)
+      step-played h waits = record {
+        sound = after_take-sound s call.wish h.sound;
+        credit = h.credit;
+        asked =
+            let before = h.asked in
+            let all = total-changed (λ q. awaited (finite.get calls q)) (λ q. awaited (finite.get (finite.insert calls caller stepped) q)) caller callers below
+            (λ q other. ap awaited (sym (get-insert_other calls caller stepped q other))) in
+            let waited : awaited (finite.get calls caller) ≡ call.wish = ap awaited is ∙ ap (unasked call.wish) waits in
+            let waits_now : awaited (finite.get (finite.insert calls caller stepped) caller) ≡ 0 = ap awaited (get-inserted calls caller stepped) in
+            let asks = asked-after_take s call.wish in
+            omega arith;
+        wishes = λ q other_call at. elim (ℕ_discrete q caller) [
+          | yes same ↦
+              let here : Some stepped ≡ Some other_call = sym (get-inserted calls caller stepped) ∙ ap (finite.get (finite.insert calls caller stepped)) (sym same) ∙ at in
+              let wish : call.wish ≡ other_call.wish = ap (λ c. c.wish) (same_Some stepped other_call here) in
+              let small = h.wishes caller call is in
+              omega arith
+          | no other ↦ h.wishes q other_call (sym (get-insert_other calls caller stepped q other) ∙ at)
+        ];
+        spans = λ q other_call span at passed. elim (ℕ_discrete q caller) [
+          | yes same ↦
+              let here : Some stepped ≡ Some other_call = sym (get-inserted calls caller stepped) ∙ ap (finite.get (finite.insert calls caller stepped)) (sym same) ∙ at in
+              let alike : stepped ≡ other_call = same_Some stepped other_call here in
+              let at_span : record { high = cursor s; low = cursor s -ℤ pos call.wish } ≡ span = same_Some _ span (ap (λ c. c.span) alike ∙ passed) in
+              let wish : call.wish ≡ other_call.wish = ap (λ c. c.wish) alike in
+              let high : cursor s ≡ span.high = ap (λ x. x.high) at_span in
+              let low : cursor s -ℤ pos call.wish ≡ span.low = ap (λ x. x.low) at_span in
+              let limit = asked-bound h in
+              let tops = top-after_take s call.wish h.sound in
+              record { least = omega (arith, ints); high = omega (arith, ints); low = omega (arith, ints) }
+          | no other ↦
+              let old = h.spans q other_call span (sym (get-insert_other calls caller stepped q other) ∙ at) passed in
+              let tops = top-after_take s call.wish h.sound in
+              record { least = old.least; high = subst (λ n. span.high ≤ℤ pos n) (sym tops) old.high; low = old.low }
+        ];
+      }
+
+      pub answer-not_stepped : call.span ≡ None → on_answer (schedule_of s spent calls) caller ≡ (Err fault.NotStepped, schedule_of s spent calls)
+      answer-not_stepped waits =
+          when (nat_lt caller callers) _ _ is_caller ∙ ap (answer_open (schedule_of s spent calls) caller) (opened (Some call) is)
+          ∙ ap (λ o. answer_with (schedule_of s spent calls) caller (option_map (λ span. reply_from s.made (pool_at s span.high) call.wish) o)) waits
+
+      pub answer-answered : (span : Span) → call.span ≡ Some span
+          → on_answer (schedule_of s spent calls) caller ≡ (Ok (reported (reply_from s.made (pool_at s span.high) call.wish)), schedule_of s spent (finite.remove calls caller))
+      answer-answered span passed =
+          when (nat_lt caller callers) _ _ is_caller ∙ ap (answer_open (schedule_of s spent calls) caller) (opened (Some call) is)
+          ∙ ap (λ o. answer_with (schedule_of s spent calls) caller (option_map (λ span. reply_from s.made (pool_at s span.high) call.wish) o)) passed
+          ∙ ap (λ m. (Ok (reported (reply_from s.made (pool_at s span.high) call.wish)), record { allocator = s; spent = spent; calls = m })) (sym (map_values-remove (replied s) calls caller))
+
+      pub answer-played : IsPlayed s spent calls → (span : Span) → call.span ≡ Some span → IsPlayed s spent (finite.remove calls caller)
+      answer-played h span passed = record {
+        sound = h.sound;
+        credit = h.credit;
+        asked =
+            let before = h.asked in
+            let all = total-changed (λ q. awaited (finite.get calls q)) (λ q. awaited (finite.get (finite.remove calls caller) q)) caller callers below
+            (λ q other. ap awaited (sym (get-remove_other calls caller q other))) in
+            let waited : awaited (finite.get calls caller) ≡ 0 = ap awaited is ∙ ap (unasked call.wish) passed in
+            let waits_now : awaited (finite.get (finite.remove calls caller) caller) ≡ 0 = ap awaited (get-removed calls caller) in
+            omega arith;
+        wishes = λ q other_call at. elim (ℕ_discrete q caller) [
+          | yes same ↦ absurd (gone q other_call same at)
+          | no other ↦ h.wishes q other_call (sym (get-remove_other calls caller q other) ∙ at)
+        ];
+        spans = λ q other_call other_span at. elim (ℕ_discrete q caller) [
+          | yes same ↦ absurd (gone q other_call same at)
+          | no other ↦ h.spans q other_call other_span (sym (get-remove_other calls caller q other) ∙ at)
+        ];
+      }
+        where
+          gone : (q : ℕ) (c : Call) → q ≡ caller → finite.get (finite.remove calls caller) q ≡ Some c → ⊥
+          gone q c same at =
+              let nothing : finite.get (finite.remove calls caller) q ≡ None = ap (finite.get (finite.remove calls caller)) same ∙ get-removed calls caller in
+              cc
+
+-- ---- the beginning
+
+pub starting_is : (limits : Limits) → schedule_of (opening limits) finite.empty finite.empty ≡ starting limits
+starting_is limits = ap (λ m. record { allocator = opening limits; spent = finite.empty; calls = m }) (map_values-empty (replied (opening limits)))
+
+pub starting-played : (limits : Limits) → IsSound (opening limits) → IsPlayed (opening limits) finite.empty finite.empty
+starting-played limits h = record {
+  sound = h;
+  credit = λ q. let nothing : unwrap_or (finite.get (finite.empty {X = ℕ} {R = nat_cmp}) q) 0 ≡ 0 = ap (λ o. unwrap_or o 0) (get-empty nat_cmp q) in omega arith;
+  asked =
+      let waits : total (λ q. awaited (finite.get (finite.empty {X = Call} {R = nat_cmp}) q)) callers ≡ 0 = total-none (λ q. awaited (finite.get finite.empty q)) callers (λ q. ap awaited (get-empty nat_cmp q)) in
+      omega arith;
+  wishes = λ q call at. absurd (absent q call at);
+  spans = λ q call span at _. absurd (absent q call at);
+}
+  where
+    absent : (q : ℕ) (call : Call) → finite.get (finite.empty {X = Call} {R = nat_cmp}) q ≡ Some call → ⊥
+    absent q call at = let nothing : finite.get (finite.empty {X = Call} {R = nat_cmp}) q ≡ None = get-empty nat_cmp q in cc

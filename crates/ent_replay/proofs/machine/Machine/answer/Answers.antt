@@ -1,0 +1,83 @@
+use Rattle.std.proofs.Common.{◌≡◌, ◌<◌, ◌≤◌, ◌+◌, ◌-◌, ◌^◌, ◌^◌, pos, ◌-ℤ◌, ◌≤ℤ◌, refl, sym, ap, subst, ◌∙◌, Ok, Err, Option, Some, None, arith}
+use Rattle.std.specs.FinMap as finite
+use Rattle.std.proofs.lemmas.Int.{ints}
+use Rattle.ent_alloc.specs.Sequential.{Allocator, cursor, after_take, reply_from, pool_at}
+use Rattle.ent_alloc.specs.declared.span.Span.{Span}
+use Rattle.ent_replay.specs.Schedule.{Schedule, on_begin, on_step, on_answer, spent_by, left_of, reported}
+use Rattle.ent_replay.specs.Machine.{schedule_of, IsPlayed}
+use Rattle.ent_replay.specs.declared.call.Call.{Call}
+use Rattle.ent_replay.specs.declared.machine.Machine.TheInside.{Inside}
+use Rattle.ent_replay.specs.declared.outcome.Outcome.{Outcome}
+use Rattle.ent_replay.specs.declared.outcome.Outcome.TheVariants as outcome
+use Rattle.ent_replay.specs.declared.fault.ReplayFault.TheVariants as fault
+use Rattle.ent_replay.proofs.Maps.{no_test}
+use Rattle.ent_replay.proofs.Playing.{done, answer-not_open, answer-not_stepped, answer-answered, answer-played}
+use Rattle.ent_replay.proofs.machine.Machine.answer.Goals as goal
+use Rattle.ent_replay.proofs.machine.Machine.answer.Goals.{in-Ok+in-Ok-listed, in-Err}
+
+pub returns-in_default : goal.returns-in_default
+returns-in_default c =
+    let e = c.self.inside in
+    let before = schedule_of e.entities e.spent e.calls in
+    done (λ v. on_answer v c.args.caller) before c.args.self.now c.self.view_is (Err fault.NotOpen) (Err fault.NotOpen) refl c.args.self.now before (sym c.self.view_is)
+    (answer-not_open e.entities e.spent e.calls c.args.caller (omega arith) (sym c.get.ensures ∙ c.in_default.is))
+
+pub returns-in_default-span : goal.returns-in_default-span
+returns-in_default-span c =
+    let e = c.self.inside in
+    let before = schedule_of e.entities e.spent e.calls in
+    done (λ v. on_answer v c.args.caller) before c.args.self.now c.self.view_is (Err fault.NotStepped) (Err fault.NotStepped) refl c.args.self.now before (sym c.self.view_is)
+    (answer-not_stepped e.entities e.spent e.calls c.args.caller (omega arith) c.in-Some.call (sym c.get.ensures ∙ c.in-Some.is) c.in_default-span.is)
+
+pub reply-requires-clause-least : goal.reply-requires-clause-least
+reply-requires-clause-least c =
+    let passed = c.self.invariant.spans c.args.caller c.in-Some.call c.in-Some-span.span (sym c.get.ensures ∙ c.in-Some.is) c.in-Some-span.is in
+    passed.least
+
+pub reply-requires-clause-passed : goal.reply-requires-clause-passed
+reply-requires-clause-passed c =
+    let passed = c.self.invariant.spans c.args.caller c.in-Some.call c.in-Some-span.span (sym c.get.ensures ∙ c.in-Some.is) c.in-Some-span.is in
+    passed.high
+
+pub reply-requires-clause-short : goal.reply-requires-clause-short
+reply-requires-clause-short c =
+    let passed = c.self.invariant.spans c.args.caller c.in-Some.call c.in-Some-span.span (sym c.get.ensures ∙ c.in-Some.is) c.in-Some-span.is in
+    let small = c.self.invariant.wishes c.args.caller c.in-Some.call (sym c.get.ensures ∙ c.in-Some.is) in
+    let low = passed.low in
+    omega (arith, ints)
+
+pub reply-requires-clause-ordered : goal.reply-requires-clause-ordered
+reply-requires-clause-ordered c =
+    let passed = c.self.invariant.spans c.args.caller c.in-Some.call c.in-Some-span.span (sym c.get.ensures ∙ c.in-Some.is) c.in-Some-span.is in
+    let low = passed.low in
+    omega (arith, ints)
+
+pub invariant_of-self : goal.invariant_of-self
+invariant_of-self c =
+    let e = c.self.inside in
+    let unchanged : c.match-reply.self-inside ≡ e = elim c.match-reply.branch [ in-Ok+in-Ok-listed w ↦ w.self-inside-is | in-Err w ↦ w.self-inside-is ] in
+    let calls = c.remove.ensures ∙ ap (λ (x : Inside). finite.remove x.calls c.args.caller) unchanged in
+    subst (λ m. IsPlayed c.match-reply.self-inside.entities c.match-reply.self-inside.spent m) (sym calls)
+    (subst (λ (x : Inside). IsPlayed x.entities x.spent (finite.remove e.calls c.args.caller)) (sym unchanged)
+    (answer-played e.entities e.spent e.calls c.args.caller (omega arith) c.in-Some.call (sym c.get.ensures ∙ c.in-Some.is) c.self.invariant c.in-Some-span.span c.in-Some-span.is))
+
+pub returns : goal.returns
+returns c =
+    let e = c.self.inside in
+    let before = schedule_of e.entities e.spent e.calls in
+    let call = c.in-Some.call in
+    let span = c.in-Some-span.span in
+    let passed = c.self.invariant.spans c.args.caller call span (sym c.get.ensures ∙ c.in-Some.is) c.in-Some-span.is in
+    let replied = c.reply.ensures call.wish passed.low in
+    let unchanged : c.match-reply.self-inside ≡ e = elim c.match-reply.branch [ in-Ok+in-Ok-listed w ↦ w.self-inside-is | in-Err w ↦ w.self-inside-is ] in
+    let calls = c.remove.ensures ∙ ap (λ (x : Inside). finite.remove x.calls c.args.caller) unchanged in
+    let told : c.match-reply.outcome ≡ reported (reply_from e.entities.made (pool_at e.entities span.high) call.wish) = elim c.match-reply.branch [
+      | in-Ok+in-Ok-listed w ↦ w.outcome-is ∙ ap outcome.Handles w.in-Ok-listed.ensures ∙ ap reported (sym w.in-Ok.is ∙ replied)
+      | in-Err w ↦ w.outcome-is ∙ ap reported (sym w.in-Err.is ∙ replied)
+    ] in
+    done (λ v. on_answer v c.args.caller) before c.args.self.now c.self.view_is (Ok c.match-reply.outcome) (Ok (reported (reply_from e.entities.made (pool_at e.entities span.high) call.wish)))
+    (ap (λ (o : Outcome). Ok o) told)
+    (schedule_of c.match-reply.self-inside.entities c.match-reply.self-inside.spent c.remove.new.self)
+    (schedule_of e.entities e.spent (finite.remove e.calls c.args.caller))
+    (λ i. schedule_of (unchanged i).entities (unchanged i).spent (calls i))
+    (answer-answered e.entities e.spent e.calls c.args.caller (omega arith) call (sym c.get.ensures ∙ c.in-Some.is) span c.in-Some-span.is)

@@ -1,0 +1,62 @@
+use Rattle.std.proofs.Common.{◌≡◌, ◌<◌, Bool, true, false, IsTrue, refl, sym, ap, subst, ◌∙◌, Ok, Err}
+use Rattle.ent_alloc.specs.Sequential.{Allocator, after_free, next}
+use Rattle.ent_alloc.specs.declared.fault.FreeFault.TheVariants as why
+use Rattle.ent_replay.specs.Schedule.{Schedule, on_free, wraps}
+use Rattle.ent_replay.specs.Machine.{schedule_of, IsPlayed}
+use Rattle.ent_replay.specs.declared.outcome.Outcome.TheVariants as outcome
+use Rattle.ent_replay.specs.declared.fault.ReplayFault.TheVariants as fault
+use Rattle.ent_replay.proofs.Maps.{no_test}
+use Rattle.ent_replay.proofs.Playing.{done, refused, ok_not_err, same_test, busy-free, free-needs_flush, free-not_alive, free-freed, free-played}
+use Rattle.ent_replay.proofs.machine.Machine.free.Goals as goal
+use Rattle.ent_replay.proofs.machine.Machine.free.Goals.{in-Ok, in-Err-NeedsFlush, in-Err-NotAlive, in-Err-Memory}
+
+pub returns-then-not-is_empty : goal.returns-then-not-is_empty
+returns-then-not-is_empty c =
+    let e = c.self.inside in
+    let before = schedule_of e.entities e.spent e.calls in
+    done (λ v. on_free v c.args.handle) before c.args.self.now c.self.view_is (Err fault.Busy) (Err fault.Busy) refl c.args.self.now before (sym c.self.view_is)
+    (busy-free e.entities e.spent e.calls (λ none. no_test (c.if-not-is_empty.ensures.1 none)) c.args.handle)
+
+pub invariant_of-self : goal.invariant_of-self
+invariant_of-self c =
+    let e = c.self.inside in
+    let none = c.if-not-is_empty.ensures.0 refl in
+    elim c.match-free.branch [
+      | in-Ok w ↦
+          subst (λ s. IsPlayed s e.spent e.calls) (sym w.in-Ok.ensures.ok)
+          (free-played e.entities e.spent e.calls none c.args.handle c.self.invariant (λ some. ok_not_err w.in-Ok.freed why.NeedsFlush (w.in-Ok.ensures.needs_flush.1 some)) w.in-Ok.ensures.lived)
+      | in-Err-NeedsFlush w ↦ subst (λ s. IsPlayed s e.spent e.calls) (sym w.in-Err-NeedsFlush.ensures.err) c.self.invariant
+      | in-Err-NotAlive w ↦ subst (λ s. IsPlayed s e.spent e.calls) (sym w.in-Err-NotAlive.ensures.err) c.self.invariant
+      | in-Err-Memory w ↦ subst (λ s. IsPlayed s e.spent e.calls) (sym w.in-Err-Memory.ensures.err) c.self.invariant
+    ]
+
+pub returns : goal.returns
+returns c =
+    let e = c.self.inside in
+    let none = c.if-not-is_empty.ensures.0 refl in
+    let before = schedule_of e.entities e.spent e.calls in
+    let after = schedule_of c.free.new.self e.spent e.calls in
+    let h = c.args.handle in
+    elim c.match-free.branch [
+      | in-Ok w ↦
+          let freed = w.in-Ok.freed in
+          let wrapped : freed.wrapped ≡ wraps e.entities.limits h = same_test freed.wrapped h.generation e.entities.limits.generations w.in-Ok.ensures.wrapped in
+          done (λ v. on_free v h) before c.args.self.now c.self.view_is c.match-free.result (Ok (outcome.Freed h (next e.entities.limits h) (wraps e.entities.limits h)))
+          (w.result-is ∙ (λ i. Ok (outcome.Freed h (w.in-Ok.ensures.next i) (wrapped i))))
+          after (schedule_of (after_free e.entities h) e.spent e.calls)
+          (ap (λ (s : Allocator). schedule_of s e.spent e.calls) w.in-Ok.ensures.ok)
+          (free-freed e.entities e.spent e.calls none h (λ some. ok_not_err freed why.NeedsFlush (w.in-Ok.ensures.needs_flush.1 some)) w.in-Ok.ensures.lived)
+      | in-Err-NeedsFlush w ↦
+          let why = w.in-Err-NeedsFlush in
+          done (λ v. on_free v h) before c.args.self.now c.self.view_is c.match-free.result (Ok outcome.NeedsFlush) w.result-is after before
+          (ap (λ (s : Allocator). schedule_of s e.spent e.calls) why.ensures.err)
+          (free-needs_flush e.entities e.spent e.calls none h (why.ensures.needs_flush.0 (ap Err why.field-0-is)))
+      | in-Err-NotAlive w ↦
+          let why = w.in-Err-NotAlive in
+          let both = why.ensures.not_alive.0 (ap Err why.field-0-is) in
+          done (λ v. on_free v h) before c.args.self.now c.self.view_is c.match-free.result (Ok outcome.NotAlive) w.result-is after before
+          (ap (λ (s : Allocator). schedule_of s e.spent e.calls) why.ensures.err)
+          (free-not_alive e.entities e.spent e.calls none h both.0 both.1)
+      | in-Err-Memory w ↦
+          refused (λ v. on_free v h) before c.args.self.now c.self.view_is c.match-free.result w.result-is after (ap (λ (s : Allocator). schedule_of s e.spent e.calls) w.in-Err-Memory.ensures.err)
+    ]

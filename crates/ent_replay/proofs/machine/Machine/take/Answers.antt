@@ -1,0 +1,63 @@
+use Rattle.std.proofs.Common.{◌≡◌, ◌<◌, ◌≤◌, ◌+◌, ◌-◌, ◌^◌, ◌^◌, pos, ◌-ℤ◌, ◌≤ℤ◌, refl, sym, ap, subst, ◌∙◌, Ok, Err, Option, Some, None, arith, to_z, of_z, w64}
+use Rattle.std.specs.FinMap as finite
+use Rattle.std.proofs.lemmas.Int.{ints}
+use Rattle.ent_alloc.specs.Sequential.{Allocator, cursor, after_take, reply_from, pool_at}
+use Rattle.ent_alloc.specs.declared.span.Span.{Span}
+use Rattle.ent_replay.specs.Schedule.{Schedule, on_begin, on_step, on_answer, spent_by, left_of, reported}
+use Rattle.ent_replay.specs.Machine.{schedule_of, unasked, IsPlayed}
+use Rattle.ent_replay.specs.declared.call.Call.{Call}
+use Rattle.ent_replay.specs.declared.outcome.Outcome.{Outcome}
+use Rattle.ent_replay.specs.declared.outcome.Outcome.TheVariants as outcome
+use Rattle.ent_replay.specs.declared.fault.ReplayFault.TheVariants as fault
+use Rattle.ent_replay.proofs.Maps.{no_test}
+use Rattle.ent_replay.proofs.Playing.{done, some_of, none_of, awaited-bound, step-not_open, step-stepped, step-taken, step-played}
+use Rattle.ent_replay.proofs.machine.Machine.take.Goals as goal
+
+pub returns-in_default : goal.returns-in_default
+returns-in_default c =
+    let e = c.self.inside in
+    let before = schedule_of e.entities e.spent e.calls in
+    done (λ v. on_step v c.args.caller) before c.args.self.now c.self.view_is (Err fault.NotOpen) (Err fault.NotOpen) refl c.args.self.now before (sym c.self.view_is)
+    (step-not_open e.entities e.spent e.calls c.args.caller (omega arith) (sym c.get.ensures ∙ c.in_default.is))
+
+pub returns-then-is_some : goal.returns-then-is_some
+returns-then-is_some c =
+    let e = c.self.inside in
+    let before = schedule_of e.entities e.spent e.calls in
+    let passed = some_of c.in-Some.call.span c.if-is_some.ensures in
+    done (λ v. on_step v c.args.caller) before c.args.self.now c.self.view_is (Err fault.AlreadyStepped) (Err fault.AlreadyStepped) refl c.args.self.now before (sym c.self.view_is)
+    (step-stepped e.entities e.spent e.calls c.args.caller (omega arith) c.in-Some.call (sym c.get.ensures ∙ c.in-Some.is) passed.0 passed.1)
+
+pub lower-span-requires : goal.lower-span-requires
+lower-span-requires c =
+    let e = c.self.inside in
+    let waits = none_of c.in-Some.call.span c.if-is_some.ensures in
+    let bound = awaited-bound e.entities e.spent e.calls c.args.caller (omega arith) c.self.invariant c.in-Some.call (sym c.get.ensures ∙ c.in-Some.is) in
+    let asks : unasked c.in-Some.call.wish c.in-Some.call.span ≡ c.in-Some.call.wish = ap (unasked c.in-Some.call.wish) waits in
+    omega arith
+
+pub invariant_of-self : goal.invariant_of-self
+invariant_of-self c =
+    let e = c.self.inside in
+    let call = c.in-Some.call in
+    let waits = none_of call.span c.if-is_some.ensures in
+    let calls = c.replace.ensures ∙ ap (λ (x : Span). finite.insert e.calls c.args.caller (record { wish = call.wish; span = Some x })) c.lower-span.ensures.span in
+    subst (λ s. IsPlayed s e.spent c.replace.new.self) (sym c.lower-span.ensures.step)
+    (subst (λ m. IsPlayed (after_take e.entities call.wish) e.spent m) (sym calls)
+    (step-played e.entities e.spent e.calls c.args.caller (omega arith) call (sym c.get.ensures ∙ c.in-Some.is) c.self.invariant waits))
+
+pub returns : goal.returns
+returns c =
+    let e = c.self.inside in
+    let before = schedule_of e.entities e.spent e.calls in
+    let call = c.in-Some.call in
+    let waits = none_of call.span c.if-is_some.ensures in
+    let calls = c.replace.ensures ∙ ap (λ (x : Span). finite.insert e.calls c.args.caller (record { wish = call.wish; span = Some x })) c.lower-span.ensures.span in
+    let word : to_z w64 (of_z w64 c.lower-span.result.low) ≡ c.lower-span.result.low = omega (arith, ints) in
+    let low : to_z w64 (of_z w64 c.lower-span.result.low) ≡ cursor e.entities -ℤ pos call.wish = word ∙ ap (λ (x : Span). x.low) c.lower-span.ensures.span in
+    done (λ v. on_step v c.args.caller) before c.args.self.now c.self.view_is (Ok (outcome.Cursor (to_z w64 (of_z w64 c.lower-span.result.low)))) (Ok (outcome.Cursor (cursor e.entities -ℤ pos call.wish)))
+    (ap (λ z. Ok (outcome.Cursor z)) low)
+    (schedule_of c.lower-span.new.self e.spent c.replace.new.self)
+    (schedule_of (after_take e.entities call.wish) e.spent (finite.insert e.calls c.args.caller (record { wish = call.wish; span = Some (record { high = cursor e.entities; low = cursor e.entities -ℤ pos call.wish }) })))
+    (λ i. schedule_of (c.lower-span.ensures.step i) e.spent (calls i))
+    (step-taken e.entities e.spent e.calls c.args.caller (omega arith) call (sym c.get.ensures ∙ c.in-Some.is) c.self.invariant.sound waits)

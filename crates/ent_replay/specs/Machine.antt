@@ -1,0 +1,53 @@
+-- What the fields of a `Machine` stand for, and when they stand for something.
+use Rattle.std.specs.Prelude.{◌≡◌, ℕ, ◌+◌, ◌^◌, ◌<◌, ◌≤◌, pos, ◌-ℤ◌, ◌≤ℤ◌, neg_ℤ, map, length, Option, Some, None, Result, Err, ◌⊎◌}
+use Rattle.std.specs.Option.{unwrap_or, option_map}
+use Rattle.std.specs.Ordering.{nat_cmp}
+use Rattle.std.specs.FinMap as finite
+use Rattle.ent_alloc.specs.Sequential.{Allocator, top, pool_at, reply_from}
+use Rattle.ent_alloc.specs.Sound.{IsSound}
+use Rattle.ent_alloc.specs.declared.span.Span.{Span}
+use Rattle.ent_replay.specs.declared.call.Call.{Call}
+use Rattle.ent_replay.specs.declared.outcome.Outcome.{Outcome}
+use Rattle.ent_replay.specs.declared.fault.ReplayFault.{ReplayFault}
+use Rattle.ent_replay.specs.declared.fault.ReplayFault.TheVariants as fault
+use Rattle.ent_replay.specs.Schedule.{Schedule, OpenCall, Answered, callers, credit}
+use Rattle.ent_replay.specs.Totals.{total}
+
+-- the same keys, with f of each value
+abbrev pub map_values : {X Y : Type 0} → (X → Y) → finite.FinMap nat_cmp X → finite.FinMap nat_cmp Y
+map_values f m = finite.from_entries (map (λ e. (e.0, f e.1)) (finite.entries m))
+
+-- The places that a call's step passed tell its reply, whatever was taken since.
+abbrev pub replied : Allocator → Call → OpenCall
+replied s call = record { wish = call.wish; reply = option_map (λ span. reply_from s.made (pool_at s span.high) call.wish) call.span }
+
+abbrev pub schedule_of : Allocator → finite.FinMap nat_cmp ℕ → finite.FinMap nat_cmp Call → Schedule
+schedule_of s spent calls = record { allocator = s; spent = spent; calls = map_values (replied s) calls }
+
+-- what a call will ask for at its step
+abbrev pub unasked : ℕ → Option Span → ℕ
+unasked wish None = wish
+unasked wish (Some span) = 0
+
+abbrev pub awaited : Option Call → ℕ
+awaited None = 0
+awaited (Some call) = unasked call.wish call.span
+
+-- the span was passed since the last flush, by a wish for n
+pub record HasPassed (s : Allocator) (n : ℕ) (span : Span) : Type 0 where
+  pub least : neg_ℤ (pos (2 ^ 60)) ≤ℤ span.high
+  pub high : span.high ≤ℤ pos (top s)
+  pub low : span.low ≡ span.high -ℤ pos n
+
+-- What was asked for, and what the open calls will ask for, is within what the callers have spent of their credit.
+pub record IsPlayed (s : Allocator) (spent : finite.FinMap nat_cmp ℕ) (calls : finite.FinMap nat_cmp Call) : Type 0 where
+  pub sound : IsSound s
+  pub credit : (q : ℕ) → unwrap_or (finite.get spent q) 0 ≤ credit
+  pub asked : s.asked + total (λ q. awaited (finite.get calls q)) callers ≤ total (λ q. unwrap_or (finite.get spent q) 0) callers
+  pub wishes : (q : ℕ) (call : Call) → finite.get calls q ≡ Some call → call.wish < 2 ^ 32
+  pub spans : (q : ℕ) (call : Call) (span : Span) → finite.get calls q ≡ Some call → call.span ≡ Some span → HasPassed s call.wish span
+
+-- The machine did this step; or memory ran out, and nothing has changed.
+abbrev pub Makes : Answered → Schedule → Result Outcome ReplayFault → Schedule → Type 0
+Makes step before result after =
+    ((result ≡ step.0) × (after ≡ step.1)) ⊎ ((result ≡ Err fault.Memory) × (after ≡ before))

@@ -1,0 +1,262 @@
+ghost use Rattle.std.specs.Prelude.{◌≡◌, ◌<◌, ◌↔◌, IsTrue, IfOk, OnOk, IfErr, Ok, length, take};
+ghost use Rattle.ent_replay.specs.Schedule.{starting, outcome_of, after_event, outcomes_of, after_events, on_alloc, on_free, on_flush, on_begin, on_step, on_answer, spent_by, credit};
+ghost use Rattle.ent_replay.specs.Machine.{Makes};
+
+use crate::by_caller::ByCaller;
+use crate::call::Call;
+use crate::event::Event;
+use crate::fault::ReplayFault;
+use crate::handle_list::HandleList;
+use crate::outcome::Outcome;
+use ent_alloc::{AllocFault, Entities, FreeFault, Limits, Reserved};
+use ent_handle::{Handle, Memory};
+use std::alloc::Global;
+use std::marker::Model;
+
+/// There are so many callers, numbered from 0.
+const CALLERS: u32 = 1024;
+
+/// How much a caller may wish for between two flushes.
+const CREDIT: u64 = 1 << 40;
+
+/// Applies the events of a schedule, one after the other.
+///
+/// Callers are numbered from 0 to 1,023, and each has at most one call open. Contracts see the
+/// allocator, what each caller has wished for since the last flush, and the open calls with the
+/// replies that their steps fixed.
+#[derive(Drop)]
+pub struct Machine {
+    alloc: Global,
+    entities: Entities,
+    spent: ByCaller<u64>,
+    calls: ByCaller<Call>,
+}
+
+impl Model for Machine {
+    ghost use Rattle.ent_replay.specs.Schedule.{Schedule, schedule_code};
+
+    ghost Value = { Schedule };
+
+    ghost coded = { schedule_code };
+
+    ghost use Rattle.ent_replay.specs.Machine.{schedule_of, IsPlayed};
+
+    ghost view = { λ m. schedule_of m.entities m.spent m.calls };
+
+    ghost invariant = { λ m. IsPlayed m.entities m.spent m.calls };
+}
+
+/// Memory ran out while a list of events was applied.
+#[derive(Clone, Copy, Debug, PartialEq, Eq)]
+pub struct RunMemory {
+    /// How many events were applied; the next one and those behind it were not.
+    pub done: usize,
+}
+
+impl Machine {
+    /// A machine over an allocator without entities, with no call open and all credit left.
+    ///
+    /// # Errors
+    ///
+    /// None today: it takes no memory.
+    pub fn new(alloc: Global, limits: Limits) -> Result<Self, Memory>
+        ensures { result ≡ Ok (starting limits) }
+    {
+        let entities = Entities::new(alloc, limits);
+        prove_eq!(entities.cursor(), 0);
+        Ok(Machine {
+            alloc,
+            entities,
+            spent: ByCaller::new(alloc),
+            calls: ByCaller::new(alloc),
+        })
+    }
+
+    /// Applies one event.
+    ///
+    /// # Errors
+    ///
+    /// Nothing changes. `Alloc`, `Free` and `Flush` answer `Busy` while a call is open. The events of
+    /// a call answer `Caller` for a caller above 1,023; then `Begin` answers `AlreadyOpen` or `Quota`,
+    /// `Step` answers `NotOpen` or `AlreadyStepped`, and `Answer` answers `NotOpen` or `NotStepped`.
+    /// `Memory` comes last, where a growth was refused.
+    pub fn step(&mut self, event: Event) -> Result<Outcome, ReplayFault>
+        ensures outcome { ¬ (result ≡ Err ReplayFault.Memory) → result ≡ outcome_of self.old event }
+        ensures state { ¬ (result ≡ Err ReplayFault.Memory) → self.new ≡ after_event self.old event }
+        ensures memory { result ≡ Err ReplayFault.Memory → self.new ≡ self.old }
+    {
+        match event {
+            Event::Alloc => self.alloc(),
+            Event::Free(handle) => self.free(handle),
+            Event::Flush => self.flush(),
+            Event::Begin { caller, n } => self.begin(caller, n),
+            Event::Step(caller) => self.take(caller),
+            Event::Answer(caller) => self.answer(caller),
+        }
+    }
+
+    /// Applies all events in order. The answers, faults among them, stand in the list.
+    ///
+    /// # Errors
+    ///
+    /// Where memory runs out, the first `done` events stand, and no later one was applied.
+    pub fn run(&mut self, events: &[Event]) -> Result<Vec<Result<Outcome, ReplayFault>>, RunMemory>
+        ensures outcomes { IfOk result (λ outcomes. outcomes.items ≡ outcomes_of self.old events.now) }
+        ensures state { OnOk result (self.new ≡ after_events self.old events.now) }
+        ensures cut { IfErr result (λ memory. memory.done < length events.now) }
+        ensures cut_state { IfErr result (λ memory. self.new ≡ after_events self.old (take memory.done events.now)) }
+    {
+        let Ok(mut outcomes) = Vec::with_capacity(self.alloc, events.len()) else {
+            return Err(RunMemory { done: 0 });
+        };
+        for (done, event) in events.iter().enumerate() {
+            let outcome = self.step(*event);
+            if is_out_of_memory(&outcome) {
+                return Err(RunMemory { done });
+            }
+            outcomes.push_reserved(outcome);
+        }
+        Ok(outcomes)
+    }
+
+    fn alloc(&mut self) -> Result<Outcome, ReplayFault>
+        ensures { Makes (on_alloc self.old) self.old result self.new }
+    {
+        if !self.calls.is_empty() {
+            return Err(ReplayFault::Busy);
+        }
+        match self.entities.alloc() {
+            Ok(handle) => Ok(Outcome::Handle(handle)),
+            Err(AllocFault::NeedsFlush) => Ok(Outcome::NeedsFlush),
+            Err(AllocFault::Space) => Ok(Outcome::Space { wanted: 1, left: 0 }),
+            Err(AllocFault::Memory) => Err(ReplayFault::Memory),
+        }
+    }
+
+    fn free(&mut self, handle: Handle) -> Result<Outcome, ReplayFault>
+        ensures { Makes (on_free self.old handle) self.old result self.new }
+    {
+        if !self.calls.is_empty() {
+            return Err(ReplayFault::Busy);
+        }
+        match self.entities.free(handle) {
+            Ok(freed) => Ok(Outcome::Freed {
+                handle,
+                next: freed.next,
+                wrapped: freed.wrapped,
+            }),
+            Err(FreeFault::NeedsFlush) => Ok(Outcome::NeedsFlush),
+            Err(FreeFault::NotAlive) => Ok(Outcome::NotAlive),
+            Err(FreeFault::Memory) => Err(ReplayFault::Memory),
+        }
+    }
+
+    fn flush(&mut self) -> Result<Outcome, ReplayFault>
+        ensures { Makes (on_flush self.old) self.old result self.new }
+    {
+        if !self.calls.is_empty() {
+            return Err(ReplayFault::Busy);
+        }
+        let mut born = Vec::new(self.alloc);
+        if self.entities.flush(&mut born).is_err() {
+            return Err(ReplayFault::Memory);
+        }
+        self.spent.clear();
+        Ok(Outcome::Born(HandleList::new(born)))
+    }
+
+    fn begin(&mut self, caller: u32, n: u32) -> Result<Outcome, ReplayFault>
+        ensures { Makes (on_begin self.old caller n) self.old result self.new }
+    {
+        if caller >= CALLERS {
+            return Err(ReplayFault::Caller);
+        }
+        if self.calls.get(caller).is_some() {
+            return Err(ReplayFault::AlreadyOpen);
+        }
+        let spent = self.spent.get(caller).unwrap_or(0);
+        let left = CREDIT - spent;
+        if left < u64::from(n) {
+            return Err(ReplayFault::Quota { left });
+        }
+        let call = Call {
+            wish: n,
+            span: None,
+        };
+        if self.calls.insert(caller, call).is_err() {
+            return Err(ReplayFault::Memory);
+        }
+        if self.spent.insert(caller, spent + u64::from(n)).is_err() {
+            self.calls.remove(caller);
+            return Err(ReplayFault::Memory);
+        }
+        Ok(Outcome::Open)
+    }
+
+    fn take(&mut self, caller: u32) -> Result<Outcome, ReplayFault>
+        ensures { Makes (on_step self.old caller) self.old result self.new }
+    {
+        if caller >= CALLERS {
+            return Err(ReplayFault::Caller);
+        }
+        let Some(call) = self.calls.get(caller) else {
+            return Err(ReplayFault::NotOpen);
+        };
+        if call.span.is_some() {
+            return Err(ReplayFault::AlreadyStepped);
+        }
+        let span = self.entities.lower(call.wish);
+        let stepped = Call {
+            wish: call.wish,
+            span: Some(span),
+        };
+        self.calls.replace(caller, stepped);
+        Ok(Outcome::Cursor(span.low))
+    }
+
+    fn answer(&mut self, caller: u32) -> Result<Outcome, ReplayFault>
+        ensures { Makes (on_answer self.old caller) self.old result self.new }
+    {
+        if caller >= CALLERS {
+            return Err(ReplayFault::Caller);
+        }
+        let Some(call) = self.calls.get(caller) else {
+            return Err(ReplayFault::NotOpen);
+        };
+        let Some(span) = call.span else {
+            return Err(ReplayFault::NotStepped);
+        };
+        let outcome = match self.entities.reply(span) {
+            Ok(reserved) => match listed(self.alloc, reserved) {
+                Ok(handles) => Outcome::Handles(handles),
+                Err(_) => return Err(ReplayFault::Memory),
+            },
+            Err(space) => Outcome::Space {
+                wanted: space.wanted,
+                left: space.left,
+            },
+        };
+        self.calls.remove(caller);
+        Ok(outcome)
+    }
+}
+
+/// Whether memory ran out.
+fn is_out_of_memory(outcome: &Result<Outcome, ReplayFault>) -> bool
+    ensures { IsTrue result ↔ (outcome.now ≡ Err ReplayFault.Memory) }
+{
+    match outcome {
+        Ok(_) => false,
+        Err(fault) => *fault == ReplayFault::Memory,
+    }
+}
+
+/// The handles of a reply as a list of its own.
+fn listed(alloc: Global, reserved: Reserved<'_>) -> Result<HandleList, Memory>
+    ensures { IfOk result (λ handles. handles ≡ reserved.entry) }
+{
+    Ok(HandleList::new(reserved.collect(alloc)?))
+}
+
+#[cfg(test)]
+mod tests;
