@@ -1,5 +1,5 @@
 -- What a reservation answers.
-use Rattle.std.proofs.Common.{◌≡◌, ℕ, ℤ, pos, ◌-ℤ◌, List, [], ◌∷◌, length, take, sym, ap, ◌∙◌, arith, Ok, Err}
+use Rattle.std.proofs.Common.{◌≡◌, ℕ, ℤ, pos, ◌-ℤ◌, List, [], ◌∷◌, length, take, refl, sym, ap, ◌∙◌, arith, Ok, Err}
 use Rattle.std.specs.Prelude.{Result, Bool, nat_le, true, false, cond}
 use Rattle.std.proofs.lemmas.List.Sorted.{length_permutation}
 use Rattle.ent_alloc.proofs.Replies.{listed-IsPermutation}
@@ -8,7 +8,9 @@ use Rattle.std.proofs.lemmas.Bool.Decides.{nat_tests}
 use Rattle.ent_handle.specs.Handle.{Handle}
 use Rattle.ent_alloc.specs.declared.space.Space.{Space}
 use Rattle.ent_alloc.specs.declared.span.Span.{Span}
-use Rattle.ent_alloc.specs.Sequential.{reply_from, listed}
+use Rattle.ent_shared.specs.declared.record.Record.{Record}
+use Rattle.ent_shared.specs.Record.{after_call}
+use Rattle.ent_alloc.specs.Sequential.{Allocator, pool_at, reply_from, listed}
 
 pub reply-none : (made : ℕ) (pool : List Handle) → reply_from made pool 0 ≡ Ok []
 reply-none made pool =
@@ -46,3 +48,35 @@ not_none made pool given is none = let one = one_given made pool given is in let
 pub only_one : (made : ℕ) (pool given rest : List Handle) (h : Handle) → Ok given ≡ answered (reply_from made pool 1) → given ≡ h ∷ rest → given ≡ h ∷ []
 only_one made pool given [] h is first = first
 only_one made pool given (x ∷ rest) h is first = absurd (let one = one_given made pool given is in let long : length given ≡ length (h ∷ x ∷ rest) = ap length first in omega arith)
+
+-- whether a reply serves tells whether there was enough
+pub enough_served : (made : ℕ) (pool handles : List Handle) (n : ℕ) → reply_from made pool n ≡ Ok handles → nat_le n (length pool) ≡ true
+enough_served made pool handles n is =
+    let space : Space = record { wanted = n; left = length pool } in
+    let goal : Bool → Type 0 = λ b. cond {A = Result (List Handle) Space} b (Ok (listed made (take n pool))) (Err space) ≡ Ok handles → b ≡ true in
+    let all : goal (nat_le n (length pool)) = elim (nat_le n (length pool)) as goal [ true ↦ (λ e. refl) | false ↦ (λ e. cc) ] in
+    all is
+
+pub short_refused : (made : ℕ) (pool : List Handle) (n : ℕ) (refusal : Space) → reply_from made pool n ≡ Err refusal → nat_le n (length pool) ≡ false
+short_refused made pool n refusal is =
+    let space : Space = record { wanted = n; left = length pool } in
+    let goal : Bool → Type 0 = λ b. cond {A = Result (List Handle) Space} b (Ok (listed made (take n pool))) (Err space) ≡ Err refusal → b ≡ false in
+    let all : goal (nat_le n (length pool)) = elim (nat_le n (length pool)) as goal [ true ↦ (λ e. cc) | false ↦ (λ e. refl) ] in
+    all is
+
+-- the floor after a call that was served, and after one that was refused
+pub served_floor : (r : Record) (start : Allocator) (high : ℤ) (n : ℕ) (span : Span) (handles : List Handle) (reply : Result (List Handle) Space) → r.start ≡ start → span ≡ record { high = high; low = high -ℤ pos n }
+    → ((k : ℕ) → span.low ≡ span.high -ℤ pos k → reply ≡ reply_from start.made (pool_at start span.high) k) → reply ≡ Ok handles → span.low ≡ (after_call r high n).floor
+served_floor r start high n span handles reply same is answers served =
+    let at : span.high ≡ high = ap (λ (s : Span). s.high) is in
+    let test : nat_le n (length (pool_at start span.high)) ≡ true = enough_served start.made (pool_at start span.high) handles n (sym (answers n (low_of span high n is)) ∙ served) in
+    let here : nat_le n (length (pool_at r.start high)) ≡ true = (λ i. nat_le n (length (pool_at (same i) (sym at i)))) ∙ test in
+    ap (λ (s : Span). s.low) is ∙ sym (ap (λ (b : Bool). cond b (high -ℤ pos n) r.floor) here)
+
+pub refused_floor : (r : Record) (start : Allocator) (high : ℤ) (n : ℕ) (span : Span) (refusal : Space) (reply : Result (List Handle) Space) → r.start ≡ start → span ≡ record { high = high; low = high -ℤ pos n }
+    → ((k : ℕ) → span.low ≡ span.high -ℤ pos k → reply ≡ reply_from start.made (pool_at start span.high) k) → reply ≡ Err refusal → r.floor ≡ (after_call r high n).floor
+refused_floor r start high n span refusal reply same is answers refused =
+    let at : span.high ≡ high = ap (λ (s : Span). s.high) is in
+    let test : nat_le n (length (pool_at start span.high)) ≡ false = short_refused start.made (pool_at start span.high) n refusal (sym (answers n (low_of span high n is)) ∙ refused) in
+    let here : nat_le n (length (pool_at r.start high)) ≡ false = (λ i. nat_le n (length (pool_at (same i) (sym at i)))) ∙ test in
+    sym (ap (λ (b : Bool). cond b (high -ℤ pos n) r.floor) here)

@@ -9,3 +9,4 @@ pub mod Settling
 pub mod Gathering
 pub mod Closing
 pub mod Losing
+pub mod Seating

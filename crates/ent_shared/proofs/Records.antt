@@ -154,3 +154,23 @@ kept_met start at log r met k m =
         known = subst (All (Contains log)) (sym (known-more es (Met cs))) (All-append (Contains log) (known_calls es) cs k.marks.known m.marks.known);
       };
     }
+
+-- a record's mark lies below every call that it knows, after a call and after a meeting
+pub below_call : (r : Record) (high : ℤ) (n : ℕ) → All (λ (c : Call). r.mark ≤ℤ low c) (known_calls r.entries) → high ≤ℤ r.mark
+    → All (λ (c : Call). (after_call r high n).mark ≤ℤ low c) (known_calls (after_call r high n).entries)
+below_call r high n below le =
+    let c : Call = call_at r high n in
+    let Q : Call → Type 0 = λ (d : Call). (high -ℤ pos n) ≤ℤ low d in
+    let lower : All Q (known_calls r.entries) = All-weaker (λ (d : Call). r.mark ≤ℤ low d) Q (λ d h. omega (arith, ints)) (known_calls r.entries) below in
+    subst (All Q) (sym (known-more r.entries (Made c))) (All-append Q (known_calls r.entries) (c ∷ []) lower (all_one Q c (omega (arith, ints))))
+
+pub met_below : (r met : Record) → All (λ (c : Call). met.mark ≤ℤ low c) (known_calls met.entries) → All (λ (c : Call). (after_meeting r met).mark ≤ℤ low c) (known_calls met.entries)
+met_below r met theirs = All-weaker (λ (d : Call). met.mark ≤ℤ low d) (λ (d : Call). int_min r.mark met.mark ≤ℤ low d) (λ d h. grind (arith, ints)) (known_calls met.entries) theirs
+
+pub below_meeting : (r met : Record) → All (λ (c : Call). r.mark ≤ℤ low c) (known_calls r.entries) → All (λ (c : Call). met.mark ≤ℤ low c) (known_calls met.entries)
+    → All (λ (c : Call). (after_meeting r met).mark ≤ℤ low c) (known_calls (after_meeting r met).entries)
+below_meeting r met mine theirs =
+    let P : Call → Type 0 = λ (d : Call). int_min r.mark met.mark ≤ℤ low d in
+    subst (All P) (sym (known-more r.entries (Met (known_calls met.entries)))) (All-append P (known_calls r.entries) (known_calls met.entries)
+        (All-weaker (λ (d : Call). r.mark ≤ℤ low d) P (λ d h. grind (arith, ints)) (known_calls r.entries) mine)
+        (met_below r met theirs))

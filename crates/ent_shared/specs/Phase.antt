@@ -1,11 +1,15 @@
 -- What contracts see of a shared allocator and of its reservers.
-use Rattle.std.specs.Prelude.{◌≡◌, ℕ, ◌≤◌, ℤ, pos, List, [], ◌∷◌, take, drop, refl}
+use Rattle.std.specs.Prelude.{◌≡◌, ℕ, ◌≤◌, ℤ, pos, ◌≤ℤ◌, List, [], ◌∷◌, take, drop, refl}
+use Rattle.std.specs.List.{All}
 use Rattle.std.specs.Coded.{Coded, code_by, coded×, coded_ℕ}
 use Rattle.atomic_table.specs.Seated.{TableId, table_id_coded}
 use Rattle.ent_alloc.specs.Sequential.{Allocator, allocator_code, opening}
 use Rattle.ent_alloc.specs.Sound.{IsSound}
 use Rattle.ent_shared.specs.contracts.record.Record as recorded
 use Rattle.ent_shared.specs.declared.record.Record.{Record}
+use Rattle.ent_shared.specs.declared.record.Call.{Call}
+use Rattle.ent_shared.specs.declared.record.Entry.{Entry}
+use Rattle.ent_shared.specs.Record.{low, known_calls}
 use Rattle.ent_shared.specs.declared.rule.Opening.{Opening}
 use Rattle.ent_shared.specs.Rule.{IsStart}
 
@@ -41,12 +45,17 @@ abbrev pub own_of : List (List Record) → Record
 own_of ((r ∷ rs) ∷ views) = r
 own_of _ = blank
 
--- A reserver's fields say what its record says.
+-- the mark lies where every call of these entries has ended, or lower
+abbrev pub IsBelow : ℤ → List Entry → Type 0
+IsBelow mark entries = All (λ (c : Call). mark ≤ℤ low c) (known_calls entries)
+
+-- A reserver's fields say what its record says, and its next call comes after every call that it knows.
 pub record IsSeated (views : List (List Record)) (number left : ℕ) (floor : ℤ) : Type 0 where
   pub views_is : views ≡ (own_of views ∷ []) ∷ []
   pub number_is : number ≡ (own_of views).number
   pub left_is : left ≡ (own_of views).left
   pub floor_is : floor ≡ (own_of views).floor
+  pub below : IsBelow (own_of views).mark (own_of views).entries
 
 -- the allocator lies unchanged beside the word
 pub record IsPhase (start : Allocator) (count : ℕ) (key : Opening) (word : TableId) : Type 0 where

@@ -52,7 +52,7 @@ impl Shared {
 }
 
 impl Shared {
-    ghost use Rattle.ent_shared.specs.Phase.{IsOf, after_loss};
+    ghost use Rattle.ent_shared.specs.Phase.{IsOf, IsBelow, after_loss};
 
     /// How many reservers came with it.
     pub fn count(&self) -> usize
@@ -128,6 +128,9 @@ impl Shared {
         requires second { IsOf self.now b.old }
         ensures meets { a.new ≡ record a.old { own = after_meeting a.old.own b.old.own } }
         ensures met { b.new ≡ b.old }
+
+        // Every call that b had made or met has ended above what a may draw next.
+        ensures mark { IsBelow a.new.own.mark b.old.own.entries }
     {
         word::meet(&self.word, &mut a.badge, &mut b.badge);
     }

@@ -1,3 +1,9 @@
+use Rattle.std.proofs.Common.{ℕ, ℤ, ◌-◌, ◌-ℤ◌, pos, sym, arith, subst, to_z, of_z, w64}
+use Rattle.std.proofs.lemmas.Int.{ints}
+use Rattle.ent_alloc.specs.declared.span.Span.{Span}
+use Rattle.ent_shared.specs.Phase.{Shared, Reserver, own_of, IsSeated}
+use Rattle.ent_shared.proofs.Seating.{seated_call}
+use Rattle.ent_shared.proofs.Answering.{served_floor, refused_floor}
 use Rattle.std.proofs.Common.{◌≡◌, ap, refl, ◌∙◌, [], Ok}
 use Rattle.ent_alloc.specs.Sequential.{pool_at}
 use Rattle.ent_shared.proofs.Answering.{reply-none, no_space, low_of}
@@ -13,3 +19,29 @@ returns-then-n-eq0-clause-nothing c = λ n.
     let found = c.in-Ok.is in
     let same : c.in-Ok.nothing ≡ [] = cc in
     (ap Ok same, refl)
+
+pub invariant_of-reserver : goal.invariant_of-reserver
+invariant_of-reserver c =
+    let fits = c.draw.type_inv in
+    let least = c.draw.ensures.least in
+    let few = c.ranges.n in
+    let word : to_z w64 (of_z w64 c.draw.result) ≡ c.draw.result = omega (arith, ints) in
+    let span : c.new-span.result ≡ record { high = c.draw.result; low = c.draw.result -ℤ pos c.args.n } = c.new-span.ensures ∙ (λ i. record { high = word i; low = word i -ℤ pos c.args.n }) in
+    let low : c.new-span.result.low ≡ c.draw.result -ℤ pos c.args.n = ap (λ (s : Span). s.low) span in
+    let low_word : to_z w64 (of_z w64 c.new-span.result.low) ≡ c.new-span.result.low = omega (arith, ints) in
+    let start : (own_of c.reserver.inside.badge.views).start ≡ c.self.inside.entities = ap (λ (r : Reserver). r.own.start) c.reserver.view_is ∙ (c.requires.1 ∙ sym (ap (λ (s : Shared). s.start) c.self.view_is)) in
+    subst (λ (k : ℕ). IsSeated c.draw.new.badge.views c.reserver.inside.number (c.reserver.inside.left - k) (to_z w64 (of_z w64 c.new-span.result.low))) (sym c.from-2.ensures)
+    (seated_call c.reserver.inside.badge.views c.draw.new.badge.views c.reserver.inside.number c.reserver.inside.left c.args.n c.reserver.inside.floor c.draw.result (to_z w64 (of_z w64 c.new-span.result.low))
+    c.reserver.invariant c.draw.ensures.gains c.draw.ensures.mark
+    (low_word ∙ served_floor (own_of c.reserver.inside.badge.views) c.self.inside.entities c.draw.result c.args.n c.new-span.result _ c.reply-2.result start span c.reply-2.ensures c.in-Ok-reply.is))
+
+pub invariant_of-reserver-in-Err : goal.invariant_of-reserver-in-Err
+invariant_of-reserver-in-Err c =
+    let fits = c.draw.type_inv in
+    let word : to_z w64 (of_z w64 c.draw.result) ≡ c.draw.result = omega (arith, ints) in
+    let span : c.new-span.result ≡ record { high = c.draw.result; low = c.draw.result -ℤ pos c.args.n } = c.new-span.ensures ∙ (λ i. record { high = word i; low = word i -ℤ pos c.args.n }) in
+    let start : (own_of c.reserver.inside.badge.views).start ≡ c.self.inside.entities = ap (λ (r : Reserver). r.own.start) c.reserver.view_is ∙ (c.requires.1 ∙ sym (ap (λ (s : Shared). s.start) c.self.view_is)) in
+    subst (λ (k : ℕ). IsSeated c.draw.new.badge.views c.reserver.inside.number (c.reserver.inside.left - k) c.reserver.inside.floor) (sym c.from-2.ensures)
+    (seated_call c.reserver.inside.badge.views c.draw.new.badge.views c.reserver.inside.number c.reserver.inside.left c.args.n c.reserver.inside.floor c.draw.result c.reserver.inside.floor
+    c.reserver.invariant c.draw.ensures.gains c.draw.ensures.mark
+    (c.reserver.invariant.floor_is ∙ refused_floor (own_of c.reserver.inside.badge.views) c.self.inside.entities c.draw.result c.args.n c.new-span.result _ c.reply-2.result start span c.reply-2.ensures c.in-Err.is))
