@@ -7,3 +7,6 @@ pub mod Maps
 pub mod Totals
 pub mod Playing
 pub mod Schedules
+pub mod Moves
+pub mod Linear
+pub mod Giving

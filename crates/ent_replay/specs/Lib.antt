@@ -3,3 +3,4 @@ pub mod ScheduleText
 pub mod Schedule
 pub mod Totals
 pub mod Machine
+pub mod Histories

@@ -1,6 +1,8 @@
 ghost use Rattle.std.specs.Prelude.{◌≡◌, ◌<◌, ◌↔◌, IsTrue, IfOk, OnOk, IfErr, Ok, length, take};
 ghost use Rattle.ent_replay.specs.Schedule.{starting, outcome_of, after_event, outcomes_of, after_events, on_alloc, on_free, on_flush, on_begin, on_step, on_answer, spent_by, credit};
 ghost use Rattle.ent_replay.specs.Machine.{Makes};
+ghost use Rattle.ent_replay.specs.Histories.{IsAtRest, new_phase, StandInHistory, NoneWrapped, AreGivenOnce};
+ghost use Rattle.ent_alloc.specs.Limits.{Limits};
 
 use crate::by_caller::ByCaller;
 use crate::call::Call;
@@ -103,6 +105,8 @@ impl Machine {
     pub fn run(&mut self, events: &[Event]) -> Result<Vec<Result<Outcome, ReplayFault>>, RunMemory>
         ensures outcomes { IfOk result (λ outcomes. outcomes.items ≡ outcomes_of self.old events.now) }
         ensures state { OnOk result (self.new ≡ after_events self.old events.now) }
+        ensures history { IfOk result (λ outcomes. IsAtRest self.old → StandInHistory (new_phase self.old) self.old events.now outcomes.items) }
+        ensures given_once { IfOk result (λ outcomes. (limits : Limits) → self.old ≡ starting limits → NoneWrapped outcomes.items → AreGivenOnce outcomes.items) }
         ensures cut { IfErr result (λ memory. memory.done < length events.now) }
         ensures cut_state { IfErr result (λ memory. self.new ≡ after_events self.old (take memory.done events.now)) }
     {

@@ -172,5 +172,5 @@ pub below_meeting : (r met : Record) → All (λ (c : Call). r.mark ≤ℤ low c
 below_meeting r met mine theirs =
     let P : Call → Type 0 = λ (d : Call). int_min r.mark met.mark ≤ℤ low d in
     subst (All P) (sym (known-more r.entries (Met (known_calls met.entries)))) (All-append P (known_calls r.entries) (known_calls met.entries)
-        (All-weaker (λ (d : Call). r.mark ≤ℤ low d) P (λ d h. grind (arith, ints)) (known_calls r.entries) mine)
-        (met_below r met theirs))
+    (All-weaker (λ (d : Call). r.mark ≤ℤ low d) P (λ d h. grind (arith, ints)) (known_calls r.entries) mine)
+    (met_below r met theirs))

@@ -112,8 +112,7 @@ fn limits_of(options: &ArgMatches<'_>) -> Limits
     requires slots { HasNumber (codes "slots") 4294967295 (given options.now) }
     requires generations { HasNumber (codes "generations") 2147483647 (given options.now) }
     ensures slots { number_of (codes "slots") (given options.now) ≡ Some result.slots }
-    ensures generations {
-        number_of (codes "generations") (given options.now) ≡ Some result.generations }
+    ensures generations { number_of (codes "generations") (given options.now) ≡ Some result.generations }
     ensures within { AreLimits result }
 {
     let slots = options.get_one::<u32>("slots").unwrap();

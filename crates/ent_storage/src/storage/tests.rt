@@ -3,6 +3,7 @@ use std::process::Abort;
 use std::test::Fail;
 
 const HP: ComponentId = ComponentId(0);
+
 const MP: ComponentId = ComponentId(1);
 
 fn handle(index: u32) -> Result<Handle, Fail> {
@@ -35,15 +36,24 @@ fn despawn_moves_the_last_row(rt: HostRuntime) -> Result<(), Fail> {
     storage.despawn(handle(0)?)?;
     assert_eq!(rt; storage.get(handle(2)?, HP), Some(12));
     assert_eq!(rt; storage.get(handle(1)?, HP), Some(11));
-    assert_eq!(rt; storage.by_birth()?.as_slice(), [handle(2)?, handle(1)?].as_slice());
+    assert_eq!(rt;
+        storage.by_birth()?.as_slice(),
+        [handle(2)?, handle(1)?].as_slice()
+    );
     assert_refusals(&rt, &mut storage)
 }
 
 fn assert_refusals(rt: &impl Abort, storage: &mut Storage) -> Result<(), Fail> {
     assert_eq!(rt; storage.despawn(handle(0)?), Err(StorageFault::Absent));
-    assert_eq!(rt; storage.born(handle(2)?, birth(9)), Err(StorageFault::Present));
+    assert_eq!(rt;
+        storage.born(handle(2)?, birth(9)),
+        Err(StorageFault::Present)
+    );
     assert_eq!(rt; storage.remove(handle(1)?, ComponentId(7)), Ok(None));
-    assert_eq!(rt; storage.with(HP)?.as_slice(), [handle(2)?, handle(1)?].as_slice());
+    assert_eq!(rt;
+        storage.with(HP)?.as_slice(),
+        [handle(2)?, handle(1)?].as_slice()
+    );
     Ok(())
 }
 
@@ -70,10 +80,23 @@ fn keeps_the_components_of_one(rt: HostRuntime) -> Result<(), Fail> {
     let mut storage = filled(rt.alloc(), &[(4_294_967_294, 3, -1)])?;
     let entity = handle(4_294_967_294)?;
     storage.insert(entity, &[])?;
-    storage.insert(entity, &[(HP, i64::MAX), (MP, 4), (ComponentId(255), i64::MIN)])?;
-    assert_items(&rt, &storage, entity, &[(HP, i64::MAX), (MP, 4), (ComponentId(255), i64::MIN)])?;
+    storage.insert(
+        entity,
+        &[(HP, i64::MAX), (MP, 4), (ComponentId(255), i64::MIN)],
+    )?;
+    assert_items(
+        &rt,
+        &storage,
+        entity,
+        &[(HP, i64::MAX), (MP, 4), (ComponentId(255), i64::MIN)],
+    )?;
     assert_eq!(rt; storage.remove(entity, MP), Ok(Some(4)));
-    assert_items(&rt, &storage, entity, &[(HP, i64::MAX), (ComponentId(255), i64::MIN)])
+    assert_items(
+        &rt,
+        &storage,
+        entity,
+        &[(HP, i64::MAX), (ComponentId(255), i64::MIN)],
+    )
 }
 
 fn assert_items(

@@ -1,11 +1,35 @@
-use Rattle.std.proofs.Common.{◌≡◌, ◌≢◌, ◌<◌, ◌+◌, ◌++◌, ◌∷◌, [], refl, sym, ap, subst, ◌∙◌, Ok, Err, length, take, true, false, arith}
-use Rattle.std.proofs.lemmas.List.{take_more}
+use Rattle.std.proofs.Common.{ℕ, ◌≤◌, List, Result, ◌≡◌, ◌≢◌, ◌<◌, ◌+◌, ◌++◌, ◌∷◌, [], refl, sym, ap, subst, ◌∙◌, Ok, Err, length, take, true, false, arith}
+use Rattle.std.proofs.lemmas.List.{take_more, take_all}
+use Rattle.ent_alloc.specs.Sequential.{opening}
+use Rattle.ent_alloc.specs.Sound.{IsSound}
+use Rattle.ent_replay.specs.declared.outcome.Outcome.{Outcome}
+use Rattle.ent_replay.specs.declared.fault.ReplayFault.{ReplayFault}
+use Rattle.ent_replay.specs.Histories.{new_phase, StandInHistory, NoneWrapped, AreGivenOnce}
+use Rattle.ent_replay.proofs.Linear.{linear}
+use Rattle.ent_replay.proofs.Giving.{given_once}
 use Rattle.ent_replay.specs.declared.event.Event.{Event}
 use Rattle.ent_replay.specs.Schedule.{Schedule, outcome_of, after_event, outcomes_of, after_events}
 use Rattle.ent_replay.specs.declared.fault.ReplayFault.TheVariants as fault
 use Rattle.ent_replay.proofs.Maps.{no_test}
 use Rattle.ent_replay.proofs.Schedules.{after_events-append, outcomes_of-append, length-outcomes_of}
 use Rattle.ent_replay.proofs.machine.Machine.run.Goals as goal
+
+-- all outcomes, where the loop has seen all events
+all_outcomes : (s : Schedule) (outcomes : List (Result Outcome ReplayFault)) (events : List Event) (done : ℕ) → length events ≤ done → outcomes ≡ outcomes_of s (take done events) → outcomes ≡ outcomes_of s events
+all_outcomes s outcomes events done seen is = is ∙ ap (outcomes_of s) (take_all done events seen)
+
+pub returns-clause-history : goal.returns-clause-history
+returns-clause-history c =
+    let all = all_outcomes c.args.self.now c.loop-done.outcomes.items c.args.events.now c.loop-done.done (omega arith) c.loop-done.invariant.1 in
+    λ rest. subst (StandInHistory (new_phase c.args.self.now) c.args.self.now c.args.events.now) (sym all) (linear c.args.self.now c.args.events.now rest)
+
+pub returns-clause-given_once : goal.returns-clause-given_once
+returns-clause-given_once c =
+    let all = all_outcomes c.args.self.now c.loop-done.outcomes.items c.args.events.now c.loop-done.done (omega arith) c.loop-done.invariant.1 in
+    λ limits is fresh.
+    let from_start = all ∙ ap (λ s. outcomes_of s c.args.events.now) is in
+    let sound : IsSound (opening limits) = subst IsSound (ap (λ (v : Schedule). v.allocator) (c.self.view_is ∙ is)) c.self.invariant.sound in
+    subst AreGivenOnce (sym from_start) (given_once limits c.args.events.now sound (subst NoneWrapped from_start fresh))
 
 pub loop-done-preserved : goal.loop-done-preserved
 loop-done-preserved c =

@@ -1,0 +1,190 @@
+-- No handle is given twice in a run in which no free wrapped.
+use Rattle.std.proofs.Common.{◌≡◌, ◌≢◌, refl, sym, ap, subst, ◌∙◌, ℕ, zero, suc, ◌+◌, ◌<◌, Bool, true, false, List, [], ◌∷◌, ◌++◌, append-nil, append_assoc, Option, Some, None, Result, Ok, Err, AllPairs, IsPermutation, inl, inr, arith}
+use Rattle.std.specs.Prelude.{◌==◌}
+use Rattle.std.specs.Ordering.{nat_cmp}
+use Rattle.std.specs.FinMap as finite
+use Rattle.std.specs.FinMap.{FinMap, get-empty}
+use Rattle.std.proofs.lemmas.Bool.{cases_lt}
+use Rattle.std.proofs.lemmas.Bool.Decides.{nat_tests}
+use Rattle.std.proofs.lemmas.List.Sorted.{IsPermutation-refl, IsPermutation-sym, IsPermutation-trans, IsPermutation-append_left, IsPermutation-append_right, IsPermutation-append_comm}
+use Rattle.ent_handle.specs.Handle.{Handle}
+use Rattle.ent_alloc.specs.declared.space.Space.{Space}
+use Rattle.ent_alloc.specs.Limits.{Limits}
+use Rattle.ent_alloc.specs.Sequential.{Allocator, opening, after_take, after_alloc, after_free, after_flush, reply_to}
+use Rattle.ent_alloc.specs.Sound.{IsSound}
+use Rattle.ent_alloc.specs.Given as spent
+use Rattle.ent_alloc.proofs.ListLaws.{AllPairs-left}
+use Rattle.ent_alloc.proofs.Wishes.{handles_of, wish-given}
+use Rattle.ent_alloc.proofs.GivenOnce.{opening-given, alloc-given, free-given, flush-given, given-IsPermutation, given-left}
+use Rattle.ent_alloc.proofs.Soundness.{after_take-sound, after_alloc-sound, after_free-sound, after_flush-sound}
+use Rattle.ent_replay.specs.declared.event.Event.{Event}
+use Rattle.ent_replay.specs.declared.outcome.Outcome.{Outcome}
+use Rattle.ent_replay.specs.declared.outcome.Outcome.TheVariants as outcome
+use Rattle.ent_replay.specs.declared.fault.ReplayFault.{ReplayFault}
+use Rattle.ent_replay.specs.Schedule.{Schedule, OpenCall, Reply, starting, on_event, outcome_of, after_event, outcomes_of, reported, callers, wraps}
+use Rattle.ent_replay.specs.Histories.{given_by, given_in, has_wrapped, NoneWrapped, AreGivenOnce}
+use Rattle.ent_replay.proofs.Maps.{get-inserted, get-insert_other, get-removed, get-remove_other}
+use Rattle.ent_replay.proofs.Moves.{Move, move, stays, allocates, frees, flushes, begins, steps, answers}
+
+-- ---- lists of all callers, one after the other
+
+unfoldable joined : (ℕ → List Handle) → ℕ → List Handle
+joined f zero = []
+joined f (suc n) = joined f n ++ f n
+
+joined-alike : (f g : ℕ → List Handle) (n : ℕ) → ((q : ℕ) → q < n → f q ≡ g q) → joined f n ≡ joined g n
+unfolding joined
+joined-alike f g zero alike = refl
+joined-alike f g (suc n) alike = λ i. joined-alike f g n (λ q lt. alike q (omega arith)) i ++ alike n (omega arith) i
+
+joined-none : (f : ℕ → List Handle) (n : ℕ) → ((q : ℕ) → f q ≡ []) → joined f n ≡ []
+unfolding joined
+joined-none f zero none = refl
+joined-none f (suc n) none = λ i. joined-none f n none i ++ none n i
+
+same_order : (xs ys : List Handle) → xs ≡ ys → IsPermutation xs ys
+same_order xs ys same = subst (IsPermutation xs) same (IsPermutation-refl xs)
+
+-- the last two parts of a list change places
+swapped : (xs ys zs : List Handle) → IsPermutation ((xs ++ ys) ++ zs) ((xs ++ zs) ++ ys)
+swapped xs ys zs =
+    IsPermutation-trans ((xs ++ ys) ++ zs) (xs ++ (ys ++ zs)) ((xs ++ zs) ++ ys) (same_order ((xs ++ ys) ++ zs) (xs ++ (ys ++ zs)) (append_assoc xs ys zs))
+    (IsPermutation-trans (xs ++ (ys ++ zs)) (xs ++ (zs ++ ys)) ((xs ++ zs) ++ ys) (IsPermutation-append_right xs (ys ++ zs) (zs ++ ys) (IsPermutation-append_comm ys zs))
+    (same_order (xs ++ (zs ++ ys)) ((xs ++ zs) ++ ys) (sym (append_assoc xs zs ys))))
+
+-- where one of them has more
+joined-more : (f g : ℕ → List Handle) (c n : ℕ) → c < n → f c ≡ [] → ((q : ℕ) → q ≢ c → f q ≡ g q) → IsPermutation (joined f n ++ g c) (joined g n)
+unfolding joined
+joined-more f g c zero lt none alike = absurd (omega arith)
+joined-more f g c (suc n) lt none alike = elim (cases_lt c n) [
+  | inl below ↦
+      let rest = joined-more f g c n below none alike in
+      let last : f n ≡ g n = alike n (λ same. absurd (omega arith)) in
+      IsPermutation-trans ((joined f n ++ f n) ++ g c) ((joined f n ++ g c) ++ f n) (joined g n ++ g n) (swapped (joined f n) (f n) (g c))
+      (subst (λ x. IsPermutation ((joined f n ++ g c) ++ f n) (joined g n ++ x)) last (IsPermutation-append_left (f n) (joined f n ++ g c) (joined g n) rest))
+  | inr past ↦
+      let here : c ≡ n = omega arith in
+      let rest = joined-alike f g n (λ q below. alike q (λ same. absurd (omega arith))) in
+      let nothing : f n ≡ [] = ap f (sym here) ∙ none in
+      same_order ((joined f n ++ f n) ++ g c) (joined g n ++ g n) (λ i. (ap (joined f n ++◌) nothing ∙ append-nil (joined f n) ∙ rest) i ++ g (here i))
+]
+
+-- ---- the handles that are kept for open calls
+
+abbrev held_by : Option Reply → List Handle
+held_by None = []
+held_by (Some reply) = handles_of reply
+
+abbrev held : Option OpenCall → List Handle
+held None = []
+held (Some call) = held_by call.reply
+
+abbrev pending : FinMap nat_cmp OpenCall → List Handle
+pending calls = joined (λ q. held (finite.get calls q)) callers
+
+pending-none : (calls : FinMap nat_cmp OpenCall) → calls ≡ finite.empty → pending calls ≡ []
+pending-none calls none = joined-none (λ q. held (finite.get calls q)) callers (λ q. ap (λ m. held (finite.get m q)) none ∙ ap held (get-empty nat_cmp q))
+
+module _ (calls : FinMap nat_cmp OpenCall) (caller : ℕ) (below : caller < callers) where
+  pending-inserted : (new : OpenCall) → held (finite.get calls caller) ≡ [] → IsPermutation (pending calls ++ held_by new.reply) (pending (finite.insert calls caller new))
+  pending-inserted new none =
+      subst (λ hs. IsPermutation (pending calls ++ hs) (pending (finite.insert calls caller new))) (ap held (get-inserted calls caller new))
+      (joined-more (λ q. held (finite.get calls q)) (λ q. held (finite.get (finite.insert calls caller new) q)) caller callers below none
+      (λ q other. ap held (sym (get-insert_other calls caller new q other))))
+
+  pending-removed : IsPermutation (pending (finite.remove calls caller) ++ held (finite.get calls caller)) (pending calls)
+  pending-removed =
+      joined-more (λ q. held (finite.get (finite.remove calls caller) q)) (λ q. held (finite.get calls q)) caller callers below (ap held (get-removed calls caller))
+      (λ q other. ap held (get-remove_other calls caller q other))
+
+-- ---- what is kept from event to event
+
+record IsGiven (s : Schedule) (given : List Handle) : Type 0 where
+  sound : IsSound s.allocator
+  once : spent.AreGivenOnce s.allocator (given ++ pending s.calls)
+
+given_by-reported : (reply : Reply) → given_by (Ok (reported reply)) ≡ handles_of reply
+given_by-reported (Ok handles) = refl
+given_by-reported (Err space) = refl
+
+none_left : (given more : List Handle) → more ≡ [] → given ++ more ≡ given
+none_left given more none = ap (given ++◌) none ∙ append-nil given
+
+-- the state and the answer as the event gives them
+onward : (s : Schedule) (e : Event) (given : List Handle) (r : Result Outcome ReplayFault) (t : Schedule) → on_event s e ≡ (r, t) → IsGiven t (given ++ given_by r) → IsGiven (after_event s e) (given ++ given_by (outcome_of s e))
+onward s e given r t is h = subst (λ p. IsGiven p.1 (given ++ given_by p.0)) (sym is) h
+
+given-next : (s : Schedule) (e : Event) (given : List Handle) → IsGiven s given → has_wrapped (outcome_of s e) ≡ false → Move s e → IsGiven (after_event s e) (given ++ given_by (outcome_of s e))
+given-next s e given h fresh (stays r is gives fine tells none) =
+    onward s e given r s is (subst (IsGiven s) (sym (none_left given (given_by r) gives)) h)
+given-next s e given h fresh (allocates x rest is none flushed pool at) =
+    let nothing = pending-none s.calls none in
+    onward s e given (Ok (outcome.Handle x)) (record s { allocator = after_alloc s.allocator x }) is (record {
+      sound = after_alloc-sound s.allocator x rest h.sound flushed pool;
+      once = subst (spent.AreGivenOnce (after_alloc s.allocator x)) (sym (none_left (given ++ x ∷ []) (pending s.calls) nothing))
+          (alloc-given s.allocator x rest given h.sound flushed pool (subst (spent.AreGivenOnce s.allocator) (none_left given (pending s.calls) nothing) h.once));
+    })
+given-next s e given h fresh (frees x is none flushed lives at) =
+    let new : wraps s.allocator.limits x ≡ false = sym (ap (λ p. has_wrapped p.0) is) ∙ fresh in
+    onward s e given _ (record s { allocator = after_free s.allocator x }) is (record {
+      sound = after_free-sound s.allocator x h.sound flushed lives;
+      once = subst (λ hs. spent.AreGivenOnce (after_free s.allocator x) (hs ++ pending s.calls)) (sym (append-nil given))
+          (free-given s.allocator x (given ++ pending s.calls) lives (grind (arith, nat_tests)) h.once);
+    })
+given-next s e given h fresh (flushes is none at) =
+    onward s e given _ (record s { allocator = after_flush s.allocator; spent = finite.empty }) is (record {
+      sound = after_flush-sound s.allocator h.sound;
+      once = subst (λ hs. spent.AreGivenOnce (after_flush s.allocator) (hs ++ pending s.calls)) (sym (append-nil given)) (flush-given s.allocator (given ++ pending s.calls) h.once);
+    })
+given-next s e given h fresh (begins caller n costs is below none at) =
+    let new : OpenCall = record { wish = n; reply = None } in
+    let kept = pending-inserted s.calls caller below new (ap held none) in
+    onward s e given (Ok outcome.Open) (record s { spent = costs; calls = finite.insert s.calls caller new }) is (record {
+      sound = h.sound;
+      once = given-IsPermutation s.allocator (given ++ pending s.calls) ((given ++ []) ++ pending (finite.insert s.calls caller new))
+          (subst (λ hs. IsPermutation (given ++ pending s.calls) (hs ++ pending (finite.insert s.calls caller new))) (sym (append-nil given))
+          (IsPermutation-append_right given (pending s.calls) (pending (finite.insert s.calls caller new))
+          (subst (λ hs. IsPermutation hs (pending (finite.insert s.calls caller new))) (append-nil (pending s.calls)) kept)))
+          h.once;
+    })
+given-next s e given h fresh (steps caller call is below some waits makes at) =
+    let n = call.wish in
+    let new : OpenCall = record { wish = n; reply = Some (reply_to s.allocator n) } in
+    let hs = handles_of (reply_to s.allocator n) in
+    let kept = pending-inserted s.calls caller below new (ap held some ∙ ap held_by waits) in
+    onward s e given _ (record s { allocator = after_take s.allocator n; calls = finite.insert s.calls caller new }) is (record {
+      sound = after_take-sound s.allocator n h.sound;
+      once = given-IsPermutation (after_take s.allocator n) ((given ++ pending s.calls) ++ hs) ((given ++ []) ++ pending (finite.insert s.calls caller new))
+          (subst (λ xs. IsPermutation ((given ++ pending s.calls) ++ hs) (xs ++ pending (finite.insert s.calls caller new))) (sym (append-nil given))
+          (subst (λ xs. IsPermutation xs (given ++ pending (finite.insert s.calls caller new))) (sym (append_assoc given (pending s.calls) hs))
+          (IsPermutation-append_right given (pending s.calls ++ hs) (pending (finite.insert s.calls caller new)) kept)))
+          (wish-given s.allocator n (given ++ pending s.calls) h.sound h.once);
+    })
+given-next s e given h fresh (answers caller call reply is below some stepped at) =
+    let left = pending (finite.remove s.calls caller) in
+    let hs = handles_of reply in
+    let holds : held (finite.get s.calls caller) ≡ hs = ap held some ∙ ap held_by stepped in
+    let kept : IsPermutation (left ++ hs) (pending s.calls) = subst (λ xs. IsPermutation (left ++ xs) (pending s.calls)) holds (pending-removed s.calls caller below) in
+    onward s e given (Ok (reported reply)) (record s { calls = finite.remove s.calls caller }) is (record {
+      sound = h.sound;
+      once = subst (λ xs. spent.AreGivenOnce s.allocator ((given ++ xs) ++ left)) (sym (given_by-reported reply))
+          (given-IsPermutation s.allocator (given ++ pending s.calls) ((given ++ hs) ++ left)
+          (IsPermutation-trans (given ++ pending s.calls) (given ++ (left ++ hs)) ((given ++ hs) ++ left)
+          (IsPermutation-append_right given (pending s.calls) (left ++ hs) (IsPermutation-sym (left ++ hs) (pending s.calls) kept))
+          (IsPermutation-trans (given ++ (left ++ hs)) ((given ++ left) ++ hs) ((given ++ hs) ++ left) (same_order (given ++ (left ++ hs)) ((given ++ left) ++ hs) (sym (append_assoc given left hs))) (swapped given left hs)))
+          h.once);
+    })
+
+-- ---- whole runs
+
+given_run : (s : Schedule) (events : List Event) (given : List Handle) → IsGiven s given → NoneWrapped (outcomes_of s events) → AllPairs (λ g h. g ≢ h) (given ++ given_in (outcomes_of s events))
+given_run s [] given h fresh = subst (AllPairs (λ g h. g ≢ h)) (sym (append-nil given)) (AllPairs-left (λ g h. g ≢ h) given (pending s.calls) h.once.distinct)
+given_run s (e ∷ events) given h fresh =
+    subst (AllPairs (λ g h. g ≢ h)) (append_assoc given (given_by (outcome_of s e)) (given_in (outcomes_of (after_event s e) events)))
+    (given_run (after_event s e) events (given ++ given_by (outcome_of s e)) (given-next s e given h fresh.0 (move s e)) fresh.1)
+
+pub given_once : (limits : Limits) (events : List Event) → IsSound (opening limits) → NoneWrapped (outcomes_of (starting limits) events) → AreGivenOnce (outcomes_of (starting limits) events)
+given_once limits events sound fresh = given_run (starting limits) events [] (record {
+  sound = sound;
+  once = subst (spent.AreGivenOnce (opening limits)) (sym (pending-none finite.empty refl)) (opening-given limits);
+}) fresh

@@ -1,0 +1,96 @@
+-- Runs of a schedule as histories: the calls between two flushes in the order of their steps, and the handles that are given.
+use Rattle.std.specs.Prelude.{◌≡◌, ◌≢◌, ℕ, zero, suc, Bool, false, nat_lt, ◌==◌, if◌then◌else◌, List, [], ◌∷◌, ◌++◌, Option, Some, None, Result, Ok, Err, ◌⊎◌}
+use Rattle.std.specs.List.{AllPairs, AllByRecursion, flat_map}
+use Rattle.std.specs.Option.{option_or}
+use Rattle.std.specs.FinMap as map
+use Rattle.ent_handle.specs.Handle.{Handle}
+use Rattle.ent_alloc.specs.Sequential.{Allocator, reply_to}
+use Rattle.ent_alloc.specs.History.{Call, IsLegal, after_history}
+use Rattle.ent_replay.specs.declared.event.Event.{Event}
+use Rattle.ent_replay.specs.declared.event.Event.TheVariants as event
+use Rattle.ent_replay.specs.declared.outcome.Outcome.{Outcome}
+use Rattle.ent_replay.specs.declared.outcome.Outcome.TheVariants as outcome
+use Rattle.ent_replay.specs.declared.fault.ReplayFault.{ReplayFault}
+use Rattle.ent_replay.specs.Schedule.{Schedule, OpenCall, Reply, after_event, callers, reported}
+
+-- ---- the history of steps
+
+-- a first step for some handles is a reservation; a wish for none is none
+abbrev pub reserved : Schedule → ℕ → ℕ → Option Reply → List Call
+reserved s caller n (Some reply) = []
+reserved s caller zero None = []
+reserved s caller (suc n) None = record { caller = caller; wish = suc n; reply = reply_to s.allocator (suc n) } ∷ []
+
+abbrev pub reserved_by : Schedule → ℕ → Option OpenCall → List Call
+reserved_by s caller None = []
+reserved_by s caller (Some call) = reserved s caller call.wish call.reply
+
+-- the reservation that the event makes, if it makes one
+abbrev pub reservations : Schedule → Event → List Call
+reservations s (event.Step caller) = if nat_lt caller callers then reserved_by s caller (map.get s.calls caller) else []
+reservations s other = []
+
+-- the allocator as it was when last nothing was asked for, and the reservations since then
+pub record Phase : Type 0 where
+  pub start : Allocator
+  pub calls : List Call
+
+-- the phase after an event: a new one begins wherever nothing is asked for
+abbrev pub next_phase : Phase → Schedule → Event → Phase
+next_phase p s e =
+    if (after_event s e).allocator.asked == 0 then record { start = (after_event s e).allocator; calls = [] }
+    else record { start = p.start; calls = p.calls ++ reservations s e }
+
+-- the caller's last reservation
+abbrev pub last_of : ℕ → List Call → Option Call
+last_of caller [] = None
+last_of caller (call ∷ calls) = option_or (last_of caller calls) (if call.caller == caller then Some call else None)
+
+-- An answer tells the reply to the caller's last reservation, or that a wish for none gave none.
+abbrev pub Tells : List Call → Event → Result Outcome ReplayFault → Type 0
+Tells calls (event.Answer caller) (Ok told) = (told ≡ outcome.Handles []) ⊎ ((call : Call) × (last_of caller calls ≡ Some call) × (told ≡ reported call.reply))
+Tells calls e result = Unit {0}
+
+-- After each event the reservations of the phase, in the order of their steps, are a legal history that leads from its
+-- start to the allocator, and each answer tells a reply of that history: so it doesn't matter when a call is answered.
+abbrev pub StandInHistory : Phase → Schedule → List Event → List (Result Outcome ReplayFault) → Type 0
+StandInHistory p s [] results = Unit {0}
+StandInHistory p s (e ∷ events) [] = ⊥
+StandInHistory p s (e ∷ events) (result ∷ results) =
+    Tells p.calls e result
+    × IsLegal (next_phase p s e).start (next_phase p s e).calls
+    × (after_history (next_phase p s e).start (next_phase p s e).calls ≡ (after_event s e).allocator)
+    × StandInHistory (next_phase p s e) (after_event s e) events results
+
+-- no call is open, and nothing is asked for
+pub record IsAtRest (s : Schedule) : Type 0 where
+  pub closed : s.calls ≡ map.empty
+  pub flushed : s.allocator.asked ≡ 0
+
+-- the phase that begins there
+abbrev pub new_phase : Schedule → Phase
+new_phase s = record { start = s.allocator; calls = [] }
+
+-- ---- the handles that are given
+
+-- what an outcome gives; the handle that a freed slot gives next is not given yet
+abbrev pub given_by : Result Outcome ReplayFault → List Handle
+given_by (Ok (outcome.Handle h)) = h ∷ []
+given_by (Ok (outcome.Handles handles)) = handles
+given_by other = []
+
+-- what all outcomes give
+abbrev pub given_in : List (Result Outcome ReplayFault) → List Handle
+given_in results = flat_map given_by results
+
+-- the generations of a slot began anew
+abbrev pub has_wrapped : Result Outcome ReplayFault → Bool
+has_wrapped (Ok (outcome.Freed h next wrapped)) = wrapped
+has_wrapped other = false
+
+abbrev pub NoneWrapped : List (Result Outcome ReplayFault) → Type 0
+NoneWrapped results = AllByRecursion (λ r. has_wrapped r ≡ false) results
+
+-- no handle is given twice
+abbrev pub AreGivenOnce : List (Result Outcome ReplayFault) → Type 0
+AreGivenOnce results = AllPairs (λ g h. g ≢ h) (given_in results)
