@@ -6,20 +6,20 @@ use std::time::{Duration, Instant};
 extern "C" {
     fn storage_born(entities: u32, stride: u32) -> u32;
     fn storage_insert(entities: u32, stride: u32) -> u32;
-    fn storage_get(entities: u32, stride: u32) -> u32;
+    fn storage_get(entities: u32, stride: u32, rounds: u32) -> u32;
     fn storage_despawn(entities: u32, stride: u32) -> u32;
 }
 
-type Work = unsafe extern "C" fn(u32, u32) -> u32;
+const ROUNDS: u32 = 10;
 
-/// Nanoseconds an entity: the shortest of the runs that fit into the time.
-fn nanoseconds(work: Work, entities: u32, stride: u32) -> f64 {
+/// Nanoseconds an entity: the shortest of at least three runs.
+fn nanoseconds(entities: u32, work: impl Fn(u32) -> u32) -> f64 {
     let begun = Instant::now();
     let mut least = f64::MAX;
     let mut runs = 0;
-    while runs < 3 || begun.elapsed() < Duration::from_millis(1500) {
+    while runs < 3 || begun.elapsed() < Duration::from_secs(1) {
         let start = Instant::now();
-        let done = unsafe { work(black_box(entities), black_box(stride)) };
+        let done = work(black_box(entities));
         let took = start.elapsed().as_secs_f64();
         assert_eq!(done, entities, "a call was refused");
         least = least.min(took * 1e9 / f64::from(entities));
@@ -33,16 +33,14 @@ fn main() {
     println!("|---|---|---|---|---|---|");
     for (order, stride) in [("rising handles", 1), ("scattered handles", 7919)] {
         for entities in [1_000, 10_000, 100_000] {
-            let born = nanoseconds(storage_born, entities, stride);
-            let insert = nanoseconds(storage_insert, entities, stride);
-            let get = nanoseconds(storage_get, entities, stride);
-            let despawn = nanoseconds(storage_despawn, entities, stride);
-            println!(
-                "| {order} | {entities} | {born:.0} | {:.0} | {:.0} | {:.0} |",
-                insert - born,
-                get - insert,
-                despawn - born
-            );
+            let filled = nanoseconds(entities, |n| unsafe { storage_born(n, 1) });
+            let born = nanoseconds(entities, |n| unsafe { storage_born(n, stride) });
+            let insert = nanoseconds(entities, |n| unsafe { storage_insert(n, stride) }) - filled;
+            let unread = nanoseconds(entities, |n| unsafe { storage_get(n, stride, 0) });
+            let read = nanoseconds(entities, |n| unsafe { storage_get(n, stride, ROUNDS) });
+            let get = (read - unread) / f64::from(ROUNDS);
+            let despawn = nanoseconds(entities, |n| unsafe { storage_despawn(n, stride) }) - filled;
+            println!("| {order} | {entities} | {born:.0} | {insert:.0} | {get:.0} | {despawn:.0} |");
         }
     }
 }

@@ -1,8 +1,8 @@
 //! Work for a storage, exported so that `bench/storage` can time it.
 //!
-//! Each export makes a storage of `entities` entities. The handle of the i-th call has the index
-//! `i * stride % entities`, so a stride of 1 goes through them in order and a large prime in a scattered
-//! order. Each answers how many of its calls went well.
+//! Each export makes a storage of `entities` entities. The i-th measured call is on the entity whose
+//! handle has the index `i * stride % entities`, so a stride of 1 goes through them in order and a large
+//! prime in a scattered order. Each answers how many calls of its last round went well.
 #![tactic(auto)]
 
 ghost use Rattle.std.specs.Prelude.{◌<◌, ◌≤◌};
@@ -22,34 +22,37 @@ pub extern "C" fn storage_born(alloc: Global, entities: u32, stride: u32) -> u32
     born_all(&mut storage, entities, stride)
 }
 
-/// Brings the entities to life and gives each a component.
+/// Brings the entities to life in order and gives each a component.
 #[unsafe(no_mangle)]
 pub extern "C" fn storage_insert(alloc: Global, entities: u32, stride: u32) -> u32
     ensures { result ≤ entities }
 {
     let mut storage = Storage::new(alloc);
-    let _ = born_all(&mut storage, entities, stride);
+    let _ = born_all(&mut storage, entities, 1);
     insert_all(&mut storage, entities, stride)
 }
 
-/// Brings the entities to life, gives each a component, and reads it.
+/// Brings the entities to life in order, gives each a component, and reads each in every round.
 #[unsafe(no_mangle)]
-pub extern "C" fn storage_get(alloc: Global, entities: u32, stride: u32) -> u32
+pub extern "C" fn storage_get(alloc: Global, entities: u32, stride: u32, rounds: u32) -> u32
     ensures { result ≤ entities }
 {
     let mut storage = Storage::new(alloc);
-    let _ = born_all(&mut storage, entities, stride);
-    let _ = insert_all(&mut storage, entities, stride);
-    get_all(&storage, entities, stride)
+    let _ = born_all(&mut storage, entities, 1);
+    let mut done = insert_all(&mut storage, entities, 1);
+    for _ in 0..rounds {
+        done = get_all(&storage, entities, stride);
+    }
+    done
 }
 
-/// Brings the entities to life and takes each out again.
+/// Brings the entities to life in order and takes each out again.
 #[unsafe(no_mangle)]
 pub extern "C" fn storage_despawn(alloc: Global, entities: u32, stride: u32) -> u32
     ensures { result ≤ entities }
 {
     let mut storage = Storage::new(alloc);
-    let _ = born_all(&mut storage, entities, stride);
+    let _ = born_all(&mut storage, entities, 1);
     despawn_all(&mut storage, entities, stride)
 }
 

@@ -20,7 +20,7 @@ birth_cmp a b = ordering_then (nat_cmp a.frame b.frame) (ordering_then (nat_cmp 
 abbrev pub birth_order : Entities → Handle → Handle → Ordering
 birth_order m a b = ordering_then (option_cmp birth_cmp (birth_of m a) (birth_of m b)) (handle_cmp a b)
 
--- the list has each entity that passes, and no other handle, each before those that come later in the order of birth
+-- the list has the handles of the entities that pass and no others, rising by birth and then by handle
 pub record ListsByBirth (passes : Entity → Bool) (m : Entities) (handles : List Handle) : Type 0 where
   pub rising : AllPairs (λ a b. birth_order m a b ≡ Less) handles
   pub holds : (h : Handle) → Contains handles h ↔ IsSomeAnd (finite.get m h) (λ e. IsTrue (passes e))

@@ -1,4 +1,6 @@
 //! Components of living entities: a finite map from handles to births and components.
+//!
+//! `Storage` keeps the entities in rows, beside an index that finds a row by its handle.
 #![tactic(auto)]
 
 mod components;
