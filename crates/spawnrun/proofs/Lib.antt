@@ -1,3 +1,4 @@
 pub mod DeviceLemmas
 pub mod ParsedOptions
 pub mod CommandLineLemmas
+pub mod ReplayLemmas

@@ -2,3 +2,4 @@ pub mod Device
 pub mod Counted
 pub mod CommandLine
 pub mod Status
+pub mod Replay

@@ -1,15 +1,22 @@
-//! Runs schedules of allocator events.
+//! Runs schedules of allocator events: `spawnrun replay` reads one on standard input and writes what
+//! each event gave.
 #![tactic(auto)]
+
+ghost use Rattle.std.specs.Prelude.{◌≡◌};
+ghost use Rattle.std.specs.Process.{exit_status};
+ghost use Rattle.spawnrun.specs.Status.{exit_number};
 
 mod command_line;
 mod device;
 mod input;
+mod replay;
 mod status;
 
-use command_line::{LineFault, command_line};
-use device::Counted;
-use input::{INPUT_LIMIT, InputFault, read_all};
+use command_line::{LineFault, Task, command_line};
+use device::{Counted, Sink, Source};
+use replay::replay;
 use status::Status;
+use std::alloc::Global;
 use std::env::Env;
 use std::process::ExitCode;
 use std::{env, io};
@@ -23,9 +30,10 @@ fn main(rt: HostRuntime) -> ExitCode {
         Err(error) => return ended(&rt, unread(&error)),
     };
     match command_line(rt.alloc(), words.as_slice()) {
-        Ok(_task) => {
+        Ok(task) => {
             let mut input = Counted::new(rt.stdin());
-            ended(&rt, read(rt.alloc(), &mut input))
+            let mut output = Counted::new(rt.stdout());
+            ended(&rt, run(rt.alloc(), &mut input, &mut output, task))
         }
         Err(LineFault::Line(error)) => {
             let _ = rt.eprint(&error);
@@ -35,13 +43,10 @@ fn main(rt: HostRuntime) -> ExitCode {
     }
 }
 
-// The machine that runs a schedule isn't there yet: its input is read, and that's all.
-fn read(alloc: std::alloc::Global, input: &mut impl device::Source) -> Status {
-    match read_all(alloc, input, INPUT_LIMIT) {
-        Ok(_) => Status::Done,
-        Err(InputFault::TooLong) => Status::Refused,
-        Err(InputFault::Memory) => Status::Memory,
-        Err(InputFault::Device) => Status::Device,
+// Does the task between the two devices.
+fn run<I: Source, O: Sink>(alloc: Global, input: &mut I, output: &mut O, task: Task) -> Status {
+    match task {
+        Task::Replay(limits) => replay(alloc, input, output, limits),
     }
 }
 
@@ -52,6 +57,7 @@ fn words(rt: &(impl Env + AllocGlobal)) -> io::Result<Vec<String>> {
     Ok(words.collect(rt.alloc())?)
 }
 
+// How the program ends where its words can't be read.
 fn unread(error: &io::Error) -> Status {
     if error.kind() == io::ErrorKind::OutOfMemory {
         Status::Memory
@@ -61,7 +67,9 @@ fn unread(error: &io::Error) -> Status {
 }
 
 // Says on standard error what the output doesn't show.
-fn ended(rt: &impl Eprint, status: Status) -> ExitCode {
+fn ended(rt: &impl Eprint, status: Status) -> ExitCode
+    ensures { exit_status result ≡ exit_number status }
+{
     let _ = match status {
         Status::Done | Status::Refused => Ok(()),
         Status::Memory => rt.eprintln("memory"),
