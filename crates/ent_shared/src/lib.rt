@@ -14,3 +14,6 @@ pub use record::{Call, Entry, Record};
 pub use refused::Refused;
 pub use reserver::Reserver;
 pub use shared::Shared;
+
+#[cfg(test)]
+mod tests;
