@@ -4,3 +4,4 @@ pub mod BirthOrder
 pub mod Place
 pub mod Places
 pub mod Rows
+pub mod Fault

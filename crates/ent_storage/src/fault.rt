@@ -17,12 +17,17 @@ pub enum StorageFault {
 }
 
 impl fmt::Display for StorageFault {
+    ghost use Rattle.std.specs.Prelude.{Some};
+    ghost use Rattle.ent_storage.specs.Fault.{fault_text};
+
+    ghost output = { λ fault. Some (fault_text fault) };
+
     fn fmt<W: fmt::Write>(&self, f: &mut fmt::Formatter<W>) -> fmt::Result {
-        f.write_str(match self {
-            StorageFault::Absent => "no such entity",
-            StorageFault::Present => "the entity is there already",
-            StorageFault::Memory => "out of memory",
-        })
+        match self {
+            StorageFault::Absent => f.write_str("no such entity"),
+            StorageFault::Present => f.write_str("the entity is there already"),
+            StorageFault::Memory => f.write_str("out of memory"),
+        }
     }
 }
 
