@@ -1,6 +1,5 @@
 -- No handle is given twice in a run in which no free wrapped.
-use Rattle.std.proofs.Common.{◌≡◌, ◌≢◌, refl, sym, ap, subst, ◌∙◌, ℕ, zero, suc, ◌+◌, ◌<◌, Bool, true, false, List, [], ◌∷◌, ◌++◌, append-nil, append_assoc, Option, Some, None, Result, Ok, Err, AllPairs, IsPermutation, inl, inr, arith}
-use Rattle.std.specs.Prelude.{◌==◌}
+use Rattle.std.proofs.Common.{◌≡◌, ◌≢◌, refl, sym, ap, subst, ◌∙◌, ℕ, zero, suc, ◌<◌, false, List, [], ◌∷◌, ◌++◌, append-nil, append_assoc, Option, Some, None, Result, Ok, Err, AllPairs, IsPermutation, inl, inr, arith}
 use Rattle.std.specs.Ordering.{nat_cmp}
 use Rattle.std.specs.FinMap as finite
 use Rattle.std.specs.FinMap.{FinMap, get-empty}
@@ -8,14 +7,13 @@ use Rattle.std.proofs.lemmas.Bool.{cases_lt}
 use Rattle.std.proofs.lemmas.Bool.Decides.{nat_tests}
 use Rattle.std.proofs.lemmas.List.Sorted.{IsPermutation-refl, IsPermutation-sym, IsPermutation-trans, IsPermutation-append_left, IsPermutation-append_right, IsPermutation-append_comm}
 use Rattle.ent_handle.specs.Handle.{Handle}
-use Rattle.ent_alloc.specs.declared.space.Space.{Space}
 use Rattle.ent_alloc.specs.Limits.{Limits}
-use Rattle.ent_alloc.specs.Sequential.{Allocator, opening, after_take, after_alloc, after_free, after_flush, reply_to}
+use Rattle.ent_alloc.specs.Sequential.{opening, after_take, after_alloc, after_free, after_flush, reply_to}
 use Rattle.ent_alloc.specs.Sound.{IsSound}
 use Rattle.ent_alloc.specs.Given as spent
 use Rattle.ent_alloc.proofs.ListLaws.{AllPairs-left}
 use Rattle.ent_alloc.proofs.Wishes.{handles_of, wish-given}
-use Rattle.ent_alloc.proofs.GivenOnce.{opening-given, alloc-given, free-given, flush-given, given-IsPermutation, given-left}
+use Rattle.ent_alloc.proofs.GivenOnce.{opening-given, alloc-given, free-given, flush-given, given-IsPermutation}
 use Rattle.ent_alloc.proofs.Soundness.{after_take-sound, after_alloc-sound, after_free-sound, after_flush-sound}
 use Rattle.ent_replay.specs.declared.event.Event.{Event}
 use Rattle.ent_replay.specs.declared.outcome.Outcome.{Outcome}

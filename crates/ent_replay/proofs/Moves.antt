@@ -1,22 +1,20 @@
 -- The kinds of event, by what they do to a schedule.
-use Rattle.std.proofs.Common.{◌≡◌, ◌≢◌, refl, sym, ap, subst, ◌∙◌, ℕ, zero, suc, ◌+◌, ◌<◌, Bool, true, false, cond, not, nat_lt, List, [], ◌∷◌, ◌++◌, Option, Some, None, Result, Ok, Err, All, arith}
-use Rattle.std.specs.Prelude.{◌==◌}
+use Rattle.std.proofs.Common.{◌≡◌, ◌≢◌, refl, sym, ap, ◌∙◌, ℕ, ◌+◌, ◌<◌, Bool, true, false, nat_lt, List, [], ◌∷◌, Option, Some, None, Result, Ok, Err, All, arith}
 use Rattle.std.specs.Ordering.{nat_cmp}
 use Rattle.std.specs.FinSet as set
 use Rattle.std.specs.FinMap as finite
 use Rattle.std.specs.FinMap.{FinMap, empty_of_len}
 use Rattle.std.proofs.lemmas.Bool.Decides.{nat_tests}
 use Rattle.ent_handle.specs.Handle.{Handle}
-use Rattle.ent_alloc.specs.Sequential.{Allocator, cursor, after_take, after_alloc, after_free, after_flush, next, born, reply_to}
+use Rattle.ent_alloc.specs.Sequential.{cursor, after_take, after_alloc, after_free, after_flush, next, born, reply_to}
 use Rattle.ent_alloc.specs.Sound.{IsLive}
-use Rattle.ent_alloc.specs.History.{Call}
 use Rattle.ent_replay.specs.declared.event.Event.{Event}
 use Rattle.ent_replay.specs.declared.event.Event.TheVariants as event
 use Rattle.ent_replay.specs.declared.outcome.Outcome.{Outcome}
 use Rattle.ent_replay.specs.declared.outcome.Outcome.TheVariants as outcome
 use Rattle.ent_replay.specs.declared.fault.ReplayFault.{ReplayFault}
 use Rattle.ent_replay.specs.declared.fault.ReplayFault.TheVariants as fault
-use Rattle.ent_replay.specs.Schedule.{Schedule, OpenCall, Answered, Reply, is_busy, on_event, outcome_of, after_event, outcomes_of, alloc_front, begin_with, step_with, step_open, answer_with, answer_open, spent_by, left_of, callers, reported, wraps}
+use Rattle.ent_replay.specs.Schedule.{Schedule, OpenCall, Reply, is_busy, on_event, outcome_of, after_event, outcomes_of, alloc_front, begin_with, step_with, step_open, answer_with, answer_open, spent_by, left_of, callers, reported, wraps}
 use Rattle.ent_replay.specs.Histories.{reserved, reserved_by, reservations, given_by}
 use Rattle.std.proofs.lemmas.List.Elements.{All-nil, All-cons}
 use Rattle.ent_replay.proofs.Maps.{no_test}

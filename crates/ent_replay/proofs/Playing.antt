@@ -1,7 +1,6 @@
 -- What each event does to the fields of a `Machine`, and that it keeps them in order.
-use Rattle.std.proofs.Common.{◌≡◌, ◌≢◌, refl, sym, ap, subst, ◌∙◌, ℕ, ◌+◌, ◌-◌, ◌*◌, ◌^◌, ◌<◌, ◌≤◌, ℤ, pos, ◌-ℤ◌, ◌≤ℤ◌, Bool, true, false, IsTrue, cond, not, nat_lt, nat_le, List, [], ◌∷◌, length, drop, filter, slice_get, Option, Some, None, Result, Ok, Err, arith, inl, inr}
+use Rattle.std.proofs.Common.{◌≡◌, refl, sym, ap, subst, ◌∙◌, ℕ, ◌+◌, ◌*◌, ◌^◌, ◌<◌, ◌≤◌, pos, ◌-ℤ◌, ◌≤ℤ◌, Bool, true, false, IsTrue, cond, not, nat_lt, List, [], ◌∷◌, length, drop, filter, slice_get, Option, Some, None, Result, Ok, Err, arith, inl, inr}
 use Rattle.std.proofs.lemmas.Int.{ints}
-use Rattle.std.proofs.lemmas.Bool.{lt-leb}
 use Rattle.std.specs.Prelude.{◌==◌}
 use Rattle.std.specs.Option.{option_map, unwrap_or, is_some}
 use Rattle.std.specs.Result.{OnOk, OnErr, is_err}
@@ -13,11 +12,10 @@ use Rattle.std.proofs.lemmas.Bool.Decides.{nat_tests}
 use Rattle.std.proofs.lemmas.Option.{same_Some}
 use native.Mathlib.Decide.{ℕ_discrete}
 use Rattle.ent_handle.specs.Handle.{Handle}
-use Rattle.ent_alloc.specs.declared.space.Space.{Space}
 use Rattle.ent_alloc.specs.declared.span.Span.{Span}
-use Rattle.ent_alloc.specs.Limits.{Limits, AreLimits}
-use Rattle.ent_alloc.specs.Sequential.{Allocator, available, top, cursor, opening, after_take, after_alloc, after_free, after_flush, next, born, reply_from, reply_to, pool_at, asked_at, is_old}
-use Rattle.ent_alloc.specs.Sound.{IsSound, IsLive}
+use Rattle.ent_alloc.specs.Limits.{Limits}
+use Rattle.ent_alloc.specs.Sequential.{Allocator, cursor, opening, after_take, after_alloc, after_free, after_flush, next, born, reply_from, reply_to, pool_at, asked_at, is_old}
+use Rattle.ent_alloc.specs.Sound.{IsSound}
 use Rattle.ent_alloc.proofs.Taken.{available-after_take}
 use Rattle.ent_alloc.proofs.Soundness.{after_take-sound, after_alloc-sound, after_free-sound, after_flush-sound}
 use Rattle.ent_alloc.proofs.PoolLaw.{made-after_take, asked-after_take, top-after_take, cursor-after_take, reply-cursor}
@@ -26,11 +24,11 @@ use Rattle.ent_replay.specs.declared.outcome.Outcome.{Outcome}
 use Rattle.ent_replay.specs.declared.outcome.Outcome.TheVariants as outcome
 use Rattle.ent_replay.specs.declared.fault.ReplayFault.{ReplayFault}
 use Rattle.ent_replay.specs.declared.fault.ReplayFault.TheVariants as fault
-use Rattle.ent_replay.specs.Schedule.{Schedule, OpenCall, Answered, Reply, starting, is_busy, needs_flush, on_alloc, on_free, on_flush, on_begin, on_step, on_answer, alloc_front, begin_with, step_with, step_open, answer_with, answer_open, spent_by, left_of, callers, credit, reported, refuse, say, wraps}
+use Rattle.ent_replay.specs.Schedule.{Schedule, OpenCall, Answered, starting, is_busy, on_alloc, on_free, on_flush, on_begin, on_step, on_answer, alloc_front, begin_with, step_with, step_open, answer_with, answer_open, left_of, callers, credit, reported, wraps}
 use Rattle.ent_replay.specs.Totals.{total}
-use Rattle.ent_replay.specs.Machine.{map_values, replied, schedule_of, unasked, awaited, HasPassed, IsPlayed, Makes}
+use Rattle.ent_replay.specs.Machine.{map_values, replied, schedule_of, unasked, awaited, IsPlayed, Makes}
 use Rattle.ent_replay.proofs.Totals.{total-changed, total-bound, total-part, total-none}
-use Rattle.ent_replay.proofs.Maps.{no_test, maps_alike, get-inserted, get-insert_other, get-removed, get-remove_other, insert-remove, get-map_values, map_values-insert, map_values-remove, map_values-empty}
+use Rattle.ent_replay.proofs.Maps.{no_test, maps_alike, get-inserted, get-insert_other, get-removed, get-remove_other, get-map_values, map_values-insert, map_values-remove, map_values-empty}
 
 -- ---- tests
 

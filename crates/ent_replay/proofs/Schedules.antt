@@ -1,8 +1,6 @@
 -- Whole schedules: one event more, and one part after the other.
-use Rattle.std.proofs.Common.{◌≡◌, ◌≢◌, refl, sym, ap, subst, ◌∙◌, ℕ, suc, ◌+◌, ◌<◌, ◌≤◌, Bool, true, false, cond, List, [], ◌∷◌, ◌++◌, length, take, drop, slice_get, Option, Some, None, Result, Ok, Err, arith}
+use Rattle.std.proofs.Common.{◌≡◌, refl, ap, suc, List, [], ◌∷◌, ◌++◌, length}
 use Rattle.ent_replay.specs.declared.event.Event.{Event}
-use Rattle.ent_replay.specs.declared.outcome.Outcome.{Outcome}
-use Rattle.ent_replay.specs.declared.fault.ReplayFault.{ReplayFault}
 use Rattle.ent_replay.specs.Schedule.{Schedule, outcome_of, after_event, outcomes_of, after_events}
 
 pub after_events-append : (s : Schedule) (xs ys : List Event) → after_events s (xs ++ ys) ≡ after_events (after_events s xs) ys

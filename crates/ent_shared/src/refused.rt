@@ -1,8 +1,11 @@
+use thiserror::Error;
+
 /// Why a reservation gave no handle.
-#[derive(Clone, Copy, Debug, PartialEq, Eq)]
+#[derive(Clone, Copy, Debug, PartialEq, Eq, Error)]
 pub enum Refused {
     /// The pool had fewer handles than were wished for. The wish is taken from the reserver's credit, and the pool
     /// gives no more until the next flush.
+    #[error("{wanted} wanted and {left} left")]
     Space {
         /// How many handles were wished for.
         wanted: u32,
@@ -10,6 +13,7 @@ pub enum Refused {
         left: u32,
     },
     /// The wish was above the reserver's credit. Nothing has changed.
+    #[error("the credit left is {left}")]
     Quota {
         /// The credit that is left.
         left: u64,

@@ -1,8 +1,7 @@
-use Rattle.std.proofs.Common.{◌≡◌, refl, sym, ap, subst, ◌∙◌, ℕ, [], length, arith}
+use Rattle.std.proofs.Common.{sym, ap, ◌∙◌, length}
 use Rattle.std.specs.FinMap as map
-use Rattle.std.specs.Ordering.{nat_cmp}
 use Rattle.std.proofs.lemmas.List.{nil_from_length}
-use Rattle.ent_replay.proofs.Maps.{of_tree, get-of_tree, of_tree-insert, of_tree-remove, from_entries-empty}
+use Rattle.ent_replay.proofs.Maps.{from_entries-empty}
 use Rattle.ent_replay.proofs.by_caller.ByCaller.is_empty.Goals as goal
 
 pub returns : goal.returns

@@ -1,8 +1,6 @@
-use Rattle.std.proofs.Common.{◌≡◌, refl, sym, ap, subst, ◌∙◌, ℕ, [], length, arith}
+use Rattle.std.proofs.Common.{ap, ◌∙◌}
 use Rattle.std.specs.FinMap as map
-use Rattle.std.specs.Ordering.{nat_cmp}
-use Rattle.std.proofs.lemmas.List.{nil_from_length}
-use Rattle.ent_replay.proofs.Maps.{of_tree, get-of_tree, of_tree-insert, of_tree-remove, from_entries-empty}
+use Rattle.ent_replay.proofs.Maps.{of_tree-remove}
 use Rattle.ent_replay.proofs.by_caller.ByCaller.remove.Goals as goal
 
 pub returns : goal.returns

@@ -1,16 +1,13 @@
-use Rattle.std.proofs.Common.{◌≡◌, ◌<◌, ◌≤◌, ◌+◌, ◌-◌, ◌^◌, ◌^◌, pos, ◌-ℤ◌, ◌≤ℤ◌, refl, sym, ap, subst, ◌∙◌, Ok, Err, Option, Some, None, arith}
+use Rattle.std.proofs.Common.{◌≡◌, refl, sym, ap, subst, ◌∙◌, Ok, Err, arith}
 use Rattle.std.specs.FinMap as finite
 use Rattle.std.proofs.lemmas.Int.{ints}
-use Rattle.ent_alloc.specs.Sequential.{Allocator, cursor, after_take, reply_from, pool_at}
-use Rattle.ent_alloc.specs.declared.span.Span.{Span}
-use Rattle.ent_replay.specs.Schedule.{Schedule, on_begin, on_step, on_answer, spent_by, left_of, reported}
+use Rattle.ent_alloc.specs.Sequential.{reply_from, pool_at}
+use Rattle.ent_replay.specs.Schedule.{on_answer, reported}
 use Rattle.ent_replay.specs.Machine.{schedule_of, IsPlayed}
-use Rattle.ent_replay.specs.declared.call.Call.{Call}
 use Rattle.ent_replay.specs.declared.machine.Machine.TheInside.{Inside}
 use Rattle.ent_replay.specs.declared.outcome.Outcome.{Outcome}
 use Rattle.ent_replay.specs.declared.outcome.Outcome.TheVariants as outcome
 use Rattle.ent_replay.specs.declared.fault.ReplayFault.TheVariants as fault
-use Rattle.ent_replay.proofs.Maps.{no_test}
 use Rattle.ent_replay.proofs.Playing.{done, answer-not_open, answer-not_stepped, answer-answered, answer-played}
 use Rattle.ent_replay.proofs.machine.Machine.answer.Goals as goal
 use Rattle.ent_replay.proofs.machine.Machine.answer.Goals.{in-Ok+in-Ok-listed, in-Err}

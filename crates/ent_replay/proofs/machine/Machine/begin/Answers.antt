@@ -1,16 +1,11 @@
-use Rattle.std.proofs.Common.{◌≡◌, ◌<◌, ◌≤◌, ◌+◌, ◌-◌, ◌^◌, ◌^◌, pos, ◌-ℤ◌, ◌≤ℤ◌, refl, sym, ap, subst, ◌∙◌, Ok, Err, Option, Some, None, arith}
+use Rattle.std.proofs.Common.{◌≡◌, ◌+◌, ◌-◌, refl, sym, ap, subst, ◌∙◌, Ok, Err, None, arith}
 use Rattle.std.specs.FinMap as finite
-use Rattle.std.proofs.lemmas.Int.{ints}
-use Rattle.ent_alloc.specs.Sequential.{Allocator, cursor, after_take, reply_from, pool_at}
-use Rattle.ent_alloc.specs.declared.span.Span.{Span}
-use Rattle.ent_replay.specs.Schedule.{Schedule, on_begin, spent_by, left_of, credit}
+use Rattle.ent_replay.specs.Schedule.{on_begin, spent_by, left_of, credit}
 use Rattle.std.specs.Option.{unwrap_or}
 use Rattle.ent_replay.specs.Machine.{schedule_of, IsPlayed}
-use Rattle.ent_replay.specs.declared.call.Call.{Call}
-use Rattle.ent_replay.specs.declared.outcome.Outcome.{Outcome}
 use Rattle.ent_replay.specs.declared.outcome.Outcome.TheVariants as outcome
 use Rattle.ent_replay.specs.declared.fault.ReplayFault.TheVariants as fault
-use Rattle.ent_replay.proofs.Maps.{no_test, insert-remove}
+use Rattle.ent_replay.proofs.Maps.{insert-remove}
 use Rattle.ent_replay.proofs.Playing.{done, refused, some_of, none_of, on_ok, on_err, begin-open, begin-quota, begin-begun, begin-played}
 use Rattle.ent_replay.proofs.machine.Machine.begin.Goals as goal
 

@@ -1,8 +1,8 @@
-use Rattle.std.proofs.Common.{◌≡◌, refl, sym, ap, subst, ◌∙◌, Ok, Err, List, [], ◌++◌}
+use Rattle.std.proofs.Common.{◌≡◌, refl, sym, ap, subst, ◌∙◌, Ok, Err, List, ◌++◌}
 use Rattle.std.specs.FinMap as finite
 use Rattle.ent_handle.specs.Handle.{Handle}
-use Rattle.ent_alloc.specs.Sequential.{Allocator, after_flush, born}
-use Rattle.ent_replay.specs.Schedule.{Schedule, on_flush}
+use Rattle.ent_alloc.specs.Sequential.{after_flush, born}
+use Rattle.ent_replay.specs.Schedule.{on_flush}
 use Rattle.ent_replay.specs.Machine.{schedule_of, IsPlayed}
 use Rattle.ent_replay.specs.declared.outcome.Outcome.TheVariants as outcome
 use Rattle.ent_replay.specs.declared.fault.ReplayFault.TheVariants as fault

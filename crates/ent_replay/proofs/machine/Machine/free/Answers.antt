@@ -1,7 +1,7 @@
-use Rattle.std.proofs.Common.{◌≡◌, ◌<◌, Bool, true, false, IsTrue, refl, sym, ap, subst, ◌∙◌, Ok, Err}
+use Rattle.std.proofs.Common.{◌≡◌, refl, sym, ap, subst, ◌∙◌, Ok, Err}
 use Rattle.ent_alloc.specs.Sequential.{Allocator, after_free, next}
 use Rattle.ent_alloc.specs.declared.fault.FreeFault.TheVariants as why
-use Rattle.ent_replay.specs.Schedule.{Schedule, on_free, wraps}
+use Rattle.ent_replay.specs.Schedule.{on_free, wraps}
 use Rattle.ent_replay.specs.Machine.{schedule_of, IsPlayed}
 use Rattle.ent_replay.specs.declared.outcome.Outcome.TheVariants as outcome
 use Rattle.ent_replay.specs.declared.fault.ReplayFault.TheVariants as fault

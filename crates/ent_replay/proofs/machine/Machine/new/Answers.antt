@@ -1,6 +1,5 @@
-use Rattle.std.proofs.Common.{◌≡◌, refl, sym, ap, subst, ◌∙◌, Ok, Err}
+use Rattle.std.proofs.Common.{sym, ap, subst, ◌∙◌, Ok}
 use Rattle.std.specs.FinMap as finite
-use Rattle.ent_alloc.specs.Sequential.{Allocator, opening}
 use Rattle.ent_replay.specs.Machine.{schedule_of, IsPlayed}
 use Rattle.ent_alloc.specs.Sound.{IsSound}
 use Rattle.ent_replay.proofs.Playing.{starting_is, starting-played}

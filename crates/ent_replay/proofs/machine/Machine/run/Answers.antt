@@ -1,4 +1,4 @@
-use Rattle.std.proofs.Common.{ℕ, ◌≤◌, List, Result, ◌≡◌, ◌≢◌, ◌<◌, ◌+◌, ◌++◌, ◌∷◌, [], refl, sym, ap, subst, ◌∙◌, Ok, Err, length, take, true, false, arith}
+use Rattle.std.proofs.Common.{ℕ, ◌≤◌, List, Result, ◌≡◌, ◌≢◌, ◌+◌, ◌++◌, ◌∷◌, [], sym, ap, subst, ◌∙◌, Err, length, take, arith}
 use Rattle.std.proofs.lemmas.List.{take_more, take_all}
 use Rattle.ent_alloc.specs.Sequential.{opening}
 use Rattle.ent_alloc.specs.Sound.{IsSound}
@@ -11,7 +11,7 @@ use Rattle.ent_replay.specs.declared.event.Event.{Event}
 use Rattle.ent_replay.specs.Schedule.{Schedule, outcome_of, after_event, outcomes_of, after_events}
 use Rattle.ent_replay.specs.declared.fault.ReplayFault.TheVariants as fault
 use Rattle.ent_replay.proofs.Maps.{no_test}
-use Rattle.ent_replay.proofs.Schedules.{after_events-append, outcomes_of-append, length-outcomes_of}
+use Rattle.ent_replay.proofs.Schedules.{after_events-append, outcomes_of-append}
 use Rattle.ent_replay.proofs.machine.Machine.run.Goals as goal
 
 -- all outcomes, where the loop has seen all events

@@ -1,15 +1,12 @@
-use Rattle.std.proofs.Common.{◌≡◌, ◌<◌, ◌≤◌, ◌+◌, ◌-◌, ◌^◌, ◌^◌, pos, ◌-ℤ◌, ◌≤ℤ◌, refl, sym, ap, subst, ◌∙◌, Ok, Err, Option, Some, None, arith, to_z, of_z, w64}
+use Rattle.std.proofs.Common.{◌≡◌, pos, ◌-ℤ◌, refl, sym, ap, subst, ◌∙◌, Ok, Err, Some, arith, to_z, of_z, w64}
 use Rattle.std.specs.FinMap as finite
 use Rattle.std.proofs.lemmas.Int.{ints}
-use Rattle.ent_alloc.specs.Sequential.{Allocator, cursor, after_take, reply_from, pool_at}
+use Rattle.ent_alloc.specs.Sequential.{cursor, after_take}
 use Rattle.ent_alloc.specs.declared.span.Span.{Span}
-use Rattle.ent_replay.specs.Schedule.{Schedule, on_begin, on_step, on_answer, spent_by, left_of, reported}
+use Rattle.ent_replay.specs.Schedule.{on_step}
 use Rattle.ent_replay.specs.Machine.{schedule_of, unasked, IsPlayed}
-use Rattle.ent_replay.specs.declared.call.Call.{Call}
-use Rattle.ent_replay.specs.declared.outcome.Outcome.{Outcome}
 use Rattle.ent_replay.specs.declared.outcome.Outcome.TheVariants as outcome
 use Rattle.ent_replay.specs.declared.fault.ReplayFault.TheVariants as fault
-use Rattle.ent_replay.proofs.Maps.{no_test}
 use Rattle.ent_replay.proofs.Playing.{done, some_of, none_of, awaited-bound, step-not_open, step-stepped, step-taken, step-played}
 use Rattle.ent_replay.proofs.machine.Machine.take.Goals as goal
 
