@@ -237,3 +237,20 @@ fn each_read_and_the_write_fails_in_turn(rt: HostRuntime) {
     let status = replay(rt.alloc(), &mut source, &mut sink, limits);
     assert_eq!(rt; status, Status::Device);
 }
+
+/// Passes whichever single allocation is refused, be it the run's or its sink's.
+#[test]
+fn refused_memory_writes_nothing(rt: HostRuntime) {
+    let schedule = b"alloc\nalloc\nfree 0v1\nbegin 1 2\nstep 1\nanswer 1\nflush\n";
+    let output = b"0v1\n1v1\nfreed 0v1 next 0v2\nopen\ncursor -1\n0v2 2v1\nborn 2v1 0v2\n";
+    let mut source = MemorySource::new(schedule, 7, NEVER);
+    let mut sink = MemorySink::new(rt.alloc(), NEVER);
+    let limits = Limits::default_limits();
+    match replay(rt.alloc(), &mut source, &mut sink, limits) {
+        Status::Memory | Status::Device => assert!(rt; sink.bytes.is_empty()),
+        status => {
+            assert_eq!(rt; status, Status::Done);
+            assert_eq!(rt; sink.bytes.as_slice(), output.as_slice());
+        }
+    }
+}
