@@ -1,13 +1,13 @@
 -- What a legal history leaves and gives.
-use Rattle.std.proofs.Common.{◌≡◌, ◌≢◌, refl, sym, ap, ◌∙◌, subst, ℕ, ◌+◌, ◌<◌, ◌≤◌, List, [], ◌∷◌, ◌++◌, length, sum, All, AllPairs, IsPermutation, Result, Ok, Err}
+use Rattle.std.proofs.Common.{◌≡◌, ◌≢◌, refl, sym, ap, ◌∙◌, subst, ℕ, ◌+◌, ◌<◌, ◌≤◌, List, [], ◌∷◌, ◌++◌, length, sum, All, AllPairs, Contains, IsPermutation, Result, Ok, Err, ◌↔◌, ◌⊎◌}
 use Rattle.ent_handle.specs.Handle.{Handle}
 use Rattle.ent_alloc.specs.declared.space.Space.{Space}
-use Rattle.ent_alloc.specs.Sequential.{Allocator, after_take, reply_to, settled}
+use Rattle.ent_alloc.specs.Sequential.{Allocator, after_take, after_flush, reply_to, settled}
 use Rattle.ent_alloc.specs.Sound.{IsSound, IsLive, AreApart}
 use Rattle.ent_alloc.specs.History.{Call, IsLegal, after_history, handles_in, given_in, wishes_of}
 use Rattle.ent_alloc.proofs.PoolLaw.{after_takes, after_takes-sound}
 use Rattle.ent_alloc.proofs.Replies.{distinct_from_apart}
-use Rattle.ent_alloc.proofs.Wishes.{handles_of, given_by, given_by-apart, given_by-not_live, taken-since_flush}
+use Rattle.ent_alloc.proofs.Wishes.{handles_of, given_by, given_by-apart, given_by-not_live, taken-since_flush, live-since_flush}
 use Rattle.ent_alloc.proofs.Settled.{after_takes-settled}
 
 -- only the wishes count
@@ -40,6 +40,11 @@ module _ (s : Allocator) (calls : List Call) (sound : IsSound s) (legal : IsLega
   pub given_in-taken : s.asked ≡ 0 → IsPermutation (given_in calls) (after_history s calls).taken
   given_in-taken flushed =
       subst (λ (p : List Handle × Allocator). IsPermutation p.0 p.1.taken) (λ i. (sym (given_in-legal s calls legal) i, sym (after_history-takes s calls) i)) (taken-since_flush s (wishes_of calls) sound flushed)
+
+  -- and a flush then brings exactly those to life
+  pub given_in-wake : s.asked ≡ 0 → (x : Handle) → IsLive (after_flush (after_history s calls)) x ↔ IsLive s x ⊎ Contains (given_in calls) x
+  given_in-wake flushed x =
+      subst (λ (p : List Handle × Allocator). IsLive (after_flush p.1) x ↔ IsLive s x ⊎ Contains p.0 x) (λ i. (sym (given_in-legal s calls legal) i, sym (after_history-takes s calls) i)) (live-since_flush s (wishes_of calls) sound flushed x)
 
   -- two numbers tell the state
   pub after_history-settled : s.asked ≡ 0 → after_history s calls ≡ settled s (length (given_in calls)) (sum (wishes_of calls))

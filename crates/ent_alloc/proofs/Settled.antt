@@ -1,13 +1,15 @@
 -- Two numbers tell what wishes leave of a flushed allocator: how many handles were given, and how many were asked for.
-use Rattle.std.proofs.Common.{◌≡◌, sym, ap, ◌∙◌, ℕ, ◌+◌, ◌<◌, ◌≤◌, List, [], ◌++◌, length, take, drop, sum, Err, arith, nat_le, false, append_assoc}
-use Rattle.std.proofs.lemmas.Bool.{lt-leb}
-use Rattle.std.proofs.lemmas.List.{take-append-drop, take-take, drop_all, length-take}
+use Rattle.std.proofs.Common.{◌≡◌, sym, ap, ◌∙◌, ℕ, ◌+◌, ◌-◌, ◌<◌, ◌≤◌, List, [], ◌++◌, length, take, drop, sum, Err, arith, nat_le, false, append_assoc, append-nil, inl, inr}
+use Rattle.std.proofs.lemmas.Bool.{lt-leb, cases_lt}
+use Rattle.std.proofs.lemmas.List.{take-append-drop, take-take, take_all, drop_all, length-take, length-drop, length-append}
 use Rattle.std.proofs.lemmas.List.Sorted.{length_permutation}
+use Rattle.std.specs.List.{filter}
 use Rattle.ent_handle.specs.Handle.{Handle}
-use Rattle.ent_alloc.specs.Sequential.{Allocator, available, after_take, reply_to, settled}
+use Rattle.ent_alloc.specs.Sequential.{Allocator, available, top, is_old, fresh, after_take, reply_to, settled}
 use Rattle.ent_alloc.specs.Sound.{IsSound}
+use Rattle.ent_alloc.proofs.FreshHandles.{length-fresh}
 use Rattle.ent_alloc.proofs.LaidOut.{flushed-laid_out}
-use Rattle.ent_alloc.proofs.Taken.{length-pool, after_take-refused}
+use Rattle.ent_alloc.proofs.Taken.{length-pool, after_take-refused, after_take-served}
 use Rattle.ent_alloc.proofs.PoolLaw.{limits-after_takes, live-after_takes, rows-after_takes, after_takes, after_takes-sound, available-after_takes, made-after_takes, asked-after_takes, pool-after_takes, taken_is, aside_is, length-taken}
 use Rattle.ent_alloc.proofs.Soundness.{IsSound-moved}
 use Rattle.ent_alloc.proofs.Wishes.{given_by, taken-since_flush}
@@ -43,6 +45,41 @@ module _ (s : Allocator) (h : IsSound s) (flushed : s.asked ≡ 0) where
       (λ within.
       let all : given ≡ asked = enough (omega (arith, ap length all_in_pool)) in
       rw nothing_aside (drop_all given (take asked s.pool) (omega (arith, length-take asked s.pool))))
+
+  -- how many there are to give
+  pub length-all : length s.pool ≡ top s + (s.limits.slots - s.made)
+  length-all =
+      ap length (sym all_in_pool) ∙ ap length h.order
+      ∙ (length-append (filter (is_old s.made) (available s)) (fresh s.made (s.limits.slots - s.made)) ∙ ap (λ (n : ℕ). top s + n) (length-fresh s.made (s.limits.slots - s.made)))
+
+  -- two wishes leave such a state: one that is served, and one that is refused where more was asked for
+  pub settled-wishes : (given asked : ℕ) → given ≤ asked → given ≤ length s.pool → (asked ≤ length s.pool → given ≡ asked) → settled s given asked ≡ after_take (after_take s given) (asked - given)
+  settled-wishes given asked le enough whole =
+      let t : Allocator = record s { taken = s.taken ++ take given s.pool; pool = drop given s.pool; asked = s.asked + given } in
+      let first : after_take s given ≡ t = after_take-served s given enough in
+      let left = length-drop given s.pool in
+      let second : settled s given asked ≡ after_take t (asked - given) = elim (cases_lt (length s.pool) asked) [
+        | inl short ↦
+            let all : take asked s.pool ≡ s.pool = take_all asked s.pool (omega arith) in
+            let none : drop asked s.pool ≡ [] = drop_all asked s.pool (omega arith) in
+            let sum : s.asked + asked ≡ s.asked + given + (asked - given) = omega arith in
+            (λ i. record t { aside = s.aside ++ drop given (all i); pool = none i; asked = sum i })
+            ∙ sym (after_take-refused t (asked - given) (omega arith))
+        | inr within ↦
+            let same : given ≡ asked = whole within in
+            let nothing : asked - given ≡ 0 = omega arith in
+            let sum : s.asked + asked ≡ s.asked + given + 0 = omega arith in
+            let none : drop given (take asked s.pool) ≡ [] = drop_all given (take asked s.pool) (omega (arith, length-take asked s.pool)) in
+            (λ i. record t {
+              taken = sym (append-nil (s.taken ++ take given s.pool)) i;
+              aside = (ap (s.aside ++◌) none ∙ append-nil s.aside) i;
+              pool = ap (λ n. drop n s.pool) (sym same) i;
+              asked = sum i;
+            })
+            ∙ sym (after_take-served t 0 (omega arith))
+            ∙ ap (after_take t) (sym nothing)
+      ] in
+      second ∙ ap (λ (a : Allocator). after_take a (asked - given)) (sym first)
 
   -- wishes leave such a state
   pub after_takes-settled : (wishes : List ℕ) → after_takes s wishes ≡ settled s (length (given_by s wishes)) (sum wishes)

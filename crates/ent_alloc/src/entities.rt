@@ -87,8 +87,8 @@ impl Entities {
         self.slots.waiting()
     }
 
-    /// The number that each reservation lowers: the top where nothing is reserved. Below 0 it counts
-    /// the fresh slots that are asked for.
+    /// The number that each reservation lowers: the top where nothing was asked for since the last flush.
+    /// Below 0 it counts the fresh slots that are asked for.
     pub fn cursor(&self) -> i64
         ensures value { result ≡ cursor self.now }
 
@@ -125,8 +125,8 @@ impl Entities {
     ///
     /// # Errors
     ///
-    /// Nothing changes. `NeedsFlush` where handles are reserved, `Space` where every slot has a living
-    /// tenant, and `Memory`, which only a new slot can meet.
+    /// Nothing changes. `NeedsFlush` where handles were asked for since the last flush, also where the wish
+    /// was refused; `Space` where every slot has a living tenant; and `Memory`, which only a new slot can meet.
     pub fn alloc(&mut self) -> Result<Handle, AllocFault>
         ensures front { IfOk result (λ h. slice_get self.old.pool 0 ≡ Some h) }
         ensures ok { IfOk result (λ h. self.new ≡ after_alloc self.old h) }
@@ -161,7 +161,8 @@ impl Entities {
     ///
     /// # Errors
     ///
-    /// Nothing changes. `NeedsFlush` where handles are reserved, then `NotAlive`, then `Memory`.
+    /// Nothing changes. `NeedsFlush` where handles were asked for since the last flush, also where the wish
+    /// was refused; then `NotAlive`, then `Memory`.
     pub fn free(&mut self, handle: Handle) -> Result<Freed, FreeFault>
         ensures ok { OnOk result (self.new ≡ after_free self.old handle) }
         ensures next { IfOk result (λ freed. freed.next ≡ next self.old.limits handle) }
@@ -196,12 +197,13 @@ impl Entities {
     ///
     /// # Errors
     ///
-    /// Nothing changes, `out` neither, where memory runs out.
+    /// `Memory`, which only a reserved handle can meet. Nothing changes then, `out` neither.
     pub fn flush(&mut self, out: &mut Vec<Handle>) -> Result<(), Memory>
         ensures ok { OnOk result (self.new ≡ after_flush self.old) }
         ensures born { OnOk result (out.new.items ≡ out.old.items ++ born self.old) }
         ensures err { OnErr result (self.new ≡ self.old) }
         ensures unchanged { OnErr result (out.new.items ≡ out.old.items) }
+        ensures memory { OnErr result (0 < length self.old.taken) }
     {
         let top = u64::from(self.slots.waiting());
         let reserved = distance(self.slots.waiting(), self.floor);
@@ -244,7 +246,8 @@ impl Entities {
     }
 
     /// The state after reservations that leave the cursor and the floor at these places: what is asked for is
-    /// all from the top down to the cursor, and what is reserved is all down to the floor.
+    /// all from the top down to the cursor, and what is reserved is all down to the floor. It is the state after
+    /// one wish that was served and, where more was asked for, one that was refused.
     pub fn settle(&mut self, cursor: i64, floor: i64)
         requires flushed { self.old.asked ≡ 0 }
         requires least { pos (top self.old) ≤ℤ (cursor +ℤ pos (2 ^ 50)) }
@@ -252,7 +255,9 @@ impl Entities {
         requires ordered { cursor ≤ℤ floor }
         requires reachable { pos 0 ≤ℤ (floor +ℤ pos (self.old.limits.slots - self.old.made)) }
         requires all_given { pos 0 ≤ℤ (cursor +ℤ pos (self.old.limits.slots - self.old.made)) → floor ≡ cursor }
-        ensures { self.new ≡ settled self.old (asked_at (top self.old) floor) (asked_at (top self.old) cursor) }
+        ensures settled { self.new ≡ settled self.old (asked_at (top self.old) floor) (asked_at (top self.old) cursor) }
+        ensures wishes { let given = asked_at (top self.old) floor in
+            self.new ≡ after_take (after_take self.old given) (asked_at (top self.old) cursor - given) }
     {
         self.cursor = cursor;
         self.floor = floor;
@@ -275,7 +280,11 @@ impl Entities {
     }
 
     /// What the reservation of these places gives: the old handles first, in the order of their places, then
-    /// the fresh ones; or how much was left where they reach past the last slot.
+    /// the fresh ones.
+    ///
+    /// # Errors
+    ///
+    /// `Space`, with what was left, where the places reach past the last slot.
     pub fn reply(&self, span: Span) -> Result<Reserved<'_>, Space>
         requires least { neg_ℤ (pos (2 ^ 60)) ≤ℤ span.high }
         requires passed { span.high ≤ℤ pos (top self.now) }

@@ -4,8 +4,8 @@ use thiserror::Error;
 /// Why `Entities::alloc` gave no handle. Nothing has changed then.
 #[derive(Clone, Copy, Debug, PartialEq, Eq, Error)]
 pub enum AllocFault {
-    /// Handles are reserved that no flush has brought to life.
-    #[error("entities are reserved and not flushed")]
+    /// Handles were asked for since the last flush, be it that the wish was refused.
+    #[error("a flush is needed first")]
     NeedsFlush,
     /// Every slot has a living tenant.
     #[error("no slot is free")]
@@ -18,8 +18,8 @@ pub enum AllocFault {
 /// Why `Entities::free` freed nothing. Nothing has changed then.
 #[derive(Clone, Copy, Debug, PartialEq, Eq, Error)]
 pub enum FreeFault {
-    /// Handles are reserved that no flush has brought to life.
-    #[error("entities are reserved and not flushed")]
+    /// Handles were asked for since the last flush, be it that the wish was refused.
+    #[error("a flush is needed first")]
     NeedsFlush,
     /// The handle isn't alive.
     #[error("the entity is not alive")]

@@ -142,6 +142,7 @@ impl Slots {
     pub(crate) fn list_fresh(&self, count: u32, out: &mut Vec<Handle>) -> Result<(), Memory>
         requires { self.now.made + count ≤ self.now.limits.slots }
         ensures ok { OnOk result (out.new.items ≡ out.old.items ++ fresh self.now.made count) }
+        ensures memory { OnErr result (0 < count) }
         ensures kept { take (length out.old.items) out.new.items ≡ out.old.items }
     {
         let made = self.made();
@@ -155,6 +156,7 @@ impl Slots {
     pub(crate) fn list_pending(&self, from: usize, out: &mut Vec<Handle>) -> Result<(), Memory>
         requires { from ≤ length self.now.pending }
         ensures ok { OnOk result (out.new.items ≡ out.old.items ++ drop from self.now.pending) }
+        ensures memory { OnErr result (from < length self.now.pending) }
         ensures kept { take (length out.old.items) out.new.items ≡ out.old.items }
     {
         for place in from..self.waiting() as usize {
@@ -171,6 +173,7 @@ impl Slots {
           made = self.old.made + count;
         }) }
         ensures err { OnErr result (self.new ≡ self.old) }
+        ensures memory { OnErr result (0 < count) }
     {
         let made = self.records.len();
         self.records
@@ -240,6 +243,7 @@ impl Slots {
         ensures born { OnOk result (out.new.items ≡ out.old.items ++ (fresh_handles self.old.made fresh ++ drop kept self.old.pending)) }
         ensures err { OnErr result (self.new ≡ self.old) }
         ensures unchanged { OnErr result (out.new.items ≡ out.old.items) }
+        ensures memory { OnErr result (0 < fresh + (length self.old.pending - kept)) }
     {
         let before = out.len();
         if let Err(refused) = self.grow(kept, fresh, out) {
@@ -261,6 +265,7 @@ impl Slots {
         ensures born { OnOk result (out.new.items ≡ out.old.items ++ (fresh_handles self.old.made fresh ++ drop kept self.old.pending)) }
         ensures err { OnErr result (self.new ≡ self.old) }
         ensures kept { take (length out.old.items) out.new.items ≡ out.old.items }
+        ensures memory { OnErr result (0 < fresh + (length self.old.pending - kept)) }
     {
         self.list_fresh(fresh, out)?;
         self.list_pending(kept, out)?;

@@ -1,5 +1,8 @@
+use thiserror::Error;
+
 /// A wish for handles that the pool couldn't serve.
-#[derive(Clone, Copy, Debug, PartialEq, Eq)]
+#[derive(Clone, Copy, Debug, PartialEq, Eq, Error)]
+#[error("{wanted} wanted and {left} left")]
 pub struct Space {
     /// How many handles were wished for.
     pub wanted: u32,

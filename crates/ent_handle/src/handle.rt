@@ -6,7 +6,8 @@ use std::marker::Model;
 /// Names one tenant of one slot: the slot's index, and the generation that tells its tenants apart.
 ///
 /// An index is 0 to 4,294,967,294 and a generation 1 to 2,147,483,647. Handles are ordered by index,
-/// then by generation. As in Bevy, a handle whose slot was given anew is another handle.
+/// then by generation. As in Bevy, a slot that is given anew has another handle, until its generations
+/// begin anew.
 #[derive(Clone, Copy, Debug, PartialEq, Eq, Hash, PartialOrd, Ord)]
 pub struct Handle {
     index: u32,

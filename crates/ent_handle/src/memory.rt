@@ -1,20 +1,12 @@
 use std::alloc::{AllocError, AllocFailed};
-use std::error::Error;
-use std::fmt;
+use thiserror::Error;
 
 /// Memory ran out: the one refusal of a call that only has to grow something.
 ///
 /// It is answered only where a growth was really refused.
-#[derive(Clone, Copy, Debug, PartialEq, Eq)]
+#[derive(Clone, Copy, Debug, PartialEq, Eq, Error)]
+#[error("out of memory")]
 pub struct Memory;
-
-impl fmt::Display for Memory {
-    fn fmt<W: fmt::Write>(&self, f: &mut fmt::Formatter<W>) -> fmt::Result {
-        f.write_str("out of memory")
-    }
-}
-
-impl Error for Memory {}
 
 impl From<AllocError> for Memory {
     fn from(_refused: AllocError) -> Self {

@@ -6,28 +6,18 @@ use crate::decimal::{decimal_value, is_decimal};
 use crate::handle::Handle;
 use crate::memory::Memory;
 use itoa::Buffer;
-use std::error::Error;
-use std::fmt;
+use thiserror::Error;
 
 /// Why a text is no number, or no handle.
-#[derive(Clone, Copy, Debug, PartialEq, Eq, Hash)]
+#[derive(Clone, Copy, Debug, PartialEq, Eq, Hash, Error)]
 pub enum TextFault {
     /// It is not of the form.
+    #[error("not of the form")]
     Shape,
     /// It is of the form, and a number in it is out of range.
+    #[error("a number out of range")]
     Range,
 }
-
-impl fmt::Display for TextFault {
-    fn fmt<W: fmt::Write>(&self, f: &mut fmt::Formatter<W>) -> fmt::Result {
-        f.write_str(match self {
-            TextFault::Shape => "not of the form",
-            TextFault::Range => "a number out of range",
-        })
-    }
-}
-
-impl Error for TextFault {}
 
 /// What stands before the first separator and what stands behind it, or `None` where there is none.
 pub fn split_once(bytes: &[u8], separator: u8) -> Option<(&[u8], &[u8])>

@@ -3,8 +3,7 @@ ghost use Rattle.ent_replay.specs.ScheduleText.{cause_text};
 ghost use Rattle.ent_replay.specs.declared.read_fault.ReadFault.TheVariants.{Memory};
 
 use std::alloc::{AllocError, AllocFailed};
-use std::error::Error;
-use std::fmt;
+use thiserror::Error;
 
 /// What is wrong with a line: the first of these that is.
 #[derive(Clone, Copy, Debug, PartialEq, Eq, Hash)]
@@ -34,9 +33,10 @@ impl Cause {
 }
 
 /// Why a text is no schedule, or could not be read.
-#[derive(Clone, Copy, Debug, PartialEq, Eq, Hash)]
+#[derive(Clone, Copy, Debug, PartialEq, Eq, Hash, Error)]
 pub enum ReadFault {
     /// The first line that names no event.
+    #[error("line {line} names no event")]
     Line {
         /// Its number, from 1.
         line: usize,
@@ -44,22 +44,9 @@ pub enum ReadFault {
         cause: Cause,
     },
     /// Memory ran out.
+    #[error("out of memory")]
     Memory,
 }
-
-impl fmt::Display for ReadFault {
-    fn fmt<W: fmt::Write>(&self, f: &mut fmt::Formatter<W>) -> fmt::Result {
-        match self {
-            ReadFault::Line { line, cause } => {
-                let cause = cause.text();
-                write!(f, "line {line}: {cause}")
-            }
-            ReadFault::Memory => f.write_str("out of memory"),
-        }
-    }
-}
-
-impl Error for ReadFault {}
 
 impl From<AllocError> for ReadFault {
     ghost from_gives = { λ _ fault. fault ≡ Memory };

@@ -1,19 +1,20 @@
 -- The end of a phase: the history of all records is legal, and the cursor and the least floor tell the allocator after it.
-use Rattle.std.proofs.Common.{◌≡◌, ◌≢◌, ℕ, ◌+◌, ◌-◌, ◌*◌, ◌^◌, ◌<◌, ◌≤◌, ℤ, pos, ◌+ℤ◌, ◌-ℤ◌, ◌≤ℤ◌, List, [], ◌∷◌, ◌++◌, length, map, refl, sym, ap, subst, ◌∙◌, arith, sum, length-append, All, AllPairs, inl, inr}
+use Rattle.std.proofs.Common.{◌≡◌, ◌≢◌, ℕ, ◌+◌, ◌-◌, ◌*◌, ◌^◌, ◌<◌, ◌≤◌, ℤ, pos, ◌+ℤ◌, ◌-ℤ◌, ◌≤ℤ◌, List, [], ◌∷◌, ◌++◌, length, map, refl, sym, ap, subst, ◌∙◌, arith, sum, length-append, All, AllPairs, Contains, inl, inr, ◌↔◌, ◌⊎◌}
 use Rattle.std.specs.List.{sum_by, filter, flat_map}
 use Rattle.std.specs.Int.{int_min}
 use Rattle.std.proofs.lemmas.List.Sums.{sum_by-cons}
 use Rattle.std.proofs.lemmas.Bool.{cases_lt}
 use Rattle.std.proofs.lemmas.List.Sorted.{length_permutation}
 use Rattle.std.proofs.lemmas.Int.{ints}
-use Rattle.ent_alloc.specs.Sequential.{Allocator, available, cursor, top, is_old, fresh, asked_at, settled}
+use Rattle.ent_handle.specs.Handle.{Handle}
+use Rattle.ent_alloc.specs.Sequential.{Allocator, available, cursor, top, is_old, fresh, asked_at, settled, after_flush}
 use Rattle.ent_alloc.specs.Sound.{IsSound, IsLive}
 use Rattle.ent_alloc.specs.History as history
 use Rattle.ent_alloc.proofs.FreshHandles.{length-fresh}
 use Rattle.ent_alloc.proofs.PoolLaw.{after_takes-sound, available-after_takes, asked-after_takes, length-taken}
 use Rattle.ent_alloc.proofs.LaidOut.{flushed-laid_out}
 use Rattle.ent_alloc.proofs.Meaning.{asked_at-is}
-use Rattle.ent_alloc.proofs.Histories.{after_history-takes, given_in-distinct, given_in-not_live, given_in-taken, after_history-settled}
+use Rattle.ent_alloc.proofs.Histories.{after_history-takes, given_in-distinct, given_in-not_live, given_in-taken, given_in-wake, after_history-settled}
 use Rattle.ent_shared.specs.declared.record.Call.{Call}
 use mir.Syntax.{w64}
 use mir.Val.{to_z, of_z}
@@ -74,6 +75,9 @@ module _ (start : Allocator) (count : ℕ) (records : List Record) (at : ℤ) (k
 
     pub not_live : All (λ h. ¬ (IsLive start h)) (history.given_in (history_of records))
     not_live = given_in-not_live start (history_of records) sound legal
+
+    pub woken : (h : Handle) → IsLive (after_flush (history.after_history start (history_of records))) h ↔ IsLive start h ⊎ Contains (history.given_in (history_of records)) h
+    woken = given_in-wake start (history_of records) sound legal flushed
 
     -- the least floor tells how many are taken
     pub floor_is : least_floor (cursor start) records ≡ pos (top start) -ℤ pos (length final.taken)
@@ -164,6 +168,7 @@ pub record Ended (here start : Allocator) (records : List Record) (at floor : �
   pub after : settled here (asked_at (top here) floor) (asked_at (top here) at) ≡ history.after_history start (history_of records)
   pub all_distinct : AllPairs (λ g h. g ≢ h) (history.given_in (history_of records))
   pub none_live : All (λ h. ¬ (IsLive start h)) (history.given_in (history_of records))
+  pub wakes : (h : Handle) → IsLive (after_flush (history.after_history start (history_of records))) h ↔ IsLive start h ⊎ Contains (history.given_in (history_of records)) h
 
 ended_at : (start : Allocator) (count : ℕ) (records : List Record) (at floor : ℤ) → IsSound start → start.asked ≡ 0 → count ≤ 1024 → length records ≡ count → IsClosed start count records at
     → floor ≡ least_floor (pos (top start)) records → Ended start start records at floor
@@ -178,6 +183,7 @@ ended_at start count records at floor sound flushed few whole k is = record {
   after = settled_is start count records at k sound flushed whole floor is;
   all_distinct = distinct start count records at k sound flushed whole;
   none_live = not_live start count records at k sound flushed whole;
+  wakes = woken start count records at k sound flushed whole;
 }
 
 -- a cursor between the bounds is what the code makes of it

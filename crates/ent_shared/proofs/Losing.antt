@@ -72,6 +72,7 @@ calls_within start high (c ∷ cs) end asked up is f =
 pub record Lost (here start : Allocator) (count : ℕ) (records : List Record) (at floor : ℤ) : Type 0 where
   pub asked : ℕ
   pub most : asked ≤ count * credit
+  pub reached : All (λ (r : Record). (cursor start -ℤ pos asked) ≤ℤ r.mark) records
   pub least : pos (top here) ≤ℤ (at +ℤ pos (2 ^ 50))
   pub greatest : floor ≤ℤ pos (top here)
   pub all_given : pos 0 ≤ℤ (at +ℤ pos (here.limits.slots - here.made)) → floor ≡ at
@@ -131,6 +132,8 @@ lost_at start count records at floor sound flushed few k which =
     record {
       asked = asked;
       most = k.asked;
+      reached = All-weaker (IsKept start at k.log) (λ (r : Record). (cursor start -ℤ pos asked) ≤ℤ r.mark)
+          (λ r kept. let mark = kept.marks.mark in omega (arith, ints)) records k.each;
       least = cursor_least start count records at k sound flushed few;
       greatest = floor_in;
       all_given = λ room. ⊎_elim (λ (p : (floor ≡ at) × (neg_ℤ (pos (start.limits.slots - start.made)) ≤ℤ at)). p.0) (λ (p : (floor ≡ neg_ℤ (pos (start.limits.slots - start.made))) × (at ≤ℤ floor)). let e = p.0 in let l = p.1 in omega (arith, ints)) which;

@@ -10,6 +10,7 @@ pub struct Call {
     pub caller: u64,
     /// The cursor that it found.
     pub high: i64,
+    /// How many handles were wished for.
     pub wish: u32,
     /// What was answered: the handles, or what was left of the pool.
     pub reply: Result<LinkedList<Handle>, Space>,
@@ -27,6 +28,7 @@ pub enum Entry {
 pub struct Record {
     /// The allocator as it was shared.
     pub start: Entities,
+    /// The place of the reserver in the list that `share` gave.
     pub number: u64,
     /// What it did, in order.
     pub entries: LinkedList<Entry>,

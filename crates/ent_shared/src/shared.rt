@@ -1,5 +1,6 @@
-ghost use Rattle.std.specs.Prelude.{◌≡◌, ℕ, ℤ, pos, ◌+ℤ◌, ◌-ℤ◌, ◌≤ℤ◌, ◌<◌, ◌≤◌, ◌+◌, ◌-◌, ◌*◌, ◌^◌, List, [], ◌∷◌, ◌++◌, length, map, All, AllPairs, Contains, ◌≢◌, IfOk, IfErr, Ok, Err};
-ghost use Rattle.ent_alloc.specs.Sequential.{cursor, reply_from, pool_at};
+ghost use Rattle.std.specs.Prelude.{◌≡◌, ℕ, ℤ, pos, ◌+ℤ◌, ◌-ℤ◌, ◌≤ℤ◌, ◌<◌, ◌≤◌, ◌+◌, ◌-◌, ◌*◌, ◌^◌, List, [], ◌∷◌, ◌++◌, length, map, All, AllPairs, Contains, ◌≢◌, ◌↔◌, ◌⊎◌, IfOk, IfErr, Ok, Err};
+ghost use Rattle.ent_handle.specs.Handle.{Handle as HandleValue};
+ghost use Rattle.ent_alloc.specs.Sequential.{cursor, reply_from, pool_at, after_flush};
 ghost use Rattle.ent_alloc.specs.History.{IsLegal, after_history, given_in};
 ghost use Rattle.ent_alloc.specs.Sound.{IsLive};
 ghost use Rattle.ent_shared.specs.Record.{after_call, own_calls, credit};
@@ -147,6 +148,10 @@ impl Shared {
         // No handle was given twice, and none was alive.
         ensures distinct { AllPairs (λ g h. g ≢ h) (given_in (history_of (map (λ r. r.own) reservers.items))) }
         ensures not_live { All (λ h. ¬ (IsLive self.start h)) (given_in (history_of (map (λ r. r.own) reservers.items))) }
+
+        // A flush brings to life exactly what was given.
+        ensures wakes { let given = given_in (history_of (map (λ r. r.own) reservers.items)) in
+            (h : HandleValue) → IsLive (after_flush result) h ↔ (IsLive self.start h ⊎ Contains given h) }
     {
         let Shared {
             mut entities,
@@ -158,11 +163,14 @@ impl Shared {
         entities
     }
 
-    /// Ends the phase where some reservers are lost. What was asked for is known all the same, but not who was
-    /// refused: so the front of the pool counts as reserved, as far as it goes.
+    /// Ends the phase where some reservers are lost. What was asked for is known all the same, at least down to the
+    /// mark of each reserver that is there, but not who was refused: so the front of the pool counts as reserved, as
+    /// far as it goes.
     pub fn close_lost(self, reservers: Vec<Reserver>) -> Entities
         requires own { All (IsOf self) reservers.items }
-        ensures after { (asked : ℕ) × (asked ≤ self.count * credit) × (result ≡ after_loss self.start asked) }
+        ensures after { (asked : ℕ) × (asked ≤ self.count * credit)
+            × All (λ r. (cursor self.start -ℤ pos asked) ≤ℤ r.own.mark) reservers.items
+            × (result ≡ after_loss self.start asked) }
 
         // What the reservers that are there were given is reserved.
         ensures given { All (λ r. All (Contains result.taken) (handles_of (own_calls r.own.entries))) reservers.items }

@@ -1,13 +1,14 @@
-use Rattle.std.proofs.Common.{◌≡◌, ℕ, ◌+◌, ◌-◌, pos, ◌++◌, List, length, take, drop, sym, ap, subst, ◌∙◌, arith, to_z, of_z, w64}
+use Rattle.std.proofs.Common.{◌≡◌, ℕ, ◌<◌, Result, Ok, Err, OnErr, ◌+◌, ◌-◌, pos, ◌++◌, List, length, take, drop, sym, ap, subst, ◌∙◌, arith, to_z, of_z, w64}
 use Rattle.std.specs.FinSet as sets
 use Rattle.std.proofs.lemmas.Int.{ints}
+use Rattle.std.proofs.lemmas.List.{length-take-le}
 use Rattle.ent_handle.specs.Handle.{Handle}
-use Rattle.ent_alloc.specs.Sequential.{after_flush, born, fresh, asked_at}
+use Rattle.ent_alloc.specs.Sequential.{Allocator, after_flush, born, fresh, asked_at}
 use Rattle.ent_alloc.specs.Roster.{Roster}
 use Rattle.ent_alloc.specs.Sound.{IsSound}
-use Rattle.ent_alloc.specs.Entities.{beneath}
+use Rattle.ent_alloc.specs.Entities.{idle, beneath}
 use Rattle.ent_alloc.proofs.Soundness.{after_flush-sound}
-use Rattle.ent_alloc.proofs.Meaning.{as_word, closed, closed_is, flush_is, born_is_listed}
+use Rattle.ent_alloc.proofs.Meaning.{as_word, length-idle, closed, closed_is, flush_is, born_is_listed}
 use Rattle.ent_alloc.proofs.entities.Entities.flush.Goals as goal
 
 -- the roster after so many new slots and with so many pending ones kept
@@ -17,6 +18,23 @@ after r kept news = record r {
   pending = take kept r.pending;
   made = r.made + news;
 }
+
+-- what is so anyhow is so after a refusal
+anyhow : {T E : Type 0} (r : Result T E) (P : Type 0) → P → OnErr r P
+anyhow (Ok x) P so = tt
+anyhow (Err e) P so = so
+
+pub returns-in_err-bear-clause-memory : goal.returns-in_err-bear-clause-memory
+returns-in_err-bear-clause-memory c =
+    let e = c.self.inside in
+    let r = e.slots in
+    let inv = c.self.invariant in
+    let word = as_word r e.floor inv.floor_in (omega arith) (omega arith) in
+    let given_is : c.distance-reserved.result ≡ beneath r e.floor = c.distance-reserved.ensures ∙ (λ i. asked_at (c.waiting-2.ensures.value i) (word i)) in
+    let some : 0 < c.saturating_sub-fresh.result + (length r.pending - c.saturating_sub-kept.result) = c.in_err-bear.ensures.memory in
+    let long : beneath r e.floor ≡ length c.args.self.now.taken =
+    sym (length-take-le (beneath r e.floor) (idle r) (omega (arith, length-idle r))) ∙ ap (λ (s : Allocator). length s.taken) c.self.view_is in
+    anyhow c.from_residual.result (0 < length c.args.self.now.taken) (omega arith)
 
 pub invariant_of-self-2 : goal.invariant_of-self-2
 invariant_of-self-2 c =

@@ -1,8 +1,10 @@
-use Rattle.std.proofs.Common.{◌≡◌, length, sym, ap, ◌∙◌, arith, to_z, of_z, w64}
+use Rattle.std.proofs.Common.{◌≡◌, length, sym, ap, subst, ◌∙◌, arith, to_z, of_z, w64}
 use Rattle.std.proofs.lemmas.Int.{ints}
-use Rattle.ent_alloc.specs.Sequential.{top, Allocator}
+use Rattle.ent_alloc.specs.Sequential.{top, asked_at, Allocator}
 use Rattle.ent_alloc.specs.Entities.{allocator_of, beneath}
-use Rattle.ent_alloc.proofs.Meaning.{top_is, settled_view, settled_reserved}
+use Rattle.ent_alloc.specs.Sound.{IsSound}
+use Rattle.ent_alloc.proofs.Settled.{length-all, settled-wishes}
+use Rattle.ent_alloc.proofs.Meaning.{asked_at-is, top_is, settled_view, settled_reserved}
 use Rattle.ent_alloc.proofs.entities.Entities.settle.Goals as goal
 
 pub invariant_of-self : goal.invariant_of-self
@@ -20,10 +22,24 @@ invariant_of-self c =
     rw (at, down) (settled_reserved e.slots e.cursor e.floor c.args.cursor c.args.floor c.args.self.now inv c.self.view_is c.requires.flushed
     (omega (arith, ints)) (omega (arith, ints)) c.requires.ordered (omega (arith, ints)) (λ within. c.requires.all_given (omega (arith, ints))))
 
-pub returns : goal.returns
-returns c =
+pub returns-clause-settled : goal.returns-clause-settled
+returns-clause-settled c =
     let e = c.self.inside in
     let at : to_z w64 (of_z w64 c.args.cursor) ≡ c.args.cursor = omega (arith, ints) in
     let down : to_z w64 (of_z w64 c.args.floor) ≡ c.args.floor = omega (arith, ints) in
     (λ i. allocator_of e.slots (beneath e.slots (at i)) (beneath e.slots (down i)))
     ∙ settled_view e.slots e.cursor e.floor c.args.cursor c.args.floor c.args.self.now c.self.invariant c.self.view_is c.requires.flushed
+
+pub returns-clause-wishes : goal.returns-clause-wishes
+returns-clause-wishes c =
+    let s = c.args.self.now in
+    let sound : IsSound s = subst IsSound c.self.view_is c.self.invariant.sound in
+    let greatest = c.requires.greatest in
+    let ordered = c.requires.ordered in
+    let reachable = c.requires.reachable in
+    let gives = asked_at-is (top s) c.args.floor greatest in
+    let asks = asked_at-is (top s) c.args.cursor (omega (arith, ints)) in
+    let long = length-all s sound c.requires.flushed in
+    (returns-clause-settled c)
+    ∙ settled-wishes s sound c.requires.flushed (asked_at (top s) c.args.floor) (asked_at (top s) c.args.cursor)
+    (omega (arith, ints)) (omega (arith, ints)) (λ within. ap (asked_at (top s)) (c.requires.all_given (omega (arith, ints))))

@@ -1,4 +1,8 @@
-use Rattle.std.proofs.Common.{ap, ◌∙◌, pos}
+use Rattle.std.proofs.Common.{ap, sym, subst, ◌∙◌, pos, Contains, ◌↔◌, ◌⊎◌}
+use Rattle.ent_alloc.specs.Sequential.{Allocator, after_flush}
+use Rattle.ent_alloc.specs.Sound.{IsLive}
+use Rattle.ent_alloc.specs.History.{given_in}
+use Rattle.ent_shared.specs.Order.{history_of}
 use Rattle.ent_shared.specs.Phase.{Shared}
 use Rattle.ent_shared.proofs.Closing.{ended, Ended}
 use Rattle.ent_shared.proofs.Gathering.{owns, length-owns}
@@ -42,10 +46,15 @@ pub returns-clause-respects : goal.returns-clause-respects
 returns-clause-respects c = (after c).respects
 
 pub returns-clause-after : goal.returns-clause-after
-returns-clause-after c = c.settle.ensures ∙ (after c).after
+returns-clause-after c = c.settle.ensures.settled ∙ (after c).after
 
 pub returns-clause-distinct : goal.returns-clause-distinct
 returns-clause-distinct c = (after c).all_distinct
 
 pub returns-clause-not_live : goal.returns-clause-not_live
 returns-clause-not_live c = (after c).none_live
+
+pub returns-clause-wakes : goal.returns-clause-wakes
+returns-clause-wakes c = λ h.
+    subst (λ (s : Allocator). IsLive (after_flush s) h ↔ IsLive c.args.self.start h ⊎ Contains (given_in (history_of (owns c.args.reservers.items))) h)
+    (sym (c.settle.ensures.settled ∙ (after c).after)) ((after c).wakes h)

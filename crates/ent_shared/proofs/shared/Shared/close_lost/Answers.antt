@@ -1,5 +1,5 @@
-use Rattle.std.proofs.Common.{ap, ◌∙◌, to_z, of_z, w64, All, Contains, subst, sym}
-use Rattle.ent_alloc.specs.Sequential.{Allocator}
+use Rattle.std.proofs.Common.{ap, ◌∙◌, pos, ◌-ℤ◌, ◌≤ℤ◌, to_z, of_z, w64, All, Contains, subst, sym}
+use Rattle.ent_alloc.specs.Sequential.{Allocator, cursor}
 use Rattle.ent_shared.specs.declared.record.Record.{Record}
 use Rattle.ent_shared.specs.Record.{own_calls}
 use Rattle.ent_shared.specs.Order.{handles_of}
@@ -33,10 +33,13 @@ pub settle-requires-clause-all_given : goal.settle-requires-clause-all_given
 settle-requires-clause-all_given c = (known c).all_given
 
 pub returns-clause-after : goal.returns-clause-after
-returns-clause-after c = let l = after c in (l.asked, l.most, c.settle.ensures ∙ l.after)
+returns-clause-after c =
+    let l = after c in
+    let reached = all_owners (λ (r : Record). (cursor c.args.self.start -ℤ pos l.asked) ≤ℤ r.mark) c.args.reservers.items l.reached in
+    (l.asked, l.most, reached, c.settle.ensures.settled ∙ l.after)
 
 pub returns-clause-given : goal.returns-clause-given
 returns-clause-given c =
     let l = after c in
     all_owners (λ (r : Record). All (Contains c.settle.new.self.taken) (handles_of (own_calls r.entries))) c.args.reservers.items
-    (subst (λ (s : Allocator). All (λ (r : Record). All (Contains s.taken) (handles_of (own_calls r.entries))) (owns c.args.reservers.items)) (sym (c.settle.ensures ∙ l.after)) l.given)
+    (subst (λ (s : Allocator). All (λ (r : Record). All (Contains s.taken) (handles_of (own_calls r.entries))) (owns c.args.reservers.items)) (sym (c.settle.ensures.settled ∙ l.after)) l.given)
