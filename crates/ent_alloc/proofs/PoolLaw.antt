@@ -1,5 +1,5 @@
--- The one law of the pool: after wishes for so many handles in all, served or refused, the pool is what is left of
--- the pool before them. So a reply depends on the cursor alone, and can be computed later.
+-- What wishes take off the pool, whether they are served or not. It depends on their sum alone, so a reply depends on the
+-- cursor alone, and can be computed later.
 use Rattle.std.proofs.Common.{◌≡◌, refl, sym, ap, ◌∙◌, ℕ, ◌+◌, ◌≤◌, ℤ, pos, negsuc, ◌-ℤ◌, List, [], ◌∷◌, ◌++◌, length, take, drop, filter, sum, Ok, nat_le, true, le-leb, arith, append-nil, inl, inr}
 use Rattle.std.proofs.lemmas.Bool.{cases_lt}
 use Rattle.std.proofs.lemmas.Int.{ints}

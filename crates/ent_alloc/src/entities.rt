@@ -113,7 +113,7 @@ impl Entities {
         self.asked() > 0
     }
 
-    /// How many handles the next flush brings to life.
+    /// The size of the next flush, in handles.
     pub fn reserved(&self) -> u32
         ensures { result ≡ length self.now.taken }
     {
@@ -248,6 +248,9 @@ impl Entities {
     /// The state after reservations that leave the cursor and the floor at these places: what is asked for is
     /// all from the top down to the cursor, and what is reserved is all down to the floor. It is the state after
     /// one wish that was served and, where more was asked for, one that was refused.
+    ///
+    /// The cursor is at most 2^50 below the top. The floor is from the cursor to the top and at least `-room`; it is
+    /// the cursor where that is at least `-room`.
     pub fn settle(&mut self, cursor: i64, floor: i64)
         requires flushed { self.old.asked ≡ 0 }
         requires least { pos (top self.old) ≤ℤ (cursor +ℤ pos (2 ^ 50)) }
@@ -263,7 +266,8 @@ impl Entities {
         self.floor = floor;
     }
 
-    /// Lowers the cursor by a wish for `n` handles, and answers the places that it passed.
+    /// Lowers the cursor by a wish for `n` handles, and answers the places that it passed. At most 2^50 handles may
+    /// be wished for between two flushes.
     pub fn lower(&mut self, n: u32) -> Span
         requires { self.old.asked + n ≤ 2 ^ 50 }
         ensures span { result ≡ record { high = cursor self.old; low = cursor self.old -ℤ pos n } }

@@ -1,7 +1,7 @@
 /// What became of a handle.
 #[derive(Clone, Copy, Debug, PartialEq, Eq)]
 pub enum State {
-    /// It was born or allocated, and not freed since.
+    /// It lives.
     Alive,
     /// It was given by a reservation, and the next flush brings it to life.
     Reserved,

@@ -1,4 +1,4 @@
-/// When and by whom an entity was brought to life: its name that no handle is needed for.
+/// When and by whom an entity was brought to life: a name for it that needs no handle.
 ///
 /// Births are ordered by frame, then by system, then by ordinal.
 #[derive(Clone, Copy, Debug, PartialEq, Eq, Hash, PartialOrd, Ord)]
@@ -7,6 +7,6 @@ pub struct Birth {
     pub frame: u64,
     /// The place of the system that asked for the entity.
     pub system: u32,
-    /// The place of the entity among those that the system was given in that frame.
+    /// Which of that system's entities in the frame it is, from 0.
     pub ordinal: u32,
 }

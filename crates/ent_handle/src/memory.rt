@@ -2,8 +2,6 @@ use std::alloc::{AllocError, AllocFailed};
 use thiserror::Error;
 
 /// Memory ran out: the one refusal of a call that only has to grow something.
-///
-/// It is answered only where a growth was really refused.
 #[derive(Clone, Copy, Debug, PartialEq, Eq, Error)]
 #[error("out of memory")]
 pub struct Memory;

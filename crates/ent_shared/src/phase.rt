@@ -10,7 +10,8 @@ use ent_alloc::Entities;
 use ent_handle::Memory;
 use std::alloc::Global;
 
-/// Shares an allocator with so many reservers, each of which has all its credit.
+/// Shares a flushed allocator among `n` reservers, 1 to 1,024, each of which may wish for 2^40 handles. Bevy has no such
+/// limits; they are this project's own.
 ///
 /// # Errors
 ///

@@ -45,14 +45,14 @@ impl Reserver {
         }
     }
 
-    /// Its place in the list that `share` gave.
+    /// Which of the reservers it is, from 0.
     pub fn number(&self) -> usize
         ensures { result ≡ self.now.own.number }
     {
         self.number
     }
 
-    /// How many handles it may still wish for in this phase.
+    /// How many handles it may still wish for in this phase, at most 2^40.
     pub fn left(&self) -> u64
         ensures { result ≡ self.now.own.left }
     {

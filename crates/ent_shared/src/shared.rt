@@ -123,7 +123,7 @@ impl Shared {
         }
     }
 
-    /// Whatever `a` reserves from now on comes after all that `b` had reserved.
+    /// Orders the two: the later calls of `a` stand behind the calls that `b` has made or met.
     pub fn meet(&self, a: &mut Reserver, b: &mut Reserver)
         requires first { IsOf self.now a.old }
         requires second { IsOf self.now b.old }

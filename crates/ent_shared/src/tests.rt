@@ -75,6 +75,15 @@ impl Caller {
         }
     }
 
+    /// Reserves in bulks, once all threads have entered.
+    fn in_bulks_beside(&mut self, shared: &Shared, gate: &Gate, times: u32, n: u32)
+        requires { IsOf shared.now self.old.reserver }
+        ensures { IsOf shared.now self.new.reserver }
+    {
+        self.saw_all = gate.enter();
+        self.in_bulks(shared, times, n)
+    }
+
     /// Reserves so many handles at once, so many times.
     fn in_bulks(&mut self, shared: &Shared, times: u32, n: u32)
         requires { IsOf shared.now self.old.reserver }
@@ -218,6 +227,40 @@ fn a_refused_wish_counts_where_reservers_are_lost(rt: HostRuntime) {
     }
 }
 
+/// One of two reservers is lost: what it wished for counts, whether it was served before or after the other.
+#[test]
+fn a_lost_reserver_counts(rt: HostRuntime) {
+    let alloc = rt.alloc();
+    for (wish, alive) in [(1, 2), (3, 5)] {
+        for is_lost_last in [false, true] {
+            let (shared, mut reservers) = opened(&rt, alloc, with_slots(&rt, alloc, 5), 2);
+            let mut kept = last(&rt, alloc, &shared, &mut reservers);
+            let mut lost = last(&rt, alloc, &shared, &mut reservers);
+            if is_lost_last {
+                kept.at_once(&shared, wish);
+                lost.at_once(&shared, wish);
+            } else {
+                lost.at_once(&shared, wish);
+                kept.at_once(&shared, wish);
+            }
+            give_back(&rt, &shared, &mut reservers, kept.reserver);
+            let mut entities = shared.close_lost(reservers);
+            let born = flushed(&rt, alloc, &mut entities);
+            assert_eq!(rt; born.len(), alive, "for {wish} each");
+        }
+    }
+}
+
+#[test]
+fn as_many_reservers_as_there_may_be(rt: HostRuntime) {
+    let alloc = rt.alloc();
+    let (shared, mut reservers) = opened(&rt, alloc, with_slots(&rt, alloc, 5), 1_024);
+    assert_eq!(rt; (shared.count(), reservers.len()), (1_024, 1_024));
+    let mut caller = last(&rt, alloc, &shared, &mut reservers);
+    assert_eq!(rt; caller.reserver.number(), 1_023);
+    assert!(rt; shared.reserve(&mut caller.reserver) == Ok(first(&rt, 0)));
+}
+
 /// Two callers reserve side by side, so many each.
 fn both_beside<R: Threads + Sync>(
     rt: &R,
@@ -319,11 +362,13 @@ fn flush_brings_to_life_what_was_given(rt: HostRuntime) {
     let (shared, mut reservers) = opened(&rt, alloc, with_freed(&rt, alloc, 100), 2);
     let mut b = last(&rt, alloc, &shared, &mut reservers);
     let mut a = last(&rt, alloc, &shared, &mut reservers);
+    let gate = Gate::new(2);
     join_mut(
         &rt,
-        &mut || a.singly(&shared, 640),
-        &mut || b.in_bulks(&shared, 10, 64),
+        &mut || a.singly_beside(&shared, &gate, 640),
+        &mut || b.in_bulks_beside(&shared, &gate, 10, 64),
     );
+    assert!(rt; a.saw_all && b.saw_all);
     shared.meet(&mut a.reserver, &mut b.reserver);
     a.at_once(&shared, 64);
     give_back(&rt, &shared, &mut reservers, a.reserver);

@@ -214,6 +214,10 @@ impl Storage {
     }
 
     /// The handles of all entities, by birth and then by handle. The time is that of a sort.
+    ///
+    /// # Errors
+    ///
+    /// `Memory` for the list.
     pub fn by_birth(&self) -> Result<Vec<Handle>, Memory>
         ensures { IfOk result (λ handles. ListsAll self.now.entities handles.items) }
     {
@@ -223,6 +227,10 @@ impl Storage {
 
     /// The handles of the entities that have the component, by birth and then by handle.
     /// The time is that of a sort.
+    ///
+    /// # Errors
+    ///
+    /// `Memory` for the list.
     pub fn with(&self, id: ComponentId) -> Result<Vec<Handle>, Memory>
         ensures { IfOk result (λ handles. ListsWith id self.now.entities handles.items) }
     {

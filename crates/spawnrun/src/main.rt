@@ -5,6 +5,8 @@
 ghost use Rattle.std.specs.Prelude.{◌≡◌};
 ghost use Rattle.std.specs.Process.{exit_status};
 ghost use Rattle.spawnrun.specs.Status.{exit_number};
+ghost use Rattle.spawnrun.specs.Replay.{HasWritten};
+ghost use Rattle.ent_alloc.specs.Limits.{Limits};
 
 mod command_line;
 mod device;
@@ -27,7 +29,7 @@ const LINE_FAULT: u8 = 2;
 fn main(rt: HostRuntime) -> ExitCode {
     let words = match words(&rt) {
         Ok(words) => words,
-        Err(error) => return ended(&rt, unread(&error)),
+        Err(error) => return unread(&rt, &error),
     };
     match command_line(rt.alloc(), words.as_slice()) {
         Ok(task) => {
@@ -44,7 +46,12 @@ fn main(rt: HostRuntime) -> ExitCode {
 }
 
 // Does the task between the two devices.
-fn run<I: Source, O: Sink>(alloc: Global, input: &mut I, output: &mut O, task: Task) -> Status {
+fn run<I: Source, O: Sink>(alloc: Global, input: &mut I, output: &mut O, task: Task) -> Status
+    ensures done { (limits : Limits) → task ≡ Task.Replay limits → result ≡ Status.Done
+        → HasWritten limits Status.Done (I.remaining input.old) (O.written output.old) (O.written output.new) }
+    ensures refused { (limits : Limits) → task ≡ Task.Replay limits → result ≡ Status.Refused
+        → HasWritten limits Status.Refused (I.remaining input.old) (O.written output.old) (O.written output.new) }
+{
     match task {
         Task::Replay(limits) => replay(alloc, input, output, limits),
     }
@@ -58,11 +65,14 @@ fn words(rt: &(impl Env + AllocGlobal)) -> io::Result<Vec<String>> {
 }
 
 // How the program ends where its words can't be read.
-fn unread(error: &io::Error) -> Status {
-    if error.kind() == io::ErrorKind::OutOfMemory {
-        Status::Memory
-    } else {
-        Status::Device
+fn unread(rt: &impl Eprint, error: &io::Error) -> ExitCode {
+    match error.kind() {
+        io::ErrorKind::OutOfMemory => ended(rt, Status::Memory),
+        io::ErrorKind::InvalidData => {
+            let _ = rt.eprintln("error: invalid UTF-8 was detected in one or more arguments");
+            ExitCode::from(LINE_FAULT)
+        }
+        _ => ended(rt, Status::Device),
     }
 }
 

@@ -1,9 +1,10 @@
 //! The run of a schedule: bytes in, bytes out.
-ghost use Rattle.std.specs.Prelude.{◌≡◌, ◌≢◌, ◌+◌, ◌⊎◌, Err, IfOk, OnErr, OnOk};
+ghost use Rattle.std.specs.Prelude.{◌≡◌, ◌≢◌, ◌+◌, ◌<◌, ◌⊎◌, length, Err, IfOk, IfSome, OnErr, OnOk};
 ghost use Rattle.std.specs.List.{AllByRecursion};
 ghost use Rattle.std.specs.Io.KnownBytes.{Appends, Keeps};
 ghost use Rattle.ent_replay.specs.Schedule.{outcomes_of, starting};
-ghost use Rattle.spawnrun.specs.Replay.{HasWritten, outcome_lines, refused_line, size_line};
+ghost use Rattle.spawnrun.specs.Device.{Takes};
+ghost use Rattle.spawnrun.specs.Replay.{HasWritten, input_limit, outcome_lines, refused_line, size_line};
 
 use crate::device::{Failed, Sink, Source};
 use crate::input::{INPUT_LIMIT, InputFault, read_all};
@@ -18,10 +19,9 @@ use std::alloc::Global;
 /// Runs the schedule that the input spells, over an empty allocator of these limits, and writes a
 /// line for each event.
 ///
-/// The whole input is read and checked before any event is applied, and all of the output is made
-/// before any of it is written. An input of more than 67,108,864 bytes, and one that spells no
-/// schedule, is refused with one line. After want of memory, and after a failure of the input,
-/// nothing was written.
+/// Nothing is applied before all is read, and nothing is written before all is applied. An input of more than 67,108,864 bytes, and one that spells no
+/// schedule, is refused with one line; of the former one byte more than that is taken and no other.
+/// After want of memory, and after a failure of the input, nothing was written.
 pub fn replay<I: Source, O: Sink>(
     alloc: Global,
     input: &mut I,
@@ -32,6 +32,8 @@ pub fn replay<I: Source, O: Sink>(
         (I.remaining input.old) (O.written output.old) (O.written output.new) }
     ensures refused { result ≡ Status.Refused → HasWritten limits Status.Refused
         (I.remaining input.old) (O.written output.old) (O.written output.new) }
+    ensures stops { result ≡ Status.Refused → IfSome (I.remaining input.old) (λ all. input_limit < length all
+        → Takes (I.remaining input.old) (I.remaining input.new) (input_limit + 1)) }
     ensures memory { result ≡ Status.Memory → Keeps (O.written output.old) (O.written output.new) }
     ensures device { result ≡ Status.Device → I.failures input.new + O.failures output.new
         ≡ I.failures input.old + O.failures output.old + 1 }

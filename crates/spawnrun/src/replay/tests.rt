@@ -232,9 +232,14 @@ fn each_read_and_the_write_fails_in_turn(rt: HostRuntime) {
         assert_eq!(rt; status, Status::Device, "after {calls} reads");
         assert!(rt; sink.bytes.is_empty(), "after {calls} reads");
     }
-    let mut source = MemorySource::new(schedule, 7, NEVER);
+    for text in [schedule.as_slice(), b"al\n".as_slice()] {
+        let mut source = MemorySource::new(text, 7, NEVER);
+        let mut sink = MemorySink::new(rt.alloc(), 0);
+        let status = replay(rt.alloc(), &mut source, &mut sink, limits);
+        assert_eq!(rt; status, Status::Device);
+    }
     let mut sink = MemorySink::new(rt.alloc(), 0);
-    let status = replay(rt.alloc(), &mut source, &mut sink, limits);
+    let status = replay(rt.alloc(), &mut EndlessSource, &mut sink, limits);
     assert_eq!(rt; status, Status::Device);
 }
 
