@@ -6,12 +6,14 @@ use Rattle.std.proofs.lemmas.Bool.{cases_lt, cases_eq, false≢true, and_parts, 
 use Rattle.std.proofs.lemmas.Bool.Decides.{nat_tests}
 use Rattle.std.proofs.lemmas.List.{get_or-take, get_or-drop, length-drop, length-take-le, length-append, length-replicate, length-set, length_push, drop-map, take-map, map_push, get_or-set_same, get_or-set_other, get_or_append_left, get_or-append_right, get_or-replicate, get_or_past, get_or_push}
 use Rattle.ent_handle.specs.Handle.{Handle, handle_cmp, handle_cmp_total, handle_cmp-IsAntisymmetric}
+use Rattle.ent_alloc.proofs.ListLaws.{eqb_sym}
 use Rattle.ent_alloc.specs.Limits.{Limits}
 use Rattle.ent_alloc.specs.Sequential.{fresh, next}
 use Rattle.ent_alloc.specs.declared.record.Record.{Record}
 use Rattle.ent_alloc.specs.declared.record.Tenancy.TheVariants.{Pending}
 use Rattle.ent_alloc.specs.Slots.{tenants, is_tenant, has_tenant, is_alive, row_of, row_at, record_at, blank, newborn, handle_at, kept, woken, roster_of, AreLinked}
-use Rattle.ent_alloc.proofs.Tenants.{contains_tenants, is_tenant-set, row_at-set, get_kept, ties, one, length-tenants-set, tenants-append, tenants-newborn, length-fresh, kept-made, from_list-append}
+use Rattle.ent_alloc.proofs.FreshHandles.{length-fresh}
+use Rattle.ent_alloc.proofs.Tenants.{contains_tenants, is_tenant-set, row_at-set, get_kept, ties, one, length-tenants-set, tenants-append, tenants-newborn, kept-made, from_list-append}
 use Rattle.ent_alloc.proofs.Woken.{Wait, Alive≢Pending, place_of, length-woken, generation-woken, waiting-woken, waited-woken, length-tenants-woken, kept-woken, live-woken}
 
 -- ---- waking
@@ -189,9 +191,6 @@ gone_row : (same gen : Bool) (old : Option ℕ) → (same ≡ true → gen ≡ f
 gone_row true true old is = refl
 gone_row true false old is = sym (is refl refl)
 gone_row false gen old is = refl
-
-eqb_sym : (a b : ℕ) → eqb a b ≡ eqb b a
-eqb_sym a b = grind (arith, nat_tests)
 
 never : (b : Bool) (row : Option ℕ) → row ≡ None → cond b row None ≡ None
 never true row is = is

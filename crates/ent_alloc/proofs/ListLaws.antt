@@ -1,5 +1,5 @@
 -- Laws of lists: filters that keep all or nothing, parts of joined lists, and pairs.
-use Rattle.std.proofs.Common.{◌≡◌, refl, sym, ap, ◌∙◌, ℕ, zero, suc, ◌+◌, ◌-◌, ◌<◌, Bool, true, false, List, [], ◌∷◌, ◌++◌, length, get_or, take, drop, reverse, filter, All, AllPairs, Contains, arith, cond, ◌==◌, ◌≢◌, swap, IsPermutation, eq-eqb, ne_eqb, inl, inr, subst₂}
+use Rattle.std.proofs.Common.{◌≡◌, refl, sym, ap, ◌∙◌, ℕ, zero, suc, ◌+◌, ◌-◌, ◌<◌, Bool, true, false, eqb, List, [], ◌∷◌, ◌++◌, length, get_or, take, drop, reverse, filter, All, AllPairs, Contains, arith, cond, ◌==◌, ◌≢◌, swap, IsPermutation, eq-eqb, ne_eqb, inl, inr, subst₂}
 use Rattle.std.proofs.lemmas.List.{get_or-take, get_or-drop, get_or_append_left, length-append, length-take, length-drop, length-reverse, get_or-reverse, get_or_default}
 use Rattle.std.proofs.lemmas.Bool.{cases_lt, cases_eq}
 use Rattle.std.proofs.lemmas.Bool.Decides.{nat_tests}
@@ -7,6 +7,10 @@ use Rattle.std.proofs.lemmas.List.Edits.{Swapped, length-swap, swapped_from_swap
 use Rattle.std.proofs.lemmas.List.Sorted.{IsPermutation-keeps}
 use Rattle.std.proofs.lemmas.List.Elements.{All-nil, All-head, All-tail, All-cons, All-append}
 use Rattle.std.proofs.lemmas.List.Kept.{AllPairs-cons}
+
+-- either order of a test of equality
+pub eqb_sym : (a b : ℕ) → eqb a b ≡ eqb b a
+eqb_sym a b = grind (arith, nat_tests)
 
 -- a filter that each element passes keeps the list
 pub filter_all : {X : Type 0} (p : X → Bool) (xs : List X) → All (λ x. p x ≡ true) xs → filter p xs ≡ xs

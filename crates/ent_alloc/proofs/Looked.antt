@@ -7,6 +7,7 @@ use Rattle.std.proofs.lemmas.Bool.{cases_eq, false≢true, and_parts, and_from, 
 use Rattle.std.proofs.lemmas.Bool.Decides.{nat_tests}
 use Rattle.std.proofs.lemmas.List.{get_or-drop, get_or-map, length-drop, length-map, length-set, get_or-set_same, get_or-set_other}
 use Rattle.ent_handle.specs.Handle.{Handle, handle_cmp, handle_cmp_total, handle_cmp-IsAntisymmetric}
+use Rattle.ent_alloc.proofs.ListLaws.{eqb_sym}
 use Rattle.ent_alloc.specs.Limits.{Limits}
 use Rattle.ent_alloc.specs.Sequential.{fresh, stands_in}
 use Rattle.ent_alloc.specs.declared.record.Record.{Record}
@@ -100,9 +101,6 @@ new_row : (same gen : Bool) (row old : Option ℕ) → (same ≡ true → gen �
 new_row true true row old is = refl
 new_row true false row old is = sym (is refl refl)
 new_row false gen row old is = refl
-
-eqb_sym : (a b : ℕ) → eqb a b ≡ eqb b a
-eqb_sym a b = grind (arith, nat_tests)
 
 module _ (limits : Limits) (records : List Record) (pending : List ℕ) (live : ℕ) (h : Handle) (row : ℕ) (linked : AreLinked limits records pending live) (lives : is_tenant records h ≡ true) where
   abbrev labelled : Record

@@ -1,15 +1,13 @@
 -- Two numbers tell what wishes leave of a flushed allocator: how many handles were given, and how many were asked for.
 use Rattle.std.proofs.Common.{◌≡◌, sym, ap, ◌∙◌, ℕ, ◌+◌, ◌-◌, ◌<◌, ◌≤◌, List, [], ◌++◌, length, take, drop, sum, Err, arith, nat_le, false, append_assoc, append-nil, inl, inr}
 use Rattle.std.proofs.lemmas.Bool.{lt-leb, cases_lt}
-use Rattle.std.proofs.lemmas.List.{take-append-drop, take-take, take_all, drop_all, length-take, length-drop, length-append}
+use Rattle.std.proofs.lemmas.List.{take-append-drop, take-take, take_all, drop_all, length-take, length-drop}
 use Rattle.std.proofs.lemmas.List.Sorted.{length_permutation}
-use Rattle.std.specs.List.{filter}
 use Rattle.ent_handle.specs.Handle.{Handle}
-use Rattle.ent_alloc.specs.Sequential.{Allocator, available, top, is_old, fresh, after_take, reply_to, settled}
+use Rattle.ent_alloc.specs.Sequential.{Allocator, available, top, after_take, reply_to, settled}
 use Rattle.ent_alloc.specs.Sound.{IsSound}
-use Rattle.ent_alloc.proofs.FreshHandles.{length-fresh}
 use Rattle.ent_alloc.proofs.LaidOut.{flushed-laid_out}
-use Rattle.ent_alloc.proofs.Taken.{length-pool, after_take-refused, after_take-served}
+use Rattle.ent_alloc.proofs.Taken.{length-available, length-pool, after_take-refused, after_take-served}
 use Rattle.ent_alloc.proofs.PoolLaw.{limits-after_takes, live-after_takes, rows-after_takes, after_takes, after_takes-sound, available-after_takes, made-after_takes, asked-after_takes, pool-after_takes, taken_is, aside_is, length-taken}
 use Rattle.ent_alloc.proofs.Soundness.{IsSound-moved}
 use Rattle.ent_alloc.proofs.Wishes.{given_by, taken-since_flush}
@@ -48,9 +46,7 @@ module _ (s : Allocator) (h : IsSound s) (flushed : s.asked ≡ 0) where
 
   -- how many there are to give
   pub length-all : length s.pool ≡ top s + (s.limits.slots - s.made)
-  length-all =
-      ap length (sym all_in_pool) ∙ ap length h.order
-      ∙ (length-append (filter (is_old s.made) (available s)) (fresh s.made (s.limits.slots - s.made)) ∙ ap (λ (n : ℕ). top s + n) (length-fresh s.made (s.limits.slots - s.made)))
+  length-all = ap length (sym all_in_pool) ∙ length-available s h
 
   -- two wishes leave such a state: one that is served, and one that is refused where more was asked for
   pub settled-wishes : (given asked : ℕ) → given ≤ asked → given ≤ length s.pool → (asked ≤ length s.pool → given ≡ asked) → settled s given asked ≡ after_take (after_take s given) (asked - given)

@@ -42,13 +42,17 @@ available-after_take s n h = elim (cases_lt (length s.pool) n) [
   | inr enough ↦ rw (after_take-served s n enough) (take_moves s.taken s.aside s.pool n (aside_or_pool s h))
 ]
 
+-- how many there are to give, or were since the last flush
+pub length-available : (s : Allocator) → IsSound s → length (available s) ≡ top s + (s.limits.slots - s.made)
+length-available s h =
+    ap length h.order ∙ length-append (old_ones s) (fresh s.made (s.limits.slots - s.made)) ∙ ap (length (old_ones s) +◌) (length-fresh s.made (s.limits.slots - s.made))
+
 -- what is taken: old handles, and fresh ones once there are no more old ones
 module _ (s : Allocator) (h : IsSound s) where
   -- no more is taken than there was
   pub enough : length s.taken ≤ length (old_ones s) + (s.limits.slots - s.made)
   enough =
-      let all : length (available s) ≡ length (old_ones s) + (s.limits.slots - s.made) =
-      ap length h.order ∙ length-append (old_ones s) (fresh s.made (s.limits.slots - s.made)) ∙ ap (length (old_ones s) +◌) (length-fresh s.made (s.limits.slots - s.made)) in
+      let all : length (available s) ≡ length (old_ones s) + (s.limits.slots - s.made) = length-available s h in
       omega (arith, all, length-append s.taken (s.aside ++ s.pool))
 
   -- first the old ones, then fresh ones

@@ -9,6 +9,7 @@ use Rattle.std.specs.FinMap as maps
 use Rattle.std.proofs.lemmas.Bool.Decides.{nat_tests}
 use Rattle.std.proofs.lemmas.Bool.{cases_order, cases_eq, eq-eqb, ne_eqb, lt-leb, le-leb, cond-true, cond-false}
 use Rattle.ent_handle.specs.Handle.{Handle, handle_cmp, handle_cmp_total, handle_cmp-IsAntisymmetric}
+use Rattle.ent_alloc.proofs.ListLaws.{eqb_sym}
 use Rattle.ent_alloc.specs.declared.record.Record.{Record}
 use Rattle.ent_alloc.specs.Slots.{tenants, is_tenant, has_tenant, record_at, blank, is_alive, row_of, row_in, row_at, kept, with_row, newborn}
 use Rattle.ent_alloc.specs.Sequential.{fresh}
@@ -48,9 +49,6 @@ one_tenant false rest h q = refl
 or-false : (b : Bool) → (b || false) ≡ b
 or-false true = refl
 or-false false = refl
-
-eqb_sym : (a b : ℕ) → eqb a b ≡ eqb b a
-eqb_sym a b = grind (arith, nat_tests)
 
 here : (alive a b h : Bool) → a ≡ b → ((alive && (true && a)) || (false && h)) ≡ (true && (alive && b))
 here true a b h e = or-false a ∙ e
@@ -293,11 +291,6 @@ pub tenants-newborn : (from count : ℕ) → tenants from (replicate count newbo
 unfolding fresh
 tenants-newborn from zero = refl
 tenants-newborn from (suc count) = ap (λ rest. record { index = from; generation = 1 } ∷ rest) (tenants-newborn (from + 1) count)
-
-pub length-fresh : (from count : ℕ) → length (fresh from count) ≡ count
-unfolding fresh
-length-fresh from zero = refl
-length-fresh from (suc count) = ap suc (length-fresh (from + 1) count)
 
 kept-newborn : (from count : ℕ) → kept from (replicate count newborn) ≡ []
 kept-newborn from zero = refl

@@ -7,6 +7,7 @@ use Rattle.std.proofs.lemmas.Bool.Decides.{nat_tests}
 use Rattle.std.proofs.lemmas.Bool.{cases_eq}
 use Rattle.std.proofs.lemmas.List.{get_or-set_same, get_or-set_other, length-set}
 use Rattle.ent_handle.specs.Handle.{Handle, handle_cmp, handle_cmp_total, handle_cmp-IsAntisymmetric}
+use Rattle.ent_alloc.proofs.ListLaws.{eqb_sym}
 use Rattle.ent_alloc.specs.declared.record.Record.{Record}
 use Rattle.ent_alloc.specs.declared.record.Tenancy.{Tenancy}
 use Rattle.ent_alloc.specs.declared.record.Tenancy.TheVariants.{Alive, Pending}
@@ -123,9 +124,6 @@ or_swap : (a b c : Bool) → ((a || b) || c) ≡ (b || (a || c))
 or_swap true true c = refl
 or_swap true false c = refl
 or_swap false b c = refl
-
-eqb_sym : (a b : ℕ) → eqb a b ≡ eqb b a
-eqb_sym a b = grind (arith, nat_tests)
 
 slept_no_tenant : (records : List Record) (index : ℕ) (q : Handle) (place : ℕ) → (record_at records index).tenancy ≡ Pending place → eqb q.index index ≡ true → is_tenant records q ≡ false
 slept_no_tenant records index q place here e =

@@ -12,6 +12,7 @@ use Rattle.ent_alloc.specs.Sound.{IsSound, IsLive}
 use Rattle.ent_alloc.specs.History as history
 use Rattle.ent_alloc.proofs.FreshHandles.{length-fresh}
 use Rattle.ent_alloc.proofs.PoolLaw.{after_takes-sound, available-after_takes, asked-after_takes, length-taken}
+use Rattle.ent_alloc.proofs.Taken.{length-available}
 use Rattle.ent_alloc.proofs.LaidOut.{flushed-laid_out}
 use Rattle.ent_alloc.proofs.Meaning.{asked_at-is}
 use Rattle.ent_alloc.proofs.Histories.{after_history-takes, given_in-distinct, given_in-not_live, given_in-taken, given_in-wake, after_history-settled}
@@ -26,11 +27,6 @@ use Rattle.ent_shared.specs.Order.{as_call, calls_of, history_of, Respects}
 use Rattle.ent_shared.proofs.Steps.{wish, follow_asked}
 use Rattle.ent_shared.proofs.Histories.{calls_are, respects_all}
 use Rattle.ent_shared.proofs.Settling.{IsLater, legal_from, min_right, floor_below, taken_floor, floor_sorted, floor_of_all}
-
--- how many handles there are to give
-pub length_available : (s : Allocator) → IsSound s → length (available s) ≡ top s + (s.limits.slots - s.made)
-length_available s h =
-    ap length h.order ∙ (length-append (filter (is_old s.made) (available s)) (fresh s.made (s.limits.slots - s.made)) ∙ ap (λ (n : ℕ). top s + n) (length-fresh s.made (s.limits.slots - s.made)))
 
 sum_wishes : (cs : List Call) → sum (history.wishes_of (map as_call cs)) ≡ sum_by wish cs
 sum_wishes [] = refl
@@ -109,13 +105,13 @@ module _ (start : Allocator) (count : ℕ) (records : List Record) (at : ℤ) (k
 
     taken_few : length final.taken ≤ top start + (start.limits.slots - start.made)
     taken_few =
-        let all : length (available final) ≡ top start + (start.limits.slots - start.made) = ap length final_available ∙ length_available start sound in
+        let all : length (available final) ≡ top start + (start.limits.slots - start.made) = ap length final_available ∙ length-available start sound in
         let parts = length-append final.taken (final.aside ++ final.pool) in
         omega arith
 
     taken_all : sum_by wish k.log ≤ top start + (start.limits.slots - start.made) → length final.taken ≡ sum_by wish k.log
     taken_all enough =
-        let all : length (available final) ≡ top start + (start.limits.slots - start.made) = ap length final_available ∙ length_available start sound in
+        let all : length (available final) ≡ top start + (start.limits.slots - start.made) = ap length final_available ∙ length-available start sound in
         let asked = final_asked in
         length-taken final final_sound (omega arith) ∙ asked
 

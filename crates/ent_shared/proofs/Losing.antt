@@ -14,6 +14,7 @@ use Rattle.ent_alloc.specs.declared.space.Space.{Space}
 use Rattle.ent_alloc.specs.Sequential.{Allocator, available, cursor, top, asked_at, pool_at, listed, settled}
 use Rattle.ent_alloc.specs.Sound.{IsSound}
 use Rattle.ent_alloc.specs.History as history
+use Rattle.ent_alloc.proofs.Taken.{length-available}
 use Rattle.ent_alloc.proofs.LaidOut.{flushed-laid_out}
 use Rattle.ent_alloc.proofs.Meaning.{asked_at-is}
 use Rattle.ent_alloc.proofs.Replies.{listed-IsPermutation}
@@ -26,7 +27,7 @@ use Rattle.ent_shared.specs.Rule.{Follow, IsAnswered, IsKept, IsStart, IsClosed}
 use Rattle.ent_shared.specs.Order.{handles_of}
 use Rattle.ent_shared.proofs.Steps.{wish}
 use Rattle.ent_shared.proofs.Records.{all_own}
-use Rattle.ent_shared.proofs.Closing.{length_available, asked_in_all, cursor_least, cursor_greatest, in_word}
+use Rattle.ent_shared.proofs.Closing.{asked_in_all, cursor_least, cursor_greatest, in_word}
 
 -- what lies inside the front of a list is in it
 front_contains : (xs : List Handle) (k n asked : ℕ) → k + n ≤ asked → All (Contains (take asked xs)) (take n (drop k xs))
@@ -91,7 +92,7 @@ module _ (start : Allocator) (sound : IsSound start) (flushed : start.asked ≡ 
   all_pool = let f = flushed-laid_out start sound flushed in (λ i. f.taken i ++ (f.aside i ++ start.pool))
 
   length_pool : length start.pool ≡ top start + (start.limits.slots - start.made)
-  length_pool = ap length (sym all_pool) ∙ length_available start sound
+  length_pool = ap length (sym all_pool) ∙ length-available start sound
 
   loss_is : (given asked : ℕ) → given ≤ asked → (given ≡ asked) ⊎ (given ≡ length start.pool) → settled start given asked ≡ after_loss start asked
   loss_is given asked le which =
