@@ -8,5 +8,5 @@ trap 'rm -rf "$copy"' EXIT
 
 git -C "$top" archive HEAD | tar -x -C "$copy"
 cd "$copy/crates/own_threads"
-sed 's|^    let mut born = .*|&\n    println!(rt; "{} held", reserved.len())?;|' "$top/crates/own_threads/src/main.rt" >src/main.rt
+sed -i 's|^    let mut born = .*|&\n    println!(rt; "{} held", reserved.len())?;|' src/main.rt
 rt try 2>&1 | grep 'cannot move out of `shared` because it is borrowed'

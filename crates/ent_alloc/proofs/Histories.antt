@@ -1,11 +1,11 @@
 -- What a legal history leaves and gives.
-use Rattle.std.proofs.Common.{◌≡◌, ◌≢◌, refl, sym, ap, ◌∙◌, subst, ℕ, ◌+◌, ◌<◌, ◌≤◌, List, [], ◌∷◌, ◌++◌, length, sum, All, AllPairs, Contains, IsPermutation, Result, Ok, Err, ◌↔◌, ◌⊎◌}
+use Rattle.std.proofs.Common.{◌≡◌, ◌≢◌, refl, sym, ap, ◌∙◌, subst, List, [], ◌∷◌, ◌++◌, length, sum, All, AllPairs, Contains, IsPermutation, Result, Ok, Err, ◌↔◌, ◌⊎◌}
 use Rattle.ent_handle.specs.Handle.{Handle}
 use Rattle.ent_alloc.specs.declared.space.Space.{Space}
 use Rattle.ent_alloc.specs.Sequential.{Allocator, after_take, after_flush, reply_to, settled}
-use Rattle.ent_alloc.specs.Sound.{IsSound, IsLive, AreApart}
+use Rattle.ent_alloc.specs.Sound.{IsSound, IsLive}
 use Rattle.ent_alloc.specs.History.{Call, IsLegal, after_history, handles_in, given_in, wishes_of}
-use Rattle.ent_alloc.proofs.PoolLaw.{after_takes, after_takes-sound}
+use Rattle.ent_alloc.proofs.PoolLaw.{after_takes}
 use Rattle.ent_alloc.proofs.Replies.{distinct_from_apart}
 use Rattle.ent_alloc.proofs.Wishes.{handles_of, given_by, given_by-apart, given_by-not_live, taken-since_flush, live-since_flush}
 use Rattle.ent_alloc.proofs.Settled.{after_takes-settled}

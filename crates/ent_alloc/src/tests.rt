@@ -107,7 +107,7 @@ fn keeps_a_row_until_the_entity_goes(rt: HostRuntime) {
 }
 
 #[test]
-fn the_greatest_limits_take_no_memory(rt: HostRuntime) {
+fn the_greatest_limits(rt: HostRuntime) {
     let mut entities = Entities::new(rt.alloc(), Limits::default_limits());
     assert_eq!(rt; (entities.room(), entities.top()), (u32::MAX, 0));
     assert!(rt; !entities.needs_flush() && entities.is_empty());

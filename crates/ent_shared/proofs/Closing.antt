@@ -1,16 +1,15 @@
 -- The end of a phase: the history of all records is legal, and the cursor and the least floor tell the allocator after it.
 use Rattle.std.proofs.Common.{◌≡◌, ◌≢◌, ℕ, ◌+◌, ◌-◌, ◌*◌, ◌^◌, ◌<◌, ◌≤◌, ℤ, pos, ◌+ℤ◌, ◌-ℤ◌, ◌≤ℤ◌, List, [], ◌∷◌, ◌++◌, length, map, refl, sym, ap, subst, ◌∙◌, arith, sum, length-append, All, AllPairs, Contains, inl, inr, ◌↔◌, ◌⊎◌}
-use Rattle.std.specs.List.{sum_by, filter, flat_map}
+use Rattle.std.specs.List.{sum_by, flat_map}
 use Rattle.std.specs.Int.{int_min}
 use Rattle.std.proofs.lemmas.List.Sums.{sum_by-cons}
 use Rattle.std.proofs.lemmas.Bool.{cases_lt}
 use Rattle.std.proofs.lemmas.List.Sorted.{length_permutation}
 use Rattle.std.proofs.lemmas.Int.{ints}
 use Rattle.ent_handle.specs.Handle.{Handle}
-use Rattle.ent_alloc.specs.Sequential.{Allocator, available, cursor, top, is_old, fresh, asked_at, settled, after_flush}
+use Rattle.ent_alloc.specs.Sequential.{Allocator, available, cursor, top, asked_at, settled, after_flush}
 use Rattle.ent_alloc.specs.Sound.{IsSound, IsLive}
 use Rattle.ent_alloc.specs.History as history
-use Rattle.ent_alloc.proofs.FreshHandles.{length-fresh}
 use Rattle.ent_alloc.proofs.PoolLaw.{after_takes-sound, available-after_takes, asked-after_takes, length-taken}
 use Rattle.ent_alloc.proofs.Taken.{length-available}
 use Rattle.ent_alloc.proofs.LaidOut.{flushed-laid_out}

@@ -1,5 +1,5 @@
 -- A reserver's fields after a call and after a meeting.
-use Rattle.std.proofs.Common.{◌≡◌, ℕ, ◌-◌, ◌≤◌, ℤ, ◌≤ℤ◌, List, [], ◌∷◌, refl, sym, ap, subst, ◌∙◌}
+use Rattle.std.proofs.Common.{◌≡◌, ℕ, ◌-◌, ℤ, ◌≤ℤ◌, List, [], ◌∷◌, refl, sym, ap, subst}
 use Rattle.ent_shared.specs.declared.record.Record.{Record}
 use Rattle.ent_shared.specs.Record.{after_call}
 use Rattle.ent_shared.specs.Moves.{after_meeting}

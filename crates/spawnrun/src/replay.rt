@@ -1,6 +1,5 @@
 //! The run of a schedule: bytes in, bytes out.
-ghost use Rattle.std.specs.Prelude.{◌≡◌, ◌≢◌, ◌+◌, ◌<◌, ◌⊎◌, length, Err, IfOk, IfSome, OnErr, OnOk};
-ghost use Rattle.std.specs.List.{AllByRecursion};
+ghost use Rattle.std.specs.Prelude.{◌≡◌, ◌≢◌, ◌+◌, ◌<◌, ◌⊎◌, length, All, Err, IfOk, IfSome, OnErr, OnOk};
 ghost use Rattle.std.specs.Io.KnownBytes.{Appends, Keeps};
 ghost use Rattle.ent_replay.specs.Schedule.{outcomes_of, starting};
 ghost use Rattle.spawnrun.specs.Device.{Takes};
@@ -100,7 +99,7 @@ fn outcome_lines(
     alloc: Global,
     outcomes: &[Result<Outcome, ReplayFault>],
 ) -> Result<Vec<u8>, Memory>
-    requires { AllByRecursion (λ outcome. outcome ≢ Err ReplayFault.Memory) outcomes.now }
+    requires { All (λ outcome. outcome ≢ Err ReplayFault.Memory) outcomes.now }
     ensures { IfOk result (λ text. text.items ≡ outcome_lines outcomes.now) }
 {
     let mut text = Vec::new(alloc);

@@ -1,4 +1,4 @@
-use Rattle.std.proofs.Common.{ℕ, ℤ, ◌-◌, ◌-ℤ◌, pos, sym, arith, subst, to_z, of_z, w64}
+use Rattle.std.proofs.Common.{ℕ, ◌-◌, ◌-ℤ◌, pos, sym, arith, subst, to_z, of_z, w64}
 use Rattle.std.proofs.lemmas.Int.{ints}
 use Rattle.ent_alloc.specs.declared.span.Span.{Span}
 use Rattle.ent_shared.specs.Phase.{Shared, Reserver, own_of, IsSeated}
