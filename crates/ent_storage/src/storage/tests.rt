@@ -2,166 +2,316 @@ use super::*;
 use std::process::Abort;
 use std::test::Fail;
 
-const HP: ComponentId = ComponentId(0);
+const HEALTH: ComponentId = ComponentId(0);
 
-const MP: ComponentId = ComponentId(1);
+const MANA: ComponentId = ComponentId(1);
 
 fn handle(index: u32) -> Result<Handle, Fail> {
     Ok(Handle::new(index, 1).ok_or("no handle")?)
 }
 
-fn birth(ordinal: u32) -> Birth {
+// A lower rank is an earlier birth. The digits of the rank are spread over the parts of the birth.
+fn birth(rank: u32) -> Birth {
     Birth {
-        frame: 0,
-        system: 0,
-        ordinal,
+        frame: u64::from(rank / 100),
+        system: rank / 10 % 10,
+        ordinal: rank % 10,
     }
 }
 
-// An entity for each index, birth ordinal and value of `HP`.
-fn filled(alloc: Global, entities: &[(u32, u32, i64)]) -> Result<Storage, Fail> {
-    let mut storage = Storage::new(alloc);
-    storage.reserve(entities.len())?;
-    for (index, ordinal, value) in entities {
-        let entity = handle(*index)?;
-        storage.born(entity, birth(*ordinal))?;
-        storage.insert(entity, &[(HP, *value)])?;
-    }
-    Ok(storage)
-}
-
+// A worked example, made in its own order.
 #[test]
 fn despawn_moves_the_last_row(rt: HostRuntime) -> Result<(), Fail> {
-    let mut storage = filled(rt.alloc(), &[(0, 2, 10), (1, 1, 11), (2, 0, 12)])?;
-    storage.despawn(handle(0)?)?;
-    assert_eq!(rt; storage.get(handle(2)?, HP), Some(12));
-    assert_eq!(rt; storage.get(handle(1)?, HP), Some(11));
-    assert_eq!(rt;
-        storage.by_birth()?.as_slice(),
-        [handle(2)?, handle(1)?].as_slice()
-    );
-    assert_refusals(&rt, &mut storage)
-}
-
-fn assert_refusals(rt: &impl Abort, storage: &mut Storage) -> Result<(), Fail> {
-    assert_eq!(rt; storage.despawn(handle(0)?), Err(StorageFault::Absent));
-    assert_eq!(rt;
-        storage.born(handle(2)?, birth(9)),
-        Err(StorageFault::Present)
-    );
-    assert_eq!(rt; storage.remove(handle(1)?, ComponentId(7)), Ok(None));
-    assert_eq!(rt;
-        storage.with(HP)?.as_slice(),
-        [handle(2)?, handle(1)?].as_slice()
-    );
-    Ok(())
-}
-
-#[test]
-fn reserve_makes_room(rt: HostRuntime) -> Result<(), Fail> {
+    let (first, second, third) = (handle(0)?, handle(1)?, handle(2)?);
     let mut storage = Storage::new(rt.alloc());
-    storage.reserve(3)?;
+    assert_eq!(rt; storage.reserve(3), Ok(()));
     assert!(rt; storage.spare() >= 3);
+    for (entity, ordinal) in [(first, 2), (second, 1), (third, 0)] {
+        assert_eq!(rt; storage.born(entity, birth(ordinal)), Ok(()));
+    }
+    for (entity, value) in [(first, 10), (second, 11), (third, 12)] {
+        assert_eq!(rt; storage.insert(entity, &[(HEALTH, value)]), Ok(()));
+    }
+    assert_eq!(rt; storage.despawn(first), Ok(()));
+
+    assert_eq!(rt; storage.get(third, HEALTH), Some(12));
+    assert_eq!(rt; storage.get(second, HEALTH), Some(11));
+    assert_eq!(rt; storage.by_birth()?.as_slice(), [third, second].as_slice());
+    assert_eq!(rt; storage.despawn(first), Err(StorageFault::Absent));
+    assert_eq!(rt; storage.born(third, birth(9)), Err(StorageFault::Present));
+    assert_eq!(rt; storage.remove(second, ComponentId(7)), Ok(None));
+    assert_eq!(rt;
+        storage.with(HEALTH)?.as_slice(),
+        [third, second].as_slice()
+    );
     Ok(())
 }
 
+// The entity that is born at a place, counted from 0. An odd factor takes no two places to one
+// index, and it scatters them, so the order of handles is neither that of places nor that of births.
+fn entity(place: u32) -> Result<Handle, Fail> {
+    handle(place.wrapping_mul(2_654_435_769))
+}
+
+// The later the place, the earlier the birth, so the order of births is not that of the rows.
+fn birth_at(place: u32) -> Birth {
+    birth(u32::MAX - place)
+}
+
+fn health_at(place: u32) -> i64 {
+    i64::from(place)
+}
+
+fn is_third(place: u32) -> bool {
+    place % 3 == 0
+}
+
+fn mana_at(place: u32) -> Option<i64> {
+    if is_third(place) {
+        Some(-i64::from(place))
+    } else {
+        None
+    }
+}
+
+// The entities of the places below `size` that belong, by birth.
+fn listed<F: Fn(u32) -> bool>(alloc: Global, size: u32, belongs: F) -> Result<Vec<Handle>, Fail>
+    requires { F.IsAlwaysCallable belongs }
+{
+    (0..size)
+        .rev()
+        .filter(|place| belongs(*place))
+        .map(entity)
+        .try_collect(alloc)
+}
+
+// Nothing, one alone, and enough that rows and index have grown many times.
 #[test]
-fn answers_without_entities(rt: HostRuntime) -> Result<(), Fail> {
-    let storage = Storage::new(rt.alloc());
-    assert!(rt; storage.is_empty());
-    assert!(rt; storage.items(handle(0)?).is_none());
-    assert!(rt; storage.by_birth()?.is_empty());
-    assert!(rt; storage.with(HP)?.is_empty());
+fn every_call_at_each_size(rt: HostRuntime) -> Result<(), Fail> {
+    for size in [0, 1, 3000] {
+        let all = listed(rt.alloc(), size, |_| true)?;
+        let thirds = listed(rt.alloc(), size, is_third)?;
+        let others = listed(rt.alloc(), size, |place| !is_third(place))?;
+        let mut storage = Storage::new(rt.alloc());
+        assert_eq!(rt; storage.spare(), 0);
+        fill(&rt, &mut storage, size)?;
+        assert_reserves(&rt, &mut storage);
+        assert_lists(&rt, &storage, &all, &thirds)?;
+        assert_entities(&rt, &storage, size)?;
+        assert_strangers(&rt, &mut storage, size)?;
+        assert_removes(&rt, &mut storage, size)?;
+        assert_lists(&rt, &storage, &all, &[])?;
+        assert_despawns(&rt, &mut storage, size)?;
+        assert_lists(&rt, &storage, &others, &[])?;
+        assert_thinned(&rt, &mut storage, size)?;
+    }
     Ok(())
 }
 
-#[test]
-fn keeps_the_components_of_one(rt: HostRuntime) -> Result<(), Fail> {
-    let mut storage = filled(rt.alloc(), &[(4_294_967_294, 3, -1)])?;
-    let entity = handle(4_294_967_294)?;
-    storage.insert(entity, &[])?;
-    storage.insert(
-        entity,
-        &[(HP, i64::MAX), (MP, 4), (ComponentId(255), i64::MIN)],
-    )?;
-    assert_items(
-        &rt,
-        &storage,
-        entity,
-        &[(HP, i64::MAX), (MP, 4), (ComponentId(255), i64::MIN)],
-    )?;
-    assert_eq!(rt; storage.remove(entity, MP), Ok(Some(4)));
-    assert_items(
-        &rt,
-        &storage,
-        entity,
-        &[(HP, i64::MAX), (ComponentId(255), i64::MIN)],
-    )
+// `MANA` comes before `HEALTH`, so that rising numbers are not the order of the calls.
+fn fill(rt: &impl Abort, storage: &mut Storage, size: u32) -> Result<(), Fail> {
+    for place in 0..size {
+        let entity = entity(place)?;
+        assert_eq!(rt; storage.born(entity, birth_at(place)), Ok(()), "at {place}");
+        assert_eq!(rt;
+            storage.born(entity, birth(0)),
+            Err(StorageFault::Present),
+            "at {place}"
+        );
+        if let Some(mana) = mana_at(place) {
+            assert_eq!(rt;
+                storage.insert(entity, &[(MANA, mana)]),
+                Ok(()),
+                "at {place}"
+            );
+        }
+        assert_eq!(rt;
+            storage.insert(entity, &[(HEALTH, health_at(place))]),
+            Ok(()),
+            "at {place}"
+        );
+    }
+    Ok(())
+}
+
+fn assert_reserves(rt: &impl Abort, storage: &mut Storage) {
+    assert_eq!(rt; storage.reserve(5000), Ok(()));
+    assert!(rt; storage.spare() >= 5000);
+}
+
+fn assert_lists(
+    rt: &impl Abort,
+    storage: &Storage,
+    living: &[Handle],
+    with_mana: &[Handle],
+) -> Result<(), Fail> {
+    assert_eq!(rt; storage.len(), living.len());
+    assert_eq!(rt; storage.is_empty(), living.is_empty());
+    assert_eq!(rt; storage.by_birth()?.as_slice(), living);
+    assert_eq!(rt; storage.with(HEALTH)?.as_slice(), living);
+    assert_eq!(rt; storage.with(MANA)?.as_slice(), with_mana);
+    Ok(())
+}
+
+fn assert_entities(rt: &impl Abort, storage: &Storage, size: u32) -> Result<(), Fail> {
+    for place in 0..size {
+        assert_entity(rt, storage, place, mana_at(place))?;
+    }
+    Ok(())
+}
+
+fn assert_entity(
+    rt: &impl Abort,
+    storage: &Storage,
+    place: u32,
+    mana: Option<i64>,
+) -> Result<(), Fail> {
+    let entity = entity(place)?;
+    let health = health_at(place);
+    let found = (
+        storage.contains(entity),
+        storage.birth(entity),
+        storage.get(entity, HEALTH),
+        storage.get(entity, MANA),
+    );
+    let want = (true, Some(birth_at(place)), Some(health), mana);
+    assert_eq!(rt; found, want, "at {place}");
+    match mana {
+        Some(mana) => assert_items(rt, storage, entity, &[(HEALTH, health), (MANA, mana)]),
+        None => assert_items(rt, storage, entity, &[(HEALTH, health)]),
+    }
 }
 
 fn assert_items(
-    rt: &(impl Abort + AllocGlobal),
+    rt: &impl Abort,
     storage: &Storage,
     entity: Handle,
     want: &[(ComponentId, i64)],
 ) -> Result<(), Fail> {
     let items = storage.items(entity).ok_or("absent")?;
-    assert_eq!(rt; items.len(), want.len());
-    let items = items.collect::<Vec<(ComponentId, i64)>>(rt.alloc())?;
-    assert_eq!(rt; items.as_slice(), want);
+    assert_eq!(rt; items.len(), want.len(), "of {entity:?}");
+    assert!(rt; items.eq(want.iter().copied()), "of {entity:?}");
     Ok(())
 }
 
-// Handles come in a scattered order and births against it, and every third entity goes.
+// An index that no entity has, and a later tenant of the slot that the first entity has.
+fn assert_strangers(rt: &impl Abort, storage: &mut Storage, size: u32) -> Result<(), Fail> {
+    assert_absent(rt, storage, entity(size)?);
+    assert_absent(rt, storage, Handle::new(0, 2).ok_or("no handle")?);
+    Ok(())
+}
+
+fn assert_absent(rt: &impl Abort, storage: &mut Storage, stranger: Handle) {
+    let found = (
+        storage.contains(stranger),
+        storage.birth(stranger),
+        storage.get(stranger, HEALTH),
+        storage.items(stranger).is_some(),
+    );
+    assert_eq!(rt; found, (false, None, None, false), "of {stranger:?}");
+    let refused = (
+        storage.insert(stranger, &[(HEALTH, 1)]),
+        storage.remove(stranger, HEALTH),
+        storage.despawn(stranger),
+    );
+    let absent = StorageFault::Absent;
+    assert_eq!(rt;
+        refused,
+        (Err(absent), Err(absent), Err(absent)),
+        "of {stranger:?}"
+    );
+}
+
+fn assert_removes(rt: &impl Abort, storage: &mut Storage, size: u32) -> Result<(), Fail> {
+    for place in 0..size {
+        assert_eq!(rt;
+            storage.remove(entity(place)?, MANA),
+            Ok(mana_at(place)),
+            "at {place}"
+        );
+        assert_entity(rt, storage, place, None)?;
+    }
+    Ok(())
+}
+
+fn assert_despawns(rt: &impl Abort, storage: &mut Storage, size: u32) -> Result<(), Fail> {
+    for place in (0..size).step_by(3) {
+        let spare = storage.spare();
+        assert_eq!(rt; storage.despawn(entity(place)?), Ok(()), "at {place}");
+        assert_eq!(rt; Some(storage.spare()), spare.checked_add(1), "at {place}");
+    }
+    Ok(())
+}
+
+fn assert_thinned(rt: &impl Abort, storage: &mut Storage, size: u32) -> Result<(), Fail> {
+    for place in 0..size {
+        if is_third(place) {
+            assert_absent(rt, storage, entity(place)?);
+        } else {
+            assert_entity(rt, storage, place, None)?;
+        }
+    }
+    Ok(())
+}
+
 #[test]
-fn keeps_some_thousand(rt: HostRuntime) -> Result<(), Fail> {
+fn keeps_the_greatest_numbers(rt: HostRuntime) -> Result<(), Fail> {
+    let entity = Handle::new(4_294_967_294, 2_147_483_647).ok_or("no handle")?;
+    let latest = Birth {
+        frame: u64::MAX,
+        system: u32::MAX,
+        ordinal: u32::MAX,
+    };
+    let last = ComponentId(255);
     let mut storage = Storage::new(rt.alloc());
-    for i in 0..3000u32 {
-        let entity = handle(i * 7919 % 3000)?;
-        storage.born(entity, birth(2999 - i))?;
-        storage.insert(entity, &[(HP, i64::from(i)), (MP, 1)])?;
-    }
-    for i in 0..1000u32 {
-        storage.despawn(handle(3 * i * 7919 % 3000)?)?;
-    }
-    assert_eq!(rt; storage.len(), 2000);
-    assert_thinned(&rt, &storage)?;
-    assert_births_rise(&rt, &storage)
+    storage.born(entity, latest)?;
+    assert_eq!(rt; storage.birth(entity), Some(latest));
+    storage.insert(entity, &[(HEALTH, -1)])?;
+    storage.insert(entity, &[])?;
+    assert_items(&rt, &storage, entity, &[(HEALTH, -1)])?;
+    storage.insert(entity, &[(HEALTH, i64::MAX), (MANA, 4), (last, i64::MIN)])?;
+    assert_items(
+        &rt,
+        &storage,
+        entity,
+        &[(HEALTH, i64::MAX), (MANA, 4), (last, i64::MIN)],
+    )?;
+    assert_eq!(rt; storage.remove(entity, MANA), Ok(Some(4)));
+    assert_items(
+        &rt,
+        &storage,
+        entity,
+        &[(HEALTH, i64::MAX), (last, i64::MIN)],
+    )
 }
 
-fn assert_thinned(rt: &impl Abort, storage: &Storage) -> Result<(), Fail> {
-    for i in 0..3000u32 {
-        let entity = handle(i * 7919 % 3000)?;
-        let value = if i % 3 != 0 { Some(i64::from(i)) } else { None };
-        assert_eq!(rt; storage.contains(entity), value.is_some(), "at {i}");
-        assert_eq!(rt; storage.get(entity, HP), value, "at {i}");
-    }
-    Ok(())
-}
+// What an entity is given at first, and what replaces it and needs more room.
+const FEW: [(ComponentId, i64); 2] = [(HEALTH, 1), (MANA, 2)];
 
-fn assert_births_rise(rt: &impl Abort, storage: &Storage) -> Result<(), Fail> {
-    let handles = storage.with(MP)?;
-    assert_eq!(rt; handles.len(), 2000);
-    let mut next = 0;
-    for entity in handles {
-        let born = storage.birth(entity).ok_or("absent")?;
-        assert!(rt; next <= born.ordinal);
-        next = born.ordinal.saturating_add(1);
-    }
-    Ok(())
-}
+const MORE: [(ComponentId, i64); 5] = [
+    (HEALTH, 3),
+    (MANA, 4),
+    (ComponentId(2), 5),
+    (ComponentId(3), 6),
+    (ComponentId(4), 7),
+];
 
 // Passes whichever one allocation is refused, since the refused call is as if it had not been made.
 #[test]
 fn refused_memory_changes_nothing(rt: HostRuntime) -> Result<(), Fail> {
-    let mut storage = Storage::new(rt.alloc());
-    for i in 0..20u32 {
-        let entity = handle(i)?;
-        born_at_last(&rt, &mut storage, entity)?;
-        insert_at_last(&rt, &mut storage, entity)?;
+    for size in [0, 1, 20] {
+        let mut storage = Storage::new(rt.alloc());
+        for index in (0..size).rev() {
+            let entity = handle(index)?;
+            born_at_last(&rt, &mut storage, entity)?;
+            insert_at_last(&rt, &mut storage, entity, &[], &FEW)?;
+            insert_at_last(&rt, &mut storage, entity, &FEW, &MORE)?;
+        }
+        reserve_at_last(&rt, &mut storage)?;
+        list_at_last(&rt, &storage, size)?;
+        take_apart(&rt, &mut storage, size)?;
     }
-    reserve_at_last(&rt, &mut storage)?;
-    list_at_last(&rt, &storage)
+    Ok(())
 }
 
 fn born_at_last(rt: &impl Abort, storage: &mut Storage, entity: Handle) -> Result<(), Fail> {
@@ -169,18 +319,25 @@ fn born_at_last(rt: &impl Abort, storage: &mut Storage, entity: Handle) -> Resul
     if storage.born(entity, birth(0)) == Err(StorageFault::Memory) {
         assert_eq!(rt; storage.len(), len);
         assert_eq!(rt; storage.spare(), 0);
+        assert!(rt; !storage.contains(entity));
         storage.born(entity, birth(0))?;
     }
+    assert_eq!(rt; storage.birth(entity), Some(birth(0)));
     Ok(())
 }
 
-fn insert_at_last(rt: &impl Abort, storage: &mut Storage, entity: Handle) -> Result<(), Fail> {
-    if storage.insert(entity, &[(HP, 1), (MP, 2)]) == Err(StorageFault::Memory) {
-        assert_eq!(rt; storage.get(entity, HP), None);
-        assert_eq!(rt; storage.get(entity, MP), None);
-        storage.insert(entity, &[(HP, 1), (MP, 2)])?;
+fn insert_at_last(
+    rt: &impl Abort,
+    storage: &mut Storage,
+    entity: Handle,
+    held: &[(ComponentId, i64)],
+    items: &[(ComponentId, i64)],
+) -> Result<(), Fail> {
+    if storage.insert(entity, items) == Err(StorageFault::Memory) {
+        assert_items(rt, storage, entity, held)?;
+        storage.insert(entity, items)?;
     }
-    Ok(())
+    assert_items(rt, storage, entity, items)
 }
 
 fn reserve_at_last(rt: &impl Abort, storage: &mut Storage) -> Result<(), Fail> {
@@ -188,15 +345,29 @@ fn reserve_at_last(rt: &impl Abort, storage: &mut Storage) -> Result<(), Fail> {
         assert!(rt; storage.spare() < 1000);
         storage.reserve(1000)?;
     }
+    assert!(rt; storage.spare() >= 1000);
     Ok(())
 }
 
-fn list_at_last(rt: &impl Abort, storage: &Storage) -> Result<(), Fail> {
-    if storage.by_birth().is_err() {
-        assert_eq!(rt; storage.by_birth()?.len(), 20);
+// All have one birth, so both lists are in the order of handles.
+fn list_at_last(rt: &impl Abort, storage: &Storage, size: u32) -> Result<(), Fail> {
+    let all = storage.by_birth().or_else(|_| storage.by_birth())?;
+    assert!(rt; all.iter().map(|entity| entity.index()).eq(0..size));
+    let with_mana = storage.with(MANA).or_else(|_| storage.with(MANA))?;
+    assert!(rt; with_mana.iter().map(|entity| entity.index()).eq(0..size));
+    Ok(())
+}
+
+// None of this takes memory, so no call is made twice.
+fn take_apart(rt: &impl Abort, storage: &mut Storage, size: u32) -> Result<(), Fail> {
+    for index in 0..size {
+        let entity = handle(index)?;
+        assert_items(rt, storage, entity, &MORE)?;
+        assert_eq!(rt; storage.remove(entity, HEALTH), Ok(Some(3)));
+        assert_eq!(rt; storage.get(entity, HEALTH), None);
+        assert_eq!(rt; storage.despawn(entity), Ok(()));
+        assert_absent(rt, storage, entity);
     }
-    if storage.with(MP).is_err() {
-        assert_eq!(rt; storage.with(MP)?.len(), 20);
-    }
+    assert!(rt; storage.is_empty());
     Ok(())
 }
