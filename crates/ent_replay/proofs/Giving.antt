@@ -1,34 +1,32 @@
 -- No handle is given twice in a run in which no free wrapped.
-use Rattle.std.proofs.Common.{◌≡◌, ◌≢◌, refl, sym, ap, subst, ◌∙◌, ℕ, zero, suc, ◌<◌, false, List, [], ◌∷◌, ◌++◌, append-nil, append_assoc, Option, Some, None, Result, Ok, Err, AllPairs, IsPermutation, inl, inr, arith}
+use Rattle.std.proofs.Common.{◌≡◌, ◌≢◌, refl, sym, ap, subst, ◌∙◌, ℕ, zero, suc, ◌<◌, false, List, [], ◌∷◌, ◌++◌, append-nil, append_assoc, Some, None, Result, Ok, Err, AllPairs, IsPermutation, inl, inr, arith}
 use Rattle.std.specs.Ordering.{nat_cmp}
 use Rattle.std.specs.FinMap as finite
 use Rattle.std.specs.FinMap.{FinMap, get-empty}
 use Rattle.std.proofs.lemmas.Bool.{cases_lt}
 use Rattle.std.proofs.lemmas.Bool.Decides.{nat_tests}
+use Rattle.std.proofs.lemmas.List.Elements.{All-nil}
 use Rattle.std.proofs.lemmas.List.Sorted.{IsPermutation-refl, IsPermutation-sym, IsPermutation-trans, IsPermutation-append_left, IsPermutation-append_right, IsPermutation-append_comm}
 use Rattle.ent_handle.specs.Handle.{Handle}
-use Rattle.ent_alloc.specs.Limits.{Limits}
-use Rattle.ent_alloc.specs.Sequential.{opening, after_take, after_alloc, after_free, after_flush, reply_to}
+use Rattle.ent_alloc.specs.Sequential.{Allocator, after_take, after_alloc, after_free, after_flush, reply_to}
 use Rattle.ent_alloc.specs.Sound.{IsSound}
 use Rattle.ent_alloc.specs.Given as spent
-use Rattle.ent_alloc.proofs.ListLaws.{AllPairs-left}
+use Rattle.ent_alloc.specs.History.{handles_in}
+use Rattle.ent_alloc.proofs.ListLaws.{All-right, AllPairs-left, AllPairs-right}
 use Rattle.ent_alloc.proofs.Wishes.{handles_of, wish-given}
-use Rattle.ent_alloc.proofs.GivenOnce.{opening-given, alloc-given, free-given, flush-given, given-IsPermutation}
+use Rattle.ent_alloc.proofs.GivenOnce.{alloc-given, free-given, flush-given, given-IsPermutation}
 use Rattle.ent_alloc.proofs.Soundness.{after_take-sound, after_alloc-sound, after_free-sound, after_flush-sound}
 use Rattle.ent_replay.specs.declared.event.Event.{Event}
 use Rattle.ent_replay.specs.declared.outcome.Outcome.{Outcome}
 use Rattle.ent_replay.specs.declared.outcome.Outcome.TheVariants as outcome
 use Rattle.ent_replay.specs.declared.fault.ReplayFault.{ReplayFault}
-use Rattle.ent_replay.specs.Schedule.{Schedule, OpenCall, Reply, starting, on_event, outcome_of, after_event, outcomes_of, reported, callers, wraps}
+use Rattle.ent_replay.specs.Schedule.{Schedule, OpenCall, Reply, Answered, on_event, outcome_of, after_event, outcomes_of, reported, callers, wraps}
+use Rattle.ent_replay.specs.Pending.{joined, held_by, held, pending}
 use Rattle.ent_replay.specs.Histories.{given_by, given_in, has_wrapped, NoneWrapped, AreGivenOnce}
 use Rattle.ent_replay.proofs.Maps.{get-inserted, get-insert_other, get-removed, get-remove_other}
 use Rattle.ent_replay.proofs.Moves.{Move, move, stays, allocates, frees, flushes, begins, steps, answers}
 
 -- ---- lists of all callers, one after the other
-
-unfoldable joined : (ℕ → List Handle) → ℕ → List Handle
-joined f zero = []
-joined f (suc n) = joined f n ++ f n
 
 joined-alike : (f g : ℕ → List Handle) (n : ℕ) → ((q : ℕ) → q < n → f q ≡ g q) → joined f n ≡ joined g n
 unfolding joined
@@ -69,18 +67,12 @@ joined-more f g c (suc n) lt none alike = elim (cases_lt c n) [
 
 -- ---- the handles that are kept for open calls
 
-abbrev held_by : Option Reply → List Handle
-held_by None = []
-held_by (Some reply) = handles_of reply
+-- two definitions of the handles of a reply agree
+handles-same : (reply : Reply) → handles_in reply ≡ handles_of reply
+handles-same (Ok handles) = refl
+handles-same (Err space) = refl
 
-abbrev held : Option OpenCall → List Handle
-held None = []
-held (Some call) = held_by call.reply
-
-abbrev pending : FinMap nat_cmp OpenCall → List Handle
-pending calls = joined (λ q. held (finite.get calls q)) callers
-
-pending-none : (calls : FinMap nat_cmp OpenCall) → calls ≡ finite.empty → pending calls ≡ []
+pub pending-none : (calls : FinMap nat_cmp OpenCall) → calls ≡ finite.empty → pending calls ≡ []
 pending-none calls none = joined-none (λ q. held (finite.get calls q)) callers (λ q. ap (λ m. held (finite.get m q)) none ∙ ap held (get-empty nat_cmp q))
 
 module _ (calls : FinMap nat_cmp OpenCall) (caller : ℕ) (below : caller < callers) where
@@ -101,7 +93,7 @@ record IsGiven (s : Schedule) (given : List Handle) : Type 0 where
   sound : IsSound s.allocator
   once : spent.AreGivenOnce s.allocator (given ++ pending s.calls)
 
-given_by-reported : (reply : Reply) → given_by (Ok (reported reply)) ≡ handles_of reply
+given_by-reported : (reply : Reply) → given_by (Ok (reported reply)) ≡ handles_in reply
 given_by-reported (Ok handles) = refl
 given_by-reported (Err space) = refl
 
@@ -148,7 +140,7 @@ given-next s e given h fresh (begins caller n costs is below none at) =
 given-next s e given h fresh (steps caller call is below some waits makes at) =
     let n = call.wish in
     let new : OpenCall = record { wish = n; reply = Some (reply_to s.allocator n) } in
-    let hs = handles_of (reply_to s.allocator n) in
+    let hs = handles_in (reply_to s.allocator n) in
     let kept = pending-inserted s.calls caller below new (ap held some ∙ ap held_by waits) in
     onward s e given _ (record s { allocator = after_take s.allocator n; calls = finite.insert s.calls caller new }) is (record {
       sound = after_take-sound s.allocator n h.sound;
@@ -156,11 +148,11 @@ given-next s e given h fresh (steps caller call is below some waits makes at) =
           (subst (λ xs. IsPermutation ((given ++ pending s.calls) ++ hs) (xs ++ pending (finite.insert s.calls caller new))) (sym (append-nil given))
           (subst (λ xs. IsPermutation xs (given ++ pending (finite.insert s.calls caller new))) (sym (append_assoc given (pending s.calls) hs))
           (IsPermutation-append_right given (pending s.calls ++ hs) (pending (finite.insert s.calls caller new)) kept)))
-          (wish-given s.allocator n (given ++ pending s.calls) h.sound h.once);
+          (subst (λ xs. spent.AreGivenOnce (after_take s.allocator n) ((given ++ pending s.calls) ++ xs)) (sym (handles-same (reply_to s.allocator n))) (wish-given s.allocator n (given ++ pending s.calls) h.sound h.once));
     })
 given-next s e given h fresh (answers caller call reply is below some stepped at) =
     let left = pending (finite.remove s.calls caller) in
-    let hs = handles_of reply in
+    let hs = handles_in reply in
     let holds : held (finite.get s.calls caller) ≡ hs = ap held some ∙ ap held_by stepped in
     let kept : IsPermutation (left ++ hs) (pending s.calls) = subst (λ xs. IsPermutation (left ++ xs) (pending s.calls)) holds (pending-removed s.calls caller below) in
     onward s e given (Ok (reported reply)) (record s { calls = finite.remove s.calls caller }) is (record {
@@ -173,6 +165,27 @@ given-next s e given h fresh (answers caller call reply is below some stepped at
           h.once);
     })
 
+-- ---- the handles that are kept for open calls, after one event
+
+-- where a list was given once, its second part was
+given-right : (s : Allocator) (xs ys : List Handle) → spent.AreGivenOnce s (xs ++ ys) → spent.AreGivenOnce s ys
+given-right s xs ys h = record { distinct = AllPairs-right (λ g h. g ≢ h) xs ys h.distinct; spent = All-right (spent.IsSpent s) xs ys h.spent }
+
+-- so was an empty list
+pub given-none : (s : Allocator) (hs : List Handle) → hs ≡ [] → spent.AreGivenOnce s hs
+given-none s hs none = subst (spent.AreGivenOnce s) (sym none) (record { distinct = λ i j d lt in_part. absurd (omega arith); spent = All-nil (spent.IsSpent s) })
+
+pub not_wrapped-reported : (reply : Reply) → has_wrapped (Ok (reported reply)) ≡ false
+not_wrapped-reported (Ok handles) = refl
+not_wrapped-reported (Err space) = refl
+
+pub pending-next : (s : Schedule) (e : Event) (r : Result Outcome ReplayFault) (t : Schedule) → on_event s e ≡ (r, t) → has_wrapped r ≡ false
+    → IsSound s.allocator → spent.AreGivenOnce s.allocator (pending s.calls) → spent.AreGivenOnce t.allocator (pending t.calls)
+pending-next s e r t is fresh sound once =
+    let h = given-next s e [] (record { sound = sound; once = once }) (ap (λ p. has_wrapped p.0) is ∙ fresh) (move s e) in
+    subst (λ (p : Answered). spent.AreGivenOnce p.1.allocator (pending p.1.calls)) is
+    (given-right (after_event s e).allocator (given_by (outcome_of s e)) (pending (after_event s e).calls) h.once)
+
 -- ---- whole runs
 
 given_run : (s : Schedule) (events : List Event) (given : List Handle) → IsGiven s given → NoneWrapped (outcomes_of s events) → AllPairs (λ g h. g ≢ h) (given ++ given_in (outcomes_of s events))
@@ -181,8 +194,5 @@ given_run s (e ∷ events) given h fresh =
     subst (AllPairs (λ g h. g ≢ h)) (append_assoc given (given_by (outcome_of s e)) (given_in (outcomes_of (after_event s e) events)))
     (given_run (after_event s e) events (given ++ given_by (outcome_of s e)) (given-next s e given h fresh.0 (move s e)) fresh.1)
 
-pub given_once : (limits : Limits) (events : List Event) → IsSound (opening limits) → NoneWrapped (outcomes_of (starting limits) events) → AreGivenOnce (outcomes_of (starting limits) events)
-given_once limits events sound fresh = given_run (starting limits) events [] (record {
-  sound = sound;
-  once = subst (spent.AreGivenOnce (opening limits)) (sym (pending-none finite.empty refl)) (opening-given limits);
-}) fresh
+pub given_once : (s : Schedule) (events : List Event) → IsSound s.allocator → spent.AreGivenOnce s.allocator (pending s.calls) → NoneWrapped (outcomes_of s events) → AreGivenOnce (outcomes_of s events)
+given_once s events sound once fresh = given_run s events [] (record { sound = sound; once = once }) fresh

@@ -5,8 +5,9 @@ pub mod ScheduleLoop
 pub mod ScheduleWords
 pub mod Maps
 pub mod Totals
+pub mod Conditions
+pub mod Moves
+pub mod Giving
 pub mod Playing
 pub mod Schedules
-pub mod Moves
 pub mod Linear
-pub mod Giving

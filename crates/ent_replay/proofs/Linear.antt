@@ -14,12 +14,11 @@ use Rattle.ent_alloc.proofs.PoolLaw.{asked-after_take, after_take-none, reply-no
 use Rattle.ent_replay.specs.declared.event.Event.{Event}
 use Rattle.ent_replay.specs.declared.event.Event.TheVariants as event
 use Rattle.ent_replay.specs.declared.outcome.Outcome.{Outcome}
-use Rattle.ent_replay.specs.declared.outcome.Outcome.TheVariants as outcome
 use Rattle.ent_replay.specs.declared.fault.ReplayFault.{ReplayFault}
 use Rattle.ent_replay.specs.Schedule.{Schedule, OpenCall, Reply, outcome_of, after_event, outcomes_of, reported}
-use Rattle.ent_replay.specs.Histories.{reserved, reservations, Phase, next_phase, last_of, Tells, StandInHistory, IsAtRest, new_phase}
+use Rattle.ent_replay.specs.Histories.{reserved, reservations, Phase, next_phase, last_of, TellsOf, Tells, StandInHistory, IsAtRest, new_phase}
 use Rattle.ent_replay.proofs.Maps.{get-inserted, get-insert_other, get-removed, get-remove_other}
-use Rattle.ent_replay.proofs.Playing.{when, unless}
+use Rattle.ent_replay.proofs.Conditions.{when, unless}
 use Rattle.ent_replay.proofs.Moves.{Move, move, stays, allocates, frees, flushes, begins, steps, answers}
 
 -- ---- histories
@@ -42,16 +41,20 @@ last_of-append_other q (c ∷ calls) call other = ap (λ o. option_or o (cond (c
 
 -- ---- what is kept from event to event
 
--- every open call that has made its step was given nothing
-abbrev NothingTold : Schedule → Type 0
-NothingTold s = (q : ℕ) (call : OpenCall) (r : Reply) → finite.get s.calls q ≡ Some call → call.reply ≡ Some r → r ≡ Ok []
+-- a wish for none, which was given nothing
+abbrev WishedNone : ℕ → Reply → Type 0
+WishedNone wish r = (wish ≡ 0) × (r ≡ Ok [])
 
--- the reply was given by the caller's last reservation, or is that to a wish for none
-abbrev IsOfHistory : List Call → ℕ → Reply → Type 0
-IsOfHistory calls q r = (r ≡ Ok []) ⊎ ((made : Call) × (last_of q calls ≡ Some made) × (r ≡ made.reply))
+-- every open call that has made its step wished for none
+abbrev NothingTold : Schedule → Type 0
+NothingTold s = (q : ℕ) (call : OpenCall) (r : Reply) → finite.get s.calls q ≡ Some call → call.reply ≡ Some r → WishedNone call.wish r
+
+-- the reply was given by the caller's last reservation, of this wish, or is that to a wish for none
+abbrev IsOfHistory : List Call → ℕ → ℕ → Reply → Type 0
+IsOfHistory calls q wish r = WishedNone wish r ⊎ ((made : Call) × (last_of q calls ≡ Some made) × (made.wish ≡ wish) × (r ≡ made.reply))
 
 abbrev AreOfHistory : List Call → Schedule → Type 0
-AreOfHistory calls s = (q : ℕ) (call : OpenCall) (r : Reply) → finite.get s.calls q ≡ Some call → call.reply ≡ Some r → IsOfHistory calls q r
+AreOfHistory calls s = (q : ℕ) (call : OpenCall) (r : Reply) → finite.get s.calls q ≡ Some call → call.reply ≡ Some r → IsOfHistory calls q call.wish r
 
 pub record IsFollowed (p : Phase) (s : Schedule) : Type 0 where
   pub legal : IsLegal p.start p.calls
@@ -64,19 +67,19 @@ pub record IsFollowed (p : Phase) (s : Schedule) : Type 0 where
 no_calls : (calls : FinMap nat_cmp OpenCall) → calls ≡ finite.empty → (q : ℕ) (call : OpenCall) → finite.get calls q ≡ Some call → ⊥
 no_calls calls none q call at = let nothing : finite.get calls q ≡ None = ap (λ m. finite.get m q) none ∙ get-empty nat_cmp q in cc
 
--- a fact on the replies of all open calls but one, and on that one's
-module _ (P : ℕ → Reply → Type 0) (calls : FinMap nat_cmp OpenCall) (caller : ℕ)
-    (before : (q : ℕ) (call : OpenCall) (r : Reply) → q ≢ caller → finite.get calls q ≡ Some call → call.reply ≡ Some r → P q r) where
-  on_inserted : (new : OpenCall) → ((r : Reply) → new.reply ≡ Some r → P caller r)
-      → (q : ℕ) (call : OpenCall) (r : Reply) → finite.get (finite.insert calls caller new) q ≡ Some call → call.reply ≡ Some r → P q r
+-- a fact on the wishes and replies of all open calls but one, and on that one's
+module _ (P : ℕ → ℕ → Reply → Type 0) (calls : FinMap nat_cmp OpenCall) (caller : ℕ)
+    (before : (q : ℕ) (call : OpenCall) (r : Reply) → q ≢ caller → finite.get calls q ≡ Some call → call.reply ≡ Some r → P q call.wish r) where
+  on_inserted : (new : OpenCall) → ((r : Reply) → new.reply ≡ Some r → P caller new.wish r)
+      → (q : ℕ) (call : OpenCall) (r : Reply) → finite.get (finite.insert calls caller new) q ≡ Some call → call.reply ≡ Some r → P q call.wish r
   on_inserted new here q call r at told = elim (ℕ_discrete q caller) [
     | yes same ↦
         let is : new ≡ call = same_Some new call (sym (get-inserted calls caller new) ∙ ap (finite.get (finite.insert calls caller new)) (sym same) ∙ at) in
-        subst (λ k. P k r) (sym same) (here r (ap (λ c. c.reply) is ∙ told))
+        subst (λ k. P k call.wish r) (sym same) (subst (λ n. P caller n r) (ap (λ c. c.wish) is) (here r (ap (λ c. c.reply) is ∙ told)))
     | no other ↦ before q call r other (sym (get-insert_other calls caller new q other) ∙ at) told
   ]
 
-  on_removed : (q : ℕ) (call : OpenCall) (r : Reply) → finite.get (finite.remove calls caller) q ≡ Some call → call.reply ≡ Some r → P q r
+  on_removed : (q : ℕ) (call : OpenCall) (r : Reply) → finite.get (finite.remove calls caller) q ≡ Some call → call.reply ≡ Some r → P q call.wish r
   on_removed q call r at told = elim (ℕ_discrete q caller) [
     | yes same ↦
         let nothing : finite.get (finite.remove calls caller) q ≡ None = ap (finite.get (finite.remove calls caller)) same ∙ get-removed calls caller in
@@ -112,17 +115,17 @@ module _ (p : Phase) (s : Schedule) (e : Event) (h : IsFollowed p s) where
   at_rest (begins caller n spent is below none at) zero_asked =
       let t = ap (λ x. x.1) is in
       let still = h.rest (sym (ap (λ (x : Schedule). x.allocator.asked) t) ∙ zero_asked) in
-      subst NothingTold (sym t) (on_inserted (λ q r. r ≡ Ok []) s.calls caller (λ q call r _. still q call r) (record { wish = n; reply = None }) (λ r told. absurd (none_some r told)))
+      subst NothingTold (sym t) (on_inserted (λ q. WishedNone) s.calls caller (λ q call r _. still q call r) (record { wish = n; reply = None }) (λ r told. absurd (none_some r told)))
   at_rest (steps caller call is below some waits makes at) zero_asked =
       let t = ap (λ x. x.1) is in
       let parts = zero_sum s.allocator.asked call.wish (sym (asked-after_take s.allocator call.wish) ∙ sym (ap (λ (x : Schedule). x.allocator.asked) t) ∙ zero_asked) in
       let still = h.rest parts.0 in
-      subst NothingTold (sym t) (on_inserted (λ q r. r ≡ Ok []) s.calls caller (λ q call r _. still q call r) (record { wish = call.wish; reply = Some (reply_to s.allocator call.wish) })
-      (λ r told. sym (same_Some (reply_to s.allocator call.wish) r told) ∙ ap (reply_to s.allocator) parts.1 ∙ reply-none s.allocator))
+      subst NothingTold (sym t) (on_inserted (λ q. WishedNone) s.calls caller (λ q call r _. still q call r) (record { wish = call.wish; reply = Some (reply_to s.allocator call.wish) })
+      (λ r told. (parts.1, sym (same_Some (reply_to s.allocator call.wish) r told) ∙ ap (reply_to s.allocator) parts.1 ∙ reply-none s.allocator)))
   at_rest (answers caller call reply is below some stepped at) zero_asked =
       let t = ap (λ x. x.1) is in
       let still = h.rest (sym (ap (λ (x : Schedule). x.allocator.asked) t) ∙ zero_asked) in
-      subst NothingTold (sym t) (on_removed (λ q r. r ≡ Ok []) s.calls caller (λ q call r _. still q call r))
+      subst NothingTold (sym t) (on_removed (λ q. WishedNone) s.calls caller (λ q call r _. still q call r))
 
   -- a step of some wish, as the wish is
   after_step : (caller n : ℕ) → IsFollowed (record { start = p.start; calls = p.calls ++ reserved s caller n None })
@@ -130,12 +133,12 @@ module _ (p : Phase) (s : Schedule) (e : Event) (h : IsFollowed p s) where
   after_step caller zero = record {
     legal = subst (IsLegal p.start) (sym (append-nil p.calls)) h.legal;
     reached = ap (after_history p.start) (append-nil p.calls) ∙ h.reached ∙ sym (after_take-none s.allocator);
-    rest = λ zero_asked. on_inserted (λ q r. r ≡ Ok []) s.calls caller (λ q call r _. h.rest (sym (ap (λ (x : Allocator). x.asked) (after_take-none s.allocator)) ∙ zero_asked) q call r)
-        (record { wish = zero; reply = Some (reply_to s.allocator zero) }) (λ r told. sym (same_Some (reply_to s.allocator zero) r told) ∙ reply-none s.allocator);
+    rest = λ zero_asked. on_inserted (λ q. WishedNone) s.calls caller (λ q call r _. h.rest (sym (ap (λ (x : Allocator). x.asked) (after_take-none s.allocator)) ∙ zero_asked) q call r)
+        (record { wish = zero; reply = Some (reply_to s.allocator zero) }) (λ r told. (refl, sym (same_Some (reply_to s.allocator zero) r told) ∙ reply-none s.allocator));
     open_calls = on_inserted (IsOfHistory (p.calls ++ [])) s.calls caller
-        (λ q call r _ at told. subst (λ calls. IsOfHistory calls q r) (sym (append-nil p.calls)) (h.open_calls q call r at told))
+        (λ q call r _ at told. subst (λ calls. IsOfHistory calls q call.wish r) (sym (append-nil p.calls)) (h.open_calls q call r at told))
         (record { wish = zero; reply = Some (reply_to s.allocator zero) })
-        (λ r told. inl (sym (same_Some (reply_to s.allocator zero) r told) ∙ reply-none s.allocator));
+        (λ r told. inl (refl, sym (same_Some (reply_to s.allocator zero) r told) ∙ reply-none s.allocator));
   }
   after_step caller (suc n) =
       let made : Call = record { caller = caller; wish = suc n; reply = reply_to s.allocator (suc n) } in
@@ -147,10 +150,10 @@ module _ (p : Phase) (s : Schedule) (e : Event) (h : IsFollowed p s) where
         open_calls = on_inserted (IsOfHistory (p.calls ++ made ∷ [])) s.calls caller
             (λ q call r other at told. elim (h.open_calls q call r at told) [
               | inl nothing ↦ inl nothing
-              | inr found ↦ inr (found.0, last_of-append_other q p.calls made (λ same. other (sym same)) ∙ found.1, found.2)
+              | inr found ↦ inr (found.0, last_of-append_other q p.calls made (λ same. other (sym same)) ∙ found.1, found.2, found.3)
             ])
             (record { wish = suc n; reply = Some (reply_to s.allocator (suc n)) })
-            (λ r told. inr (made, last_of-append caller p.calls made refl, sym (same_Some (reply_to s.allocator (suc n)) r told)));
+            (λ r told. inr (made, last_of-append caller p.calls made refl, refl, sym (same_Some (reply_to s.allocator (suc n)) r told)));
       }
 
   -- where something is
@@ -165,7 +168,7 @@ module _ (p : Phase) (s : Schedule) (e : Event) (h : IsFollowed p s) where
       (record {
         legal = h.legal;
         reached = h.reached;
-        rest = λ zero_asked. on_inserted (λ q r. r ≡ Ok []) s.calls caller (λ q call r _. h.rest zero_asked q call r) (record { wish = n; reply = None }) (λ r told. absurd (none_some r told));
+        rest = λ zero_asked. on_inserted (λ q. WishedNone) s.calls caller (λ q call r _. h.rest zero_asked q call r) (record { wish = n; reply = None }) (λ r told. absurd (none_some r told));
         open_calls = on_inserted (IsOfHistory p.calls) s.calls caller (λ q call r _. h.open_calls q call r) (record { wish = n; reply = None }) (λ r told. absurd (none_some r told));
       }))
   goes_on (steps caller call is below some waits makes at) asked =
@@ -178,7 +181,7 @@ module _ (p : Phase) (s : Schedule) (e : Event) (h : IsFollowed p s) where
       (record {
         legal = h.legal;
         reached = h.reached;
-        rest = λ zero_asked. on_removed (λ q r. r ≡ Ok []) s.calls caller (λ q call r _. h.rest zero_asked q call r);
+        rest = λ zero_asked. on_removed (λ q. WishedNone) s.calls caller (λ q call r _. h.rest zero_asked q call r);
         open_calls = on_removed (IsOfHistory p.calls) s.calls caller (λ q call r _. h.open_calls q call r);
       }))
 
@@ -203,11 +206,11 @@ caller_of : Event → ℕ
 caller_of (event.Answer caller) = caller
 caller_of other = 0
 
-told_by : (p : Phase) (s : Schedule) (caller : ℕ) → IsFollowed p s → (r : Result Outcome ReplayFault) → outcome_of s (event.Answer caller) ≡ r → Tells p.calls (event.Answer caller) r
+told_by : (p : Phase) (s : Schedule) (caller : ℕ) → IsFollowed p s → (r : Result Outcome ReplayFault) → outcome_of s (event.Answer caller) ≡ r → Tells s p.calls (event.Answer caller) r
 told_by p s caller h (Err why) result = tt
 told_by p s caller h (Ok told) result = go (move s (event.Answer caller))
   where
-    go : Move s (event.Answer caller) → (told ≡ outcome.Handles []) ⊎ ((call : Call) × (last_of caller p.calls ≡ Some call) × (told ≡ reported call.reply))
+    go : Move s (event.Answer caller) → (call : OpenCall) × (finite.get s.calls caller ≡ Some call) × TellsOf p.calls caller call.wish told
     go (stays r is gives fine tells none) = absurd (tells told caller refl (sym (ap (λ x. x.0) is) ∙ result))
     go (allocates x rest is none flushed pool at) = absurd cc
     go (frees x is none flushed lives at) = absurd cc
@@ -217,12 +220,14 @@ told_by p s caller h (Ok told) result = go (move s (event.Answer caller))
     go (answers c call reply is below some stepped at) =
         let own : c ≡ caller = cc in
         let says : told ≡ reported reply = cc in
-        elim (h.open_calls caller call reply (ap (finite.get s.calls) (sym own) ∙ some) stepped) [
-          | inl nothing ↦ inl (says ∙ ap reported nothing)
-          | inr found ↦ inr (found.0, found.1, says ∙ ap reported found.2)
-        ]
+        let here = ap (finite.get s.calls) (sym own) ∙ some in
+        let tells : TellsOf p.calls caller call.wish told = elim (h.open_calls caller call reply here stepped) [
+          | inl nothing ↦ inl (nothing.0, says ∙ ap reported nothing.1)
+          | inr found ↦ inr (found.0, found.1, found.2, says ∙ ap reported found.3)
+        ] in
+        (call, here, tells)
 
-tells : (p : Phase) (s : Schedule) (e : Event) → IsFollowed p s → Tells p.calls e (outcome_of s e)
+tells : (p : Phase) (s : Schedule) (e : Event) → IsFollowed p s → Tells s p.calls e (outcome_of s e)
 tells p s event.Alloc h = tt
 tells p s (event.Free x) h = tt
 tells p s event.Flush h = tt

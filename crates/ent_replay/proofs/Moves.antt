@@ -18,7 +18,7 @@ use Rattle.ent_replay.specs.Schedule.{Schedule, OpenCall, Reply, is_busy, on_eve
 use Rattle.ent_replay.specs.Histories.{reserved, reserved_by, reservations, given_by}
 use Rattle.std.proofs.lemmas.List.Elements.{All-nil, All-cons}
 use Rattle.ent_replay.proofs.Maps.{no_test}
-use Rattle.ent_replay.proofs.Playing.{when, unless}
+use Rattle.ent_replay.proofs.Conditions.{when, unless}
 
 -- memory ran out
 abbrev pub ran_out : Result Outcome ReplayFault → Bool

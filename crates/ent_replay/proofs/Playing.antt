@@ -1,5 +1,5 @@
 -- What each event does to the fields of a `Machine`, and that it keeps them in order.
-use Rattle.std.proofs.Common.{◌≡◌, refl, sym, ap, subst, ◌∙◌, ℕ, ◌+◌, ◌*◌, ◌^◌, ◌<◌, ◌≤◌, pos, ◌-ℤ◌, ◌≤ℤ◌, Bool, true, false, IsTrue, cond, not, nat_lt, List, [], ◌∷◌, length, drop, filter, slice_get, Option, Some, None, Result, Ok, Err, arith, inl, inr}
+use Rattle.std.proofs.Common.{◌≡◌, refl, sym, ap, subst, ◌∙◌, ℕ, ◌+◌, ◌*◌, ◌^◌, ◌<◌, ◌≤◌, pos, ◌-ℤ◌, ◌≤ℤ◌, Bool, true, false, IsTrue, not, nat_lt, List, [], ◌∷◌, length, drop, filter, slice_get, Option, Some, None, Result, Ok, Err, arith, inl, inr}
 use Rattle.std.proofs.lemmas.Int.{ints}
 use Rattle.std.specs.Prelude.{◌==◌}
 use Rattle.std.specs.Option.{option_map, unwrap_or, is_some}
@@ -16,37 +16,26 @@ use Rattle.ent_alloc.specs.declared.span.Span.{Span}
 use Rattle.ent_alloc.specs.Limits.{Limits}
 use Rattle.ent_alloc.specs.Sequential.{Allocator, cursor, opening, after_take, after_alloc, after_free, after_flush, next, born, reply_from, reply_to, pool_at, asked_at, is_old}
 use Rattle.ent_alloc.specs.Sound.{IsSound}
+use Rattle.ent_alloc.specs.Given as given
 use Rattle.ent_alloc.proofs.Taken.{available-after_take}
 use Rattle.ent_alloc.proofs.Soundness.{after_take-sound, after_alloc-sound, after_free-sound, after_flush-sound}
 use Rattle.ent_alloc.proofs.PoolLaw.{made-after_take, asked-after_take, top-after_take, cursor-after_take, reply-cursor}
 use Rattle.ent_replay.specs.declared.call.Call.{Call}
+use Rattle.ent_replay.specs.declared.event.Event.TheVariants as event
 use Rattle.ent_replay.specs.declared.outcome.Outcome.{Outcome}
 use Rattle.ent_replay.specs.declared.outcome.Outcome.TheVariants as outcome
 use Rattle.ent_replay.specs.declared.fault.ReplayFault.{ReplayFault}
 use Rattle.ent_replay.specs.declared.fault.ReplayFault.TheVariants as fault
-use Rattle.ent_replay.specs.Schedule.{Schedule, OpenCall, Answered, starting, is_busy, on_alloc, on_free, on_flush, on_begin, on_step, on_answer, alloc_front, begin_with, step_with, step_open, answer_with, answer_open, left_of, callers, credit, reported, wraps}
+use Rattle.ent_replay.specs.Schedule.{Schedule, OpenCall, Answered, starting, is_busy, on_alloc, on_free, on_flush, on_begin, on_step, on_answer, alloc_front, begin_with, step_with, step_open, answer_with, answer_open, takes_memory, left_of, callers, credit, reported, wraps}
 use Rattle.ent_replay.specs.Totals.{total}
+use Rattle.ent_replay.specs.Pending.{pending}
 use Rattle.ent_replay.specs.Machine.{map_values, replied, schedule_of, unasked, awaited, IsPlayed, Makes}
+use Rattle.ent_replay.proofs.Conditions.{when, unless}
+use Rattle.ent_replay.proofs.Giving.{pending-none, pending-next, given-none, not_wrapped-reported}
 use Rattle.ent_replay.proofs.Totals.{total-changed, total-bound, total-part, total-none}
 use Rattle.ent_replay.proofs.Maps.{no_test, maps_alike, get-inserted, get-insert_other, get-removed, get-remove_other, get-map_values, map_values-insert, map_values-remove, map_values-empty}
 
--- ---- tests
-
-pub when : {A : Type 0} (b : Bool) (x y : A) → b ≡ true → cond b x y ≡ x
-when true x y is = refl
-when false x y is = absurd (subst (λ b. IsFalse b) is tt)
-  where
-    IsFalse : Bool → Type 0
-    IsFalse false = Unit {0}
-    IsFalse true = ⊥
-
-pub unless : {A : Type 0} (b : Bool) (x y : A) → b ≡ false → cond b x y ≡ y
-unless true x y is = absurd (subst (λ b. IsTrue_ b) is tt)
-  where
-    IsTrue_ : Bool → Type 0
-    IsTrue_ true = Unit {0}
-    IsTrue_ false = ⊥
-unless false x y is = refl
+-- ---- answers
 
 -- The machine did what the step says, or refused for want of memory: told of the values that a contract sees.
 pub done : (on : Schedule → Answered) (inside now : Schedule) → inside ≡ now → (result answer : Result Outcome ReplayFault) → result ≡ answer → (after next : Schedule) → after ≡ next
@@ -54,8 +43,9 @@ pub done : (on : Schedule → Answered) (inside now : Schedule) → inside ≡ n
 done on inside now view result answer is after next is_next step =
     inl (is ∙ ap (λ p. p.0) (sym step) ∙ ap (λ v. (on v).0) view, is_next ∙ ap (λ p. p.1) (sym step) ∙ ap (λ v. (on v).1) view)
 
-pub refused : (on : Schedule → Answered) (inside now : Schedule) → inside ≡ now → (result : Result Outcome ReplayFault) → result ≡ Err fault.Memory → (after : Schedule) → after ≡ inside → Makes (on now) now result after
-refused on inside now view result is after unchanged = inr (is, unchanged ∙ view)
+pub refused : (on : Schedule → Answered) (inside now : Schedule) → inside ≡ now → (result : Result Outcome ReplayFault) → result ≡ Err fault.Memory → (after : Schedule) → after ≡ inside
+    → takes_memory (on inside).0 ≡ true → Makes (on now) now result after
+refused on inside now view result is after unchanged takes = inr (is, unchanged ∙ view, ap (λ v. takes_memory (on v).0) (sym view) ∙ takes)
 
 -- two tests that say the same are one
 pub same_test : (b : Bool) (m n : ℕ) → (IsTrue b → m ≡ n) × (m ≡ n → IsTrue b) → b ≡ (m == n)
@@ -82,6 +72,10 @@ pub on_err : {T E : Type 0} {P : Type 0} (r : Result T E) → true ≡ is_err r 
 on_err (Ok x) is holds = absurd (no_test (sym is))
 on_err (Err e) is holds = holds
 
+-- nothing was asked for
+pub flushed : {asked : ℕ} → ¬ (0 < asked) → asked ≡ 0
+flushed none = omega arith
+
 -- an answer is no refusal
 pub ok_not_err : {T E : Type 0} (x : T) (e : E) → Ok x ≡ Err e → ⊥
 ok_not_err x e is = cc
@@ -93,6 +87,15 @@ front (y ∷ ys) x is = let same : y ≡ x = cc in ap (λ z. z ∷ ys) same
 none_is_none : {X Y : Type 0} (f : X → Y) (o : Option X) → option_map f o ≡ None → o ≡ None
 none_is_none f None is = refl
 none_is_none f (Some x) is = absurd cc
+
+-- the front of a pool that is not empty is taken
+front_takes_memory : (s : Schedule) (pool : List Handle) → ¬ (pool ≡ []) → takes_memory (alloc_front s pool).0 ≡ true
+front_takes_memory s [] some = absurd (some refl)
+front_takes_memory s (h ∷ rest) some = refl
+
+not_false : (b : Bool) → ¬ (b ≡ false) → b ≡ true
+not_false true other = refl
+not_false false other = absurd (other refl)
 
 module _ (s : Allocator) (spent : FinMap nat_cmp ℕ) (calls : FinMap nat_cmp Call) where
   -- ---- whether a call is open
@@ -118,6 +121,10 @@ module _ (s : Allocator) (spent : FinMap nat_cmp ℕ) (calls : FinMap nat_cmp Ca
   pub quiet_calls : calls ≡ finite.empty → (t : Allocator) → map_values (replied s) calls ≡ map_values (replied t) calls
   quiet_calls none t = ap (map_values (replied s)) none ∙ map_values-empty (replied s) ∙ sym (map_values-empty (replied t)) ∙ ap (map_values (replied t)) (sym none)
 
+  -- nor is anything kept for one
+  quiet_once : calls ≡ finite.empty → (t : Allocator) → given.AreGivenOnce t (pending (map_values (replied t) calls))
+  quiet_once none t = given-none t (pending (map_values (replied t) calls)) (pending-none (map_values (replied t) calls) (ap (map_values (replied t)) none ∙ map_values-empty (replied t)))
+
   pub quiet_played : IsPlayed s spent calls → calls ≡ finite.empty → (t : Allocator) → IsSound t → t.asked ≡ s.asked → IsPlayed t spent calls
   quiet_played h none t sound same = record {
     sound = sound;
@@ -125,6 +132,7 @@ module _ (s : Allocator) (spent : FinMap nat_cmp ℕ) (calls : FinMap nat_cmp Ca
     asked = let before = h.asked in omega arith;
     wishes = h.wishes;
     spans = λ q call span is _. absurd (absent q call is);
+    once = quiet_once none t;
   }
     where
       absent : (q : ℕ) (call : Call) → finite.get calls q ≡ Some call → ⊥
@@ -163,10 +171,14 @@ module _ (s : Allocator) (spent : FinMap nat_cmp ℕ) (calls : FinMap nat_cmp Ca
         alloc-flushed rest ∙ ap (alloc_front (schedule_of s spent calls)) (front s.pool h first)
         ∙ ap (λ m. (Ok (outcome.Handle h), record { allocator = after_alloc s h; spent = spent; calls = m })) (quiet_calls none (after_alloc s h))
 
+    -- where the pool gives a handle, to take it takes memory
+    pub alloc-takes_memory : ¬ (0 < s.asked) → ¬ (s.pool ≡ []) → takes_memory (on_alloc (schedule_of s spent calls)).0 ≡ true
+    alloc-takes_memory rest some = ap (λ p. takes_memory p.0) (alloc-flushed rest) ∙ front_takes_memory (schedule_of s spent calls) s.pool some
+
     pub alloc-played : (h : Handle) → IsPlayed s spent calls → ¬ (0 < s.asked) → slice_get s.pool 0 ≡ Some h → IsPlayed (after_alloc s h) spent calls
     alloc-played h played rest first =
-        let flushed : s.asked ≡ 0 = omega arith in
-        quiet_played played none (after_alloc s h) (after_alloc-sound s h (drop 1 s.pool) played.sound flushed (front s.pool h first)) refl
+        let nothing : s.asked ≡ 0 = omega arith in
+        quiet_played played none (after_alloc s h) (after_alloc-sound s h (drop 1 s.pool) played.sound nothing (front s.pool h first)) refl
 
     pub free-needs_flush : (h : Handle) → 0 < s.asked → on_free (schedule_of s spent calls) h ≡ (Ok outcome.NeedsFlush, schedule_of s spent calls)
     free-needs_flush h some = unless (is_busy (schedule_of s spent calls)) _ _ (quiet none) ∙ when (nat_lt 0 s.asked) _ _ (grind (arith, nat_tests))
@@ -183,10 +195,14 @@ module _ (s : Allocator) (spent : FinMap nat_cmp ℕ) (calls : FinMap nat_cmp Ca
         ∙ when (set.contains s.live h) _ _ lives
         ∙ ap (λ m. (Ok (outcome.Freed h (next s.limits h) (wraps s.limits h)), record { allocator = after_free s h; spent = spent; calls = m })) (quiet_calls none (after_free s h))
 
+    -- to free what lives takes memory
+    pub free-takes_memory : (h : Handle) → ¬ (0 < s.asked) → ¬ (set.contains s.live h ≡ false) → takes_memory (on_free (schedule_of s spent calls) h).0 ≡ true
+    free-takes_memory h rest lives = ap (λ p. takes_memory p.0) (free-freed h rest (not_false (set.contains s.live h) lives))
+
     pub free-played : (h : Handle) → IsPlayed s spent calls → ¬ (0 < s.asked) → set.contains s.live h ≡ true → IsPlayed (after_free s h) spent calls
     free-played h played rest lives =
-        let flushed : s.asked ≡ 0 = omega arith in
-        quiet_played played none (after_free s h) (after_free-sound s h played.sound flushed lives) refl
+        let nothing : s.asked ≡ 0 = omega arith in
+        quiet_played played none (after_free s h) (after_free-sound s h played.sound nothing lives) refl
 
     pub flush-flushed : on_flush (schedule_of s spent calls) ≡ (Ok (outcome.Born (born s)), schedule_of (after_flush s) finite.empty calls)
     flush-flushed =
@@ -202,6 +218,7 @@ module _ (s : Allocator) (spent : FinMap nat_cmp ℕ) (calls : FinMap nat_cmp Ca
           omega arith;
       wishes = played.wishes;
       spans = λ q call span is _. absurd (absent q call is);
+      once = quiet_once none (after_flush s);
     }
       where
         absent : (q : ℕ) (call : Call) → finite.get calls q ≡ Some call → ⊥
@@ -294,6 +311,8 @@ module _ (s : Allocator) (spent : FinMap nat_cmp ℕ) (calls : FinMap nat_cmp Ca
             absurd cc
         | no other ↦ h.spans q call span (sym (get-insert_other calls caller (begun n) q other) ∙ at) passed
       ];
+      once = pending-next (schedule_of s spent calls) (event.Begin caller n) (Ok outcome.Open) (schedule_of s (finite.insert spent caller (more n)) (finite.insert calls caller (begun n)))
+          (begin-begun n is enough) refl h.sound h.once;
     }
 
     pub step-not_open : finite.get calls caller ≡ None → on_step (schedule_of s spent calls) caller ≡ (Err fault.NotOpen, schedule_of s spent calls)
@@ -369,6 +388,8 @@ module _ (s : Allocator) (spent : FinMap nat_cmp ℕ) (calls : FinMap nat_cmp Ca
               let tops = top-after_take s call.wish h.sound in
               record { least = old.least; high = subst (λ n. span.high ≤ℤ pos n) (sym tops) old.high; low = old.low }
         ];
+        once = pending-next (schedule_of s spent calls) (event.Step caller) (Ok (outcome.Cursor (cursor s -ℤ pos call.wish))) (schedule_of (after_take s call.wish) spent (finite.insert calls caller stepped))
+            (step-taken h.sound waits) refl h.sound h.once;
       }
 
       pub answer-not_stepped : call.span ≡ None → on_answer (schedule_of s spent calls) caller ≡ (Err fault.NotStepped, schedule_of s spent calls)
@@ -402,6 +423,8 @@ module _ (s : Allocator) (spent : FinMap nat_cmp ℕ) (calls : FinMap nat_cmp Ca
           | yes same ↦ absurd (gone q other_call same at)
           | no other ↦ h.spans q other_call other_span (sym (get-remove_other calls caller q other) ∙ at)
         ];
+        once = pending-next (schedule_of s spent calls) (event.Answer caller) (Ok (reported (reply_from s.made (pool_at s span.high) call.wish))) (schedule_of s spent (finite.remove calls caller))
+            (answer-answered span passed) (not_wrapped-reported (reply_from s.made (pool_at s span.high) call.wish)) h.sound h.once;
       }
         where
           gone : (q : ℕ) (c : Call) → q ≡ caller → finite.get (finite.remove calls caller) q ≡ Some c → ⊥
@@ -423,6 +446,7 @@ starting-played limits h = record {
       omega arith;
   wishes = λ q call at. absurd (absent q call at);
   spans = λ q call span at _. absurd (absent q call at);
+  once = given-none (opening limits) (pending (map_values (replied (opening limits)) finite.empty)) (pending-none (map_values (replied (opening limits)) finite.empty) (map_values-empty (replied (opening limits))));
 }
   where
     absent : (q : ℕ) (call : Call) → finite.get (finite.empty {X = Call} {R = nat_cmp}) q ≡ Some call → ⊥

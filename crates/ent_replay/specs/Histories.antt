@@ -46,10 +46,16 @@ abbrev pub last_of : ℕ → List Call → Option Call
 last_of caller [] = None
 last_of caller (call ∷ calls) = option_or (last_of caller calls) (if call.caller == caller then Some call else None)
 
--- An answer tells the reply to the caller's last reservation, or that a wish for none gave none.
-abbrev pub Tells : List Call → Event → Result Outcome ReplayFault → Type 0
-Tells calls (event.Answer caller) (Ok told) = (told ≡ outcome.Handles []) ⊎ ((call : Call) × (last_of caller calls ≡ Some call) × (told ≡ reported call.reply))
-Tells calls e result = Unit {0}
+-- what may be told of the caller's wish: that a wish for none gave none; of another the reply to the caller's last
+-- reservation, which was for as many
+abbrev pub TellsOf : List Call → ℕ → ℕ → Outcome → Type 0
+TellsOf calls caller wish told =
+    ((wish ≡ 0) × (told ≡ outcome.Handles [])) ⊎ ((call : Call) × (last_of caller calls ≡ Some call) × (call.wish ≡ wish) × (told ≡ reported call.reply))
+
+-- An answer tells of the wish of the caller's open call.
+abbrev pub Tells : Schedule → List Call → Event → Result Outcome ReplayFault → Type 0
+Tells s calls (event.Answer caller) (Ok told) = (call : OpenCall) × (map.get s.calls caller ≡ Some call) × TellsOf calls caller call.wish told
+Tells s calls e result = Unit {0}
 
 -- After each event the reservations of the phase, in the order of their steps, are a legal history that leads from its
 -- start to the allocator, and each answer tells a reply of that history: so it doesn't matter when a call is answered.
@@ -57,7 +63,7 @@ abbrev pub StandInHistory : Phase → Schedule → List Event → List (Result O
 StandInHistory p s [] results = Unit {0}
 StandInHistory p s (e ∷ events) [] = ⊥
 StandInHistory p s (e ∷ events) (result ∷ results) =
-    Tells p.calls e result
+    Tells s p.calls e result
     × IsLegal (next_phase p s e).start (next_phase p s e).calls
     × (after_history (next_phase p s e).start (next_phase p s e).calls ≡ (after_event s e).allocator)
     × StandInHistory (next_phase p s e) (after_event s e) events results

@@ -1,17 +1,19 @@
 -- What the fields of a `Machine` stand for, and when they stand for something.
-use Rattle.std.specs.Prelude.{◌≡◌, ℕ, ◌+◌, ◌^◌, ◌<◌, ◌≤◌, pos, ◌-ℤ◌, ◌≤ℤ◌, neg_ℤ, map, Option, Some, None, Result, Err, ◌⊎◌}
+use Rattle.std.specs.Prelude.{◌≡◌, ℕ, ◌+◌, ◌^◌, ◌<◌, ◌≤◌, pos, ◌-ℤ◌, ◌≤ℤ◌, neg_ℤ, true, map, Option, Some, None, Result, Err, ◌⊎◌}
 use Rattle.std.specs.Option.{unwrap_or, option_map}
 use Rattle.std.specs.Ordering.{nat_cmp}
 use Rattle.std.specs.FinMap as finite
 use Rattle.ent_alloc.specs.Sequential.{Allocator, top, pool_at, reply_from}
 use Rattle.ent_alloc.specs.Sound.{IsSound}
+use Rattle.ent_alloc.specs.Given as given
 use Rattle.ent_alloc.specs.declared.span.Span.{Span}
 use Rattle.ent_replay.specs.declared.call.Call.{Call}
 use Rattle.ent_replay.specs.declared.outcome.Outcome.{Outcome}
 use Rattle.ent_replay.specs.declared.fault.ReplayFault.{ReplayFault}
 use Rattle.ent_replay.specs.declared.fault.ReplayFault.TheVariants as fault
-use Rattle.ent_replay.specs.Schedule.{Schedule, OpenCall, Answered, callers, credit}
+use Rattle.ent_replay.specs.Schedule.{Schedule, OpenCall, Answered, takes_memory, callers, credit}
 use Rattle.ent_replay.specs.Totals.{total}
+use Rattle.ent_replay.specs.Pending.{pending}
 
 -- the same keys, with f of each value
 abbrev pub map_values : {X Y : Type 0} → (X → Y) → finite.FinMap nat_cmp X → finite.FinMap nat_cmp Y
@@ -39,15 +41,17 @@ pub record HasPassed (s : Allocator) (n : ℕ) (span : Span) : Type 0 where
   pub high : span.high ≤ℤ pos (top s)
   pub low : span.low ≡ span.high -ℤ pos n
 
--- What was asked for, and what the open calls will ask for, is within what the callers have spent of their credit.
+-- What was asked for, and what the open calls will ask for, is within what the callers have spent of their credit. What
+-- is kept for the open calls was given once.
 pub record IsPlayed (s : Allocator) (spent : finite.FinMap nat_cmp ℕ) (calls : finite.FinMap nat_cmp Call) : Type 0 where
   pub sound : IsSound s
   pub credit : (q : ℕ) → unwrap_or (finite.get spent q) 0 ≤ credit
   pub asked : s.asked + total (λ q. awaited (finite.get calls q)) callers ≤ total (λ q. unwrap_or (finite.get spent q) 0) callers
   pub wishes : (q : ℕ) (call : Call) → finite.get calls q ≡ Some call → call.wish < 2 ^ 32
   pub spans : (q : ℕ) (call : Call) (span : Span) → finite.get calls q ≡ Some call → call.span ≡ Some span → HasPassed s call.wish span
+  pub once : given.AreGivenOnce s (pending (map_values (replied s) calls))
 
--- The machine did this step; or memory ran out, and nothing has changed.
+-- The machine did this step; or it was one that takes memory, memory ran out, and nothing has changed.
 abbrev pub Makes : Answered → Schedule → Result Outcome ReplayFault → Schedule → Type 0
 Makes step before result after =
-    ((result ≡ step.0) × (after ≡ step.1)) ⊎ ((result ≡ Err fault.Memory) × (after ≡ before))
+    ((result ≡ step.0) × (after ≡ step.1)) ⊎ ((result ≡ Err fault.Memory) × (after ≡ before) × (takes_memory step.0 ≡ true))

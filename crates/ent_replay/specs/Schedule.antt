@@ -1,5 +1,5 @@
 -- Schedules: what each event answers, and what it does to the state. The reply to a call is fixed at its step.
-use Rattle.std.specs.Prelude.{ℕ, ◌+◌, ◌-◌, ◌^◌, Bool, not, nat_lt, ◌==◌, if◌then◌else◌, List, [], ◌∷◌, Option, Some, None, Result, Ok, Err, refl}
+use Rattle.std.specs.Prelude.{ℕ, ◌+◌, ◌-◌, ◌^◌, Bool, true, false, not, nat_lt, ◌==◌, if◌then◌else◌, List, [], ◌∷◌, Option, Some, None, Result, Ok, Err, refl}
 use Rattle.std.specs.Option.{unwrap_or}
 use Rattle.std.specs.Ordering.{nat_cmp}
 use Rattle.std.specs.Coded.{Coded, code_by, coded×, coded_ℕ, coded_list, coded_option, coded_result}
@@ -47,6 +47,16 @@ refuse s why = (Err why, s)
 -- nor do some answers
 abbrev pub say : Schedule → Outcome → Answered
 say s what = (Ok what, s)
+
+-- An event with this outcome may take memory: it makes or frees a slot, brings handles to life, opens a call, or lists
+-- what a call was given. One that answers a fault takes none, nor does any other.
+abbrev pub takes_memory : Result Outcome ReplayFault → Bool
+takes_memory (Ok (outcome.Handle h)) = true
+takes_memory (Ok (outcome.Freed h after wrapped)) = true
+takes_memory (Ok (outcome.Born handles)) = true
+takes_memory (Ok outcome.Open) = true
+takes_memory (Ok (outcome.Handles handles)) = true
+takes_memory other = false
 
 -- ---- events that need the allocator to themselves
 

@@ -1,8 +1,7 @@
-ghost use Rattle.std.specs.Prelude.{◌≡◌, ◌<◌, ◌↔◌, IsTrue, IfOk, OnOk, IfErr, Ok, length, take};
-ghost use Rattle.ent_replay.specs.Schedule.{starting, outcome_of, after_event, outcomes_of, after_events, on_alloc, on_free, on_flush, on_begin, on_step, on_answer, spent_by, credit};
+ghost use Rattle.std.specs.Prelude.{◌≡◌, ◌<◌, ◌↔◌, true, IsTrue, IfOk, OnOk, IfErr, Ok, length, take};
+ghost use Rattle.ent_replay.specs.Schedule.{starting, outcome_of, after_event, outcomes_of, after_events, takes_memory, on_alloc, on_free, on_flush, on_begin, on_step, on_answer, spent_by, credit};
 ghost use Rattle.ent_replay.specs.Machine.{Makes};
 ghost use Rattle.ent_replay.specs.Histories.{IsAtRest, new_phase, StandInHistory, NoneWrapped, AreGivenOnce};
-ghost use Rattle.ent_alloc.specs.Limits.{Limits};
 
 use crate::by_caller::ByCaller;
 use crate::call::Call;
@@ -81,11 +80,13 @@ impl Machine {
     /// Nothing changes. `Alloc`, `Free` and `Flush` answer `Busy` while a call is open. The events of
     /// a call answer `Caller` for a caller above 1,023; then `Begin` answers `AlreadyOpen` or `Quota`,
     /// `Step` answers `NotOpen` or `AlreadyStepped`, and `Answer` answers `NotOpen` or `NotStepped`.
-    /// `Memory` comes last, where a growth was refused.
+    /// `Memory` comes last, and only where the event would have been applied: where it takes a handle,
+    /// frees one, flushes, opens a call or lists the handles of a reply.
     pub fn step(&mut self, event: Event) -> Result<Outcome, ReplayFault>
         ensures outcome { ¬ (result ≡ Err ReplayFault.Memory) → result ≡ outcome_of self.old event }
         ensures state { ¬ (result ≡ Err ReplayFault.Memory) → self.new ≡ after_event self.old event }
         ensures memory { result ≡ Err ReplayFault.Memory → self.new ≡ self.old }
+        ensures grows { result ≡ Err ReplayFault.Memory → takes_memory (outcome_of self.old event) ≡ true }
     {
         match event {
             Event::Alloc => self.alloc(),
@@ -106,7 +107,7 @@ impl Machine {
         ensures outcomes { IfOk result (λ outcomes. outcomes.items ≡ outcomes_of self.old events.now) }
         ensures state { OnOk result (self.new ≡ after_events self.old events.now) }
         ensures history { IfOk result (λ outcomes. IsAtRest self.old → StandInHistory (new_phase self.old) self.old events.now outcomes.items) }
-        ensures given_once { IfOk result (λ outcomes. (limits : Limits) → self.old ≡ starting limits → NoneWrapped outcomes.items → AreGivenOnce outcomes.items) }
+        ensures given_once { IfOk result (λ outcomes. NoneWrapped outcomes.items → AreGivenOnce outcomes.items) }
         ensures cut { IfErr result (λ memory. memory.done < length events.now) }
         ensures cut_state { IfErr result (λ memory. self.new ≡ after_events self.old (take memory.done events.now)) }
     {

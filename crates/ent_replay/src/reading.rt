@@ -108,9 +108,9 @@ fn read_event(line: &[u8]) -> Result<Event, Cause>
 /// `Line` with the first line that is none of these, and the first of the causes that it has;
 /// `Memory` where memory ran out.
 pub fn read_schedule(alloc: Global, text: &[u8]) -> Result<Vec<Event>, ReadFault>
-    // What is read is spelled so.
+    // The events are spelled by the text.
     ensures found { IfOk result (λ events. AreEvents events.items × Spells events.items text.now) }
-    // What is spelled so is read, unless memory runs out.
+    // A spelled schedule is never refused but for memory.
     ensures only { (events : List Event) → AreEvents events → Spells events text.now → ReadsAs result (Ok events) }
     // A refused text has events up to the line that is named.
     ensures refused { IfErr result (ExplainsFault text.now) }

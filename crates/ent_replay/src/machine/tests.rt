@@ -76,6 +76,35 @@ fn answers_in_another_order_than_steps(rt: HostRuntime) -> Result<(), Fail> {
     Ok(())
 }
 
+/// Whether the event answers this line.
+fn says(alloc: Global, machine: &mut Machine, event: Event, line: &[u8]) -> Result<bool, Fail> {
+    let outcome = machine.step(event);
+    if is_out_of_memory(&outcome) {
+        return Ok(false);
+    }
+    let mut written = Vec::new(alloc);
+    write_outcome(&outcome, &mut written)?;
+    Ok(written.as_slice() == line)
+}
+
+#[test]
+fn event_by_event(rt: HostRuntime) -> Result<(), Fail> {
+    let alloc = rt.alloc();
+    let mut machine = Machine::new(alloc, Limits::default_limits())?;
+    let freed = Handle::new(0, 1).ok_or("handle")?;
+    let first = Event::Begin { caller: 0, n: 1 };
+    let last = Event::Begin { caller: 1023, n: 1 };
+    assert!(rt; says(alloc, &mut machine, first, b"open\n")?);
+    assert!(rt; says(alloc, &mut machine, last, b"open\n")?);
+    assert!(rt; says(alloc, &mut machine, Event::Step(1023), b"cursor -1\n")?);
+    assert!(rt; says(alloc, &mut machine, Event::Free(freed), b"busy\n")?);
+    assert!(rt; says(alloc, &mut machine, Event::Step(0), b"cursor -2\n")?);
+    assert!(rt; says(alloc, &mut machine, Event::Answer(0), b"1v1\n")?);
+    assert!(rt; says(alloc, &mut machine, Event::Answer(1023), b"0v1\n")?);
+    assert!(rt; says(alloc, &mut machine, Event::Flush, b"born 0v1 1v1\n")?);
+    Ok(())
+}
+
 #[test]
 fn a_refused_wish_shuts_the_pool(rt: HostRuntime) -> Result<(), Fail> {
     assert!(rt;
@@ -95,8 +124,8 @@ fn exclusive_events_wait(rt: HostRuntime) -> Result<(), Fail> {
         gives(
             rt.alloc(),
             Limits::default_limits(),
-            b"begin 1 1\nalloc\nstep 1\nanswer 1\nalloc\nflush\nalloc\n",
-            b"open\nbusy\ncursor -1\n0v1\nneeds flush\nborn 0v1\n1v1\n",
+            b"begin 1 1\nalloc\nflush\nstep 1\nflush\nanswer 1\nalloc\nflush\nalloc\n",
+            b"open\nbusy\nbusy\ncursor -1\nbusy\n0v1\nneeds flush\nborn 0v1\n1v1\n",
         )?
     );
     assert!(rt;

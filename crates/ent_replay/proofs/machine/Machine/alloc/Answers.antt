@@ -1,14 +1,26 @@
-use Rattle.std.proofs.Common.{refl, sym, ap, subst, Ok, Err}
+use Rattle.std.proofs.Common.{◌≡◌, refl, sym, ap, subst, Result, Ok, Err}
 use Rattle.ent_alloc.specs.Sequential.{Allocator, after_alloc}
+use Rattle.ent_alloc.specs.declared.fault.AllocFault.{AllocFault}
 use Rattle.ent_alloc.specs.declared.fault.AllocFault.TheVariants as why
+use Rattle.ent_handle.specs.Handle.{Handle}
 use Rattle.ent_replay.specs.Schedule.{on_alloc}
 use Rattle.ent_replay.specs.Machine.{schedule_of, IsPlayed}
 use Rattle.ent_replay.specs.declared.outcome.Outcome.TheVariants as outcome
 use Rattle.ent_replay.specs.declared.fault.ReplayFault.TheVariants as fault
 use Rattle.ent_replay.proofs.Maps.{no_test}
-use Rattle.ent_replay.proofs.Playing.{done, refused, ok_not_err, busy-alloc, alloc-needs_flush, alloc-space, alloc-given, alloc-played}
+use Rattle.ent_replay.proofs.Playing.{done, refused, flushed, ok_not_err, busy-alloc, alloc-needs_flush, alloc-space, alloc-given, alloc-takes_memory, alloc-played}
 use Rattle.ent_replay.proofs.machine.Machine.alloc.Goals as goal
 use Rattle.ent_replay.proofs.machine.Machine.alloc.Goals.{in-Ok, in-Err-NeedsFlush, in-Err-Space, in-Err-Memory}
+
+-- want of memory is none of the other refusals
+abbrev failed : AllocFault → Result Handle AllocFault
+failed x = Err x
+
+not_needs_flush : (x : AllocFault) → x ≡ why.Memory → failed x ≡ failed why.NeedsFlush → ⊥
+not_needs_flush x memory flush = cc
+
+not_space : (x : AllocFault) → x ≡ why.Memory → failed x ≡ failed why.Space → ⊥
+not_space x memory space = cc
 
 pub returns-then-not-is_empty : goal.returns-then-not-is_empty
 returns-then-not-is_empty c =
@@ -55,5 +67,8 @@ returns c =
           (ap (λ (s : Allocator). schedule_of s e.spent e.calls) why.ensures.err)
           (alloc-space e.entities e.spent e.calls none both.0 both.1)
       | in-Err-Memory w ↦
-          refused on_alloc before c.args.self.now c.self.view_is c.match-alloc.result w.result-is after (ap (λ (s : Allocator). schedule_of s e.spent e.calls) w.in-Err-Memory.ensures.err)
+          let why = w.in-Err-Memory in
+          refused on_alloc before c.args.self.now c.self.view_is c.match-alloc.result w.result-is after (ap (λ (s : Allocator). schedule_of s e.spent e.calls) why.ensures.err)
+          (alloc-takes_memory e.entities e.spent e.calls none (λ some. not_needs_flush why.field-0 why.field-0-is (why.ensures.needs_flush.1 some))
+          (λ empty. not_space why.field-0 why.field-0-is (why.ensures.space.1 (flushed (λ some. not_needs_flush why.field-0 why.field-0-is (why.ensures.needs_flush.1 some)), empty))))
     ]

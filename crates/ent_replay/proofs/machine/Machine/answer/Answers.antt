@@ -2,13 +2,13 @@ use Rattle.std.proofs.Common.{◌≡◌, refl, sym, ap, subst, ◌∙◌, Ok, Er
 use Rattle.std.specs.FinMap as finite
 use Rattle.std.proofs.lemmas.Int.{ints}
 use Rattle.ent_alloc.specs.Sequential.{reply_from, pool_at}
-use Rattle.ent_replay.specs.Schedule.{on_answer, reported}
+use Rattle.ent_replay.specs.Schedule.{Reply, on_answer, takes_memory, reported}
 use Rattle.ent_replay.specs.Machine.{schedule_of, IsPlayed}
 use Rattle.ent_replay.specs.declared.machine.Machine.TheInside.{Inside}
 use Rattle.ent_replay.specs.declared.outcome.Outcome.{Outcome}
 use Rattle.ent_replay.specs.declared.outcome.Outcome.TheVariants as outcome
 use Rattle.ent_replay.specs.declared.fault.ReplayFault.TheVariants as fault
-use Rattle.ent_replay.proofs.Playing.{done, answer-not_open, answer-not_stepped, answer-answered, answer-played}
+use Rattle.ent_replay.proofs.Playing.{done, refused, answer-not_open, answer-not_stepped, answer-answered, answer-played}
 use Rattle.ent_replay.proofs.machine.Machine.answer.Goals as goal
 use Rattle.ent_replay.proofs.machine.Machine.answer.Goals.{in-Ok+in-Ok-listed, in-Err}
 
@@ -48,6 +48,18 @@ reply-requires-clause-ordered c =
     let passed = c.self.invariant.spans c.args.caller c.in-Some.call c.in-Some-span.span (sym c.get.ensures ∙ c.in-Some.is) c.in-Some-span.is in
     let low = passed.low in
     omega (arith, ints)
+
+pub returns-in-Err-listed : goal.returns-in-Err-listed
+returns-in-Err-listed c =
+    let e = c.self.inside in
+    let before = schedule_of e.entities e.spent e.calls in
+    let call = c.in-Some.call in
+    let span = c.in-Some-span.span in
+    let passed = c.self.invariant.spans c.args.caller call span (sym c.get.ensures ∙ c.in-Some.is) c.in-Some-span.is in
+    let replied = c.reply.ensures call.wish passed.low in
+    refused (λ v. on_answer v c.args.caller) before c.args.self.now c.self.view_is (Err fault.Memory) refl c.args.self.now (sym c.self.view_is)
+    (ap (λ p. takes_memory p.0) (answer-answered e.entities e.spent e.calls c.args.caller (omega arith) call (sym c.get.ensures ∙ c.in-Some.is) span c.in-Some-span.is)
+    ∙ ap (λ (r : Reply). takes_memory (Ok (reported r))) (sym replied ∙ c.in-Ok.is))
 
 pub invariant_of-self : goal.invariant_of-self
 invariant_of-self c =

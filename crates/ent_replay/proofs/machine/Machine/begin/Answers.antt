@@ -1,6 +1,6 @@
 use Rattle.std.proofs.Common.{◌≡◌, ◌+◌, ◌-◌, refl, sym, ap, subst, ◌∙◌, Ok, Err, None, arith}
 use Rattle.std.specs.FinMap as finite
-use Rattle.ent_replay.specs.Schedule.{on_begin, spent_by, left_of, credit}
+use Rattle.ent_replay.specs.Schedule.{on_begin, takes_memory, spent_by, left_of, credit}
 use Rattle.std.specs.Option.{unwrap_or}
 use Rattle.ent_replay.specs.Machine.{schedule_of, IsPlayed}
 use Rattle.ent_replay.specs.declared.outcome.Outcome.TheVariants as outcome
@@ -28,6 +28,17 @@ returns-then-left-from c =
     (ap (λ n. Err (fault.Quota n)) left) c.args.self.now before (sym c.self.view_is)
     (begin-quota e.entities e.spent e.calls c.args.caller (omega arith) c.args.n none (omega arith))
 
+pub returns-then-is_err : goal.returns-then-is_err
+returns-then-is_err c =
+    let e = c.self.inside in
+    let before = schedule_of e.entities e.spent e.calls in
+    let none = sym c.get.ensures ∙ none_of c.get.result c.if-is_some.ensures in
+    let old : c.unwrap_or-spent.result ≡ spent_by before c.args.caller = c.unwrap_or-spent.ensures ∙ ap (λ o. unwrap_or o 0) c.get-2.ensures in
+    let calls : c.insert.new.self ≡ e.calls = on_err c.insert.result c.if-is_err.ensures.value c.insert.ensures.err in
+    refused (λ v. on_begin v c.args.caller c.args.n) before c.args.self.now c.self.view_is (Err fault.Memory) refl
+    (schedule_of e.entities e.spent c.insert.new.self) (ap (λ m. schedule_of e.entities e.spent m) calls)
+    (ap (λ p. takes_memory p.0) (begin-begun e.entities e.spent e.calls c.args.caller (omega arith) c.args.n none (omega arith)))
+
 pub invariant_of-self-then-is_err-2 : goal.invariant_of-self-then-is_err-2
 invariant_of-self-then-is_err-2 c =
     let e = c.self.inside in
@@ -45,8 +56,10 @@ returns-then-is_err-2 c =
     let spent : c.insert-2.new.self ≡ e.spent = on_err c.insert-2.result c.if-is_err-2.ensures.value c.insert-2.ensures.err in
     let begun = on_ok c.insert.result c.if-is_err.ensures.value c.insert.ensures.ok in
     let calls : c.remove.new.self ≡ e.calls = c.remove.ensures ∙ ap (λ m. finite.remove m c.args.caller) begun ∙ insert-remove e.calls c.args.caller (record { wish = c.args.n; span = None }) none in
+    let old : c.unwrap_or-spent.result ≡ spent_by before c.args.caller = c.unwrap_or-spent.ensures ∙ ap (λ o. unwrap_or o 0) c.get-2.ensures in
     refused (λ v. on_begin v c.args.caller c.args.n) before c.args.self.now c.self.view_is (Err fault.Memory) refl
     (schedule_of e.entities c.insert-2.new.self c.remove.new.self) (λ i. schedule_of e.entities (spent i) (calls i))
+    (ap (λ p. takes_memory p.0) (begin-begun e.entities e.spent e.calls c.args.caller (omega arith) c.args.n none (omega arith)))
 
 pub invariant_of-self-else-is_err-2 : goal.invariant_of-self-else-is_err-2
 invariant_of-self-else-is_err-2 c =

@@ -2,12 +2,12 @@ use Rattle.std.proofs.Common.{◌≡◌, refl, sym, ap, subst, ◌∙◌, Ok, Er
 use Rattle.std.specs.FinMap as finite
 use Rattle.ent_handle.specs.Handle.{Handle}
 use Rattle.ent_alloc.specs.Sequential.{after_flush, born}
-use Rattle.ent_replay.specs.Schedule.{on_flush}
+use Rattle.ent_replay.specs.Schedule.{on_flush, takes_memory}
 use Rattle.ent_replay.specs.Machine.{schedule_of, IsPlayed}
 use Rattle.ent_replay.specs.declared.outcome.Outcome.TheVariants as outcome
 use Rattle.ent_replay.specs.declared.fault.ReplayFault.TheVariants as fault
 use Rattle.ent_replay.proofs.Maps.{no_test}
-use Rattle.ent_replay.proofs.Playing.{done, on_ok, busy-flush, flush-flushed, flush-played}
+use Rattle.ent_replay.proofs.Playing.{done, refused, on_ok, on_err, busy-flush, flush-flushed, flush-played}
 use Rattle.ent_replay.proofs.machine.Machine.flush.Goals as goal
 
 pub returns-then-not-is_empty : goal.returns-then-not-is_empty
@@ -16,6 +16,16 @@ returns-then-not-is_empty c =
     let before = schedule_of e.entities e.spent e.calls in
     done on_flush before c.args.self.now c.self.view_is (Err fault.Busy) (Err fault.Busy) refl c.args.self.now before (sym c.self.view_is)
     (busy-flush e.entities e.spent e.calls (λ none. no_test (c.if-not-is_empty.ensures.1 none)))
+
+pub returns-then-is_err : goal.returns-then-is_err
+returns-then-is_err c =
+    let e = c.self.inside in
+    let none = c.if-not-is_empty.ensures.0 refl in
+    let before = schedule_of e.entities e.spent e.calls in
+    let unchanged : c.flush.new.self ≡ e.entities = on_err c.flush.result c.if-is_err.ensures.value c.flush.ensures.err in
+    refused on_flush before c.args.self.now c.self.view_is (Err fault.Memory) refl (schedule_of c.flush.new.self e.spent e.calls)
+    (ap (λ s. schedule_of s e.spent e.calls) unchanged)
+    (ap (λ p. takes_memory p.0) (flush-flushed e.entities e.spent e.calls none))
 
 pub invariant_of-self-2 : goal.invariant_of-self-2
 invariant_of-self-2 c =

@@ -1,14 +1,26 @@
-use Rattle.std.proofs.Common.{◌≡◌, refl, sym, ap, subst, ◌∙◌, Ok, Err}
+use Rattle.std.proofs.Common.{◌≡◌, refl, sym, ap, subst, ◌∙◌, Result, Ok, Err}
 use Rattle.ent_alloc.specs.Sequential.{Allocator, after_free, next}
+use Rattle.ent_alloc.specs.declared.fault.Freed.{Freed}
+use Rattle.ent_alloc.specs.declared.fault.FreeFault.{FreeFault}
 use Rattle.ent_alloc.specs.declared.fault.FreeFault.TheVariants as why
 use Rattle.ent_replay.specs.Schedule.{on_free, wraps}
 use Rattle.ent_replay.specs.Machine.{schedule_of, IsPlayed}
 use Rattle.ent_replay.specs.declared.outcome.Outcome.TheVariants as outcome
 use Rattle.ent_replay.specs.declared.fault.ReplayFault.TheVariants as fault
 use Rattle.ent_replay.proofs.Maps.{no_test}
-use Rattle.ent_replay.proofs.Playing.{done, refused, ok_not_err, same_test, busy-free, free-needs_flush, free-not_alive, free-freed, free-played}
+use Rattle.ent_replay.proofs.Playing.{done, refused, flushed, ok_not_err, same_test, busy-free, free-needs_flush, free-not_alive, free-freed, free-takes_memory, free-played}
 use Rattle.ent_replay.proofs.machine.Machine.free.Goals as goal
 use Rattle.ent_replay.proofs.machine.Machine.free.Goals.{in-Ok, in-Err-NeedsFlush, in-Err-NotAlive, in-Err-Memory}
+
+-- want of memory is none of the other refusals
+abbrev failed : FreeFault → Result Freed FreeFault
+failed x = Err x
+
+not_needs_flush : (x : FreeFault) → x ≡ why.Memory → failed x ≡ failed why.NeedsFlush → ⊥
+not_needs_flush x memory flush = cc
+
+not_gone : (x : FreeFault) → x ≡ why.Memory → failed x ≡ failed why.NotAlive → ⊥
+not_gone x memory gone = cc
 
 pub returns-then-not-is_empty : goal.returns-then-not-is_empty
 returns-then-not-is_empty c =
@@ -58,5 +70,8 @@ returns c =
           (ap (λ (s : Allocator). schedule_of s e.spent e.calls) why.ensures.err)
           (free-not_alive e.entities e.spent e.calls none h both.0 both.1)
       | in-Err-Memory w ↦
-          refused (λ v. on_free v h) before c.args.self.now c.self.view_is c.match-free.result w.result-is after (ap (λ (s : Allocator). schedule_of s e.spent e.calls) w.in-Err-Memory.ensures.err)
+          let why = w.in-Err-Memory in
+          refused (λ v. on_free v h) before c.args.self.now c.self.view_is c.match-free.result w.result-is after (ap (λ (s : Allocator). schedule_of s e.spent e.calls) why.ensures.err)
+          (free-takes_memory e.entities e.spent e.calls none h (λ some. not_needs_flush why.field-0 why.field-0-is (why.ensures.needs_flush.1 some))
+          (λ gone. not_gone why.field-0 why.field-0-is (why.ensures.not_alive.1 (flushed (λ some. not_needs_flush why.field-0 why.field-0-is (why.ensures.needs_flush.1 some)), gone))))
     ]

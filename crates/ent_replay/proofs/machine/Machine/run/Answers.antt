@@ -1,9 +1,8 @@
 use Rattle.std.proofs.Common.{ℕ, ◌≤◌, List, Result, ◌≡◌, ◌≢◌, ◌+◌, ◌++◌, ◌∷◌, [], sym, ap, subst, ◌∙◌, Err, length, take, arith}
 use Rattle.std.proofs.lemmas.List.{take_more, take_all}
-use Rattle.ent_alloc.specs.Sequential.{opening}
-use Rattle.ent_alloc.specs.Sound.{IsSound}
 use Rattle.ent_replay.specs.declared.outcome.Outcome.{Outcome}
 use Rattle.ent_replay.specs.declared.fault.ReplayFault.{ReplayFault}
+use Rattle.ent_replay.specs.Machine.{schedule_of}
 use Rattle.ent_replay.specs.Histories.{new_phase, StandInHistory, NoneWrapped, AreGivenOnce}
 use Rattle.ent_replay.proofs.Linear.{linear}
 use Rattle.ent_replay.proofs.Giving.{given_once}
@@ -26,10 +25,11 @@ returns-clause-history c =
 pub returns-clause-given_once : goal.returns-clause-given_once
 returns-clause-given_once c =
     let all = all_outcomes c.args.self.now c.loop-done.outcomes.items c.args.events.now c.loop-done.done (omega arith) c.loop-done.invariant.1 in
-    λ limits is fresh.
-    let from_start = all ∙ ap (λ s. outcomes_of s c.args.events.now) is in
-    let sound : IsSound (opening limits) = subst IsSound (ap (λ (v : Schedule). v.allocator) (c.self.view_is ∙ is)) c.self.invariant.sound in
-    subst AreGivenOnce (sym from_start) (given_once limits c.args.events.now sound (subst NoneWrapped from_start fresh))
+    let e = c.self.inside in
+    λ fresh. subst AreGivenOnce (sym all)
+    (subst (λ (s : Schedule). NoneWrapped (outcomes_of s c.args.events.now) → AreGivenOnce (outcomes_of s c.args.events.now)) c.self.view_is
+    (given_once (schedule_of e.entities e.spent e.calls) c.args.events.now c.self.invariant.sound c.self.invariant.once)
+    (subst NoneWrapped all fresh))
 
 pub loop-done-preserved : goal.loop-done-preserved
 loop-done-preserved c =
