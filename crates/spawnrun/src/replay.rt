@@ -18,9 +18,10 @@ use std::alloc::Global;
 /// Runs the schedule that the input spells, over an empty allocator of these limits, and writes a
 /// line for each event.
 ///
-/// Nothing is applied before all is read, and nothing is written before all is applied. An input of more than 67,108,864 bytes, and one that spells no
-/// schedule, is refused with one line; of the former one byte more than that is taken and no other.
-/// After want of memory, and after a failure of the input, nothing was written.
+/// Nothing is applied before all is read, and nothing is written before all is applied. An input of
+/// more than 67,108,864 bytes, and one that spells no schedule, is refused with one line; of the
+/// former one byte more than that is taken and no other. After want of memory, and after a failure of
+/// the input, nothing was written.
 pub fn replay<I: Source, O: Sink>(
     alloc: Global,
     input: &mut I,

@@ -1,5 +1,5 @@
 //! Devices over memory, for tests: each may fail once, at a call that is set.
-ghost use Rattle.std.specs.Prelude.{◌≡◌, ◌==◌, if◌then◌else◌, None, Some};
+ghost use Rattle.std.specs.Prelude.{◌≡◌, ◌==◌, if◌then◌else◌, [], None, Some};
 
 use super::{Failed, Sink, Source};
 use std::alloc::Global;
@@ -17,7 +17,10 @@ pub struct MemorySource<'a> {
 }
 
 impl<'a> MemorySource<'a> {
-    pub fn new(bytes: &'a [u8], piece: usize, calls: u64) -> Self {
+    pub fn new(bytes: &'a [u8], piece: usize, calls: u64) -> Self
+        ensures tells { result.bytes.now ≡ bytes.now }
+        ensures fails_at { (result.failures ≡ 0) × (result.calls ≡ calls) }
+    {
         MemorySource {
             bytes,
             piece: piece.max(1),
@@ -73,7 +76,10 @@ pub struct MemorySink {
 }
 
 impl MemorySink {
-    pub fn new(alloc: Global, calls: u64) -> Self {
+    pub fn new(alloc: Global, calls: u64) -> Self
+        ensures tells { result.bytes.items ≡ [] }
+        ensures fails_at { (result.failures ≡ 0) × (result.calls ≡ calls) }
+    {
         MemorySink {
             bytes: Vec::new(alloc),
             calls,
