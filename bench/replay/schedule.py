@@ -16,7 +16,7 @@ MANY = 300_000  # slots, where very many wait
 
 
 class Allocator:
-    """The sequential allocator, as far as no wish is refused and no slot comes to its last generation.
+    """The sequential allocator, as far as no count is refused and no slot comes to its last generation.
 
     A handle is a pair of an index and a generation.
     """
@@ -28,10 +28,10 @@ class Allocator:
         self.made = 0
         self.taken = []
 
-    def take(self, wish):
+    def take(self, count):
         """Takes so many handles from the front of the pool."""
-        old = [self.waiting.pop() for _ in range(min(wish, len(self.waiting)))]
-        first, self.unused = self.unused, self.unused + wish - len(old)
+        old = [self.waiting.pop() for _ in range(min(count, len(self.waiting)))]
+        first, self.unused = self.unused, self.unused + count - len(old)
         return old + [(index, 1) for index in range(first, self.unused)]
 
     def split(self, handles):
@@ -53,8 +53,8 @@ class Allocator:
         self.waiting.append((index, generation + 1))
         return (index, generation), self.waiting[-1]
 
-    def reserve(self, wish):
-        given = self.take(wish)
+    def reserve(self, count):
+        given = self.take(count)
         self.taken += given
         old, fresh = self.split(given)
         return old + fresh
@@ -81,7 +81,7 @@ class Schedule:
     def __init__(self):
         self.choice = random.Random(SEED)
         self.allocator = Allocator()
-        self.wishes = {}  # of the callers that have begun
+        self.requests = {}  # of the callers that have begun
         self.replies = {}  # of the callers that have made their step
 
     def alloc(self):
@@ -94,15 +94,15 @@ class Schedule:
     def flush(self):
         return "flush", f"born {text(self.allocator.flush())}".rstrip()
 
-    def turn(self, caller, wish):
+    def turn(self, caller, count):
         """The next event of a call of this caller for so many handles."""
         if caller in self.replies:
             return f"answer {caller}", text(self.replies.pop(caller))
-        if caller in self.wishes:
-            self.replies[caller] = self.allocator.reserve(self.wishes.pop(caller))
+        if caller in self.requests:
+            self.replies[caller] = self.allocator.reserve(self.requests.pop(caller))
             return f"step {caller}", f"cursor {self.allocator.cursor()}"
-        self.wishes[caller] = wish
-        return f"begin {caller} {wish}", "open"
+        self.requests[caller] = count
+        return f"begin {caller} {count}", "open"
 
     def some_callers(self, count):
         return self.choice.sample(range(CALLERS), count)
@@ -117,8 +117,8 @@ class Schedule:
             calls = [(caller, self.choice.choice((1, self.choice.randint(2, 8)))) for caller in callers]
             turns = 3 * calls
             self.choice.shuffle(turns)
-            for caller, wish in turns:
-                yield self.turn(caller, wish)
+            for caller, count in turns:
+                yield self.turn(caller, count)
             yield self.flush()
 
     def callers(self, count):
@@ -148,9 +148,9 @@ class Schedule:
         while self.allocator.living:
             yield self.free()
 
-    def call(self, wish):
+    def call(self, count):
         for _ in range(3):
-            yield self.turn(0, wish)
+            yield self.turn(0, count)
 
 
 SHAPES = {

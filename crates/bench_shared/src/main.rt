@@ -20,37 +20,37 @@ const FEW: u32 = 1_000;
 /// Runs of each case, of which the shortest counts.
 const RUNS: u32 = 5;
 
-/// So many threads, each of which wishes for so many handles in each step.
+/// So many threads, each of which requests so many handles in each step.
 #[derive(Clone, Copy)]
 struct Case {
     threads: usize,
-    wish: u32,
+    requested: u32,
 }
 
 const CASES: [Case; 6] = [
     Case {
         threads: 1,
-        wish: 1,
+        requested: 1,
     },
     Case {
         threads: 2,
-        wish: 1,
+        requested: 1,
     },
     Case {
         threads: 4,
-        wish: 1,
+        requested: 1,
     },
     Case {
         threads: 1,
-        wish: 64,
+        requested: 64,
     },
     Case {
         threads: 2,
-        wish: 64,
+        requested: 64,
     },
     Case {
         threads: 4,
-        wish: 64,
+        requested: 64,
     },
 ];
 
@@ -72,10 +72,12 @@ fn main(rt: HostRuntime) -> io::Result<()> {
 
 fn print_counts<R: Clock + Print + Threads + Sync + AllocGlobal>(rt: &R) -> io::Result<()> {
     for case in &CASES {
-        let Case { threads, wish } = *case;
+        let Case { threads, requested } = *case;
         let reserved = reserve(rt, *case, FEW)?.given;
         let subtracted = subtract(rt, *case, FEW)?.given;
-        println!(rt; "threads {threads} wish {wish} reserved {reserved} subtracted {subtracted}")?;
+        println!(rt;
+            "threads {threads} requested {requested} reserved {reserved} subtracted {subtracted}"
+        )?;
     }
     Ok(())
 }
@@ -84,17 +86,17 @@ fn print_times<R>(rt: &R, steps: u32) -> io::Result<()>
 where
     R: Clock + Print + Threads + Sync + AllocGlobal,
 {
-    println!(rt; "| Threads | Wish | Reservations a second | Subtractions a second | Ratio |")?;
+    println!(rt; "| Threads | Request | Reservations a second | Subtractions a second | Ratio |")?;
     println!(rt; "|---|---|---|---|---|")?;
     for case in &CASES {
-        let Case { threads, wish } = *case;
+        let Case { threads, requested } = *case;
         let (reserving, subtracting) = shortest(rt, *case, steps)?;
         let millions = f64::from(steps) * threads as f64 / 1e6;
         let reservations = millions / reserving;
         let subtractions = millions / subtracting;
         let ratio = reserving / subtracting;
         println!(rt;
-            "| {threads} | {wish} | {reservations:.1} million | {subtractions:.1} million | {ratio:.2} |"
+            "| {threads} | {requested} | {reservations:.1} million | {subtractions:.1} million | {ratio:.2} |"
         )?;
     }
     Ok(())
@@ -127,7 +129,7 @@ where
     let given = map_vec(
         rt,
         reservers,
-        &|reserver| { reserve_all(&shared, reserver, case.wish, steps) },
+        &|reserver| { reserve_all(&shared, reserver, case.requested, steps) },
     )?;
     Ok(Run {
         given: sum(&given),
@@ -146,7 +148,7 @@ where
         rt,
         rt.alloc(),
         case.threads,
-        &|_| { subtract_all(&word, case.wish, steps) },
+        &|_| { subtract_all(&word, case.requested, steps) },
     )?;
     Ok(Run {
         given: sum(&given),
@@ -161,14 +163,14 @@ fn sum(numbers: &[u64]) -> u64 {
 }
 
 /// How many handles the steps of one thread gave.
-fn reserve_all(shared: &Shared, reserver: Reserver, wish: u32, steps: u32) -> u64
+fn reserve_all(shared: &Shared, reserver: Reserver, requested: u32, steps: u32) -> u64
     requires { IsOf shared.now reserver }
 {
     let mut reserver = reserver;
-    if wish == 1 {
+    if requested == 1 {
         reserve_singly(shared, &mut reserver, steps)
     } else {
-        reserve_in_bulk(shared, &mut reserver, wish, steps)
+        reserve_in_bulk(shared, &mut reserver, requested, steps)
     }
 }
 
@@ -184,12 +186,12 @@ fn reserve_singly(shared: &Shared, reserver: &mut Reserver, steps: u32) -> u64
     given
 }
 
-fn reserve_in_bulk(shared: &Shared, reserver: &mut Reserver, wish: u32, steps: u32) -> u64
+fn reserve_in_bulk(shared: &Shared, reserver: &mut Reserver, requested: u32, steps: u32) -> u64
     requires { IsOf shared.now reserver.old }
 {
     let mut given: u64 = 0;
     for _ in 0..steps {
-        if let Ok(handles) = shared.reserve_many(reserver, wish) {
+        if let Ok(handles) = shared.reserve_many(reserver, requested) {
             given = given.wrapping_add(handles.len() as u64);
         }
     }
@@ -197,12 +199,12 @@ fn reserve_in_bulk(shared: &Shared, reserver: &mut Reserver, wish: u32, steps: u
 }
 
 /// By how much the steps of one thread lowered the word, as each of them found it.
-fn subtract_all(word: &AtomicU64, wish: u32, steps: u32) -> u64 {
+fn subtract_all(word: &AtomicU64, requested: u32, steps: u32) -> u64 {
     let mut lowered: u64 = 0;
     for _ in 0..steps {
-        let found = word.fetch_sub(u64::from(wish), Ordering::SeqCst);
+        let found = word.fetch_sub(u64::from(requested), Ordering::SeqCst);
         if found > 0 {
-            lowered = lowered.wrapping_add(u64::from(wish));
+            lowered = lowered.wrapping_add(u64::from(requested));
         }
     }
     lowered

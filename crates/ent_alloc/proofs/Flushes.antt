@@ -40,7 +40,7 @@ pub born-lives : (s : Allocator) → All (IsLive (after_flush s)) (born s)
 born-lives s = All-permutation (IsLive (after_flush s)) s.taken (born s) (born-IsPermutation s) (λ k d lt. taken-lives s _ (All-contains_itself s.taken k d lt))
 
 module _ (s : Allocator) (h : IsSound s) where
-  -- the first tenants of the new slots, and then the old handles, the last of the pool first
+  -- the first occupants of the new slots, and then the old handles, the last of the pool first
   pub born_is : born s ≡ fresh s.made (length s.taken - top s) ++ reverse (take (length s.taken) (old_ones s))
   born_is = rw (taken-fresh s h, taken-old s h)
 

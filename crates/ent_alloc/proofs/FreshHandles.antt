@@ -1,4 +1,4 @@
--- Laws of `fresh`, the first tenants of slots that were never made. Nothing here computes it at a number.
+-- Laws of `fresh`, the first occupants of slots that were never made. Nothing here computes it at a number.
 use Rattle.std.proofs.Common.{◌≡◌, refl, ap, ◌∙◌, ℕ, zero, suc, ◌+◌, ◌-◌, ◌<◌, ◌≤◌, true, false, List, [], ◌∷◌, ◌++◌, length, get_or, take, drop, filter, All, AllPairs, arith, lt-ltb, le-ltb, le-leb, append-nil}
 use Rattle.std.proofs.lemmas.Bool.{lt-leb}
 use Rattle.std.proofs.lemmas.List.Elements.{All-weaker, filter-append}
@@ -7,7 +7,7 @@ use Rattle.ent_alloc.specs.Sequential.{fresh, is_old, is_fresh}
 use Rattle.ent_alloc.specs.Sound.{AreApart}
 use Rattle.ent_alloc.proofs.ListLaws.{filter_all, filter_none, take-append, drop-append}
 
--- the first tenant of a slot
+-- the first occupant of a slot
 abbrev pub first_of_slot : ℕ → Handle
 first_of_slot index = record { index = index; generation = 1 }
 
@@ -27,7 +27,7 @@ pub fresh-none : (index : ℕ) → fresh index 0 ≡ []
 unfolding fresh
 fresh-none index = refl
 
--- the one at a place
+-- the one at a position
 pub get_or-fresh : (index slots k : ℕ) (d : Handle) → k < slots → get_or (fresh index slots) k d ≡ first_of_slot (index + k)
 unfolding fresh
 get_or-fresh index zero k d lt = absurd (omega arith)
@@ -53,7 +53,7 @@ take-fresh zero index slots le = refl
 take-fresh (suc k) index zero le = absurd (omega arith)
 take-fresh (suc k) index (suc slots) le = ap (first_of_slot index ∷◌) (take-fresh k (index + 1) slots (omega arith))
 
--- each is of a slot in the range, and its first tenant
+-- each is of a slot in the range, and its first occupant
 pub All-fresh : (P : Handle → Type 0) (index slots : ℕ) → ((k : ℕ) → k < slots → P (first_of_slot (index + k))) → All P (fresh index slots)
 All-fresh P index slots each k d lt =
     let within : k < slots = omega (arith, length-fresh index slots) in

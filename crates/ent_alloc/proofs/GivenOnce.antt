@@ -8,7 +8,7 @@ use Rattle.ent_handle.specs.Handle.{Handle}
 use Rattle.ent_alloc.specs.Limits.{Limits}
 use Rattle.ent_alloc.specs.Sequential.{Allocator, opening, available, after_take, after_flush, after_alloc, after_free, next, reply_to}
 use Rattle.ent_alloc.specs.Sound.{IsSound, AreApart, IsLive}
-use Rattle.ent_alloc.specs.Given.{IsSpent, AreGivenOnce}
+use Rattle.ent_alloc.specs.Given.{IsSpent, AreSpent}
 use Rattle.ent_alloc.proofs.ListLaws.{All-left, All-right, AllPairs-append, AllPairs-left, AllPairs-across, AllPairs-IsPermutation, same_from_AllPairs}
 use Rattle.ent_alloc.proofs.HandleSets.{inserted, in_removed, of_inserted, of_joined}
 use Rattle.ent_alloc.proofs.Taken.{after_take-served, after_take-refused}
@@ -58,7 +58,7 @@ live-spent s h sound alive =
     record {
       left = All-weaker (AreApart h) (After h) (after_if_apart h) (s.aside ++ s.pool) (All-right (AreApart h) s.taken (s.aside ++ s.pool) apart);
       taken = All-weaker (AreApart h) (NotBefore h) (not_before_if_apart h) s.taken (All-left (AreApart h) s.taken (s.aside ++ s.pool) apart);
-      live = λ g also same. le_of_eq (ap (λ x. x.generation) (sym (sound.one_tenant g h also alive same)));
+      live = λ g also same. le_of_eq (ap (λ x. x.generation) (sym (sound.one_occupant g h also alive same)));
     }
 
 -- nothing in the pool
@@ -71,7 +71,7 @@ spent_not_in_pool s h g spent in_pool same =
 
 -- ---- what is spent stays so
 
--- after a wish
+-- after a request
 take-stays_spent : (s : Allocator) (n : ℕ) (h : Handle) → IsSpent s h → IsSpent (after_take s n) h
 take-stays_spent s n h spent = elim (cases_lt (length s.pool) n) [
   | inl short ↦ rw (after_take-refused s n short) record {
@@ -113,7 +113,7 @@ free-stays_spent s x h alive before spent =
     let later : (next s.limits x).generation ≡ x.generation + 1 = next-later s.limits x before in
     record {
       left = All-append (After h) s.aside (next s.limits x ∷ s.pool) (All-left (After h) s.aside s.pool spent.left)
-          (All-cons (After h) (next s.limits x) s.pool (λ same. let tenant = spent.live x alive same in omega arith) in_pool);
+          (All-cons (After h) (next s.limits x) s.pool (λ same. let occupant = spent.live x alive same in omega arith) in_pool);
       taken = spent.taken;
       live = λ g kept. spent.live g (in_removed s.live x g kept).1;
     }
@@ -121,11 +121,11 @@ free-stays_spent s x h alive before spent =
 -- ---- each step
 
 -- at the start nothing was given
-pub opening-given : (limits : Limits) → AreGivenOnce (opening limits) []
+pub opening-given : (limits : Limits) → AreSpent (opening limits) []
 opening-given limits = record { distinct = λ i j d lt within. absurd (omega arith); spent = All-nil (IsSpent (opening limits)) }
 
--- a served wish gives what was never given
-pub take-given : (s : Allocator) (n : ℕ) (given more : List Handle) → IsSound s → reply_to s n ≡ Ok more → AreGivenOnce s given → AreGivenOnce (after_take s n) (given ++ more)
+-- a served request gives what was never given
+pub take-given : (s : Allocator) (n : ℕ) (given more : List Handle) → IsSound s → reply_to s n ≡ Ok more → AreSpent s given → AreSpent (after_take s n) (given ++ more)
 take-given s n given more sound served once = record {
   distinct = AllPairs-append (λ g h. g ≢ h) given more once.distinct (reply-distinct s n more served sound)
       (λ i d lt j e lt_j. spent_not_in_pool s (get_or given i d) (get_or more j e) (once.spent i d lt) (All-from_pool j e lt_j));
@@ -137,16 +137,16 @@ take-given s n given more sound served once = record {
     All-from_pool : All (Contains s.pool) more
     All-from_pool = of_reply s n more served (Contains s.pool) (All-contains_itself s.pool)
 
--- a refused wish gives nothing
-pub refused-given : (s : Allocator) (n : ℕ) (given : List Handle) → AreGivenOnce s given → AreGivenOnce (after_take s n) given
+-- a refused request gives nothing
+pub refused-given : (s : Allocator) (n : ℕ) (given : List Handle) → AreSpent s given → AreSpent (after_take s n) given
 refused-given s n given once = record { distinct = once.distinct; spent = All-weaker (IsSpent s) (IsSpent (after_take s n)) (take-stays_spent s n) given once.spent }
 
 -- a flush gives nothing
-pub flush-given : (s : Allocator) (given : List Handle) → AreGivenOnce s given → AreGivenOnce (after_flush s) given
+pub flush-given : (s : Allocator) (given : List Handle) → AreSpent s given → AreSpent (after_flush s) given
 flush-given s given once = record { distinct = once.distinct; spent = All-weaker (IsSpent s) (IsSpent (after_flush s)) (flush-stays_spent s) given once.spent }
 
 -- an allocation gives what was never given
-pub alloc-given : (s : Allocator) (x : Handle) (rest given : List Handle) → IsSound s → s.asked ≡ 0 → s.pool ≡ x ∷ rest → AreGivenOnce s given → AreGivenOnce (after_alloc s x) (given ++ x ∷ [])
+pub alloc-given : (s : Allocator) (x : Handle) (rest given : List Handle) → IsSound s → s.asked ≡ 0 → s.pool ≡ x ∷ rest → AreSpent s given → AreSpent (after_alloc s x) (given ++ x ∷ [])
 alloc-given s x rest given sound flushed front once = record {
   distinct = all_pairs_push (λ g h. g ≢ h) given x once.distinct (λ k d lt. spent_not_in_pool s (get_or given k d) x (once.spent k d lt) (subst (λ pool. Contains pool x) (sym front) (0, omega arith, refl)));
   spent = All-push (IsSpent (after_alloc s x)) given x
@@ -155,18 +155,18 @@ alloc-given s x rest given sound flushed front once = record {
 }
 
 -- a free that does not wrap gives nothing
-pub free-given : (s : Allocator) (x : Handle) (given : List Handle) → IsLive s x → x.generation ≢ s.limits.generations → AreGivenOnce s given → AreGivenOnce (after_free s x) given
+pub free-given : (s : Allocator) (x : Handle) (given : List Handle) → IsLive s x → x.generation ≢ s.limits.generations → AreSpent s given → AreSpent (after_free s x) given
 free-given s x given alive before once = record { distinct = once.distinct; spent = All-weaker (IsSpent s) (IsSpent (after_free s x)) (λ h. free-stays_spent s x h alive before) given once.spent }
 
 -- ---- other lists of the same handles, and of fewer
 
 -- in another order
-pub given-IsPermutation : (s : Allocator) (given same : List Handle) → IsPermutation given same → AreGivenOnce s given → AreGivenOnce s same
+pub given-IsPermutation : (s : Allocator) (given same : List Handle) → IsPermutation given same → AreSpent s given → AreSpent s same
 given-IsPermutation s given same moved once = record {
   distinct = AllPairs-IsPermutation (λ g h. g ≢ h) (λ g h apart is. apart (sym is)) given same moved once.distinct;
   spent = All-permutation (IsSpent s) given same moved once.spent;
 }
 
 -- fewer of them
-pub given-left : (s : Allocator) (given more : List Handle) → AreGivenOnce s (given ++ more) → AreGivenOnce s given
+pub given-left : (s : Allocator) (given more : List Handle) → AreSpent s (given ++ more) → AreSpent s given
 given-left s given more once = record { distinct = AllPairs-left (λ g h. g ≢ h) given more once.distinct; spent = All-left (IsSpent s) given more once.spent }

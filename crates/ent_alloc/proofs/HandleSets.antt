@@ -108,11 +108,11 @@ in_removed_keys m h x e = elim (eq_by_cmp handle_cmp x h) as (λ b. eq_by_cmp ha
   | false ↦ λ other has. (λ same. true≢false (sym (ap (eq_by_cmp handle_cmp x) (sym same) ∙ itself x) ∙ other), has)
 ] refl (sym (ap is_some (map.get-remove handle_cmp_total m h x)) ∙ e)
 
--- one tenant more, of a slot that has none
-pub one_tenant_inserted : (live : set.FinSet handle_cmp) (x : Handle) → ((y : Handle) → IsTrue (set.contains live y) → AreApart y x)
+-- one occupant more, of a slot that has none
+pub one_occupant_inserted : (live : set.FinSet handle_cmp) (x : Handle) → ((y : Handle) → IsTrue (set.contains live y) → AreApart y x)
     → ((g h : Handle) → IsTrue (set.contains live g) → IsTrue (set.contains live h) → g.index ≡ h.index → g ≡ h)
     → (g h : Handle) → IsTrue (set.contains (set.insert live x) g) → IsTrue (set.contains (set.insert live x) h) → g.index ≡ h.index → g ≡ h
-one_tenant_inserted live x apart one g h in_g in_h same = elim (in_inserted live x g in_g) [
+one_occupant_inserted live x apart one g h in_g in_h same = elim (in_inserted live x g in_g) [
   | inl g_here ↦ elim (in_inserted live x h in_h) [
     | inl h_here ↦ g_here ∙ sym h_here
     | inr h_before ↦ absurd (apart h h_before (sym same ∙ ap (λ y. y.index) g_here))
@@ -123,11 +123,11 @@ one_tenant_inserted live x apart one g h in_g in_h same = elim (in_inserted live
   ]
 ]
 
--- many tenants more, of slots that have none
-pub one_tenant_joined : (live : set.FinSet handle_cmp) (more : List Handle) → ((y : Handle) → IsTrue (set.contains live y) → All (AreApart y) more) → AllPairs AreApart more
+-- many occupants more, of slots that have none
+pub one_occupant_joined : (live : set.FinSet handle_cmp) (more : List Handle) → ((y : Handle) → IsTrue (set.contains live y) → All (AreApart y) more) → AllPairs AreApart more
     → ((g h : Handle) → IsTrue (set.contains live g) → IsTrue (set.contains live h) → g.index ≡ h.index → g ≡ h)
     → (g h : Handle) → IsTrue (set.contains (set.union live (set.from_list more)) g) → IsTrue (set.contains (set.union live (set.from_list more)) h) → g.index ≡ h.index → g ≡ h
-one_tenant_joined live more apart among one g h in_g in_h same = elim (in_union_list live more g in_g) [
+one_occupant_joined live more apart among one g h in_g in_h same = elim (in_union_list live more g in_g) [
   | inl g_before ↦ elim (in_union_list live more h in_h) [
     | inl h_before ↦ one g h g_before h_before same
     | inr h_new ↦ absurd (All-contains (AreApart g) more h (apart g g_before) h_new same)
@@ -138,7 +138,7 @@ one_tenant_joined live more apart among one g h in_g in_h same = elim (in_union_
   ]
 ]
 
--- what holds of the new tenant and of those before
+-- what holds of the new occupant and of those before
 pub of_inserted : (P : Handle → Type 0) (live : set.FinSet handle_cmp) (x : Handle) → P x → ((y : Handle) → IsTrue (set.contains live y) → P y) → (y : Handle) → IsTrue (set.contains (set.insert live x) y) → P y
 of_inserted P live x here before y alive = elim (in_inserted live x y alive) [ inl is ↦ subst P (sym is) here | inr was ↦ before y was ]
 

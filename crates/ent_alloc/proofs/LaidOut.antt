@@ -37,10 +37,10 @@ pub record IsLaidOut (s : Allocator) (old : List Handle) : Type 0 where
   pub live_within : (h : Handle) → IsLive s h → IsWithin s.limits h
   pub live_below : (h : Handle) → IsLive s h → h.index < s.made
   pub live_apart : (h : Handle) → IsLive s h → All (AreApart h) old
-  pub one_tenant : (g h : Handle) → IsLive s g → IsLive s h → g.index ≡ h.index → g ≡ h
+  pub one_occupant : (g h : Handle) → IsLive s g → IsLive s h → g.index ≡ h.index → g ≡ h
   pub rows : (h : Handle) → IsTrue (map.contains_key s.rows h) → IsLive s h
 
--- what holds of the first tenant of each slot that was never made
+-- what holds of the first occupant of each slot that was never made
 never_made : (made slots : ℕ) (P : Handle → Type 0) → ((index : ℕ) → made ≤ index → index < slots → P (first_of_slot index)) → All P (fresh made (slots - made))
 never_made made slots P each = All-fresh P made (slots - made) (λ k lt. each (made + k) (omega arith) (omega arith))
 
@@ -69,7 +69,7 @@ laid_out-sound s old h =
         made = h.live_below x alive;
         apart = subst (All (AreApart x)) (sym all) (All-append (AreApart x) old news (h.live_apart x alive) (below_never_made s.made s.limits.slots x (h.live_below x alive)));
       };
-      one_tenant = h.one_tenant;
+      one_occupant = h.one_occupant;
       rows = h.rows;
     }
 
@@ -92,6 +92,6 @@ flushed-laid_out s h flushed =
       live_within = λ x alive. (h.live x alive).within;
       live_below = λ x alive. (h.live x alive).made;
       live_apart = λ x alive. All-filter (is_old s.made) (AreApart x) (available s) (h.live x alive).apart;
-      one_tenant = h.one_tenant;
+      one_occupant = h.one_occupant;
       rows = h.rows;
     }

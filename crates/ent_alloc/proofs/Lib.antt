@@ -7,12 +7,12 @@ pub mod Taken
 pub mod PoolLaw
 pub mod Replies
 pub mod Flushes
-pub mod Wishes
+pub mod Requests
 pub mod Settled
 pub mod GivenOnce
 pub mod Rows
-pub mod Tenants
-pub mod Woken
+pub mod Occupants
+pub mod Reused
 pub mod Linked
 pub mod Listing
 pub mod Meaning

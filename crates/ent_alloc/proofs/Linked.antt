@@ -8,16 +8,16 @@ use Rattle.ent_handle.specs.Handle.{Handle, handle_cmp, handle_cmp_total, handle
 use Rattle.ent_alloc.proofs.ListLaws.{eqb_sym}
 use Rattle.ent_alloc.specs.Limits.{Limits}
 use Rattle.ent_alloc.specs.Sequential.{fresh, next}
-use Rattle.ent_alloc.specs.declared.record.Record.{Record}
-use Rattle.ent_alloc.specs.declared.record.Tenancy.TheVariants.{Pending}
-use Rattle.ent_alloc.specs.Slots.{tenants, is_tenant, has_tenant, is_alive, row_of, row_at, record_at, blank, newborn, handle_at, kept, woken, roster_of, AreLinked}
+use Rattle.ent_alloc.specs.declared.record.Record.{SlotRecord}
+use Rattle.ent_alloc.specs.declared.slot_record.Occupancy.TheVariants.{Pending}
+use Rattle.ent_alloc.specs.Slots.{occupants, is_occupant, has_occupant, is_alive, row_of, row_at, record_at, blank, newborn, handle_at, kept, reused, roster_of, AreLinked}
 use Rattle.ent_alloc.proofs.FreshHandles.{length-fresh}
-use Rattle.ent_alloc.proofs.Tenants.{contains_tenants, is_tenant-set, row_at-set, get_kept, ties, one, length-tenants-set, tenants-append, tenants-newborn, kept-made, from_list-append}
-use Rattle.ent_alloc.proofs.Woken.{Wait, Alive≢Pending, place_of, length-woken, generation-woken, waiting-woken, waited-woken, length-tenants-woken, kept-woken, live-woken}
+use Rattle.ent_alloc.proofs.Occupants.{contains_occupants, is_occupant-set, row_at-set, get_kept, ties, one, length-occupants-set, occupants-append, occupants-newborn, kept-made, from_list-append}
+use Rattle.ent_alloc.proofs.Reused.{Wait, Alive≢Pending, position_of, length-reused, generation-reused, waiting-reused, waited-reused, length-occupants-reused, kept-reused, live-reused}
 
 -- ---- waking
 
-module _ (limits : Limits) (records : List Record) (pending : List ℕ) (live from : ℕ) (linked : AreLinked limits records pending live) (within : from ≤ length pending) where
+module _ (limits : Limits) (records : List SlotRecord) (pending : List ℕ) (live from : ℕ) (linked : AreLinked limits records pending live) (within : from ≤ length pending) where
   pub Wait-drop : Wait records from (drop from pending)
   Wait-drop = record {
     made = λ k below.
@@ -26,32 +26,32 @@ module _ (limits : Limits) (records : List Record) (pending : List ℕ) (live fr
         omega (arith, get_or-drop from pending k 0);
     pending = λ k below.
         let at : from + k < length pending = omega (arith, length-drop from pending) in
-        ap (λ n. (record_at records n).tenancy) (get_or-drop from pending k 0) ∙ linked.forward (from + k) at;
+        ap (λ n. (record_at records n).occupancy) (get_or-drop from pending k 0) ∙ linked.forward (from + k) at;
   }
 
-  abbrev awake : List Record
-  awake = woken records (drop from pending)
+  abbrev alive : List SlotRecord
+  alive = reused records (drop from pending)
 
-  same_generation : (index : ℕ) → (record_at awake index).generation ≡ (record_at records index).generation
-  same_generation index = generation-woken records from (drop from pending) index Wait-drop
+  same_generation : (index : ℕ) → (record_at alive index).generation ≡ (record_at records index).generation
+  same_generation index = generation-reused records from (drop from pending) index Wait-drop
 
-  place_below : (index place : ℕ) → index < length records → (record_at awake index).tenancy ≡ Pending place → place < from
-  place_below index place made is =
-      let still = waited-woken records from (drop from pending) index place Wait-drop is in
-      let listed : place < length pending = linked.listed index place made still.before in
-      let back : get_or pending place 0 ≡ index = linked.back index place made still.before in
-      let clash : from ≤ place → ⊥ =
+  position_below : (index position : ℕ) → index < length records → (record_at alive index).occupancy ≡ Pending position → position < from
+  position_below index position made is =
+      let still = waited-reused records from (drop from pending) index position Wait-drop is in
+      let listed : position < length pending = linked.listed index position made still.before in
+      let back : get_or pending position 0 ≡ index = linked.back index position made still.before in
+      let clash : from ≤ position → ⊥ =
       λ above.
-      let at : place - from < length (drop from pending) = omega (arith, length-drop from pending) in
-      let there : from + (place - from) ≡ place = omega arith in
-      still.apart (place - from) at (get_or-drop from pending (place - from) 0 ∙ ap (λ n. get_or pending n 0) there ∙ back) in
-      elim (cases_lt place from) [ inl below ↦ below | inr above ↦ absurd (clash above) ]
+      let at : position - from < length (drop from pending) = omega (arith, length-drop from pending) in
+      let there : from + (position - from) ≡ position = omega arith in
+      still.apart (position - from) at (get_or-drop from pending (position - from) 0 ∙ ap (λ n. get_or pending n 0) there ∙ back) in
+      elim (cases_lt position from) [ inl below ↦ below | inr above ↦ absurd (clash above) ]
 
-  pub wake_keeps_links : AreLinked limits awake (take from pending) (live + (length pending - from))
-  wake_keeps_links =
-      let as_long : length awake ≡ length records = length-woken records (drop from pending) in
+  pub reuse_keeps_links : AreLinked limits alive (take from pending) (live + (length pending - from))
+  reuse_keeps_links =
+      let as_long : length alive ≡ length records = length-reused records (drop from pending) in
       let few : length (take from pending) ≡ from = length-take-le from pending within in
-      let more = length-tenants-woken records from (drop from pending) Wait-drop in
+      let more = length-occupants-reused records from (drop from pending) Wait-drop in
       let rest = length-drop from pending in
       let before = linked.each_once in
       let counted = linked.counted in
@@ -63,30 +63,30 @@ module _ (limits : Limits) (records : List Record) (pending : List ℕ) (live fr
         each_once = omega arith;
         least = λ index made. let h = linked.least index (omega arith) in omega (arith, same_generation index);
         greatest = λ index made. let h = linked.greatest index (omega arith) in omega (arith, same_generation index);
-        made = λ place below. let h = linked.made place (omega arith) in omega (arith, get_or-take from pending place 0 (omega arith));
-        forward = λ place below.
-            ap (λ n. (record_at awake n).tenancy) (get_or-take from pending place 0 (omega arith))
-            ∙ waiting-woken records from (drop from pending) (get_or pending place 0) place Wait-drop (linked.forward place (omega arith)) (omega arith);
-        listed = λ index place made is. let h = place_below index place (omega arith) is in omega arith;
-        back = λ index place made is.
-            let below = place_below index place (omega arith) is in
-            let still = waited-woken records from (drop from pending) index place Wait-drop is in
-            get_or-take from pending place 0 below ∙ linked.back index place (omega arith) still.before;
+        made = λ position below. let h = linked.made position (omega arith) in omega (arith, get_or-take from pending position 0 (omega arith));
+        forward = λ position below.
+            ap (λ n. (record_at alive n).occupancy) (get_or-take from pending position 0 (omega arith))
+            ∙ waiting-reused records from (drop from pending) (get_or pending position 0) position Wait-drop (linked.forward position (omega arith)) (omega arith);
+        listed = λ index position made is. let h = position_below index position (omega arith) is in omega arith;
+        back = λ index position made is.
+            let below = position_below index position (omega arith) is in
+            let still = waited-reused records from (drop from pending) index position Wait-drop is in
+            get_or-take from pending position 0 below ∙ linked.back index position (omega arith) still.before;
       }
 
-  same_map : (is : List ℕ) → map (handle_at awake) is ≡ map (handle_at records) is
+  same_map : (is : List ℕ) → map (handle_at alive) is ≡ map (handle_at records) is
   same_map [] = refl
   same_map (i ∷ is) = λ k. record { index = i; generation = same_generation i k } ∷ same_map is k
 
-  pub roster_of-wake : roster_of limits awake (take from pending) ≡ record (roster_of limits records pending) {
+  pub roster_of-reuse : roster_of limits alive (take from pending) ≡ record (roster_of limits records pending) {
     live = sets.union (roster_of limits records pending).live (sets.from_list (drop from (roster_of limits records pending).pending));
     pending = take from (roster_of limits records pending).pending;
   }
-  roster_of-wake =
-      let live_is = live-woken records from (drop from pending) Wait-drop ∙ ap (λ (hs : List Handle). sets.union (sets.from_list (tenants 0 records)) (sets.from_list hs)) (sym (drop-map (handle_at records) from pending)) in
-      let rows_is = ap maps.from_entries (kept-woken records from (drop from pending) Wait-drop) in
+  roster_of-reuse =
+      let live_is = live-reused records from (drop from pending) Wait-drop ∙ ap (λ (hs : List Handle). sets.union (sets.from_list (occupants 0 records)) (sets.from_list hs)) (sym (drop-map (handle_at records) from pending)) in
+      let rows_is = ap maps.from_entries (kept-reused records from (drop from pending) Wait-drop) in
       let pending_is = same_map (take from pending) ∙ sym (take-map (handle_at records) from pending) in
-      let made_is = length-woken records (drop from pending) in
+      let made_is = length-reused records (drop from pending) in
       λ i. record { limits = limits; live = live_is i; rows = rows_is i; pending = pending_is i; made = made_is i }
 
 -- ---- making
@@ -96,8 +96,8 @@ pub map_alike : {X : Type 0} (f g : ℕ → X) (xs : List ℕ) → ((k : ℕ) �
 map_alike f g [] alike = refl
 map_alike f g (x ∷ xs) alike = λ i. alike 0 (omega arith) i ∷ map_alike f g xs (λ k below. alike (suc k) (omega arith)) i
 
-module _ (limits : Limits) (records : List Record) (pending : List ℕ) (live count : ℕ) (linked : AreLinked limits records pending live) (room : length records + count ≤ limits.slots) where
-  abbrev grown : List Record
+module _ (limits : Limits) (records : List SlotRecord) (pending : List ℕ) (live count : ℕ) (linked : AreLinked limits records pending live) (room : length records + count ≤ limits.slots) where
+  abbrev grown : List SlotRecord
   grown = records ++ replicate count newborn
 
   old_stays : (index : ℕ) → index < length records → record_at grown index ≡ record_at records index
@@ -109,20 +109,20 @@ module _ (limits : Limits) (records : List Record) (pending : List ℕ) (live co
       get_or-append_right records (replicate count newborn) (length records) index blank refl past
       ∙ get_or-replicate count (index - length records) newborn blank below
 
-  waits_in_old : (index place : ℕ) → index < length grown → (record_at grown index).tenancy ≡ Pending place → index < length records
-  waits_in_old index place within is =
+  waits_in_old : (index position : ℕ) → index < length grown → (record_at grown index).occupancy ≡ Pending position → index < length records
+  waits_in_old index position within is =
       elim (cases_lt index (length records)) [
         | inl made ↦ made
-        | inr past ↦ absurd (Alive≢Pending (sym (ap (λ (r : Record). r.tenancy) (new_is index past within)) ∙ is))
+        | inr past ↦ absurd (Alive≢Pending (sym (ap (λ (r : SlotRecord). r.occupancy) (new_is index past within)) ∙ is))
       ]
 
   pub make_keeps_links : AreLinked limits grown pending (live + count)
   make_keeps_links =
       let long : length grown ≡ length records + count = length-append records (replicate count newborn) ∙ ap (λ n. length records + n) (length-replicate count newborn) in
-      let more : length (tenants 0 grown) ≡ length (tenants 0 records) + count =
-      ap length (tenants-append 0 records (replicate count newborn) ∙ ap (λ hs. tenants 0 records ++ hs) (tenants-newborn (0 + length records) count))
-      ∙ length-append (tenants 0 records) (fresh (0 + length records) count)
-      ∙ ap (λ n. length (tenants 0 records) + n) (length-fresh (0 + length records) count) in
+      let more : length (occupants 0 grown) ≡ length (occupants 0 records) + count =
+      ap length (occupants-append 0 records (replicate count newborn) ∙ ap (λ hs. occupants 0 records ++ hs) (occupants-newborn (0 + length records) count))
+      ∙ length-append (occupants 0 records) (fresh (0 + length records) count)
+      ∙ ap (λ n. length (occupants 0 records) + n) (length-fresh (0 + length records) count) in
       let counted = linked.counted in
       let each = linked.each_once in
       let some = linked.limited.some_generation in
@@ -133,22 +133,22 @@ module _ (limits : Limits) (records : List Record) (pending : List ℕ) (live co
         each_once = omega arith;
         least = λ index within.
             elim (cases_lt index (length records)) [
-              | inl made ↦ (let h = linked.least index made in omega (arith, ap (λ (r : Record). r.generation) (old_stays index made)))
-              | inr past ↦ omega (arith, ap (λ (r : Record). r.generation) (new_is index past within))
+              | inl made ↦ (let h = linked.least index made in omega (arith, ap (λ (r : SlotRecord). r.generation) (old_stays index made)))
+              | inr past ↦ omega (arith, ap (λ (r : SlotRecord). r.generation) (new_is index past within))
             ];
         greatest = λ index within.
             elim (cases_lt index (length records)) [
-              | inl made ↦ (let h = linked.greatest index made in omega (arith, ap (λ (r : Record). r.generation) (old_stays index made)))
-              | inr past ↦ omega (arith, ap (λ (r : Record). r.generation) (new_is index past within))
+              | inl made ↦ (let h = linked.greatest index made in omega (arith, ap (λ (r : SlotRecord). r.generation) (old_stays index made)))
+              | inr past ↦ omega (arith, ap (λ (r : SlotRecord). r.generation) (new_is index past within))
             ];
-        made = λ place below. let h = linked.made place below in omega arith;
-        forward = λ place below. ap (λ (r : Record). r.tenancy) (old_stays (get_or pending place 0) (linked.made place below)) ∙ linked.forward place below;
-        listed = λ index place within is.
-            let made = waits_in_old index place within is in
-            linked.listed index place made (sym (ap (λ (r : Record). r.tenancy) (old_stays index made)) ∙ is);
-        back = λ index place within is.
-            let made = waits_in_old index place within is in
-            linked.back index place made (sym (ap (λ (r : Record). r.tenancy) (old_stays index made)) ∙ is);
+        made = λ position below. let h = linked.made position below in omega arith;
+        forward = λ position below. ap (λ (r : SlotRecord). r.occupancy) (old_stays (get_or pending position 0) (linked.made position below)) ∙ linked.forward position below;
+        listed = λ index position within is.
+            let made = waits_in_old index position within is in
+            linked.listed index position made (sym (ap (λ (r : SlotRecord). r.occupancy) (old_stays index made)) ∙ is);
+        back = λ index position within is.
+            let made = waits_in_old index position within is in
+            linked.back index position made (sym (ap (λ (r : SlotRecord). r.occupancy) (old_stays index made)) ∙ is);
       }
 
   pub roster_of-make : roster_of limits grown pending ≡ record (roster_of limits records pending) {
@@ -158,8 +158,8 @@ module _ (limits : Limits) (records : List Record) (pending : List ℕ) (live co
   roster_of-make =
       let zero_plus : 0 + length records ≡ length records = omega arith in
       let live_is =
-      ap (λ (hs : List Handle). sets.from_list {R = handle_cmp} hs) (tenants-append 0 records (replicate count newborn) ∙ ap (λ hs. tenants 0 records ++ hs) (tenants-newborn (0 + length records) count ∙ ap (λ n. fresh n count) zero_plus))
-      ∙ from_list-append (tenants 0 records) (fresh (length records) count) in
+      ap (λ (hs : List Handle). sets.from_list {R = handle_cmp} hs) (occupants-append 0 records (replicate count newborn) ∙ ap (λ hs. occupants 0 records ++ hs) (occupants-newborn (0 + length records) count ∙ ap (λ n. fresh n count) zero_plus))
+      ∙ from_list-append (occupants 0 records) (fresh (length records) count) in
       let rows_is = ap (λ (es : List (Handle × ℕ)). maps.from_entries {R = handle_cmp} es) (kept-made 0 count records) in
       let pending_is = map_alike (handle_at grown) (handle_at records) pending (λ k below i. record { index = get_or pending k 0; generation = (old_stays (get_or pending k 0) (linked.made k below) i).generation }) in
       let made_is : length grown ≡ length records + count = length-append records (replicate count newborn) ∙ ap (λ n. length records + n) (length-replicate count newborn) in
@@ -167,19 +167,19 @@ module _ (limits : Limits) (records : List Record) (pending : List ℕ) (live co
 
 -- ---- releasing
 
--- a tenant's slot was made, and its record is alive with this generation
-pub tenant_made : (records : List Record) (h : Handle) → is_tenant records h ≡ true → h.index < length records
-tenant_made records h is =
+-- a occupant's slot was made, and its record is alive with this generation
+pub occupant_made : (records : List SlotRecord) (h : Handle) → is_occupant records h ≡ true → h.index < length records
+occupant_made records h is =
     elim (cases_lt h.index (length records)) [
       | inl made ↦ made
-      | inr past ↦ absurd (false≢true (sym (ap (λ (r : Record). has_tenant r h.generation) (get_or_past records h.index blank past)) ∙ is))
+      | inr past ↦ absurd (false≢true (sym (ap (λ (r : SlotRecord). has_occupant r h.generation) (get_or_past records h.index blank past)) ∙ is))
     ]
 
-pub tenant_alive : (records : List Record) (h : Handle) → is_tenant records h ≡ true → is_alive (record_at records h.index).tenancy ≡ true
-tenant_alive records h is = (and_parts (is_alive (record_at records h.index).tenancy) (eqb (record_at records h.index).generation h.generation) is).0
+pub occupant_alive : (records : List SlotRecord) (h : Handle) → is_occupant records h ≡ true → is_alive (record_at records h.index).occupancy ≡ true
+occupant_alive records h is = (and_parts (is_alive (record_at records h.index).occupancy) (eqb (record_at records h.index).generation h.generation) is).0
 
-pub tenant_generation : (records : List Record) (h : Handle) → is_tenant records h ≡ true → (record_at records h.index).generation ≡ h.generation
-tenant_generation records h is = eqb-true (record_at records h.index).generation h.generation (and_parts (is_alive (record_at records h.index).tenancy) (eqb (record_at records h.index).generation h.generation) is).1
+pub occupant_generation : (records : List SlotRecord) (h : Handle) → is_occupant records h ≡ true → (record_at records h.index).generation ≡ h.generation
+occupant_generation records h is = eqb-true (record_at records h.index).generation h.generation (and_parts (is_alive (record_at records h.index).occupancy) (eqb (record_at records h.index).generation h.generation) is).1
 
 gone_test : (same gen old : Bool) → (same ≡ true → old ≡ gen) → cond same false old ≡ (not (same && gen) && old)
 gone_test true true old is = refl
@@ -195,19 +195,19 @@ never : (b : Bool) (row : Option ℕ) → row ≡ None → cond b row None ≡ N
 never true row is = is
 never false row is = refl
 
-module _ (limits : Limits) (records : List Record) (pending : List ℕ) (live : ℕ) (h : Handle) (linked : AreLinked limits records pending live) (lives : is_tenant records h ≡ true) where
-  abbrev vacant : Record
-  vacant = record { generation = (next limits h).generation; tenancy = Pending (length pending) }
+module _ (limits : Limits) (records : List SlotRecord) (pending : List ℕ) (live : ℕ) (h : Handle) (linked : AreLinked limits records pending live) (lives : is_occupant records h ≡ true) where
+  abbrev vacant : SlotRecord
+  vacant = record { generation = (next limits h).generation; occupancy = Pending (length pending) }
 
-  abbrev released : List Record
+  abbrev released : List SlotRecord
   released = set records h.index vacant
 
   made_slot : h.index < length records
-  made_slot = tenant_made records h lives
+  made_slot = occupant_made records h lives
 
   pub next_generation : (1 ≤ (next limits h).generation) × ((next limits h).generation ≤ limits.generations)
   next_generation =
-      let same = tenant_generation records h lives in
+      let same = occupant_generation records h lives in
       let g = linked.greatest h.index made_slot in
       let some = linked.limited.some_generation in
       let within : h.generation ≤ limits.generations = omega arith in
@@ -219,10 +219,10 @@ module _ (limits : Limits) (records : List Record) (pending : List ℕ) (live : 
           let differ : h.generation ≢ limits.generations = eqb-false h.generation limits.generations e in
           (omega arith, omega arith)
 
-  apart : (place : ℕ) → place < length pending → get_or pending place 0 ≢ h.index
-  apart place below e =
-      let alive = tenant_alive records h lives in
-      let waits : is_alive (record_at records h.index).tenancy ≡ false = ap (λ n. is_alive (record_at records n).tenancy) (sym e) ∙ ap is_alive (linked.forward place below) in
+  apart : (position : ℕ) → position < length pending → get_or pending position 0 ≢ h.index
+  apart position below e =
+      let alive = occupant_alive records h lives in
+      let waits : is_alive (record_at records h.index).occupancy ≡ false = ap (λ n. is_alive (record_at records n).occupancy) (sym e) ∙ ap is_alive (linked.forward position below) in
       false≢true (sym waits ∙ alive)
 
   other : (at : ℕ) → at ≢ h.index → record_at released at ≡ record_at records at
@@ -234,10 +234,10 @@ module _ (limits : Limits) (records : List Record) (pending : List ℕ) (live : 
   same_at : (at : ℕ) → at ≡ h.index → record_at released at ≡ vacant
   same_at at e = ap (record_at released) e ∙ same
 
-  fewer : length (tenants 0 released) + 1 ≡ length (tenants 0 records)
+  fewer : length (occupants 0 released) + 1 ≡ length (occupants 0 records)
   fewer =
-      let step = length-tenants-set 0 records h.index vacant made_slot in
-      let was : one (is_alive (record_at records h.index).tenancy) ≡ 1 = ap one (tenant_alive records h lives) in
+      let step = length-occupants-set 0 records h.index vacant made_slot in
+      let was : one (is_alive (record_at records h.index).occupancy) ≡ 1 = ap one (occupant_alive records h lives) in
       omega (arith, step)
 
   pub one_lives : 1 ≤ live
@@ -258,64 +258,64 @@ module _ (limits : Limits) (records : List Record) (pending : List ℕ) (live : 
         each_once = omega (arith, fewer);
         least = λ index within.
             elim (cases_eq index h.index) [
-              | inl e ↦ omega (arith, range.0, ap (λ (r : Record). r.generation) (same_at index e))
-              | inr ne ↦ (let b = linked.least index (omega arith) in omega (arith, ap (λ (r : Record). r.generation) (other index ne)))
+              | inl e ↦ omega (arith, range.0, ap (λ (r : SlotRecord). r.generation) (same_at index e))
+              | inr ne ↦ (let b = linked.least index (omega arith) in omega (arith, ap (λ (r : SlotRecord). r.generation) (other index ne)))
             ];
         greatest = λ index within.
             elim (cases_eq index h.index) [
-              | inl e ↦ omega (arith, range.1, ap (λ (r : Record). r.generation) (same_at index e))
-              | inr ne ↦ (let b = linked.greatest index (omega arith) in omega (arith, ap (λ (r : Record). r.generation) (other index ne)))
+              | inl e ↦ omega (arith, range.1, ap (λ (r : SlotRecord). r.generation) (same_at index e))
+              | inr ne ↦ (let b = linked.greatest index (omega arith) in omega (arith, ap (λ (r : SlotRecord). r.generation) (other index ne)))
             ];
-        made = λ place below.
-            elim (cases_lt place (length pending)) [
-              | inl old ↦ (let b = linked.made place old in omega (arith, get_or_append_left pending (h.index ∷ []) 0 place old))
-              | inr new ↦ (let b = made_slot in omega (arith, get_or_push pending h.index 0 place (omega arith)))
+        made = λ position below.
+            elim (cases_lt position (length pending)) [
+              | inl old ↦ (let b = linked.made position old in omega (arith, get_or_append_left pending (h.index ∷ []) 0 position old))
+              | inr new ↦ (let b = made_slot in omega (arith, get_or_push pending h.index 0 position (omega arith)))
             ];
-        forward = λ place below.
-            elim (cases_lt place (length pending)) [
+        forward = λ position below.
+            elim (cases_lt position (length pending)) [
               | inl old ↦
-                  ap (λ n. (record_at released n).tenancy) (get_or_append_left pending (h.index ∷ []) 0 place old)
-                  ∙ ap (λ (r : Record). r.tenancy) (other (get_or pending place 0) (apart place old))
-                  ∙ linked.forward place old
+                  ap (λ n. (record_at released n).occupancy) (get_or_append_left pending (h.index ∷ []) 0 position old)
+                  ∙ ap (λ (r : SlotRecord). r.occupancy) (other (get_or pending position 0) (apart position old))
+                  ∙ linked.forward position old
               | inr new ↦
-                  ap (λ n. (record_at released n).tenancy) (get_or_push pending h.index 0 place (omega arith))
-                  ∙ ap (λ (r : Record). r.tenancy) same
+                  ap (λ n. (record_at released n).occupancy) (get_or_push pending h.index 0 position (omega arith))
+                  ∙ ap (λ (r : SlotRecord). r.occupancy) same
                   ∙ ap Pending (omega arith)
             ];
-        listed = λ index place within is.
+        listed = λ index position within is.
             elim (cases_eq index h.index) [
               | inl e ↦
-                  (let at : Pending (length pending) ≡ Pending place = sym (ap (λ (r : Record). r.tenancy) (same_at index e)) ∙ is in
-                  let there : length pending ≡ place = ap place_of at in omega arith)
+                  (let at : Pending (length pending) ≡ Pending position = sym (ap (λ (r : SlotRecord). r.occupancy) (same_at index e)) ∙ is in
+                  let there : length pending ≡ position = ap position_of at in omega arith)
               | inr ne ↦
-                  (let b = linked.listed index place (omega arith) (sym (ap (λ (r : Record). r.tenancy) (other index ne)) ∙ is) in omega arith)
+                  (let b = linked.listed index position (omega arith) (sym (ap (λ (r : SlotRecord). r.occupancy) (other index ne)) ∙ is) in omega arith)
             ];
-        back = λ index place within is.
+        back = λ index position within is.
             elim (cases_eq index h.index) [
               | inl e ↦
-                  (let at : Pending (length pending) ≡ Pending place = sym (ap (λ (r : Record). r.tenancy) (same_at index e)) ∙ is in
-                  let there : length pending ≡ place = ap place_of at in
-                  get_or_push pending h.index 0 place there ∙ sym e)
+                  (let at : Pending (length pending) ≡ Pending position = sym (ap (λ (r : SlotRecord). r.occupancy) (same_at index e)) ∙ is in
+                  let there : length pending ≡ position = ap position_of at in
+                  get_or_push pending h.index 0 position there ∙ sym e)
               | inr ne ↦
-                  (let old_is = sym (ap (λ (r : Record). r.tenancy) (other index ne)) ∙ is in
-                  let b = linked.listed index place (omega arith) old_is in
-                  get_or_append_left pending (h.index ∷ []) 0 place b ∙ linked.back index place (omega arith) old_is)
+                  (let old_is = sym (ap (λ (r : SlotRecord). r.occupancy) (other index ne)) ∙ is in
+                  let b = linked.listed index position (omega arith) old_is in
+                  get_or_append_left pending (h.index ∷ []) 0 position b ∙ linked.back index position (omega arith) old_is)
             ];
       }
 
-  live_is : sets.from_list {R = handle_cmp} (tenants 0 released) ≡ sets.remove (sets.from_list (tenants 0 records)) h
+  live_is : sets.from_list {R = handle_cmp} (occupants 0 released) ≡ sets.remove (sets.from_list (occupants 0 records)) h
   live_is =
       sets.same_set handle_cmp_total handle_cmp-IsAntisymmetric _ _ (λ q.
-      contains_tenants released q
-      ∙ is_tenant-set records h.index vacant q made_slot
-      ∙ gone_test (eqb q.index h.index) (eqb q.generation h.generation) (is_tenant records q) (at_h q)
-      ∙ (λ i. not (sym (ties q h) i) && sym (contains_tenants records q) i)
-      ∙ sym (sets.contains-remove handle_cmp_total (sets.from_list (tenants 0 records)) h q))
+      contains_occupants released q
+      ∙ is_occupant-set records h.index vacant q made_slot
+      ∙ gone_test (eqb q.index h.index) (eqb q.generation h.generation) (is_occupant records q) (at_h q)
+      ∙ (λ i. not (sym (ties q h) i) && sym (contains_occupants records q) i)
+      ∙ sym (sets.contains-remove handle_cmp_total (sets.from_list (occupants 0 records)) h q))
     where
-      at_h : (q : Handle) → eqb q.index h.index ≡ true → is_tenant records q ≡ eqb q.generation h.generation
+      at_h : (q : Handle) → eqb q.index h.index ≡ true → is_occupant records q ≡ eqb q.generation h.generation
       at_h q e =
-          ap (λ n. has_tenant (record_at records n) q.generation) (eqb-true q.index h.index e)
-          ∙ (λ i. tenant_alive records h lives i && eqb (tenant_generation records h lives i) q.generation)
+          ap (λ n. has_occupant (record_at records n) q.generation) (eqb-true q.index h.index e)
+          ∙ (λ i. occupant_alive records h lives i && eqb (occupant_generation records h lives i) q.generation)
           ∙ eqb_sym h.generation q.generation
 
   rows_is : maps.from_entries {R = handle_cmp} (kept 0 released) ≡ maps.remove (maps.from_entries (kept 0 records)) h
@@ -331,8 +331,8 @@ module _ (limits : Limits) (records : List Record) (pending : List ℕ) (live : 
       at_h : (q : Handle) → eqb q.index h.index ≡ true → eqb q.generation h.generation ≡ false → row_at records q ≡ None
       at_h q e ne =
           ap (λ n. row_at records (record { index = n; generation = q.generation })) (eqb-true q.index h.index e)
-          ∙ (λ i. cond (eqb (tenant_generation records h lives i) q.generation) (row_of (record_at records h.index).tenancy) None)
-          ∙ (λ i. cond ((eqb_sym h.generation q.generation ∙ ne) i) (row_of (record_at records h.index).tenancy) None)
+          ∙ (λ i. cond (eqb (occupant_generation records h lives i) q.generation) (row_of (record_at records h.index).occupancy) None)
+          ∙ (λ i. cond ((eqb_sym h.generation q.generation ∙ ne) i) (row_of (record_at records h.index).occupancy) None)
 
   pub roster_of-release : roster_of limits released (pending ++ h.index ∷ []) ≡ record (roster_of limits records pending) {
     live = sets.remove (roster_of limits records pending).live h;

@@ -111,7 +111,7 @@ module _ {X : Type 0} (R : X → X → Type 0) where
       let n : length (reverse xs) ≡ length xs = length-reverse xs in
       rw (get_or-reverse xs i d (omega arith), get_or-reverse xs j d (omega arith)) (both _ _ (h (length xs - 1 - j) (length xs - 1 - i) d (omega arith) (omega arith)))
 
-  -- two elements at their places
+  -- two elements at their positions
   AllPairs-at : (xs : List X) (x y : X) (i j : ℕ) → AllPairs R xs → i < j → j < length xs → get_or xs i x ≡ x → get_or xs j y ≡ y → R x y
   AllPairs-at xs x y i j h lt within at_i at_j = subst₂ R at_i (get_or_default xs j x y within ∙ at_j) (h i j x lt within)
 
@@ -128,21 +128,21 @@ module _ {X : Type 0} (R : X → X → Type 0) where
         ]
       ]
 
--- the place from which a swap of two places brings the element at a place
+-- the position from which a swap of two positions brings the element at a position
 swapped_from : ℕ → ℕ → ℕ → ℕ
 swapped_from a b k = cond (k == a) b (cond (k == b) a k)
 
--- it is a place of the list
+-- it is a position of the list
 swapped_from_lt : (n a b k : ℕ) → a < n → b < n → k < n → swapped_from a b k < n
 unfolding swapped_from
 swapped_from_lt n a b k la lb lk = grind (arith, nat_tests)
 
--- two places come from two places
+-- two positions come from two positions
 swapped_from_apart : (a b i j : ℕ) → i ≢ j → swapped_from a b i ≢ swapped_from a b j
 unfolding swapped_from
 swapped_from_apart a b i j apart same = grind (arith, nat_tests)
 
--- what stands at a place after a swap
+-- what stands at a position after a swap
 get_or-swapped : {X : Type 0} (xs : List X) (a b k : ℕ) (d : X) → a < length xs → b < length xs → get_or (swap xs a b) k d ≡ get_or xs (swapped_from a b k) d
 unfolding swapped_from
 get_or-swapped {X} xs a b k d la lb =
@@ -157,21 +157,21 @@ get_or-swapped {X} xs a b k d la lb =
     ]
 
 module _ {X : Type 0} (R : X → X → Type 0) (both : (x y : X) → R x y → R y x) where
-  -- of each two places
-  AtPlaces : List X → Type 0
-  AtPlaces xs = (i j : ℕ) (d : X) → i ≢ j → i < length xs → j < length xs → R (get_or xs i d) (get_or xs j d)
+  -- of each two positions
+  AtPositions : List X → Type 0
+  AtPositions xs = (i j : ℕ) (d : X) → i ≢ j → i < length xs → j < length xs → R (get_or xs i d) (get_or xs j d)
 
-  -- the earlier of two places may come second
-  places_from_pairs : (xs : List X) → AllPairs R xs → AtPlaces xs
-  unfolding AtPlaces
-  places_from_pairs xs h i j d apart li lj = elim (cases_lt i j) [
+  -- the earlier of two positions may come second
+  positions_from_pairs : (xs : List X) → AllPairs R xs → AtPositions xs
+  unfolding AtPositions
+  positions_from_pairs xs h i j d apart li lj = elim (cases_lt i j) [
     | inl before ↦ h i j d before lj
     | inr behind ↦ both _ _ (h j i d (omega arith) li)
   ]
 
   -- a swap keeps it
-  swap_keeps : (xs : List X) (a b : ℕ) → a < length xs → b < length xs → AtPlaces xs → AtPlaces (swap xs a b)
-  unfolding AtPlaces
+  swap_keeps : (xs : List X) (a b : ℕ) → a < length xs → b < length xs → AtPositions xs → AtPositions (swap xs a b)
+  unfolding AtPositions
   swap_keeps xs a b la lb h i j d apart li lj =
       let long : length (swap xs a b) ≡ length xs = length-swap xs a b in
       rw (get_or-swapped xs a b i d la lb, get_or-swapped xs a b j d la lb) (
@@ -181,6 +181,6 @@ module _ {X : Type 0} (R : X → X → Type 0) (both : (x y : X) → R x y → R
 
   -- the same list in another order has the same pairs, where the relation goes both ways
   pub AllPairs-IsPermutation : (xs ys : List X) → IsPermutation xs ys → AllPairs R xs → AllPairs R ys
-  unfolding AtPlaces
+  unfolding AtPositions
   AllPairs-IsPermutation xs ys moved h i j d lt within =
-      IsPermutation-keeps xs AtPlaces (places_from_pairs xs h) (λ l a b la lb k. swap_keeps l a b la lb k) ys moved i j d (omega arith) (omega arith) within
+      IsPermutation-keeps xs AtPositions (positions_from_pairs xs h) (λ l a b la lb k. swap_keeps l a b la lb k) ys moved i j d (omega arith) (omega arith) within

@@ -8,39 +8,39 @@ use Rattle.ent_alloc.specs.Sequential.{fresh}
 use Rattle.ent_alloc.specs.Reserved.{handles_of, IsInRange}
 use Rattle.ent_alloc.proofs.FreshHandles.{length-fresh, fresh-next, fresh-none}
 
-pub length-handles_of : (r : Roster) (place end index index_end : ℕ) → IsInRange r place end index index_end → length (handles_of r place end index index_end) ≡ (end - place) + (index_end - index)
-length-handles_of r place end index index_end range =
-    let places = range.places in
+pub length-handles_of : (r : Roster) (position end index index_end : ℕ) → IsInRange r position end index index_end → length (handles_of r position end index index_end) ≡ (end - position) + (index_end - index)
+length-handles_of r position end index index_end range =
+    let positions = range.positions in
     let within = range.within in
-    length-append (take (end - place) (drop place r.pending)) (fresh index (index_end - index))
-    ∙ (λ i. length-take-le (end - place) (drop place r.pending) (omega (arith, length-drop place r.pending)) i + length-fresh index (index_end - index) i)
+    length-append (take (end - position) (drop position r.pending)) (fresh index (index_end - index))
+    ∙ (λ i. length-take-le (end - position) (drop position r.pending) (omega (arith, length-drop position r.pending)) i + length-fresh index (index_end - index) i)
 
 -- a list from where it has an item
 pub drop_at : (hs : List Handle) (k : ℕ) (h : Handle) → k < length hs → slice_get hs k ≡ Some h → drop k hs ≡ h ∷ drop (k + 1) hs
 drop_at hs k h below at =
     drop_more hs k h below ∙ ap (λ x. x ∷ drop (k + 1) hs) (get_or_from_slice_get hs k h h at)
 
--- the handle that waits at the place comes first
-pub handles_of-pending : (r : Roster) (place end index index_end : ℕ) (h : Handle) → IsInRange r place end index index_end → place < end → slice_get r.pending place ≡ Some h → handles_of r place end index index_end ≡ h ∷ handles_of r (place + 1) end index index_end
-handles_of-pending r place end index index_end h range below at =
-    let more : end - place ≡ suc (end - (place + 1)) = omega arith in
+-- the handle that waits at the position comes first
+pub handles_of-pending : (r : Roster) (position end index index_end : ℕ) (h : Handle) → IsInRange r position end index index_end → position < end → slice_get r.pending position ≡ Some h → handles_of r position end index index_end ≡ h ∷ handles_of r (position + 1) end index index_end
+handles_of-pending r position end index index_end h range below at =
+    let more : end - position ≡ suc (end - (position + 1)) = omega arith in
     let within = range.within in
-    λ i. take (more i) (drop_at r.pending place h (omega arith) at i) ++ fresh index (index_end - index)
+    λ i. take (more i) (drop_at r.pending position h (omega arith) at i) ++ fresh index (index_end - index)
 
 -- else the first fresh one
-pub handles_of-fresh : (r : Roster) (place end index index_end : ℕ) → end ≤ place → index < index_end → handles_of r place end index index_end ≡ record { index = index; generation = 1 } ∷ handles_of r place end (index + 1) index_end
-handles_of-fresh r place end index index_end past below =
-    let none : end - place ≡ 0 = omega arith in
+pub handles_of-fresh : (r : Roster) (position end index index_end : ℕ) → end ≤ position → index < index_end → handles_of r position end index index_end ≡ record { index = index; generation = 1 } ∷ handles_of r position end (index + 1) index_end
+handles_of-fresh r position end index index_end past below =
+    let none : end - position ≡ 0 = omega arith in
     let more : index_end - index ≡ suc (index_end - (index + 1)) = omega arith in
-    (λ i. take (none i) (drop place r.pending) ++ (ap (fresh index) more ∙ fresh-next index (index_end - (index + 1))) i)
-    ∙ ap (λ rest. record { index = index; generation = 1 } ∷ rest) (λ i. take (sym none i) (drop place r.pending) ++ fresh (index + 1) (index_end - (index + 1)))
+    (λ i. take (none i) (drop position r.pending) ++ (ap (fresh index) more ∙ fresh-next index (index_end - (index + 1))) i)
+    ∙ ap (λ rest. record { index = index; generation = 1 } ∷ rest) (λ i. take (sym none i) (drop position r.pending) ++ fresh (index + 1) (index_end - (index + 1)))
 
 -- else none
-pub handles_of-none : (r : Roster) (place end index index_end : ℕ) → end ≤ place → index_end ≤ index → handles_of r place end index index_end ≡ []
-handles_of-none r place end index index_end past passed =
-    let none : end - place ≡ 0 = omega arith in
+pub handles_of-none : (r : Roster) (position end index index_end : ℕ) → end ≤ position → index_end ≤ index → handles_of r position end index index_end ≡ []
+handles_of-none r position end index index_end past passed =
+    let none : end - position ≡ 0 = omega arith in
     let no_fresh : index_end - index ≡ 0 = omega arith in
-    λ i. take (none i) (drop place r.pending) ++ (ap (fresh index) no_fresh ∙ fresh-none index) i
+    λ i. take (none i) (drop position r.pending) ++ (ap (fresh index) no_fresh ∙ fresh-none index) i
 
 -- ---- listing one after the other
 
@@ -53,12 +53,12 @@ fresh-push index (suc count) =
     ap (λ rest. record { index = index; generation = 1 } ∷ rest) (ap (λ n. fresh (index + 1) count ++ record { index = n; generation = 1 } ∷ []) at ∙ fresh-push (index + 1) count)
     ∙ ap (fresh index) more
 
--- what was listed so far, and the handle at the next place
-pub take-push : (hs : List Handle) (from place : ℕ) (h : Handle) → from ≤ place → place < length hs → slice_get hs place ≡ Some h → take (place - from) (drop from hs) ++ h ∷ [] ≡ take (place + 1 - from) (drop from hs)
-take-push hs from place h after below at =
-    let there : from + (place - from) ≡ place = omega arith in
-    let item : h ≡ get_or (drop from hs) (place - from) h = sym (get_or-drop from hs (place - from) h ∙ ap (λ n. get_or hs n h) there ∙ get_or_from_slice_get hs place h h at) in
-    let more : place - from + 1 ≡ place + 1 - from = omega arith in
-    (λ i. take (place - from) (drop from hs) ++ item i ∷ [])
-    ∙ sym (take_more (drop from hs) (place - from) h (omega (arith, length-drop from hs)))
+-- what was listed so far, and the handle at the next position
+pub take-push : (hs : List Handle) (from position : ℕ) (h : Handle) → from ≤ position → position < length hs → slice_get hs position ≡ Some h → take (position - from) (drop from hs) ++ h ∷ [] ≡ take (position + 1 - from) (drop from hs)
+take-push hs from position h after below at =
+    let there : from + (position - from) ≡ position = omega arith in
+    let item : h ≡ get_or (drop from hs) (position - from) h = sym (get_or-drop from hs (position - from) h ∙ ap (λ n. get_or hs n h) there ∙ get_or_from_slice_get hs position h h at) in
+    let more : position - from + 1 ≡ position + 1 - from = omega arith in
+    (λ i. take (position - from) (drop from hs) ++ item i ∷ [])
+    ∙ sym (take_more (drop from hs) (position - from) h (omega (arith, length-drop from hs)))
     ∙ ap (λ n. take n (drop from hs)) more

@@ -9,15 +9,15 @@ use Rattle.ent_handle.specs.Handle.{Handle, handle_cmp, handle_cmp_total, handle
 use Rattle.ent_alloc.proofs.ListLaws.{eqb_sym}
 use Rattle.ent_alloc.specs.Limits.{Limits}
 use Rattle.ent_alloc.specs.Sequential.{fresh, stands_in}
-use Rattle.ent_alloc.specs.declared.record.Record.{Record}
-use Rattle.ent_alloc.specs.declared.record.Tenancy.{Tenancy}
-use Rattle.ent_alloc.specs.declared.record.Tenancy.TheVariants.{Alive, Pending}
-use Rattle.ent_alloc.specs.Slots.{tenants, is_tenant, has_tenant, is_alive, row_of, row_at, record_at, blank, handle_at, kept, waits_behind, waits_from, roster_of, AreLinked}
+use Rattle.ent_alloc.specs.declared.record.Record.{SlotRecord}
+use Rattle.ent_alloc.specs.declared.slot_record.Occupancy.{Occupancy}
+use Rattle.ent_alloc.specs.declared.slot_record.Occupancy.TheVariants.{Alive, Pending}
+use Rattle.ent_alloc.specs.Slots.{occupants, is_occupant, has_occupant, is_alive, row_of, row_at, record_at, blank, handle_at, kept, waits_behind, waits_from, roster_of, AreLinked}
 use Rattle.ent_alloc.proofs.HandleSets.{Contains-from_stands_in, stands_in-from_Contains}
 use Rattle.ent_alloc.proofs.FreshHandles.{length-fresh, get_or-fresh}
-use Rattle.ent_alloc.proofs.Tenants.{contains_tenants, is_tenant-set, row_at-set, get_kept, ties, one, length-tenants-set}
-use Rattle.ent_alloc.proofs.Woken.{Alive≢Pending}
-use Rattle.ent_alloc.proofs.Linked.{tenant_made, tenant_alive, tenant_generation, map_alike}
+use Rattle.ent_alloc.proofs.Occupants.{contains_occupants, is_occupant-set, row_at-set, get_kept, ties, one, length-occupants-set}
+use Rattle.ent_alloc.proofs.Reused.{Alive≢Pending}
+use Rattle.ent_alloc.proofs.Linked.{occupant_made, occupant_alive, occupant_generation, map_alike}
 
 -- two tests that imply each other
 same_test : (a b : Bool) → (a ≡ true → b ≡ true) → (b ≡ true → a ≡ true) → a ≡ b
@@ -25,14 +25,14 @@ same_test true b f g = sym (f refl)
 same_test false true f g = g refl
 same_test false false f g = refl
 
--- the place that a slot waits at
-waiting_place : (t : Tenancy) (from : ℕ) → waits_behind t from ≡ true → (place : ℕ) × (t ≡ Pending place) × (from ≤ place)
-waiting_place (Alive row) from is = absurd (false≢true is)
-waiting_place (Pending place) from is = (place, refl, leb-true from place is)
+-- the position that a slot waits at
+waiting_position : (t : Occupancy) (from : ℕ) → waits_behind t from ≡ true → (position : ℕ) × (t ≡ Pending position) × (from ≤ position)
+waiting_position (Alive row) from is = absurd (false≢true is)
+waiting_position (Pending position) from is = (position, refl, leb-true from position is)
 
-module _ (limits : Limits) (records : List Record) (pending : List ℕ) (live : ℕ) (linked : AreLinked limits records pending live) where
-  at_place : (from k : ℕ) (d : Handle) → from + k < length pending → get_or (drop from (map (handle_at records) pending)) k d ≡ handle_at records (get_or pending (from + k) 0)
-  at_place from k d within = get_or-drop from (map (handle_at records) pending) k d ∙ get_or-map (handle_at records) pending (from + k) 0 d within
+module _ (limits : Limits) (records : List SlotRecord) (pending : List ℕ) (live : ℕ) (linked : AreLinked limits records pending live) where
+  at_position : (from k : ℕ) (d : Handle) → from + k < length pending → get_or (drop from (map (handle_at records) pending)) k d ≡ handle_at records (get_or pending (from + k) 0)
+  at_position from k d within = get_or-drop from (map (handle_at records) pending) k d ∙ get_or-map (handle_at records) pending (from + k) 0 d within
 
   long : (from : ℕ) → length (drop from (map (handle_at records) pending)) ≡ length pending - from
   long from = length-drop from (map (handle_at records) pending) ∙ ap (λ n. n - from) (length-map pending (handle_at records))
@@ -41,32 +41,32 @@ module _ (limits : Limits) (records : List Record) (pending : List ℕ) (live : 
   found h from (k, within, is) =
       let below : from + k < length pending = omega (arith, long from) in
       let index = get_or pending (from + k) 0 in
-      let same : handle_at records index ≡ h = sym (at_place from k h below) ∙ is in
+      let same : handle_at records index ≡ h = sym (at_position from k h below) ∙ is in
       let at : index ≡ h.index = ap (λ (x : Handle). x.index) same in
       let made = linked.made (from + k) below in
       and_from (ltb h.index (length records)) _ (lt-ltb h.index (length records) (omega arith))
-      (and_from (waits_behind (record_at records h.index).tenancy from) _
-      (ap (λ t. waits_behind t from) (sym (ap (λ n. (record_at records n).tenancy) at) ∙ linked.forward (from + k) below) ∙ le-leb from (from + k) (omega arith))
+      (and_from (waits_behind (record_at records h.index).occupancy from) _
+      (ap (λ t. waits_behind t from) (sym (ap (λ n. (record_at records n).occupancy) at) ∙ linked.forward (from + k) below) ∙ le-leb from (from + k) (omega arith))
       (eq-eqb _ _ (sym (ap (λ n. (record_at records n).generation) at) ∙ ap (λ (x : Handle). x.generation) same)))
 
   waiting : (h : Handle) (from : ℕ) → waits_from records h from ≡ true → Contains (drop from (map (handle_at records) pending)) h
   waiting h from is =
       let parts = and_parts (ltb h.index (length records)) _ is in
-      let rest = and_parts (waits_behind (record_at records h.index).tenancy from) _ parts.1 in
+      let rest = and_parts (waits_behind (record_at records h.index).occupancy from) _ parts.1 in
       let made = ltb-true h.index (length records) parts.0 in
-      let place = waiting_place (record_at records h.index).tenancy from rest.0 in
-      let listed : place.0 < length pending = linked.listed h.index place.0 made place.1 in
-      let back : get_or pending place.0 0 ≡ h.index = linked.back h.index place.0 made place.1 in
-      let there : from + (place.0 - from) ≡ place.0 = (let least : from ≤ place.0 = place.2 in omega arith) in
-      let below : from + (place.0 - from) < length pending = omega arith in
-      let index : get_or pending (from + (place.0 - from)) 0 ≡ h.index = ap (λ n. get_or pending n 0) there ∙ back in
+      let position = waiting_position (record_at records h.index).occupancy from rest.0 in
+      let listed : position.0 < length pending = linked.listed h.index position.0 made position.1 in
+      let back : get_or pending position.0 0 ≡ h.index = linked.back h.index position.0 made position.1 in
+      let there : from + (position.0 - from) ≡ position.0 = (let least : from ≤ position.0 = position.2 in omega arith) in
+      let below : from + (position.0 - from) < length pending = omega arith in
+      let index : get_or pending (from + (position.0 - from)) 0 ≡ h.index = ap (λ n. get_or pending n 0) there ∙ back in
       let generation : (record_at records h.index).generation ≡ h.generation = eqb-true _ _ rest.1 in (
-        place.0 - from,
+        position.0 - from,
         omega (arith, long from),
-        at_place from (place.0 - from) h below ∙ (λ i. record { index = index i; generation = ((ap (λ n. (record_at records n).generation) index) ∙ generation) i }),
+        at_position from (position.0 - from) h below ∙ (λ i. record { index = index i; generation = ((ap (λ n. (record_at records n).generation) index) ∙ generation) i }),
       )
 
-  -- who waits behind a place is told by the record
+  -- who waits behind a position is told by the record
   pub stands_in-pending : (h : Handle) (from : ℕ) → waits_from records h from ≡ stands_in (drop from (map (handle_at records) pending)) h
   stands_in-pending h from =
       same_test _ _
@@ -101,15 +101,15 @@ new_row true true row old is = refl
 new_row true false row old is = sym (is refl refl)
 new_row false gen row old is = refl
 
-module _ (limits : Limits) (records : List Record) (pending : List ℕ) (live : ℕ) (h : Handle) (row : ℕ) (linked : AreLinked limits records pending live) (lives : is_tenant records h ≡ true) where
-  abbrev labelled : Record
-  labelled = record { generation = (record_at records h.index).generation; tenancy = Alive (Some row) }
+module _ (limits : Limits) (records : List SlotRecord) (pending : List ℕ) (live : ℕ) (h : Handle) (row : ℕ) (linked : AreLinked limits records pending live) (lives : is_occupant records h ≡ true) where
+  abbrev labelled : SlotRecord
+  labelled = record { generation = (record_at records h.index).generation; occupancy = Alive (Some row) }
 
-  abbrev relabelled : List Record
+  abbrev relabelled : List SlotRecord
   relabelled = set records h.index labelled
 
   slot_made : h.index < length records
-  slot_made = tenant_made records h lives
+  slot_made = occupant_made records h lives
 
   others : (at : ℕ) → at ≢ h.index → record_at relabelled at ≡ record_at records at
   others at ne = get_or-set_other records h.index at labelled blank ne
@@ -120,26 +120,26 @@ module _ (limits : Limits) (records : List Record) (pending : List ℕ) (live : 
   generations : (at : ℕ) → (record_at relabelled at).generation ≡ (record_at records at).generation
   generations at =
       elim (cases_eq at h.index) [
-        | inl e ↦ ap (λ (r : Record). r.generation) (itself at e) ∙ ap (λ n. (record_at records n).generation) (sym e)
-        | inr ne ↦ ap (λ (r : Record). r.generation) (others at ne)
+        | inl e ↦ ap (λ (r : SlotRecord). r.generation) (itself at e) ∙ ap (λ n. (record_at records n).generation) (sym e)
+        | inr ne ↦ ap (λ (r : SlotRecord). r.generation) (others at ne)
       ]
 
-  alive_there : (at place : ℕ) → (record_at records at).tenancy ≡ Pending place → at ≢ h.index
-  alive_there at place waits e =
-      false≢true (sym (ap is_alive (sym (ap (λ n. (record_at records n).tenancy) e) ∙ waits)) ∙ tenant_alive records h lives)
+  alive_there : (at position : ℕ) → (record_at records at).occupancy ≡ Pending position → at ≢ h.index
+  alive_there at position waits e =
+      false≢true (sym (ap is_alive (sym (ap (λ n. (record_at records n).occupancy) e) ∙ waits)) ∙ occupant_alive records h lives)
 
-  waited : (at place : ℕ) → (record_at relabelled at).tenancy ≡ Pending place → (record_at records at).tenancy ≡ Pending place
-  waited at place is =
+  waited : (at position : ℕ) → (record_at relabelled at).occupancy ≡ Pending position → (record_at records at).occupancy ≡ Pending position
+  waited at position is =
       elim (cases_eq at h.index) [
-        | inl e ↦ absurd (Alive≢Pending (sym (ap (λ (r : Record). r.tenancy) (itself at e)) ∙ is))
-        | inr ne ↦ sym (ap (λ (r : Record). r.tenancy) (others at ne)) ∙ is
+        | inl e ↦ absurd (Alive≢Pending (sym (ap (λ (r : SlotRecord). r.occupancy) (itself at e)) ∙ is))
+        | inr ne ↦ sym (ap (λ (r : SlotRecord). r.occupancy) (others at ne)) ∙ is
       ]
 
   pub set_row_keeps_links : AreLinked limits relabelled pending live
   set_row_keeps_links =
       let as_long : length relabelled ≡ length records = length-set records h.index labelled in
-      let step = length-tenants-set 0 records h.index labelled slot_made in
-      let was : one (is_alive (record_at records h.index).tenancy) ≡ 1 = ap one (tenant_alive records h lives) in
+      let step = length-occupants-set 0 records h.index labelled slot_made in
+      let was : one (is_alive (record_at records h.index).occupancy) ≡ 1 = ap one (occupant_alive records h lives) in
       let counted = linked.counted in
       let each = linked.each_once in
       let few = linked.few in
@@ -150,31 +150,31 @@ module _ (limits : Limits) (records : List Record) (pending : List ℕ) (live : 
         each_once = omega arith;
         least = λ index within. let b = linked.least index (omega arith) in omega (arith, generations index);
         greatest = λ index within. let b = linked.greatest index (omega arith) in omega (arith, generations index);
-        made = λ place below. let b = linked.made place below in omega arith;
-        forward = λ place below. ap (λ (r : Record). r.tenancy) (others (get_or pending place 0) (alive_there (get_or pending place 0) place (linked.forward place below))) ∙ linked.forward place below;
-        listed = λ index place within is. linked.listed index place (omega arith) (waited index place is);
-        back = λ index place within is. linked.back index place (omega arith) (waited index place is);
+        made = λ position below. let b = linked.made position below in omega arith;
+        forward = λ position below. ap (λ (r : SlotRecord). r.occupancy) (others (get_or pending position 0) (alive_there (get_or pending position 0) position (linked.forward position below))) ∙ linked.forward position below;
+        listed = λ index position within is. linked.listed index position (omega arith) (waited index position is);
+        back = λ index position within is. linked.back index position (omega arith) (waited index position is);
       }
 
-  same_live : sets.from_list {R = handle_cmp} (tenants 0 relabelled) ≡ sets.from_list (tenants 0 records)
+  same_live : sets.from_list {R = handle_cmp} (occupants 0 relabelled) ≡ sets.from_list (occupants 0 records)
   same_live =
       sets.same_set handle_cmp_total handle_cmp-IsAntisymmetric _ _ (λ q.
-      contains_tenants relabelled q
-      ∙ is_tenant-set records h.index labelled q slot_made
-      ∙ kept_test (eqb q.index h.index) (has_tenant labelled q.generation) (is_tenant records q) (here q)
-      ∙ sym (contains_tenants records q))
+      contains_occupants relabelled q
+      ∙ is_occupant-set records h.index labelled q slot_made
+      ∙ kept_test (eqb q.index h.index) (has_occupant labelled q.generation) (is_occupant records q) (here q)
+      ∙ sym (contains_occupants records q))
     where
-      here : (q : Handle) → eqb q.index h.index ≡ true → is_tenant records q ≡ has_tenant labelled q.generation
+      here : (q : Handle) → eqb q.index h.index ≡ true → is_occupant records q ≡ has_occupant labelled q.generation
       here q e =
-          ap (λ n. has_tenant (record_at records n) q.generation) (eqb-true q.index h.index e)
-          ∙ (λ i. tenant_alive records h lives i && eqb (record_at records h.index).generation q.generation)
+          ap (λ n. has_occupant (record_at records n) q.generation) (eqb-true q.index h.index e)
+          ∙ (λ i. occupant_alive records h lives i && eqb (record_at records h.index).generation q.generation)
 
   new_rows : maps.from_entries {R = handle_cmp} (kept 0 relabelled) ≡ maps.insert (maps.from_entries (kept 0 records)) h row
   new_rows =
       maps.same_map handle_cmp_total handle_cmp-IsAntisymmetric _ _ (λ q.
       get_kept relabelled q
       ∙ row_at-set records h.index labelled q slot_made
-      ∙ (λ i. cond (eqb q.index h.index) (cond ((ap (λ n. eqb n q.generation) (tenant_generation records h lives) ∙ eqb_sym h.generation q.generation) i) (Some row) None) (row_at records q))
+      ∙ (λ i. cond (eqb q.index h.index) (cond ((ap (λ n. eqb n q.generation) (occupant_generation records h lives) ∙ eqb_sym h.generation q.generation) i) (Some row) None) (row_at records q))
       ∙ new_row (eqb q.index h.index) (eqb q.generation h.generation) (Some row) (row_at records q) (here q)
       ∙ (λ i. cond (sym (ties q h) i) (Some row) (sym (get_kept records q) i))
       ∙ sym (maps.get-insert handle_cmp_total (maps.from_entries (kept 0 records)) h row q))
@@ -182,8 +182,8 @@ module _ (limits : Limits) (records : List Record) (pending : List ℕ) (live : 
       here : (q : Handle) → eqb q.index h.index ≡ true → eqb q.generation h.generation ≡ false → row_at records q ≡ None
       here q e ne =
           ap (λ n. row_at records (record { index = n; generation = q.generation })) (eqb-true q.index h.index e)
-          ∙ (λ i. cond (eqb (tenant_generation records h lives i) q.generation) (row_of (record_at records h.index).tenancy) None)
-          ∙ (λ i. cond ((eqb_sym h.generation q.generation ∙ ne) i) (row_of (record_at records h.index).tenancy) None)
+          ∙ (λ i. cond (eqb (occupant_generation records h lives i) q.generation) (row_of (record_at records h.index).occupancy) None)
+          ∙ (λ i. cond ((eqb_sym h.generation q.generation ∙ ne) i) (row_of (record_at records h.index).occupancy) None)
 
   pub roster_of-set_row : roster_of limits relabelled pending ≡ record (roster_of limits records pending) { rows = maps.insert (roster_of limits records pending).rows h row }
   roster_of-set_row =

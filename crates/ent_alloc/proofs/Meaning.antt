@@ -311,7 +311,7 @@ alloc_fresh_is r h none room first =
 length_left : (r : Roster) (asked : ℕ) → length (drop asked (idle r)) ≡ length r.pending + (r.limits.slots - r.made) - asked
 length_left r asked = length-drop asked (idle r) ∙ ap (λ n. n - asked) (length-idle r)
 
--- a wish that there is enough for
+-- a request that there is enough for
 pub lower_served : (r : Roster) (asked given n : ℕ) → given ≡ asked → asked + n ≤ length r.pending + (r.limits.slots - r.made) → allocator_of r (asked + n) (asked + n) ≡ after_take (allocator_of r asked given) n
 lower_served r asked given n all enough =
     let fits : nat_le n (length (drop asked (idle r))) ≡ true = le-leb n (length (drop asked (idle r))) (omega (arith, length_left r asked)) in
@@ -324,7 +324,7 @@ lower_served r asked given n all enough =
     (λ i. record (allocator_of r asked given) { pool = pool_is i; taken = taken_is i; aside = none_aside i; asked = asked + n })
     ∙ sym (cond-true (nat_le n (length (drop asked (idle r)))) _ _ fits)
 
--- a wish for more than there is
+-- a request for more than there is
 pub lower_refused : (r : Roster) (asked given n : ℕ) → given ≤ asked → length r.pending + (r.limits.slots - r.made) < asked + n → allocator_of r (asked + n) given ≡ after_take (allocator_of r asked given) n
 lower_refused r asked given n within past =
     elim (cases_lt (length (drop asked (idle r))) n) [
@@ -445,7 +445,7 @@ pub closed : (r r' : Roster) (cursor floor : ℤ) (s : Allocator) → r ≡ r' �
 closed r r' cursor floor s same at_cursor at_floor is sound =
     rw (at_cursor, at_floor) (AreReserved-flushed r (subst IsSound (sym (ap (λ (x : Roster). allocator_of x 0 0) same ∙ is)) sound))
 
--- a test that no wish was made
+-- a test that no request was made
 pub none_asked : (b : Bool) (n : ℕ) → (IsTrue b ↔ (0 < n)) → b ≡ false → n ≡ 0
 none_asked b n tells is =
     elim (cases_lt 0 n) [
@@ -453,7 +453,7 @@ none_asked b n tells is =
       | inr none ↦ omega arith
     ]
 
--- a place that lies between the top and what a handle can reach is the same as a machine's number
+-- a position that lies between the top and what a handle can reach is the same as a machine's number
 pub as_word : (r : Roster) (z : ℤ) → z ≤ℤ pos (length r.pending) → beneath r z ≤ 2 ^ 60 → length r.pending < 2 ^ 32 → to_z w64 (of_z w64 z) ≡ z
 as_word r z within small few = omega (arith, ints, asked_at-is (length r.pending) z within)
 
@@ -519,7 +519,7 @@ length_available r at floor s reserved view =
 
 -- ---- settle
 
--- what the two places leave of an allocator that nothing is reserved of
+-- what the two positions leave of an allocator that nothing is reserved of
 pub settled_is : (r : Roster) (asked given : ℕ) → allocator_of r asked given ≡ settled (allocator_of r 0 0) given asked
 settled_is r asked given =
     let same : asked ≡ 0 + asked = omega arith in
@@ -573,7 +573,7 @@ rows-sound s h row sound lives = record {
   pool = sound.pool;
   aside = sound.aside;
   live = λ x is. record { within = (sound.live x is).within; made = (sound.live x is).made; apart = (sound.live x is).apart };
-  one_tenant = sound.one_tenant;
+  one_occupant = sound.one_occupant;
   rows = λ x is.
       elim (either_row (eq_by_cmp handle_cmp x h) row (maps.get s.rows x) (ap is_some (sym (maps.get-insert handle_cmp_total s.rows h row x)) ∙ is)) [
         | inl same ↦ subst (IsLive s) (sym (same_handle x h same)) lives

@@ -1,4 +1,4 @@
--- What wishes take off the pool, whether they are served or not. It depends on their sum alone, so a reply depends on the
+-- What requests take off the pool, whether they are served or not. It depends on their sum alone, so a reply depends on the
 -- cursor alone, and can be computed later.
 use Rattle.std.proofs.Common.{◌≡◌, refl, sym, ap, ◌∙◌, ℕ, ◌+◌, ◌≤◌, ℤ, pos, negsuc, ◌-ℤ◌, List, [], ◌∷◌, ◌++◌, length, take, drop, filter, sum, Ok, nat_le, true, le-leb, arith, append-nil, inl, inr}
 use Rattle.std.proofs.lemmas.Bool.{cases_lt}
@@ -24,11 +24,11 @@ asked_at-cursor s = asked_at_is (top s) s.asked (cursor s) refl
 pub pool_at-cursor : (s : Allocator) → IsSound s → pool_at s (cursor s) ≡ s.pool
 pool_at-cursor s h = ap (λ n. drop n (available s)) (asked_at-cursor s) ∙ sym h.pool
 
--- and the reply to any wish
+-- and the reply to any request
 pub reply-cursor : (s : Allocator) (n : ℕ) → IsSound s → reply_from s.made (pool_at s (cursor s)) n ≡ reply_to s n
 reply-cursor s n h = ap (λ pool. reply_from s.made pool n) (pool_at-cursor s h)
 
--- a wish leaves the limits as they are
+-- a request leaves the limits as they are
 pub limits-after_take : (s : Allocator) (n : ℕ) → (after_take s n).limits ≡ s.limits
 limits-after_take s n = elim (cases_lt (length s.pool) n) [
   | inl short ↦ rw (after_take-refused s n short)
@@ -56,7 +56,7 @@ made-after_take s n = elim (cases_lt (length s.pool) n) [
   | inr enough ↦ rw (after_take-served s n enough)
 ]
 
--- the wish is added
+-- the request is added
 pub asked-after_take : (s : Allocator) (n : ℕ) → (after_take s n).asked ≡ s.asked + n
 asked-after_take s n = elim (cases_lt (length s.pool) n) [
   | inl short ↦ rw (after_take-refused s n short)
@@ -74,75 +74,75 @@ pool-after_take s n = elim (cases_lt (length s.pool) n) [
 pub top-after_take : (s : Allocator) (n : ℕ) → IsSound s → top (after_take s n) ≡ top s
 top-after_take s n h = λ i. length (filter (is_old (made-after_take s n i)) (available-after_take s n h i))
 
--- the cursor falls by the wish
+-- the cursor falls by the request
 pub cursor-after_take : (s : Allocator) (n : ℕ) → IsSound s → cursor (after_take s n) ≡ cursor s -ℤ pos n
 cursor-after_take s n h = rw (top-after_take s n h, asked-after_take s n) (omega (arith, ints))
 
--- the allocator after each wish in turn
+-- the allocator after each request in turn
 abbrev pub after_takes : Allocator → List ℕ → Allocator
 after_takes s [] = s
-after_takes s (n ∷ wishes) = after_takes (after_take s n) wishes
+after_takes s (n ∷ requests) = after_takes (after_take s n) requests
 
 -- they keep the allocator sound
-pub after_takes-sound : (s : Allocator) (wishes : List ℕ) → IsSound s → IsSound (after_takes s wishes)
+pub after_takes-sound : (s : Allocator) (requests : List ℕ) → IsSound s → IsSound (after_takes s requests)
 after_takes-sound s [] h = h
-after_takes-sound s (n ∷ wishes) h = after_takes-sound (after_take s n) wishes (after_take-sound s n h)
+after_takes-sound s (n ∷ requests) h = after_takes-sound (after_take s n) requests (after_take-sound s n h)
 
 -- what there was to give stays
-pub available-after_takes : (s : Allocator) (wishes : List ℕ) → IsSound s → available (after_takes s wishes) ≡ available s
+pub available-after_takes : (s : Allocator) (requests : List ℕ) → IsSound s → available (after_takes s requests) ≡ available s
 available-after_takes s [] h = refl
-available-after_takes s (n ∷ wishes) h = available-after_takes (after_take s n) wishes (after_take-sound s n h) ∙ available-after_take s n h
+available-after_takes s (n ∷ requests) h = available-after_takes (after_take s n) requests (after_take-sound s n h) ∙ available-after_take s n h
 
 -- the limits stay
-pub limits-after_takes : (s : Allocator) (wishes : List ℕ) → (after_takes s wishes).limits ≡ s.limits
+pub limits-after_takes : (s : Allocator) (requests : List ℕ) → (after_takes s requests).limits ≡ s.limits
 limits-after_takes s [] = refl
-limits-after_takes s (n ∷ wishes) = limits-after_takes (after_take s n) wishes ∙ limits-after_take s n
+limits-after_takes s (n ∷ requests) = limits-after_takes (after_take s n) requests ∙ limits-after_take s n
 
 -- who is alive stays
-pub live-after_takes : (s : Allocator) (wishes : List ℕ) → (after_takes s wishes).live ≡ s.live
+pub live-after_takes : (s : Allocator) (requests : List ℕ) → (after_takes s requests).live ≡ s.live
 live-after_takes s [] = refl
-live-after_takes s (n ∷ wishes) = live-after_takes (after_take s n) wishes ∙ live-after_take s n
+live-after_takes s (n ∷ requests) = live-after_takes (after_take s n) requests ∙ live-after_take s n
 
 -- the rows stay
-pub rows-after_takes : (s : Allocator) (wishes : List ℕ) → (after_takes s wishes).rows ≡ s.rows
+pub rows-after_takes : (s : Allocator) (requests : List ℕ) → (after_takes s requests).rows ≡ s.rows
 rows-after_takes s [] = refl
-rows-after_takes s (n ∷ wishes) = rows-after_takes (after_take s n) wishes ∙ rows-after_take s n
+rows-after_takes s (n ∷ requests) = rows-after_takes (after_take s n) requests ∙ rows-after_take s n
 
 -- the made slots stay
-pub made-after_takes : (s : Allocator) (wishes : List ℕ) → (after_takes s wishes).made ≡ s.made
+pub made-after_takes : (s : Allocator) (requests : List ℕ) → (after_takes s requests).made ≡ s.made
 made-after_takes s [] = refl
-made-after_takes s (n ∷ wishes) = made-after_takes (after_take s n) wishes ∙ made-after_take s n
+made-after_takes s (n ∷ requests) = made-after_takes (after_take s n) requests ∙ made-after_take s n
 
--- all wishes are added
-pub asked-after_takes : (s : Allocator) (wishes : List ℕ) → (after_takes s wishes).asked ≡ s.asked + sum wishes
+-- all requests are added
+pub asked-after_takes : (s : Allocator) (requests : List ℕ) → (after_takes s requests).asked ≡ s.asked + sum requests
 asked-after_takes s [] = omega arith
-asked-after_takes s (n ∷ wishes) = let rest = asked-after_takes (after_take s n) wishes in omega (arith, asked-after_take s n, sum_by-cons (λ x. x) n wishes)
+asked-after_takes s (n ∷ requests) = let rest = asked-after_takes (after_take s n) requests in omega (arith, asked-after_take s n, sum_by-cons (λ x. x) n requests)
 
 -- how many old handles there were stays
-pub top-after_takes : (s : Allocator) (wishes : List ℕ) → IsSound s → top (after_takes s wishes) ≡ top s
+pub top-after_takes : (s : Allocator) (requests : List ℕ) → IsSound s → top (after_takes s requests) ≡ top s
 top-after_takes s [] h = refl
-top-after_takes s (n ∷ wishes) h = top-after_takes (after_take s n) wishes (after_take-sound s n h) ∙ top-after_take s n h
+top-after_takes s (n ∷ requests) h = top-after_takes (after_take s n) requests (after_take-sound s n h) ∙ top-after_take s n h
 
--- the cursor falls by the sum of the wishes
-pub cursor-after_takes : (s : Allocator) (wishes : List ℕ) → IsSound s → cursor (after_takes s wishes) ≡ cursor s -ℤ pos (sum wishes)
-cursor-after_takes s wishes h = rw (top-after_takes s wishes h, asked-after_takes s wishes) (omega (arith, ints))
+-- the cursor falls by the sum of the requests
+pub cursor-after_takes : (s : Allocator) (requests : List ℕ) → IsSound s → cursor (after_takes s requests) ≡ cursor s -ℤ pos (sum requests)
+cursor-after_takes s requests h = rw (top-after_takes s requests h, asked-after_takes s requests) (omega (arith, ints))
 
 -- the law of the pool
-pub pool-after_takes : (s : Allocator) (wishes : List ℕ) → (after_takes s wishes).pool ≡ drop (sum wishes) s.pool
+pub pool-after_takes : (s : Allocator) (requests : List ℕ) → (after_takes s requests).pool ≡ drop (sum requests) s.pool
 pool-after_takes s [] = refl
-pool-after_takes s (n ∷ wishes) =
-    let all : n + sum wishes ≡ sum (n ∷ wishes) = omega (arith, sum_by-cons (λ x. x) n wishes) in
-    pool-after_takes (after_take s n) wishes ∙ ap (drop (sum wishes)) (pool-after_take s n) ∙ drop-drop (sum wishes) n s.pool ∙ ap (λ k. drop k s.pool) all
+pool-after_takes s (n ∷ requests) =
+    let all : n + sum requests ≡ sum (n ∷ requests) = omega (arith, sum_by-cons (λ x. x) n requests) in
+    pool-after_takes (after_take s n) requests ∙ ap (drop (sum requests)) (pool-after_take s n) ∙ drop-drop (sum requests) n s.pool ∙ ap (λ k. drop k s.pool) all
 
--- what was left of the pool at a cursor can be told after any wishes that follow
-pub pool_at-later : (s : Allocator) (wishes : List ℕ) → IsSound s → pool_at (after_takes s wishes) (cursor s) ≡ s.pool
-pool_at-later s wishes h = rw (top-after_takes s wishes h, available-after_takes s wishes h) (pool_at-cursor s h)
+-- what was left of the pool at a cursor can be told after any requests that follow
+pub pool_at-later : (s : Allocator) (requests : List ℕ) → IsSound s → pool_at (after_takes s requests) (cursor s) ≡ s.pool
+pool_at-later s requests h = rw (top-after_takes s requests h, available-after_takes s requests h) (pool_at-cursor s h)
 
 -- and so the reply
-pub reply-later : (s : Allocator) (wishes : List ℕ) (n : ℕ) → IsSound s → reply_from (after_takes s wishes).made (pool_at (after_takes s wishes) (cursor s)) n ≡ reply_to s n
-reply-later s wishes n h = λ i. reply_from (made-after_takes s wishes i) (pool_at-later s wishes h i) n
+pub reply-later : (s : Allocator) (requests : List ℕ) (n : ℕ) → IsSound s → reply_from (after_takes s requests).made (pool_at (after_takes s requests) (cursor s)) n ≡ reply_to s n
+reply-later s requests n h = λ i. reply_from (made-after_takes s requests i) (pool_at-later s requests h i) n
 
--- a wish for nothing changes nothing
+-- a request for nothing changes nothing
 pub after_take-none : (s : Allocator) → after_take s 0 ≡ s
 after_take-none s = after_take-served s 0 (omega arith) ∙ (λ i. record s { taken = append-nil s.taken i; asked = all i })
   where

@@ -26,11 +26,11 @@ listed-IsPermutation made given =
     (IsPermutation-filter_both (is_old made) (is_fresh made) (fresh_is_not_old made) given)
     (IsPermutation-append old (reverse old) new new (IsPermutation-reverse old) (IsPermutation-refl new))
 
--- a wish for no more than the pool has
+-- a request for no more than the pool has
 pub reply-served : (s : Allocator) (n : ℕ) → n ≤ length s.pool → reply_to s n ≡ Ok (listed s.made (take n s.pool))
 reply-served s n enough = let test : nat_le n (length s.pool) ≡ true = le-leb _ _ enough in rw test
 
--- a wish for more than the pool has
+-- a request for more than the pool has
 pub reply-refused : (s : Allocator) (n : ℕ) → length s.pool < n → reply_to s n ≡ Err (record { wanted = n; left = length s.pool })
 reply-refused s n short = let test : nat_le n (length s.pool) ≡ false = lt-leb _ _ short in rw test
 
@@ -102,7 +102,7 @@ module _ (s : Allocator) (n : ℕ) (given : List Handle) (is : reply_to s n ≡ 
   pub reply-distinct : IsSound s → AllPairs (λ g h. g ≢ h) given
   reply-distinct h = distinct_from_apart given (reply-apart h)
 
-  -- none is of a slot whose tenant is alive
+  -- none is of a slot whose occupant is alive
   pub reply-apart_from_live : IsSound s → (x : Handle) → IsLive s x → All (AreApart x) given
   reply-apart_from_live h x alive = of_reply (AreApart x) (of_pool (AreApart x) s (h.live x alive).apart)
 
@@ -114,7 +114,7 @@ module _ (s : Allocator) (n : ℕ) (given : List Handle) (is : reply_to s n ≡ 
   pub reply-apart_from_taken : IsSound s → (x : Handle) → Contains s.taken x → All (AreApart x) given
   reply-apart_from_taken h x in_taken = of_reply (AreApart x) (taken_apart s x h in_taken)
 
--- a refused wish takes nothing
+-- a refused request takes nothing
 pub taken-after_refused : (s : Allocator) (n : ℕ) (space : Space) → reply_to s n ≡ Err space → (after_take s n).taken ≡ s.taken
 taken-after_refused s n space is = ap (λ t. t.taken) (after_take-refused s n (refused_from s n space is).0)
 
@@ -125,12 +125,12 @@ taken-keeps s n x in_taken = elim (cases_lt (length s.pool) n) [
   | inr enough ↦ rw (after_take-served s n enough) (Contains-append_left s.taken (take n s.pool) x in_taken)
 ]
 
--- through all wishes
-pub taken-keeps_all : (s : Allocator) (wishes : List ℕ) (x : Handle) → Contains s.taken x → Contains (after_takes s wishes).taken x
+-- through all requests
+pub taken-keeps_all : (s : Allocator) (requests : List ℕ) (x : Handle) → Contains s.taken x → Contains (after_takes s requests).taken x
 taken-keeps_all s [] x in_taken = in_taken
-taken-keeps_all s (n ∷ wishes) x in_taken = taken-keeps_all (after_take s n) wishes x (taken-keeps s n x in_taken)
+taken-keeps_all s (n ∷ requests) x in_taken = taken-keeps_all (after_take s n) requests x (taken-keeps s n x in_taken)
 
--- two replies list no two handles of one slot, whatever was wished for between them
+-- two replies list no two handles of one slot, whatever was requested between them
 pub replies_apart : (s : Allocator) (n : ℕ) (given : List Handle) (between : List ℕ) (m : ℕ) (later : List Handle) → IsSound s → reply_to s n ≡ Ok given
     → reply_to (after_takes (after_take s n) between) m ≡ Ok later → All (λ g. All (AreApart g) later) given
 replies_apart s n given between m later h first second k d lt =

@@ -26,7 +26,7 @@ data Line : Type 0 where
   allocates : Handle → Line
   frees : (freed : Handle) (next : Handle) (wrapped : Bool) → Line
   not_alive : Handle → Line
-  takes : (wish : ℕ) (cursor : ℤ) (reply : Result (List Handle) Space) → Line
+  takes : (requested : ℕ) (cursor : ℤ) (reply : Result (List Handle) Space) → Line
   flushes : (born : List Handle) → Line
 
 -- the steps from this state answer so
@@ -35,7 +35,7 @@ Goes s [] = Unit {0}
 Goes s (allocates h ∷ lines) = (s.asked ≡ 0) × (take 1 s.pool ≡ h ∷ []) × Goes (after_alloc s h) lines
 Goes s (frees h to wrapped ∷ lines) = (s.asked ≡ 0) × IsLive s h × (next s.limits h ≡ to) × ((h.generation == s.limits.generations) ≡ wrapped) × Goes (after_free s h) lines
 Goes s (not_alive h ∷ lines) = (s.asked ≡ 0) × (set.contains s.live h ≡ false) × Goes s lines
-Goes s (takes wish low reply ∷ lines) = (cursor (after_take s wish) ≡ low) × (reply_to s wish ≡ reply) × Goes (after_take s wish) lines
+Goes s (takes requested low reply ∷ lines) = (cursor (after_take s requested) ≡ low) × (reply_to s requested ≡ reply) × Goes (after_take s requested) lines
 Goes s (flushes list ∷ lines) = (born s ≡ list) × Goes (after_flush s) lines
 
 -- who lives after inserts and removes
@@ -52,14 +52,14 @@ bulk_over_both : Goes (start 5 9) (
 unfolding fresh
 bulk_over_both = (refl, refl, (refl, refl, (refl, inserted_keeps _ _ _ (inserted _ _), refl, refl, (refl, refl, (refl, tt)))))
 
--- a bulk lists old handles in the other order than single wishes do
+-- a bulk lists old handles in the other order than single requests do
 bulk_of_four : Goes (start 5 9) (
     allocates (0 v 1) ∷ allocates (1 v 1) ∷ allocates (2 v 1) ∷ frees (2 v 1) (2 v 2) false ∷ frees (0 v 1) (0 v 2) false
     ∷ takes 4 (minus 2) (Ok (2 v 2 ∷ 0 v 2 ∷ 3 v 1 ∷ 4 v 1 ∷ [])) ∷ flushes (3 v 1 ∷ 4 v 1 ∷ 2 v 2 ∷ 0 v 2 ∷ []) ∷ [])
 unfolding fresh
 bulk_of_four = (refl, refl, (refl, refl, (refl, refl, (refl, inserted _ _, refl, refl, (refl, simp living, refl, refl, (refl, refl, (refl, tt)))))))
 
--- four wishes for one in its place
+-- four requests one in its position
 four_singles : Goes (start 5 9) (
     allocates (0 v 1) ∷ allocates (1 v 1) ∷ allocates (2 v 1) ∷ frees (2 v 1) (2 v 2) false ∷ frees (0 v 1) (0 v 2) false
     ∷ takes 1 (pos 1) (Ok (0 v 2 ∷ [])) ∷ takes 1 (pos 0) (Ok (2 v 2 ∷ [])) ∷ takes 1 (minus 1) (Ok (3 v 1 ∷ [])) ∷ takes 1 (minus 2) (Ok (4 v 1 ∷ []))
@@ -67,26 +67,26 @@ four_singles : Goes (start 5 9) (
 unfolding fresh
 four_singles = (refl, refl, (refl, refl, (refl, refl, (refl, inserted _ _, refl, refl, (refl, simp living, refl, refl, (refl, refl, (refl, refl, (refl, refl, (refl, refl, (refl, tt))))))))))
 
--- two wishes: the second is for what the first has left
+-- two requests: the second is for what the first has left
 one_after_two : Goes (start 5 9) (
     allocates (0 v 1) ∷ frees (0 v 1) (0 v 2) false ∷ takes 2 (minus 1) (Ok (0 v 2 ∷ 1 v 1 ∷ [])) ∷ takes 1 (minus 2) (Ok (2 v 1 ∷ []))
     ∷ flushes (1 v 1 ∷ 2 v 1 ∷ 0 v 2 ∷ []) ∷ [])
 unfolding fresh
 one_after_two = (refl, refl, (refl, inserted _ _, refl, refl, (refl, refl, (refl, refl, (refl, tt)))))
 
--- a wish for nothing
-wish_for_nothing : Goes (start 5 9) (takes 0 (pos 0) (Ok []) ∷ flushes [] ∷ [])
+-- a request for nothing
+request_for_nothing : Goes (start 5 9) (takes 0 (pos 0) (Ok []) ∷ flushes [] ∷ [])
 unfolding fresh
-wish_for_nothing = (refl, refl, (refl, tt))
+request_for_nothing = (refl, refl, (refl, tt))
 
--- a refused wish shuts the pool until the flush
+-- a refused request shuts the pool until the flush
 pool_shut : Goes (start 3 9) (
     takes 2 (minus 2) (Ok (0 v 1 ∷ 1 v 1 ∷ [])) ∷ takes 2 (minus 4) (space 2 1) ∷ takes 1 (minus 5) (space 1 0)
     ∷ flushes (0 v 1 ∷ 1 v 1 ∷ []) ∷ takes 1 (minus 1) (Ok (2 v 1 ∷ [])) ∷ [])
 unfolding fresh
 pool_shut = (refl, refl, (refl, refl, (refl, refl, (refl, (refl, refl, tt)))))
 
--- only the tenant of a slot is alive
+-- only the occupant of a slot is alive
 gone : Goes (start 5 9) (allocates (0 v 1) ∷ frees (0 v 1) (0 v 2) false ∷ not_alive (0 v 1) ∷ not_alive (0 v 2) ∷ not_alive (9 v 1) ∷ [])
 unfolding fresh
 gone = (refl, refl, (refl, inserted _ _, refl, refl, (refl, simp living, (refl, simp living, (refl, simp living, tt)))))
@@ -97,7 +97,7 @@ wrapped : Goes (start 5 2) (
 unfolding fresh
 wrapped = (refl, refl, (refl, inserted _ _, refl, refl, (refl, refl, (refl, inserted _ _, refl, refl, (refl, refl, tt)))))
 
--- wishes as great as they may be
-greatest_wishes : Goes (start 1 9) (takes 4294967295 (minus 4294967295) (space 4294967295 1) ∷ takes 4294967295 (minus 8589934590) (space 4294967295 0) ∷ flushes [] ∷ [])
+-- requests as great as they may be
+greatest_requests : Goes (start 1 9) (takes 4294967295 (minus 4294967295) (space 4294967295 1) ∷ takes 4294967295 (minus 8589934590) (space 4294967295 0) ∷ flushes [] ∷ [])
 unfolding fresh
-greatest_wishes = (refl, refl, (refl, refl, (refl, tt)))
+greatest_requests = (refl, refl, (refl, refl, (refl, tt)))

@@ -1,4 +1,4 @@
--- Two numbers tell what wishes leave of a flushed allocator: how many handles were given, and how many were asked for.
+-- Two numbers tell what requests leave of a flushed allocator: how many handles were given, and how many were asked for.
 use Rattle.std.proofs.Common.{◌≡◌, sym, ap, ◌∙◌, ℕ, ◌+◌, ◌-◌, ◌<◌, ◌≤◌, List, [], ◌++◌, length, take, drop, sum, Err, arith, nat_le, false, append_assoc, append-nil, inl, inr}
 use Rattle.std.proofs.lemmas.Bool.{lt-leb, cases_lt}
 use Rattle.std.proofs.lemmas.List.{take-append-drop, take-take, take_all, drop_all, length-take, length-drop}
@@ -10,7 +10,7 @@ use Rattle.ent_alloc.proofs.LaidOut.{flushed-laid_out}
 use Rattle.ent_alloc.proofs.Taken.{length-available, length-pool, after_take-refused, after_take-served}
 use Rattle.ent_alloc.proofs.PoolLaw.{limits-after_takes, live-after_takes, rows-after_takes, after_takes, after_takes-sound, available-after_takes, made-after_takes, asked-after_takes, pool-after_takes, taken_is, aside_is, length-taken}
 use Rattle.ent_alloc.proofs.Soundness.{IsSound-moved}
-use Rattle.ent_alloc.proofs.Wishes.{given_by, taken-since_flush}
+use Rattle.ent_alloc.proofs.Requests.{given_by, taken-since_flush}
 
 -- the front of a list, the rest of what was asked for, and what is left
 three_parts : (given asked : ℕ) (pool : List Handle) → given ≤ asked → take given pool ++ (drop given (take asked pool) ++ drop asked pool) ≡ pool
@@ -34,7 +34,7 @@ module _ (s : Allocator) (h : IsSound s) (flushed : s.asked ≡ 0) where
   all_in_pool : available s ≡ s.pool
   all_in_pool = rw (nothing_taken, nothing_aside)
 
-  -- any two numbers that wishes may leave
+  -- any two numbers that requests may leave
   pub settled-sound : (given asked : ℕ) → given ≤ asked → (asked ≤ length s.pool → given ≡ asked) → IsSound (settled s given asked)
   settled-sound given asked le enough =
       IsSound-moved s (s.taken ++ take given s.pool) (s.aside ++ drop given (take asked s.pool)) (drop asked s.pool) (s.asked + asked) h
@@ -48,9 +48,9 @@ module _ (s : Allocator) (h : IsSound s) (flushed : s.asked ≡ 0) where
   pub length-all : length s.pool ≡ top s + (s.limits.slots - s.made)
   length-all = ap length (sym all_in_pool) ∙ length-available s h
 
-  -- two wishes leave such a state: one that is served, and one that is refused where more was asked for
-  pub settled-wishes : (given asked : ℕ) → given ≤ asked → given ≤ length s.pool → (asked ≤ length s.pool → given ≡ asked) → settled s given asked ≡ after_take (after_take s given) (asked - given)
-  settled-wishes given asked le enough whole =
+  -- two requests leave such a state: one that is served, and one that is refused where more was asked for
+  pub settled-requests : (given asked : ℕ) → given ≤ asked → given ≤ length s.pool → (asked ≤ length s.pool → given ≡ asked) → settled s given asked ≡ after_take (after_take s given) (asked - given)
+  settled-requests given asked le enough whole =
       let t : Allocator = record s { taken = s.taken ++ take given s.pool; pool = drop given s.pool; asked = s.asked + given } in
       let first : after_take s given ≡ t = after_take-served s given enough in
       let left = length-drop given s.pool in
@@ -77,39 +77,39 @@ module _ (s : Allocator) (h : IsSound s) (flushed : s.asked ≡ 0) where
       ] in
       second ∙ ap (λ (a : Allocator). after_take a (asked - given)) (sym first)
 
-  -- wishes leave such a state
-  pub after_takes-settled : (wishes : List ℕ) → after_takes s wishes ≡ settled s (length (given_by s wishes)) (sum wishes)
-  after_takes-settled wishes =
-      let t = after_takes s wishes in
-      let sound = after_takes-sound s wishes h in
-      let pool : available t ≡ s.pool = available-after_takes s wishes h ∙ all_in_pool in
-      let long : length t.taken ≡ length (given_by s wishes) = length_permutation (given_by s wishes) t.taken (taken-since_flush s wishes h flushed) in
-      let asked : t.asked ≡ sum wishes = asked-after_takes s wishes ∙ ap (◌+ sum wishes) flushed ∙ omega arith in
-      let taken : t.taken ≡ s.taken ++ take (length (given_by s wishes)) s.pool =
-      taken_is t ∙ (λ i. take (long i) (pool i)) ∙ sym (ap (◌++ take (length (given_by s wishes)) s.pool) nothing_taken) in
-      let aside : t.aside ≡ s.aside ++ drop (length (given_by s wishes)) (take (sum wishes) s.pool) =
-      aside_is t sound ∙ (λ i. drop (long i) (take (asked i) (pool i))) ∙ sym (ap (◌++ drop (length (given_by s wishes)) (take (sum wishes) s.pool)) nothing_aside) in
+  -- requests leave such a state
+  pub after_takes-settled : (requests : List ℕ) → after_takes s requests ≡ settled s (length (given_by s requests)) (sum requests)
+  after_takes-settled requests =
+      let t = after_takes s requests in
+      let sound = after_takes-sound s requests h in
+      let pool : available t ≡ s.pool = available-after_takes s requests h ∙ all_in_pool in
+      let long : length t.taken ≡ length (given_by s requests) = length_permutation (given_by s requests) t.taken (taken-since_flush s requests h flushed) in
+      let asked : t.asked ≡ sum requests = asked-after_takes s requests ∙ ap (◌+ sum requests) flushed ∙ omega arith in
+      let taken : t.taken ≡ s.taken ++ take (length (given_by s requests)) s.pool =
+      taken_is t ∙ (λ i. take (long i) (pool i)) ∙ sym (ap (◌++ take (length (given_by s requests)) s.pool) nothing_taken) in
+      let aside : t.aside ≡ s.aside ++ drop (length (given_by s requests)) (take (sum requests) s.pool) =
+      aside_is t sound ∙ (λ i. drop (long i) (take (asked i) (pool i))) ∙ sym (ap (◌++ drop (length (given_by s requests)) (take (sum requests) s.pool)) nothing_aside) in
       λ i. record {
-        limits = limits-after_takes s wishes i;
-        live = live-after_takes s wishes i;
-        rows = rows-after_takes s wishes i;
-        pool = pool-after_takes s wishes i;
+        limits = limits-after_takes s requests i;
+        live = live-after_takes s requests i;
+        rows = rows-after_takes s requests i;
+        pool = pool-after_takes s requests i;
         taken = taken i;
         aside = aside i;
-        made = made-after_takes s wishes i;
-        asked = asked-after_takes s wishes i;
+        made = made-after_takes s requests i;
+        asked = asked-after_takes s requests i;
       }
 
 -- as long as something is left, all that was asked for was given
-pub all_given : (s : Allocator) (wishes : List ℕ) → IsSound s → s.asked ≡ 0 → 0 < length (after_takes s wishes).pool → length (given_by s wishes) ≡ sum wishes
-all_given s wishes h flushed some =
-    let t = after_takes s wishes in
-    let sound = after_takes-sound s wishes h in
-    let asked : t.asked ≡ s.asked + sum wishes = asked-after_takes s wishes in
-    let long : length t.taken ≡ length (given_by s wishes) = length_permutation (given_by s wishes) t.taken (taken-since_flush s wishes h flushed) in
+pub all_given : (s : Allocator) (requests : List ℕ) → IsSound s → s.asked ≡ 0 → 0 < length (after_takes s requests).pool → length (given_by s requests) ≡ sum requests
+all_given s requests h flushed some =
+    let t = after_takes s requests in
+    let sound = after_takes-sound s requests h in
+    let asked : t.asked ≡ s.asked + sum requests = asked-after_takes s requests in
+    let long : length t.taken ≡ length (given_by s requests) = length_permutation (given_by s requests) t.taken (taken-since_flush s requests h flushed) in
     let within : t.asked ≤ length (available t) = omega (arith, length-pool t sound) in
     omega (arith, length-taken t sound within)
 
--- after a refusal every wish for something is refused, with nothing left
+-- after a refusal every request for something is refused, with nothing left
 pub shut : (s : Allocator) (n m : ℕ) → length s.pool < n → 0 < m → reply_to (after_take s n) m ≡ Err (record { wanted = m; left = 0 })
 shut s n m short some = let test : nat_le m 0 ≡ false = lt-leb m 0 some in rw (after_take-refused s n short, test)

@@ -12,7 +12,7 @@ use Rattle.ent_alloc.specs.Sequential.{Allocator, opening, available, after_take
 use Rattle.ent_alloc.specs.Sound.{IsSound, IsWithin, AreApart, IsLive}
 use Rattle.ent_alloc.proofs.ListLaws.{AllPairs-left, AllPairs-across, All-left, AllPairs-drop, AllPairs-head, AllPairs-tail}
 use Rattle.ent_alloc.proofs.FreshHandles.{fresh-next, fresh-none, first_of_slot}
-use Rattle.ent_alloc.proofs.HandleSets.{inserted_keeps, in_removed, removed_keeps, in_removed_keys, union_list_keeps, one_tenant_inserted, one_tenant_joined, of_inserted, of_joined}
+use Rattle.ent_alloc.proofs.HandleSets.{inserted_keeps, in_removed, removed_keeps, in_removed_keys, union_list_keeps, one_occupant_inserted, one_occupant_joined, of_inserted, of_joined}
 use Rattle.ent_alloc.proofs.LaidOut.{old_ones, old_ones_below, IsLaidOut, laid_out-sound, flushed-laid_out, apart_by_made}
 use Rattle.ent_alloc.proofs.Taken.{aside_or_pool, length-pool, take_moves, after_take-served, after_take-refused, enough, left-parts, taken_below, made-after_flush}
 
@@ -34,11 +34,11 @@ opening-sound limits ok =
       live_within = λ h alive. absurd (no_one h alive);
       live_below = λ h alive. absurd (no_one h alive);
       live_apart = λ h alive. absurd (no_one h alive);
-      one_tenant = λ g h alive _ _. absurd (no_one g alive);
+      one_occupant = λ g h alive _ _. absurd (no_one g alive);
       rows = λ h kept. absurd (true≢false (sym kept ∙ ap is_some (map.get-empty handle_cmp h)));
     }
 
--- other lists of the same handles, as far as the wishes have reached
+-- other lists of the same handles, as far as the requests have reached
 pub IsSound-moved : (s : Allocator) (taken aside pool : List Handle) (asked : ℕ) → IsSound s → taken ++ (aside ++ pool) ≡ available s → pool ≡ drop asked (available s)
     → (asked ≤ length (available s) → aside ≡ []) → IsSound (record s { taken = taken; aside = aside; pool = pool; asked = asked })
 IsSound-moved s taken aside pool asked h same rest enough = record {
@@ -50,11 +50,11 @@ IsSound-moved s taken aside pool asked h same rest enough = record {
   pool = rw same rest;
   aside = λ le. enough (rw same at le);
   live = λ x alive. let was = h.live x alive in record { within = was.within; made = was.made; apart = rw same was.apart };
-  one_tenant = h.one_tenant;
+  one_occupant = h.one_occupant;
   rows = h.rows;
 }
 
--- a wish, served or refused
+-- a request, served or refused
 pub after_take-sound : (s : Allocator) (n : ℕ) → IsSound s → IsSound (after_take s n)
 after_take-sound s n h = elim (cases_lt (length s.pool) n) [
   | inl short ↦
@@ -113,8 +113,8 @@ after_free-sound s x h flushed alive =
       live_below = λ y kept. was.live_below y (in_removed s.live x y kept).1;
       live_apart = λ y kept.
           let other = in_removed s.live x y kept in
-          All-cons (AreApart y) (next s.limits x) (old_ones s) (λ same. other.0 (was.one_tenant y x other.1 alive same)) (was.live_apart y other.1);
-      one_tenant = λ g y kept_g kept_y same. was.one_tenant g y (in_removed s.live x g kept_g).1 (in_removed s.live x y kept_y).1 same;
+          All-cons (AreApart y) (next s.limits x) (old_ones s) (λ same. other.0 (was.one_occupant y x other.1 alive same)) (was.live_apart y other.1);
+      one_occupant = λ g y kept_g kept_y same. was.one_occupant g y (in_removed s.live x g kept_g).1 (in_removed s.live x y kept_y).1 same;
       rows = λ y kept. let other = in_removed_keys s.rows x y kept in removed_keeps s.live x y other.0 (was.rows y other.1);
     }
 
@@ -141,11 +141,11 @@ alloc_of_old s x old was = record {
   live_within = of_inserted (IsWithin s.limits) s.live x (All-head (IsWithin s.limits) x old was.within) was.live_within;
   live_below = of_inserted (λ h. h.index < s.made) s.live x (All-head (λ h. h.index < s.made) x old was.below) was.live_below;
   live_apart = of_inserted (λ h. All (AreApart h) old) s.live x (AllPairs-head AreApart x old was.apart) (λ y alive. All-tail (AreApart y) x old (was.live_apart y alive));
-  one_tenant = one_tenant_inserted s.live x (λ y alive. All-head (AreApart y) x old (was.live_apart y alive)) was.one_tenant;
+  one_occupant = one_occupant_inserted s.live x (λ y alive. All-head (AreApart y) x old (was.live_apart y alive)) was.one_occupant;
   rows = λ y kept. inserted_keeps s.live x y (was.rows y kept);
 }
 
--- where no old handle waits, the first tenant of a new slot does
+-- where no old handle waits, the first occupant of a new slot does
 alloc_of_fresh : (s : Allocator) (more : ℕ) → IsLaidOut s [] → s.limits.slots - s.made ≡ suc more → IsLaidOut (record s { live = set.insert s.live (first_of_slot s.made); pool = drop 1 s.pool; made = s.made + 1 }) []
 alloc_of_fresh s more was some =
     let x = first_of_slot s.made in
@@ -163,7 +163,7 @@ alloc_of_fresh s more was some =
       live_within = of_inserted (IsWithin s.limits) s.live x (record { index = omega arith; least = omega arith; greatest = was.limits.some_generation }) was.live_within;
       live_below = of_inserted (λ h. h.index < s.made + 1) s.live x (omega arith) (λ y alive. let below = was.live_below y alive in omega arith);
       live_apart = λ y alive. All-nil (AreApart y);
-      one_tenant = one_tenant_inserted s.live x (λ y alive. apart_by_made s.made y x (was.live_below y alive) (omega arith)) was.one_tenant;
+      one_occupant = one_occupant_inserted s.live x (λ y alive. apart_by_made s.made y x (was.live_below y alive) (omega arith)) was.one_occupant;
       rows = λ y kept. inserted_keeps s.live x y (was.rows y kept);
     }
 
@@ -209,10 +209,10 @@ flush-laid_out s h =
       live_apart = of_joined (λ h. All (AreApart h) old) s.live s.taken
           (λ x alive. All-drop (AreApart x) k (old_ones s) (All-filter (is_old s.made) (AreApart x) (available s) (h.live x alive).apart))
           (λ i d lt. All-left (AreApart (get_or s.taken i d)) old _ (subst (All (AreApart (get_or s.taken i d))) (left-parts s h) (AllPairs-across AreApart s.taken (s.aside ++ s.pool) h.apart i d lt)));
-      one_tenant = one_tenant_joined s.live s.taken
+      one_occupant = one_occupant_joined s.live s.taken
           (λ x alive. All-left (AreApart x) s.taken (s.aside ++ s.pool) (h.live x alive).apart)
           (AllPairs-left AreApart s.taken (s.aside ++ s.pool) h.apart)
-          h.one_tenant;
+          h.one_occupant;
       rows = λ x kept. union_list_keeps s.live s.taken x (h.rows x kept);
     }
 

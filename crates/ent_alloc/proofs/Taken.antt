@@ -1,4 +1,4 @@
--- What a wish does to the lists of a sound allocator, and what is taken by all wishes.
+-- What a request does to the lists of a sound allocator, and what is taken by all requests.
 use Rattle.std.proofs.Common.{◌≡◌, sym, ap, ◌∙◌, subst, ℕ, ◌+◌, ◌-◌, ◌<◌, ◌≤◌, true, false, nat_le, List, [], ◌++◌, length, take, drop, filter, All, arith, append_assoc, append-nil, le-leb, ◌⊎◌, inl, inr}
 use Rattle.std.proofs.lemmas.Bool.{cases_lt, lt-leb}
 use Rattle.std.proofs.Math.Seq.{take-append_seam, drop-append_seam}
@@ -22,16 +22,16 @@ aside_or_pool s h = elim (cases_lt (length (available s)) s.asked) [
 pub length-pool : (s : Allocator) → IsSound s → length s.pool ≡ length (available s) - s.asked
 length-pool s h = ap length h.pool ∙ length-drop s.asked (available s)
 
--- a wish takes nothing out of what may be given, and changes no order
+-- a request takes nothing out of what may be given, and changes no order
 pub take_moves : (taken aside pool : List Handle) (n : ℕ) → (aside ≡ []) ⊎ (pool ≡ []) → (taken ++ take n pool) ++ (aside ++ drop n pool) ≡ taken ++ (aside ++ pool)
 take_moves taken aside pool n (inl none) = rw none (append_assoc taken (take n pool) (drop n pool) ∙ ap (taken ++◌) (take-append-drop n pool))
 take_moves taken aside pool n (inr none) = rw (none, take-nil n, drop-nil n, append-nil taken)
 
--- a wish for no more than the pool has
+-- a request for no more than the pool has
 pub after_take-served : (s : Allocator) (n : ℕ) → n ≤ length s.pool → after_take s n ≡ record s { taken = s.taken ++ take n s.pool; pool = drop n s.pool; asked = s.asked + n }
 after_take-served s n enough = let test : nat_le n (length s.pool) ≡ true = le-leb _ _ enough in rw test
 
--- a wish for more than the pool has
+-- a request for more than the pool has
 pub after_take-refused : (s : Allocator) (n : ℕ) → length s.pool < n → after_take s n ≡ record s { aside = s.aside ++ s.pool; pool = []; asked = s.asked + n }
 after_take-refused s n short = let test : nat_le n (length s.pool) ≡ false = lt-leb _ _ short in rw test
 

@@ -12,6 +12,6 @@ pub record IsSpent (s : Allocator) (h : Handle) : Type 0 where
   pub live : (g : Handle) → IsLive s g → g.index ≡ h.index → h.generation ≤ g.generation
 
 -- None of these handles was given twice, and none will be given again.
-pub record AreGivenOnce (s : Allocator) (given : List Handle) : Type 0 where
+pub record AreSpent (s : Allocator) (given : List Handle) : Type 0 where
   pub distinct : AllPairs (λ g h. g ≢ h) given
   pub spent : All (IsSpent s) given

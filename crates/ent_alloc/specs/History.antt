@@ -7,18 +7,18 @@ use Rattle.ent_alloc.specs.Sequential.{Allocator, after_take, reply_to}
 -- one reservation: who asked, for how many handles, and what was answered
 pub record Call : Type 0 where
   pub caller : ℕ
-  pub wish : ℕ
+  pub requested : ℕ
   pub reply : Result (List Handle) Space
 
 -- Each call in turn asks for something, and is answered what the allocator says at its point.
 abbrev pub IsLegal : Allocator → List Call → Type 0
 IsLegal s [] = Unit {0}
-IsLegal s (call ∷ calls) = (0 < call.wish) × (call.reply ≡ reply_to s call.wish) × IsLegal (after_take s call.wish) calls
+IsLegal s (call ∷ calls) = (0 < call.requested) × (call.reply ≡ reply_to s call.requested) × IsLegal (after_take s call.requested) calls
 
 -- the allocator after all calls
 abbrev pub after_history : Allocator → List Call → Allocator
 after_history s [] = s
-after_history s (call ∷ calls) = after_history (after_take s call.wish) calls
+after_history s (call ∷ calls) = after_history (after_take s call.requested) calls
 
 -- the handles of a reply
 abbrev pub handles_in : Result (List Handle) Space → List Handle
@@ -31,5 +31,5 @@ given_in [] = []
 given_in (call ∷ calls) = handles_in call.reply ++ given_in calls
 
 -- how much was asked for in all
-abbrev pub wishes_of : List Call → List ℕ
-wishes_of calls = map (λ (call : Call). call.wish) calls
+abbrev pub requests_of : List Call → List ℕ
+requests_of calls = map (λ (call : Call). call.requested) calls

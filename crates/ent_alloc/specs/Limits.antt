@@ -14,6 +14,10 @@ pub record AreLimits (l : Limits) : Type 0 where
   pub some_generation : 1 ≤ l.generations
   pub generations : l.generations < 2 ^ 31
 
+-- how many handles one caller may request between two flushes
+unfoldable pub credit : ℕ
+credit = 2 ^ 40
+
 -- limits are stored as the pair of their numbers
 abbrev pub limits_code : Coded Limits
 limits_code =

@@ -13,8 +13,8 @@ use Rattle.ent_alloc.specs.declared.state.State.{State}
 use Rattle.ent_alloc.specs.declared.state.State.TheVariants.{Alive, Reserved, Gone}
 
 -- Where a handle stands: alive, or in a list of those that may be given. The pool is given from its front;
--- taken is what was given and is not yet alive; aside is what a refused wish has passed over. made counts the
--- slots that have ever had a tenant, asked all that was wished for since the last flush. rows is what a caller
+-- taken is what was given and is not yet alive; aside is what a refused request has passed over. made counts the
+-- slots that have ever had a occupant, asked all that was requested since the last flush. rows is what a caller
 -- keeps with a living handle.
 pub record Allocator : Type 0 where
   pub limits : Limits
@@ -26,7 +26,7 @@ pub record Allocator : Type 0 where
   pub made : ℕ
   pub asked : ℕ
 
--- the first tenants of so many slots, from an index on
+-- the first occupants of so many slots, from an index on
 unfoldable pub fresh : ℕ → ℕ → List Handle
 fresh index zero = []
 fresh index (suc slots) = record { index = index; generation = 1 } ∷ fresh (index + 1) slots
@@ -44,7 +44,7 @@ opening limits = record {
   asked = 0;
 }
 
--- its slot has had a tenant; it hasn't
+-- its slot has had a occupant; it hasn't
 abbrev pub is_old : ℕ → Handle → Bool
 is_old made h = nat_lt h.index made
 
@@ -63,7 +63,7 @@ top s = length (filter (is_old s.made) (available s))
 abbrev pub cursor : Allocator → ℤ
 cursor s = pos (top s) -ℤ pos s.asked
 
--- A wish takes the front of the pool where there is enough; else the whole pool is passed over.
+-- A request takes the front of the pool where there is enough; else the whole pool is passed over.
 abbrev pub after_take : Allocator → ℕ → Allocator
 after_take s n =
     if nat_le n (length s.pool)
@@ -74,7 +74,7 @@ after_take s n =
 abbrev pub listed : ℕ → List Handle → List Handle
 listed made given = reverse (filter (is_old made) given) ++ filter (is_fresh made) given
 
--- the reply to a wish for n where this is the pool
+-- the reply to a request for n where this is the pool
 abbrev pub reply_from : ℕ → List Handle → ℕ → Result (List Handle) Space
 reply_from made pool n =
     if nat_le n (length pool) then Ok (listed made (take n pool)) else Err (record { wanted = n; left = length pool })
@@ -121,7 +121,7 @@ after_free s h = record s {
 abbrev pub after_set_row : Allocator → Handle → ℕ → Allocator
 after_set_row s h row = record s { rows = map.insert s.rows h row }
 
--- the allocator after wishes for so many handles in all, of which the first given were served
+-- the allocator after requests so many handles in all, of which the first given were served
 abbrev pub settled : Allocator → ℕ → ℕ → Allocator
 settled s given asked = record s {
   taken = s.taken ++ take given s.pool;

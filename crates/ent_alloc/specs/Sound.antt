@@ -22,7 +22,7 @@ abbrev pub IsLive : Allocator → Handle → Type 0
 IsLive s h = IsTrue (set.contains s.live h)
 
 -- A handle that may be alive: its slot was made, and nothing that may be given is of this slot.
-pub record IsTenant (s : Allocator) (h : Handle) : Type 0 where
+pub record IsOccupant (s : Allocator) (h : Handle) : Type 0 where
   pub within : IsWithin s.limits h
   pub made : h.index < s.made
   pub apart : All (AreApart h) (available s)
@@ -30,16 +30,16 @@ pub record IsTenant (s : Allocator) (h : Handle) : Type 0 where
 pub record IsSound (s : Allocator) : Type 0 where
   pub limits : AreLimits s.limits
   pub made : s.made ≤ s.limits.slots
-  -- the old handles stand first, then the first tenants of all slots that were never made
+  -- the old handles stand first, then the first occupants of all slots that were never made
   pub order : available s ≡ filter (is_old s.made) (available s) ++ fresh s.made (s.limits.slots - s.made)
   pub within : All (IsWithin s.limits) (available s)
   -- no slot stands twice in what may be given
   pub apart : AllPairs AreApart (available s)
-  -- the pool is what the wishes have not reached
+  -- the pool is what the requests have not reached
   pub pool : s.pool ≡ drop s.asked (available s)
   -- nothing was passed over as long as there was enough
   pub aside : s.asked ≤ length (available s) → s.aside ≡ []
-  pub live : (h : Handle) → IsLive s h → IsTenant s h
-  -- a slot has one tenant at a time
-  pub one_tenant : (g h : Handle) → IsLive s g → IsLive s h → g.index ≡ h.index → g ≡ h
+  pub live : (h : Handle) → IsLive s h → IsOccupant s h
+  -- a slot has one occupant at a time
+  pub one_occupant : (g h : Handle) → IsLive s g → IsLive s h → g.index ≡ h.index → g ≡ h
   pub rows : (h : Handle) → IsTrue (map.contains_key s.rows h) → IsLive s h

@@ -18,7 +18,7 @@ use std::marker::Model;
 /// Gives out the handles of entities and knows which are alive, as Bevy's `Entities` does.
 ///
 /// A caller sees it as the sequential allocator: who is alive, the pool of handles that are given
-/// from its front, those that are reserved, and those that a refused wish has passed over.
+/// from its front, those that are reserved, and those that a refused request has passed over.
 #[derive(Drop)]
 pub struct Entities {
     slots: Slots,
@@ -66,21 +66,21 @@ impl Entities {
         self.len() == 0
     }
 
-    /// How many slots have ever had a tenant.
+    /// How many slots have ever had a occupant.
     pub fn total(&self) -> u32
         ensures { result ≡ self.now.made }
     {
         self.slots.made()
     }
 
-    /// How many slots could still get their first tenant.
+    /// How many slots could still get their first occupant.
     pub fn room(&self) -> u32
         ensures { result ≡ self.now.limits.slots - self.now.made }
     {
         self.slots.limits().slots() - self.slots.made()
     }
 
-    /// How many old slots waited for their next tenant at the last flush, alloc or free.
+    /// How many old slots waited for their next occupant at the last flush, alloc or free.
     pub fn top(&self) -> u32
         ensures { result ≡ top self.now }
     {
@@ -98,7 +98,7 @@ impl Entities {
         self.cursor
     }
 
-    /// How many handles were wished for since the last flush, at most 2^50.
+    /// How many handles were requested since the last flush, at most 2^50.
     pub fn asked(&self) -> u64
         ensures value { result ≡ self.now.asked }
         ensures within { result ≤ 2 ^ 50 }
@@ -106,7 +106,7 @@ impl Entities {
         distance(self.slots.waiting(), self.cursor)
     }
 
-    /// Whether any handle was wished for since the last flush.
+    /// Whether any handle was requested since the last flush.
     pub fn needs_flush(&self) -> bool
         ensures { IsTrue result ↔ (0 < self.now.asked) }
     {
@@ -120,13 +120,13 @@ impl Entities {
         distance(self.slots.waiting(), self.floor) as u32
     }
 
-    /// Gives a handle that is alive at once: the next tenant of the slot that was freed last, or else the
-    /// first tenant of a new slot.
+    /// Gives a handle that is alive at once: the next occupant of the slot that was freed last, or else the
+    /// first occupant of a new slot.
     ///
     /// # Errors
     ///
-    /// Nothing changes. `NeedsFlush` where handles were asked for since the last flush, also where the wish
-    /// was refused; `Space` where every slot has a living tenant; and `Memory`, which only a new slot can meet.
+    /// Nothing changes. `NeedsFlush` where handles were asked for since the last flush, also where the request
+    /// was refused; `Space` where every slot has a living occupant; and `Memory`, which only a new slot can meet.
     pub fn alloc(&mut self) -> Result<Handle, AllocFault>
         ensures front { IfOk result (λ h. slice_get self.old.pool 0 ≡ Some h) }
         ensures ok { IfOk result (λ h. self.new ≡ after_alloc self.old h) }
@@ -139,7 +139,7 @@ impl Entities {
             return Err(AllocFault::NeedsFlush);
         }
         let handle = if self.slots.waiting() > 0 {
-            self.slots.wake_last()
+            self.slots.reuse_last()
         } else {
             if self.room() == 0 {
                 return Err(AllocFault::Space);
@@ -161,7 +161,7 @@ impl Entities {
     ///
     /// # Errors
     ///
-    /// Nothing changes. `NeedsFlush` where handles were asked for since the last flush, also where the wish
+    /// Nothing changes. `NeedsFlush` where handles were asked for since the last flush, also where the request
     /// was refused; then `NotAlive`, then `Memory`.
     pub fn free(&mut self, handle: Handle) -> Result<Freed, FreeFault>
         ensures ok { OnOk result (self.new ≡ after_free self.old handle) }
@@ -193,7 +193,7 @@ impl Entities {
     }
 
     /// Brings to life what is reserved, and appends it: the fresh handles, then the reused ones. What a
-    /// refused wish has passed over is available again. With nothing reserved it appends nothing.
+    /// refused request has passed over is available again. With nothing reserved it appends nothing.
     ///
     /// # Errors
     ///
@@ -209,7 +209,7 @@ impl Entities {
         let reserved = distance(self.slots.waiting(), self.floor);
         let kept = top.saturating_sub(reserved) as usize;
         let fresh = reserved.saturating_sub(top) as u32;
-        self.slots.bear(kept, fresh, out)?;
+        self.slots.bring_to_life(kept, fresh, out)?;
         let top = self.slots.top();
         self.cursor = top;
         self.floor = top;
@@ -245,9 +245,9 @@ impl Entities {
         self.slots.set_row(handle, row);
     }
 
-    /// The state after reservations that leave the cursor and the floor at these places: what is asked for is
+    /// The state after reservations that leave the cursor and the floor at these positions: what is asked for is
     /// all from the top down to the cursor, and what is reserved is all down to the floor. It is the state after
-    /// one wish that was served and, where more was asked for, one that was refused.
+    /// one request that was served and, where more was asked for, one that was refused.
     ///
     /// The cursor is at most 2^50 below the top. The floor is from the cursor to the top and at least `-room`; it is
     /// the cursor where that is at least `-room`.
@@ -259,15 +259,15 @@ impl Entities {
         requires reachable { pos 0 ≤ℤ (floor +ℤ pos (self.old.limits.slots - self.old.made)) }
         requires all_given { pos 0 ≤ℤ (cursor +ℤ pos (self.old.limits.slots - self.old.made)) → floor ≡ cursor }
         ensures settled { self.new ≡ settled self.old (asked_at (top self.old) floor) (asked_at (top self.old) cursor) }
-        ensures wishes { let given = asked_at (top self.old) floor in
+        ensures requests { let given = asked_at (top self.old) floor in
             self.new ≡ after_take (after_take self.old given) (asked_at (top self.old) cursor - given) }
     {
         self.cursor = cursor;
         self.floor = floor;
     }
 
-    /// Lowers the cursor by a wish for `n` handles, and answers the places that it passed. At most 2^50 handles may
-    /// be wished for between two flushes.
+    /// Lowers the cursor by a request for `n` handles, and answers the positions that it passed. At most 2^50 handles may
+    /// be requested between two flushes.
     pub fn lower(&mut self, n: u32) -> Span
         requires { self.old.asked + n ≤ 2 ^ 50 }
         ensures span { result ≡ record { high = cursor self.old; low = cursor self.old -ℤ pos n } }
@@ -283,12 +283,12 @@ impl Entities {
         span
     }
 
-    /// What the reservation of these places gives: the old handles first, in the order of their places, then
+    /// What the reservation of these positions gives: the old handles first, in the order of their positions, then
     /// the fresh ones.
     ///
     /// # Errors
     ///
-    /// `Space`, with what was left, where the places reach past the last slot.
+    /// `Space`, with what was left, where the positions reach past the last slot.
     pub fn reply(&self, span: Span) -> Result<Reserved<'_>, Space>
         requires least { neg_ℤ (pos (2 ^ 60)) ≤ℤ span.high }
         requires passed { span.high ≤ℤ pos (top self.now) }
@@ -343,11 +343,11 @@ impl Entities {
     }
 }
 
-/// How far a place is below the top.
-fn distance(top: u32, place: i64) -> u64
-    requires least { neg_ℤ (pos (2 ^ 61)) ≤ℤ place }
-    requires passed { place ≤ℤ pos top }
-    ensures { result ≡ asked_at top place }
+/// How far a position is below the top.
+fn distance(top: u32, position: i64) -> u64
+    requires least { neg_ℤ (pos (2 ^ 61)) ≤ℤ position }
+    requires passed { position ≤ℤ pos top }
+    ensures { result ≡ asked_at top position }
 {
-    (i64::from(top) - place) as u64
+    (i64::from(top) - position) as u64
 }

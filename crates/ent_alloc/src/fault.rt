@@ -4,10 +4,10 @@ use thiserror::Error;
 /// Why `Entities::alloc` gave no handle. Nothing has changed then.
 #[derive(Clone, Copy, Debug, PartialEq, Eq, Error)]
 pub enum AllocFault {
-    /// Handles were asked for since the last flush, also where the wish was refused.
+    /// Handles were asked for since the last flush, also where the request was refused.
     #[error("a flush is needed first")]
     NeedsFlush,
-    /// Every slot has a living tenant.
+    /// Every slot has a living occupant.
     #[error("no slot is free")]
     Space,
     /// Memory ran out.
@@ -18,7 +18,7 @@ pub enum AllocFault {
 /// Why `Entities::free` freed nothing. Nothing has changed then.
 #[derive(Clone, Copy, Debug, PartialEq, Eq, Error)]
 pub enum FreeFault {
-    /// Handles were asked for since the last flush, also where the wish was refused.
+    /// Handles were asked for since the last flush, also where the request was refused.
     #[error("a flush is needed first")]
     NeedsFlush,
     /// The handle isn't alive.

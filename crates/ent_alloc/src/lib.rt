@@ -4,8 +4,8 @@
 mod entities;
 mod fault;
 mod limits;
-mod record;
 mod reserved;
+mod slot_record;
 mod slots;
 mod space;
 mod span;
@@ -15,7 +15,7 @@ mod tests;
 
 pub use entities::Entities;
 pub use fault::{AllocFault, FreeFault, Freed};
-pub use limits::Limits;
+pub use limits::{CREDIT, Limits};
 pub use reserved::Reserved;
 pub use space::Space;
 pub use span::Span;

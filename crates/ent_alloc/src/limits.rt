@@ -3,6 +3,10 @@ ghost use Rattle.ent_alloc.specs.Limits.{AreLimits};
 
 use std::marker::Model;
 
+/// How many handles one caller may request between two flushes. This project's own limit: 1,024 callers
+/// together stay within the 2^50 that an allocator can count.
+pub const CREDIT: u64 = 1 << 40;
+
 /// How far an allocator may go: how many slots it may make, and the last generation of a slot.
 ///
 /// This project's own; Bevy has the greatest limits alone.

@@ -2,7 +2,7 @@ ghost use Rattle.std.specs.Prelude.{◌≡◌, IfSome, length};
 ghost use Rattle.std.specs.Iterator.{YieldsFirst, UpTo, item_count};
 ghost use Rattle.std.specs.Iterator.SizeHint.{IsWithinCount};
 
-use crate::slots::{Slots, first_tenant};
+use crate::slots::{Slots, first_occupant};
 use ent_handle::Handle;
 use std::marker::Model;
 
@@ -12,7 +12,7 @@ use std::marker::Model;
 #[derive(Drop)]
 pub struct Reserved<'a> {
     slots: &'a Slots,
-    place: usize,
+    position: usize,
     end: usize,
     index: u32,
     index_end: u32,
@@ -29,29 +29,29 @@ impl<'a> Model for Reserved<'a> {
 
     ghost use Rattle.ent_alloc.specs.Reserved.{handles_of, IsInRange};
 
-    ghost view = { λ r. handles_of r.slots.now r.place r.end r.index r.index_end };
+    ghost view = { λ r. handles_of r.slots.now r.position r.end r.index r.index_end };
 
-    ghost invariant = { λ r. IsInRange r.slots.now r.place r.end r.index r.index_end };
+    ghost invariant = { λ r. IsInRange r.slots.now r.position r.end r.index r.index_end };
 }
 
 impl<'a> Reserved<'a> {
     ghost use Rattle.ent_alloc.specs.Reserved.{handles_of, IsInRange};
 
-    /// The handles that wait from `place` up to `end`, and the first tenants of the slots from `index` up to
+    /// The handles that wait from `position` up to `end`, and the first occupants of the slots from `index` up to
     /// `index_end`.
     pub(crate) fn new(
         slots: &'a Slots,
-        place: usize,
+        position: usize,
         end: usize,
         index: u32,
         index_end: u32,
     ) -> Self
-        requires { IsInRange slots.now place end index index_end }
-        ensures { result ≡ handles_of slots.now place end index index_end }
+        requires { IsInRange slots.now position end index index_end }
+        ensures { result ≡ handles_of slots.now position end index index_end }
     {
         Reserved {
             slots,
-            place,
+            position,
             end,
             index,
             index_end,
@@ -67,13 +67,13 @@ impl Iterator for Reserved<'_> {
     ghost remaining = { item_count (λ handles. handles) };
 
     fn next(&mut self) -> Option<Handle> {
-        if self.place < self.end {
-            let handle = self.slots.pending_at(self.place);
-            self.place += 1;
+        if self.position < self.end {
+            let handle = self.slots.pending_at(self.position);
+            self.position += 1;
             return Some(handle);
         }
         if self.index < self.index_end {
-            let handle = first_tenant(self.index);
+            let handle = first_occupant(self.index);
             self.index += 1;
             return Some(handle);
         }
@@ -92,6 +92,6 @@ impl Iterator for Reserved<'_> {
 
 impl ExactSizeIterator for Reserved<'_> {
     fn len(&self) -> usize {
-        (self.end - self.place) + (self.index_end - self.index) as usize
+        (self.end - self.position) + (self.index_end - self.index) as usize
     }
 }

@@ -6,16 +6,16 @@ ghost use Rattle.ent_alloc.specs.Limits.{AreLimits};
 ghost use Rattle.ent_alloc.specs.Sequential.{fresh, fresh as fresh_handles, next, stands_in};
 
 use crate::limits::Limits;
-use crate::record::{Record, Tenancy, is_tenant, row_at, waits_from, wake_all};
+use crate::slot_record::{Occupancy, SlotRecord, is_occupant, reuse_all, row_at, waits_from};
 use ent_handle::{Handle, Memory};
 use std::alloc::Global;
 use std::marker::Model;
 
-/// The slots that have had a tenant, and those of them that wait for the next one.
+/// The slots that have had a occupant, and those of them that wait for the next one.
 #[derive(Drop)]
 pub(crate) struct Slots {
     limits: Limits,
-    records: Vec<Record>,
+    records: Vec<SlotRecord>,
     pending: Vec<u32>,
     live: u32,
 }
@@ -55,7 +55,7 @@ impl Slots {
         self.limits
     }
 
-    /// How many slots have ever had a tenant.
+    /// How many slots have ever had a occupant.
     pub(crate) fn made(&self) -> u32
         ensures value { result ≡ self.now.made }
         ensures within { result ≤ self.now.limits.slots }
@@ -64,7 +64,7 @@ impl Slots {
         self.records.len() as u32
     }
 
-    /// How many slots wait for their next tenant.
+    /// How many slots wait for their next occupant.
     pub(crate) fn waiting(&self) -> u32
         ensures value { result ≡ length self.now.pending }
         ensures within { result ≤ self.now.made }
@@ -74,14 +74,14 @@ impl Slots {
         self.pending.len() as u32
     }
 
-    /// The same as a place: the one past the last that waits.
+    /// The same as a position: the one past the last that waits.
     pub(crate) fn top(&self) -> i64
         ensures { result ≡ pos (length self.now.pending) }
     {
         i64::from(self.waiting())
     }
 
-    /// How many tenants live.
+    /// How many occupants live.
     pub(crate) fn live(&self) -> u32
         ensures { result ≡ set.len self.now.live }
     {
@@ -91,17 +91,17 @@ impl Slots {
     pub(crate) fn is_alive(&self, handle: Handle) -> bool
         ensures { result ≡ set.contains self.now.live handle }
     {
-        is_tenant(&self.records, handle)
+        is_occupant(&self.records, handle)
     }
 
-    /// Whether the handle waits at this place or behind it.
+    /// Whether the handle waits at this position or behind it.
     pub(crate) fn waits_from(&self, handle: Handle, from: usize) -> bool
         ensures { result ≡ stands_in (drop from self.now.pending) handle }
     {
         waits_from(&self.records, handle, from)
     }
 
-    /// Whether the handle is the first tenant of one of the next slots to be made.
+    /// Whether the handle is the first occupant of one of the next slots to be made.
     pub(crate) fn is_next(&self, handle: Handle, count: u32) -> bool
         ensures { result ≡ stands_in (fresh self.now.made count) handle }
     {
@@ -114,31 +114,31 @@ impl Slots {
         }
     }
 
-    /// The row that is kept with a tenant.
+    /// The row that is kept with a occupant.
     pub(crate) fn row(&self, handle: Handle) -> Option<u32>
         ensures { result ≡ maps.get self.now.rows handle }
     {
         row_at(&self.records, handle)
     }
 
-    /// Keeps a row with a tenant.
+    /// Keeps a row with a occupant.
     pub(crate) fn set_row(&mut self, handle: Handle, row: u32)
         requires { set.contains self.old.live handle ≡ true }
         ensures { self.new ≡ record self.old { rows = maps.insert self.old.rows handle row } }
     {
-        self.records[handle.index() as usize].tenancy = Tenancy::Alive { row: Some(row) };
+        self.records[handle.index() as usize].occupancy = Occupancy::Alive { row: Some(row) };
     }
 
-    /// The handle that waits at a place.
-    pub(crate) fn pending_at(&self, place: usize) -> Handle
-        requires { place < length self.now.pending }
-        ensures { slice_get self.now.pending place ≡ Some result }
+    /// The handle that waits at a position.
+    pub(crate) fn pending_at(&self, position: usize) -> Handle
+        requires { position < length self.now.pending }
+        ensures { slice_get self.now.pending position ≡ Some result }
     {
-        let index = self.pending[place];
+        let index = self.pending[position];
         handle_of(index, self.records[index as usize].generation)
     }
 
-    /// Appends the first tenants of the next slots to be made. After a refusal some may stand there.
+    /// Appends the first occupants of the next slots to be made. After a refusal some may stand there.
     pub(crate) fn list_fresh(&self, count: u32, out: &mut Vec<Handle>) -> Result<(), Memory>
         requires { self.now.made + count ≤ self.now.limits.slots }
         ensures ok { OnOk result (out.new.items ≡ out.old.items ++ fresh self.now.made count) }
@@ -147,25 +147,25 @@ impl Slots {
     {
         let made = self.made();
         for index in made..made + count {
-            out.push(first_tenant(index))?;
+            out.push(first_occupant(index))?;
         }
         Ok(())
     }
 
-    /// Appends the handles that wait from a place on. After a refusal some may stand there.
+    /// Appends the handles that wait from a position on. After a refusal some may stand there.
     pub(crate) fn list_pending(&self, from: usize, out: &mut Vec<Handle>) -> Result<(), Memory>
         requires { from ≤ length self.now.pending }
         ensures ok { OnOk result (out.new.items ≡ out.old.items ++ drop from self.now.pending) }
         ensures memory { OnErr result (from < length self.now.pending) }
         ensures kept { take (length out.old.items) out.new.items ≡ out.old.items }
     {
-        for place in from..self.waiting() as usize {
-            out.push(self.pending_at(place))?;
+        for position in from..self.waiting() as usize {
+            out.push(self.pending_at(position))?;
         }
         Ok(())
     }
 
-    /// Gives so many new slots their first tenants.
+    /// Gives so many new slots their first occupants.
     pub(crate) fn make(&mut self, count: u32) -> Result<(), Memory>
         requires { self.old.made + count ≤ self.old.limits.slots }
         ensures ok { OnOk result (self.new ≡ record self.old {
@@ -177,26 +177,26 @@ impl Slots {
     {
         let made = self.records.len();
         self.records
-            .resize(made + count as usize, Record::newborn())?;
+            .resize(made + count as usize, SlotRecord::newborn())?;
         self.live += count;
         Ok(())
     }
 
-    /// Gives the slots that wait from a place on their next tenants.
-    pub(crate) fn wake(&mut self, from: usize)
+    /// Gives the slots that wait from a position on their next occupants.
+    pub(crate) fn reuse(&mut self, from: usize)
         requires { from ≤ length self.old.pending }
         ensures { self.new ≡ record self.old {
           live = set.union self.old.live (set.from_list (drop from self.old.pending));
           pending = take from self.old.pending;
         } }
     {
-        wake_all(&mut self.records, &self.pending[from..]);
+        reuse_all(&mut self.records, &self.pending[from..]);
         self.live += (self.pending.len() - from) as u32;
         self.pending.truncate(from);
     }
 
-    /// Gives the slot that waits last its next tenant.
-    pub(crate) fn wake_last(&mut self) -> Handle
+    /// Gives the slot that waits last its next occupant.
+    pub(crate) fn reuse_last(&mut self) -> Handle
         requires { 0 < length self.old.pending }
         ensures last { slice_get self.old.pending (length self.old.pending - 1) ≡ Some result }
         ensures ok { self.new ≡ record self.old {
@@ -204,13 +204,13 @@ impl Slots {
           pending = take (length self.old.pending - 1) self.old.pending;
         } }
     {
-        let place = self.waiting() as usize - 1;
-        let handle = self.pending_at(place);
-        self.wake(place);
+        let position = self.waiting() as usize - 1;
+        let handle = self.pending_at(position);
+        self.reuse(position);
         handle
     }
 
-    /// Gives one new slot its first tenant.
+    /// Gives one new slot its first occupant.
     pub(crate) fn make_one(&mut self) -> Result<Handle, Memory>
         requires { self.old.made < self.old.limits.slots }
         ensures first { IfOk result (λ h. h ≡ record { index = self.old.made; generation = 1 }) }
@@ -220,14 +220,14 @@ impl Slots {
         }) }
         ensures err { OnErr result (self.new ≡ self.old) }
     {
-        let handle = first_tenant(self.made());
+        let handle = first_occupant(self.made());
         self.make(1)?;
         Ok(handle)
     }
 
-    /// Brings to life the first tenants of so many new slots and the handles that wait from a place on, and
+    /// Brings to life the first occupants of so many new slots and the handles that wait from a position on, and
     /// appends them. Nothing changes where memory runs out.
-    pub(crate) fn bear(
+    pub(crate) fn bring_to_life(
         &mut self,
         kept: usize,
         fresh: u32,
@@ -250,11 +250,11 @@ impl Slots {
             out.truncate(before);
             return Err(refused);
         }
-        self.wake(kept);
+        self.reuse(kept);
         Ok(())
     }
 
-    /// The part of `bear` that memory may refuse: the list of the handles, and the new slots.
+    /// The part of `bring_to_life` that memory may refuse: the list of the handles, and the new slots.
     fn grow(&mut self, kept: usize, fresh: u32, out: &mut Vec<Handle>) -> Result<(), Memory>
         requires waiting { kept ≤ length self.old.pending }
         requires room { self.old.made + fresh ≤ self.old.limits.slots }
@@ -272,7 +272,7 @@ impl Slots {
         self.make(fresh)
     }
 
-    /// Takes a tenant out of its slot, which then waits behind all others for the next one.
+    /// Takes a occupant out of its slot, which then waits behind all others for the next one.
     pub(crate) fn release(&mut self, handle: Handle) -> Result<Handle, Memory>
         requires { set.contains self.old.live handle ≡ true }
         ensures ok { OnOk result (self.new ≡ record self.old {
@@ -285,19 +285,19 @@ impl Slots {
     {
         let index = handle.index();
         let generation = following(self.limits, handle.generation());
-        let place = self.pending.len() as u32;
+        let position = self.pending.len() as u32;
         self.pending.push(index)?;
-        self.records[index as usize] = Record {
+        self.records[index as usize] = SlotRecord {
             generation,
-            tenancy: Tenancy::Pending { place },
+            occupancy: Occupancy::Pending { position },
         };
         self.live -= 1;
         Ok(handle_of(index, generation))
     }
 }
 
-/// The first tenant of a slot.
-pub(crate) fn first_tenant(index: u32) -> Handle
+/// The first occupant of a slot.
+pub(crate) fn first_occupant(index: u32) -> Handle
     requires { index < 2 ^ 32 - 1 }
     ensures { result ≡ record { index = index; generation = 1 } }
 {

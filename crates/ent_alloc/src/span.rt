@@ -1,8 +1,8 @@
 ghost use Rattle.std.specs.Prelude.{◌≡◌, ◌^◌, ◌≤◌, pos, ◌-ℤ◌, ◌≤ℤ◌, neg_ℤ};
 
-/// The places that one reservation passed: from `low` up to, not including, `high`.
+/// The positions that one reservation passed: from `low` up to, not including, `high`.
 ///
-/// Places of 0 or more are places of the pending list; those below stand for fresh slots.
+/// Positions of 0 or more are positions of the pending list; those below stand for fresh slots.
 #[derive(Clone, Copy, Debug, PartialEq, Eq)]
 pub struct Span {
     /// The cursor before the reservation.

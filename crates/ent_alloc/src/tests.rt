@@ -68,7 +68,7 @@ fn gives_old_slots_and_then_fresh_ones(rt: HostRuntime) {
 }
 
 #[test]
-fn a_refused_wish_shuts_the_pool(rt: HostRuntime) {
+fn a_refused_request_shuts_the_pool(rt: HostRuntime) {
     let alloc = rt.alloc();
     let limits = Limits::new(3, 9).expect(&rt, "three slots");
     let mut entities = Entities::new(alloc, limits);

@@ -1,4 +1,4 @@
--- Handles: which slot of the allocator, and which of its tenants.
+-- Handles: which slot of the allocator, and which of its occupants.
 use Rattle.std.specs.Prelude.{◌≡◌, ℕ, ◌+◌, ◌-◌, ◌*◌, ◌^◌, ◌<◌, ◌≤◌, [], ◌∷◌, refl}
 use Rattle.std.specs.Coded.{Coded, code_by, coded×, coded_ℕ}
 use Rattle.std.specs.declared.cmp.Ordering.{Ordering}
@@ -7,7 +7,7 @@ use Rattle.std.specs.Cmp.{IsTotalOrder}
 use Rattle.std.specs.Cmp.Lexicographic.{slice_cmp, nat_list_cmp_total}
 use Rattle.std.specs.FinMap.{IsAntisymmetric, nat_cmp-IsAntisymmetric, slice_cmp-IsAntisymmetric}
 
--- the slot's index, and the generation that tells its tenants apart
+-- the slot's index, and the generation that tells its occupants apart
 pub record Handle : Type 0 where
   pub index : ℕ
   pub generation : ℕ

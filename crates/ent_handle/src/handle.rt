@@ -3,7 +3,7 @@ ghost use Rattle.ent_handle.specs.Handle.{Handle, IsHandle, bits};
 
 use std::marker::Model;
 
-/// Names one tenant of one slot: the slot's index, and the generation that tells its tenants apart.
+/// Names one occupant of one slot: the slot's index, and the generation that tells its occupants apart.
 ///
 /// An index is 0 to 4,294,967,294 and a generation 1 to 2,147,483,647. Handles are ordered by index,
 /// then by generation. As in Bevy, a slot that is given anew has another handle, until its generations
@@ -46,7 +46,7 @@ impl Handle {
         self.index
     }
 
-    /// Which tenant of the slot it is, 1 to 2,147,483,647.
+    /// Which occupant of the slot it is, 1 to 2,147,483,647.
     pub fn generation(self) -> u32
         ensures { result ≡ self.generation }
     {

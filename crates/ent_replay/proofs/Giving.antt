@@ -13,7 +13,7 @@ use Rattle.ent_alloc.specs.Sound.{IsSound}
 use Rattle.ent_alloc.specs.Given as spent
 use Rattle.ent_alloc.specs.History.{handles_in}
 use Rattle.ent_alloc.proofs.ListLaws.{All-right, AllPairs-left, AllPairs-right}
-use Rattle.ent_alloc.proofs.Wishes.{handles_of, wish-given}
+use Rattle.ent_alloc.proofs.Requests.{handles_of, requested-given}
 use Rattle.ent_alloc.proofs.GivenOnce.{alloc-given, free-given, flush-given, given-IsPermutation}
 use Rattle.ent_alloc.proofs.Soundness.{after_take-sound, after_alloc-sound, after_free-sound, after_flush-sound}
 use Rattle.ent_replay.specs.declared.event.Event.{Event}
@@ -127,7 +127,7 @@ given-next s e given h fresh (flushes is none at) =
       once = subst (λ hs. spent.AreGivenOnce (after_flush s.allocator) (hs ++ pending s.calls)) (sym (append-nil given)) (flush-given s.allocator (given ++ pending s.calls) h.once);
     })
 given-next s e given h fresh (begins caller n costs is below none at) =
-    let new : OpenCall = record { wish = n; reply = None } in
+    let new : OpenCall = record { requested = n; reply = None } in
     let kept = pending-inserted s.calls caller below new (ap held none) in
     onward s e given (Ok outcome.Open) (record s { spent = costs; calls = finite.insert s.calls caller new }) is (record {
       sound = h.sound;
@@ -138,8 +138,8 @@ given-next s e given h fresh (begins caller n costs is below none at) =
           h.once;
     })
 given-next s e given h fresh (steps caller call is below some waits makes at) =
-    let n = call.wish in
-    let new : OpenCall = record { wish = n; reply = Some (reply_to s.allocator n) } in
+    let n = call.requested in
+    let new : OpenCall = record { requested = n; reply = Some (reply_to s.allocator n) } in
     let hs = handles_in (reply_to s.allocator n) in
     let kept = pending-inserted s.calls caller below new (ap held some ∙ ap held_by waits) in
     onward s e given _ (record s { allocator = after_take s.allocator n; calls = finite.insert s.calls caller new }) is (record {
@@ -148,7 +148,7 @@ given-next s e given h fresh (steps caller call is below some waits makes at) =
           (subst (λ xs. IsPermutation ((given ++ pending s.calls) ++ hs) (xs ++ pending (finite.insert s.calls caller new))) (sym (append-nil given))
           (subst (λ xs. IsPermutation xs (given ++ pending (finite.insert s.calls caller new))) (sym (append_assoc given (pending s.calls) hs))
           (IsPermutation-append_right given (pending s.calls ++ hs) (pending (finite.insert s.calls caller new)) kept)))
-          (subst (λ xs. spent.AreGivenOnce (after_take s.allocator n) ((given ++ pending s.calls) ++ xs)) (sym (handles-same (reply_to s.allocator n))) (wish-given s.allocator n (given ++ pending s.calls) h.sound h.once));
+          (subst (λ xs. spent.AreGivenOnce (after_take s.allocator n) ((given ++ pending s.calls) ++ xs)) (sym (handles-same (reply_to s.allocator n))) (requested-given s.allocator n (given ++ pending s.calls) h.sound h.once));
     })
 given-next s e given h fresh (answers caller call reply is below some stepped at) =
     let left = pending (finite.remove s.calls caller) in

@@ -25,11 +25,11 @@ use Rattle.ent_replay.proofs.Moves.{Move, move, stays, allocates, frees, flushes
 
 IsLegal-append : (s : Allocator) (calls more : List Call) → IsLegal s calls → IsLegal (after_history s calls) more → IsLegal s (calls ++ more)
 IsLegal-append s [] more h rest = rest
-IsLegal-append s (call ∷ calls) more h rest = (h.0, h.1, IsLegal-append (after_take s call.wish) calls more h.2 rest)
+IsLegal-append s (call ∷ calls) more h rest = (h.0, h.1, IsLegal-append (after_take s call.requested) calls more h.2 rest)
 
 after_history-append : (s : Allocator) (calls more : List Call) → after_history s (calls ++ more) ≡ after_history (after_history s calls) more
 after_history-append s [] more = refl
-after_history-append s (call ∷ calls) more = after_history-append (after_take s call.wish) calls more
+after_history-append s (call ∷ calls) more = after_history-append (after_take s call.requested) calls more
 
 last_of-append : (q : ℕ) (calls : List Call) (call : Call) → call.caller ≡ q → last_of q (calls ++ call ∷ []) ≡ Some call
 last_of-append q [] call own = when (call.caller == q) _ _ (grind (arith, nat_tests))
@@ -41,20 +41,20 @@ last_of-append_other q (c ∷ calls) call other = ap (λ o. option_or o (cond (c
 
 -- ---- what is kept from event to event
 
--- a wish for none, which was given nothing
-abbrev WishedNone : ℕ → Reply → Type 0
-WishedNone wish r = (wish ≡ 0) × (r ≡ Ok [])
+-- a request for none, which was given nothing
+abbrev RequestedNone : ℕ → Reply → Type 0
+RequestedNone requested r = (requested ≡ 0) × (r ≡ Ok [])
 
--- every open call that has made its step wished for none
+-- every open call that has made its step requested none
 abbrev NothingTold : Schedule → Type 0
-NothingTold s = (q : ℕ) (call : OpenCall) (r : Reply) → finite.get s.calls q ≡ Some call → call.reply ≡ Some r → WishedNone call.wish r
+NothingTold s = (q : ℕ) (call : OpenCall) (r : Reply) → finite.get s.calls q ≡ Some call → call.reply ≡ Some r → RequestedNone call.requested r
 
--- the reply was given by the caller's last reservation, of this wish, or is that to a wish for none
+-- the reply was given by the caller's last reservation, of this request, or is that to a request for none
 abbrev IsOfHistory : List Call → ℕ → ℕ → Reply → Type 0
-IsOfHistory calls q wish r = WishedNone wish r ⊎ ((made : Call) × (last_of q calls ≡ Some made) × (made.wish ≡ wish) × (r ≡ made.reply))
+IsOfHistory calls q requested r = RequestedNone requested r ⊎ ((made : Call) × (last_of q calls ≡ Some made) × (made.requested ≡ requested) × (r ≡ made.reply))
 
 abbrev AreOfHistory : List Call → Schedule → Type 0
-AreOfHistory calls s = (q : ℕ) (call : OpenCall) (r : Reply) → finite.get s.calls q ≡ Some call → call.reply ≡ Some r → IsOfHistory calls q call.wish r
+AreOfHistory calls s = (q : ℕ) (call : OpenCall) (r : Reply) → finite.get s.calls q ≡ Some call → call.reply ≡ Some r → IsOfHistory calls q call.requested r
 
 pub record IsFollowed (p : Phase) (s : Schedule) : Type 0 where
   pub legal : IsLegal p.start p.calls
@@ -67,19 +67,19 @@ pub record IsFollowed (p : Phase) (s : Schedule) : Type 0 where
 no_calls : (calls : FinMap nat_cmp OpenCall) → calls ≡ finite.empty → (q : ℕ) (call : OpenCall) → finite.get calls q ≡ Some call → ⊥
 no_calls calls none q call at = let nothing : finite.get calls q ≡ None = ap (λ m. finite.get m q) none ∙ get-empty nat_cmp q in cc
 
--- a fact on the wishes and replies of all open calls but one, and on that one's
+-- a fact on the requests and replies of all open calls but one, and on that one's
 module _ (P : ℕ → ℕ → Reply → Type 0) (calls : FinMap nat_cmp OpenCall) (caller : ℕ)
-    (before : (q : ℕ) (call : OpenCall) (r : Reply) → q ≢ caller → finite.get calls q ≡ Some call → call.reply ≡ Some r → P q call.wish r) where
-  on_inserted : (new : OpenCall) → ((r : Reply) → new.reply ≡ Some r → P caller new.wish r)
-      → (q : ℕ) (call : OpenCall) (r : Reply) → finite.get (finite.insert calls caller new) q ≡ Some call → call.reply ≡ Some r → P q call.wish r
+    (before : (q : ℕ) (call : OpenCall) (r : Reply) → q ≢ caller → finite.get calls q ≡ Some call → call.reply ≡ Some r → P q call.requested r) where
+  on_inserted : (new : OpenCall) → ((r : Reply) → new.reply ≡ Some r → P caller new.requested r)
+      → (q : ℕ) (call : OpenCall) (r : Reply) → finite.get (finite.insert calls caller new) q ≡ Some call → call.reply ≡ Some r → P q call.requested r
   on_inserted new here q call r at told = elim (ℕ_discrete q caller) [
     | yes same ↦
         let is : new ≡ call = same_Some new call (sym (get-inserted calls caller new) ∙ ap (finite.get (finite.insert calls caller new)) (sym same) ∙ at) in
-        subst (λ k. P k call.wish r) (sym same) (subst (λ n. P caller n r) (ap (λ c. c.wish) is) (here r (ap (λ c. c.reply) is ∙ told)))
+        subst (λ k. P k call.requested r) (sym same) (subst (λ n. P caller n r) (ap (λ c. c.requested) is) (here r (ap (λ c. c.reply) is ∙ told)))
     | no other ↦ before q call r other (sym (get-insert_other calls caller new q other) ∙ at) told
   ]
 
-  on_removed : (q : ℕ) (call : OpenCall) (r : Reply) → finite.get (finite.remove calls caller) q ≡ Some call → call.reply ≡ Some r → P q call.wish r
+  on_removed : (q : ℕ) (call : OpenCall) (r : Reply) → finite.get (finite.remove calls caller) q ≡ Some call → call.reply ≡ Some r → P q call.requested r
   on_removed q call r at told = elim (ℕ_discrete q caller) [
     | yes same ↦
         let nothing : finite.get (finite.remove calls caller) q ≡ None = ap (finite.get (finite.remove calls caller)) same ∙ get-removed calls caller in
@@ -115,33 +115,33 @@ module _ (p : Phase) (s : Schedule) (e : Event) (h : IsFollowed p s) where
   at_rest (begins caller n spent is below none at) zero_asked =
       let t = ap (λ x. x.1) is in
       let still = h.rest (sym (ap (λ (x : Schedule). x.allocator.asked) t) ∙ zero_asked) in
-      subst NothingTold (sym t) (on_inserted (λ q. WishedNone) s.calls caller (λ q call r _. still q call r) (record { wish = n; reply = None }) (λ r told. absurd (none_some r told)))
+      subst NothingTold (sym t) (on_inserted (λ q. RequestedNone) s.calls caller (λ q call r _. still q call r) (record { requested = n; reply = None }) (λ r told. absurd (none_some r told)))
   at_rest (steps caller call is below some waits makes at) zero_asked =
       let t = ap (λ x. x.1) is in
-      let parts = zero_sum s.allocator.asked call.wish (sym (asked-after_take s.allocator call.wish) ∙ sym (ap (λ (x : Schedule). x.allocator.asked) t) ∙ zero_asked) in
+      let parts = zero_sum s.allocator.asked call.requested (sym (asked-after_take s.allocator call.requested) ∙ sym (ap (λ (x : Schedule). x.allocator.asked) t) ∙ zero_asked) in
       let still = h.rest parts.0 in
-      subst NothingTold (sym t) (on_inserted (λ q. WishedNone) s.calls caller (λ q call r _. still q call r) (record { wish = call.wish; reply = Some (reply_to s.allocator call.wish) })
-      (λ r told. (parts.1, sym (same_Some (reply_to s.allocator call.wish) r told) ∙ ap (reply_to s.allocator) parts.1 ∙ reply-none s.allocator)))
+      subst NothingTold (sym t) (on_inserted (λ q. RequestedNone) s.calls caller (λ q call r _. still q call r) (record { requested = call.requested; reply = Some (reply_to s.allocator call.requested) })
+      (λ r told. (parts.1, sym (same_Some (reply_to s.allocator call.requested) r told) ∙ ap (reply_to s.allocator) parts.1 ∙ reply-none s.allocator)))
   at_rest (answers caller call reply is below some stepped at) zero_asked =
       let t = ap (λ x. x.1) is in
       let still = h.rest (sym (ap (λ (x : Schedule). x.allocator.asked) t) ∙ zero_asked) in
-      subst NothingTold (sym t) (on_removed (λ q. WishedNone) s.calls caller (λ q call r _. still q call r))
+      subst NothingTold (sym t) (on_removed (λ q. RequestedNone) s.calls caller (λ q call r _. still q call r))
 
-  -- a step of some wish, as the wish is
+  -- a step of some request, as the request is
   after_step : (caller n : ℕ) → IsFollowed (record { start = p.start; calls = p.calls ++ reserved s caller n None })
-      (record s { allocator = after_take s.allocator n; calls = finite.insert s.calls caller (record { wish = n; reply = Some (reply_to s.allocator n) }) })
+      (record s { allocator = after_take s.allocator n; calls = finite.insert s.calls caller (record { requested = n; reply = Some (reply_to s.allocator n) }) })
   after_step caller zero = record {
     legal = subst (IsLegal p.start) (sym (append-nil p.calls)) h.legal;
     reached = ap (after_history p.start) (append-nil p.calls) ∙ h.reached ∙ sym (after_take-none s.allocator);
-    rest = λ zero_asked. on_inserted (λ q. WishedNone) s.calls caller (λ q call r _. h.rest (sym (ap (λ (x : Allocator). x.asked) (after_take-none s.allocator)) ∙ zero_asked) q call r)
-        (record { wish = zero; reply = Some (reply_to s.allocator zero) }) (λ r told. (refl, sym (same_Some (reply_to s.allocator zero) r told) ∙ reply-none s.allocator));
+    rest = λ zero_asked. on_inserted (λ q. RequestedNone) s.calls caller (λ q call r _. h.rest (sym (ap (λ (x : Allocator). x.asked) (after_take-none s.allocator)) ∙ zero_asked) q call r)
+        (record { requested = zero; reply = Some (reply_to s.allocator zero) }) (λ r told. (refl, sym (same_Some (reply_to s.allocator zero) r told) ∙ reply-none s.allocator));
     open_calls = on_inserted (IsOfHistory (p.calls ++ [])) s.calls caller
-        (λ q call r _ at told. subst (λ calls. IsOfHistory calls q call.wish r) (sym (append-nil p.calls)) (h.open_calls q call r at told))
-        (record { wish = zero; reply = Some (reply_to s.allocator zero) })
+        (λ q call r _ at told. subst (λ calls. IsOfHistory calls q call.requested r) (sym (append-nil p.calls)) (h.open_calls q call r at told))
+        (record { requested = zero; reply = Some (reply_to s.allocator zero) })
         (λ r told. inl (refl, sym (same_Some (reply_to s.allocator zero) r told) ∙ reply-none s.allocator));
   }
   after_step caller (suc n) =
-      let made : Call = record { caller = caller; wish = suc n; reply = reply_to s.allocator (suc n) } in
+      let made : Call = record { caller = caller; requested = suc n; reply = reply_to s.allocator (suc n) } in
       let asked = asked-after_take s.allocator (suc n) in
       record {
         legal = IsLegal-append p.start p.calls (made ∷ []) h.legal (subst (λ t. IsLegal t (made ∷ [])) (sym h.reached) (omega arith, refl, tt));
@@ -152,7 +152,7 @@ module _ (p : Phase) (s : Schedule) (e : Event) (h : IsFollowed p s) where
               | inl nothing ↦ inl nothing
               | inr found ↦ inr (found.0, last_of-append_other q p.calls made (λ same. other (sym same)) ∙ found.1, found.2, found.3)
             ])
-            (record { wish = suc n; reply = Some (reply_to s.allocator (suc n)) })
+            (record { requested = suc n; reply = Some (reply_to s.allocator (suc n)) })
             (λ r told. inr (made, last_of-append caller p.calls made refl, refl, sym (same_Some (reply_to s.allocator (suc n)) r told)));
       }
 
@@ -164,24 +164,24 @@ module _ (p : Phase) (s : Schedule) (e : Event) (h : IsFollowed p s) where
   goes_on (flushes is none at) asked = absurd (asked (ap (λ x. x.1.allocator.asked) is))
   goes_on (begins caller n spent is below none at) asked =
       subst (λ t. IsFollowed onward t) (sym (ap (λ x. x.1) is))
-      (subst (λ q. IsFollowed q (record s { spent = spent; calls = finite.insert s.calls caller (record { wish = n; reply = None }) })) (same_phase (ap (reservations s) at))
+      (subst (λ q. IsFollowed q (record s { spent = spent; calls = finite.insert s.calls caller (record { requested = n; reply = None }) })) (same_phase (ap (reservations s) at))
       (record {
         legal = h.legal;
         reached = h.reached;
-        rest = λ zero_asked. on_inserted (λ q. WishedNone) s.calls caller (λ q call r _. h.rest zero_asked q call r) (record { wish = n; reply = None }) (λ r told. absurd (none_some r told));
-        open_calls = on_inserted (IsOfHistory p.calls) s.calls caller (λ q call r _. h.open_calls q call r) (record { wish = n; reply = None }) (λ r told. absurd (none_some r told));
+        rest = λ zero_asked. on_inserted (λ q. RequestedNone) s.calls caller (λ q call r _. h.rest zero_asked q call r) (record { requested = n; reply = None }) (λ r told. absurd (none_some r told));
+        open_calls = on_inserted (IsOfHistory p.calls) s.calls caller (λ q call r _. h.open_calls q call r) (record { requested = n; reply = None }) (λ r told. absurd (none_some r told));
       }))
   goes_on (steps caller call is below some waits makes at) asked =
       subst (λ t. IsFollowed onward t) (sym (ap (λ x. x.1) is))
-      (subst (λ calls. IsFollowed (record { start = p.start; calls = p.calls ++ calls }) (record s { allocator = after_take s.allocator call.wish; calls = finite.insert s.calls caller (record { wish = call.wish; reply = Some (reply_to s.allocator call.wish) }) }))
-      (sym makes) (after_step caller call.wish))
+      (subst (λ calls. IsFollowed (record { start = p.start; calls = p.calls ++ calls }) (record s { allocator = after_take s.allocator call.requested; calls = finite.insert s.calls caller (record { requested = call.requested; reply = Some (reply_to s.allocator call.requested) }) }))
+      (sym makes) (after_step caller call.requested))
   goes_on (answers caller call reply is below some stepped at) asked =
       subst (λ t. IsFollowed onward t) (sym (ap (λ x. x.1) is))
       (subst (λ q. IsFollowed q (record s { calls = finite.remove s.calls caller })) (same_phase (ap (reservations s) at))
       (record {
         legal = h.legal;
         reached = h.reached;
-        rest = λ zero_asked. on_removed (λ q. WishedNone) s.calls caller (λ q call r _. h.rest zero_asked q call r);
+        rest = λ zero_asked. on_removed (λ q. RequestedNone) s.calls caller (λ q call r _. h.rest zero_asked q call r);
         open_calls = on_removed (IsOfHistory p.calls) s.calls caller (λ q call r _. h.open_calls q call r);
       }))
 
@@ -210,7 +210,7 @@ told_by : (p : Phase) (s : Schedule) (caller : ℕ) → IsFollowed p s → (r : 
 told_by p s caller h (Err why) result = tt
 told_by p s caller h (Ok told) result = go (move s (event.Answer caller))
   where
-    go : Move s (event.Answer caller) → (call : OpenCall) × (finite.get s.calls caller ≡ Some call) × TellsOf p.calls caller call.wish told
+    go : Move s (event.Answer caller) → (call : OpenCall) × (finite.get s.calls caller ≡ Some call) × TellsOf p.calls caller call.requested told
     go (stays r is gives fine tells none) = absurd (tells told caller refl (sym (ap (λ x. x.0) is) ∙ result))
     go (allocates x rest is none flushed pool at) = absurd cc
     go (frees x is none flushed lives at) = absurd cc
@@ -221,7 +221,7 @@ told_by p s caller h (Ok told) result = go (move s (event.Answer caller))
         let own : c ≡ caller = cc in
         let says : told ≡ reported reply = cc in
         let here = ap (finite.get s.calls) (sym own) ∙ some in
-        let tells : TellsOf p.calls caller call.wish told = elim (h.open_calls caller call reply here stepped) [
+        let tells : TellsOf p.calls caller call.requested told = elim (h.open_calls caller call reply here stepped) [
           | inl nothing ↦ inl (nothing.0, says ∙ ap reported nothing.1)
           | inr found ↦ inr (found.0, found.1, found.2, says ∙ ap reported found.3)
         ] in

@@ -34,11 +34,11 @@ pub data Move (s : Schedule) (e : Event) : Type 0 where
       → s.calls ≡ finite.empty → s.allocator.asked ≡ 0 → IsLive s.allocator h → e ≡ event.Free h → Move s e
   flushes : on_event s e ≡ (Ok (outcome.Born (born s.allocator)), record s { allocator = after_flush s.allocator; spent = finite.empty })
       → s.calls ≡ finite.empty → e ≡ event.Flush → Move s e
-  begins : (caller n : ℕ) (spent : FinMap nat_cmp ℕ) → on_event s e ≡ (Ok outcome.Open, record s { spent = spent; calls = finite.insert s.calls caller (record { wish = n; reply = None }) })
+  begins : (caller n : ℕ) (spent : FinMap nat_cmp ℕ) → on_event s e ≡ (Ok outcome.Open, record s { spent = spent; calls = finite.insert s.calls caller (record { requested = n; reply = None }) })
       → caller < callers → finite.get s.calls caller ≡ None → e ≡ event.Begin caller n → Move s e
   steps : (caller : ℕ) (call : OpenCall)
-      → on_event s e ≡ (Ok (outcome.Cursor (cursor (after_take s.allocator call.wish))), record s { allocator = after_take s.allocator call.wish; calls = finite.insert s.calls caller (record { wish = call.wish; reply = Some (reply_to s.allocator call.wish) }) })
-      → caller < callers → finite.get s.calls caller ≡ Some call → call.reply ≡ None → reservations s e ≡ reserved s caller call.wish None → e ≡ event.Step caller → Move s e
+      → on_event s e ≡ (Ok (outcome.Cursor (cursor (after_take s.allocator call.requested))), record s { allocator = after_take s.allocator call.requested; calls = finite.insert s.calls caller (record { requested = call.requested; reply = Some (reply_to s.allocator call.requested) }) })
+      → caller < callers → finite.get s.calls caller ≡ Some call → call.reply ≡ None → reservations s e ≡ reserved s caller call.requested None → e ≡ event.Step caller → Move s e
   answers : (caller : ℕ) (call : OpenCall) (reply : Reply) → on_event s e ≡ (Ok (reported reply), record s { calls = finite.remove s.calls caller })
       → caller < callers → finite.get s.calls caller ≡ Some call → call.reply ≡ Some reply → e ≡ event.Answer caller → Move s e
 
@@ -109,11 +109,11 @@ begin_by s caller n false above = faulty s (event.Begin caller n) fault.Caller r
 
 step_call : (s : Schedule) (caller : ℕ) → nat_lt caller callers ≡ true → (call : OpenCall) → finite.get s.calls caller ≡ Some call → (o : Option Reply) → call.reply ≡ o → Move s (event.Step caller)
 step_call s caller below call some None waits =
-    steps caller call (when (nat_lt caller callers) _ _ below ∙ ap (step_open s caller) some ∙ ap (step_with s caller call.wish) waits) (grind (arith, nat_tests)) some waits
-    (when (nat_lt caller callers) _ _ below ∙ ap (reserved_by s caller) some ∙ ap (reserved s caller call.wish) waits) refl
+    steps caller call (when (nat_lt caller callers) _ _ below ∙ ap (step_open s caller) some ∙ ap (step_with s caller call.requested) waits) (grind (arith, nat_tests)) some waits
+    (when (nat_lt caller callers) _ _ below ∙ ap (reserved_by s caller) some ∙ ap (reserved s caller call.requested) waits) refl
 step_call s caller below call some (Some reply) stepped =
-    faulty s (event.Step caller) fault.AlreadyStepped refl (when (nat_lt caller callers) _ _ below ∙ ap (step_open s caller) some ∙ ap (step_with s caller call.wish) stepped)
-    (when (nat_lt caller callers) _ _ below ∙ ap (reserved_by s caller) some ∙ ap (reserved s caller call.wish) stepped)
+    faulty s (event.Step caller) fault.AlreadyStepped refl (when (nat_lt caller callers) _ _ below ∙ ap (step_open s caller) some ∙ ap (step_with s caller call.requested) stepped)
+    (when (nat_lt caller callers) _ _ below ∙ ap (reserved_by s caller) some ∙ ap (reserved s caller call.requested) stepped)
 
 step_at : (s : Schedule) (caller : ℕ) → nat_lt caller callers ≡ true → (o : Option OpenCall) → finite.get s.calls caller ≡ o → Move s (event.Step caller)
 step_at s caller below None none =

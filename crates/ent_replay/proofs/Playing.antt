@@ -122,7 +122,7 @@ module _ (s : Allocator) (spent : FinMap nat_cmp ℕ) (calls : FinMap nat_cmp Ca
   quiet_calls none t = ap (map_values (replied s)) none ∙ map_values-empty (replied s) ∙ sym (map_values-empty (replied t)) ∙ ap (map_values (replied t)) (sym none)
 
   -- nor is anything kept for one
-  quiet_once : calls ≡ finite.empty → (t : Allocator) → given.AreGivenOnce t (pending (map_values (replied t) calls))
+  quiet_once : calls ≡ finite.empty → (t : Allocator) → given.AreSpent t (pending (map_values (replied t) calls))
   quiet_once none t = given-none t (pending (map_values (replied t) calls)) (pending-none (map_values (replied t) calls) (ap (map_values (replied t)) none ∙ map_values-empty (replied t)))
 
   pub quiet_played : IsPlayed s spent calls → calls ≡ finite.empty → (t : Allocator) → IsSound t → t.asked ≡ s.asked → IsPlayed t spent calls
@@ -130,7 +130,7 @@ module _ (s : Allocator) (spent : FinMap nat_cmp ℕ) (calls : FinMap nat_cmp Ca
     sound = sound;
     credit = h.credit;
     asked = let before = h.asked in omega arith;
-    wishes = h.wishes;
+    requests = h.requests;
     spans = λ q call span is _. absurd (absent q call is);
     once = quiet_once none t;
   }
@@ -216,7 +216,7 @@ module _ (s : Allocator) (spent : FinMap nat_cmp ℕ) (calls : FinMap nat_cmp Ca
       asked =
           let waits : total (λ q. awaited (finite.get calls q)) callers ≡ 0 = total-none (λ q. awaited (finite.get calls q)) callers (λ q. ap (λ m. awaited (finite.get m q)) none ∙ ap awaited (get-empty nat_cmp q)) in
           omega arith;
-      wishes = played.wishes;
+      requests = played.requests;
       spans = λ q call span is _. absurd (absent q call is);
       once = quiet_once none (after_flush s);
     }
@@ -243,7 +243,7 @@ module _ (s : Allocator) (spent : FinMap nat_cmp ℕ) (calls : FinMap nat_cmp Ca
     opened o is = get-map_values (replied s) calls caller ∙ ap (option_map (replied s)) is
 
     -- what waits for this caller is counted
-    pub awaited-bound : IsPlayed s spent calls → (call : Call) → finite.get calls caller ≡ Some call → s.asked + unasked call.wish call.span ≤ 2 ^ 50
+    pub awaited-bound : IsPlayed s spent calls → (call : Call) → finite.get calls caller ≡ Some call → s.asked + unasked call.requested call.span ≤ 2 ^ 50
     awaited-bound h call is =
         let all = asked-bound h in
         let one : awaited (finite.get calls caller) ≤ total (λ q. awaited (finite.get calls q)) callers = total-part (λ q. awaited (finite.get calls q)) caller callers below in
@@ -261,7 +261,7 @@ module _ (s : Allocator) (spent : FinMap nat_cmp ℕ) (calls : FinMap nat_cmp Ca
 
     -- the call as it begins
     abbrev begun : ℕ → Call
-    begun n = record { wish = n; span = None }
+    begun n = record { requested = n; span = None }
 
     abbrev more : ℕ → ℕ
     more n = unwrap_or (finite.get spent caller) 0 + n
@@ -297,12 +297,12 @@ module _ (s : Allocator) (spent : FinMap nat_cmp ℕ) (calls : FinMap nat_cmp Ca
           let waits_now : awaited (finite.get (finite.insert calls caller (begun n)) caller) ≡ n = ap awaited (get-inserted calls caller (begun n)) in
           let spent_now : unwrap_or (finite.get (finite.insert spent caller (more n)) caller) 0 ≡ more n = ap (λ o. unwrap_or o 0) (get-inserted spent caller (more n)) in
           omega arith;
-      wishes = λ q call at. elim (ℕ_discrete q caller) [
+      requests = λ q call at. elim (ℕ_discrete q caller) [
         | yes same ↦
             let here : Some (begun n) ≡ Some call = sym (get-inserted calls caller (begun n)) ∙ ap (finite.get (finite.insert calls caller (begun n))) (sym same) ∙ at in
-            let wish : n ≡ call.wish = ap (λ c. c.wish) (same_Some (begun n) call here) in
+            let requested : n ≡ call.requested = ap (λ c. c.requested) (same_Some (begun n) call here) in
             omega arith
-        | no other ↦ h.wishes q call (sym (get-insert_other calls caller (begun n) q other) ∙ at)
+        | no other ↦ h.requests q call (sym (get-insert_other calls caller (begun n) q other) ∙ at)
       ];
       spans = λ q call span at passed. elim (ℕ_discrete q caller) [
         | yes same ↦
@@ -325,84 +325,84 @@ module _ (s : Allocator) (spent : FinMap nat_cmp ℕ) (calls : FinMap nat_cmp Ca
       pub step-stepped : (span : Span) → call.span ≡ Some span → on_step (schedule_of s spent calls) caller ≡ (Err fault.AlreadyStepped, schedule_of s spent calls)
       step-stepped span passed =
           when (nat_lt caller callers) _ _ is_caller ∙ ap (step_open (schedule_of s spent calls) caller) (opened (Some call) is)
-          ∙ ap (λ o. step_with (schedule_of s spent calls) caller call.wish (option_map (λ span. reply_from s.made (pool_at s span.high) call.wish) o)) passed
+          ∙ ap (λ o. step_with (schedule_of s spent calls) caller call.requested (option_map (λ span. reply_from s.made (pool_at s span.high) call.requested) o)) passed
 
       -- the call after its step
       abbrev stepped : Call
-      stepped = record { wish = call.wish; span = Some (record { high = cursor s; low = cursor s -ℤ pos call.wish }) }
+      stepped = record { requested = call.requested; span = Some (record { high = cursor s; low = cursor s -ℤ pos call.requested }) }
 
       pub step-taken : IsSound s → call.span ≡ None
-          → on_step (schedule_of s spent calls) caller ≡ (Ok (outcome.Cursor (cursor s -ℤ pos call.wish)), schedule_of (after_take s call.wish) spent (finite.insert calls caller stepped))
+          → on_step (schedule_of s spent calls) caller ≡ (Ok (outcome.Cursor (cursor s -ℤ pos call.requested)), schedule_of (after_take s call.requested) spent (finite.insert calls caller stepped))
       step-taken sound waits =
-          let t = after_take s call.wish in
+          let t = after_take s call.requested in
           when (nat_lt caller callers) _ _ is_caller ∙ ap (step_open (schedule_of s spent calls) caller) (opened (Some call) is)
-          ∙ ap (λ o. step_with (schedule_of s spent calls) caller call.wish (option_map (λ span. reply_from s.made (pool_at s span.high) call.wish) o)) waits
-          ∙ (λ i. (Ok (outcome.Cursor (cursor-after_take s call.wish sound i)), record { allocator = t; spent = spent; calls = inserted i }))
+          ∙ ap (λ o. step_with (schedule_of s spent calls) caller call.requested (option_map (λ span. reply_from s.made (pool_at s span.high) call.requested) o)) waits
+          ∙ (λ i. (Ok (outcome.Cursor (cursor-after_take s call.requested sound i)), record { allocator = t; spent = spent; calls = inserted i }))
         where
           -- what a span replies stays through the step
-          same : replied s ≡ replied (after_take s call.wish)
+          same : replied s ≡ replied (after_take s call.requested)
           same = λ i c. record {
-            wish = c.wish;
-            reply = option_map (λ span. reply_from (sym (made-after_take s call.wish) i) (drop (asked_at (length (filter (is_old (sym (made-after_take s call.wish) i)) (sym (available-after_take s call.wish sound) i))) span.high) (sym (available-after_take s call.wish sound) i)) c.wish) c.span;
+            requested = c.requested;
+            reply = option_map (λ span. reply_from (sym (made-after_take s call.requested) i) (drop (asked_at (length (filter (is_old (sym (made-after_take s call.requested) i)) (sym (available-after_take s call.requested sound) i))) span.high) (sym (available-after_take s call.requested sound) i)) c.requested) c.span;
           }
 
-          inserted : finite.insert (map_values (replied s) calls) caller (record { wish = call.wish; reply = Some (reply_to s call.wish) }) ≡ map_values (replied (after_take s call.wish)) (finite.insert calls caller stepped)
+          inserted : finite.insert (map_values (replied s) calls) caller (record { requested = call.requested; reply = Some (reply_to s call.requested) }) ≡ map_values (replied (after_take s call.requested)) (finite.insert calls caller stepped)
           inserted =
-              ap (λ r. finite.insert (map_values (replied s) calls) caller (record { wish = call.wish; reply = Some r })) (sym (reply-cursor s call.wish sound))
+              ap (λ r. finite.insert (map_values (replied s) calls) caller (record { requested = call.requested; reply = Some r })) (sym (reply-cursor s call.requested sound))
               ∙ sym (map_values-insert (replied s) calls caller stepped)
               ∙ ap (λ f. map_values f (finite.insert calls caller stepped)) same
 
-      pub step-played : IsPlayed s spent calls → call.span ≡ None → IsPlayed (after_take s call.wish) spent (finite.insert calls caller stepped)
+      pub step-played : IsPlayed s spent calls → call.span ≡ None → IsPlayed (after_take s call.requested) spent (finite.insert calls caller stepped)
       step-played h waits = record {
-        sound = after_take-sound s call.wish h.sound;
+        sound = after_take-sound s call.requested h.sound;
         credit = h.credit;
         asked =
             let before = h.asked in
             let all = total-changed (λ q. awaited (finite.get calls q)) (λ q. awaited (finite.get (finite.insert calls caller stepped) q)) caller callers below
             (λ q other. ap awaited (sym (get-insert_other calls caller stepped q other))) in
-            let waited : awaited (finite.get calls caller) ≡ call.wish = ap awaited is ∙ ap (unasked call.wish) waits in
+            let waited : awaited (finite.get calls caller) ≡ call.requested = ap awaited is ∙ ap (unasked call.requested) waits in
             let waits_now : awaited (finite.get (finite.insert calls caller stepped) caller) ≡ 0 = ap awaited (get-inserted calls caller stepped) in
-            let asks = asked-after_take s call.wish in
+            let asks = asked-after_take s call.requested in
             omega arith;
-        wishes = λ q other_call at. elim (ℕ_discrete q caller) [
+        requests = λ q other_call at. elim (ℕ_discrete q caller) [
           | yes same ↦
               let here : Some stepped ≡ Some other_call = sym (get-inserted calls caller stepped) ∙ ap (finite.get (finite.insert calls caller stepped)) (sym same) ∙ at in
-              let wish : call.wish ≡ other_call.wish = ap (λ c. c.wish) (same_Some stepped other_call here) in
-              let small = h.wishes caller call is in
+              let requested : call.requested ≡ other_call.requested = ap (λ c. c.requested) (same_Some stepped other_call here) in
+              let small = h.requests caller call is in
               omega arith
-          | no other ↦ h.wishes q other_call (sym (get-insert_other calls caller stepped q other) ∙ at)
+          | no other ↦ h.requests q other_call (sym (get-insert_other calls caller stepped q other) ∙ at)
         ];
         spans = λ q other_call span at passed. elim (ℕ_discrete q caller) [
           | yes same ↦
               let here : Some stepped ≡ Some other_call = sym (get-inserted calls caller stepped) ∙ ap (finite.get (finite.insert calls caller stepped)) (sym same) ∙ at in
               let alike : stepped ≡ other_call = same_Some stepped other_call here in
-              let at_span : record { high = cursor s; low = cursor s -ℤ pos call.wish } ≡ span = same_Some _ span (ap (λ c. c.span) alike ∙ passed) in
-              let wish : call.wish ≡ other_call.wish = ap (λ c. c.wish) alike in
+              let at_span : record { high = cursor s; low = cursor s -ℤ pos call.requested } ≡ span = same_Some _ span (ap (λ c. c.span) alike ∙ passed) in
+              let requested : call.requested ≡ other_call.requested = ap (λ c. c.requested) alike in
               let high : cursor s ≡ span.high = ap (λ x. x.high) at_span in
-              let low : cursor s -ℤ pos call.wish ≡ span.low = ap (λ x. x.low) at_span in
+              let low : cursor s -ℤ pos call.requested ≡ span.low = ap (λ x. x.low) at_span in
               let limit = asked-bound h in
-              let tops = top-after_take s call.wish h.sound in
+              let tops = top-after_take s call.requested h.sound in
               record { least = omega (arith, ints); high = omega (arith, ints); low = omega (arith, ints) }
           | no other ↦
               let old = h.spans q other_call span (sym (get-insert_other calls caller stepped q other) ∙ at) passed in
-              let tops = top-after_take s call.wish h.sound in
+              let tops = top-after_take s call.requested h.sound in
               record { least = old.least; high = subst (λ n. span.high ≤ℤ pos n) (sym tops) old.high; low = old.low }
         ];
-        once = pending-next (schedule_of s spent calls) (event.Step caller) (Ok (outcome.Cursor (cursor s -ℤ pos call.wish))) (schedule_of (after_take s call.wish) spent (finite.insert calls caller stepped))
+        once = pending-next (schedule_of s spent calls) (event.Step caller) (Ok (outcome.Cursor (cursor s -ℤ pos call.requested))) (schedule_of (after_take s call.requested) spent (finite.insert calls caller stepped))
             (step-taken h.sound waits) refl h.sound h.once;
       }
 
       pub answer-not_stepped : call.span ≡ None → on_answer (schedule_of s spent calls) caller ≡ (Err fault.NotStepped, schedule_of s spent calls)
       answer-not_stepped waits =
           when (nat_lt caller callers) _ _ is_caller ∙ ap (answer_open (schedule_of s spent calls) caller) (opened (Some call) is)
-          ∙ ap (λ o. answer_with (schedule_of s spent calls) caller (option_map (λ span. reply_from s.made (pool_at s span.high) call.wish) o)) waits
+          ∙ ap (λ o. answer_with (schedule_of s spent calls) caller (option_map (λ span. reply_from s.made (pool_at s span.high) call.requested) o)) waits
 
       pub answer-answered : (span : Span) → call.span ≡ Some span
-          → on_answer (schedule_of s spent calls) caller ≡ (Ok (reported (reply_from s.made (pool_at s span.high) call.wish)), schedule_of s spent (finite.remove calls caller))
+          → on_answer (schedule_of s spent calls) caller ≡ (Ok (reported (reply_from s.made (pool_at s span.high) call.requested)), schedule_of s spent (finite.remove calls caller))
       answer-answered span passed =
           when (nat_lt caller callers) _ _ is_caller ∙ ap (answer_open (schedule_of s spent calls) caller) (opened (Some call) is)
-          ∙ ap (λ o. answer_with (schedule_of s spent calls) caller (option_map (λ span. reply_from s.made (pool_at s span.high) call.wish) o)) passed
-          ∙ ap (λ m. (Ok (reported (reply_from s.made (pool_at s span.high) call.wish)), record { allocator = s; spent = spent; calls = m })) (sym (map_values-remove (replied s) calls caller))
+          ∙ ap (λ o. answer_with (schedule_of s spent calls) caller (option_map (λ span. reply_from s.made (pool_at s span.high) call.requested) o)) passed
+          ∙ ap (λ m. (Ok (reported (reply_from s.made (pool_at s span.high) call.requested)), record { allocator = s; spent = spent; calls = m })) (sym (map_values-remove (replied s) calls caller))
 
       pub answer-played : IsPlayed s spent calls → (span : Span) → call.span ≡ Some span → IsPlayed s spent (finite.remove calls caller)
       answer-played h span passed = record {
@@ -412,19 +412,19 @@ module _ (s : Allocator) (spent : FinMap nat_cmp ℕ) (calls : FinMap nat_cmp Ca
             let before = h.asked in
             let all = total-changed (λ q. awaited (finite.get calls q)) (λ q. awaited (finite.get (finite.remove calls caller) q)) caller callers below
             (λ q other. ap awaited (sym (get-remove_other calls caller q other))) in
-            let waited : awaited (finite.get calls caller) ≡ 0 = ap awaited is ∙ ap (unasked call.wish) passed in
+            let waited : awaited (finite.get calls caller) ≡ 0 = ap awaited is ∙ ap (unasked call.requested) passed in
             let waits_now : awaited (finite.get (finite.remove calls caller) caller) ≡ 0 = ap awaited (get-removed calls caller) in
             omega arith;
-        wishes = λ q other_call at. elim (ℕ_discrete q caller) [
+        requests = λ q other_call at. elim (ℕ_discrete q caller) [
           | yes same ↦ absurd (gone q other_call same at)
-          | no other ↦ h.wishes q other_call (sym (get-remove_other calls caller q other) ∙ at)
+          | no other ↦ h.requests q other_call (sym (get-remove_other calls caller q other) ∙ at)
         ];
         spans = λ q other_call other_span at. elim (ℕ_discrete q caller) [
           | yes same ↦ absurd (gone q other_call same at)
           | no other ↦ h.spans q other_call other_span (sym (get-remove_other calls caller q other) ∙ at)
         ];
-        once = pending-next (schedule_of s spent calls) (event.Answer caller) (Ok (reported (reply_from s.made (pool_at s span.high) call.wish))) (schedule_of s spent (finite.remove calls caller))
-            (answer-answered span passed) (not_wrapped-reported (reply_from s.made (pool_at s span.high) call.wish)) h.sound h.once;
+        once = pending-next (schedule_of s spent calls) (event.Answer caller) (Ok (reported (reply_from s.made (pool_at s span.high) call.requested))) (schedule_of s spent (finite.remove calls caller))
+            (answer-answered span passed) (not_wrapped-reported (reply_from s.made (pool_at s span.high) call.requested)) h.sound h.once;
       }
         where
           gone : (q : ℕ) (c : Call) → q ≡ caller → finite.get (finite.remove calls caller) q ≡ Some c → ⊥
@@ -444,7 +444,7 @@ starting-played limits h = record {
   asked =
       let waits : total (λ q. awaited (finite.get (finite.empty {X = Call} {R = nat_cmp}) q)) callers ≡ 0 = total-none (λ q. awaited (finite.get finite.empty q)) callers (λ q. ap awaited (get-empty nat_cmp q)) in
       omega arith;
-  wishes = λ q call at. absurd (absent q call at);
+  requests = λ q call at. absurd (absent q call at);
   spans = λ q call span at _. absurd (absent q call at);
   once = given-none (opening limits) (pending (map_values (replied (opening limits)) finite.empty)) (pending-none (map_values (replied (opening limits)) finite.empty) (map_values-empty (replied (opening limits))));
 }

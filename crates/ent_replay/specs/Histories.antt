@@ -15,15 +15,15 @@ use Rattle.ent_replay.specs.Schedule.{Schedule, OpenCall, Reply, after_event, ca
 
 -- ---- the history of steps
 
--- a first step for some handles is a reservation; a wish for none is none
+-- a first step for some handles is a reservation; a request for none is none
 abbrev pub reserved : Schedule → ℕ → ℕ → Option Reply → List Call
 reserved s caller n (Some reply) = []
 reserved s caller zero None = []
-reserved s caller (suc n) None = record { caller = caller; wish = suc n; reply = reply_to s.allocator (suc n) } ∷ []
+reserved s caller (suc n) None = record { caller = caller; requested = suc n; reply = reply_to s.allocator (suc n) } ∷ []
 
 abbrev pub reserved_by : Schedule → ℕ → Option OpenCall → List Call
 reserved_by s caller None = []
-reserved_by s caller (Some call) = reserved s caller call.wish call.reply
+reserved_by s caller (Some call) = reserved s caller call.requested call.reply
 
 -- the reservation that the event makes, if it makes one
 abbrev pub reservations : Schedule → Event → List Call
@@ -46,15 +46,15 @@ abbrev pub last_of : ℕ → List Call → Option Call
 last_of caller [] = None
 last_of caller (call ∷ calls) = option_or (last_of caller calls) (if call.caller == caller then Some call else None)
 
--- what may be told of the caller's wish: that a wish for none gave none; of another the reply to the caller's last
+-- what may be told of the caller's request: that a request for none gave none; of another the reply to the caller's last
 -- reservation, which was for as many
 abbrev pub TellsOf : List Call → ℕ → ℕ → Outcome → Type 0
-TellsOf calls caller wish told =
-    ((wish ≡ 0) × (told ≡ outcome.Handles [])) ⊎ ((call : Call) × (last_of caller calls ≡ Some call) × (call.wish ≡ wish) × (told ≡ reported call.reply))
+TellsOf calls caller requested told =
+    ((requested ≡ 0) × (told ≡ outcome.Handles [])) ⊎ ((call : Call) × (last_of caller calls ≡ Some call) × (call.requested ≡ requested) × (told ≡ reported call.reply))
 
--- An answer tells of the wish of the caller's open call.
+-- An answer tells of the request of the caller's open call.
 abbrev pub Tells : Schedule → List Call → Event → Result Outcome ReplayFault → Type 0
-Tells s calls (event.Answer caller) (Ok told) = (call : OpenCall) × (map.get s.calls caller ≡ Some call) × TellsOf calls caller call.wish told
+Tells s calls (event.Answer caller) (Ok told) = (call : OpenCall) × (map.get s.calls caller ≡ Some call) × TellsOf calls caller call.requested told
 Tells s calls e result = Unit {0}
 
 -- After each event the reservations of the phase, in the order of their steps, are a legal history that leads from its

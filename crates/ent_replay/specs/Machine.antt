@@ -21,21 +21,21 @@ map_values f m = finite.from_entries (map (λ e. (e.0, f e.1)) (finite.entries m
 
 -- The places that a call's step passed tell its reply, whatever was taken since.
 abbrev pub replied : Allocator → Call → OpenCall
-replied s call = record { wish = call.wish; reply = option_map (λ span. reply_from s.made (pool_at s span.high) call.wish) call.span }
+replied s call = record { requested = call.requested; reply = option_map (λ span. reply_from s.made (pool_at s span.high) call.requested) call.span }
 
 abbrev pub schedule_of : Allocator → finite.FinMap nat_cmp ℕ → finite.FinMap nat_cmp Call → Schedule
 schedule_of s spent calls = record { allocator = s; spent = spent; calls = map_values (replied s) calls }
 
 -- what a call will ask for at its step
 abbrev pub unasked : ℕ → Option Span → ℕ
-unasked wish None = wish
-unasked wish (Some span) = 0
+unasked requested None = requested
+unasked requested (Some span) = 0
 
 abbrev pub awaited : Option Call → ℕ
 awaited None = 0
-awaited (Some call) = unasked call.wish call.span
+awaited (Some call) = unasked call.requested call.span
 
--- the span was passed since the last flush, by a wish for n
+-- the span was passed since the last flush, by a request for n
 pub record HasPassed (s : Allocator) (n : ℕ) (span : Span) : Type 0 where
   pub least : neg_ℤ (pos (2 ^ 60)) ≤ℤ span.high
   pub high : span.high ≤ℤ pos (top s)
@@ -47,9 +47,9 @@ pub record IsPlayed (s : Allocator) (spent : finite.FinMap nat_cmp ℕ) (calls :
   pub sound : IsSound s
   pub credit : (q : ℕ) → unwrap_or (finite.get spent q) 0 ≤ credit
   pub asked : s.asked + total (λ q. awaited (finite.get calls q)) callers ≤ total (λ q. unwrap_or (finite.get spent q) 0) callers
-  pub wishes : (q : ℕ) (call : Call) → finite.get calls q ≡ Some call → call.wish < 2 ^ 32
-  pub spans : (q : ℕ) (call : Call) (span : Span) → finite.get calls q ≡ Some call → call.span ≡ Some span → HasPassed s call.wish span
-  pub once : given.AreGivenOnce s (pending (map_values (replied s) calls))
+  pub requests : (q : ℕ) (call : Call) → finite.get calls q ≡ Some call → call.requested < 2 ^ 32
+  pub spans : (q : ℕ) (call : Call) (span : Span) → finite.get calls q ≡ Some call → call.span ≡ Some span → HasPassed s call.requested span
+  pub once : given.AreSpent s (pending (map_values (replied s) calls))
 
 -- The machine did this step; or it was one that takes memory, memory ran out, and nothing has changed.
 abbrev pub Makes : Answered → Schedule → Result Outcome ReplayFault → Schedule → Type 0

@@ -20,13 +20,13 @@ use Rattle.ent_replay.specs.declared.fault.ReplayFault.TheVariants as fault
 abbrev pub Reply : Type 0
 Reply = Result (List Handle) Space
 
--- a call that was begun and not yet answered: its wish, and once it has made its step the reply
+-- a call that was begun and not yet answered: its request, and once it has made its step the reply
 pub record OpenCall : Type 0 where
-  pub wish : ℕ
+  pub requested : ℕ
   pub reply : Option Reply
 
--- The allocator, what each caller has wished for since the last flush, and the calls that are open. A caller that
--- stands in neither map has wished for nothing and has no call open.
+-- The allocator, what each caller has requested since the last flush, and the calls that are open. A caller that
+-- stands in neither map has requested nothing and has no call open.
 pub record Schedule : Type 0 where
   pub allocator : Allocator
   pub spent : map.FinMap nat_cmp ℕ
@@ -101,7 +101,7 @@ on_flush s =
 abbrev pub callers : ℕ
 callers = 1024
 
--- how much a caller may wish for between two flushes
+-- how much a caller may request for between two flushes
 abbrev pub credit : ℕ
 credit = 2 ^ 40
 
@@ -118,27 +118,27 @@ begin_with s caller n None =
       Ok outcome.Open,
       record s {
         spent = map.insert s.spent caller (spent_by s caller + n);
-        calls = map.insert s.calls caller (record { wish = n; reply = None });
+        calls = map.insert s.calls caller (record { requested = n; reply = None });
       },
     )
 
 abbrev pub on_begin : Schedule → ℕ → ℕ → Answered
 on_begin s caller n = if nat_lt caller callers then begin_with s caller n (map.get s.calls caller) else refuse s fault.Caller
 
--- the wish takes from the pool, and the reply is fixed
+-- the request takes from the pool, and the reply is fixed
 abbrev pub step_with : Schedule → ℕ → ℕ → Option Reply → Answered
 step_with s caller n (Some reply) = refuse s fault.AlreadyStepped
 step_with s caller n None = (
   Ok (outcome.Cursor (cursor (after_take s.allocator n))),
   record s {
     allocator = after_take s.allocator n;
-    calls = map.insert s.calls caller (record { wish = n; reply = Some (reply_to s.allocator n) });
+    calls = map.insert s.calls caller (record { requested = n; reply = Some (reply_to s.allocator n) });
   },
 )
 
 abbrev pub step_open : Schedule → ℕ → Option OpenCall → Answered
 step_open s caller None = refuse s fault.NotOpen
-step_open s caller (Some call) = step_with s caller call.wish call.reply
+step_open s caller (Some call) = step_with s caller call.requested call.reply
 
 abbrev pub on_step : Schedule → ℕ → Answered
 on_step s caller = if nat_lt caller callers then step_open s caller (map.get s.calls caller) else refuse s fault.Caller
@@ -193,8 +193,8 @@ open_call_code =
     code_by
     (ℕ × Option Reply)
     (coded× coded_ℕ (coded_option (coded_result (coded_list handle_code) space_code)))
-    (λ c. (c.wish, c.reply))
-    (λ p. record { wish = p.0; reply = p.1 })
+    (λ c. (c.requested, c.reply))
+    (λ p. record { requested = p.0; reply = p.1 })
     (λ _. refl)
   where
     space_code : Coded Space

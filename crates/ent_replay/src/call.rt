@@ -5,8 +5,8 @@ use ent_alloc::Span;
 /// It keeps no reply: the places that its step passed tell the reply at any later time.
 #[derive(Clone, Copy, Debug)]
 pub(crate) struct Call {
-    /// How many handles it wishes for.
-    pub(crate) wish: u32,
+    /// How many handles it requests.
+    pub(crate) requested: u32,
     /// The places that its step passed, once it has made its step.
     pub(crate) span: Option<Span>,
 }

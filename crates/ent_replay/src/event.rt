@@ -3,7 +3,7 @@ use ent_handle::Handle;
 /// One step of a schedule.
 ///
 /// `Alloc`, `Free` and `Flush` are exclusive. A reservation of a caller is three events: `Begin`
-/// opens the call with its wish, `Step` is its atomic step, and `Answer` gives the reply.
+/// opens the call with its request, `Step` is its atomic step, and `Answer` gives the reply.
 #[derive(Clone, Copy, Debug, PartialEq, Eq, Hash)]
 pub enum Event {
     /// Takes one handle.
@@ -16,7 +16,7 @@ pub enum Event {
     Begin {
         /// Who calls.
         caller: u32,
-        /// How many handles it wishes.
+        /// How many handles it requests.
         n: u32,
     },
     /// The atomic step of this caller's open call.

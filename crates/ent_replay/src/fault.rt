@@ -18,7 +18,7 @@ pub enum ReplayFault {
     /// A second `Step` of one call.
     #[error("the call has made its step")]
     AlreadyStepped,
-    /// A `Begin` whose wish is above the caller's credit.
+    /// A `Begin` whose request is above the caller's credit.
     #[error("the credit left is {left}")]
     Quota {
         /// The credit that is left.

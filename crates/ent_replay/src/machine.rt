@@ -17,13 +17,13 @@ use std::marker::Model;
 /// There are so many callers, numbered from 0.
 const CALLERS: u32 = 1024;
 
-/// How much a caller may wish for between two flushes.
+/// How much a caller may request for between two flushes.
 const CREDIT: u64 = 1 << 40;
 
 /// Applies the events of a schedule, one after the other.
 ///
 /// Callers are numbered from 0 to 1,023, and each has at most one call open. Contracts see the
-/// allocator, what each caller has wished for since the last flush, and the open calls with the
+/// allocator, what each caller has requested since the last flush, and the open calls with the
 /// replies that their steps fixed.
 #[derive(Drop)]
 pub struct Machine {
@@ -185,7 +185,7 @@ impl Machine {
             return Err(ReplayFault::Quota { left });
         }
         let call = Call {
-            wish: n,
+            requested: n,
             span: None,
         };
         if self.calls.insert(caller, call).is_err() {
@@ -210,9 +210,9 @@ impl Machine {
         if call.span.is_some() {
             return Err(ReplayFault::AlreadyStepped);
         }
-        let span = self.entities.lower(call.wish);
+        let span = self.entities.lower(call.requested);
         let stepped = Call {
-            wish: call.wish,
+            requested: call.requested,
             span: Some(span),
         };
         self.calls.replace(caller, stepped);

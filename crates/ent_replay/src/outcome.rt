@@ -29,7 +29,7 @@ pub enum Outcome {
     Handles(HandleList),
     /// There were too few handles.
     Space {
-        /// How many were wished.
+        /// How many were requested.
         wanted: u32,
         /// How many were left.
         left: u32,

@@ -34,7 +34,7 @@ fn one_bulk_over_both_parts(rt: HostRuntime) -> Result<(), Fail> {
 }
 
 #[test]
-fn wishes_of_none_and_callers_beyond_the_last(rt: HostRuntime) -> Result<(), Fail> {
+fn requests_of_none_and_callers_beyond_the_last(rt: HostRuntime) -> Result<(), Fail> {
     let text = b"begin 1 0\nstep 1\nanswer 1\nflush";
     let events = [
         Event::Begin { caller: 1, n: 0 },

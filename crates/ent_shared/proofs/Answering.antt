@@ -9,7 +9,7 @@ use Rattle.ent_handle.specs.Handle.{Handle}
 use Rattle.ent_alloc.specs.declared.space.Space.{Space}
 use Rattle.ent_alloc.specs.declared.span.Span.{Span}
 use Rattle.ent_shared.specs.declared.record.Record.{Record}
-use Rattle.ent_shared.specs.Record.{after_call}
+use Rattle.ent_shared.specs.Record.{after_reservation}
 use Rattle.ent_alloc.specs.Sequential.{Allocator, pool_at, reply_from, listed}
 
 pub reply-none : (made : ℕ) (pool : List Handle) → reply_from made pool 0 ≡ Ok []
@@ -25,7 +25,7 @@ low_of span high n e = ap (λ (s : Span). s.low) e ∙ sym (ap (λ (s : Span). s
 pub no_space : (r : Result (List Handle) Space) (space : Space) → r ≡ Ok [] → r ≡ Err space → ⊥
 no_space r space good bad = cc
 
--- what is served to a wish for one is one handle
+-- what is served to a request for one is one handle
 pub one_given : (made : ℕ) (pool handles : List Handle) → Ok handles ≡ answered (reply_from made pool 1) → length handles ≡ 1
 one_given made [] handles is =
     let none : nat_le 1 0 ≡ false = grind (arith, nat_tests) in
@@ -66,7 +66,7 @@ short_refused made pool n refusal is =
 
 -- the floor after a call that was served, and after one that was refused
 pub served_floor : (r : Record) (start : Allocator) (high : ℤ) (n : ℕ) (span : Span) (handles : List Handle) (reply : Result (List Handle) Space) → r.start ≡ start → span ≡ record { high = high; low = high -ℤ pos n }
-    → ((k : ℕ) → span.low ≡ span.high -ℤ pos k → reply ≡ reply_from start.made (pool_at start span.high) k) → reply ≡ Ok handles → span.low ≡ (after_call r high n).floor
+    → ((k : ℕ) → span.low ≡ span.high -ℤ pos k → reply ≡ reply_from start.made (pool_at start span.high) k) → reply ≡ Ok handles → span.low ≡ (after_reservation r high n).floor
 served_floor r start high n span handles reply same is answers served =
     let at : span.high ≡ high = ap (λ (s : Span). s.high) is in
     let test : nat_le n (length (pool_at start span.high)) ≡ true = enough_served start.made (pool_at start span.high) handles n (sym (answers n (low_of span high n is)) ∙ served) in
@@ -74,7 +74,7 @@ served_floor r start high n span handles reply same is answers served =
     ap (λ (s : Span). s.low) is ∙ sym (ap (λ (b : Bool). cond b (high -ℤ pos n) r.floor) here)
 
 pub refused_floor : (r : Record) (start : Allocator) (high : ℤ) (n : ℕ) (span : Span) (refusal : Space) (reply : Result (List Handle) Space) → r.start ≡ start → span ≡ record { high = high; low = high -ℤ pos n }
-    → ((k : ℕ) → span.low ≡ span.high -ℤ pos k → reply ≡ reply_from start.made (pool_at start span.high) k) → reply ≡ Err refusal → r.floor ≡ (after_call r high n).floor
+    → ((k : ℕ) → span.low ≡ span.high -ℤ pos k → reply ≡ reply_from start.made (pool_at start span.high) k) → reply ≡ Err refusal → r.floor ≡ (after_reservation r high n).floor
 refused_floor r start high n span refusal reply same is answers refused =
     let at : span.high ≡ high = ap (λ (s : Span). s.high) is in
     let test : nat_le n (length (pool_at start span.high)) ≡ false = short_refused start.made (pool_at start span.high) n refusal (sym (answers n (low_of span high n is)) ∙ refused) in

@@ -14,25 +14,25 @@ use Rattle.ent_alloc.proofs.PoolLaw.{after_takes-sound, available-after_takes, a
 use Rattle.ent_alloc.proofs.Taken.{length-available}
 use Rattle.ent_alloc.proofs.LaidOut.{flushed-laid_out}
 use Rattle.ent_alloc.proofs.Meaning.{asked_at-is}
-use Rattle.ent_alloc.proofs.Histories.{after_history-takes, given_in-distinct, given_in-not_live, given_in-taken, given_in-wake, after_history-settled}
-use Rattle.ent_shared.specs.declared.record.Call.{Call}
+use Rattle.ent_alloc.proofs.Histories.{after_history-takes, given_in-distinct, given_in-not_live, given_in-taken, given_in-bring_to_life, after_history-settled}
+use Rattle.ent_shared.specs.declared.record.Reservation.{Reservation}
 use mir.Syntax.{w64}
 use mir.Val.{to_z, of_z}
 use Rattle.ent_shared.specs.declared.record.Record.{Record}
 use Rattle.ent_shared.specs.declared.rule.Opening.{Opening}
-use Rattle.ent_shared.specs.Record.{credit, own_calls}
+use Rattle.ent_shared.specs.Record.{credit, own_reservations}
 use Rattle.ent_shared.specs.Rule.{floor_of, least_floor, IsStart, IsClosed}
 use Rattle.ent_shared.specs.Order.{as_call, calls_of, history_of, Respects}
-use Rattle.ent_shared.proofs.Steps.{wish, follow_asked}
+use Rattle.ent_shared.proofs.Steps.{requested, follow_asked}
 use Rattle.ent_shared.proofs.Histories.{calls_are, respects_all}
 use Rattle.ent_shared.proofs.Settling.{IsLater, legal_from, min_right, floor_below, taken_floor, floor_sorted, floor_of_all}
 
-sum_wishes : (cs : List Call) → sum (history.wishes_of (map as_call cs)) ≡ sum_by wish cs
-sum_wishes [] = refl
-sum_wishes (c ∷ cs) =
-    let rest = sum_wishes cs in
-    let first : sum (c.wish ∷ history.wishes_of (map as_call cs)) ≡ c.wish + sum (history.wishes_of (map as_call cs)) = sum_by-cons (λ (n : ℕ). n) c.wish (history.wishes_of (map as_call cs)) in
-    let others : sum_by wish (c ∷ cs) ≡ c.wish + sum_by wish cs = sum_by-cons wish c cs in
+sum_requests : (cs : List Reservation) → sum (history.requests_of (map as_call cs)) ≡ sum_by requested cs
+sum_requests [] = refl
+sum_requests (c ∷ cs) =
+    let rest = sum_requests cs in
+    let first : sum (c.requested ∷ history.requests_of (map as_call cs)) ≡ c.requested + sum (history.requests_of (map as_call cs)) = sum_by-cons (λ (n : ℕ). n) c.requested (history.requests_of (map as_call cs)) in
+    let others : sum_by requested (c ∷ cs) ≡ c.requested + sum_by requested cs = sum_by-cons requested c cs in
     omega arith
 
 few_asked : (n count : ℕ) → n ≤ count * credit → count ≤ 1024 → n ≤ 2 ^ 50
@@ -40,11 +40,11 @@ unfolding credit
 few_asked n count le few = omega arith
 
 module _ (start : Allocator) (count : ℕ) (records : List Record) (at : ℤ) (k : IsClosed start count records at) (sound : IsSound start) (flushed : start.asked ≡ 0) where
-  pub asked_in_all : cursor start ≡ at +ℤ pos (sum_by wish k.log)
+  pub asked_in_all : cursor start ≡ at +ℤ pos (sum_by requested k.log)
   asked_in_all = follow_asked (cursor start) k.log at k.follow
 
   pub cursor_least : count ≤ 1024 → pos (top start) ≤ℤ (at +ℤ pos (2 ^ 50))
-  cursor_least few = let all = asked_in_all in let most = few_asked (sum_by wish k.log) count k.asked few in omega (arith, ints)
+  cursor_least few = let all = asked_in_all in let most = few_asked (sum_by requested k.log) count k.asked few in omega (arith, ints)
 
   pub cursor_greatest : at ≤ℤ pos (top start)
   cursor_greatest = let all = asked_in_all in omega (arith, ints)
@@ -71,15 +71,15 @@ module _ (start : Allocator) (count : ℕ) (records : List Record) (at : ℤ) (k
     pub not_live : All (λ h. ¬ (IsLive start h)) (history.given_in (history_of records))
     not_live = given_in-not_live start (history_of records) sound legal
 
-    pub woken : (h : Handle) → IsLive (after_flush (history.after_history start (history_of records))) h ↔ IsLive start h ⊎ Contains (history.given_in (history_of records)) h
-    woken = given_in-wake start (history_of records) sound legal flushed
+    pub brought_to_life : (h : Handle) → IsLive (after_flush (history.after_history start (history_of records))) h ↔ IsLive start h ⊎ Contains (history.given_in (history_of records)) h
+    brought_to_life = given_in-bring_to_life start (history_of records) sound legal flushed
 
     -- the least floor tells how many are taken
     pub floor_is : least_floor (cursor start) records ≡ pos (top start) -ℤ pos (length final.taken)
     floor_is =
         let f : ℤ = floor_of start k.log in
         let of_log : least_floor (cursor start) records ≡ f =
-        floor_of_all start at k.log records k.each ∙ (sym (floor_sorted start (flat_map (λ (r : Record). own_calls r.entries) records)) ∙ ap (floor_of start) (calls_are start count records at k whole)) in
+        floor_of_all start at k.log records k.each ∙ (sym (floor_sorted start (flat_map (λ (r : Record). own_reservations r.entries) records)) ∙ ap (floor_of start) (calls_are start count records at k whole)) in
         let none : length start.taken ≡ 0 = ap length (flushed-laid_out start sound flushed).taken in
         let below = floor_below start k.log in
         let high : ℤ = pos (top start) -ℤ pos (length start.taken) in
@@ -87,20 +87,20 @@ module _ (start : Allocator) (count : ℕ) (records : List Record) (at : ℤ) (k
         let taken : int_min high f ≡ pos (top start) -ℤ pos (length (history.after_history start (map as_call k.log)).taken) = taken_floor start start k.log at flushed itself k.follow in
         of_log ∙ (sym (min_right high f down) ∙ (taken ∙ ap (λ (calls : List history.Call). pos (top start) -ℤ pos (length (history.after_history start calls).taken)) (sym history_is)))
 
-    asked_is : sum (history.wishes_of (history_of records)) ≡ sum_by wish k.log
-    asked_is = ap (λ (calls : List history.Call). sum (history.wishes_of calls)) history_is ∙ sum_wishes k.log
+    asked_is : sum (history.requests_of (history_of records)) ≡ sum_by requested k.log
+    asked_is = ap (λ (calls : List history.Call). sum (history.requests_of calls)) history_is ∙ sum_requests k.log
 
-    final_asked : final.asked ≡ sum_by wish k.log
+    final_asked : final.asked ≡ sum_by requested k.log
     final_asked =
-        let asked = asked-after_takes start (history.wishes_of (history_of records)) in
+        let asked = asked-after_takes start (history.requests_of (history_of records)) in
         let is = asked_is in
         ap (λ (s : Allocator). s.asked) (after_history-takes start (history_of records)) ∙ omega arith
 
     final_sound : IsSound final
-    final_sound = subst IsSound (sym (after_history-takes start (history_of records))) (after_takes-sound start (history.wishes_of (history_of records)) sound)
+    final_sound = subst IsSound (sym (after_history-takes start (history_of records))) (after_takes-sound start (history.requests_of (history_of records)) sound)
 
     final_available : available final ≡ available start
-    final_available = ap available (after_history-takes start (history_of records)) ∙ available-after_takes start (history.wishes_of (history_of records)) sound
+    final_available = ap available (after_history-takes start (history_of records)) ∙ available-after_takes start (history.requests_of (history_of records)) sound
 
     taken_few : length final.taken ≤ top start + (start.limits.slots - start.made)
     taken_few =
@@ -108,7 +108,7 @@ module _ (start : Allocator) (count : ℕ) (records : List Record) (at : ℤ) (k
         let parts = length-append final.taken (final.aside ++ final.pool) in
         omega arith
 
-    taken_all : sum_by wish k.log ≤ top start + (start.limits.slots - start.made) → length final.taken ≡ sum_by wish k.log
+    taken_all : sum_by requested k.log ≤ top start + (start.limits.slots - start.made) → length final.taken ≡ sum_by requested k.log
     taken_all enough =
         let all : length (available final) ≡ top start + (start.limits.slots - start.made) = ap length final_available ∙ length-available start sound in
         let asked = final_asked in
@@ -135,7 +135,7 @@ module _ (start : Allocator) (count : ℕ) (records : List Record) (at : ℤ) (k
           let here = floor_here in
           let all = asked_in_all in
           let few = taken_few in
-          elim (cases_lt (top start + (start.limits.slots - start.made)) (sum_by wish k.log)) [
+          elim (cases_lt (top start + (start.limits.slots - start.made)) (sum_by requested k.log)) [
             | inl more ↦ omega (arith, ints)
             | inr enough ↦ (let taken = taken_all enough in omega (arith, ints))
           ]
@@ -147,7 +147,7 @@ module _ (start : Allocator) (count : ℕ) (records : List Record) (at : ℤ) (k
       pub settled_is : settled start (asked_at (top start) floor) (asked_at (top start) at) ≡ final
       settled_is =
           let given : asked_at (top start) floor ≡ length final.taken = (let e = asked_at-is (top start) floor floor_greatest in let here = floor_here in omega (arith, ints)) in
-          let asked : asked_at (top start) at ≡ sum (history.wishes_of (history_of records)) = (let e = asked_at-is (top start) at cursor_greatest in let all = asked_in_all in let total = asked_is in omega (arith, ints)) in
+          let asked : asked_at (top start) at ≡ sum (history.requests_of (history_of records)) = (let e = asked_at-is (top start) at cursor_greatest in let all = asked_in_all in let total = asked_is in omega (arith, ints)) in
           let long : length final.taken ≡ length (history.given_in (history_of records)) = length_permutation (history.given_in (history_of records)) final.taken (given_in-taken start (history_of records) sound legal flushed) in
           (λ i. settled start ((given ∙ long) i) (asked i)) ∙ sym (after_history-settled start (history_of records) sound legal flushed)
 
@@ -163,7 +163,7 @@ pub record Ended (here start : Allocator) (records : List Record) (at floor : �
   pub after : settled here (asked_at (top here) floor) (asked_at (top here) at) ≡ history.after_history start (history_of records)
   pub all_distinct : AllPairs (λ g h. g ≢ h) (history.given_in (history_of records))
   pub none_live : All (λ h. ¬ (IsLive start h)) (history.given_in (history_of records))
-  pub wakes : (h : Handle) → IsLive (after_flush (history.after_history start (history_of records))) h ↔ IsLive start h ⊎ Contains (history.given_in (history_of records)) h
+  pub brings_to_life : (h : Handle) → IsLive (after_flush (history.after_history start (history_of records))) h ↔ IsLive start h ⊎ Contains (history.given_in (history_of records)) h
 
 ended_at : (start : Allocator) (count : ℕ) (records : List Record) (at floor : ℤ) → IsSound start → start.asked ≡ 0 → count ≤ 1024 → length records ≡ count → IsClosed start count records at
     → floor ≡ least_floor (pos (top start)) records → Ended start start records at floor
@@ -178,7 +178,7 @@ ended_at start count records at floor sound flushed few whole k is = record {
   after = settled_is start count records at k sound flushed whole floor is;
   all_distinct = distinct start count records at k sound flushed whole;
   none_live = not_live start count records at k sound flushed whole;
-  wakes = woken start count records at k sound flushed whole;
+  brings_to_life = brought_to_life start count records at k sound flushed whole;
 }
 
 -- a cursor between the bounds is what the code makes of it

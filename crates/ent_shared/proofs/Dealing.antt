@@ -6,7 +6,7 @@ use Rattle.atomic_table.specs.Seated.{TableId}
 use Rattle.atomic_table.specs.Table.{Me}
 use Rattle.ent_alloc.specs.Sequential.{Allocator, cursor}
 use Rattle.ent_shared.specs.declared.record.Record.{Record}
-use Rattle.ent_shared.specs.declared.record.Call.{Call}
+use Rattle.ent_shared.specs.declared.record.Reservation.{Reservation}
 use Rattle.ent_shared.specs.Record.{low, opened, opened_records, credit}
 use Rattle.ent_shared.specs.Phase.{Shared, Reserver, IsOf, own_of, IsSeated}
 
@@ -47,7 +47,7 @@ module _ (start : Allocator) (n number : ℕ) (word seat : TableId) (made : List
   pub next_seated : (views : List (List Record)) (floor : ℤ) → views ≡ take 1 me.0 ∷ [] → floor ≡ cursor start → IsSeated views number credit floor
   next_seated views floor is at =
       let one : views ≡ (opened start number ∷ []) ∷ [] = is ∙ ap (λ (rs : List Record). take 1 rs ∷ []) next_is in
-      subst (λ vs. IsSeated vs number credit floor) (sym one) (record { views_is = refl; number_is = refl; left_is = refl; floor_is = at; below = All-nil (λ (c : Call). cursor start ≤ℤ low c) })
+      subst (λ vs. IsSeated vs number credit floor) (sym one) (record { views_is = refl; number_is = refl; left_is = refl; floor_is = at; below = All-nil (λ (c : Reservation). cursor start ≤ℤ low c) })
 
   pub dealt_more : (later : TableId) (after : Me (Unit {0}) (List Record)) (r : Reserver) → later ≡ seat → after ≡ (drop 1 me.0, []) → (views : List (List Record)) → views ≡ take 1 me.0 ∷ []
       → r ≡ record { word = seat; own = own_of views } → (now : List Reserver) → now ≡ made ++ r ∷ [] → IsDealt start n (number + 1) word now later after

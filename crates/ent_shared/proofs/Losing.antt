@@ -18,14 +18,14 @@ use Rattle.ent_alloc.proofs.Taken.{length-available}
 use Rattle.ent_alloc.proofs.LaidOut.{flushed-laid_out}
 use Rattle.ent_alloc.proofs.Meaning.{asked_at-is}
 use Rattle.ent_alloc.proofs.Replies.{listed-IsPermutation}
-use Rattle.ent_shared.specs.declared.record.Call.{Call}
+use Rattle.ent_shared.specs.declared.record.Reservation.{Reservation}
 use Rattle.ent_shared.specs.declared.record.Record.{Record}
 use Rattle.ent_shared.specs.declared.rule.Opening.{Opening}
-use Rattle.ent_shared.specs.Record.{low, credit, own_calls}
+use Rattle.ent_shared.specs.Record.{low, credit, own_reservations}
 use Rattle.ent_shared.specs.Phase.{after_loss}
 use Rattle.ent_shared.specs.Rule.{Follow, IsAnswered, IsKept, IsStart, IsClosed}
 use Rattle.ent_shared.specs.Order.{handles_of}
-use Rattle.ent_shared.proofs.Steps.{wish}
+use Rattle.ent_shared.proofs.Steps.{requested}
 use Rattle.ent_shared.proofs.Records.{all_own}
 use Rattle.ent_shared.proofs.Closing.{asked_in_all, cursor_least, cursor_greatest, in_word}
 
@@ -38,36 +38,36 @@ front_contains xs k n asked le =
     subst (All P) (drop-take k n xs) (All-drop P k (take (k + n) xs) (subst (All P) same all))
 
 -- the handles of a call are in the front that reaches as far
-call_contains : (start : Allocator) (c : Call) (asked : ℕ) → IsAnswered start c → asked_at (top start) c.high + c.wish ≤ asked → All (Contains (take asked (available start))) (history.handles_in c.reply)
+call_contains : (start : Allocator) (c : Reservation) (asked : ℕ) → IsAnswered start c → asked_at (top start) c.high + c.requested ≤ asked → All (Contains (take asked (available start))) (history.handles_in c.reply)
 call_contains start c asked answered le =
     let pool : List Handle = pool_at start c.high in
     let P : Handle → Type 0 = Contains (take asked (available start)) in
-    let inside : All P (take c.wish pool) = front_contains (available start) (asked_at (top start) c.high) c.wish asked le in
-    let given : All P (listed start.made (take c.wish pool)) = All-permutation P (take c.wish pool) (listed start.made (take c.wish pool)) (listed-IsPermutation start.made (take c.wish pool)) inside in
-    let space : Space = record { wanted = c.wish; left = length pool } in
-    let goal : Bool → Type 0 = λ b. All P (history.handles_in (cond {A = Result (List Handle) Space} b (Ok (listed start.made (take c.wish pool))) (Err space))) in
+    let inside : All P (take c.requested pool) = front_contains (available start) (asked_at (top start) c.high) c.requested asked le in
+    let given : All P (listed start.made (take c.requested pool)) = All-permutation P (take c.requested pool) (listed start.made (take c.requested pool)) (listed-IsPermutation start.made (take c.requested pool)) inside in
+    let space : Space = record { wanted = c.requested; left = length pool } in
+    let goal : Bool → Type 0 = λ b. All P (history.handles_in (cond {A = Result (List Handle) Space} b (Ok (listed start.made (take c.requested pool))) (Err space))) in
     subst (λ (r : Result (List Handle) Space). All P (history.handles_in r)) (sym answered)
-    (elim (nat_le c.wish (length pool)) as goal [ true ↦ given | false ↦ All-nil P ])
+    (elim (nat_le c.requested (length pool)) as goal [ true ↦ given | false ↦ All-nil P ])
 
-calls_contain : (start : Allocator) (asked : ℕ) (cs : List Call) → All (IsAnswered start) cs → All (λ (c : Call). asked_at (top start) c.high + c.wish ≤ asked) cs → All (Contains (take asked (available start))) (handles_of cs)
+calls_contain : (start : Allocator) (asked : ℕ) (cs : List Reservation) → All (IsAnswered start) cs → All (λ (c : Reservation). asked_at (top start) c.high + c.requested ≤ asked) cs → All (Contains (take asked (available start))) (handles_of cs)
 calls_contain start asked [] answered within = All-nil (Contains (take asked (available start)))
 calls_contain start asked (c ∷ cs) answered within =
     let P : Handle → Type 0 = Contains (take asked (available start)) in
-    let W : Call → Type 0 = λ (d : Call). asked_at (top start) d.high + d.wish ≤ asked in
+    let W : Reservation → Type 0 = λ (d : Reservation). asked_at (top start) d.high + d.requested ≤ asked in
     All-append P (history.handles_in c.reply) (handles_of cs)
     (call_contains start c asked (All-head (IsAnswered start) c cs answered) (All-head W c cs within))
     (calls_contain start asked cs (All-tail (IsAnswered start) c cs answered) (All-tail W c cs within))
 
 -- each call lies between the top and the cursor
-calls_within : (start : Allocator) (high : ℤ) (cs : List Call) (end : ℤ) (asked : ℕ) → high ≤ℤ pos (top start) → pos (top start) ≡ end +ℤ pos asked → Follow high cs end
-    → All (λ (c : Call). asked_at (top start) c.high + c.wish ≤ asked) cs × (end ≤ℤ high)
-calls_within start high [] end asked up is f = (All-nil (λ (c : Call). asked_at (top start) c.high + c.wish ≤ asked), omega (arith, ints, f))
+calls_within : (start : Allocator) (high : ℤ) (cs : List Reservation) (end : ℤ) (asked : ℕ) → high ≤ℤ pos (top start) → pos (top start) ≡ end +ℤ pos asked → Follow high cs end
+    → All (λ (c : Reservation). asked_at (top start) c.high + c.requested ≤ asked) cs × (end ≤ℤ high)
+calls_within start high [] end asked up is f = (All-nil (λ (c : Reservation). asked_at (top start) c.high + c.requested ≤ asked), omega (arith, ints, f))
 calls_within start high (c ∷ cs) end asked up is f =
     let at : c.high ≡ high = f.0 in
     let rest = calls_within start (low c) cs end asked (omega (arith, ints)) is f.2 in
     let down : end ≤ℤ low c = rest.1 in
     let passed : pos (asked_at (top start) c.high) ≡ pos (top start) -ℤ c.high = asked_at-is (top start) c.high (omega (arith, ints)) in
-    (All-cons (λ (d : Call). asked_at (top start) d.high + d.wish ≤ asked) c cs (omega (arith, ints)) rest.0, omega (arith, ints))
+    (All-cons (λ (d : Reservation). asked_at (top start) d.high + d.requested ≤ asked) c cs (omega (arith, ints)) rest.0, omega (arith, ints))
 
 -- what the closing call with lost reservers owes and gives
 pub record Lost (here start : Allocator) (count : ℕ) (records : List Record) (at floor : ℤ) : Type 0 where
@@ -78,7 +78,7 @@ pub record Lost (here start : Allocator) (count : ℕ) (records : List Record) (
   pub greatest : floor ≤ℤ pos (top here)
   pub all_given : pos 0 ≤ℤ (at +ℤ pos (here.limits.slots - here.made)) → floor ≡ at
   pub after : settled here (asked_at (top here) floor) (asked_at (top here) at) ≡ after_loss start asked
-  pub given : All (λ (r : Record). All (Contains (take asked start.pool)) (handles_of (own_calls r.entries))) records
+  pub given : All (λ (r : Record). All (Contains (take asked start.pool)) (handles_of (own_reservations r.entries))) records
 
 max_right : (a b : ℤ) → a ≤ℤ b → int_max a b ≡ b
 max_right a b le = grind (arith, ints)
@@ -112,7 +112,7 @@ module _ (start : Allocator) (sound : IsSound start) (flushed : start.asked ≡ 
 lost_at : (start : Allocator) (count : ℕ) (records : List Record) (at floor : ℤ) → IsSound start → start.asked ≡ 0 → count ≤ 1024 → IsClosed start count records at
     → (floor ≡ at) × (neg_ℤ (pos (start.limits.slots - start.made)) ≤ℤ at) ⊎ (floor ≡ neg_ℤ (pos (start.limits.slots - start.made))) × (at ≤ℤ floor) → Lost start start count records at floor
 lost_at start count records at floor sound flushed few k which =
-    let asked : ℕ = sum_by wish k.log in
+    let asked : ℕ = sum_by requested k.log in
     let all = asked_in_all start count records at k sound flushed in
     let below = cursor_greatest start count records at k sound flushed in
     let top_is : pos (top start) ≡ cursor start = omega (arith, ints) in
@@ -128,7 +128,7 @@ lost_at start count records at floor sound flushed few k which =
     (λ (p : (floor ≡ neg_ℤ (pos (start.limits.slots - start.made))) × (at ≤ℤ floor)). let e = p.0 in inr (omega (arith, ints))) which in
     let le : given ≤ asked = ⊎_elim (λ (p : (floor ≡ at) × (neg_ℤ (pos (start.limits.slots - start.made)) ≤ℤ at)). let e = p.0 in omega (arith, ints)) (λ (p : (floor ≡ neg_ℤ (pos (start.limits.slots - start.made))) × (at ≤ℤ floor)). let e = p.0 in let l = p.1 in omega (arith, ints)) which in
     let P : Handle → Type 0 = Contains (take asked start.pool) in
-    let W : Call → Type 0 = λ (c : Call). asked_at (top start) c.high + c.wish ≤ asked in
+    let W : Reservation → Type 0 = λ (c : Reservation). asked_at (top start) c.high + c.requested ≤ asked in
     let log_within : All W k.log = (calls_within start (cursor start) k.log at asked (omega (arith, ints)) within k.follow).0 in
     record {
       asked = asked;
@@ -139,13 +139,13 @@ lost_at start count records at floor sound flushed few k which =
       greatest = floor_in;
       all_given = λ room. ⊎_elim (λ (p : (floor ≡ at) × (neg_ℤ (pos (start.limits.slots - start.made)) ≤ℤ at)). p.0) (λ (p : (floor ≡ neg_ℤ (pos (start.limits.slots - start.made))) × (at ≤ℤ floor)). let e = p.0 in let l = p.1 in omega (arith, ints)) which;
       after = ap (settled start given) asked_is ∙ loss_is start sound flushed given asked le cases;
-      given = All-weaker (IsKept start at k.log) (λ (r : Record). All P (handles_of (own_calls r.entries)))
+      given = All-weaker (IsKept start at k.log) (λ (r : Record). All P (handles_of (own_reservations r.entries)))
           (λ r kept.
-          let own : All (Contains k.log) (own_calls r.entries) = all_own (Contains k.log) r.entries kept.marks.known in
-          subst (λ (xs : List Handle). All (Contains (take asked xs)) (handles_of (own_calls r.entries))) (all_pool start sound flushed)
-          (calls_contain start asked (own_calls r.entries)
-          (All-weaker (Contains k.log) (IsAnswered start) (λ c inside. All-contains (IsAnswered start) k.log c k.answered inside) (own_calls r.entries) own)
-          (All-weaker (Contains k.log) W (λ c inside. All-contains W k.log c log_within inside) (own_calls r.entries) own)))
+          let own : All (Contains k.log) (own_reservations r.entries) = all_own (Contains k.log) r.entries kept.marks.known in
+          subst (λ (xs : List Handle). All (Contains (take asked xs)) (handles_of (own_reservations r.entries))) (all_pool start sound flushed)
+          (calls_contain start asked (own_reservations r.entries)
+          (All-weaker (Contains k.log) (IsAnswered start) (λ c inside. All-contains (IsAnswered start) k.log c k.answered inside) (own_reservations r.entries) own)
+          (All-weaker (Contains k.log) W (λ c inside. All-contains W k.log c log_within inside) (own_reservations r.entries) own)))
           records k.each;
     }
 

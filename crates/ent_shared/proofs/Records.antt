@@ -7,11 +7,11 @@ use Rattle.std.proofs.lemmas.List.Elements.{All-head, All-tail, All-nil, All-con
 use Rattle.std.proofs.lemmas.List.Sums.{sum_by-cons, sum_by-append}
 use Rattle.std.proofs.lemmas.Int.{ints, int_min_is}
 use Rattle.ent_alloc.specs.Sequential.{Allocator, cursor, pool_at}
-use Rattle.ent_shared.specs.declared.record.Call.{Call}
-use Rattle.ent_shared.specs.declared.record.Entry.{Entry}
-use Rattle.ent_shared.specs.declared.record.Entry.TheVariants.{Made, Met}
+use Rattle.ent_shared.specs.declared.record.Reservation.{Reservation}
+use Rattle.ent_shared.specs.declared.record.RecordEntry.{RecordEntry}
+use Rattle.ent_shared.specs.declared.record.RecordEntry.TheVariants.{Made, Met}
 use Rattle.ent_shared.specs.declared.record.Record.{Record}
-use Rattle.ent_shared.specs.Record.{low, calls_in, own_calls, known_calls, call_at, after_call}
+use Rattle.ent_shared.specs.Record.{low, calls_in, own_reservations, known_reservations, call_at, after_reservation}
 use Rattle.ent_shared.specs.Moves.{after_meeting}
 use Rattle.ent_shared.specs.Rule.{floor_after, floor_of, InOrder, IsKept}
 
@@ -27,63 +27,63 @@ module _ {X : Type 0} (P : X → Type 0) where
   pub all_one : (x : X) → P x → All P (x ∷ [])
   all_one x p = All-cons P x [] p (All-nil P)
 
-pub own-made : (es : List Entry) (c : Call) → own_calls (es ++ Made c ∷ []) ≡ own_calls es ++ c ∷ []
+pub own-made : (es : List RecordEntry) (c : Reservation) → own_reservations (es ++ Made c ∷ []) ≡ own_reservations es ++ c ∷ []
 own-made [] c = refl
 own-made (Made d ∷ es) c = ap (λ ds. d ∷ ds) (own-made es c)
 own-made (Met ds ∷ es) c = own-made es c
 
-pub own-met : (es : List Entry) (cs : List Call) → own_calls (es ++ Met cs ∷ []) ≡ own_calls es
+pub own-met : (es : List RecordEntry) (cs : List Reservation) → own_reservations (es ++ Met cs ∷ []) ≡ own_reservations es
 own-met [] cs = refl
 own-met (Made d ∷ es) cs = ap (λ ds. d ∷ ds) (own-met es cs)
 own-met (Met ds ∷ es) cs = own-met es cs
 
-pub known-more : (es : List Entry) (e : Entry) → known_calls (es ++ e ∷ []) ≡ known_calls es ++ calls_in e
+pub known-more : (es : List RecordEntry) (e : RecordEntry) → known_reservations (es ++ e ∷ []) ≡ known_reservations es ++ calls_in e
 known-more [] e = append-nil (calls_in e)
-known-more (d ∷ es) e = ap (λ cs. calls_in d ++ cs) (known-more es e) ∙ sym (append_assoc (calls_in d) (known_calls es) (calls_in e))
+known-more (d ∷ es) e = ap (λ cs. calls_in d ++ cs) (known-more es e) ∙ sym (append_assoc (calls_in d) (known_reservations es) (calls_in e))
 
 -- own calls are known
-pub all_own : (P : Call → Type 0) (es : List Entry) → All P (known_calls es) → All P (own_calls es)
+pub all_own : (P : Reservation → Type 0) (es : List RecordEntry) → All P (known_reservations es) → All P (own_reservations es)
 all_own P [] all = All-nil P
-all_own P (Made c ∷ es) all = All-cons P c (own_calls es) (All-head P c (known_calls es) all) (all_own P es (All-tail P c (known_calls es) all))
-all_own P (Met cs ∷ es) all = all_own P es (all_back P cs (known_calls es) all)
+all_own P (Made c ∷ es) all = All-cons P c (own_reservations es) (All-head P c (known_reservations es) all) (all_own P es (All-tail P c (known_reservations es) all))
+all_own P (Met cs ∷ es) all = all_own P es (all_back P cs (known_reservations es) all)
 
 -- a call behind all others
-pub order-made : (es : List Entry) (c : Call) → InOrder es → All (λ (d : Call). c.high ≤ℤ low d) (known_calls es) → InOrder (es ++ Made c ∷ [])
-order-made [] c order below = (All-nil (λ (later : Call). All (λ (earlier : Call). later.high ≤ℤ low earlier) (c ∷ [])), tt)
+pub order-made : (es : List RecordEntry) (c : Reservation) → InOrder es → All (λ (d : Reservation). c.high ≤ℤ low d) (known_reservations es) → InOrder (es ++ Made c ∷ [])
+order-made [] c order below = (All-nil (λ (later : Reservation). All (λ (earlier : Reservation). later.high ≤ℤ low earlier) (c ∷ [])), tt)
 order-made (e ∷ es) c order below =
-    let P : Call → Type 0 = λ (d : Call). c.high ≤ℤ low d in
-    let Q : Call → Type 0 = λ (later : Call). All (λ (earlier : Call). later.high ≤ℤ low earlier) (calls_in e) in (
-      subst (All Q) (sym (own-made es c)) (All-append Q (own_calls es) (c ∷ []) order.0 (all_one Q c (all_front P (calls_in e) (known_calls es) below))),
-      order-made es c order.1 (all_back P (calls_in e) (known_calls es) below),
+    let P : Reservation → Type 0 = λ (d : Reservation). c.high ≤ℤ low d in
+    let Q : Reservation → Type 0 = λ (later : Reservation). All (λ (earlier : Reservation). later.high ≤ℤ low earlier) (calls_in e) in (
+      subst (All Q) (sym (own-made es c)) (All-append Q (own_reservations es) (c ∷ []) order.0 (all_one Q c (all_front P (calls_in e) (known_reservations es) below))),
+      order-made es c order.1 (all_back P (calls_in e) (known_reservations es) below),
     )
 
-pub order-met : (es : List Entry) (cs : List Call) → InOrder es → InOrder (es ++ Met cs ∷ [])
-order-met [] cs order = (All-nil (λ (later : Call). All (λ (earlier : Call). later.high ≤ℤ low earlier) cs), tt)
+pub order-met : (es : List RecordEntry) (cs : List Reservation) → InOrder es → InOrder (es ++ Met cs ∷ [])
+order-met [] cs order = (All-nil (λ (later : Reservation). All (λ (earlier : Reservation). later.high ≤ℤ low earlier) cs), tt)
 order-met (e ∷ es) cs order =
-    (subst (All (λ (later : Call). All (λ (earlier : Call). later.high ≤ℤ low earlier) (calls_in e))) (sym (own-met es cs)) order.0, order-met es cs order.1)
+    (subst (All (λ (later : Reservation). All (λ (earlier : Reservation). later.high ≤ℤ low earlier) (calls_in e))) (sym (own-met es cs)) order.0, order-met es cs order.1)
 
 -- the least of a call that is lower than all others
 lower_first : (a b c : ℤ) (served : Bool) → b ≤ℤ a → int_min a (cond served b c) ≡ cond served b (int_min a c)
 lower_first a b c true le = grind (arith, ints)
 lower_first a b c false le = refl
 
-least_after : (start : Allocator) (at : ℤ) (c : Call) → at ≤ℤ low c → at ≤ℤ cursor start → at ≤ℤ floor_after start c
-least_after start at c le top = elim (nat_le c.wish (length (pool_at start c.high))) as (λ b. at ≤ℤ cond b (low c) (cursor start)) [ true ↦ le | false ↦ top ]
+least_after : (start : Allocator) (at : ℤ) (c : Reservation) → at ≤ℤ low c → at ≤ℤ cursor start → at ≤ℤ floor_after start c
+least_after start at c le top = elim (nat_le c.requested (length (pool_at start c.high))) as (λ b. at ≤ℤ cond b (low c) (cursor start)) [ true ↦ le | false ↦ top ]
 
-pub floor-made : (start : Allocator) (cs : List Call) (c : Call) → All (λ (d : Call). low c ≤ℤ low d) cs → low c ≤ℤ cursor start
-    → floor_of start (cs ++ c ∷ []) ≡ cond (nat_le c.wish (length (pool_at start c.high))) (low c) (floor_of start cs)
-floor-made start [] c below top = elim (nat_le c.wish (length (pool_at start c.high))) as (λ b. int_min (cond b (low c) (cursor start)) (cursor start) ≡ cond b (low c) (cursor start)) [
+pub floor-made : (start : Allocator) (cs : List Reservation) (c : Reservation) → All (λ (d : Reservation). low c ≤ℤ low d) cs → low c ≤ℤ cursor start
+    → floor_of start (cs ++ c ∷ []) ≡ cond (nat_le c.requested (length (pool_at start c.high))) (low c) (floor_of start cs)
+floor-made start [] c below top = elim (nat_le c.requested (length (pool_at start c.high))) as (λ b. int_min (cond b (low c) (cursor start)) (cursor start) ≡ cond b (low c) (cursor start)) [
   | true ↦ grind (arith, ints)
   | false ↦ grind (arith, ints)
 ]
 floor-made start (d ∷ cs) c below top =
-    let P : Call → Type 0 = λ (e : Call). low c ≤ℤ low e in
+    let P : Reservation → Type 0 = λ (e : Reservation). low c ≤ℤ low e in
     let rest = floor-made start cs c (All-tail P d cs below) top in
     ap (int_min (floor_after start d)) rest
-    ∙ lower_first (floor_after start d) (low c) (floor_of start cs) (nat_le c.wish (length (pool_at start c.high))) (least_after start (low c) d (All-head P d cs below) top)
+    ∙ lower_first (floor_after start d) (low c) (floor_of start cs) (nat_le c.requested (length (pool_at start c.high))) (least_after start (low c) d (All-head P d cs below) top)
 
 -- a record stays kept while the cursor goes down and the log grows
-pub kept_on : (start : Allocator) (at now : ℤ) (log more : List Call) (r : Record) → now ≤ℤ at → IsKept start at log r → IsKept start now (log ++ more) r
+pub kept_on : (start : Allocator) (at now : ℤ) (log more : List Reservation) (r : Record) → now ≤ℤ at → IsKept start at log r → IsKept start now (log ++ more) r
 kept_on start at now log more r le k = record {
   start_is = k.start_is;
   caller = k.caller;
@@ -92,29 +92,29 @@ kept_on start at now log more r le k = record {
     mark = (let m = k.marks.mark in omega (arith, ints));
     below = k.marks.below;
     order = k.marks.order;
-    known = All-weaker (Contains log) (Contains (log ++ more)) (λ c h. Contains-append_left log more c h) (known_calls r.entries) k.marks.known;
+    known = All-weaker (Contains log) (Contains (log ++ more)) (λ c h. Contains-append_left log more c h) (known_reservations r.entries) k.marks.known;
   };
 }
 
-pub kept_drawn : (start : Allocator) (at : ℤ) (log : List Call) (n : ℕ) (r : Record) → n ≤ r.left → at ≤ℤ cursor start → IsKept start at log r
-    → IsKept start (at -ℤ pos n) (log ++ call_at r at n ∷ []) (after_call r at n)
+pub kept_drawn : (start : Allocator) (at : ℤ) (log : List Reservation) (n : ℕ) (r : Record) → n ≤ r.left → at ≤ℤ cursor start → IsKept start at log r
+    → IsKept start (at -ℤ pos n) (log ++ call_at r at n ∷ []) (after_reservation r at n)
 kept_drawn start at log n r within top k =
-    let c : Call = call_at r at n in
-    let es : List Entry = r.entries in
-    let own : List Call = own_calls es in
+    let c : Reservation = call_at r at n in
+    let es : List RecordEntry = r.entries in
+    let own : List Reservation = own_reservations es in
     let mark = k.marks.mark in
-    let P : Call → Type 0 = λ (d : Call). at ≤ℤ low d in
-    let below : All P (known_calls es) = All-weaker (λ (d : Call). r.mark ≤ℤ low d) P (λ d h. omega (arith, ints)) (known_calls es) k.marks.below in
-    let Q : Call → Type 0 = λ (d : Call). (at -ℤ pos n) ≤ℤ low d in
-    let lower : All Q (known_calls es) = All-weaker P Q (λ d h. omega (arith, ints)) (known_calls es) below in
+    let P : Reservation → Type 0 = λ (d : Reservation). at ≤ℤ low d in
+    let below : All P (known_reservations es) = All-weaker (λ (d : Reservation). r.mark ≤ℤ low d) P (λ d h. omega (arith, ints)) (known_reservations es) k.marks.below in
+    let Q : Reservation → Type 0 = λ (d : Reservation). (at -ℤ pos n) ≤ℤ low d in
+    let lower : All Q (known_reservations es) = All-weaker P Q (λ d h. omega (arith, ints)) (known_reservations es) below in
     record {
       start_is = k.start_is;
-      caller = subst (All (λ (d : Call). d.caller ≡ r.number)) (sym (own-made es c)) (All-append (λ (d : Call). d.caller ≡ r.number) own (c ∷ []) k.caller (all_one (λ (d : Call). d.caller ≡ r.number) c refl));
+      caller = subst (All (λ (d : Reservation). d.caller ≡ r.number)) (sym (own-made es c)) (All-append (λ (d : Reservation). d.caller ≡ r.number) own (c ∷ []) k.caller (all_one (λ (d : Reservation). d.caller ≡ r.number) c refl));
       credit = record {
         credit =
             let was = k.credit.credit in
-            let sums : sum_by (λ (d : Call). d.wish) (own ++ c ∷ []) ≡ sum_by (λ (d : Call). d.wish) own + sum_by (λ (d : Call). d.wish) (c ∷ []) = sum_by-append (λ (d : Call). d.wish) own (c ∷ []) in
-            let one : sum_by (λ (d : Call). d.wish) (c ∷ []) ≡ n = sum_by-cons (λ (d : Call). d.wish) c [] ∙ add-zero n in
+            let sums : sum_by (λ (d : Reservation). d.requested) (own ++ c ∷ []) ≡ sum_by (λ (d : Reservation). d.requested) own + sum_by (λ (d : Reservation). d.requested) (c ∷ []) = sum_by-append (λ (d : Reservation). d.requested) own (c ∷ []) in
+            let one : sum_by (λ (d : Reservation). d.requested) (c ∷ []) ≡ n = sum_by-cons (λ (d : Reservation). d.requested) c [] ∙ add-zero n in
             rw (own-made es c) (omega arith);
         floor =
             rw (own-made es c, floor-made start own c (all_own Q es lower) (omega (arith, ints)))
@@ -122,55 +122,55 @@ kept_drawn start at log n r within top k =
       };
       marks = record {
         mark = omega (arith, ints);
-        below = subst (All Q) (sym (known-more es (Made c))) (All-append Q (known_calls es) (c ∷ []) lower (all_one Q c (omega (arith, ints))));
+        below = subst (All Q) (sym (known-more es (Made c))) (All-append Q (known_reservations es) (c ∷ []) lower (all_one Q c (omega (arith, ints))));
         order = order-made es c k.marks.order below;
         known = subst (All (Contains (log ++ c ∷ []))) (sym (known-more es (Made c)))
-            (All-append (Contains (log ++ c ∷ [])) (known_calls es) (c ∷ []) (All-weaker (Contains log) (Contains (log ++ c ∷ [])) (λ d h. Contains-append_left log (c ∷ []) d h) (known_calls es) k.marks.known)
+            (All-append (Contains (log ++ c ∷ [])) (known_reservations es) (c ∷ []) (All-weaker (Contains log) (Contains (log ++ c ∷ [])) (λ d h. Contains-append_left log (c ∷ []) d h) (known_reservations es) k.marks.known)
             (all_one (Contains (log ++ c ∷ [])) c (Contains-push log c)));
       };
     }
 
-pub kept_met : (start : Allocator) (at : ℤ) (log : List Call) (r met : Record) → IsKept start at log r → IsKept start at log met → IsKept start at log (after_meeting r met)
+pub kept_met : (start : Allocator) (at : ℤ) (log : List Reservation) (r met : Record) → IsKept start at log r → IsKept start at log met → IsKept start at log (after_meeting r met)
 kept_met start at log r met k m =
-    let es : List Entry = r.entries in
-    let cs : List Call = known_calls met.entries in
+    let es : List RecordEntry = r.entries in
+    let cs : List Reservation = known_reservations met.entries in
     let here = k.marks.mark in
     let there = m.marks.mark in
     let lesser = int_min_is r.mark met.mark in
-    let P : Call → Type 0 = λ (d : Call). int_min r.mark met.mark ≤ℤ low d in
+    let P : Reservation → Type 0 = λ (d : Reservation). int_min r.mark met.mark ≤ℤ low d in
     record {
       start_is = k.start_is;
-      caller = subst (All (λ (d : Call). d.caller ≡ r.number)) (sym (own-met es cs)) k.caller;
+      caller = subst (All (λ (d : Reservation). d.caller ≡ r.number)) (sym (own-met es cs)) k.caller;
       credit = record {
         credit = rw (own-met es cs) k.credit.credit;
         floor = rw (own-met es cs) k.credit.floor;
       };
       marks = record {
         mark = grind (arith, ints);
-        below = subst (All P) (sym (known-more es (Met cs))) (All-append P (known_calls es) cs
-            (All-weaker (λ (d : Call). r.mark ≤ℤ low d) P (λ d h. grind (arith, ints)) (known_calls es) k.marks.below)
-            (All-weaker (λ (d : Call). met.mark ≤ℤ low d) P (λ d h. grind (arith, ints)) cs m.marks.below));
+        below = subst (All P) (sym (known-more es (Met cs))) (All-append P (known_reservations es) cs
+            (All-weaker (λ (d : Reservation). r.mark ≤ℤ low d) P (λ d h. grind (arith, ints)) (known_reservations es) k.marks.below)
+            (All-weaker (λ (d : Reservation). met.mark ≤ℤ low d) P (λ d h. grind (arith, ints)) cs m.marks.below));
         order = order-met es cs k.marks.order;
-        known = subst (All (Contains log)) (sym (known-more es (Met cs))) (All-append (Contains log) (known_calls es) cs k.marks.known m.marks.known);
+        known = subst (All (Contains log)) (sym (known-more es (Met cs))) (All-append (Contains log) (known_reservations es) cs k.marks.known m.marks.known);
       };
     }
 
 -- a record's mark lies below every call that it knows, after a call and after a meeting
-pub below_call : (r : Record) (high : ℤ) (n : ℕ) → All (λ (c : Call). r.mark ≤ℤ low c) (known_calls r.entries) → high ≤ℤ r.mark
-    → All (λ (c : Call). (after_call r high n).mark ≤ℤ low c) (known_calls (after_call r high n).entries)
+pub below_call : (r : Record) (high : ℤ) (n : ℕ) → All (λ (c : Reservation). r.mark ≤ℤ low c) (known_reservations r.entries) → high ≤ℤ r.mark
+    → All (λ (c : Reservation). (after_reservation r high n).mark ≤ℤ low c) (known_reservations (after_reservation r high n).entries)
 below_call r high n below le =
-    let c : Call = call_at r high n in
-    let Q : Call → Type 0 = λ (d : Call). (high -ℤ pos n) ≤ℤ low d in
-    let lower : All Q (known_calls r.entries) = All-weaker (λ (d : Call). r.mark ≤ℤ low d) Q (λ d h. omega (arith, ints)) (known_calls r.entries) below in
-    subst (All Q) (sym (known-more r.entries (Made c))) (All-append Q (known_calls r.entries) (c ∷ []) lower (all_one Q c (omega (arith, ints))))
+    let c : Reservation = call_at r high n in
+    let Q : Reservation → Type 0 = λ (d : Reservation). (high -ℤ pos n) ≤ℤ low d in
+    let lower : All Q (known_reservations r.entries) = All-weaker (λ (d : Reservation). r.mark ≤ℤ low d) Q (λ d h. omega (arith, ints)) (known_reservations r.entries) below in
+    subst (All Q) (sym (known-more r.entries (Made c))) (All-append Q (known_reservations r.entries) (c ∷ []) lower (all_one Q c (omega (arith, ints))))
 
-pub met_below : (r met : Record) → All (λ (c : Call). met.mark ≤ℤ low c) (known_calls met.entries) → All (λ (c : Call). (after_meeting r met).mark ≤ℤ low c) (known_calls met.entries)
-met_below r met theirs = All-weaker (λ (d : Call). met.mark ≤ℤ low d) (λ (d : Call). int_min r.mark met.mark ≤ℤ low d) (λ d h. grind (arith, ints)) (known_calls met.entries) theirs
+pub met_below : (r met : Record) → All (λ (c : Reservation). met.mark ≤ℤ low c) (known_reservations met.entries) → All (λ (c : Reservation). (after_meeting r met).mark ≤ℤ low c) (known_reservations met.entries)
+met_below r met theirs = All-weaker (λ (d : Reservation). met.mark ≤ℤ low d) (λ (d : Reservation). int_min r.mark met.mark ≤ℤ low d) (λ d h. grind (arith, ints)) (known_reservations met.entries) theirs
 
-pub below_meeting : (r met : Record) → All (λ (c : Call). r.mark ≤ℤ low c) (known_calls r.entries) → All (λ (c : Call). met.mark ≤ℤ low c) (known_calls met.entries)
-    → All (λ (c : Call). (after_meeting r met).mark ≤ℤ low c) (known_calls (after_meeting r met).entries)
+pub below_meeting : (r met : Record) → All (λ (c : Reservation). r.mark ≤ℤ low c) (known_reservations r.entries) → All (λ (c : Reservation). met.mark ≤ℤ low c) (known_reservations met.entries)
+    → All (λ (c : Reservation). (after_meeting r met).mark ≤ℤ low c) (known_reservations (after_meeting r met).entries)
 below_meeting r met mine theirs =
-    let P : Call → Type 0 = λ (d : Call). int_min r.mark met.mark ≤ℤ low d in
-    subst (All P) (sym (known-more r.entries (Met (known_calls met.entries)))) (All-append P (known_calls r.entries) (known_calls met.entries)
-    (All-weaker (λ (d : Call). r.mark ≤ℤ low d) P (λ d h. grind (arith, ints)) (known_calls r.entries) mine)
+    let P : Reservation → Type 0 = λ (d : Reservation). int_min r.mark met.mark ≤ℤ low d in
+    subst (All P) (sym (known-more r.entries (Met (known_reservations met.entries)))) (All-append P (known_reservations r.entries) (known_reservations met.entries)
+    (All-weaker (λ (d : Reservation). r.mark ≤ℤ low d) P (λ d h. grind (arith, ints)) (known_reservations r.entries) mine)
     (met_below r met theirs))

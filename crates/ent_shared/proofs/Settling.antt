@@ -14,11 +14,11 @@ use Rattle.ent_alloc.specs.History as history
 use Rattle.ent_alloc.proofs.Soundness.{after_take-sound}
 use Rattle.ent_alloc.proofs.Taken.{available-after_take, after_take-served, after_take-refused, length-pool}
 use Rattle.ent_alloc.proofs.PoolLaw.{made-after_take, cursor-after_take, pool_at-cursor, length-taken}
-use Rattle.ent_shared.specs.declared.record.Call.{Call}
+use Rattle.ent_shared.specs.declared.record.Reservation.{Reservation}
 use Rattle.ent_shared.specs.declared.record.Record.{Record}
-use Rattle.ent_shared.specs.Record.{low, own_calls}
+use Rattle.ent_shared.specs.Record.{low, own_reservations}
 use Rattle.ent_shared.specs.Rule.{Follow, IsAnswered, floor_after, floor_of, least_floor, IsKept}
-use Rattle.ent_shared.specs.Order.{insert_call, by_falling_high, as_call}
+use Rattle.ent_shared.specs.Order.{insert_reservation, by_falling_high, as_call}
 
 -- the same things to give, and the same slots made
 pub record IsLater (start s : Allocator) : Type 0 where
@@ -40,19 +40,19 @@ pool_later : (start s : Allocator) → IsLater start s → pool_at start (cursor
 pool_later start s l = (λ i. drop (asked_at (sym (top_later start s l) i) (cursor s)) (sym l.available_is i)) ∙ pool_at-cursor s l.sound
 
 -- the pool where a call's high is the cursor
-pool_there : (start s : Allocator) (c : Call) → IsLater start s → c.high ≡ cursor s → pool_at start c.high ≡ s.pool
+pool_there : (start s : Allocator) (c : Reservation) → IsLater start s → c.high ≡ cursor s → pool_at start c.high ≡ s.pool
 pool_there start s c l at = ap (pool_at start) at ∙ pool_later start s l
 
-follow_on : (s : Allocator) (c : Call) (cs : List Call) (end : ℤ) → IsSound s → c.high ≡ cursor s → Follow (low c) cs end → Follow (cursor (after_take s c.wish)) cs end
-follow_on s c cs end sound at f = subst (λ (z : ℤ). Follow z cs end) (ap (λ (z : ℤ). z -ℤ pos c.wish) at ∙ sym (cursor-after_take s c.wish sound)) f
+follow_on : (s : Allocator) (c : Reservation) (cs : List Reservation) (end : ℤ) → IsSound s → c.high ≡ cursor s → Follow (low c) cs end → Follow (cursor (after_take s c.requested)) cs end
+follow_on s c cs end sound at f = subst (λ (z : ℤ). Follow z cs end) (ap (λ (z : ℤ). z -ℤ pos c.requested) at ∙ sym (cursor-after_take s c.requested sound)) f
 
-pub legal_from : (start s : Allocator) (cs : List Call) (end : ℤ) → IsLater start s → Follow (cursor s) cs end → All (IsAnswered start) cs → history.IsLegal s (map as_call cs)
+pub legal_from : (start s : Allocator) (cs : List Reservation) (end : ℤ) → IsLater start s → Follow (cursor s) cs end → All (IsAnswered start) cs → history.IsLegal s (map as_call cs)
 legal_from start s [] end l f answered = tt
 legal_from start s (c ∷ cs) end l f answered =
-    let answer : c.reply ≡ reply_from start.made (pool_at start c.high) c.wish = All-head (IsAnswered start) c cs answered in (
+    let answer : c.reply ≡ reply_from start.made (pool_at start c.high) c.requested = All-head (IsAnswered start) c cs answered in (
       f.1,
-      answer ∙ (λ i. reply_from (sym l.made_is i) (pool_there start s c l f.0 i) c.wish),
-      legal_from start (after_take s c.wish) cs end (later_take start s c.wish l) (follow_on s c cs end l.sound f.0 f.2) (All-tail (IsAnswered start) c cs answered),
+      answer ∙ (λ i. reply_from (sym l.made_is i) (pool_there start s c l f.0 i) c.requested),
+      legal_from start (after_take s c.requested) cs end (later_take start s c.requested l) (follow_on s c cs end l.sound f.0 f.2) (All-tail (IsAnswered start) c cs answered),
     )
 
 -- the lesser of two that is known
@@ -71,7 +71,7 @@ min_assoc a b c = grind (arith, ints)
 min_le : (a b : ℤ) → int_min a b ≤ℤ b
 min_le a b = grind (arith, ints)
 
-pub floor_below : (start : Allocator) (cs : List Call) → floor_of start cs ≤ℤ cursor start
+pub floor_below : (start : Allocator) (cs : List Reservation) → floor_of start cs ≤ℤ cursor start
 floor_below start [] = omega (arith, ints)
 floor_below start (c ∷ cs) =
     let rest = floor_below start cs in
@@ -79,18 +79,18 @@ floor_below start (c ∷ cs) =
     omega (arith, ints)
 
 -- where the least of these calls ends is told by how many handles are taken after them
-pub taken_floor : (start s : Allocator) (cs : List Call) (end : ℤ) → start.asked ≡ 0 → IsLater start s → Follow (cursor s) cs end
+pub taken_floor : (start s : Allocator) (cs : List Reservation) (end : ℤ) → start.asked ≡ 0 → IsLater start s → Follow (cursor s) cs end
     → int_min (pos (top start) -ℤ pos (length s.taken)) (floor_of start cs) ≡ pos (top start) -ℤ pos (length (history.after_history s (map as_call cs)).taken)
 taken_floor start s [] end flushed l f = min_left (pos (top start) -ℤ pos (length s.taken)) (cursor start) (omega (arith, ints))
 taken_floor start s (c ∷ cs) end flushed l f =
-    let n : ℕ = c.wish in
+    let n : ℕ = c.requested in
     let t : Allocator = after_take s n in
     let a : ℤ = pos (top start) -ℤ pos (length s.taken) in
     let rest = taken_floor start t cs end flushed (later_take start s n l) (follow_on s c cs end l.sound f.0 f.2) in
     let tops = top_later start s l in
     let high : c.high ≡ cursor s = f.0 in
     let pool : pool_at start c.high ≡ s.pool = pool_there start s c l f.0 in
-    let some_wish : 0 < n = f.1 in
+    let some_request : 0 < n = f.1 in
     let goal : ℤ → Type 0 = λ z. int_min a (int_min z (floor_of start cs)) ≡ pos (top start) -ℤ pos (length (history.after_history t (map as_call cs)).taken) in
     ⊎_elim
     (λ (short : length s.pool < n).
@@ -115,31 +115,31 @@ taken_floor start s (c ∷ cs) end flushed l f =
     (cases_lt (length s.pool) n)
 
 -- the floor of a list does not depend on its order
-floor-append : (start : Allocator) (xs ys : List Call) → floor_of start (xs ++ ys) ≡ int_min (floor_of start xs) (floor_of start ys)
+floor-append : (start : Allocator) (xs ys : List Reservation) → floor_of start (xs ++ ys) ≡ int_min (floor_of start xs) (floor_of start ys)
 floor-append start [] ys = sym (min_right (cursor start) (floor_of start ys) (floor_below start ys))
 floor-append start (x ∷ xs) ys = ap (int_min (floor_after start x)) (floor-append start xs ys) ∙ sym (min_assoc (floor_after start x) (floor_of start xs) (floor_of start ys))
 
-floor_inserted : (start : Allocator) (c : Call) (cs : List Call) → floor_of start (insert_call c cs) ≡ int_min (floor_after start c) (floor_of start cs)
+floor_inserted : (start : Allocator) (c : Reservation) (cs : List Reservation) → floor_of start (insert_reservation c cs) ≡ int_min (floor_after start c) (floor_of start cs)
 floor_inserted start c [] = refl
 floor_inserted start c (d ∷ ds) =
     let rest = floor_inserted start c ds in
     let x : ℤ = floor_after start c in
     let y : ℤ = floor_after start d in
     let z : ℤ = floor_of start ds in
-    let goal : Bool → Type 0 = λ b. floor_of start (cond b (c ∷ d ∷ ds) (d ∷ insert_call c ds)) ≡ int_min x (int_min y z) in
+    let goal : Bool → Type 0 = λ b. floor_of start (cond b (c ∷ d ∷ ds) (d ∷ insert_reservation c ds)) ≡ int_min x (int_min y z) in
     let no : goal false = ap (int_min y) rest ∙ (sym (min_assoc y x z) ∙ (ap (λ (w : ℤ). int_min w z) (min_comm y x) ∙ min_assoc x y z)) in
     elim (int_lt d.high c.high) as goal [ true ↦ refl | false ↦ no ]
 
-pub floor_sorted : (start : Allocator) (cs : List Call) → floor_of start (by_falling_high cs) ≡ floor_of start cs
+pub floor_sorted : (start : Allocator) (cs : List Reservation) → floor_of start (by_falling_high cs) ≡ floor_of start cs
 floor_sorted start [] = refl
 floor_sorted start (c ∷ cs) = floor_inserted start c (by_falling_high cs) ∙ ap (int_min (floor_after start c)) (floor_sorted start cs)
 
-pub floor_of_all : (start : Allocator) (at : ℤ) (log : List Call) (records : List Record) → All (IsKept start at log) records → least_floor (cursor start) records ≡ floor_of start (flat_map (λ (r : Record). own_calls r.entries) records)
+pub floor_of_all : (start : Allocator) (at : ℤ) (log : List Reservation) (records : List Record) → All (IsKept start at log) records → least_floor (cursor start) records ≡ floor_of start (flat_map (λ (r : Record). own_reservations r.entries) records)
 floor_of_all start at log [] all = refl
 floor_of_all start at log (r ∷ records) all =
     let kept = All-head (IsKept start at log) r records all in
     let rest = floor_of_all start at log records (All-tail (IsKept start at log) r records all) in
-    (λ i. int_min (kept.credit.floor i) (rest i)) ∙ sym (floor-append start (own_calls r.entries) (flat_map (λ (x : Record). own_calls x.entries) records))
+    (λ i. int_min (kept.credit.floor i) (rest i)) ∙ sym (floor-append start (own_reservations r.entries) (flat_map (λ (x : Record). own_reservations x.entries) records))
 
 pub least_floor-more : (high : ℤ) (rs : List Record) (r : Record) → least_floor high (rs ++ r ∷ []) ≡ int_min (least_floor high rs) r.floor
 least_floor-more high [] r = min_comm r.floor high

@@ -17,10 +17,10 @@ use mathlib.Core.Option.{some, some-injective}
 use lib.ListN.{get_elem?}
 use Rattle.atomic_table.specs.Table.{State, Me, keeps, Allows, Splits, Joins, Enters, opening}
 use Rattle.ent_alloc.specs.Sequential.{Allocator, cursor, top, pool_at, reply_from}
-use Rattle.ent_shared.specs.declared.record.Call.{Call}
-use Rattle.ent_shared.specs.declared.record.Entry.TheVariants.{Made}
+use Rattle.ent_shared.specs.declared.record.Reservation.{Reservation}
+use Rattle.ent_shared.specs.declared.record.RecordEntry.TheVariants.{Made}
 use Rattle.ent_shared.specs.declared.record.Record.{Record}
-use Rattle.ent_shared.specs.Record.{low, own_calls, known_calls, credit, opened, opened_records, call_at, after_call}
+use Rattle.ent_shared.specs.Record.{low, own_reservations, known_reservations, credit, opened, opened_records, call_at, after_reservation}
 use Rattle.ent_shared.specs.Moves.{after_meeting, met_in}
 use Rattle.ent_shared.specs.Rule.{offset, cursor_of, Follow, weigh, IsAnswered, IsKept, IsStart, IsRuled, Drawn, Draws, IsClosed}
 use Rattle.ent_shared.proofs.Weighing.{sum_at, all_at, sum_below, only_at}
@@ -30,21 +30,21 @@ abbrev first_or : Record → List Record → Record
 first_or r [] = r
 first_or r (x ∷ xs) = x
 
-abbrev pub wish : Call → ℕ
-wish c = c.wish
+abbrev pub requested : Reservation → ℕ
+requested c = c.requested
 
 -- what calls that follow each other have asked for
-pub follow_asked : (high : ℤ) (cs : List Call) (end : ℤ) → Follow high cs end → high ≡ end +ℤ pos (sum_by wish cs)
+pub follow_asked : (high : ℤ) (cs : List Reservation) (end : ℤ) → Follow high cs end → high ≡ end +ℤ pos (sum_by requested cs)
 follow_asked high [] end f = omega (arith, ints, f)
 follow_asked high (c ∷ cs) end f =
     let rest = follow_asked (low c) cs end f.2 in
-    let sums : sum_by wish (c ∷ cs) ≡ c.wish + sum_by wish cs = sum_by-cons wish c cs in
+    let sums : sum_by requested (c ∷ cs) ≡ c.requested + sum_by requested cs = sum_by-cons requested c cs in
     let here : c.high ≡ high = f.0 in
     omega (arith, ints)
 
-pub follow-snoc : (high : ℤ) (cs : List Call) (c : Call) (end : ℤ) → Follow high cs end → c.high ≡ end → 0 < c.wish → Follow high (cs ++ c ∷ []) (low c)
-follow-snoc high [] c end f is some_wish = (is ∙ sym f, some_wish, refl)
-follow-snoc high (d ∷ cs) c end f is some_wish = (f.0, f.1, follow-snoc (low d) cs c end f.2 is some_wish)
+pub follow-snoc : (high : ℤ) (cs : List Reservation) (c : Reservation) (end : ℤ) → Follow high cs end → c.high ≡ end → 0 < c.requested → Follow high (cs ++ c ∷ []) (low c)
+follow-snoc high [] c end f is some_request = (is ∙ sym f, some_request, refl)
+follow-snoc high (d ∷ cs) c end f is some_request = (f.0, f.1, follow-snoc (low d) cs c end f.2 is some_request)
 
 -- the word as the code turns it into a cursor
 pub word_fits : (word : ℕ) → word < offset + 2 ^ 32 → SFits w64 (pos word)
@@ -71,23 +71,23 @@ module _ (start : Allocator) (count : ℕ) where
   Rule = IsRuled start count
 
   -- a record has asked for its credit at most
-  record_asked : (at : ℤ) (log : List Call) (r : Record) → IsKept start at log r → sum_by wish (own_calls r.entries) ≤ credit
+  record_asked : (at : ℤ) (log : List Reservation) (r : Record) → IsKept start at log r → sum_by requested (own_reservations r.entries) ≤ credit
   record_asked at log r k = let c = k.credit.credit in omega arith
 
-  view_asked : (at : ℤ) (log : List Call) (view : List Record) → All (IsKept start at log) view → weigh wish view ≤ length view * credit
+  view_asked : (at : ℤ) (log : List Reservation) (view : List Record) → All (IsKept start at log) view → weigh requested view ≤ length view * credit
   view_asked at log [] all = omega arith
   view_asked at log (r ∷ view) all =
       let here = record_asked at log r (All-head (IsKept start at log) r view all) in
       let rest = view_asked at log view (All-tail (IsKept start at log) r view all) in
-      let sums : weigh wish (r ∷ view) ≡ sum_by wish (own_calls r.entries) + weigh wish view = sum_by-cons (λ (x : Record). sum_by wish (own_calls x.entries)) r view in
+      let sums : weigh requested (r ∷ view) ≡ sum_by requested (own_reservations r.entries) + weigh requested view = sum_by-cons (λ (x : Record). sum_by requested (own_reservations x.entries)) r view in
       let product : suc (length view) * credit ≡ length view * credit + credit = suc-mul (length view) credit in
       rw (sums, product) (omega arith)
 
-  pub all_asked : (s : St) (k : Rule s) → sum_by wish k.spans.log ≤ count * credit
+  pub all_asked : (s : St) (k : Rule s) → sum_by requested k.spans.log ≤ count * credit
   all_asked s k =
-      let each = All-weaker (All (IsKept start (cursor_of k.word) k.spans.log)) (λ (v : List Record). weigh wish v ≤ length v * credit) (view_asked (cursor_of k.word) k.spans.log) s.views k.each in
-      let sums = sum_below (weigh wish) length credit s.views each in
-      subst (λ n. sum_by wish k.spans.log ≤ n * credit) k.records (subst (λ n. n ≤ sum_by length s.views * credit) (k.spans.all wish) sums)
+      let each = All-weaker (All (IsKept start (cursor_of k.word) k.spans.log)) (λ (v : List Record). weigh requested v ≤ length v * credit) (view_asked (cursor_of k.word) k.spans.log) s.views k.each in
+      let sums = sum_below (weigh requested) length credit s.views each in
+      subst (λ n. sum_by requested k.spans.log ≤ n * credit) k.records (subst (λ n. n ≤ sum_by length s.views * credit) (k.spans.all requested) sums)
 
   few_asked : (n : ℕ) → n ≤ count * credit → count ≤ 1024 → n ≤ 2 ^ 50
   unfolding credit
@@ -95,7 +95,7 @@ module _ (start : Allocator) (count : ℕ) where
 
   pub word_least : (s : St) (k : Rule s) → offset ≤ k.word + 2 ^ 50
   word_least s k =
-      let asked = few_asked (sum_by wish k.spans.log) (all_asked s k) k.few in
+      let asked = few_asked (sum_by requested k.spans.log) (all_asked s k) k.few in
       let f = follow_asked (cursor start) k.spans.log (cursor_of k.word) k.spans.follow in
       let flushed = k.begins.flushed in
       omega (arith, ints)
@@ -122,25 +122,25 @@ module _ (start : Allocator) (count : ℕ) where
       omega (arith, ints)
 
   -- what a seat's one record weighs once it has a call more
-  weigh-made : (f : Call → ℕ) (r : Record) (at : ℤ) (n : ℕ) → weigh f (after_call r at n ∷ []) ≡ weigh f (r ∷ []) + f (call_at r at n)
+  weigh-made : (f : Reservation → ℕ) (r : Record) (at : ℤ) (n : ℕ) → weigh f (after_reservation r at n ∷ []) ≡ weigh f (r ∷ []) + f (call_at r at n)
   weigh-made f r at n =
-      let c : Call = call_at r at n in
-      let own : List Call = own_calls r.entries in
-      let g : Record → ℕ = λ x. sum_by f (own_calls x.entries) in
+      let c : Reservation = call_at r at n in
+      let own : List Reservation = own_reservations r.entries in
+      let g : Record → ℕ = λ x. sum_by f (own_reservations x.entries) in
       let before : weigh f (r ∷ []) ≡ sum_by f own + 0 = sum_by-cons g r [] in
-      let after : weigh f (after_call r at n ∷ []) ≡ sum_by f (own_calls (r.entries ++ Made c ∷ [])) + 0 = sum_by-cons g (after_call r at n) [] in
-      let more : sum_by f (own_calls (r.entries ++ Made c ∷ [])) ≡ sum_by f own + (f c + 0) = ap (sum_by f) (own-made r.entries c) ∙ (sum_by-append f own (c ∷ []) ∙ ap (λ (k : ℕ). sum_by f own + k) (sum_by-cons f c [])) in
+      let after : weigh f (after_reservation r at n ∷ []) ≡ sum_by f (own_reservations (r.entries ++ Made c ∷ [])) + 0 = sum_by-cons g (after_reservation r at n) [] in
+      let more : sum_by f (own_reservations (r.entries ++ Made c ∷ [])) ≡ sum_by f own + (f c + 0) = ap (sum_by f) (own-made r.entries c) ∙ (sum_by-append f own (c ∷ []) ∙ ap (λ (k : ℕ). sum_by f own + k) (sum_by-cons f c [])) in
       omega arith
 
   pub draws : (slots id : ℕ) (r : Record) (n : ℕ) → 0 < n → n ≤ r.left
       → Allows Rule slots id (r ∷ [], []) 0 (λ word. (word + (2 ^ 64 - n)) % 2 ^ 64) (Draws n (r ∷ [], []))
-  draws slots id r n some_wish within s k _ at _ =
+  draws slots id r n some_request within s k _ at _ =
       let word : ℕ = k.word in
       let found : get_or s.words 0 0 ≡ word = ap (λ (ws : List ℕ). get_or ws 0 0) k.words in
-      let log : List Call = k.spans.log in
+      let log : List Reservation = k.spans.log in
       let high : ℤ = cursor_of word in
-      let c : Call = call_at r high n in
-      let w : List Record = after_call r high n ∷ [] in
+      let c : Reservation = call_at r high n in
+      let w : List Record = after_reservation r high n ∷ [] in
       let mine : All (IsKept start high log) (r ∷ []) = all_at (All (IsKept start high log)) s.views id (r ∷ []) at k.each in
       let kept : IsKept start high log r = All-head (IsKept start high log) r [] mine in
       let mark = kept.marks.mark in
@@ -157,7 +157,7 @@ module _ (start : Allocator) (count : ℕ) where
       let others : All (K (high -ℤ pos n)) s.views = All-weaker (All (IsKept start high log)) (K (high -ℤ pos n))
       (λ v. All-weaker (IsKept start high log) (IsKept start (high -ℤ pos n) (log ++ c ∷ [])) (λ x. kept_on start high (high -ℤ pos n) log (c ∷ []) x down) v) s.views k.each in
       let drawn : Drawn n r (get_or s.words 0 0) w = subst (λ (z : ℕ). Drawn n r z w) (sym found) (record { least = least; greatest = greatest; mark = mark; top = subst (λ (a : Allocator). high ≤ℤ cursor a) (sym kept.start_is) up; after = refl }) in
-      let own : K (high -ℤ pos n) w = all_one (IsKept start (high -ℤ pos n) (log ++ c ∷ [])) (after_call r high n) (kept_drawn start high log n r within up kept) in (
+      let own : K (high -ℤ pos n) w = all_one (IsKept start (high -ℤ pos n) (log ++ c ∷ [])) (after_reservation r high n) (kept_drawn start high log n r within up kept) in (
         w,
         keeps,
         tt,
@@ -168,7 +168,7 @@ module _ (start : Allocator) (count : ℕ) where
           words = ap (λ (ws : List ℕ). set ws 0 ((get_or s.words 0 0 + (2 ^ 64 - n)) % 2 ^ 64)) k.words ∙ ap (λ (x : ℕ). x ∷ []) next;
           spans = record {
             log = log ++ c ∷ [];
-            follow = subst (Follow (cursor start) (log ++ c ∷ [])) (sym now) (follow-snoc (cursor start) log c high k.spans.follow refl some_wish);
+            follow = subst (Follow (cursor start) (log ++ c ∷ [])) (sym now) (follow-snoc (cursor start) log c high k.spans.follow refl some_request);
             all = λ f.
                 let changed = sum_at (weigh f) s.views id (r ∷ []) w at in
                 let more = weigh-made f r high n in
@@ -190,16 +190,16 @@ module _ (start : Allocator) (count : ℕ) where
 
   pub draws_at : (slots id : ℕ) (me : Me (Unit {0}) (List Record)) (r : Record) (n m : ℕ) → me.0 ≡ r ∷ [] → me.1 ≡ [] → m ≡ n → 0 < n → n ≤ r.left
       → Allows Rule slots id me 0 (λ word. (word + (2 ^ 64 - m)) % 2 ^ 64) (Draws m me)
-  draws_at slots id me r n m view bare same some_wish within =
+  draws_at slots id me r n m view bare same some_request within =
       let A : Me (Unit {0}) (List Record) × ℕ → Type 0 = λ p. Allows Rule slots id p.0 0 (λ word. (word + (2 ^ 64 - p.1)) % 2 ^ 64) (Draws p.1 p.0) in
-      subst A (λ i. ((sym view i, sym bare i), sym same i)) (draws slots id r n some_wish within)
+      subst A (λ i. ((sym view i, sym bare i), sym same i)) (draws slots id r n some_request within)
 
   abbrev numbered : ℕ → List Record → ℕ
   numbered number = count_by (λ (x : Record). x.number == number)
 
   -- one view becomes two, which weigh together what it weighed
   pub splits : (id : ℕ) (v left right : List Record)
-      → ((f : Call → ℕ) → weigh f left + weigh f right ≡ weigh f v) → length left + length right ≡ length v → ((k : ℕ) → numbered k left + numbered k right ≡ numbered k v)
+      → ((f : Reservation → ℕ) → weigh f left + weigh f right ≡ weigh f v) → length left + length right ≡ length v → ((k : ℕ) → numbered k left + numbered k right ≡ numbered k v)
       → ((P : Record → Type 0) → All P v → All P left × All P right) → Splits Rule id v left right
   splits id v left right weights lengths numbers parts s k at =
       let views : List (List Record) = set s.views id left in
@@ -224,8 +224,8 @@ module _ (start : Allocator) (count : ℕ) where
 
   -- two views become one, which weighs what they weighed
   pub joins : (id other : ℕ) (v w both : List Record)
-      → ((f : Call → ℕ) → weigh f both ≡ weigh f v + weigh f w) → length both ≡ length v + length w → ((k : ℕ) → numbered k both ≡ numbered k v + numbered k w)
-      → ((at : ℤ) (log : List Call) → All (IsKept start at log) v → All (IsKept start at log) w → All (IsKept start at log) both) → Joins Rule id v other w both []
+      → ((f : Reservation → ℕ) → weigh f both ≡ weigh f v + weigh f w) → length both ≡ length v + length w → ((k : ℕ) → numbered k both ≡ numbered k v + numbered k w)
+      → ((at : ℤ) (log : List Reservation) → All (IsKept start at log) v → All (IsKept start at log) w → All (IsKept start at log) both) → Joins Rule id v other w both []
   joins id other v w both weights lengths numbers kept s k at apart there =
       let views : List (List Record) = set s.views id both in
       let P : List Record → Type 0 = All (IsKept start (cursor_of k.word) k.spans.log) in
@@ -249,8 +249,8 @@ module _ (start : Allocator) (count : ℕ) where
       }
 
   -- records that stand one after the other
-  weigh_two : (f : Call → ℕ) (v w : List Record) → weigh f (v ++ w) ≡ weigh f v + weigh f w
-  weigh_two f v w = sum_by-append (λ (r : Record). sum_by f (own_calls r.entries)) v w
+  weigh_two : (f : Reservation → ℕ) (v w : List Record) → weigh f (v ++ w) ≡ weigh f v + weigh f w
+  weigh_two f v w = sum_by-append (λ (r : Record). sum_by f (own_reservations r.entries)) v w
 
   numbered_two : (k : ℕ) (v w : List Record) → numbered k (v ++ w) ≡ numbered k v + numbered k w
   numbered_two k v w = sum_by-append (λ (r : Record). cond (r.number == k) 1 0) v w
@@ -273,8 +273,8 @@ module _ (start : Allocator) (count : ℕ) where
       (λ k. sym (numbered_two k (r ∷ []) (met ∷ [])))
       (λ P all. (all_one P r (All-head P r (met ∷ []) all), All-tail P r (met ∷ []) all))
 
-  weigh-met : (f : Call → ℕ) (r met : Record) → weigh f (after_meeting r met ∷ []) ≡ weigh f (r ∷ [])
-  weigh-met f r met = ap (λ (cs : List Call). 0 + sum_by f cs) (own-met r.entries (known_calls met.entries))
+  weigh-met : (f : Reservation → ℕ) (r met : Record) → weigh f (after_meeting r met ∷ []) ≡ weigh f (r ∷ [])
+  weigh-met f r met = ap (λ (cs : List Reservation). 0 + sum_by f cs) (own-met r.entries (known_reservations met.entries))
 
   pub meets : (id other : ℕ) (r met : Record) → Joins Rule id (r ∷ []) other (met ∷ []) (met_in (r ∷ []) (met ∷ [])) []
   meets id other r met = joins id other (r ∷ []) (met ∷ []) (after_meeting r met ∷ met ∷ [])
@@ -308,12 +308,12 @@ module _ (start : Allocator) (count : ℕ) where
       )
 
   -- before the first step
-  weigh-opened : (f : Call → ℕ) (number many : ℕ) → weigh f (opened_records start number many) ≡ 0
+  weigh-opened : (f : Reservation → ℕ) (number many : ℕ) → weigh f (opened_records start number many) ≡ 0
   unfolding opened_records
   weigh-opened f number zero = refl
   weigh-opened f number (suc many) =
       let rest = weigh-opened f (number + 1) many in
-      let g : Record → ℕ = λ x. sum_by f (own_calls x.entries) in
+      let g : Record → ℕ = λ x. sum_by f (own_reservations x.entries) in
       let here : weigh f (opened start number ∷ opened_records start (number + 1) many) ≡ 0 + weigh f (opened_records start (number + 1) many) = sum_by-cons g (opened start number) (opened_records start (number + 1) many) in
       here ∙ omega arith
 
@@ -349,11 +349,11 @@ module _ (start : Allocator) (count : ℕ) where
   kept-opened : (at : ℤ) (number : ℕ) → at ≤ℤ cursor start → IsKept start at [] (opened start number)
   kept-opened at number le = record {
     start_is = refl;
-    caller = All-nil (λ (c : Call). c.caller ≡ number);
+    caller = All-nil (λ (c : Reservation). c.caller ≡ number);
     credit = record { credit = omega arith; floor = refl };
     marks = record {
       mark = le;
-      below = All-nil (λ (c : Call). cursor start ≤ℤ low c);
+      below = All-nil (λ (c : Reservation). cursor start ≤ℤ low c);
       order = tt;
       known = All-nil (Contains []);
     };
@@ -385,7 +385,7 @@ module _ (start : Allocator) (count : ℕ) where
       }
 
   -- after the last step
-  none_weigh : (f : Call → ℕ) (v : List Record) → length v ≡ 0 → weigh f v ≡ 0
+  none_weigh : (f : Reservation → ℕ) (v : List Record) → length v ≡ 0 → weigh f v ≡ 0
   none_weigh f [] e = refl
   none_weigh f (r ∷ v) e = absurd (omega arith)
 

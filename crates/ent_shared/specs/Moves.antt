@@ -2,13 +2,13 @@
 use Rattle.std.specs.Prelude.{List, [], ◌∷◌, ◌++◌}
 use Rattle.std.specs.Int.{int_min}
 use Rattle.ent_shared.specs.declared.record.Record.{Record}
-use Rattle.ent_shared.specs.declared.record.Entry.TheVariants.{Met}
-use Rattle.ent_shared.specs.Record.{known_calls}
+use Rattle.ent_shared.specs.declared.record.RecordEntry.TheVariants.{Met}
+use Rattle.ent_shared.specs.Record.{known_reservations}
 
 -- the record of a reserver that meets another one
 abbrev pub after_meeting : Record → Record → Record
 after_meeting r met = record r {
-  entries = r.entries ++ Met (known_calls met.entries) ∷ [];
+  entries = r.entries ++ Met (known_reservations met.entries) ∷ [];
   mark = int_min r.mark met.mark;
 }
 

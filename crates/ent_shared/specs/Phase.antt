@@ -7,9 +7,9 @@ use Rattle.ent_alloc.specs.Sequential.{Allocator, allocator_code, opening}
 use Rattle.ent_alloc.specs.Sound.{IsSound}
 use Rattle.ent_shared.specs.contracts.record.Record as recorded
 use Rattle.ent_shared.specs.declared.record.Record.{Record}
-use Rattle.ent_shared.specs.declared.record.Call.{Call}
-use Rattle.ent_shared.specs.declared.record.Entry.{Entry}
-use Rattle.ent_shared.specs.Record.{low, known_calls}
+use Rattle.ent_shared.specs.declared.record.Reservation.{Reservation}
+use Rattle.ent_shared.specs.declared.record.RecordEntry.{RecordEntry}
+use Rattle.ent_shared.specs.Record.{low, known_reservations}
 use Rattle.ent_shared.specs.declared.rule.Opening.{Opening}
 use Rattle.ent_shared.specs.Rule.{IsStart}
 
@@ -46,8 +46,8 @@ own_of ((r ∷ rs) ∷ views) = r
 own_of _ = blank
 
 -- the mark lies where every call of these entries has ended, or lower
-abbrev pub IsBelow : ℤ → List Entry → Type 0
-IsBelow mark entries = All (λ (c : Call). mark ≤ℤ low c) (known_calls entries)
+abbrev pub IsBelow : ℤ → List RecordEntry → Type 0
+IsBelow mark entries = All (λ (c : Reservation). mark ≤ℤ low c) (known_reservations entries)
 
 -- A reserver's fields say what its record says, and its next call comes after every call that it knows.
 pub record IsSeated (views : List (List Record)) (number left : ℕ) (floor : ℤ) : Type 0 where

@@ -4,10 +4,10 @@ use Rattle.std.specs.List.{sum_by}
 use Rattle.std.specs.Int.{int_min}
 use Rattle.atomic_table.specs.Table.{State, Me}
 use Rattle.ent_alloc.specs.Sequential.{Allocator, cursor, top, pool_at, reply_from}
-use Rattle.ent_shared.specs.declared.record.Call.{Call}
-use Rattle.ent_shared.specs.declared.record.Entry.{Entry}
+use Rattle.ent_shared.specs.declared.record.Reservation.{Reservation}
+use Rattle.ent_shared.specs.declared.record.RecordEntry.{RecordEntry}
 use Rattle.ent_shared.specs.declared.record.Record.{Record}
-use Rattle.ent_shared.specs.Record.{low, calls_in, own_calls, known_calls, credit, after_call}
+use Rattle.ent_shared.specs.Record.{low, calls_in, own_reservations, known_reservations, credit, after_reservation}
 
 -- what is added to the cursor, so that the word is never negative
 unfoldable pub offset : ℕ
@@ -18,30 +18,30 @@ abbrev pub cursor_of : ℕ → ℤ
 cursor_of word = pos word -ℤ pos offset
 
 -- From high down to low the calls follow each other, and each of them draws something.
-abbrev pub Follow : ℤ → List Call → ℤ → Type 0
+abbrev pub Follow : ℤ → List Reservation → ℤ → Type 0
 Follow high [] low_end = high ≡ low_end
-Follow high (call ∷ calls) low_end = (call.high ≡ high) × (0 < call.wish) × Follow (low call) calls low_end
+Follow high (call ∷ calls) low_end = (call.high ≡ high) × (0 < call.requested) × Follow (low call) calls low_end
 
 -- all own calls of a seat's records, each of them weighed
-abbrev pub weigh : (Call → ℕ) → List Record → ℕ
-weigh f records = sum_by (λ (r : Record). sum_by f (own_calls r.entries)) records
+abbrev pub weigh : (Reservation → ℕ) → List Record → ℕ
+weigh f records = sum_by (λ (r : Record). sum_by f (own_reservations r.entries)) records
 
 -- The spans partition: the own calls of all records, one after the other, lead from the top down to the cursor.
 pub record SpansPartition (start : Allocator) (word : ℕ) (views : List (List Record)) : Type 0 where
-  pub log : List Call
+  pub log : List Reservation
   pub follow : Follow (cursor start) log (cursor_of word)
-  pub all : (f : Call → ℕ) → sum_by (weigh f) views ≡ sum_by f log
+  pub all : (f : Reservation → ℕ) → sum_by (weigh f) views ≡ sum_by f log
 
 -- what an own call was answered is what the allocator says there
-abbrev pub IsAnswered : Allocator → Call → Type 0
-IsAnswered start call = call.reply ≡ reply_from start.made (pool_at start call.high) call.wish
+abbrev pub IsAnswered : Allocator → Reservation → Type 0
+IsAnswered start call = call.reply ≡ reply_from start.made (pool_at start call.high) call.requested
 
 -- the cursor that a call leaves, if it was served, and else the top
-abbrev pub floor_after : Allocator → Call → ℤ
-floor_after start call = if nat_le call.wish (length (pool_at start call.high)) then low call else cursor start
+abbrev pub floor_after : Allocator → Reservation → ℤ
+floor_after start call = if nat_le call.requested (length (pool_at start call.high)) then low call else cursor start
 
 -- the least cursor that these calls left where they were served, or the top
-abbrev pub floor_of : Allocator → List Call → ℤ
+abbrev pub floor_of : Allocator → List Reservation → ℤ
 floor_of start [] = cursor start
 floor_of start (call ∷ calls) = int_min (floor_after start call) (floor_of start calls)
 
@@ -50,26 +50,26 @@ abbrev pub least_floor : ℤ → List Record → ℤ
 least_floor high [] = high
 least_floor high (r ∷ rs) = int_min r.floor (least_floor high rs)
 
--- The credit adds up: what is left and what was wished for.
+-- The credit adds up: what is left and what was requested.
 pub record CreditAddsUp (start : Allocator) (r : Record) : Type 0 where
-  pub credit : r.left + sum_by (λ (c : Call). c.wish) (own_calls r.entries) ≡ credit
-  pub floor : r.floor ≡ floor_of start (own_calls r.entries)
+  pub credit : r.left + sum_by (λ (c : Reservation). c.requested) (own_reservations r.entries) ≡ credit
+  pub floor : r.floor ≡ floor_of start (own_reservations r.entries)
 
 -- each own call begins where every call of an earlier entry has ended, or lower
-abbrev pub InOrder : List Entry → Type 0
+abbrev pub InOrder : List RecordEntry → Type 0
 InOrder [] = Unit {0}
-InOrder (entry ∷ entries) = All (λ (later : Call). All (λ (earlier : Call). later.high ≤ℤ low earlier) (calls_in entry)) (own_calls entries) × InOrder entries
+InOrder (entry ∷ entries) = All (λ (later : Reservation). All (λ (earlier : Reservation). later.high ≤ℤ low earlier) (calls_in entry)) (own_reservations entries) × InOrder entries
 
 -- The marks are in order.
-pub record MarksInOrder (at : ℤ) (log : List Call) (r : Record) : Type 0 where
+pub record MarksInOrder (at : ℤ) (log : List Reservation) (r : Record) : Type 0 where
   pub mark : at ≤ℤ r.mark
-  pub below : All (λ (c : Call). r.mark ≤ℤ low c) (known_calls r.entries)
+  pub below : All (λ (c : Reservation). r.mark ≤ℤ low c) (known_reservations r.entries)
   pub order : InOrder r.entries
-  pub known : All (Contains log) (known_calls r.entries)
+  pub known : All (Contains log) (known_reservations r.entries)
 
-pub record IsKept (start : Allocator) (at : ℤ) (log : List Call) (r : Record) : Type 0 where
+pub record IsKept (start : Allocator) (at : ℤ) (log : List Reservation) (r : Record) : Type 0 where
   pub start_is : r.start ≡ start
-  pub caller : All (λ (c : Call). c.caller ≡ r.number) (own_calls r.entries)
+  pub caller : All (λ (c : Reservation). c.caller ≡ r.number) (own_reservations r.entries)
   pub credit : CreditAddsUp start r
   pub marks : MarksInOrder at log r
 
@@ -96,17 +96,17 @@ pub record Drawn (n : ℕ) (r : Record) (found : ℕ) (others : List Record) : T
   pub greatest : found < offset + 2 ^ 32
   pub mark : cursor_of found ≤ℤ r.mark
   pub top : cursor_of found ≤ℤ cursor r.start
-  pub after : others ≡ after_call r (cursor_of found) n ∷ []
+  pub after : others ≡ after_reservation r (cursor_of found) n ∷ []
 
 abbrev pub Draws : ℕ → Me (Unit {0}) (List Record) → ℕ → Me (Unit {0}) (List Record) → Type 0
 Draws n before found after = (after.1 ≡ before.1) × ((r : Record) → before.0 ≡ r ∷ [] → Drawn n r found after.0)
 
 -- What is left of the rule once no thread steps any more, and these records are known.
 pub record IsClosed (start : Allocator) (count : ℕ) (records : List Record) (at : ℤ) : Type 0 where
-  pub log : List Call
+  pub log : List Reservation
   pub follow : Follow (cursor start) log at
   pub answered : All (IsAnswered start) log
   pub each : All (IsKept start at log) records
   pub numbers : (k : ℕ) → count_by (λ (r : Record). r.number == k) records ≤ 1
-  pub all : length records ≡ count → (f : Call → ℕ) → weigh f records ≡ sum_by f log
-  pub asked : sum_by (λ (c : Call). c.wish) log ≤ count * credit
+  pub all : length records ≡ count → (f : Reservation → ℕ) → weigh f records ≡ sum_by f log
+  pub asked : sum_by (λ (c : Reservation). c.requested) log ≤ count * credit

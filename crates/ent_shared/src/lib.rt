@@ -10,7 +10,7 @@ mod shared;
 mod word;
 
 pub use phase::share;
-pub use record::{Call, Entry, Record};
+pub use record::{Record, RecordEntry, Reservation};
 pub use refused::Refused;
 pub use reserver::Reserver;
 pub use shared::Shared;

@@ -10,7 +10,7 @@ use ent_alloc::Entities;
 use ent_handle::Memory;
 use std::alloc::Global;
 
-/// Shares a flushed allocator among `n` reservers, 1 to 1,024, each of which may wish for 2^40 handles. Bevy has no such
+/// Shares a flushed allocator among `n` reservers, 1 to 1,024, each of which may request for 2^40 handles. Bevy has no such
 /// limits; they are this project's own.
 ///
 /// # Errors

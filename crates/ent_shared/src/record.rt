@@ -4,24 +4,24 @@ use ent_alloc::{Entities, Space};
 use ent_handle::Handle;
 use std::collections::LinkedList;
 
-/// One reservation: it drew the numbers from `high` less `wish` up to `high`.
-pub struct Call {
+/// One reservation: it drew the numbers from `high` less `request` up to `high`.
+pub struct Reservation {
     /// The number of its reserver.
     pub caller: u64,
     /// The cursor that it found.
     pub high: i64,
-    /// How many handles were wished for.
-    pub wish: u32,
+    /// How many handles were requested.
+    pub requested: u32,
     /// What was answered: the handles, or what was left of the pool.
     pub reply: Result<LinkedList<Handle>, Space>,
 }
 
 /// What a reserver did.
-pub enum Entry {
+pub enum RecordEntry {
     /// It made a reservation.
-    Made(Call),
+    Made(Reservation),
     /// It met another one, and these are all the calls that the other had made or met by then.
-    Met(LinkedList<Call>),
+    Met(LinkedList<Reservation>),
 }
 
 /// One reserver's record of its phase.
@@ -31,8 +31,8 @@ pub struct Record {
     /// The place of the reserver in the list that `share` gave.
     pub number: u64,
     /// What it did, in order.
-    pub entries: LinkedList<Entry>,
-    /// How much it may still wish for.
+    pub entries: LinkedList<RecordEntry>,
+    /// How much it may still request for.
     pub left: u64,
     /// Its next call begins here or lower.
     pub mark: i64,

@@ -3,16 +3,16 @@ use thiserror::Error;
 /// Why a reservation gave no handle.
 #[derive(Clone, Copy, Debug, PartialEq, Eq, Error)]
 pub enum Refused {
-    /// The pool had fewer handles than were wished for. The wish is taken from the reserver's credit, and the pool
+    /// The pool had fewer handles than were requested. The request is taken from the reserver's credit, and the pool
     /// gives no more until the next flush.
     #[error("{wanted} wanted and {left} left")]
     Space {
-        /// How many handles were wished for.
+        /// How many handles were requested.
         wanted: u32,
         /// How many the pool still had.
         left: u32,
     },
-    /// The wish was above the reserver's credit. Nothing has changed.
+    /// The request was above the reserver's credit. Nothing has changed.
     #[error("the credit left is {left}")]
     Quota {
         /// The credit that is left.

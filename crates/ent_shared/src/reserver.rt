@@ -1,16 +1,16 @@
 ghost use Rattle.std.specs.Prelude.{◌≡◌};
 
-use crate::rule::View;
+use crate::rule::SeatRecords;
 use atomic_table::Badge;
 use std::marker::Model;
 
-/// How many handles a reserver may wish for in one phase.
+/// How many handles a reserver may request for in one phase.
 const CREDIT: u64 = 1 << 40;
 
 /// The right of one caller to reserve from a shared allocator, and what is left of its credit.
 #[derive(Drop)]
 pub struct Reserver {
-    pub(crate) badge: Badge<View>,
+    pub(crate) badge: Badge<SeatRecords>,
     pub(crate) number: usize,
     pub(crate) left: u64,
     pub(crate) floor: i64,
@@ -33,7 +33,7 @@ impl Reserver {
     ghost use Rattle.ent_shared.specs.Record.{credit};
     ghost use Rattle.ent_shared.specs.Phase.{own_of, IsSeated};
 
-    pub(crate) fn new(badge: Badge<View>, number: usize, floor: i64) -> Self
+    pub(crate) fn new(badge: Badge<SeatRecords>, number: usize, floor: i64) -> Self
         requires { IsSeated badge.views number credit floor }
         ensures { result ≡ record { word = badge.table_id; own = own_of badge.views } }
     {
@@ -52,7 +52,7 @@ impl Reserver {
         self.number
     }
 
-    /// How many handles it may still wish for in this phase, at most 2^40.
+    /// How many handles it may still request for in this phase, at most 2^40.
     pub fn left(&self) -> u64
         ensures { result ≡ self.now.own.left }
     {

@@ -10,7 +10,7 @@ use ent_alloc::Entities;
 use std::collections::LinkedList;
 
 /// What a seat knows: the records of the reservers that it stands for.
-pub(crate) type View = LinkedList<Record>;
+pub(crate) type SeatRecords = LinkedList<Record>;
 
 /// What a phase begins with.
 #[derive(Drop)]
@@ -21,7 +21,7 @@ pub(crate) struct Opening {
 
 pub(crate) struct Cursor;
 
-impl TableRule<(), View, Opening> for Cursor {
+impl TableRule<(), SeatRecords, Opening> for Cursor {
     ghost holds = { λ opening. IsRuled opening.entities opening.count };
 
     ghost first = { λ opening. opened_records opening.entities 0 opening.count };
@@ -30,21 +30,21 @@ impl TableRule<(), View, Opening> for Cursor {
 /// A reservation.
 pub(crate) struct Draw;
 
-impl Play<(), View> for Draw {
+impl Play<(), SeatRecords> for Draw {
     ghost then = { λ step before found after. Draws step.first before found after };
 }
 
 /// A seat that has no record yet.
 pub(crate) struct Enter;
 
-impl Play<(), View> for Enter {
+impl Play<(), SeatRecords> for Enter {
     ghost then = { λ step before found after. after.0 ≡ [] };
 }
 
 /// The first record goes to a seat of its own.
 pub(crate) struct Deal;
 
-impl Split<View> for Deal {
+impl Split<SeatRecords> for Deal {
     ghost left = { λ records. drop 1 records };
 
     ghost right = { λ records. take 1 records };
@@ -53,7 +53,7 @@ impl Split<View> for Deal {
 /// All records in one seat.
 pub(crate) struct Gather;
 
-impl Join<View> for Gather {
+impl Join<SeatRecords> for Gather {
     ghost both = { λ some others. some ++ others };
 
     ghost spent = { [] };
@@ -62,7 +62,7 @@ impl Join<View> for Gather {
 /// The first one meets the second.
 pub(crate) struct Meet;
 
-impl Join<View> for Meet {
+impl Join<SeatRecords> for Meet {
     ghost both = { met_in };
 
     ghost spent = { [] };
@@ -71,7 +71,7 @@ impl Join<View> for Meet {
 /// The one that was met goes back to a seat of its own.
 pub(crate) struct Part;
 
-impl Split<View> for Part {
+impl Split<SeatRecords> for Part {
     ghost left = { λ records. take 1 records };
 
     ghost right = { λ records. drop 1 records };

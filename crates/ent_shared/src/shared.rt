@@ -3,7 +3,7 @@ ghost use Rattle.ent_handle.specs.Handle.{Handle as HandleValue};
 ghost use Rattle.ent_alloc.specs.Sequential.{cursor, reply_from, pool_at, after_flush};
 ghost use Rattle.ent_alloc.specs.History.{IsLegal, after_history, given_in};
 ghost use Rattle.ent_alloc.specs.Sound.{IsLive};
-ghost use Rattle.ent_shared.specs.Record.{after_call, own_calls, credit};
+ghost use Rattle.ent_shared.specs.Record.{after_reservation, own_reservations, credit};
 ghost use Rattle.ent_shared.specs.Moves.{after_meeting};
 ghost use Rattle.ent_shared.specs.Phase.{IsPhase};
 ghost use Rattle.ent_shared.specs.Rule.{IsClosed, least_floor};
@@ -66,14 +66,14 @@ impl Shared {
     ///
     /// # Errors
     ///
-    /// `Quota` where no credit is left, and then nothing has changed. `Space` where the pool is used up: the wish
+    /// `Quota` where no credit is left, and then nothing has changed. `Space` where the pool is used up: the request
     /// is taken from the credit all the same.
     pub fn reserve(&self, reserver: &mut Reserver) -> Result<Handle, Refused>
         requires { IsOf self.now reserver.old }
         ensures stays { IsOf self.now reserver.new }
         ensures quota { reserver.old.own.left ≡ 0 → (result ≡ Err (Quota 0)) × (reserver.new ≡ reserver.old) }
         ensures gains { 0 < reserver.old.own.left → (high : ℤ) × (high ≤ℤ reserver.old.own.mark)
-            × (reserver.new ≡ record reserver.old { own = after_call reserver.old.own high 1 })
+            × (reserver.new ≡ record reserver.old { own = after_reservation reserver.old.own high 1 })
             × (listed_alone result ≡ answered (reply_from self.now.start.made (pool_at self.now.start high) 1)) }
     {
         let mut given = self.reserve_many(reserver, 1)?;
@@ -83,21 +83,21 @@ impl Shared {
         Ok(handle)
     }
 
-    /// Reserves `n` handles at once, by one atomic step. A wish of 0 makes no step and is always served.
+    /// Reserves `n` handles at once, by one atomic step. A request of 0 makes no step and is always served.
     ///
     /// The reply is what the allocator would have said to one caller where the cursor was what the step found.
     ///
     /// # Errors
     ///
     /// `Quota` where `n` is above the credit that is left, and then nothing has changed. `Space` where the pool
-    /// has fewer handles: the wish is taken from the credit all the same, and the pool gives no more.
+    /// has fewer handles: the request is taken from the credit all the same, and the pool gives no more.
     pub fn reserve_many(&self, reserver: &mut Reserver, n: u32) -> Result<Reserved<'_>, Refused>
         requires { IsOf self.now reserver.old }
         ensures stays { IsOf self.now reserver.new }
         ensures quota { reserver.old.own.left < n → (result ≡ Err (Quota reserver.old.own.left)) × (reserver.new ≡ reserver.old) }
         ensures nothing { n ≡ 0 → (result ≡ Ok []) × (reserver.new ≡ reserver.old) }
         ensures gains { 0 < n → n ≤ reserver.old.own.left → (high : ℤ) × (high ≤ℤ reserver.old.own.mark)
-            × (reserver.new ≡ record reserver.old { own = after_call reserver.old.own high n })
+            × (reserver.new ≡ record reserver.old { own = after_reservation reserver.old.own high n })
             × (result ≡ answered (reply_from self.now.start.made (pool_at self.now.start high) n)) }
     {
         if u64::from(n) > reserver.left {
@@ -150,7 +150,7 @@ impl Shared {
         ensures not_live { All (λ h. ¬ (IsLive self.start h)) (given_in (history_of (map (λ r. r.own) reservers.items))) }
 
         // A flush brings to life exactly what was given.
-        ensures wakes { let given = given_in (history_of (map (λ r. r.own) reservers.items)) in
+        ensures brings_to_life { let given = given_in (history_of (map (λ r. r.own) reservers.items)) in
             (h : HandleValue) → IsLive (after_flush result) h ↔ (IsLive self.start h ⊎ Contains given h) }
     {
         let Shared {
@@ -173,7 +173,7 @@ impl Shared {
             × (result ≡ after_loss self.start asked) }
 
         // What the reservers that are there were given is reserved.
-        ensures given { All (λ r. All (Contains result.taken) (handles_of (own_calls r.own.entries))) reservers.items }
+        ensures given { All (λ r. All (Contains result.taken) (handles_of (own_reservations r.own.entries))) reservers.items }
     {
         let Shared {
             mut entities,

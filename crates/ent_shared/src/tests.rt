@@ -206,7 +206,7 @@ fn two_reservers_in_turn(rt: HostRuntime) {
 }
 
 #[test]
-fn a_refused_wish_counts_where_reservers_are_lost(rt: HostRuntime) {
+fn a_refused_request_counts_where_reservers_are_lost(rt: HostRuntime) {
     let alloc = rt.alloc();
     let handles: &[Handle] = &[0, 1, 2].map(|index| first(&rt, index));
     for (is_lost, alive) in [(false, 2), (true, 3)] {
@@ -227,26 +227,26 @@ fn a_refused_wish_counts_where_reservers_are_lost(rt: HostRuntime) {
     }
 }
 
-/// One of two reservers is lost: what it wished for counts, whether it was served before or after the other.
+/// One of two reservers is lost: what it requested counts, whether it was served before or after the other.
 #[test]
 fn a_lost_reserver_counts(rt: HostRuntime) {
     let alloc = rt.alloc();
-    for (wish, alive) in [(1, 2), (3, 5)] {
+    for (requested, alive) in [(1, 2), (3, 5)] {
         for is_lost_last in [false, true] {
             let (shared, mut reservers) = opened(&rt, alloc, with_slots(&rt, alloc, 5), 2);
             let mut kept = last(&rt, alloc, &shared, &mut reservers);
             let mut lost = last(&rt, alloc, &shared, &mut reservers);
             if is_lost_last {
-                kept.at_once(&shared, wish);
-                lost.at_once(&shared, wish);
+                kept.at_once(&shared, requested);
+                lost.at_once(&shared, requested);
             } else {
-                lost.at_once(&shared, wish);
-                kept.at_once(&shared, wish);
+                lost.at_once(&shared, requested);
+                kept.at_once(&shared, requested);
             }
             give_back(&rt, &shared, &mut reservers, kept.reserver);
             let mut entities = shared.close_lost(reservers);
             let born = flushed(&rt, alloc, &mut entities);
-            assert_eq!(rt; born.len(), alive, "for {wish} each");
+            assert_eq!(rt; born.len(), alive, "for {requested} each");
         }
     }
 }
@@ -282,7 +282,7 @@ fn both_beside<R: Threads + Sync>(
     );
 }
 
-/// An allocator with so many slots whose first tenants are gone.
+/// An allocator with so many slots whose first occupants are gone.
 fn with_freed(rt: &impl Abort, alloc: Global, n: u32) -> Entities
     ensures { result.asked ≡ 0 }
 {

@@ -1,13 +1,13 @@
 //! The cursor as one atomic word: what each kind of step does to the word and to the records.
 ghost use Rattle.std.specs.Prelude.{◌≡◌, ℕ, ℤ, pos, ◌+ℤ◌, ◌-ℤ◌, ◌≤ℤ◌, ◌<ℤ◌, ◌<◌, ◌≤◌, ◌+◌, ◌-◌, ◌^◌, ◌*◌, List, [], ◌∷◌, ◌++◌, length, take, drop, IfOk};
 ghost use Rattle.ent_alloc.specs.Sequential.{cursor};
-ghost use Rattle.ent_shared.specs.Record.{opened_records, after_call};
+ghost use Rattle.ent_shared.specs.Record.{opened_records, after_reservation};
 ghost use Rattle.ent_shared.specs.Rule.{IsStart, IsClosed};
 ghost use Rattle.ent_shared.specs.declared.record.Record.{Record};
 ghost use Rattle.ent_shared.specs.Moves.{after_meeting};
 ghost use Rattle.ent_shared.specs.Phase.{own_of, IsPhase};
 
-use crate::rule::{Cursor, Deal, Draw, Enter, Gather, Meet, Opening, Part, View};
+use crate::rule::{Cursor, Deal, Draw, Enter, Gather, Meet, Opening, Part, SeatRecords};
 use atomic_table::{Badge, Seat, Table};
 use std::alloc::{AllocError, Global};
 use std::mem;
@@ -15,9 +15,9 @@ use std::mem;
 /// What is added to the cursor, so that the word is never negative.
 const OFFSET: i64 = 1 << 62;
 
-pub(crate) type Word = Table<(), View, Opening, Cursor, Global>;
+pub(crate) type Word = Table<(), SeatRecords, Opening, Cursor, Global>;
 
-pub(crate) type Place = Seat<(), View>;
+pub(crate) type Place = Seat<(), SeatRecords>;
 
 /// A word at the cursor of the allocator, and the seat of all its records.
 pub(crate) fn open(alloc: Global, opening: &Opening) -> Result<(Word, Place), AllocError>
@@ -31,7 +31,7 @@ pub(crate) fn open(alloc: Global, opening: &Opening) -> Result<(Word, Place), Al
 }
 
 /// A seat of its own for the first record.
-pub(crate) fn deal(word: &Word, all: &mut Place) -> Badge<View>
+pub(crate) fn deal(word: &Word, all: &mut Place) -> Badge<SeatRecords>
     requires word { (word.now.shared.table_id.words ≡ 1) × (all.old.table_id ≡ word.now.shared.table_id) × (all.old.me.1 ≡ []) }
     ensures kept { (all.new.table_id ≡ all.old.table_id) × (all.new.me ≡ (drop 1 all.old.me.0, [])) }
     ensures dealt { (result.table_id ≡ all.old.table_id) × (result.views ≡ take 1 all.old.me.0 ∷ []) }
@@ -40,13 +40,13 @@ pub(crate) fn deal(word: &Word, all: &mut Place) -> Badge<View>
 }
 
 /// The reservation step: the word goes down by `n`, and the old cursor is answered.
-pub(crate) fn draw(word: &Word, badge: &mut Badge<View>, n: u32) -> i64
+pub(crate) fn draw(word: &Word, badge: &mut Badge<SeatRecords>, n: u32) -> i64
     requires word { (word.now.shared.table_id.words ≡ 1) × (badge.old.table_id ≡ word.now.shared.table_id) }
     requires alone { badge.old.views ≡ (own_of badge.old.views ∷ []) ∷ [] }
     requires some { 0 < n }
     requires credit { n ≤ (own_of badge.old.views).left }
     ensures same { badge.new.table_id ≡ badge.old.table_id }
-    ensures gains { badge.new.views ≡ (after_call (own_of badge.old.views) result n ∷ []) ∷ [] }
+    ensures gains { badge.new.views ≡ (after_reservation (own_of badge.old.views) result n ∷ []) ∷ [] }
     ensures mark { result ≤ℤ (own_of badge.old.views).mark }
     ensures least { (pos 0 -ℤ pos (2 ^ 50)) ≤ℤ result }
     ensures greatest { result ≤ℤ cursor (own_of badge.old.views).start }
@@ -58,7 +58,7 @@ pub(crate) fn draw(word: &Word, badge: &mut Badge<View>, n: u32) -> i64
 }
 
 /// The meeting step: the first one's record lists what the second one has made and met.
-pub(crate) fn meet(word: &Word, a: &mut Badge<View>, b: &mut Badge<View>)
+pub(crate) fn meet(word: &Word, a: &mut Badge<SeatRecords>, b: &mut Badge<SeatRecords>)
     requires word { (word.now.shared.table_id.words ≡ 1) × (a.old.table_id ≡ word.now.shared.table_id) × (b.old.table_id ≡ word.now.shared.table_id) }
     requires first { a.old.views ≡ (own_of a.old.views ∷ []) ∷ [] }
     requires second { b.old.views ≡ (own_of b.old.views ∷ []) ∷ [] }
@@ -81,7 +81,7 @@ pub(crate) fn enter(word: &Word) -> Place
     word.shared.load_new_seat::<Enter>(0).1
 }
 
-pub(crate) fn gather(word: &Word, all: &mut Place, badge: Badge<View>)
+pub(crate) fn gather(word: &Word, all: &mut Place, badge: Badge<SeatRecords>)
     requires word { (word.now.shared.table_id.words ≡ 1) × (all.old.table_id ≡ word.now.shared.table_id) × (badge.table_id ≡ word.now.shared.table_id) × (all.old.me.1 ≡ []) }
     requires one { (records : List Record) × (badge.views ≡ records ∷ []) }
     ensures kept { all.new.table_id ≡ all.old.table_id }

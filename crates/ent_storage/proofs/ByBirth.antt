@@ -16,7 +16,7 @@ use Rattle.std.specs.FinMap.{FinMap}
 use Rattle.ent_handle.specs.declared.birth.Birth.{Birth}
 use Rattle.ent_handle.specs.Handle.{Handle, handle_cmp, handle_cmp_total, handle_cmp-IsAntisymmetric}
 use Rattle.ent_storage.specs.declared.row.Row.{Row}
-use Rattle.ent_storage.specs.Entities.{Entity}
+use Rattle.ent_storage.specs.EntityMap.{Entity}
 use Rattle.ent_storage.specs.Rows.{entity_of, entities_of, IsIndexed}
 use Rattle.ent_storage.specs.BirthOrder.{birth_cmp, birth_order, born_cmp, ListsByBirth, IsInOrder}
 use Rattle.ent_storage.proofs.Keys.{apart}

@@ -8,7 +8,7 @@ use Rattle.ent_handle.specs.Handle.{Handle, handle_cmp, handle_cmp_total as tota
 use Rattle.ent_storage.specs.declared.row.Row.{Row}
 use Rattle.std.specs.Option.{option_map_or}
 use Rattle.ent_storage.specs.Component.{Components}
-use Rattle.ent_storage.specs.Entities.{Entity, Entities, with_components}
+use Rattle.ent_storage.specs.EntityMap.{Entity, EntityMap, with_components}
 use Rattle.ent_storage.specs.Rows.{entity_of, entities_of, IsIndexed}
 use Rattle.ent_storage.proofs.Keys.{tied, apart, same_or_apart, get-insert_same, get-insert_other, get-remove_same, get-remove_other}
 
@@ -79,9 +79,9 @@ module _ (rows : List Row) (index : FinMap handle_cmp ℕ) (indexed : IsIndexed 
       by (Some i) p = absurd (some_not_none _ _ (get_placed q i (some_row q) p) none)
 
   -- nor is one that a test says is not among them
-  pub unplaced_from_test : (q : Handle) (held : Entities) (t : Bool) → entities_of rows ≡ held → t ≡ finite.contains_key held q → t ≡ false → finite.get index q ≡ None
+  pub unplaced_from_test : (q : Handle) (held : EntityMap) (t : Bool) → entities_of rows ≡ held → t ≡ finite.contains_key held q → t ≡ false → finite.get index q ≡ None
   unplaced_from_test q held t are tests is_false =
-      unplaced_from_get q (ap (λ (m : Entities). finite.get m q) are ∙ is_none_at _ (sym tests ∙ is_false))
+      unplaced_from_get q (ap (λ (m : EntityMap). finite.get m q) are ∙ is_none_at _ (sym tests ∙ is_false))
 
   -- no two rows have one handle
   pub distinct : (i j : ℕ) (d : Row) → i < length rows → j < length rows → (get_or rows i d).handle ≡ (get_or rows j d).handle → i ≡ j

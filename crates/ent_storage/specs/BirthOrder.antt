@@ -10,27 +10,27 @@ use Rattle.std.specs.FinMap as finite
 use Rattle.ent_handle.specs.declared.birth.Birth.{Birth}
 use Rattle.ent_handle.specs.declared.component.ComponentId.{ComponentId}
 use Rattle.ent_handle.specs.Handle.{Handle, handle_cmp}
-use Rattle.ent_storage.specs.Entities.{Entity, Entities, birth_of}
+use Rattle.ent_storage.specs.EntityMap.{Entity, EntityMap, birth_of}
 
 -- by frame, then by system, then by ordinal
 abbrev pub birth_cmp : Birth → Birth → Ordering
 birth_cmp a b = ordering_then (nat_cmp a.frame b.frame) (ordering_then (nat_cmp a.system b.system) (nat_cmp a.ordinal b.ordinal))
 
 -- by birth, then by handle
-abbrev pub birth_order : Entities → Handle → Handle → Ordering
+abbrev pub birth_order : EntityMap → Handle → Handle → Ordering
 birth_order m a b = ordering_then (option_cmp birth_cmp (birth_of m a) (birth_of m b)) (handle_cmp a b)
 
 -- the list has the handles of the entities that pass and no others, rising by birth and then by handle
-pub record ListsByBirth (passes : Entity → Bool) (m : Entities) (handles : List Handle) : Type 0 where
+pub record ListsByBirth (passes : Entity → Bool) (m : EntityMap) (handles : List Handle) : Type 0 where
   pub rising : AllPairs (λ a b. birth_order m a b ≡ Less) handles
   pub holds : (h : Handle) → Contains handles h ↔ IsSomeAnd (finite.get m h) (λ e. IsTrue (passes e))
 
 -- all entities
-abbrev pub ListsAll : Entities → List Handle → Type 0
+abbrev pub ListsAll : EntityMap → List Handle → Type 0
 ListsAll = ListsByBirth (λ _. true)
 
 -- the entities that have the component
-abbrev pub ListsWith : ComponentId → Entities → List Handle → Type 0
+abbrev pub ListsWith : ComponentId → EntityMap → List Handle → Type 0
 ListsWith id = ListsByBirth (λ e. finite.contains_key e.components id)
 
 -- births with their handles, as they are compared

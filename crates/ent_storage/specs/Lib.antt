@@ -1,5 +1,5 @@
 pub mod Component
-pub mod Entities
+pub mod EntityMap
 pub mod BirthOrder
 pub mod Place
 pub mod Places

@@ -4,13 +4,13 @@ use Rattle.std.specs.List.{HoldsAt}
 use Rattle.std.specs.FinMap as finite
 use Rattle.ent_handle.specs.Handle.{Handle, handle_cmp}
 use Rattle.ent_storage.specs.declared.row.Row.{Row}
-use Rattle.ent_storage.specs.Entities.{Entity, Entities}
+use Rattle.ent_storage.specs.EntityMap.{Entity, EntityMap}
 
 abbrev pub entity_of : Row → Entity
 entity_of row = record { birth = row.birth; components = row.components }
 
 -- the entities that stand in the rows
-abbrev pub entities_of : List Row → Entities
+abbrev pub entities_of : List Row → EntityMap
 entities_of rows = finite.from_entries (map (λ row. (row.handle, entity_of row)) rows)
 
 -- the index has the place of each row, and no other

@@ -2,7 +2,7 @@ ghost use Rattle.std.specs.Prelude.{◌≡◌, ◌+◌, ◌≤◌, ◌<◌, ◌�
 ghost use Rattle.std.specs.Option.{option_map};
 ghost use Rattle.std.specs.FinMap as map;
 ghost use Rattle.ent_storage.specs.Component.{with_items, missing};
-ghost use Rattle.ent_storage.specs.Entities.{newborn, birth_of, components_of, value_of, with_components};
+ghost use Rattle.ent_storage.specs.EntityMap.{newborn, birth_of, components_of, value_of, with_components};
 ghost use Rattle.ent_storage.specs.BirthOrder.{ListsAll, ListsWith};
 ghost use Rattle.ent_storage.specs.Rows.{entity_of};
 
@@ -28,7 +28,7 @@ pub struct Storage {
 
 impl Model for Storage {
     ghost use Rattle.std.specs.Prelude.{◌-◌, min, vec_len, vec_capacity};
-    ghost use Rattle.ent_storage.specs.Entities.{Store, store_code};
+    ghost use Rattle.ent_storage.specs.EntityMap.{Store, store_code};
 
     ghost Value = { Store };
 

@@ -106,7 +106,7 @@ fn event_by_event(rt: HostRuntime) -> Result<(), Fail> {
 }
 
 #[test]
-fn a_refused_wish_shuts_the_pool(rt: HostRuntime) -> Result<(), Fail> {
+fn a_refused_request_shuts_the_pool(rt: HostRuntime) -> Result<(), Fail> {
     assert!(rt;
         gives(
             rt.alloc(),
@@ -198,7 +198,7 @@ fn the_credit_runs_out(rt: HostRuntime) -> Result<(), Fail> {
     let begin = Event::Begin { caller: 1, n: 1 };
     assert!(rt; next(&mut machine, begin) == Err(ReplayFault::Quota { left: 0 }));
 
-    // A wish for none is still served.
+    // A request for none is still served.
     let begin = Event::Begin { caller: 1, n: 0 };
     assert!(rt; next(&mut machine, begin) == Ok(Outcome::Open));
     assert!(rt; next(&mut machine, Event::Step(1)) == Ok(Outcome::Cursor(-1099511627776)));

@@ -194,7 +194,7 @@ fn assert_items(
     Ok(())
 }
 
-// An index that no entity has, and a later tenant of the slot that the first entity has.
+// An index that no entity has, and a later occupant of the slot that the first entity has.
 fn assert_strangers(rt: &impl Abort, storage: &mut Storage, size: u32) -> Result<(), Fail> {
     assert_absent(rt, storage, entity(size)?);
     assert_absent(rt, storage, Handle::new(0, 2).ok_or("no handle")?);

@@ -102,7 +102,7 @@ fn nothing_gives_nothing(rt: HostRuntime) {
 }
 
 #[test]
-fn a_refused_wish_shuts_the_pool(rt: HostRuntime) {
+fn a_refused_request_shuts_the_pool(rt: HostRuntime) {
     replays(
         &rt,
         3,

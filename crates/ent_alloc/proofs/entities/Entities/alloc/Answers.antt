@@ -61,8 +61,8 @@ returns-clause-front c =
     let pool = ap (λ (s : Allocator). s.pool) rest in
     elim c.if-waiting-gt0.branch [
       | then-waiting-gt0 w ↦
-          (let h = w.wake_last-handle.result in
-          front_of c.args.self.now.pool (reverse (take (length r.pending - 1) r.pending) ++ fresh r.made (r.limits.slots - r.made)) h (sym pool ∙ alloc_old_front r h (omega arith) w.wake_last-handle.ensures.last)
+          (let h = w.reuse_last-handle.result in
+          front_of c.args.self.now.pool (reverse (take (length r.pending - 1) r.pending) ++ fresh r.made (r.limits.slots - r.made)) h (sym pool ∙ alloc_old_front r h (omega arith) w.reuse_last-handle.ensures.last)
           ∙ ap Some (sym w.handle-is))
       | else-waiting-gt0+else-room-eq0+in-Ok w ↦
           (let h = w.in-Ok.handle in
@@ -89,12 +89,12 @@ invariant_of-self-2 c =
     let top : to_z w64 (of_z w64 c.top-top.result) ≡ pos (length new.pending) = omega (arith, ints) in
     elim c.if-waiting-gt0.branch [
       | then-waiting-gt0 w ↦
-          (let h = w.wake_last-handle.result in
+          (let h = w.reuse_last-handle.result in
           closed new (record r { live = sets.union r.live (sets.from_list (h ∷ [])); pending = take (length r.pending - 1) r.pending })
           (to_z w64 (of_z w64 c.top-top.result)) (to_z w64 (of_z w64 c.top-top.result)) (after_alloc c.args.self.now h)
-          (ap (λ x. x.slots) w.self-inside-is ∙ w.wake_last-handle.ensures.ok) top top
-          (alloc_old_is r h sound_rest (omega arith) w.wake_last-handle.ensures.last ∙ ap (λ s. after_alloc s h) rest)
-          (after_alloc-sound c.args.self.now h (reverse (take (length r.pending - 1) r.pending) ++ fresh r.made (r.limits.slots - r.made)) sound none (sym pool ∙ alloc_old_front r h (omega arith) w.wake_last-handle.ensures.last)))
+          (ap (λ x. x.slots) w.self-inside-is ∙ w.reuse_last-handle.ensures.ok) top top
+          (alloc_old_is r h sound_rest (omega arith) w.reuse_last-handle.ensures.last ∙ ap (λ s. after_alloc s h) rest)
+          (after_alloc-sound c.args.self.now h (reverse (take (length r.pending - 1) r.pending) ++ fresh r.made (r.limits.slots - r.made)) sound none (sym pool ∙ alloc_old_front r h (omega arith) w.reuse_last-handle.ensures.last)))
       | else-waiting-gt0+else-room-eq0+in-Ok w ↦
           (let h = w.in-Ok.handle in
           let made : r.made ≡ c.args.self.now.made = ap (λ (s : Allocator). s.made) c.self.view_is in
@@ -122,11 +122,11 @@ returns-clause-ok c =
     let top : to_z w64 (of_z w64 c.top-top.result) ≡ pos (length new.pending) = omega (arith, ints) in
     elim c.if-waiting-gt0.branch [
       | then-waiting-gt0 w ↦
-          (let h = w.wake_last-handle.result in
+          (let h = w.reuse_last-handle.result in
           closed_is new (record r { live = sets.union r.live (sets.from_list (h ∷ [])); pending = take (length r.pending - 1) r.pending })
           (to_z w64 (of_z w64 c.top-top.result)) (to_z w64 (of_z w64 c.top-top.result)) (after_alloc c.args.self.now h)
-          (ap (λ x. x.slots) w.self-inside-is ∙ w.wake_last-handle.ensures.ok) top top
-          (alloc_old_is r h sound_rest (omega arith) w.wake_last-handle.ensures.last ∙ ap (λ s. after_alloc s h) rest)
+          (ap (λ x. x.slots) w.self-inside-is ∙ w.reuse_last-handle.ensures.ok) top top
+          (alloc_old_is r h sound_rest (omega arith) w.reuse_last-handle.ensures.last ∙ ap (λ s. after_alloc s h) rest)
           ∙ ap (λ (x : Handle). after_alloc c.args.self.now x) (sym w.handle-is))
       | else-waiting-gt0+else-room-eq0+in-Ok w ↦
           (let h = w.in-Ok.handle in

@@ -38,8 +38,8 @@ returns-then-before-after c =
     let has = c.available-available.ensures.value in
     let made : r.made ≡ s.made = ap (λ (t : Allocator). t.made) c.self.view_is in
     let slots : r.limits.slots ≡ s.limits.slots = ap (λ (t : Allocator). t.limits.slots) c.self.view_is in
-    λ n wish.
-    let wished : beneath r low ≡ beneath r high + n = ap (beneath r) wish ∙ asked_at-lower (length r.pending) high n high_in in
+    λ n requested.
+    let requested : beneath r low ≡ beneath r high + n = ap (beneath r) requested ∙ asked_at-lower (length r.pending) high n high_in in
     ap Ok (c.new.ensures ∙ fresh-none 0) ∙ reply_none r (beneath r high) n (omega arith) ∙ replied r e.cursor e.floor high s n inv c.self.view_is
 
 pub returns-then-available-after : goal.returns-then-available-after
@@ -66,8 +66,8 @@ returns-then-available-after c =
     let has = c.available-available.ensures.value in
     let made : r.made ≡ s.made = ap (λ (t : Allocator). t.made) c.self.view_is in
     let slots : r.limits.slots ≡ s.limits.slots = ap (λ (t : Allocator). t.limits.slots) c.self.view_is in
-    λ n wish.
-    let wished : beneath r low ≡ beneath r high + n = ap (beneath r) wish ∙ asked_at-lower (length r.pending) high n high_in in
+    λ n requested.
+    let requested : beneath r low ≡ beneath r high + n = ap (beneath r) requested ∙ asked_at-lower (length r.pending) high n high_in in
     let differ = c.if-before-after.false in
     let past = c.if-available-after.true in
     let wanted : c.distance-after.result - c.distance-before.result ≡ n = omega arith in
@@ -172,7 +172,7 @@ new-requires-2 c =
     let fits = c.made.ensures.fits in
     let enough = c.if-available-after.false in
     record {
-      places = omega arith;
+      positions = omega arith;
       within = omega arith;
       few = omega arith;
       indexes = omega arith;
@@ -210,12 +210,12 @@ returns c =
     let few = c.made.ensures.within in
     let fits = c.made.ensures.fits in
     let enough = c.if-available-after.false in
-    λ n wish.
-    let wished : beneath r low ≡ beneath r high + n = ap (beneath r) wish ∙ asked_at-lower (length r.pending) high n high_in in
-    let place_is : c.saturating_sub-2.result ≡ length r.pending - (beneath r high + n) = omega arith in
+    λ n requested.
+    let requested : beneath r low ≡ beneath r high + n = ap (beneath r) requested ∙ asked_at-lower (length r.pending) high n high_in in
+    let position_is : c.saturating_sub-2.result ≡ length r.pending - (beneath r high + n) = omega arith in
     let end_is : c.saturating_sub-3.result ≡ length r.pending - beneath r high = omega arith in
     let index_is : c.from-made.result + c.saturating_sub-4.result ≡ r.made + (beneath r high - length r.pending) = omega arith in
     let index_end_is : c.from-made.result + c.saturating_sub-5.result ≡ r.made + (beneath r high + n - length r.pending) = omega arith in
-    ap Ok (c.new-2.ensures ∙ (λ i. handles_of r (place_is i) (end_is i) (index_is i) (index_end_is i)))
+    ap Ok (c.new-2.ensures ∙ (λ i. handles_of r (position_is i) (end_is i) (index_is i) (index_end_is i)))
     ∙ reply_served r (beneath r high) n (pending_below r (beneath r e.cursor) (beneath r e.floor) inv.given_least inv.sound) (omega arith)
     ∙ replied r e.cursor e.floor high s n inv c.self.view_is

@@ -3,7 +3,7 @@ use Rattle.std.proofs.lemmas.Int.{ints}
 use Rattle.ent_alloc.specs.Sequential.{top, asked_at, Allocator}
 use Rattle.ent_alloc.specs.Entities.{allocator_of, beneath}
 use Rattle.ent_alloc.specs.Sound.{IsSound}
-use Rattle.ent_alloc.proofs.Settled.{length-all, settled-wishes}
+use Rattle.ent_alloc.proofs.Settled.{length-all, settled-requests}
 use Rattle.ent_alloc.proofs.Meaning.{asked_at-is, top_is, settled_view, settled_reserved}
 use Rattle.ent_alloc.proofs.entities.Entities.settle.Goals as goal
 
@@ -30,8 +30,8 @@ returns-clause-settled c =
     (λ i. allocator_of e.slots (beneath e.slots (at i)) (beneath e.slots (down i)))
     ∙ settled_view e.slots e.cursor e.floor c.args.cursor c.args.floor c.args.self.now c.self.invariant c.self.view_is c.requires.flushed
 
-pub returns-clause-wishes : goal.returns-clause-wishes
-returns-clause-wishes c =
+pub returns-clause-requests : goal.returns-clause-requests
+returns-clause-requests c =
     let s = c.args.self.now in
     let sound : IsSound s = subst IsSound c.self.view_is c.self.invariant.sound in
     let greatest = c.requires.greatest in
@@ -41,5 +41,5 @@ returns-clause-wishes c =
     let asks = asked_at-is (top s) c.args.cursor (omega (arith, ints)) in
     let long = length-all s sound c.requires.flushed in
     (returns-clause-settled c)
-    ∙ settled-wishes s sound c.requires.flushed (asked_at (top s) c.args.floor) (asked_at (top s) c.args.cursor)
+    ∙ settled-requests s sound c.requires.flushed (asked_at (top s) c.args.floor) (asked_at (top s) c.args.cursor)
     (omega (arith, ints)) (omega (arith, ints)) (λ within. ap (asked_at (top s)) (c.requires.all_given (omega (arith, ints))))

@@ -19,7 +19,7 @@ loop-index-preserved c =
     let at : made + (index - made) ≡ index = omega arith in
     let more : index - made + 1 ≡ index + 1 - made = omega arith in
     c.in_ok-push.ensures.items
-    ∙ (λ i. c.loop-index.invariant i ++ c.first_tenant.ensures i ∷ [])
+    ∙ (λ i. c.loop-index.invariant i ++ c.first_occupant.ensures i ∷ [])
     ∙ append_assoc c.args.out.now.items (fresh made (index - made)) (record { index = index; generation = 1 } ∷ [])
     ∙ ap (λ (hs : List Handle). c.args.out.now.items ++ hs)
     (ap (λ n. fresh made (index - made) ++ record { index = n; generation = 1 } ∷ []) (sym at) ∙ fresh-push made (index - made) ∙ ap (fresh made) more)

@@ -1,7 +1,7 @@
 use Rattle.std.proofs.Common.{◌≡◌, ℕ, ◌+◌, ◌-◌, List, ◌++◌, length, take, replicate, ap, ◌∙◌, arith}
 use Rattle.std.specs.FinSet as sets
 use Rattle.std.proofs.lemmas.List.{take_all}
-use Rattle.ent_alloc.specs.declared.record.Record.{Record}
+use Rattle.ent_alloc.specs.declared.record.Record.{SlotRecord}
 use Rattle.ent_alloc.specs.Sequential.{fresh}
 use Rattle.ent_alloc.specs.Roster.{Roster}
 use Rattle.ent_alloc.specs.Slots.{roster_of, newborn}
@@ -9,7 +9,7 @@ use Rattle.ent_alloc.proofs.Linked.{make_keeps_links, roster_of-make}
 use Rattle.ent_alloc.proofs.slots.Slots.make.Goals as goal
 
 -- a vector that is lengthened keeps its items
-lengthened : (records new : List Record) (made count long : ℕ) (value : Record) → made ≡ length records → long ≡ length records → value ≡ newborn → new ≡ take (made + count) records ++ replicate (made + count - long) value → new ≡ records ++ replicate count newborn
+lengthened : (records new : List SlotRecord) (made count long : ℕ) (value : SlotRecord) → made ≡ length records → long ≡ length records → value ≡ newborn → new ≡ take (made + count) records ++ replicate (made + count - long) value → new ≡ records ++ replicate count newborn
 lengthened records new made count long value at as_long same is =
     is
     ∙ (λ i. take_all (made + count) records (omega arith) i ++ replicate (made + count - long) (same i))

@@ -3,19 +3,19 @@ use Rattle.std.specs.FinSet as sets
 use Rattle.std.specs.FinMap as maps
 use Rattle.ent_handle.specs.Handle.{Handle}
 use Rattle.ent_alloc.specs.Limits.{Limits}
-use Rattle.ent_alloc.specs.declared.record.Record.{Record}
-use Rattle.ent_alloc.specs.declared.record.Tenancy.TheVariants.{Pending}
+use Rattle.ent_alloc.specs.declared.record.Record.{SlotRecord}
+use Rattle.ent_alloc.specs.declared.slot_record.Occupancy.TheVariants.{Pending}
 use Rattle.ent_alloc.specs.Sequential.{next}
 use Rattle.ent_alloc.specs.Roster.{Roster}
-use Rattle.ent_alloc.specs.Slots.{roster_of, is_tenant}
-use Rattle.ent_alloc.proofs.Tenants.{contains_tenants}
-use Rattle.ent_alloc.proofs.Linked.{tenant_made, tenant_generation, next_generation, one_lives, release_keeps_links, roster_of-release}
+use Rattle.ent_alloc.specs.Slots.{roster_of, is_occupant}
+use Rattle.ent_alloc.proofs.Occupants.{contains_occupants}
+use Rattle.ent_alloc.proofs.Linked.{occupant_made, occupant_generation, next_generation, one_lives, release_keeps_links, roster_of-release}
 use Rattle.ent_alloc.proofs.slots.Slots.release.Goals as goal
 
--- who is in the set is a tenant
-lives : (limits : Limits) (records : List Record) (pending : List ℕ) (r : Roster) (h : Handle) → roster_of limits records pending ≡ r → sets.contains r.live h ≡ true → is_tenant records h ≡ true
+-- who is in the set is a occupant
+lives : (limits : Limits) (records : List SlotRecord) (pending : List ℕ) (r : Roster) (h : Handle) → roster_of limits records pending ≡ r → sets.contains r.live h ≡ true → is_occupant records h ≡ true
 lives limits records pending r h view within =
-    sym (contains_tenants records h) ∙ ap (λ (r : Roster). sets.contains r.live h) view ∙ within
+    sym (contains_occupants records h) ∙ ap (λ (r : Roster). sets.contains r.live h) view ∙ within
 
 -- the generation that was computed is the next handle's
 following_is : (limits : Limits) (h : Handle) (generation result : ℕ) → generation ≡ h.generation → result ≡ (if generation == limits.generations then 1 else generation + 1) → result ≡ (next limits h).generation
@@ -25,14 +25,14 @@ pub following-generation-requires : goal.following-generation-requires
 following-generation-requires c =
     let records = c.self.inside.records.items in
     let is = lives c.self.inside.limits records c.self.inside.pending.items c.args.self.now c.args.handle c.self.view_is c.requires in
-    let bound = c.self.invariant.greatest c.args.handle.index (tenant_made records c.args.handle is) in
-    omega (arith, tenant_generation records c.args.handle is)
+    let bound = c.self.invariant.greatest c.args.handle.index (occupant_made records c.args.handle is) in
+    omega (arith, occupant_generation records c.args.handle is)
 
 pub index_mut-requires : goal.index_mut-requires
 index_mut-requires c =
     let records = c.self.inside.records.items in
     let is = lives c.self.inside.limits records c.self.inside.pending.items c.args.self.now c.args.handle c.self.view_is c.requires in
-    omega (arith, tenant_made records c.args.handle is)
+    omega (arith, occupant_made records c.args.handle is)
 
 pub overflow_sub-self : goal.overflow_sub-self
 overflow_sub-self c =
@@ -46,7 +46,7 @@ handle_of-requires c =
     let is = lives c.self.inside.limits records c.self.inside.pending.items c.args.self.now c.args.handle c.self.view_is c.requires in
     let range = next_generation c.self.inside.limits records c.self.inside.pending.items c.self.inside.live c.args.handle c.self.invariant is in
     let generation_is = following_is c.self.inside.limits c.args.handle c.generation.result c.following-generation.result c.generation.ensures c.following-generation.ensures in
-    let made = tenant_made records c.args.handle is in
+    let made = occupant_made records c.args.handle is in
     let few = c.self.invariant.few in
     let slots = c.self.invariant.limited.slots in
     let generations = c.self.invariant.limited.generations in
@@ -57,8 +57,8 @@ invariant_of-self-2 c =
     let records = c.self.inside.records.items in
     let is = lives c.self.inside.limits records c.self.inside.pending.items c.args.self.now c.args.handle c.self.view_is c.requires in
     let generation_is = following_is c.self.inside.limits c.args.handle c.generation.result c.following-generation.result c.generation.ensures c.following-generation.ensures in
-    let place_is : c.len-place.result ≡ length c.self.inside.pending.items = omega arith in
-    rw (generation_is, place_is, c.index-index.ensures, c.in_ok-push.ensures.items)
+    let position_is : c.len-position.result ≡ length c.self.inside.pending.items = omega arith in
+    rw (generation_is, position_is, c.index-index.ensures, c.in_ok-push.ensures.items)
     (rw c.index-index.ensures (release_keeps_links c.self.inside.limits records c.self.inside.pending.items c.self.inside.live c.args.handle c.self.invariant is))
 
 pub returns-clause-ok : goal.returns-clause-ok
@@ -67,8 +67,8 @@ returns-clause-ok c =
     let pending = c.self.inside.pending.items in
     let is = lives c.self.inside.limits records pending c.args.self.now c.args.handle c.self.view_is c.requires in
     let generation_is = following_is c.self.inside.limits c.args.handle c.generation.result c.following-generation.result c.generation.ensures c.following-generation.ensures in
-    let place_is : c.len-place.result ≡ length pending = omega arith in
+    let position_is : c.len-position.result ≡ length pending = omega arith in
     let pushed = c.in_ok-push.ensures.items ∙ ap (λ n. pending ++ n ∷ []) c.index-index.ensures in
-    (λ i. roster_of c.self.inside.limits (set records (c.index-index.ensures i) (record { generation = generation_is i; tenancy = Pending (place_is i) })) (pushed i))
+    (λ i. roster_of c.self.inside.limits (set records (c.index-index.ensures i) (record { generation = generation_is i; occupancy = Pending (position_is i) })) (pushed i))
     ∙ roster_of-release c.self.inside.limits records pending c.self.inside.live c.args.handle c.self.invariant is
     ∙ ap (λ (r : Roster). record r { live = sets.remove r.live c.args.handle; rows = maps.remove r.rows c.args.handle; pending = r.pending ++ next r.limits c.args.handle ∷ [] }) c.self.view_is

@@ -2,7 +2,7 @@ use Rattle.std.proofs.Common.{sym, ap, ◌∙◌}
 use Rattle.std.specs.FinMap as maps
 use Rattle.ent_alloc.specs.Roster.{Roster}
 use Rattle.ent_alloc.specs.Slots.{row_at}
-use Rattle.ent_alloc.proofs.Tenants.{get_kept}
+use Rattle.ent_alloc.proofs.Occupants.{get_kept}
 use Rattle.ent_alloc.proofs.slots.Slots.row.Goals as goal
 
 pub returns : goal.returns

@@ -39,7 +39,7 @@ reply-requires-clause-passed c =
 pub reply-requires-clause-short : goal.reply-requires-clause-short
 reply-requires-clause-short c =
     let passed = c.self.invariant.spans c.args.caller c.in-Some.call c.in-Some-span.span (sym c.get.ensures ∙ c.in-Some.is) c.in-Some-span.is in
-    let small = c.self.invariant.wishes c.args.caller c.in-Some.call (sym c.get.ensures ∙ c.in-Some.is) in
+    let small = c.self.invariant.requests c.args.caller c.in-Some.call (sym c.get.ensures ∙ c.in-Some.is) in
     let low = passed.low in
     omega (arith, ints)
 
@@ -56,7 +56,7 @@ returns-in-Err-listed c =
     let call = c.in-Some.call in
     let span = c.in-Some-span.span in
     let passed = c.self.invariant.spans c.args.caller call span (sym c.get.ensures ∙ c.in-Some.is) c.in-Some-span.is in
-    let replied = c.reply.ensures call.wish passed.low in
+    let replied = c.reply.ensures call.requested passed.low in
     refused (λ v. on_answer v c.args.caller) before c.args.self.now c.self.view_is (Err fault.Memory) refl c.args.self.now (sym c.self.view_is)
     (ap (λ p. takes_memory p.0) (answer-answered e.entities e.spent e.calls c.args.caller (omega arith) call (sym c.get.ensures ∙ c.in-Some.is) span c.in-Some-span.is)
     ∙ ap (λ (r : Reply). takes_memory (Ok (reported r))) (sym replied ∙ c.in-Ok.is))
@@ -77,14 +77,14 @@ returns c =
     let call = c.in-Some.call in
     let span = c.in-Some-span.span in
     let passed = c.self.invariant.spans c.args.caller call span (sym c.get.ensures ∙ c.in-Some.is) c.in-Some-span.is in
-    let replied = c.reply.ensures call.wish passed.low in
+    let replied = c.reply.ensures call.requested passed.low in
     let unchanged : c.match-reply.self-inside ≡ e = elim c.match-reply.branch [ in-Ok+in-Ok-listed w ↦ w.self-inside-is | in-Err w ↦ w.self-inside-is ] in
     let calls = c.remove.ensures ∙ ap (λ (x : Inside). finite.remove x.calls c.args.caller) unchanged in
-    let told : c.match-reply.outcome ≡ reported (reply_from e.entities.made (pool_at e.entities span.high) call.wish) = elim c.match-reply.branch [
+    let told : c.match-reply.outcome ≡ reported (reply_from e.entities.made (pool_at e.entities span.high) call.requested) = elim c.match-reply.branch [
       | in-Ok+in-Ok-listed w ↦ w.outcome-is ∙ ap outcome.Handles w.in-Ok-listed.ensures ∙ ap reported (sym w.in-Ok.is ∙ replied)
       | in-Err w ↦ w.outcome-is ∙ ap reported (sym w.in-Err.is ∙ replied)
     ] in
-    done (λ v. on_answer v c.args.caller) before c.args.self.now c.self.view_is (Ok c.match-reply.outcome) (Ok (reported (reply_from e.entities.made (pool_at e.entities span.high) call.wish)))
+    done (λ v. on_answer v c.args.caller) before c.args.self.now c.self.view_is (Ok c.match-reply.outcome) (Ok (reported (reply_from e.entities.made (pool_at e.entities span.high) call.requested)))
     (ap (λ (o : Outcome). Ok o) told)
     (schedule_of c.match-reply.self-inside.entities c.match-reply.self-inside.spent c.remove.new.self)
     (schedule_of e.entities e.spent (finite.remove e.calls c.args.caller))

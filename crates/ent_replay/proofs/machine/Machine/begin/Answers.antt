@@ -45,7 +45,7 @@ invariant_of-self-then-is_err-2 c =
     let none = sym c.get.ensures ∙ none_of c.get.result c.if-is_some.ensures in
     let spent : c.insert-2.new.self ≡ e.spent = on_err c.insert-2.result c.if-is_err-2.ensures.value c.insert-2.ensures.err in
     let begun = on_ok c.insert.result c.if-is_err.ensures.value c.insert.ensures.ok in
-    let calls : c.remove.new.self ≡ e.calls = c.remove.ensures ∙ ap (λ m. finite.remove m c.args.caller) begun ∙ insert-remove e.calls c.args.caller (record { wish = c.args.n; span = None }) none in
+    let calls : c.remove.new.self ≡ e.calls = c.remove.ensures ∙ ap (λ m. finite.remove m c.args.caller) begun ∙ insert-remove e.calls c.args.caller (record { requested = c.args.n; span = None }) none in
     subst (λ m. IsPlayed e.entities m c.remove.new.self) (sym spent) (subst (λ m. IsPlayed e.entities e.spent m) (sym calls) c.self.invariant)
 
 pub returns-then-is_err-2 : goal.returns-then-is_err-2
@@ -55,7 +55,7 @@ returns-then-is_err-2 c =
     let none = sym c.get.ensures ∙ none_of c.get.result c.if-is_some.ensures in
     let spent : c.insert-2.new.self ≡ e.spent = on_err c.insert-2.result c.if-is_err-2.ensures.value c.insert-2.ensures.err in
     let begun = on_ok c.insert.result c.if-is_err.ensures.value c.insert.ensures.ok in
-    let calls : c.remove.new.self ≡ e.calls = c.remove.ensures ∙ ap (λ m. finite.remove m c.args.caller) begun ∙ insert-remove e.calls c.args.caller (record { wish = c.args.n; span = None }) none in
+    let calls : c.remove.new.self ≡ e.calls = c.remove.ensures ∙ ap (λ m. finite.remove m c.args.caller) begun ∙ insert-remove e.calls c.args.caller (record { requested = c.args.n; span = None }) none in
     let old : c.unwrap_or-spent.result ≡ spent_by before c.args.caller = c.unwrap_or-spent.ensures ∙ ap (λ o. unwrap_or o 0) c.get-2.ensures in
     refused (λ v. on_begin v c.args.caller c.args.n) before c.args.self.now c.self.view_is (Err fault.Memory) refl
     (schedule_of e.entities c.insert-2.new.self c.remove.new.self) (λ i. schedule_of e.entities (spent i) (calls i))
@@ -85,6 +85,6 @@ returns c =
     let begun = on_ok c.insert.result c.if-is_err.ensures.value c.insert.ensures.ok in
     done (λ v. on_begin v c.args.caller c.args.n) before c.args.self.now c.self.view_is (Ok outcome.Open) (Ok outcome.Open) refl
     (schedule_of e.entities c.insert-2.new.self c.insert.new.self)
-    (schedule_of e.entities (finite.insert e.spent c.args.caller (spent_by before c.args.caller + c.args.n)) (finite.insert e.calls c.args.caller (record { wish = c.args.n; span = None })))
+    (schedule_of e.entities (finite.insert e.spent c.args.caller (spent_by before c.args.caller + c.args.n)) (finite.insert e.calls c.args.caller (record { requested = c.args.n; span = None })))
     (λ i. schedule_of e.entities (spent i) (begun i))
     (begin-begun e.entities e.spent e.calls c.args.caller (omega arith) c.args.n none (omega arith))

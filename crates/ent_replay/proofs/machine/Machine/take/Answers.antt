@@ -30,7 +30,7 @@ lower-span-requires c =
     let e = c.self.inside in
     let waits = none_of c.in-Some.call.span c.if-is_some.ensures in
     let bound = awaited-bound e.entities e.spent e.calls c.args.caller (omega arith) c.self.invariant c.in-Some.call (sym c.get.ensures ∙ c.in-Some.is) in
-    let asks : unasked c.in-Some.call.wish c.in-Some.call.span ≡ c.in-Some.call.wish = ap (unasked c.in-Some.call.wish) waits in
+    let asks : unasked c.in-Some.call.requested c.in-Some.call.span ≡ c.in-Some.call.requested = ap (unasked c.in-Some.call.requested) waits in
     omega arith
 
 pub invariant_of-self : goal.invariant_of-self
@@ -38,9 +38,9 @@ invariant_of-self c =
     let e = c.self.inside in
     let call = c.in-Some.call in
     let waits = none_of call.span c.if-is_some.ensures in
-    let calls = c.replace.ensures ∙ ap (λ (x : Span). finite.insert e.calls c.args.caller (record { wish = call.wish; span = Some x })) c.lower-span.ensures.span in
+    let calls = c.replace.ensures ∙ ap (λ (x : Span). finite.insert e.calls c.args.caller (record { requested = call.requested; span = Some x })) c.lower-span.ensures.span in
     subst (λ s. IsPlayed s e.spent c.replace.new.self) (sym c.lower-span.ensures.step)
-    (subst (λ m. IsPlayed (after_take e.entities call.wish) e.spent m) (sym calls)
+    (subst (λ m. IsPlayed (after_take e.entities call.requested) e.spent m) (sym calls)
     (step-played e.entities e.spent e.calls c.args.caller (omega arith) call (sym c.get.ensures ∙ c.in-Some.is) c.self.invariant waits))
 
 pub returns : goal.returns
@@ -49,12 +49,12 @@ returns c =
     let before = schedule_of e.entities e.spent e.calls in
     let call = c.in-Some.call in
     let waits = none_of call.span c.if-is_some.ensures in
-    let calls = c.replace.ensures ∙ ap (λ (x : Span). finite.insert e.calls c.args.caller (record { wish = call.wish; span = Some x })) c.lower-span.ensures.span in
+    let calls = c.replace.ensures ∙ ap (λ (x : Span). finite.insert e.calls c.args.caller (record { requested = call.requested; span = Some x })) c.lower-span.ensures.span in
     let word : to_z w64 (of_z w64 c.lower-span.result.low) ≡ c.lower-span.result.low = omega (arith, ints) in
-    let low : to_z w64 (of_z w64 c.lower-span.result.low) ≡ cursor e.entities -ℤ pos call.wish = word ∙ ap (λ (x : Span). x.low) c.lower-span.ensures.span in
-    done (λ v. on_step v c.args.caller) before c.args.self.now c.self.view_is (Ok (outcome.Cursor (to_z w64 (of_z w64 c.lower-span.result.low)))) (Ok (outcome.Cursor (cursor e.entities -ℤ pos call.wish)))
+    let low : to_z w64 (of_z w64 c.lower-span.result.low) ≡ cursor e.entities -ℤ pos call.requested = word ∙ ap (λ (x : Span). x.low) c.lower-span.ensures.span in
+    done (λ v. on_step v c.args.caller) before c.args.self.now c.self.view_is (Ok (outcome.Cursor (to_z w64 (of_z w64 c.lower-span.result.low)))) (Ok (outcome.Cursor (cursor e.entities -ℤ pos call.requested)))
     (ap (λ z. Ok (outcome.Cursor z)) low)
     (schedule_of c.lower-span.new.self e.spent c.replace.new.self)
-    (schedule_of (after_take e.entities call.wish) e.spent (finite.insert e.calls c.args.caller (record { wish = call.wish; span = Some (record { high = cursor e.entities; low = cursor e.entities -ℤ pos call.wish }) })))
+    (schedule_of (after_take e.entities call.requested) e.spent (finite.insert e.calls c.args.caller (record { requested = call.requested; span = Some (record { high = cursor e.entities; low = cursor e.entities -ℤ pos call.requested }) })))
     (λ i. schedule_of (c.lower-span.ensures.step i) e.spent (calls i))
     (step-taken e.entities e.spent e.calls c.args.caller (omega arith) call (sym c.get.ensures ∙ c.in-Some.is) c.self.invariant.sound waits)

@@ -54,7 +54,7 @@ returns-clause-distinct c = (after c).all_distinct
 pub returns-clause-not_live : goal.returns-clause-not_live
 returns-clause-not_live c = (after c).none_live
 
-pub returns-clause-wakes : goal.returns-clause-wakes
-returns-clause-wakes c = λ h.
+pub returns-clause-brings_to_life : goal.returns-clause-brings_to_life
+returns-clause-brings_to_life c = λ h.
     subst (λ (s : Allocator). IsLive (after_flush s) h ↔ IsLive c.args.self.start h ⊎ Contains (given_in (history_of (owns c.args.reservers.items))) h)
-    (sym (c.settle.ensures.settled ∙ (after c).after)) ((after c).wakes h)
+    (sym (c.settle.ensures.settled ∙ (after c).after)) ((after c).brings_to_life h)

@@ -1,7 +1,7 @@
 use Rattle.std.proofs.Common.{ap, ◌∙◌, pos, ◌-ℤ◌, ◌≤ℤ◌, to_z, of_z, w64, All, Contains, subst, sym}
 use Rattle.ent_alloc.specs.Sequential.{Allocator, cursor}
 use Rattle.ent_shared.specs.declared.record.Record.{Record}
-use Rattle.ent_shared.specs.Record.{own_calls}
+use Rattle.ent_shared.specs.Record.{own_reservations}
 use Rattle.ent_shared.specs.Order.{handles_of}
 use Rattle.ent_shared.specs.Phase.{Shared}
 use Rattle.ent_shared.proofs.Losing.{lost, Lost}
@@ -41,5 +41,5 @@ returns-clause-after c =
 pub returns-clause-given : goal.returns-clause-given
 returns-clause-given c =
     let l = after c in
-    all_owners (λ (r : Record). All (Contains c.settle.new.self.taken) (handles_of (own_calls r.entries))) c.args.reservers.items
-    (subst (λ (s : Allocator). All (λ (r : Record). All (Contains s.taken) (handles_of (own_calls r.entries))) (owns c.args.reservers.items)) (sym (c.settle.ensures.settled ∙ l.after)) l.given)
+    all_owners (λ (r : Record). All (Contains c.settle.new.self.taken) (handles_of (own_reservations r.entries))) c.args.reservers.items
+    (subst (λ (s : Allocator). All (λ (r : Record). All (Contains s.taken) (handles_of (own_reservations r.entries))) (owns c.args.reservers.items)) (sym (c.settle.ensures.settled ∙ l.after)) l.given)

@@ -2,7 +2,7 @@ use Rattle.std.proofs.Common.{ap, ◌∙◌, arith}
 use Rattle.std.specs.FinMap as map
 use Rattle.ent_storage.specs.declared.row.Row.{Row}
 use Rattle.ent_storage.specs.Component.{Components}
-use Rattle.ent_storage.specs.Entities.{Entities, Store}
+use Rattle.ent_storage.specs.EntityMap.{EntityMap, Store}
 use Rattle.ent_storage.specs.Rows.{entity_of}
 use Rattle.ent_storage.proofs.Indexed.{unplaced_from_test, indexed_push, entities_push}
 use Rattle.ent_storage.proofs.storage.Storage.born.Goals as goal
@@ -37,5 +37,5 @@ returns-clause-ok c =
     let ok = c.push.ensures.succeeds (omega (arith, room, c.in_ok-reserve.ensures.ok)) in
     rw (c.push.ensures.items, ok)
     (entities_push c.self.inside.rows.items c.self.inside.index.rows c.self.invariant row new
-    ∙ ap (λ (m : Entities). map.insert m c.args.handle (entity_of row)) are
+    ∙ ap (λ (m : EntityMap). map.insert m c.args.handle (entity_of row)) are
     ∙ ap (λ (held : Components). map.insert c.args.self.now.entities c.args.handle (record { birth = c.args.birth; components = held })) c.new-components.ensures)

@@ -1,6 +1,6 @@
 use Rattle.std.proofs.Common.{true, map, ap, sym, ◌∙◌}
 use Rattle.ent_storage.specs.declared.row.Row.{Row}
-use Rattle.ent_storage.specs.Entities.{Store}
+use Rattle.ent_storage.specs.EntityMap.{Store}
 use Rattle.ent_storage.proofs.ByBirth.{filter-all, lists}
 use Rattle.ent_storage.proofs.storage.Storage.by_birth.Goals as goal
 

@@ -1,6 +1,6 @@
 use Rattle.std.proofs.Common.{◌<◌, ◌≤◌, length, is_some, refl, ap, sym, ◌∙◌, arith}
 use Rattle.std.specs.FinMap as map
-use Rattle.ent_storage.specs.Entities.{Store}
+use Rattle.ent_storage.specs.EntityMap.{Store}
 use Rattle.ent_storage.specs.Places.{Places}
 use Rattle.ent_storage.proofs.Indexed.{some_not_none, get_placed, get_unplaced, moved_into, moved_is_there, indexed_moved, entities_moved, indexed_popped, entities_popped}
 use Rattle.ent_storage.proofs.storage.Storage.despawn.Goals as goal

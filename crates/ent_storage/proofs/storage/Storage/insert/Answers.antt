@@ -3,7 +3,7 @@ use Rattle.std.specs.Option.{option_map}
 use Rattle.std.proofs.lemmas.Result.{err_from_is_err_and}
 use Rattle.std.specs.FinMap as map
 use Rattle.ent_storage.specs.Component.{with_items}
-use Rattle.ent_storage.specs.Entities.{Entity, Store, components_of, with_components}
+use Rattle.ent_storage.specs.EntityMap.{Entity, Store, components_of, with_components}
 use Rattle.ent_storage.proofs.Indexed.{some_not_none, get_unplaced, get_read, entities_changed}
 use Rattle.ent_storage.proofs.storage.Storage.insert.Goals as goal
 

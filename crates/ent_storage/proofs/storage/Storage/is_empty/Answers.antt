@@ -1,7 +1,7 @@
 use Rattle.std.proofs.Common.{◌≡◌, vec_len, ap, sym, ◌∙◌, eqb-true, eq-eqb, arith}
 use Rattle.std.specs.FinMap as map
 use Rattle.ent_handle.specs.Handle.{handle_cmp}
-use Rattle.ent_storage.specs.Entities.{Entity, Store}
+use Rattle.ent_storage.specs.EntityMap.{Entity, Store}
 use Rattle.ent_storage.proofs.Indexed.{len_rows}
 use Rattle.ent_storage.proofs.storage.Storage.is_empty.Goals as goal
 

@@ -1,6 +1,6 @@
 use Rattle.std.proofs.Common.{ap, arith}
 use Rattle.std.specs.FinMap as map
-use Rattle.ent_storage.specs.Entities.{Store}
+use Rattle.ent_storage.specs.EntityMap.{Store}
 use Rattle.ent_storage.proofs.Indexed.{len_rows}
 use Rattle.ent_storage.proofs.storage.Storage.len.Goals as goal
 

@@ -1,6 +1,6 @@
 use Rattle.std.proofs.Common.{Option, option_and_then, refl, ap, sym, ◌∙◌}
 use Rattle.std.specs.FinMap as map
-use Rattle.ent_storage.specs.Entities.{Entity, Store, with_components}
+use Rattle.ent_storage.specs.EntityMap.{Entity, Store, with_components}
 use Rattle.ent_storage.proofs.Indexed.{some_not_none, get_unplaced, get_read, entities_changed}
 use Rattle.ent_storage.proofs.storage.Storage.remove.Goals as goal
 

@@ -1,7 +1,7 @@
 use Rattle.std.proofs.Common.{Some, ap, sym, ◌∙◌}
 use Rattle.std.specs.FinMap as map
 use Rattle.ent_storage.specs.declared.row.Row.{Row}
-use Rattle.ent_storage.specs.Entities.{Store}
+use Rattle.ent_storage.specs.EntityMap.{Store}
 use Rattle.ent_storage.specs.Rows.{entity_of}
 use Rattle.ent_storage.proofs.Indexed.{get_placed, get_unplaced}
 use Rattle.ent_storage.proofs.storage.Storage.row.Goals as goal

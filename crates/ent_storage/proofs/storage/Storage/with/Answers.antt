@@ -2,7 +2,7 @@ use Rattle.std.proofs.Common.{List, map, ap, ◌∙◌}
 use Rattle.std.specs.List.{filter}
 use Rattle.std.specs.FinMap as finite
 use Rattle.ent_storage.specs.declared.row.Row.{Row}
-use Rattle.ent_storage.specs.Entities.{Store}
+use Rattle.ent_storage.specs.EntityMap.{Store}
 use Rattle.ent_storage.proofs.ByBirth.{lists}
 use Rattle.ent_storage.proofs.storage.Storage.with.Goals as goal
 

@@ -14,30 +14,30 @@ pub record Entity : Type 0 where
   pub components : Components
 
 -- each living entity, under its handle
-abbrev pub Entities : Type 0
-Entities = map.FinMap handle_cmp Entity
+abbrev pub EntityMap : Type 0
+EntityMap = map.FinMap handle_cmp Entity
 
 -- an entity as it is born
 abbrev pub newborn : Birth → Entity
 newborn birth = record { birth = birth; components = map.empty }
 
-abbrev pub birth_of : Entities → Handle → Option Birth
+abbrev pub birth_of : EntityMap → Handle → Option Birth
 birth_of m h = option_map (λ e. e.birth) (map.get m h)
 
-abbrev pub components_of : Entities → Handle → Option Components
+abbrev pub components_of : EntityMap → Handle → Option Components
 components_of m h = option_map (λ e. e.components) (map.get m h)
 
-abbrev pub value_of : Entities → Handle → ComponentId → Option ℤ
+abbrev pub value_of : EntityMap → Handle → ComponentId → Option ℤ
 value_of m h id = option_and_then (λ e. map.get e.components id) (map.get m h)
 
 -- the map after the components of the entity under a handle were changed
-abbrev pub with_components : Entities → Handle → (Components → Components) → Entities
+abbrev pub with_components : EntityMap → Handle → (Components → Components) → EntityMap
 with_components m h change =
     option_map_or (λ e. map.insert m h (record e { components = change e.components })) (map.get m h) m
 
 -- what a storage stands for: its entities, and for how many more it has room
 pub record Store : Type 0 where
-  pub entities : Entities
+  pub entities : EntityMap
   pub spare : ℕ
 
 abbrev pub birth_code : Coded Birth
@@ -49,4 +49,4 @@ entity_code = code_by (Birth × Components) (coded× birth_code components_code)
 
 -- a store is stored as the pair of its parts
 abbrev pub store_code : Coded Store
-store_code = code_by (Entities × ℕ) (coded× (map.code handle_code entity_code) coded_ℕ) (λ s. (s.entities, s.spare)) (λ p. record { entities = p.0; spare = p.1 }) (λ _. refl)
+store_code = code_by (EntityMap × ℕ) (coded× (map.code handle_code entity_code) coded_ℕ) (λ s. (s.entities, s.spare)) (λ p. record { entities = p.0; spare = p.1 }) (λ _. refl)

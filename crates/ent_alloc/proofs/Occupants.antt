@@ -1,4 +1,4 @@
--- What the set of tenants holds, and how many they are.
+-- What the set of occupants holds, and how many they are.
 use Rattle.std.proofs.Common.{◌≡◌, ℕ, ◌+◌, ◌-◌, ◌<◌, Bool, true, false, cond, ◌&&◌, ◌||◌, eqb, leb, List, [], ◌∷◌, ◌++◌, length, get_or, set, refl, sym, ap, ◌∙◌, arith, inl, inr, suc, zero, replicate, Option, None, Some}
 use Rattle.std.specs.List.{list_any}
 use Rattle.std.specs.Ordering.{eq_by_cmp, nat_cmp, is_eq, ordering_then}
@@ -10,8 +10,8 @@ use Rattle.std.proofs.lemmas.Bool.Decides.{nat_tests}
 use Rattle.std.proofs.lemmas.Bool.{cases_order, cases_eq, eq-eqb, ne_eqb, lt-leb, le-leb, cond-true, cond-false}
 use Rattle.ent_handle.specs.Handle.{Handle, handle_cmp, handle_cmp_total, handle_cmp-IsAntisymmetric}
 use Rattle.ent_alloc.proofs.ListLaws.{eqb_sym}
-use Rattle.ent_alloc.specs.declared.record.Record.{Record}
-use Rattle.ent_alloc.specs.Slots.{tenants, is_tenant, has_tenant, record_at, blank, is_alive, row_of, row_in, row_at, kept, with_row, newborn}
+use Rattle.ent_alloc.specs.declared.record.Record.{SlotRecord}
+use Rattle.ent_alloc.specs.Slots.{occupants, is_occupant, has_occupant, record_at, blank, is_alive, row_of, row_in, row_at, kept, with_row, newborn}
 use Rattle.ent_alloc.specs.Sequential.{fresh}
 use Rattle.std.specs.FinMap.{find}
 use Rattle.std.specs.Option.{is_some}
@@ -38,13 +38,13 @@ and-false : (b : Bool) → (b && false) ≡ false
 and-false true = refl
 and-false false = refl
 
--- what stands in the list of the tenants from an index on
-abbrev at_from : ℕ → List Record → Handle → Bool
-at_from index records q = leb index q.index && has_tenant (get_or records (q.index - index) blank) q.generation
+-- what stands in the list of the occupants from an index on
+abbrev at_from : ℕ → List SlotRecord → Handle → Bool
+at_from index records q = leb index q.index && has_occupant (get_or records (q.index - index) blank) q.generation
 
-one_tenant : (alive : Bool) (rest : List Handle) (h q : Handle) → list_any (eq_by_cmp handle_cmp q) (cond alive (h ∷ rest) rest) ≡ ((alive && eq_by_cmp handle_cmp q h) || list_any (eq_by_cmp handle_cmp q) rest)
-one_tenant true rest h q = refl
-one_tenant false rest h q = refl
+one_occupant : (alive : Bool) (rest : List Handle) (h q : Handle) → list_any (eq_by_cmp handle_cmp q) (cond alive (h ∷ rest) rest) ≡ ((alive && eq_by_cmp handle_cmp q h) || list_any (eq_by_cmp handle_cmp q) rest)
+one_occupant true rest h q = refl
+one_occupant false rest h q = refl
 
 or-false : (b : Bool) → (b || false) ≡ b
 or-false true = refl
@@ -62,11 +62,11 @@ after : (alive a h g : Bool) → h ≡ g → ((alive && (false && a)) || (true &
 after true a h g e = e
 after false a h g e = e
 
-at_head : (index : ℕ) (r : Record) (records : List Record) (q : Handle) → ((is_alive r.tenancy && (eqb q.index index && eqb q.generation r.generation)) || at_from (index + 1) records q) ≡ at_from index (r ∷ records) q
+at_head : (index : ℕ) (r : SlotRecord) (records : List SlotRecord) (q : Handle) → ((is_alive r.occupancy && (eqb q.index index && eqb q.generation r.generation)) || at_from (index + 1) records q) ≡ at_from index (r ∷ records) q
 at_head index r records q =
-    let alive = is_alive r.tenancy in
-    let later = has_tenant (get_or records (q.index - (index + 1)) blank) q.generation in
-    let now = has_tenant (get_or (r ∷ records) (q.index - index) blank) q.generation in
+    let alive = is_alive r.occupancy in
+    let later = has_occupant (get_or records (q.index - (index + 1)) blank) q.generation in
+    let now = has_occupant (get_or (r ∷ records) (q.index - index) blank) q.generation in
     elim (cases_order q.index index) [
       | inl e ↦
           let E : eqb q.index index ≡ true = eq-eqb q.index index e in
@@ -75,7 +75,7 @@ at_head index r records q =
           let zero_off : q.index - index ≡ 0 = omega arith in
           (λ i. (alive && (E i && eqb q.generation r.generation)) || (L i && later))
           ∙ here alive (eqb q.generation r.generation) (eqb r.generation q.generation) later (eqb_sym q.generation r.generation)
-          ∙ sym (λ i. M i && has_tenant (get_or (r ∷ records) (zero_off i) blank) q.generation)
+          ∙ sym (λ i. M i && has_occupant (get_or (r ∷ records) (zero_off i) blank) q.generation)
       | inr (inl l) ↦
           let E : eqb q.index index ≡ false = ne_eqb q.index index (λ e. absurd (omega arith)) in
           let L : leb (index + 1) q.index ≡ false = lt-leb (index + 1) q.index (omega arith) in
@@ -90,31 +90,31 @@ at_head index r records q =
           let off : q.index - index ≡ suc (q.index - (index + 1)) = omega arith in
           (λ i. (alive && (E i && eqb q.generation r.generation)) || (L i && later))
           ∙ after alive (eqb q.generation r.generation) later later refl
-          ∙ sym (λ i. M i && has_tenant (get_or (r ∷ records) (off i) blank) q.generation)
+          ∙ sym (λ i. M i && has_occupant (get_or (r ∷ records) (off i) blank) q.generation)
     ]
 
-list_any-tenants : (index : ℕ) (records : List Record) (q : Handle) → list_any (eq_by_cmp handle_cmp q) (tenants index records) ≡ at_from index records q
-list_any-tenants index [] q = sym (and-false (leb index q.index))
-list_any-tenants index (r ∷ records) q =
-    one_tenant (is_alive r.tenancy) (tenants (index + 1) records) (record { index = index; generation = r.generation }) q
-    ∙ (λ i. (is_alive r.tenancy && ties q (record { index = index; generation = r.generation }) i) || list_any-tenants (index + 1) records q i)
+list_any-occupants : (index : ℕ) (records : List SlotRecord) (q : Handle) → list_any (eq_by_cmp handle_cmp q) (occupants index records) ≡ at_from index records q
+list_any-occupants index [] q = sym (and-false (leb index q.index))
+list_any-occupants index (r ∷ records) q =
+    one_occupant (is_alive r.occupancy) (occupants (index + 1) records) (record { index = index; generation = r.generation }) q
+    ∙ (λ i. (is_alive r.occupancy && ties q (record { index = index; generation = r.generation }) i) || list_any-occupants (index + 1) records q i)
     ∙ at_head index r records q
 
-from_zero : (records : List Record) (q : Handle) → at_from 0 records q ≡ is_tenant records q
+from_zero : (records : List SlotRecord) (q : Handle) → at_from 0 records q ≡ is_occupant records q
 from_zero records q =
     let all : leb 0 q.index ≡ true = le-leb 0 q.index (omega arith) in
     let off : q.index - 0 ≡ q.index = omega arith in
-    λ i. all i && has_tenant (get_or records (off i) blank) q.generation
+    λ i. all i && has_occupant (get_or records (off i) blank) q.generation
 
--- the set of the tenants holds just these
-pub contains_tenants : (records : List Record) (q : Handle) → sets.contains {R = handle_cmp} (sets.from_list (tenants 0 records)) q ≡ is_tenant records q
-contains_tenants records q = sets.contains-from_list handle_cmp_total (tenants 0 records) q ∙ list_any-tenants 0 records q ∙ from_zero records q
+-- the set of the occupants holds just these
+pub contains_occupants : (records : List SlotRecord) (q : Handle) → sets.contains {R = handle_cmp} (sets.from_list (occupants 0 records)) q ≡ is_occupant records q
+contains_occupants records q = sets.contains-from_list handle_cmp_total (occupants 0 records) q ∙ list_any-occupants 0 records q ∙ from_zero records q
 
-absent_below : (index : ℕ) (records : List Record) (generation : ℕ) → sets.contains {R = handle_cmp} (sets.from_list (tenants (index + 1) records)) (record { index = index; generation = generation }) ≡ false
+absent_below : (index : ℕ) (records : List SlotRecord) (generation : ℕ) → sets.contains {R = handle_cmp} (sets.from_list (occupants (index + 1) records)) (record { index = index; generation = generation }) ≡ false
 absent_below index records generation =
-    sets.contains-from_list handle_cmp_total (tenants (index + 1) records) (record { index = index; generation = generation })
-    ∙ list_any-tenants (index + 1) records (record { index = index; generation = generation })
-    ∙ (λ i. lt-leb (index + 1) index (omega arith) i && has_tenant (get_or records (index - (index + 1)) blank) generation)
+    sets.contains-from_list handle_cmp_total (occupants (index + 1) records) (record { index = index; generation = generation })
+    ∙ list_any-occupants (index + 1) records (record { index = index; generation = generation })
+    ∙ (λ i. lt-leb (index + 1) index (omega arith) i && has_occupant (get_or records (index - (index + 1)) blank) generation)
 
 one_more : (alive : Bool) (h : Handle) (rest : List Handle) → sets.contains {R = handle_cmp} (sets.from_list rest) h ≡ false → sets.len {R = handle_cmp} (sets.from_list rest) ≡ length rest → sets.len {R = handle_cmp} (sets.from_list (cond alive (h ∷ rest) rest)) ≡ length (cond alive (h ∷ rest) rest)
 one_more true h rest absent known =
@@ -123,14 +123,14 @@ one_more true h rest absent known =
     ∙ omega (arith, known)
 one_more false h rest absent known = known
 
--- and no tenant twice, so it has as many as the list
-pub len_tenants : (index : ℕ) (records : List Record) → sets.len {R = handle_cmp} (sets.from_list (tenants index records)) ≡ length (tenants index records)
-len_tenants index [] = sets.len-empty handle_cmp
-len_tenants index (r ∷ records) =
-    one_more (is_alive r.tenancy) (record { index = index; generation = r.generation }) (tenants (index + 1) records) (absent_below index records r.generation) (len_tenants (index + 1) records)
+-- and no occupant twice, so it has as many as the list
+pub len_occupants : (index : ℕ) (records : List SlotRecord) → sets.len {R = handle_cmp} (sets.from_list (occupants index records)) ≡ length (occupants index records)
+len_occupants index [] = sets.len-empty handle_cmp
+len_occupants index (r ∷ records) =
+    one_more (is_alive r.occupancy) (record { index = index; generation = r.generation }) (occupants (index + 1) records) (absent_below index records r.generation) (len_occupants (index + 1) records)
 
 -- which record stands at an index after one is set
-pub record-set : (records : List Record) (index : ℕ) (r : Record) (at : ℕ) → index < length records → record_at (set records index r) at ≡ cond (eqb at index) r (record_at records at)
+pub record-set : (records : List SlotRecord) (index : ℕ) (r : SlotRecord) (at : ℕ) → index < length records → record_at (set records index r) at ≡ cond (eqb at index) r (record_at records at)
 record-set records index r at within =
     elim (cases_eq at index) [
       | inl e ↦ ap (λ n. record_at (set records index r) n) e ∙ get_or-set_same records index r blank within ∙ sym (cond-true (eqb at index) r (record_at records at) (eq-eqb at index e))
@@ -139,7 +139,7 @@ record-set records index r at within =
 
 -- ---- the rows
 
-abbrev row_from : ℕ → List Record → Handle → Option ℕ
+abbrev row_from : ℕ → List SlotRecord → Handle → Option ℕ
 row_from index records q = cond (leb index q.index) (row_in (get_or records (q.index - index) blank) q.generation) None
 
 abbrev nothing : Option ℕ
@@ -166,7 +166,7 @@ row_split : (g : Bool) (row : Option ℕ) → cond g (cond (is_some row) row Non
 row_split true row = row_here row
 row_split false row = refl
 
-row_head : (index : ℕ) (r : Record) (records : List Record) (q : Handle) → cond (eqb q.index index && eqb q.generation r.generation) (cond (is_some (row_of r.tenancy)) (row_of r.tenancy) (row_from (index + 1) records q)) (row_from (index + 1) records q) ≡ row_from index (r ∷ records) q
+row_head : (index : ℕ) (r : SlotRecord) (records : List SlotRecord) (q : Handle) → cond (eqb q.index index && eqb q.generation r.generation) (cond (is_some (row_of r.occupancy)) (row_of r.occupancy) (row_from (index + 1) records q)) (row_from (index + 1) records q) ≡ row_from index (r ∷ records) q
 row_head index r records q =
     elim (cases_order q.index index) [
       | inl e ↦
@@ -175,16 +175,16 @@ row_head index r records q =
           let M : leb index q.index ≡ true = le-leb index q.index (omega arith) in
           let zero_off : q.index - index ≡ 0 = omega arith in
           let gone : row_from (index + 1) records q ≡ None = λ i. cond (L i) (row_in (get_or records (q.index - (index + 1)) blank) q.generation) None in
-          (λ i. cond (E i && eqb q.generation r.generation) (cond (is_some (row_of r.tenancy)) (row_of r.tenancy) (gone i)) (gone i))
-          ∙ row_split (eqb q.generation r.generation) (row_of r.tenancy)
-          ∙ (λ i. cond (eqb_sym q.generation r.generation i) (row_of r.tenancy) None)
+          (λ i. cond (E i && eqb q.generation r.generation) (cond (is_some (row_of r.occupancy)) (row_of r.occupancy) (gone i)) (gone i))
+          ∙ row_split (eqb q.generation r.generation) (row_of r.occupancy)
+          ∙ (λ i. cond (eqb_sym q.generation r.generation i) (row_of r.occupancy) None)
           ∙ sym (λ i. cond (M i) (row_in (get_or (r ∷ records) (zero_off i) blank) q.generation) None)
       | inr (inl l) ↦
           let E : eqb q.index index ≡ false = ne_eqb q.index index (λ e. absurd (omega arith)) in
           let L : leb (index + 1) q.index ≡ false = lt-leb (index + 1) q.index (omega arith) in
           let M : leb index q.index ≡ false = lt-leb index q.index (omega arith) in
           let gone : row_from (index + 1) records q ≡ None = λ i. cond (L i) (row_in (get_or records (q.index - (index + 1)) blank) q.generation) None in
-          (λ i. cond (E i && eqb q.generation r.generation) (cond (is_some (row_of r.tenancy)) (row_of r.tenancy) (row_from (index + 1) records q)) (row_from (index + 1) records q))
+          (λ i. cond (E i && eqb q.generation r.generation) (cond (is_some (row_of r.occupancy)) (row_of r.occupancy) (row_from (index + 1) records q)) (row_from (index + 1) records q))
           ∙ gone
           ∙ sym (λ i. cond (M i) (row_in (get_or (r ∷ records) (q.index - index) blank) q.generation) None)
       | inr (inr g) ↦
@@ -192,20 +192,20 @@ row_head index r records q =
           let L : leb (index + 1) q.index ≡ true = le-leb (index + 1) q.index (omega arith) in
           let M : leb index q.index ≡ true = le-leb index q.index (omega arith) in
           let off : q.index - index ≡ suc (q.index - (index + 1)) = omega arith in
-          (λ i. cond (E i && eqb q.generation r.generation) (cond (is_some (row_of r.tenancy)) (row_of r.tenancy) (row_from (index + 1) records q)) (row_from (index + 1) records q))
+          (λ i. cond (E i && eqb q.generation r.generation) (cond (is_some (row_of r.occupancy)) (row_of r.occupancy) (row_from (index + 1) records q)) (row_from (index + 1) records q))
           ∙ (λ i. cond (L i) (row_in (get_or records (q.index - (index + 1)) blank) q.generation) None)
           ∙ sym (λ i. cond (M i) (row_in (get_or (r ∷ records) (off i) blank) q.generation) None)
     ]
 
-find-kept : (index : ℕ) (records : List Record) (q : Handle) → find handle_cmp q (kept index records) ≡ row_from index records q
+find-kept : (index : ℕ) (records : List SlotRecord) (q : Handle) → find handle_cmp q (kept index records) ≡ row_from index records q
 find-kept index [] q = sym (cond-none (leb index q.index) (eqb 0 q.generation))
 find-kept index (r ∷ records) q =
-    found (record { index = index; generation = r.generation }) q (row_of r.tenancy) (kept (index + 1) records)
-    ∙ (λ i. cond (ties q (record { index = index; generation = r.generation }) i) (cond (is_some (row_of r.tenancy)) (row_of r.tenancy) (find-kept (index + 1) records q i)) (find-kept (index + 1) records q i))
+    found (record { index = index; generation = r.generation }) q (row_of r.occupancy) (kept (index + 1) records)
+    ∙ (λ i. cond (ties q (record { index = index; generation = r.generation }) i) (cond (is_some (row_of r.occupancy)) (row_of r.occupancy) (find-kept (index + 1) records q i)) (find-kept (index + 1) records q i))
     ∙ row_head index r records q
 
 -- the map of the rows answers with these
-pub get_kept : (records : List Record) (q : Handle) → maps.get {R = handle_cmp} (maps.from_entries (kept 0 records)) q ≡ row_at records q
+pub get_kept : (records : List SlotRecord) (q : Handle) → maps.get {R = handle_cmp} (maps.from_entries (kept 0 records)) q ≡ row_at records q
 get_kept records q =
     let all : leb 0 q.index ≡ true = le-leb 0 q.index (omega arith) in
     let off : q.index - 0 ≡ q.index = omega arith in
@@ -214,14 +214,14 @@ get_kept records q =
 -- ---- one record set
 
 -- the set and the map see one record set at its index alone
-pub is_tenant-set : (records : List Record) (index : ℕ) (r : Record) (q : Handle) → index < length records → is_tenant (set records index r) q ≡ cond (eqb q.index index) (has_tenant r q.generation) (is_tenant records q)
-is_tenant-set records index r q within = ap (λ at. has_tenant at q.generation) (record-set records index r q.index within) ∙ out (eqb q.index index)
+pub is_occupant-set : (records : List SlotRecord) (index : ℕ) (r : SlotRecord) (q : Handle) → index < length records → is_occupant (set records index r) q ≡ cond (eqb q.index index) (has_occupant r q.generation) (is_occupant records q)
+is_occupant-set records index r q within = ap (λ at. has_occupant at q.generation) (record-set records index r q.index within) ∙ out (eqb q.index index)
   where
-    out : (b : Bool) → has_tenant (cond b r (record_at records q.index)) q.generation ≡ cond b (has_tenant r q.generation) (is_tenant records q)
+    out : (b : Bool) → has_occupant (cond b r (record_at records q.index)) q.generation ≡ cond b (has_occupant r q.generation) (is_occupant records q)
     out true = refl
     out false = refl
 
-pub row_at-set : (records : List Record) (index : ℕ) (r : Record) (q : Handle) → index < length records → row_at (set records index r) q ≡ cond (eqb q.index index) (row_in r q.generation) (row_at records q)
+pub row_at-set : (records : List SlotRecord) (index : ℕ) (r : SlotRecord) (q : Handle) → index < length records → row_at (set records index r) q ≡ cond (eqb q.index index) (row_in r q.generation) (row_at records q)
 row_at-set records index r q within = ap (λ at. row_in at q.generation) (record-set records index r q.index within) ∙ out (eqb q.index index)
   where
     out : (b : Bool) → row_in (cond b r (record_at records q.index)) q.generation ≡ cond b (row_in r q.generation) (row_at records q)
@@ -236,26 +236,26 @@ length-one : (b : Bool) (h : Handle) (rest : List Handle) → length (cond b (h 
 length-one true h rest = omega arith
 length-one false h rest = omega arith
 
--- how many tenants there are after one record is set
-pub length-tenants-set : (from : ℕ) (records : List Record) (index : ℕ) (r : Record) → index < length records → length (tenants from (set records index r)) + one (is_alive (record_at records index).tenancy) ≡ length (tenants from records) + one (is_alive r.tenancy)
-length-tenants-set from [] index r within = absurd (omega arith)
-length-tenants-set from (x ∷ records) zero r within =
-    let new = length-one (is_alive r.tenancy) (record { index = from; generation = r.generation }) (tenants (from + 1) records) in
-    let old = length-one (is_alive x.tenancy) (record { index = from; generation = x.generation }) (tenants (from + 1) records) in
+-- how many occupants there are after one record is set
+pub length-occupants-set : (from : ℕ) (records : List SlotRecord) (index : ℕ) (r : SlotRecord) → index < length records → length (occupants from (set records index r)) + one (is_alive (record_at records index).occupancy) ≡ length (occupants from records) + one (is_alive r.occupancy)
+length-occupants-set from [] index r within = absurd (omega arith)
+length-occupants-set from (x ∷ records) zero r within =
+    let new = length-one (is_alive r.occupancy) (record { index = from; generation = r.generation }) (occupants (from + 1) records) in
+    let old = length-one (is_alive x.occupancy) (record { index = from; generation = x.generation }) (occupants (from + 1) records) in
     omega (arith, new, old)
-length-tenants-set from (x ∷ records) (suc index) r within =
-    let new = length-one (is_alive x.tenancy) (record { index = from; generation = x.generation }) (tenants (from + 1) (set records index r)) in
-    let old = length-one (is_alive x.tenancy) (record { index = from; generation = x.generation }) (tenants (from + 1) records) in
-    omega (arith, new, old, length-tenants-set (from + 1) records index r (omega arith))
+length-occupants-set from (x ∷ records) (suc index) r within =
+    let new = length-one (is_alive x.occupancy) (record { index = from; generation = x.generation }) (occupants (from + 1) (set records index r)) in
+    let old = length-one (is_alive x.occupancy) (record { index = from; generation = x.generation }) (occupants (from + 1) records) in
+    omega (arith, new, old, length-occupants-set (from + 1) records index r (omega arith))
 
 -- a record that keeps no row set for one that kept none leaves the rows
-pub kept-set : (from : ℕ) (records : List Record) (index : ℕ) (r : Record) → row_of r.tenancy ≡ None → row_of (record_at records index).tenancy ≡ None → kept from (set records index r) ≡ kept from records
+pub kept-set : (from : ℕ) (records : List SlotRecord) (index : ℕ) (r : SlotRecord) → row_of r.occupancy ≡ None → row_of (record_at records index).occupancy ≡ None → kept from (set records index r) ≡ kept from records
 kept-set from [] index r new old = refl
 kept-set from (x ∷ records) zero r new old =
     (λ i. with_row (record { index = from; generation = r.generation }) (new i) (kept (from + 1) records))
     ∙ sym (λ i. with_row (record { index = from; generation = x.generation }) (old i) (kept (from + 1) records))
 kept-set from (x ∷ records) (suc index) r new old =
-    ap (λ rest. with_row (record { index = from; generation = x.generation }) (row_of x.tenancy) rest) (kept-set (from + 1) records index r new old)
+    ap (λ rest. with_row (record { index = from; generation = x.generation }) (row_of x.occupancy) rest) (kept-set (from + 1) records index r new old)
 
 -- ---- records put behind
 
@@ -280,23 +280,23 @@ cond-append : (b : Bool) (h : Handle) (xs ys : List Handle) → cond b (h ∷ (x
 cond-append true h xs ys = refl
 cond-append false h xs ys = refl
 
-pub tenants-append : (from : ℕ) (records more : List Record) → tenants from (records ++ more) ≡ tenants from records ++ tenants (from + length records) more
-tenants-append from [] more = ap (λ n. tenants n more) (omega arith)
-tenants-append from (r ∷ records) more =
+pub occupants-append : (from : ℕ) (records more : List SlotRecord) → occupants from (records ++ more) ≡ occupants from records ++ occupants (from + length records) more
+occupants-append from [] more = ap (λ n. occupants n more) (omega arith)
+occupants-append from (r ∷ records) more =
     let step : from + 1 + length records ≡ from + suc (length records) = omega arith in
-    (λ i. cond (is_alive r.tenancy) (record { index = from; generation = r.generation } ∷ (tenants-append (from + 1) records more ∙ ap (λ n. tenants (from + 1) records ++ tenants n more) step) i) ((tenants-append (from + 1) records more ∙ ap (λ n. tenants (from + 1) records ++ tenants n more) step) i))
-    ∙ cond-append (is_alive r.tenancy) (record { index = from; generation = r.generation }) (tenants (from + 1) records) (tenants (from + suc (length records)) more)
+    (λ i. cond (is_alive r.occupancy) (record { index = from; generation = r.generation } ∷ (occupants-append (from + 1) records more ∙ ap (λ n. occupants (from + 1) records ++ occupants n more) step) i) ((occupants-append (from + 1) records more ∙ ap (λ n. occupants (from + 1) records ++ occupants n more) step) i))
+    ∙ cond-append (is_alive r.occupancy) (record { index = from; generation = r.generation }) (occupants (from + 1) records) (occupants (from + suc (length records)) more)
 
-pub tenants-newborn : (from count : ℕ) → tenants from (replicate count newborn) ≡ fresh from count
+pub occupants-newborn : (from count : ℕ) → occupants from (replicate count newborn) ≡ fresh from count
 unfolding fresh
-tenants-newborn from zero = refl
-tenants-newborn from (suc count) = ap (λ rest. record { index = from; generation = 1 } ∷ rest) (tenants-newborn (from + 1) count)
+occupants-newborn from zero = refl
+occupants-newborn from (suc count) = ap (λ rest. record { index = from; generation = 1 } ∷ rest) (occupants-newborn (from + 1) count)
 
 kept-newborn : (from count : ℕ) → kept from (replicate count newborn) ≡ []
 kept-newborn from zero = refl
 kept-newborn from (suc count) = kept-newborn (from + 1) count
 
-pub kept-made : (from count : ℕ) (records : List Record) → kept from (records ++ replicate count newborn) ≡ kept from records
+pub kept-made : (from count : ℕ) (records : List SlotRecord) → kept from (records ++ replicate count newborn) ≡ kept from records
 kept-made from count [] = kept-newborn from count
 kept-made from count (r ∷ records) =
-    ap (λ rest. with_row (record { index = from; generation = r.generation }) (row_of r.tenancy) rest) (kept-made (from + 1) count records)
+    ap (λ rest. with_row (record { index = from; generation = r.generation }) (row_of r.occupancy) rest) (kept-made (from + 1) count records)
