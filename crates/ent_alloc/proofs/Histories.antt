@@ -42,8 +42,8 @@ module _ (s : Allocator) (calls : List Call) (sound : IsSound s) (legal : IsLega
       subst (λ (p : List Handle × Allocator). IsPermutation p.0 p.1.taken) (λ i. (sym (given_in-legal s calls legal) i, sym (after_history-takes s calls) i)) (taken-since_flush s (requests_of calls) sound flushed)
 
   -- and a flush then brings exactly those to life
-  pub given_in-reuse : s.asked ≡ 0 → (x : Handle) → IsLive (after_flush (after_history s calls)) x ↔ IsLive s x ⊎ Contains (given_in calls) x
-  given_in-reuse flushed x =
+  pub given_in-bring_to_life : s.asked ≡ 0 → (x : Handle) → IsLive (after_flush (after_history s calls)) x ↔ IsLive s x ⊎ Contains (given_in calls) x
+  given_in-bring_to_life flushed x =
       subst (λ (p : List Handle × Allocator). IsLive (after_flush p.1) x ↔ IsLive s x ⊎ Contains p.0 x) (λ i. (sym (given_in-legal s calls legal) i, sym (after_history-takes s calls) i)) (live-since_flush s (requests_of calls) sound flushed x)
 
   -- two numbers tell the state

@@ -8,7 +8,7 @@ use Rattle.ent_handle.specs.Handle.{Handle, handle_cmp, handle_cmp_total, handle
 use Rattle.ent_alloc.proofs.ListLaws.{eqb_sym}
 use Rattle.ent_alloc.specs.Limits.{Limits}
 use Rattle.ent_alloc.specs.Sequential.{fresh, next}
-use Rattle.ent_alloc.specs.declared.record.Record.{SlotRecord}
+use Rattle.ent_alloc.specs.declared.slot_record.SlotRecord.{SlotRecord}
 use Rattle.ent_alloc.specs.declared.slot_record.Occupancy.TheVariants.{Pending}
 use Rattle.ent_alloc.specs.Slots.{occupants, is_occupant, has_occupant, is_alive, row_of, row_at, record_at, blank, newborn, handle_at, kept, reused, roster_of, AreLinked}
 use Rattle.ent_alloc.proofs.FreshHandles.{length-fresh}

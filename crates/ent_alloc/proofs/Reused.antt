@@ -8,7 +8,7 @@ use Rattle.std.proofs.lemmas.Bool.{cases_eq}
 use Rattle.std.proofs.lemmas.List.{get_or-set_same, get_or-set_other, length-set}
 use Rattle.ent_handle.specs.Handle.{Handle, handle_cmp, handle_cmp_total, handle_cmp-IsAntisymmetric}
 use Rattle.ent_alloc.proofs.ListLaws.{eqb_sym}
-use Rattle.ent_alloc.specs.declared.record.Record.{SlotRecord}
+use Rattle.ent_alloc.specs.declared.slot_record.SlotRecord.{SlotRecord}
 use Rattle.ent_alloc.specs.declared.slot_record.Occupancy.{Occupancy}
 use Rattle.ent_alloc.specs.declared.slot_record.Occupancy.TheVariants.{Alive, Pending}
 use Rattle.ent_alloc.specs.Slots.{occupants, is_occupant, has_occupant, record_at, blank, is_alive, row_of, kept, reuse, reused, handle_at}

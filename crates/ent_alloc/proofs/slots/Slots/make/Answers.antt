@@ -1,7 +1,7 @@
 use Rattle.std.proofs.Common.{◌≡◌, ℕ, ◌+◌, ◌-◌, List, ◌++◌, length, take, replicate, ap, ◌∙◌, arith}
 use Rattle.std.specs.FinSet as sets
 use Rattle.std.proofs.lemmas.List.{take_all}
-use Rattle.ent_alloc.specs.declared.record.Record.{SlotRecord}
+use Rattle.ent_alloc.specs.declared.slot_record.SlotRecord.{SlotRecord}
 use Rattle.ent_alloc.specs.Sequential.{fresh}
 use Rattle.ent_alloc.specs.Roster.{Roster}
 use Rattle.ent_alloc.specs.Slots.{roster_of, newborn}

@@ -1,7 +1,7 @@
 use Rattle.std.proofs.Common.{◌-◌, ◌+◌, ◌≤◌, ℕ, sym, ap, ◌∙◌, arith, ◌≡◌, length, take, drop, List}
 use Rattle.std.specs.FinSet as sets
 use Rattle.std.proofs.lemmas.List.{with_items_is, take_rest, length-map}
-use Rattle.ent_alloc.specs.declared.record.Record.{SlotRecord}
+use Rattle.ent_alloc.specs.declared.slot_record.SlotRecord.{SlotRecord}
 use Rattle.ent_alloc.specs.Roster.{Roster}
 use Rattle.ent_alloc.specs.Slots.{roster_of, reused, handle_at, AreLinked}
 use Rattle.ent_alloc.proofs.Linked.{reuse_keeps_links, roster_of-reuse}
