@@ -91,7 +91,7 @@ module _ (calls : FinMap nat_cmp OpenCall) (caller : ℕ) (below : caller < call
 
 record IsGiven (s : Schedule) (given : List Handle) : Type 0 where
   sound : IsSound s.allocator
-  once : spent.AreGivenOnce s.allocator (given ++ pending s.calls)
+  once : spent.AreSpent s.allocator (given ++ pending s.calls)
 
 given_by-reported : (reply : Reply) → given_by (Ok (reported reply)) ≡ handles_in reply
 given_by-reported (Ok handles) = refl
@@ -111,20 +111,20 @@ given-next s e given h fresh (allocates x rest is none flushed pool at) =
     let nothing = pending-none s.calls none in
     onward s e given (Ok (outcome.Handle x)) (record s { allocator = after_alloc s.allocator x }) is (record {
       sound = after_alloc-sound s.allocator x rest h.sound flushed pool;
-      once = subst (spent.AreGivenOnce (after_alloc s.allocator x)) (sym (none_left (given ++ x ∷ []) (pending s.calls) nothing))
-          (alloc-given s.allocator x rest given h.sound flushed pool (subst (spent.AreGivenOnce s.allocator) (none_left given (pending s.calls) nothing) h.once));
+      once = subst (spent.AreSpent (after_alloc s.allocator x)) (sym (none_left (given ++ x ∷ []) (pending s.calls) nothing))
+          (alloc-given s.allocator x rest given h.sound flushed pool (subst (spent.AreSpent s.allocator) (none_left given (pending s.calls) nothing) h.once));
     })
 given-next s e given h fresh (frees x is none flushed lives at) =
     let new : wraps s.allocator.limits x ≡ false = sym (ap (λ p. has_wrapped p.0) is) ∙ fresh in
     onward s e given _ (record s { allocator = after_free s.allocator x }) is (record {
       sound = after_free-sound s.allocator x h.sound flushed lives;
-      once = subst (λ hs. spent.AreGivenOnce (after_free s.allocator x) (hs ++ pending s.calls)) (sym (append-nil given))
+      once = subst (λ hs. spent.AreSpent (after_free s.allocator x) (hs ++ pending s.calls)) (sym (append-nil given))
           (free-given s.allocator x (given ++ pending s.calls) lives (grind (arith, nat_tests)) h.once);
     })
 given-next s e given h fresh (flushes is none at) =
     onward s e given _ (record s { allocator = after_flush s.allocator; spent = finite.empty }) is (record {
       sound = after_flush-sound s.allocator h.sound;
-      once = subst (λ hs. spent.AreGivenOnce (after_flush s.allocator) (hs ++ pending s.calls)) (sym (append-nil given)) (flush-given s.allocator (given ++ pending s.calls) h.once);
+      once = subst (λ hs. spent.AreSpent (after_flush s.allocator) (hs ++ pending s.calls)) (sym (append-nil given)) (flush-given s.allocator (given ++ pending s.calls) h.once);
     })
 given-next s e given h fresh (begins caller n costs is below none at) =
     let new : OpenCall = record { requested = n; reply = None } in
@@ -148,7 +148,7 @@ given-next s e given h fresh (steps caller call is below some waits makes at) =
           (subst (λ xs. IsPermutation ((given ++ pending s.calls) ++ hs) (xs ++ pending (finite.insert s.calls caller new))) (sym (append-nil given))
           (subst (λ xs. IsPermutation xs (given ++ pending (finite.insert s.calls caller new))) (sym (append_assoc given (pending s.calls) hs))
           (IsPermutation-append_right given (pending s.calls ++ hs) (pending (finite.insert s.calls caller new)) kept)))
-          (subst (λ xs. spent.AreGivenOnce (after_take s.allocator n) ((given ++ pending s.calls) ++ xs)) (sym (handles-same (reply_to s.allocator n))) (requested-given s.allocator n (given ++ pending s.calls) h.sound h.once));
+          (subst (λ xs. spent.AreSpent (after_take s.allocator n) ((given ++ pending s.calls) ++ xs)) (sym (handles-same (reply_to s.allocator n))) (requested-given s.allocator n (given ++ pending s.calls) h.sound h.once));
     })
 given-next s e given h fresh (answers caller call reply is below some stepped at) =
     let left = pending (finite.remove s.calls caller) in
@@ -157,7 +157,7 @@ given-next s e given h fresh (answers caller call reply is below some stepped at
     let kept : IsPermutation (left ++ hs) (pending s.calls) = subst (λ xs. IsPermutation (left ++ xs) (pending s.calls)) holds (pending-removed s.calls caller below) in
     onward s e given (Ok (reported reply)) (record s { calls = finite.remove s.calls caller }) is (record {
       sound = h.sound;
-      once = subst (λ xs. spent.AreGivenOnce s.allocator ((given ++ xs) ++ left)) (sym (given_by-reported reply))
+      once = subst (λ xs. spent.AreSpent s.allocator ((given ++ xs) ++ left)) (sym (given_by-reported reply))
           (given-IsPermutation s.allocator (given ++ pending s.calls) ((given ++ hs) ++ left)
           (IsPermutation-trans (given ++ pending s.calls) (given ++ (left ++ hs)) ((given ++ hs) ++ left)
           (IsPermutation-append_right given (pending s.calls) (left ++ hs) (IsPermutation-sym (left ++ hs) (pending s.calls) kept))
@@ -168,22 +168,22 @@ given-next s e given h fresh (answers caller call reply is below some stepped at
 -- ---- the handles that are kept for open calls, after one event
 
 -- where a list was given once, its second part was
-given-right : (s : Allocator) (xs ys : List Handle) → spent.AreGivenOnce s (xs ++ ys) → spent.AreGivenOnce s ys
+given-right : (s : Allocator) (xs ys : List Handle) → spent.AreSpent s (xs ++ ys) → spent.AreSpent s ys
 given-right s xs ys h = record { distinct = AllPairs-right (λ g h. g ≢ h) xs ys h.distinct; spent = All-right (spent.IsSpent s) xs ys h.spent }
 
 -- so was an empty list
-pub given-none : (s : Allocator) (hs : List Handle) → hs ≡ [] → spent.AreGivenOnce s hs
-given-none s hs none = subst (spent.AreGivenOnce s) (sym none) (record { distinct = λ i j d lt in_part. absurd (omega arith); spent = All-nil (spent.IsSpent s) })
+pub given-none : (s : Allocator) (hs : List Handle) → hs ≡ [] → spent.AreSpent s hs
+given-none s hs none = subst (spent.AreSpent s) (sym none) (record { distinct = λ i j d lt in_part. absurd (omega arith); spent = All-nil (spent.IsSpent s) })
 
 pub not_wrapped-reported : (reply : Reply) → has_wrapped (Ok (reported reply)) ≡ false
 not_wrapped-reported (Ok handles) = refl
 not_wrapped-reported (Err space) = refl
 
 pub pending-next : (s : Schedule) (e : Event) (r : Result Outcome ReplayFault) (t : Schedule) → on_event s e ≡ (r, t) → has_wrapped r ≡ false
-    → IsSound s.allocator → spent.AreGivenOnce s.allocator (pending s.calls) → spent.AreGivenOnce t.allocator (pending t.calls)
+    → IsSound s.allocator → spent.AreSpent s.allocator (pending s.calls) → spent.AreSpent t.allocator (pending t.calls)
 pending-next s e r t is fresh sound once =
     let h = given-next s e [] (record { sound = sound; once = once }) (ap (λ p. has_wrapped p.0) is ∙ fresh) (move s e) in
-    subst (λ (p : Answered). spent.AreGivenOnce p.1.allocator (pending p.1.calls)) is
+    subst (λ (p : Answered). spent.AreSpent p.1.allocator (pending p.1.calls)) is
     (given-right (after_event s e).allocator (given_by (outcome_of s e)) (pending (after_event s e).calls) h.once)
 
 -- ---- whole runs
@@ -194,5 +194,5 @@ given_run s (e ∷ events) given h fresh =
     subst (AllPairs (λ g h. g ≢ h)) (append_assoc given (given_by (outcome_of s e)) (given_in (outcomes_of (after_event s e) events)))
     (given_run (after_event s e) events (given ++ given_by (outcome_of s e)) (given-next s e given h fresh.0 (move s e)) fresh.1)
 
-pub given_once : (s : Schedule) (events : List Event) → IsSound s.allocator → spent.AreGivenOnce s.allocator (pending s.calls) → NoneWrapped (outcomes_of s events) → AreGivenOnce (outcomes_of s events)
+pub given_once : (s : Schedule) (events : List Event) → IsSound s.allocator → spent.AreSpent s.allocator (pending s.calls) → NoneWrapped (outcomes_of s events) → AreGivenOnce (outcomes_of s events)
 given_once s events sound once fresh = given_run s events [] (record { sound = sound; once = once }) fresh
