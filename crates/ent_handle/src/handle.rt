@@ -33,10 +33,20 @@ impl Handle {
         ensures value { IfSome result (λ h. h ≡ record { index = index; generation = generation }) }
     {
         if index < u32::MAX && 1 <= generation && generation < 1 << 31 {
-            Some(Handle { index, generation })
+            Some(Handle::from_parts(index, generation))
         } else {
             None
         }
+    }
+
+    /// The handle of these numbers, which have to be in range: the index below 4,294,967,295, the
+    /// generation 1 to 2,147,483,647. Nothing is tested when it runs, so this is for a caller that keeps
+    /// such numbers; `new` tests them.
+    pub fn from_parts(index: u32, generation: u32) -> Self
+        requires { IsHandle (record { index = index; generation = generation }) }
+        ensures { result ≡ record { index = index; generation = generation } }
+    {
+        Handle { index, generation }
     }
 
     /// Which slot it is, 0 to 4,294,967,294.
