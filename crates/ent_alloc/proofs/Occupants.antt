@@ -18,11 +18,9 @@ use Rattle.std.specs.Option.{is_some}
 use Rattle.std.proofs.lemmas.List.{get_or-set_same, get_or-set_other}
 
 -- the test of two orderings, one after the other
-is_eq-then : (x y : Ordering) → is_eq (ordering_then x (ordering_then y Equal)) ≡ (is_eq x && is_eq y)
+is_eq-then : (x y : Ordering) → is_eq (ordering_then x y) ≡ (is_eq x && is_eq y)
 is_eq-then Less y = refl
-is_eq-then Equal Less = refl
-is_eq-then Equal Equal = refl
-is_eq-then Equal Greater = refl
+is_eq-then Equal y = refl
 is_eq-then Greater y = refl
 
 is_eq-nat_cmp : (a b : ℕ) → is_eq (nat_cmp a b) ≡ eqb a b

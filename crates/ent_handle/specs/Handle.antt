@@ -1,11 +1,11 @@
 -- Handles: which slot of the allocator, and which of its occupants.
-use Rattle.std.specs.Prelude.{◌≡◌, ℕ, ◌+◌, ◌-◌, ◌*◌, ◌^◌, ◌<◌, ◌≤◌, [], ◌∷◌, refl}
+use Rattle.std.specs.Prelude.{ℕ, ◌+◌, ◌-◌, ◌*◌, ◌^◌, ◌<◌, ◌≤◌, refl}
 use Rattle.std.specs.Coded.{Coded, code_by, coded×, coded_ℕ}
 use Rattle.std.specs.declared.cmp.Ordering.{Ordering}
-use Rattle.std.specs.Ordering.{nat_cmp}
-use Rattle.std.specs.Cmp.{IsTotalOrder}
-use Rattle.std.specs.Cmp.Lexicographic.{slice_cmp, nat_list_cmp_total}
-use Rattle.std.specs.FinMap.{IsAntisymmetric, nat_cmp-IsAntisymmetric, slice_cmp-IsAntisymmetric}
+use Rattle.std.specs.Ordering.{nat_cmp, on, then_cmp}
+use Rattle.std.specs.Cmp.{IsTotalOrder, nat_cmp_total, on_total, then_total}
+use Rattle.std.specs.FinMap.{IsAntisymmetric, nat_cmp-IsAntisymmetric}
+use Rattle.ent_handle.specs.Ties.{both_tie}
 
 -- the slot's index, and the generation that tells its occupants apart
 pub record Handle : Type 0 where
@@ -24,22 +24,18 @@ bits h = h.generation * 2 ^ 32 + h.index
 
 -- by index, then by generation
 abbrev pub handle_cmp : Handle → Handle → Ordering
-handle_cmp a b = slice_cmp nat_cmp (a.index ∷ a.generation ∷ []) (b.index ∷ b.generation ∷ [])
+handle_cmp = then_cmp (on (λ h. h.index) nat_cmp) (on (λ h. h.generation) nat_cmp)
 
 pub handle_cmp_total : IsTotalOrder handle_cmp
-handle_cmp_total = record {
-  antisymm = λ a b. nat_list_cmp_total.antisymm (a.index ∷ a.generation ∷ []) (b.index ∷ b.generation ∷ []);
-  trans = λ a b c. nat_list_cmp_total.trans (a.index ∷ a.generation ∷ []) (b.index ∷ b.generation ∷ []) (c.index ∷ c.generation ∷ []);
-  congr = λ a b c. nat_list_cmp_total.congr (a.index ∷ a.generation ∷ []) (b.index ∷ b.generation ∷ []) (c.index ∷ c.generation ∷ []);
-}
+handle_cmp_total =
+    then_total (on_total (λ (h : Handle). h.index) nat_cmp_total) (on_total (λ (h : Handle). h.generation) nat_cmp_total)
 
 pub handle_cmp-IsAntisymmetric : IsAntisymmetric handle_cmp
 handle_cmp-IsAntisymmetric a b e =
-    let same : a.index ∷ a.generation ∷ [] ≡ b.index ∷ b.generation ∷ [] =
-    slice_cmp-IsAntisymmetric nat_cmp-IsAntisymmetric (a.index ∷ a.generation ∷ []) (b.index ∷ b.generation ∷ []) e in
-    let same_index : a.index ≡ b.index = cc in
-    let same_generation : a.generation ≡ b.generation = cc in
-    λ i. record { index = same_index i; generation = same_generation i }
+    let parts = both_tie (nat_cmp a.index b.index) (nat_cmp a.generation b.generation) e in
+    let index = nat_cmp-IsAntisymmetric a.index b.index parts.0 in
+    let generation = nat_cmp-IsAntisymmetric a.generation b.generation parts.1 in
+    λ i. record { index = index i; generation = generation i }
 
 -- a handle is stored as the pair of its numbers
 abbrev pub handle_code : Coded Handle

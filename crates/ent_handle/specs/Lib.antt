@@ -1,2 +1,5 @@
+pub mod Ties
 pub mod Handle
+pub mod Birth
+pub mod Component
 pub mod Text

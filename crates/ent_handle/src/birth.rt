@@ -1,12 +1,47 @@
-/// When and by whom an entity was brought to life: a name for it that needs no handle.
+ghost use Rattle.std.proofs.Common.{rules};
+ghost use Rattle.std.specs.Cmp.{partial_order_from_own_ties};
+ghost use Rattle.std.specs.Cmp.Rules.{comparing};
+ghost use Rattle.std.specs.Ordering.{as_partial_cmp};
+ghost use Rattle.ent_handle.specs.Birth.{birth_cmp, birth_cmp_total};
+
+use std::cmp::Ordering;
+
+/// When and by whom an entity was brought to life. It names the entity without a handle.
 ///
-/// Births are ordered by frame, then by system, then by ordinal.
-#[derive(Clone, Copy, Debug, PartialEq, Eq, Hash, PartialOrd, Ord)]
+/// Births are ordered by frame, then by system, then by ordinal. That order is this project's own.
+#[derive(Clone, Copy, Debug, PartialEq, Eq, Hash)]
 pub struct Birth {
     /// The number of the frame.
     pub frame: u64,
-    /// The place of the system that asked for the entity.
+    /// Which system of the frame asked for the entity, counted from 0.
     pub system: u32,
-    /// Which of that system's entities in the frame it is, from 0.
+    /// Which of the handles that the system was given in the frame it is, counted from 0.
     pub ordinal: u32,
+}
+
+impl Ord for Birth {
+    ghost cmp = { birth_cmp };
+
+    ghost total = { birth_cmp_total };
+
+    ghost matches_partial_cmp = { Prim.search (comparing, rules) };
+
+    ghost matches_eq = { Prim.search (comparing, rules) };
+
+    fn cmp(&self, other: &Self) -> Ordering {
+        self.frame
+            .cmp(&other.frame)
+            .then(self.system.cmp(&other.system))
+            .then(self.ordinal.cmp(&other.ordinal))
+    }
+}
+
+impl PartialOrd for Birth {
+    ghost partial_cmp = { as_partial_cmp birth_cmp };
+
+    ghost laws = { partial_order_from_own_ties (Prim.search (comparing, rules)) (Prim.search (comparing, rules)) };
+
+    fn partial_cmp(&self, other: &Self) -> Option<Ordering> {
+        Some(self.cmp(other))
+    }
 }

@@ -1,6 +1,11 @@
 ghost use Rattle.std.specs.Prelude.{◌≡◌, ◌+◌, ◌-◌, ◌*◌, ◌^◌, ◌<◌, ◌≤◌, ◌↔◌, ◌≢◌, IsSome, IfSome, IfNone};
-ghost use Rattle.ent_handle.specs.Handle.{Handle, IsHandle, bits};
+ghost use Rattle.std.proofs.Common.{rules};
+ghost use Rattle.std.specs.Cmp.{partial_order_from_own_ties};
+ghost use Rattle.std.specs.Cmp.Rules.{comparing};
+ghost use Rattle.std.specs.Ordering.{as_partial_cmp};
+ghost use Rattle.ent_handle.specs.Handle.{Handle, IsHandle, bits, handle_cmp, handle_cmp_total};
 
+use std::cmp::Ordering;
 use std::marker::Model;
 
 /// Names one occupant of one slot: the slot's index, and the generation that tells its occupants apart.
@@ -8,7 +13,7 @@ use std::marker::Model;
 /// An index is 0 to 4,294,967,294 and a generation 1 to 2,147,483,647. Handles are ordered by index,
 /// then by generation. As in Bevy, a slot that is given anew has another handle, until its generations
 /// begin anew.
-#[derive(Clone, Copy, Debug, PartialEq, Eq, Hash, PartialOrd, Ord)]
+#[derive(Clone, Copy, Debug, PartialEq, Eq, Hash)]
 pub struct Handle {
     index: u32,
     generation: u32,
@@ -76,5 +81,30 @@ impl Handle {
         ensures none { IfNone result ((h : Handle) → IsHandle h → bits h ≢ of) }
     {
         Handle::new((of & 0xffff_ffff) as u32, (of >> 32) as u32)
+    }
+}
+
+impl Ord for Handle {
+    ghost cmp = { handle_cmp };
+
+    ghost total = { handle_cmp_total };
+
+    ghost matches_partial_cmp = { Prim.search (comparing, rules) };
+
+    ghost matches_eq = { Prim.search (comparing, rules) };
+
+    fn cmp(&self, other: &Self) -> Ordering {
+        let by_index = self.index.cmp(&other.index);
+        by_index.then(self.generation.cmp(&other.generation))
+    }
+}
+
+impl PartialOrd for Handle {
+    ghost partial_cmp = { as_partial_cmp handle_cmp };
+
+    ghost laws = { partial_order_from_own_ties (Prim.search (comparing, rules)) (Prim.search (comparing, rules)) };
+
+    fn partial_cmp(&self, other: &Self) -> Option<Ordering> {
+        Some(self.cmp(other))
     }
 }

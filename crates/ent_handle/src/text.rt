@@ -6,6 +6,7 @@ use crate::decimal::{decimal_value, is_decimal};
 use crate::handle::Handle;
 use crate::memory::Memory;
 use itoa::Buffer;
+use std::fmt;
 use thiserror::Error;
 
 /// Why a text is no number, or no handle.
@@ -90,5 +91,19 @@ impl Handle {
         out.push(b'v').unwrap();
         out.extend_from_slice(generation).unwrap();
         Ok(())
+    }
+}
+
+/// Writes the handle's text, as `write_text` does.
+impl fmt::Display for Handle {
+    ghost use Rattle.std.specs.Prelude.{Some};
+    ghost use Rattle.ent_handle.specs.Text.{handle_text};
+
+    ghost output = { λ handle. Some (handle_text handle) };
+
+    fn fmt<W: fmt::Write>(&self, f: &mut fmt::Formatter<W>) -> fmt::Result {
+        let index = self.index();
+        let generation = self.generation();
+        write!(f, "{index}v{generation}")
     }
 }

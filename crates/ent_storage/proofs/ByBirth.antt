@@ -4,7 +4,7 @@ use Rattle.std.specs.declared.cmp.Ordering.{Ordering}
 use Rattle.std.specs.declared.cmp.Ordering.TheVariants.{Less, Equal, Greater}
 use Rattle.std.specs.Ordering.{is_lt, is_eq, eq_by_cmp, ordering_then, ordering_reverse}
 use Rattle.std.specs.Option.{option_map, option_cmp}
-use Rattle.std.specs.Cmp.{IsTotalOrder, then_total, nat_cmp_total, on_total, eq_by_cmp_equiv}
+use Rattle.std.specs.Cmp.{IsTotalOrder, then_total, on_total, eq_by_cmp_equiv}
 use Rattle.std.specs.List.{All, AllPairs, filter, IsDistinct}
 use Rattle.std.proofs.lemmas.List.{get_or-map, get_or_default, length-map}
 use Rattle.std.proofs.lemmas.List.Sorted.{sorted_far, ranks_by, All-permutation, Contains-permutation}
@@ -14,19 +14,16 @@ use Rattle.std.proofs.lemmas.Map.Keys.{IsDistinct-from_apart, IsDistinct-IsPermu
 use Rattle.std.specs.FinMap as finite
 use Rattle.std.specs.FinMap.{FinMap}
 use Rattle.ent_handle.specs.declared.birth.Birth.{Birth}
+use Rattle.ent_handle.specs.Birth.{birth_cmp, birth_cmp_total}
 use Rattle.ent_handle.specs.Handle.{Handle, handle_cmp, handle_cmp_total, handle_cmp-IsAntisymmetric}
 use Rattle.ent_storage.specs.declared.row.Row.{Row}
 use Rattle.ent_storage.specs.EntityMap.{Entity}
 use Rattle.ent_storage.specs.Rows.{entity_of, entities_of, IsIndexed}
-use Rattle.ent_storage.specs.BirthOrder.{birth_cmp, birth_order, born_cmp, ListsByBirth, IsInOrder}
+use Rattle.ent_storage.specs.BirthOrder.{birth_order, born_cmp, ListsByBirth, IsInOrder}
 use Rattle.ent_storage.proofs.Keys.{apart}
 use Rattle.ent_storage.proofs.Indexed.{some_row, get_placed, placed_from_get, distinct}
 
 -- ---- the order is total
-
-birth_cmp_total : IsTotalOrder birth_cmp
-birth_cmp_total =
-    then_total (on_total (λ (b : Birth). b.frame) nat_cmp_total) (then_total (on_total (λ (b : Birth). b.system) nat_cmp_total) (on_total (λ (b : Birth). b.ordinal) nat_cmp_total))
 
 born_cmp_total : IsTotalOrder born_cmp
 born_cmp_total =

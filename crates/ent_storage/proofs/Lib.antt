@@ -1,5 +1,4 @@
 pub mod ByBirth
-pub mod HandleOrder
 pub mod Indexed
 pub mod Keys
 pub mod Missing

@@ -4,7 +4,8 @@ use Rattle.std.specs.Ordering.{eq_by_cmp}
 use Rattle.std.specs.FinMap as map
 use Rattle.std.proofs.lemmas.List.Sums.{sum_by-drop_more, sum_by-le-sum_by}
 use Rattle.ent_handle.specs.declared.component.ComponentId.{ComponentId}
-use Rattle.ent_storage.specs.Component.{Components, component_cmp, component_cmp_total, missing}
+use Rattle.ent_handle.specs.Component.{component_cmp, component_cmp_total}
+use Rattle.ent_storage.specs.Component.{Components, missing}
 
 still : (b : Bool) (v : ℤ) (o : _) → cond (is_none (cond b (Some v) o)) 1 0 ≤ cond (is_none o) 1 0
 still true v o = omega arith

@@ -3,18 +3,15 @@ use Rattle.std.specs.Prelude.{◌≡◌, Bool, true, ◌↔◌, List, map, Conta
 use Rattle.std.specs.Option.{option_cmp}
 use Rattle.std.specs.declared.cmp.Ordering.{Ordering}
 use Rattle.std.specs.declared.cmp.Ordering.TheVariants.{Less}
-use Rattle.std.specs.Ordering.{nat_cmp, ordering_then}
+use Rattle.std.specs.Ordering.{on, ordering_then, then_cmp}
 use Rattle.std.specs.List.{AllPairs}
 use Rattle.std.specs.List.Sorted.{IsPermutation, IsSorted}
 use Rattle.std.specs.FinMap as finite
 use Rattle.ent_handle.specs.declared.birth.Birth.{Birth}
+use Rattle.ent_handle.specs.Birth.{birth_cmp}
 use Rattle.ent_handle.specs.declared.component.ComponentId.{ComponentId}
 use Rattle.ent_handle.specs.Handle.{Handle, handle_cmp}
 use Rattle.ent_storage.specs.EntityMap.{Entity, EntityMap, birth_of}
-
--- by frame, then by system, then by ordinal
-abbrev pub birth_cmp : Birth → Birth → Ordering
-birth_cmp a b = ordering_then (nat_cmp a.frame b.frame) (ordering_then (nat_cmp a.system b.system) (nat_cmp a.ordinal b.ordinal))
 
 -- by birth, then by handle
 abbrev pub birth_order : EntityMap → Handle → Handle → Ordering
@@ -34,8 +31,8 @@ abbrev pub ListsWith : ComponentId → EntityMap → List Handle → Type 0
 ListsWith id = ListsByBirth (λ e. finite.contains_key e.components id)
 
 -- births with their handles, as they are compared
-abbrev pub born_cmp : (a b : Birth × Handle) → Ordering
-born_cmp a b = ordering_then (birth_cmp a.0 b.0) (handle_cmp a.1 b.1)
+abbrev pub born_cmp : Birth × Handle → Birth × Handle → Ordering
+born_cmp = then_cmp (on (λ b. b.0) birth_cmp) (on (λ b. b.1) handle_cmp)
 
 -- the handles are those of the births, in order
 pub record IsInOrder (births : List (Birth × Handle)) (handles : List Handle) : Type 0 where

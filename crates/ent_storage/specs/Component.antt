@@ -1,32 +1,9 @@
 -- Components of one entity: a finite map from component numbers to values.
-use Rattle.std.specs.Prelude.{ℕ, ℤ, List, [], ◌∷◌, count_by, is_none, refl}
-use Rattle.std.specs.Coded.{Coded, code_by, coded_ℕ, coded_ℤ}
-use Rattle.std.specs.declared.cmp.Ordering.{Ordering}
-use Rattle.std.specs.Ordering.{nat_cmp}
-use Rattle.std.specs.Cmp.{IsTotalOrder, nat_cmp_total}
+use Rattle.std.specs.Prelude.{ℕ, ℤ, List, [], ◌∷◌, count_by, is_none}
+use Rattle.std.specs.Coded.{Coded, coded_ℤ}
 use Rattle.std.specs.FinMap as map
-use Rattle.std.specs.FinMap.{IsAntisymmetric, nat_cmp-IsAntisymmetric}
 use Rattle.ent_handle.specs.declared.component.ComponentId.{ComponentId}
-
--- by number
-abbrev pub component_cmp : ComponentId → ComponentId → Ordering
-component_cmp a b = nat_cmp a.0 b.0
-
-pub component_cmp_total : IsTotalOrder component_cmp
-component_cmp_total = record {
-  antisymm = λ a b. nat_cmp_total.antisymm a.0 b.0;
-  trans = λ a b c. nat_cmp_total.trans a.0 b.0 c.0;
-  congr = λ a b c. nat_cmp_total.congr a.0 b.0 c.0;
-}
-
-pub component_cmp-IsAntisymmetric : IsAntisymmetric component_cmp
-component_cmp-IsAntisymmetric a b e =
-    let same = nat_cmp-IsAntisymmetric a.0 b.0 e in
-    λ i. record { 0 = same i }
-
--- a component's number is stored as that number
-abbrev pub component_code : Coded ComponentId
-component_code = code_by ℕ coded_ℕ (λ c. c.0) (λ n. record { 0 = n }) (λ _. refl)
+use Rattle.ent_handle.specs.Component.{component_cmp, component_code}
 
 -- the value of each component that an entity has
 abbrev pub Components : Type 0

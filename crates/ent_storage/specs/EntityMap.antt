@@ -4,6 +4,7 @@ use Rattle.std.specs.Coded.{Coded, code_by, coded×, coded_ℕ}
 use Rattle.std.specs.Option.{option_map, option_map_or}
 use Rattle.std.specs.FinMap as map
 use Rattle.ent_handle.specs.declared.birth.Birth.{Birth}
+use Rattle.ent_handle.specs.Birth.{birth_code}
 use Rattle.ent_handle.specs.declared.component.ComponentId.{ComponentId}
 use Rattle.ent_handle.specs.Handle.{Handle, handle_cmp, handle_code}
 use Rattle.ent_storage.specs.Component.{Components, components_code}
@@ -39,10 +40,6 @@ with_components m h change =
 pub record Store : Type 0 where
   pub entities : EntityMap
   pub spare : ℕ
-
-abbrev pub birth_code : Coded Birth
-birth_code =
-    code_by (ℕ × (ℕ × ℕ)) (coded× coded_ℕ (coded× coded_ℕ coded_ℕ)) (λ b. (b.frame, (b.system, b.ordinal))) (λ p. record { frame = p.0; system = p.1.0; ordinal = p.1.1 }) (λ _. refl)
 
 abbrev pub entity_code : Coded Entity
 entity_code = code_by (Birth × Components) (coded× birth_code components_code) (λ e. (e.birth, e.components)) (λ p. record { birth = p.0; components = p.1 }) (λ _. refl)

@@ -1,6 +1,7 @@
 ghost use Rattle.std.specs.Prelude.{◌≡◌, ◌+◌, ◌<◌, ◌≤◌, [], ◌∷◌, None, OnOk, OnErr, T, vec_len, vec_capacity};
 ghost use Rattle.std.specs.FinMap as map;
-ghost use Rattle.ent_storage.specs.Component.{component_cmp, with_items, missing};
+ghost use Rattle.ent_handle.specs.Component.{component_cmp};
+ghost use Rattle.ent_storage.specs.Component.{with_items, missing};
 
 use super::sorted::search;
 use ent_handle::ComponentId;
@@ -16,7 +17,8 @@ pub struct Components {
 impl Model for Components {
     ghost use Rattle.std.specs.Prelude.{T};
     ghost use Rattle.std.specs.FinMap as map;
-    ghost use Rattle.ent_storage.specs.Component.{component_cmp, components_code};
+    ghost use Rattle.ent_handle.specs.Component.{component_cmp};
+    ghost use Rattle.ent_storage.specs.Component.{components_code};
     ghost use Rattle.std.specs.Prelude.{ℤ};
 
     ghost Value = { map.FinMap component_cmp ℤ };

@@ -1,7 +1,6 @@
-ghost use Rattle.std.specs.Prelude.{◌≡◌, ◌+◌, ◌<◌, ◌≤◌, None, OnOk, OnErr, OnSome, IfNone, IsSome, IsOk, IfOk, IfErr, T};
+ghost use Rattle.std.specs.Prelude.{◌≡◌, ◌+◌, ◌<◌, ◌≤◌, None, OnOk, OnErr, OnSome, IfNone, IsSome, IsOk};
 ghost use Rattle.std.specs.FinMap as map;
 ghost use Rattle.ent_handle.specs.Handle.{handle_cmp};
-ghost use Rattle.ent_storage.specs.Place.{IsAt, IsGapFor};
 
 use super::sorted::search;
 use ent_handle::Handle;
@@ -42,7 +41,7 @@ impl Index {
     pub fn row(&self, handle: Handle) -> Option<usize>
         ensures { result ≡ map.get self.now.rows handle }
     {
-        match place_of(&self.entries, handle) {
+        match search(&self.entries, handle) {
             Ok(place) => Some(self.entries[place].1),
             Err(_) => None,
         }
@@ -55,7 +54,7 @@ impl Index {
         ensures rows { self.new.rows ≡ map.insert self.old.rows handle row }
         ensures room { self.new.room + 1 ≡ self.old.room }
     {
-        if let Err(place) = place_of(&self.entries, handle) {
+        if let Err(place) = search(&self.entries, handle) {
             let _ = self.entries.insert(place, (handle, row));
         }
     }
@@ -65,7 +64,7 @@ impl Index {
         requires { IsSome (map.get self.old.rows handle) }
         ensures { self.new ≡ record self.old { rows = map.insert self.old.rows handle row } }
     {
-        if let Ok(place) = place_of(&self.entries, handle) {
+        if let Ok(place) = search(&self.entries, handle) {
             self.entries[place] = (handle, row);
         }
     }
@@ -76,7 +75,7 @@ impl Index {
         ensures found { OnSome result (self.new ≡ record { rows = map.remove self.old.rows handle; room = self.old.room + 1 }) }
         ensures absent { IfNone result (self.new ≡ self.old) }
     {
-        match place_of(&self.entries, handle) {
+        match search(&self.entries, handle) {
             Ok(place) => Some(self.entries.remove(place).1),
             Err(_) => None,
         }
@@ -99,13 +98,4 @@ impl Index {
     {
         self.entries.reserve(additional)
     }
-}
-
-/// Where the handle stands, or where it would.
-fn place_of(entries: &[(Handle, usize)], handle: Handle) -> Result<usize, usize>
-    requires { T (map.is_sorted handle_cmp entries.now) }
-    ensures found { IfOk result (IsAt handle_cmp entries.now handle) }
-    ensures absent { IfErr result (IsGapFor handle_cmp entries.now handle) }
-{
-    search(entries, handle)
 }

@@ -1,5 +1,5 @@
 use Rattle.std.proofs.Common.{refl, arith}
-use Rattle.ent_storage.specs.Component.{component_cmp_total as total, component_cmp-IsAntisymmetric as same}
+use Rattle.ent_handle.specs.Component.{component_cmp_total as total, component_cmp-IsAntisymmetric as same}
 use Rattle.ent_storage.proofs.Rising.{get_at, get_in_gap, rising_set, map_set, rising_insert, map_insert}
 use Rattle.ent_storage.proofs.components.set.Goals as goal
 

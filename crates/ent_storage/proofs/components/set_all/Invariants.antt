@@ -1,6 +1,7 @@
 use Rattle.std.proofs.Common.{◌≡◌, ◌+◌, ◌≤◌, T, drop, vec_len, vec_capacity}
 use Rattle.std.specs.FinMap as map
-use Rattle.ent_storage.specs.Component.{component_cmp, with_items, missing}
+use Rattle.ent_handle.specs.Component.{component_cmp}
+use Rattle.ent_storage.specs.Component.{with_items, missing}
 use Rattle.ent_storage.proofs.components.set_all.Given as goal
 
 -- what is set, what is left to set, and room for what is missing of that

@@ -1,6 +1,6 @@
 use Rattle.std.proofs.Common.{ap, ◌∙◌}
 use Rattle.std.specs.FinMap as map
-use Rattle.ent_storage.specs.Component.{component_cmp}
+use Rattle.ent_handle.specs.Component.{component_cmp}
 use Rattle.ent_storage.proofs.Rising.{from_sorted-nil}
 use Rattle.ent_storage.proofs.components.Components.new.Goals as goal
 
