@@ -9,6 +9,7 @@ pub mod Replies
 pub mod Flushes
 pub mod Requests
 pub mod Settled
+pub mod Spans
 pub mod GivenOnce
 pub mod Rows
 pub mod Occupants

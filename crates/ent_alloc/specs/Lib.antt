@@ -1,5 +1,6 @@
 pub mod Limits
 pub mod Sequential
+pub mod Span
 pub mod Roster
 pub mod Slots
 pub mod Sound

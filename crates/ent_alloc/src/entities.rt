@@ -3,6 +3,7 @@ ghost use Rattle.std.specs.FinSet as set;
 ghost use Rattle.std.specs.FinMap as map;
 ghost use Rattle.ent_alloc.specs.Sequential.{opening, top, cursor, born, after_flush, after_alloc, after_free, after_set_row, after_take, state_of, next, reply_from, pool_at, settled, asked_at, available, stands_in};
 ghost use Rattle.ent_alloc.specs.Sound.{IsSound};
+ghost use Rattle.ent_alloc.specs.Span.{IsSpanOf};
 
 use crate::fault::{AllocFault, FreeFault, Freed};
 use crate::limits::Limits;
@@ -266,12 +267,20 @@ impl Entities {
         self.floor = floor;
     }
 
-    /// Lowers the cursor by a request for `n` handles, and answers the positions that it passed. At most 2^50 handles may
-    /// be requested between two flushes.
+    /// Requests `n` handles: lowers the cursor by `n`, and answers the positions that it passed. `reply` tells
+    /// what the request is given.
+    ///
+    /// If fewer than `n` handles are left, the request is refused, and the pool is shut: the cursor stays lowered,
+    /// and every later request above 0 is refused until the next flush. A request for 0 handles is always served.
+    ///
+    /// At most 2^50 handles may be requested between two flushes.
     pub fn lower(&mut self, n: u32) -> Span
         requires { self.old.asked + n ≤ 2 ^ 50 }
         ensures span { result ≡ record { high = cursor self.old; low = cursor self.old -ℤ pos n } }
         ensures step { self.new ≡ after_take self.old n }
+
+        // `reply` takes the span as it is.
+        ensures valid { IsSpanOf self.new result }
     {
         let available = self.available();
         let asked = self.asked() + u64::from(n);
@@ -283,17 +292,17 @@ impl Entities {
         span
     }
 
-    /// What the reservation of these positions gives: the old handles first, in the order of their positions, then
-    /// the fresh ones.
+    /// What the request that passed these positions is given: the old handles first, in the order of their
+    /// positions, then the fresh ones. It may be asked at any time until the next flush, also after later requests.
+    ///
+    /// The span is one that `lower` answered since the last flush, or any with `high` from -2^60 to the top, and `low`
+    /// from `high - (2^32 - 1)` to `high`.
     ///
     /// # Errors
     ///
-    /// `Space`, with what was left, where the positions reach past the last slot.
+    /// `Space`, with how many were left, if the positions reach past the last slot.
     pub fn reply(&self, span: Span) -> Result<Reserved<'_>, Space>
-        requires least { neg_ℤ (pos (2 ^ 60)) ≤ℤ span.high }
-        requires passed { span.high ≤ℤ pos (top self.now) }
-        requires short { (span.high -ℤ pos (2 ^ 32 - 1)) ≤ℤ span.low }
-        requires ordered { span.low ≤ℤ span.high }
+        requires { IsSpanOf self.now span }
         ensures { (n : ℕ) → span.low ≡ span.high -ℤ pos n → result ≡ reply_from self.now.made (pool_at self.now span.high) n }
     {
         let available = self.available();

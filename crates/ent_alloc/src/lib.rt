@@ -10,8 +10,6 @@ mod slots;
 mod space;
 mod span;
 mod state;
-#[cfg(test)]
-mod tests;
 
 pub use entities::Entities;
 pub use fault::{AllocFault, FreeFault, Freed};

@@ -1,4 +1,6 @@
-ghost use Rattle.std.specs.Prelude.{◌≡◌, ◌^◌, ◌≤◌, pos, ◌-ℤ◌, ◌≤ℤ◌, neg_ℤ};
+ghost use Rattle.std.specs.Prelude.{◌≡◌, ◌^◌, pos, ◌-ℤ◌, ◌≤ℤ◌, neg_ℤ};
+ghost use Rattle.ent_alloc.specs.Sequential.{Allocator, top};
+ghost use Rattle.ent_alloc.specs.Span.{IsSpanOf};
 
 /// The positions that one reservation passed: from `low` up to, not including, `high`.
 ///
@@ -16,7 +18,10 @@ impl Span {
     pub fn new(high: i64, n: u32) -> Self
         requires least { neg_ℤ (pos (2 ^ 60)) ≤ℤ high }
         requires greatest { high ≤ℤ pos (2 ^ 60) }
-        ensures { result ≡ record { high = high; low = high -ℤ pos n } }
+        ensures value { result ≡ record { high = high; low = high -ℤ pos n } }
+
+        // `reply` takes it if the cursor was at most the top.
+        ensures valid { (s : Allocator) → high ≤ℤ pos (top s) → IsSpanOf s result }
     {
         Span {
             high,

@@ -26,28 +26,12 @@ returns-in_default-span c =
     done (λ v. on_answer v c.args.caller) before c.args.self.now c.self.view_is (Err fault.NotStepped) (Err fault.NotStepped) refl c.args.self.now before (sym c.self.view_is)
     (answer-not_stepped e.entities e.spent e.calls c.args.caller (omega arith) c.in-Some.call (sym c.get.ensures ∙ c.in-Some.is) c.in_default-span.is)
 
-pub reply-requires-clause-least : goal.reply-requires-clause-least
-reply-requires-clause-least c =
-    let passed = c.self.invariant.spans c.args.caller c.in-Some.call c.in-Some-span.span (sym c.get.ensures ∙ c.in-Some.is) c.in-Some-span.is in
-    passed.least
-
-pub reply-requires-clause-passed : goal.reply-requires-clause-passed
-reply-requires-clause-passed c =
-    let passed = c.self.invariant.spans c.args.caller c.in-Some.call c.in-Some-span.span (sym c.get.ensures ∙ c.in-Some.is) c.in-Some-span.is in
-    passed.high
-
-pub reply-requires-clause-short : goal.reply-requires-clause-short
-reply-requires-clause-short c =
+pub reply-requires : goal.reply-requires
+reply-requires c =
     let passed = c.self.invariant.spans c.args.caller c.in-Some.call c.in-Some-span.span (sym c.get.ensures ∙ c.in-Some.is) c.in-Some-span.is in
     let small = c.self.invariant.requests c.args.caller c.in-Some.call (sym c.get.ensures ∙ c.in-Some.is) in
     let low = passed.low in
-    omega (arith, ints)
-
-pub reply-requires-clause-ordered : goal.reply-requires-clause-ordered
-reply-requires-clause-ordered c =
-    let passed = c.self.invariant.spans c.args.caller c.in-Some.call c.in-Some-span.span (sym c.get.ensures ∙ c.in-Some.is) c.in-Some-span.is in
-    let low = passed.low in
-    omega (arith, ints)
+    record { least = passed.least; passed = passed.high; short = omega (arith, ints); ordered = omega (arith, ints) }
 
 pub returns-in-Err-listed : goal.returns-in-Err-listed
 returns-in-Err-listed c =

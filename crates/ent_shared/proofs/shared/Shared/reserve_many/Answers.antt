@@ -1,24 +1,33 @@
-use Rattle.std.proofs.Common.{ℕ, ◌-◌, ◌-ℤ◌, pos, sym, arith, subst, to_z, of_z, w64}
+use Rattle.std.proofs.Common.{ℕ, ◌-◌, ◌-ℤ◌, ◌≤ℤ◌, pos, sym, arith, subst, to_z, of_z, w64}
 use Rattle.std.proofs.lemmas.Int.{ints}
 use Rattle.ent_alloc.specs.declared.span.Span.{Span}
 use Rattle.ent_shared.specs.Phase.{Shared, Reserver, own_of, IsSeated}
 use Rattle.ent_shared.proofs.Seating.{seated_call}
 use Rattle.ent_shared.proofs.Answering.{served_floor, refused_floor}
 use Rattle.std.proofs.Common.{◌≡◌, ap, refl, ◌∙◌, [], Ok}
-use Rattle.ent_alloc.specs.Sequential.{pool_at}
+use Rattle.ent_alloc.specs.Sequential.{Allocator, pool_at, top, cursor}
 use Rattle.ent_shared.proofs.Answering.{reply-none, no_space, low_of}
 use Rattle.ent_shared.proofs.shared.Shared.reserve_many.Goals as goal
 
 pub unreachable-requires : goal.unreachable-requires
 unreachable-requires c =
-    no_space c.reply.result c.in_default.field-0 (c.reply.ensures 0 (low_of c.new.result _ 0 c.new.ensures) ∙ reply-none c.self.inside.entities.made (pool_at c.self.inside.entities c.new.result.high)) c.in_default.is
+    no_space c.reply.result c.in_default.field-0 (c.reply.ensures 0 (low_of c.new.result _ 0 c.new.ensures.value) ∙ reply-none c.self.inside.entities.made (pool_at c.self.inside.entities c.new.result.high)) c.in_default.is
 
 pub returns-then-n-eq0-clause-nothing : goal.returns-then-n-eq0-clause-nothing
 returns-then-n-eq0-clause-nothing c = λ n.
-    let is : c.reply.result ≡ Ok [] = c.reply.ensures 0 (low_of c.new.result _ 0 c.new.ensures) ∙ reply-none c.self.inside.entities.made (pool_at c.self.inside.entities c.new.result.high) in
+    let is : c.reply.result ≡ Ok [] = c.reply.ensures 0 (low_of c.new.result _ 0 c.new.ensures.value) ∙ reply-none c.self.inside.entities.made (pool_at c.self.inside.entities c.new.result.high) in
     let found = c.in-Ok.is in
     let same : c.in-Ok.nothing ≡ [] = cc in
     (ap Ok same, refl)
+
+pub reply-requires-2 : goal.reply-requires-2
+reply-requires-2 c =
+    let fits = c.draw.type_inv in
+    let least = c.draw.ensures.least in
+    let start : (own_of c.reserver.inside.badge.views).start ≡ c.self.inside.entities = ap (λ (r : Reserver). r.own.start) c.reserver.view_is ∙ (c.requires.1 ∙ sym (ap (λ (s : Shared). s.start) c.self.view_is)) in
+    let below : c.draw.result ≤ℤ cursor c.self.inside.entities = subst (λ (s : Allocator). c.draw.result ≤ℤ cursor s) start c.draw.ensures.greatest in
+    let passed : to_z w64 (of_z w64 c.draw.result) ≤ℤ pos (top c.self.inside.entities) = omega (arith, ints) in
+    c.new-span.ensures.valid c.self.inside.entities passed
 
 pub invariant_of-reserver : goal.invariant_of-reserver
 invariant_of-reserver c =
@@ -26,7 +35,7 @@ invariant_of-reserver c =
     let least = c.draw.ensures.least in
     let few = c.ranges.n in
     let word : to_z w64 (of_z w64 c.draw.result) ≡ c.draw.result = omega (arith, ints) in
-    let span : c.new-span.result ≡ record { high = c.draw.result; low = c.draw.result -ℤ pos c.args.n } = c.new-span.ensures ∙ (λ i. record { high = word i; low = word i -ℤ pos c.args.n }) in
+    let span : c.new-span.result ≡ record { high = c.draw.result; low = c.draw.result -ℤ pos c.args.n } = c.new-span.ensures.value ∙ (λ i. record { high = word i; low = word i -ℤ pos c.args.n }) in
     let low : c.new-span.result.low ≡ c.draw.result -ℤ pos c.args.n = ap (λ (s : Span). s.low) span in
     let low_word : to_z w64 (of_z w64 c.new-span.result.low) ≡ c.new-span.result.low = omega (arith, ints) in
     let start : (own_of c.reserver.inside.badge.views).start ≡ c.self.inside.entities = ap (λ (r : Reserver). r.own.start) c.reserver.view_is ∙ (c.requires.1 ∙ sym (ap (λ (s : Shared). s.start) c.self.view_is)) in
@@ -39,7 +48,7 @@ pub invariant_of-reserver-in-Err : goal.invariant_of-reserver-in-Err
 invariant_of-reserver-in-Err c =
     let fits = c.draw.type_inv in
     let word : to_z w64 (of_z w64 c.draw.result) ≡ c.draw.result = omega (arith, ints) in
-    let span : c.new-span.result ≡ record { high = c.draw.result; low = c.draw.result -ℤ pos c.args.n } = c.new-span.ensures ∙ (λ i. record { high = word i; low = word i -ℤ pos c.args.n }) in
+    let span : c.new-span.result ≡ record { high = c.draw.result; low = c.draw.result -ℤ pos c.args.n } = c.new-span.ensures.value ∙ (λ i. record { high = word i; low = word i -ℤ pos c.args.n }) in
     let start : (own_of c.reserver.inside.badge.views).start ≡ c.self.inside.entities = ap (λ (r : Reserver). r.own.start) c.reserver.view_is ∙ (c.requires.1 ∙ sym (ap (λ (s : Shared). s.start) c.self.view_is)) in
     subst (λ (k : ℕ). IsSeated c.draw.new.badge.views c.reserver.inside.number (c.reserver.inside.left - k) c.reserver.inside.floor) (sym c.from-2.ensures)
     (seated_call c.reserver.inside.badge.views c.draw.new.badge.views c.reserver.inside.number c.reserver.inside.left c.args.n c.reserver.inside.floor c.draw.result c.reserver.inside.floor

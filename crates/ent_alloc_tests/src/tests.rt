@@ -1,4 +1,4 @@
-use super::*;
+use ent_alloc::{AllocFault, Entities, FreeFault, Freed, Limits, Space, Span, State};
 use ent_handle::Handle;
 use std::alloc::Global;
 use std::process::Abort;
@@ -7,7 +7,7 @@ fn handle(rt: &impl Abort, index: u32, generation: u32) -> Handle {
     Handle::new(index, generation).expect(rt, "a handle in range")
 }
 
-/// What a reservation of `n` lists, or what was left.
+/// What a reservation lists. The one thing to be known for it is that not too much was asked before.
 fn reserve(
     rt: &impl Abort,
     alloc: Global,
@@ -15,17 +15,7 @@ fn reserve(
     n: u32,
 ) -> Result<Vec<Handle>, Space> {
     assert!(rt; entities.asked() <= 1 << 49);
-    let span = entities.lower(n);
-    assert!(rt; -(1 << 60) <= span.high);
-    assert!(rt; span.high <= i64::from(entities.top()));
-    assert!(rt; span.low <= span.high);
-    assert!(rt; span.high - i64::from(u32::MAX) <= span.low);
-    let reserved = entities.reply(span)?;
-    let mut listed = Vec::new(alloc);
-    for handle in reserved {
-        listed.push(handle).expect(rt, "memory for a list");
-    }
-    Ok(listed)
+    crate::reserve(alloc, entities, n).expect(rt, "memory for a list")
 }
 
 /// What a flush brings to life.
