@@ -46,36 +46,21 @@ fn main(rt: HostRuntime) -> Result<()> {
     };
     let knight = game.spawn(0, &[(HEALTH, 20), (ARMOUR, 3)])?;
     let rat = game.spawn(1, &[(HEALTH, 4)])?;
-    println!(rt;
-        "spawned {}v{} and {}v{}",
-        knight.index(),
-        knight.generation(),
-        rat.index(),
-        rat.generation()
-    )?;
+    println!(rt; "spawned {knight} and {rat}")?;
 
     game.despawn(rat)?;
     let raven = game.spawn(2, &[(HEALTH, 9)])?;
-    println!(rt;
-        "the slot of {}v{} went to {}v{}",
-        rat.index(),
-        rat.generation(),
-        raven.index(),
-        raven.generation()
-    )?;
-    println!(rt;
-        "the old handle finds {:?}, the new one {:?}",
+    println!(rt; "the slot of {rat} went to {raven}")?;
+
+    let (old, new) = (
         game.storage.get(rat, HEALTH),
-        game.storage.get(raven, HEALTH)
-    )?;
+        game.storage.get(raven, HEALTH),
+    );
+    println!(rt; "the old handle finds {old:?}, the new one {new:?}")?;
 
     for handle in game.storage.with(HEALTH)? {
         let health = game.storage.get(handle, HEALTH).unwrap_or(0);
-        println!(rt;
-            "{}v{} has health {health}",
-            handle.index(),
-            handle.generation()
-        )?;
+        println!(rt; "{handle} has health {health}")?;
     }
     Ok(())
 }
