@@ -1,9 +1,9 @@
 -- What a reservation answers.
-use Rattle.std.proofs.Common.{◌≡◌, ℕ, ℤ, pos, ◌-ℤ◌, List, [], ◌∷◌, length, take, refl, sym, ap, ◌∙◌, arith, Ok, Err}
+use Rattle.std.proofs.Common.{◌≡◌, ℕ, ◌≤◌, ℤ, pos, ◌-ℤ◌, List, [], ◌∷◌, length, take, refl, sym, ap, ◌∙◌, arith, Ok, Err}
 use Rattle.std.specs.Prelude.{Result, Bool, nat_le, true, false, cond}
+use Rattle.std.proofs.lemmas.List.{length-take-le}
 use Rattle.std.proofs.lemmas.List.Sorted.{length_permutation}
 use Rattle.ent_alloc.proofs.Replies.{listed-IsPermutation}
-use Rattle.ent_shared.specs.Replies.{answered}
 use Rattle.std.proofs.lemmas.Bool.Decides.{nat_tests}
 use Rattle.ent_handle.specs.Handle.{Handle}
 use Rattle.ent_alloc.specs.declared.space.Space.{Space}
@@ -25,30 +25,6 @@ low_of span high n e = ap (λ (s : Span). s.low) e ∙ sym (ap (λ (s : Span). s
 pub no_space : (r : Result (List Handle) Space) (space : Space) → r ≡ Ok [] → r ≡ Err space → ⊥
 no_space r space good bad = cc
 
--- what is served to a request for one is one handle
-pub one_given : (made : ℕ) (pool handles : List Handle) → Ok handles ≡ answered (reply_from made pool 1) → length handles ≡ 1
-one_given made [] handles is =
-    let none : nat_le 1 0 ≡ false = grind (arith, nat_tests) in
-    let space : Space = record { wanted = 1; left = 0 } in
-    let refused : answered (reply_from made [] 1) ≡ answered (Err space) = ap (λ (b : Bool). answered (cond {A = Result (List Handle) Space} b (Ok (listed made [])) (Err space))) none in
-    let absurdly : Ok handles ≡ answered (Err space) = is ∙ refused in
-    cc
-one_given made (h ∷ hs) handles is =
-    let some_left : nat_le 1 (length (h ∷ hs)) ≡ true = grind (arith, nat_tests) in
-    let space : Space = record { wanted = 1; left = length (h ∷ hs) } in
-    let served : answered (reply_from made (h ∷ hs) 1) ≡ answered (Ok (listed made (take 1 (h ∷ hs)))) = ap (λ (b : Bool). answered (cond {A = Result (List Handle) Space} b (Ok (listed made (take 1 (h ∷ hs)))) (Err space))) some_left in
-    let both : Ok handles ≡ answered (Ok (listed made (take 1 (h ∷ hs)))) = is ∙ served in
-    let same : handles ≡ listed made (take 1 (h ∷ hs)) = cc in
-    let long = length_permutation (take 1 (h ∷ hs)) (listed made (take 1 (h ∷ hs))) (listed-IsPermutation made (take 1 (h ∷ hs))) in
-    ap length same ∙ long
-
-pub not_none : (made : ℕ) (pool given : List Handle) → Ok given ≡ answered (reply_from made pool 1) → given ≡ [] → ⊥
-not_none made pool given is none = let one = one_given made pool given is in let zero_long : length given ≡ 0 = ap length none in absurd (omega arith)
-
-pub only_one : (made : ℕ) (pool given rest : List Handle) (h : Handle) → Ok given ≡ answered (reply_from made pool 1) → given ≡ h ∷ rest → given ≡ h ∷ []
-only_one made pool given [] h is first = first
-only_one made pool given (x ∷ rest) h is first = absurd (let one = one_given made pool given is in let long : length given ≡ length (h ∷ x ∷ rest) = ap length first in omega arith)
-
 -- whether a reply serves tells whether there was enough
 pub enough_served : (made : ℕ) (pool handles : List Handle) (n : ℕ) → reply_from made pool n ≡ Ok handles → nat_le n (length pool) ≡ true
 enough_served made pool handles n is =
@@ -57,6 +33,21 @@ enough_served made pool handles n is =
     let all : goal (nat_le n (length pool)) = elim (nat_le n (length pool)) as goal [ true ↦ (λ e. refl) | false ↦ (λ e. cc) ] in
     all is
 
+-- a reply that serves n lists n handles
+pub length_served : (made : ℕ) (pool handles : List Handle) (n : ℕ) → reply_from made pool n ≡ Ok handles → length handles ≡ n
+length_served made pool handles n is =
+    let test = enough_served made pool handles n is in
+    let enough : n ≤ length pool = grind (arith, nat_tests) in
+    let space : Space = record { wanted = n; left = length pool } in
+    let served : reply_from made pool n ≡ Ok (listed made (take n pool)) = ap (λ (b : Bool). cond {A = Result (List Handle) Space} b (Ok (listed made (take n pool))) (Err space)) test in
+    let same : handles ≡ listed made (take n pool) = cc in
+    ap length same ∙ (length_permutation (take n pool) (listed made (take n pool)) (listed-IsPermutation made (take n pool)) ∙ length-take-le n pool enough)
+
+-- of a list of one the first is all
+pub only_one : (given rest : List Handle) (h : Handle) → length given ≡ 1 → given ≡ h ∷ rest → given ≡ h ∷ []
+only_one given [] h one first = first
+only_one given (x ∷ rest) h one first = absurd (let long : length given ≡ length (h ∷ x ∷ rest) = ap length first in omega arith)
+
 pub short_refused : (made : ℕ) (pool : List Handle) (n : ℕ) (refusal : Space) → reply_from made pool n ≡ Err refusal → nat_le n (length pool) ≡ false
 short_refused made pool n refusal is =
     let space : Space = record { wanted = n; left = length pool } in
@@ -64,7 +55,7 @@ short_refused made pool n refusal is =
     let all : goal (nat_le n (length pool)) = elim (nat_le n (length pool)) as goal [ true ↦ (λ e. cc) | false ↦ (λ e. refl) ] in
     all is
 
--- the floor after a call that was served, and after one that was refused
+-- the floor after a reservation that was served, and after one that was refused
 pub served_floor : (r : Record) (start : Allocator) (high : ℤ) (n : ℕ) (span : Span) (handles : List Handle) (reply : Result (List Handle) Space) → r.start ≡ start → span ≡ record { high = high; low = high -ℤ pos n }
     → ((k : ℕ) → span.low ≡ span.high -ℤ pos k → reply ≡ reply_from start.made (pool_at start span.high) k) → reply ≡ Ok handles → span.low ≡ (after_reservation r high n).floor
 served_floor r start high n span handles reply same is answers served =

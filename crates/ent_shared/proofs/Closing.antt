@@ -1,7 +1,9 @@
 -- The end of a phase: the history of all records is legal, and the cursor and the least floor tell the allocator after it.
-use Rattle.std.proofs.Common.{◌≡◌, ◌≢◌, ℕ, ◌+◌, ◌-◌, ◌*◌, ◌^◌, ◌<◌, ◌≤◌, ℤ, pos, ◌+ℤ◌, ◌-ℤ◌, ◌≤ℤ◌, List, [], ◌∷◌, ◌++◌, length, map, refl, sym, ap, subst, ◌∙◌, arith, sum, length-append, All, AllPairs, Contains, inl, inr, ◌↔◌, ◌⊎◌}
+use Rattle.std.proofs.Common.{◌≡◌, ◌≢◌, ℕ, ◌+◌, ◌-◌, ◌*◌, ◌^◌, ◌<◌, ◌≤◌, ℤ, pos, ◌+ℤ◌, ◌-ℤ◌, ◌≤ℤ◌, ◌<ℤ◌, List, [], ◌∷◌, ◌++◌, length, map, refl, sym, ap, subst, ◌∙◌, arith, sum, length-append, All, AllPairs, Contains, inl, inr, ◌↔◌, ◌⊎◌}
 use Rattle.std.specs.List.{sum_by, flat_map}
 use Rattle.std.specs.Int.{int_min}
+use Rattle.std.proofs.lemmas.List.Elements.{All-weaker, All-contains_itself}
+use Rattle.std.proofs.lemmas.List.Kept.{AllPairs-cons}
 use Rattle.std.proofs.lemmas.List.Sums.{sum_by-cons}
 use Rattle.std.proofs.lemmas.Bool.{cases_lt}
 use Rattle.std.proofs.lemmas.List.Sorted.{length_permutation}
@@ -10,7 +12,7 @@ use Rattle.ent_handle.specs.Handle.{Handle}
 use Rattle.ent_alloc.specs.Sequential.{Allocator, available, cursor, top, asked_at, settled, after_flush}
 use Rattle.ent_alloc.specs.Sound.{IsSound, IsLive}
 use Rattle.ent_alloc.specs.History as history
-use Rattle.ent_alloc.proofs.PoolLaw.{after_takes-sound, available-after_takes, asked-after_takes, length-taken}
+use Rattle.ent_alloc.proofs.PoolLaw.{after_takes-sound, available-after_takes, asked-after_takes, cursor-after_takes, length-taken}
 use Rattle.ent_alloc.proofs.Taken.{length-available}
 use Rattle.ent_alloc.proofs.LaidOut.{flushed-laid_out}
 use Rattle.ent_alloc.proofs.Meaning.{asked_at-is}
@@ -20,11 +22,13 @@ use mir.Syntax.{w64}
 use mir.Val.{to_z, of_z}
 use Rattle.ent_shared.specs.declared.record.Record.{Record}
 use Rattle.ent_shared.specs.declared.rule.Opening.{Opening}
-use Rattle.ent_shared.specs.Record.{credit, own_reservations}
+use Rattle.ent_alloc.specs.Limits.{credit}
+use Rattle.ent_shared.specs.Record.{own_reservations}
 use Rattle.ent_shared.specs.Rule.{floor_of, least_floor, IsStart, IsClosed}
-use Rattle.ent_shared.specs.Order.{as_call, calls_of, history_of, Respects}
+use Rattle.ent_shared.specs.Order.{as_call, own_of_all, reservations_of, history_of, Respects}
 use Rattle.ent_shared.proofs.Steps.{requested, follow_asked}
-use Rattle.ent_shared.proofs.Histories.{calls_are, respects_all}
+use Rattle.ent_shared.proofs.Sorting.{FallsStrictly, follow_falls}
+use Rattle.ent_shared.proofs.Histories.{reservations_are, respects_all, numbers_differ}
 use Rattle.ent_shared.proofs.Settling.{IsLater, legal_from, min_right, floor_below, taken_floor, floor_sorted, floor_of_all}
 
 sum_requests : (cs : List Reservation) → sum (history.requests_of (map as_call cs)) ≡ sum_by requested cs
@@ -39,12 +43,22 @@ few_asked : (n count : ℕ) → n ≤ count * credit → count ≤ 1024 → n �
 unfolding credit
 few_asked n count le few = omega arith
 
+-- of two reservations of a list that falls the later one is lower
+falls_apart : (cs : List Reservation) → FallsStrictly cs → AllPairs (λ earlier later. later.high <ℤ earlier.high) cs
+falls_apart [] falls = λ i j d lt within. absurd (omega arith)
+falls_apart (c ∷ cs) falls = AllPairs-cons (λ earlier later. later.high <ℤ earlier.high) c cs falls.0 (falls_apart cs falls.1)
+
 module _ (start : Allocator) (count : ℕ) (records : List Record) (at : ℤ) (k : IsClosed start count records at) (sound : IsSound start) (flushed : start.asked ≡ 0) where
   pub asked_in_all : cursor start ≡ at +ℤ pos (sum_by requested k.log)
   asked_in_all = follow_asked (cursor start) k.log at k.follow
 
+  asked_most : sum_by requested k.log ≤ count * credit
+  asked_most =
+      let all : sum_by (λ (r : Record). r.left) records + sum_by requested k.log ≤ count * credit = k.credit in
+      omega arith
+
   pub cursor_least : count ≤ 1024 → pos (top start) ≤ℤ (at +ℤ pos (2 ^ 50))
-  cursor_least few = let all = asked_in_all in let most = few_asked (sum_by requested k.log) count k.asked few in omega (arith, ints)
+  cursor_least few = let all = asked_in_all in let most = few_asked (sum_by requested k.log) count asked_most few in omega (arith, ints)
 
   pub cursor_greatest : at ≤ℤ pos (top start)
   cursor_greatest = let all = asked_in_all in omega (arith, ints)
@@ -54,7 +68,7 @@ module _ (start : Allocator) (count : ℕ) (records : List Record) (at : ℤ) (k
     final = history.after_history start (history_of records)
 
     history_is : history_of records ≡ map as_call k.log
-    history_is = ap (map as_call) (calls_are start count records at k whole)
+    history_is = ap (map as_call) (reservations_are start count records at k whole)
 
     itself : IsLater start start
     itself = record { sound = sound; available_is = refl; made_is = refl }
@@ -62,8 +76,11 @@ module _ (start : Allocator) (count : ℕ) (records : List Record) (at : ℤ) (k
     pub legal : history.IsLegal start (history_of records)
     legal = subst (history.IsLegal start) (sym history_is) (legal_from start start k.log at itself k.follow k.answered)
 
-    pub respected : All (Respects (calls_of records)) records
+    pub respected : All (Respects (reservations_of records)) records
     respected = respects_all start count records at k whole
+
+    pub falls : AllPairs (λ earlier later. later.high <ℤ earlier.high) (reservations_of records)
+    falls = subst (AllPairs (λ earlier later. later.high <ℤ earlier.high)) (sym (reservations_are start count records at k whole)) (falls_apart k.log (follow_falls (cursor start) k.log at k.follow))
 
     pub distinct : AllPairs (λ g h. g ≢ h) (history.given_in (history_of records))
     distinct = given_in-distinct start (history_of records) sound legal
@@ -79,7 +96,7 @@ module _ (start : Allocator) (count : ℕ) (records : List Record) (at : ℤ) (k
     floor_is =
         let f : ℤ = floor_of start k.log in
         let of_log : least_floor (cursor start) records ≡ f =
-        floor_of_all start at k.log records k.each ∙ (sym (floor_sorted start (flat_map (λ (r : Record). own_reservations r.entries) records)) ∙ ap (floor_of start) (calls_are start count records at k whole)) in
+        floor_of_all start at k.log records k.each ∙ (sym (floor_sorted start (own_of_all records)) ∙ ap (floor_of start) (reservations_are start count records at k whole)) in
         let none : length start.taken ≡ 0 = ap length (flushed-laid_out start sound flushed).taken in
         let below = floor_below start k.log in
         let high : ℤ = pos (top start) -ℤ pos (length start.taken) in
@@ -95,6 +112,15 @@ module _ (start : Allocator) (count : ℕ) (records : List Record) (at : ℤ) (k
         let asked = asked-after_takes start (history.requests_of (history_of records)) in
         let is = asked_is in
         ap (λ (s : Allocator). s.asked) (after_history-takes start (history_of records)) ∙ omega arith
+
+    -- its cursor is the one that the word told
+    pub final_cursor : cursor final ≡ at
+    final_cursor =
+        let takes = cursor-after_takes start (history.requests_of (history_of records)) sound in
+        let here = ap cursor (after_history-takes start (history_of records)) in
+        let is = asked_is in
+        let all = asked_in_all in
+        omega (arith, ints)
 
     final_sound : IsSound final
     final_sound = subst IsSound (sym (after_history-takes start (history_of records))) (after_takes-sound start (history.requests_of (history_of records)) sound)
@@ -159,8 +185,10 @@ pub record Ended (here start : Allocator) (records : List Record) (at floor : �
   pub reachable : pos 0 ≤ℤ (floor +ℤ pos (here.limits.slots - here.made))
   pub all_given : pos 0 ≤ℤ (at +ℤ pos (here.limits.slots - here.made)) → floor ≡ at
   pub is_legal : history.IsLegal start (history_of records)
-  pub respects : All (Respects (calls_of records)) records
+  pub respects : All (Respects (reservations_of records)) records
   pub after : settled here (asked_at (top here) floor) (asked_at (top here) at) ≡ history.after_history start (history_of records)
+  pub all_fall : AllPairs (λ earlier later. later.high <ℤ earlier.high) (reservations_of records)
+  pub all_numbers : AllPairs (λ r s. r.number ≢ s.number) records
   pub all_distinct : AllPairs (λ g h. g ≢ h) (history.given_in (history_of records))
   pub none_live : All (λ h. ¬ (IsLive start h)) (history.given_in (history_of records))
   pub brings_to_life : (h : Handle) → IsLive (after_flush (history.after_history start (history_of records))) h ↔ IsLive start h ⊎ Contains (history.given_in (history_of records)) h
@@ -176,6 +204,8 @@ ended_at start count records at floor sound flushed few whole k is = record {
   is_legal = legal start count records at k sound flushed whole;
   respects = respected start count records at k sound flushed whole;
   after = settled_is start count records at k sound flushed whole floor is;
+  all_fall = falls start count records at k sound flushed whole;
+  all_numbers = numbers_differ records k.numbers;
   all_distinct = distinct start count records at k sound flushed whole;
   none_live = not_live start count records at k sound flushed whole;
   brings_to_life = brought_to_life start count records at k sound flushed whole;

@@ -1,8 +1,9 @@
 -- What all records together tell once no thread steps any more: their own calls are the calls that lead from the top to the cursor.
-use Rattle.std.proofs.Common.{◌≡◌, ℕ, zero, suc, ◌+◌, ◌<◌, ◌≤◌, ⊎_elim, ℤ, ◌≤ℤ◌, ◌<ℤ◌, List, [], ◌∷◌, length, get_or, refl, sym, ap, subst, ◌∙◌, arith, eq-eqb, Some}
+use Rattle.std.proofs.Common.{◌≡◌, ◌≢◌, ℕ, zero, suc, ◌+◌, ◌<◌, ◌≤◌, ⊎_elim, ℤ, ◌≤ℤ◌, ◌<ℤ◌, List, [], ◌∷◌, length, get_or, refl, sym, ap, subst, ◌∙◌, arith, eq-eqb, Some}
 use Rattle.std.specs.Prelude.{Bool, true, false, cond, ◌==◌, count_by}
-use Rattle.std.specs.List.{sum_by, All, Contains, flat_map}
+use Rattle.std.specs.List.{sum_by, All, AllPairs, Contains, flat_map}
 use Rattle.std.proofs.lemmas.List.Elements.{All-head, All-tail, All-nil, All-cons, All-append, All-weaker, All-contains, All-contains_itself, All-filter}
+use Rattle.std.proofs.lemmas.List.Kept.{AllPairs-cons}
 use Rattle.std.proofs.lemmas.List.Sums.{sum_by-cons, sum_by-append}
 use Rattle.std.proofs.lemmas.Option.{slice_get-get_or}
 use Rattle.std.proofs.lemmas.Int.{ints}
@@ -11,16 +12,13 @@ use native.Mathlib.Decide.{dec_lt}
 use Rattle.ent_alloc.specs.Sequential.{Allocator, cursor}
 use Rattle.ent_shared.specs.declared.record.Reservation.{Reservation}
 use Rattle.ent_shared.specs.declared.record.RecordEntry.{RecordEntry}
-use Rattle.ent_shared.specs.declared.record.RecordEntry.TheVariants.{Made, Met}
+use Rattle.ent_shared.specs.declared.record.RecordEntry.TheVariants.{Own, Met}
 use Rattle.ent_shared.specs.declared.record.Record.{Record}
-use Rattle.ent_shared.specs.Record.{low, calls_in, own_reservations, known_reservations}
+use Rattle.ent_shared.specs.Record.{low, reservations_in, own_reservations, known_reservations}
 use Rattle.ent_shared.specs.Rule.{weigh, InOrder, IsKept, IsClosed}
-use Rattle.ent_shared.specs.Order.{calls_of, calls_by, StandsBefore, FollowsEntries, Respects}
+use Rattle.ent_shared.specs.Order.{own_of_all, reservations_of, reservations_by, StandsBefore, FollowsEntries, Respects}
 use Rattle.ent_shared.proofs.Records.{all_front, all_back, all_own}
 use Rattle.ent_shared.proofs.Sorting.{contains_cases, Falls, FallsStrictly, WeighSame, all_sorted, sum_sorted, falls_sorted, same_fall, follow_falls, follow_requests}
-
-abbrev own_of_all : List Record → List Reservation
-own_of_all records = flat_map (λ (r : Record). own_reservations r.entries) records
 
 sum_flat : (f : Reservation → ℕ) (records : List Record) → sum_by f (own_of_all records) ≡ weigh f records
 sum_flat f [] = refl
@@ -37,11 +35,11 @@ all_flat P (r ∷ records) all =
     All-append P (own_reservations r.entries) (own_of_all records) (All-head (λ (x : Record). All P (own_reservations x.entries)) r records all) (all_flat P records (All-tail (λ (x : Record). All P (own_reservations x.entries)) r records all))
 
 -- the calls by falling high are those that follow each other
-pub calls_are : (start : Allocator) (count : ℕ) (records : List Record) (at : ℤ) (k : IsClosed start count records at) → length records ≡ count → calls_of records ≡ k.log
-calls_are start count records at k whole =
+pub reservations_are : (start : Allocator) (count : ℕ) (records : List Record) (at : ℤ) (k : IsClosed start count records at) → length records ≡ count → reservations_of records ≡ k.log
+reservations_are start count records at k whole =
     let inside : All (Contains k.log) (own_of_all records) = all_flat (Contains k.log) records
     (All-weaker (IsKept start at k.log) (λ (r : Record). All (Contains k.log) (own_reservations r.entries)) (λ r kept. all_own (Contains k.log) r.entries kept.marks.known) records k.each) in
-    same_fall (calls_of records) k.log (falls_sorted (own_of_all records)) (follow_falls (cursor start) k.log at k.follow)
+    same_fall (reservations_of records) k.log (falls_sorted (own_of_all records)) (follow_falls (cursor start) k.log at k.follow)
     (all_sorted (Contains k.log) (own_of_all records) inside)
     (λ f. sum_sorted f (own_of_all records) ∙ (sum_flat f records ∙ k.all whole f))
 
@@ -96,9 +94,9 @@ after_all cs before (later ∷ after) falls requests in_before in_after order =
 follows : (cs : List Reservation) (es : List RecordEntry) → FallsStrictly cs → All (λ (c : Reservation). 0 < c.requested) cs → All (Contains cs) (known_reservations es) → InOrder es → FollowsEntries cs es
 follows cs [] falls requests known order = tt
 follows cs (e ∷ es) falls requests known order =
-    let here : All (Contains cs) (calls_in e) = all_front (Contains cs) (calls_in e) (known_reservations es) known in
-    let rest : All (Contains cs) (known_reservations es) = all_back (Contains cs) (calls_in e) (known_reservations es) known in (
-      after_all cs (calls_in e) (own_reservations es) falls requests here (all_own (Contains cs) es rest) order.0,
+    let here : All (Contains cs) (reservations_in e) = all_front (Contains cs) (reservations_in e) (known_reservations es) known in
+    let rest : All (Contains cs) (known_reservations es) = all_back (Contains cs) (reservations_in e) (known_reservations es) known in (
+      after_all cs (reservations_in e) (own_reservations es) falls requests here (all_own (Contains cs) es rest) order.0,
       follows cs es falls requests rest order.1,
     )
 
@@ -106,12 +104,12 @@ follows cs (e ∷ es) falls requests known order =
 abbrev only : ℕ → (Reservation → ℕ) → Reservation → ℕ
 only caller f c = cond (c.caller == caller) (f c) 0
 
-sum_by_caller : (caller : ℕ) (f : Reservation → ℕ) (cs : List Reservation) → sum_by f (calls_by caller cs) ≡ sum_by (only caller f) cs
+sum_by_caller : (caller : ℕ) (f : Reservation → ℕ) (cs : List Reservation) → sum_by f (reservations_by caller cs) ≡ sum_by (only caller f) cs
 sum_by_caller caller f [] = refl
 sum_by_caller caller f (c ∷ cs) =
     let rest = sum_by_caller caller f cs in
-    let goal : Bool → Type 0 = λ b. sum_by f (cond b (c ∷ calls_by caller cs) (calls_by caller cs)) ≡ cond b (f c) 0 + sum_by (only caller f) cs in
-    let more : sum_by f (c ∷ calls_by caller cs) ≡ f c + sum_by f (calls_by caller cs) = sum_by-cons f c (calls_by caller cs) in
+    let goal : Bool → Type 0 = λ b. sum_by f (cond b (c ∷ reservations_by caller cs) (reservations_by caller cs)) ≡ cond b (f c) 0 + sum_by (only caller f) cs in
+    let more : sum_by f (c ∷ reservations_by caller cs) ≡ f c + sum_by f (reservations_by caller cs) = sum_by-cons f c (reservations_by caller cs) in
     let yes : goal true = omega arith in
     let no : goal false = omega arith in
     let sums : sum_by (only caller f) (c ∷ cs) ≡ only caller f c + sum_by (only caller f) cs = sum_by-cons (only caller f) c cs in
@@ -158,6 +156,20 @@ counted number (x ∷ rs) r inside is =
     (λ (behind : Contains rs r). let rest = counted number rs r behind is in omega arith)
     (contains_cases x rs r inside)
 
+-- records of which no two have one number differ in it
+pub numbers_differ : (rs : List Record) → ((k : ℕ) → count_by (λ (r : Record). r.number == k) rs ≤ 1) → AllPairs (λ r s. r.number ≢ s.number) rs
+numbers_differ [] few = λ i j d lt within. absurd (omega arith)
+numbers_differ (r ∷ rs) few =
+    let R : Record → Record → Type 0 = λ x y. x.number ≢ y.number in
+    let counts : (k : ℕ) → count_by (λ (x : Record). x.number == k) (r ∷ rs) ≡ cond (r.number == k) 1 0 + count_by (λ (x : Record). x.number == k) rs = λ k. sum_by-cons (λ (x : Record). cond (x.number == k) 1 0) r rs in
+    let here : All (R r) rs = All-weaker (Contains rs) (R r) (λ s inside same.
+    let one : cond {A = ℕ} (r.number == r.number) 1 0 ≡ 1 = ap (λ (b : Bool). cond {A = ℕ} b 1 0) (eq-eqb r.number r.number refl) in
+    let more = counted r.number rs s inside (sym same) in
+    let all = counts r.number in
+    let most = few r.number in
+    omega arith) rs (All-contains_itself rs) in
+    AllPairs-cons R r rs here (numbers_differ rs (λ k. let all = counts k in let most = few k in omega arith))
+
 one_of_number : (number : ℕ) (g : Record → ℕ) (rs : List Record) (r : Record) → count_by (λ (x : Record). x.number == number) rs ≤ 1 → Contains rs r → r.number ≡ number → sum_by (of_number number g) rs ≡ g r
 one_of_number number g [] r few inside is = absurd (omega arith)
 one_of_number number g (x ∷ rs) r few inside is =
@@ -185,29 +197,29 @@ one_of_number number g (x ∷ rs) r few inside is =
 own_fall : (es : List RecordEntry) → All (λ (c : Reservation). 0 < c.requested) (own_reservations es) → InOrder es → Falls (own_reservations es)
 own_fall [] requests order = tt
 own_fall (Met cs ∷ es) requests order = own_fall es requests order.1
-own_fall (Made c ∷ es) requests order =
+own_fall (Own c ∷ es) requests order =
     let some_request : 0 < c.requested = All-head (λ (d : Reservation). 0 < d.requested) c (own_reservations es) requests in
     let O : Reservation → Type 0 = λ (later : Reservation). All (λ (earlier : Reservation). later.high ≤ℤ low earlier) (c ∷ []) in (
       All-weaker O (λ (d : Reservation). d.high ≤ℤ c.high) (λ d le. let here : d.high ≤ℤ low c = All-head (λ (earlier : Reservation). d.high ≤ℤ low earlier) c [] le in omega (arith, ints)) (own_reservations es) order.0,
       own_fall es (All-tail (λ (d : Reservation). 0 < d.requested) c (own_reservations es) requests) order.1,
     )
 
-all_by : (P : Reservation → Type 0) (caller : ℕ) (cs : List Reservation) → All P cs → All P (calls_by caller cs)
+all_by : (P : Reservation → Type 0) (caller : ℕ) (cs : List Reservation) → All P cs → All P (reservations_by caller cs)
 all_by P caller cs all = All-filter (λ (c : Reservation). c.caller == caller) P cs all
 
-strictly_by : (caller : ℕ) (cs : List Reservation) → FallsStrictly cs → FallsStrictly (calls_by caller cs)
+strictly_by : (caller : ℕ) (cs : List Reservation) → FallsStrictly cs → FallsStrictly (reservations_by caller cs)
 strictly_by caller [] falls = tt
 strictly_by caller (c ∷ cs) falls =
     let rest = strictly_by caller cs falls.1 in
-    let goal : Bool → Type 0 = λ b. FallsStrictly (cond b (c ∷ calls_by caller cs) (calls_by caller cs)) in
+    let goal : Bool → Type 0 = λ b. FallsStrictly (cond b (c ∷ reservations_by caller cs) (reservations_by caller cs)) in
     let yes : goal true = (all_by (λ (d : Reservation). d.high <ℤ c.high) caller cs falls.0, rest) in
     let no : goal false = rest in
     elim (c.caller == caller) as goal [ true ↦ yes | false ↦ no ]
 
-contains_by : (caller : ℕ) (cs : List Reservation) (c : Reservation) → Contains cs c → c.caller ≡ caller → Contains (calls_by caller cs) c
+contains_by : (caller : ℕ) (cs : List Reservation) (c : Reservation) → Contains cs c → c.caller ≡ caller → Contains (reservations_by caller cs) c
 contains_by caller [] c inside is = absurd (omega arith)
 contains_by caller (d ∷ cs) c inside is =
-    let goal : Bool → Type 0 = λ b. Contains (cond b (d ∷ calls_by caller cs) (calls_by caller cs)) c in
+    let goal : Bool → Type 0 = λ b. Contains (cond b (d ∷ reservations_by caller cs) (reservations_by caller cs)) c in
     ⊎_elim
     (λ (same : c ≡ d).
     let yes : (d.caller == caller) ≡ true = eq-eqb d.caller caller (ap (λ (x : Reservation). x.caller) (sym same) ∙ is) in
@@ -220,10 +232,10 @@ contains_by caller (d ∷ cs) c inside is =
     elim (d.caller == caller) as goal [ true ↦ yes | false ↦ no ])
     (contains_cases d cs c inside)
 
-all_contain_by : (caller : ℕ) (cs own : List Reservation) → All (Contains cs) own → All (λ (c : Reservation). c.caller ≡ caller) own → All (Contains (calls_by caller cs)) own
-all_contain_by caller cs [] inside is = All-nil (Contains (calls_by caller cs))
+all_contain_by : (caller : ℕ) (cs own : List Reservation) → All (Contains cs) own → All (λ (c : Reservation). c.caller ≡ caller) own → All (Contains (reservations_by caller cs)) own
+all_contain_by caller cs [] inside is = All-nil (Contains (reservations_by caller cs))
 all_contain_by caller cs (c ∷ own) inside is =
-    All-cons (Contains (calls_by caller cs)) c own (contains_by caller cs c (All-head (Contains cs) c own inside) (All-head (λ (d : Reservation). d.caller ≡ caller) c own is))
+    All-cons (Contains (reservations_by caller cs)) c own (contains_by caller cs c (All-head (Contains cs) c own inside) (All-head (λ (d : Reservation). d.caller ≡ caller) c own is))
     (all_contain_by caller cs own (All-tail (Contains cs) c own inside) (All-tail (λ (d : Reservation). d.caller ≡ caller) c own is))
 
 sum_same : (g h : Record → ℕ) (rs : List Record) → All (λ (r : Record). g r ≡ h r) rs → sum_by g rs ≡ sum_by h rs
@@ -236,18 +248,18 @@ sum_same g h (r ∷ rs) all =
     omega arith
 
 module _ (start : Allocator) (count : ℕ) (records : List Record) (at : ℤ) (k : IsClosed start count records at) (whole : length records ≡ count) where
-  respects_one : (r : Record) → Contains records r → Respects (calls_of records) r
+  respects_one : (r : Record) → Contains records r → Respects (reservations_of records) r
   respects_one r inside =
       let kept : IsKept start at k.log r = All-contains (IsKept start at k.log) records r k.each inside in
       let log : List Reservation = k.log in
       let own : List Reservation = own_reservations r.entries in
-      let is : calls_of records ≡ log = calls_are start count records at k whole in
+      let is : reservations_of records ≡ log = reservations_are start count records at k whole in
       let falls = follow_falls (cursor start) log at k.follow in
       let requests = follow_requests (cursor start) log at k.follow in
       let own_in : All (Contains log) own = all_own (Contains log) r.entries kept.marks.known in
       let own_requests : All (λ (c : Reservation). 0 < c.requested) own = All-weaker (Contains log) (λ (c : Reservation). 0 < c.requested) (λ c c_in. All-contains (λ (d : Reservation). 0 < d.requested) log c requests c_in) own own_in in
       let few = k.numbers r.number in
-      let weighs : WeighSame own (calls_by r.number log) = λ f.
+      let weighs : WeighSame own (reservations_by r.number log) = λ f.
       let g : Record → ℕ = λ (x : Record). sum_by f (own_reservations x.entries) in
       let h : Record → ℕ = λ (x : Record). sum_by (only r.number f) (own_reservations x.entries) in
       let parted : sum_by h records ≡ sum_by (of_number r.number g) records = sum_same h (of_number r.number g) records
@@ -256,12 +268,12 @@ module _ (start : Allocator) (count : ℕ) (records : List Record) (at : ℤ) (k
       let all : sum_by h records ≡ sum_by (only r.number f) log = k.all whole (only r.number f) in
       let caller = sum_by_caller r.number f log in
       omega arith in
-      let same : own ≡ calls_by r.number log =
-      same_fall own (calls_by r.number log) (own_fall r.entries own_requests kept.marks.order) (strictly_by r.number log falls) (all_contain_by r.number log own own_in kept.caller) weighs in
+      let same : own ≡ reservations_by r.number log =
+      same_fall own (reservations_by r.number log) (own_fall r.entries own_requests kept.marks.order) (strictly_by r.number log falls) (all_contain_by r.number log own own_in kept.caller) weighs in
       record {
-        own = ap (calls_by r.number) is ∙ sym same;
+        own = ap (reservations_by r.number) is ∙ sym same;
         after = subst (λ (cs : List Reservation). FollowsEntries cs r.entries) (sym is) (follows log r.entries falls requests kept.marks.known kept.marks.order);
       }
 
-  pub respects_all : All (Respects (calls_of records)) records
-  respects_all = All-weaker (Contains records) (Respects (calls_of records)) respects_one records (All-contains_itself records)
+  pub respects_all : All (Respects (reservations_of records)) records
+  respects_all = All-weaker (Contains records) (Respects (reservations_of records)) respects_one records (All-contains_itself records)

@@ -2,11 +2,11 @@ pub mod Weighing
 pub mod Records
 pub mod Steps
 pub mod Answering
-pub mod Dealing
+pub mod Sharing
 pub mod Sorting
 pub mod Histories
 pub mod Settling
-pub mod Gathering
+pub mod Merging
 pub mod Closing
 pub mod Losing
 pub mod Seating

@@ -1,8 +1,8 @@
 -- The end of a phase where some reservers are lost: the front of the pool counts as reserved.
 use Rattle.std.proofs.Common.{◌≡◌, ℕ, ◌+◌, ◌-◌, ◌*◌, ◌^◌, ◌<◌, ◌≤◌, ℤ, pos, ◌+ℤ◌, ◌-ℤ◌, ◌≤ℤ◌, List, [], ◌∷◌, ◌++◌, length, take, drop, sym, ap, subst, ◌∙◌, arith, All, Contains, inl, inr, ⊎_elim, ◌⊎◌, neg_ℤ, zero-add, Ok, Err}
 use Rattle.std.specs.Prelude.{Result, Bool, true, false, cond, nat_le}
-use Rattle.std.specs.List.{sum_by}
-use Rattle.std.proofs.lemmas.List.{drop-take, take-take, take_all, drop_all, length-take}
+use Rattle.std.specs.List.{sum_by, filter}
+use Rattle.std.proofs.lemmas.List.{drop-take, take-take, take_all, drop_all, length-take, take-append-drop}
 use Rattle.std.proofs.lemmas.List.Elements.{All-head, All-tail, All-nil, All-cons, All-append, All-weaker, All-take, All-drop, All-contains, All-contains_itself}
 use Rattle.std.proofs.lemmas.List.Sorted.{All-permutation}
 use Rattle.std.specs.Int.{int_max}
@@ -11,7 +11,8 @@ use mir.Syntax.{w64}
 use mir.Val.{to_z, of_z}
 use Rattle.ent_handle.specs.Handle.{Handle}
 use Rattle.ent_alloc.specs.declared.space.Space.{Space}
-use Rattle.ent_alloc.specs.Sequential.{Allocator, available, cursor, top, asked_at, pool_at, listed, settled}
+use Rattle.ent_alloc.specs.Limits.{credit}
+use Rattle.ent_alloc.specs.Sequential.{Allocator, available, cursor, top, is_old, asked_at, pool_at, listed, settled}
 use Rattle.ent_alloc.specs.Sound.{IsSound}
 use Rattle.ent_alloc.specs.History as history
 use Rattle.ent_alloc.proofs.Taken.{length-available}
@@ -21,13 +22,13 @@ use Rattle.ent_alloc.proofs.Replies.{listed-IsPermutation}
 use Rattle.ent_shared.specs.declared.record.Reservation.{Reservation}
 use Rattle.ent_shared.specs.declared.record.Record.{Record}
 use Rattle.ent_shared.specs.declared.rule.Opening.{Opening}
-use Rattle.ent_shared.specs.Record.{low, credit, own_reservations}
+use Rattle.ent_shared.specs.Record.{low, own_reservations, requested_by}
 use Rattle.ent_shared.specs.Phase.{after_loss}
 use Rattle.ent_shared.specs.Rule.{Follow, IsAnswered, IsKept, IsStart, IsClosed}
-use Rattle.ent_shared.specs.Order.{handles_of}
+use Rattle.ent_shared.specs.Order.{history_of, handles_of}
 use Rattle.ent_shared.proofs.Steps.{requested}
 use Rattle.ent_shared.proofs.Records.{all_own}
-use Rattle.ent_shared.proofs.Closing.{asked_in_all, cursor_least, cursor_greatest, in_word}
+use Rattle.ent_shared.proofs.Closing.{asked_in_all, cursor_least, cursor_greatest, final_cursor, in_word}
 
 -- what lies inside the front of a list is in it
 front_contains : (xs : List Handle) (k n asked : ℕ) → k + n ≤ asked → All (Contains (take asked xs)) (take n (drop k xs))
@@ -38,8 +39,8 @@ front_contains xs k n asked le =
     subst (All P) (drop-take k n xs) (All-drop P k (take (k + n) xs) (subst (All P) same all))
 
 -- the handles of a call are in the front that reaches as far
-call_contains : (start : Allocator) (c : Reservation) (asked : ℕ) → IsAnswered start c → asked_at (top start) c.high + c.requested ≤ asked → All (Contains (take asked (available start))) (history.handles_in c.reply)
-call_contains start c asked answered le =
+reservation_contains : (start : Allocator) (c : Reservation) (asked : ℕ) → IsAnswered start c → asked_at (top start) c.high + c.requested ≤ asked → All (Contains (take asked (available start))) (history.handles_in c.reply)
+reservation_contains start c asked answered le =
     let pool : List Handle = pool_at start c.high in
     let P : Handle → Type 0 = Contains (take asked (available start)) in
     let inside : All P (take c.requested pool) = front_contains (available start) (asked_at (top start) c.high) c.requested asked le in
@@ -49,22 +50,22 @@ call_contains start c asked answered le =
     subst (λ (r : Result (List Handle) Space). All P (history.handles_in r)) (sym answered)
     (elim (nat_le c.requested (length pool)) as goal [ true ↦ given | false ↦ All-nil P ])
 
-calls_contain : (start : Allocator) (asked : ℕ) (cs : List Reservation) → All (IsAnswered start) cs → All (λ (c : Reservation). asked_at (top start) c.high + c.requested ≤ asked) cs → All (Contains (take asked (available start))) (handles_of cs)
-calls_contain start asked [] answered within = All-nil (Contains (take asked (available start)))
-calls_contain start asked (c ∷ cs) answered within =
+reservations_contain : (start : Allocator) (asked : ℕ) (cs : List Reservation) → All (IsAnswered start) cs → All (λ (c : Reservation). asked_at (top start) c.high + c.requested ≤ asked) cs → All (Contains (take asked (available start))) (handles_of cs)
+reservations_contain start asked [] answered within = All-nil (Contains (take asked (available start)))
+reservations_contain start asked (c ∷ cs) answered within =
     let P : Handle → Type 0 = Contains (take asked (available start)) in
     let W : Reservation → Type 0 = λ (d : Reservation). asked_at (top start) d.high + d.requested ≤ asked in
     All-append P (history.handles_in c.reply) (handles_of cs)
-    (call_contains start c asked (All-head (IsAnswered start) c cs answered) (All-head W c cs within))
-    (calls_contain start asked cs (All-tail (IsAnswered start) c cs answered) (All-tail W c cs within))
+    (reservation_contains start c asked (All-head (IsAnswered start) c cs answered) (All-head W c cs within))
+    (reservations_contain start asked cs (All-tail (IsAnswered start) c cs answered) (All-tail W c cs within))
 
 -- each call lies between the top and the cursor
-calls_within : (start : Allocator) (high : ℤ) (cs : List Reservation) (end : ℤ) (asked : ℕ) → high ≤ℤ pos (top start) → pos (top start) ≡ end +ℤ pos asked → Follow high cs end
+reservations_within : (start : Allocator) (high : ℤ) (cs : List Reservation) (end : ℤ) (asked : ℕ) → high ≤ℤ pos (top start) → pos (top start) ≡ end +ℤ pos asked → Follow high cs end
     → All (λ (c : Reservation). asked_at (top start) c.high + c.requested ≤ asked) cs × (end ≤ℤ high)
-calls_within start high [] end asked up is f = (All-nil (λ (c : Reservation). asked_at (top start) c.high + c.requested ≤ asked), omega (arith, ints, f))
-calls_within start high (c ∷ cs) end asked up is f =
+reservations_within start high [] end asked up is f = (All-nil (λ (c : Reservation). asked_at (top start) c.high + c.requested ≤ asked), omega (arith, ints, f))
+reservations_within start high (c ∷ cs) end asked up is f =
     let at : c.high ≡ high = f.0 in
-    let rest = calls_within start (low c) cs end asked (omega (arith, ints)) is f.2 in
+    let rest = reservations_within start (low c) cs end asked (omega (arith, ints)) is f.2 in
     let down : end ≤ℤ low c = rest.1 in
     let passed : pos (asked_at (top start) c.high) ≡ pos (top start) -ℤ c.high = asked_at-is (top start) c.high (omega (arith, ints)) in
     (All-cons (λ (d : Reservation). asked_at (top start) d.high + d.requested ≤ asked) c cs (omega (arith, ints)) rest.0, omega (arith, ints))
@@ -72,8 +73,10 @@ calls_within start high (c ∷ cs) end asked up is f =
 -- what the closing call with lost reservers owes and gives
 pub record Lost (here start : Allocator) (count : ℕ) (records : List Record) (at floor : ℤ) : Type 0 where
   pub asked : ℕ
-  pub most : asked ≤ count * credit
-  pub reached : All (λ (r : Record). (cursor start -ℤ pos asked) ≤ℤ r.mark) records
+  pub some_asked : sum_by requested_by records ≤ asked
+  pub most_asked : sum_by (λ (r : Record). r.left) records + asked ≤ count * credit
+  pub reached : All (λ (r : Record). cursor (after_loss start asked) ≤ℤ r.mark) records
+  pub whole : length records ≡ count → cursor (after_loss start asked) ≡ cursor (history.after_history start (history_of records))
   pub least : pos (top here) ≤ℤ (at +ℤ pos (2 ^ 50))
   pub greatest : floor ≤ℤ pos (top here)
   pub all_given : pos 0 ≤ℤ (at +ℤ pos (here.limits.slots - here.made)) → floor ≡ at
@@ -109,6 +112,13 @@ module _ (start : Allocator) (sound : IsSound start) (flushed : start.asked ≡ 
         asked = (ap (λ (n : ℕ). n + asked) flushed ∙ zero-add asked) i;
       }
 
+  -- the cursor of the allocator that is left
+  cursor-loss : (asked : ℕ) → cursor (after_loss start asked) ≡ cursor start -ℤ pos asked
+  cursor-loss asked =
+      let same : available (after_loss start asked) ≡ available start = take-append-drop asked start.pool ∙ sym all_pool in
+      let tops : top (after_loss start asked) ≡ top start = ap (λ (hs : List Handle). length (filter (is_old start.made) hs)) same in
+      omega (arith, ints)
+
 lost_at : (start : Allocator) (count : ℕ) (records : List Record) (at floor : ℤ) → IsSound start → start.asked ≡ 0 → count ≤ 1024 → IsClosed start count records at
     → (floor ≡ at) × (neg_ℤ (pos (start.limits.slots - start.made)) ≤ℤ at) ⊎ (floor ≡ neg_ℤ (pos (start.limits.slots - start.made))) × (at ≤ℤ floor) → Lost start start count records at floor
 lost_at start count records at floor sound flushed few k which =
@@ -129,12 +139,14 @@ lost_at start count records at floor sound flushed few k which =
     let le : given ≤ asked = ⊎_elim (λ (p : (floor ≡ at) × (neg_ℤ (pos (start.limits.slots - start.made)) ≤ℤ at)). let e = p.0 in omega (arith, ints)) (λ (p : (floor ≡ neg_ℤ (pos (start.limits.slots - start.made))) × (at ≤ℤ floor)). let e = p.0 in let l = p.1 in omega (arith, ints)) which in
     let P : Handle → Type 0 = Contains (take asked start.pool) in
     let W : Reservation → Type 0 = λ (c : Reservation). asked_at (top start) c.high + c.requested ≤ asked in
-    let log_within : All W k.log = (calls_within start (cursor start) k.log at asked (omega (arith, ints)) within k.follow).0 in
+    let log_within : All W k.log = (reservations_within start (cursor start) k.log at asked (omega (arith, ints)) within k.follow).0 in
     record {
       asked = asked;
-      most = k.asked;
-      reached = All-weaker (IsKept start at k.log) (λ (r : Record). (cursor start -ℤ pos asked) ≤ℤ r.mark)
-          (λ r kept. let mark = kept.marks.mark in omega (arith, ints)) records k.each;
+      some_asked = k.some requested;
+      most_asked = k.credit;
+      reached = All-weaker (IsKept start at k.log) (λ (r : Record). cursor (after_loss start asked) ≤ℤ r.mark)
+          (λ r kept. let mark = kept.marks.mark in let left = cursor-loss start sound flushed asked in omega (arith, ints)) records k.each;
+      whole = λ all_here. (let left = cursor-loss start sound flushed asked in let other = final_cursor start count records at k sound flushed all_here in omega (arith, ints));
       least = cursor_least start count records at k sound flushed few;
       greatest = floor_in;
       all_given = λ room. ⊎_elim (λ (p : (floor ≡ at) × (neg_ℤ (pos (start.limits.slots - start.made)) ≤ℤ at)). p.0) (λ (p : (floor ≡ neg_ℤ (pos (start.limits.slots - start.made))) × (at ≤ℤ floor)). let e = p.0 in let l = p.1 in omega (arith, ints)) which;
@@ -143,7 +155,7 @@ lost_at start count records at floor sound flushed few k which =
           (λ r kept.
           let own : All (Contains k.log) (own_reservations r.entries) = all_own (Contains k.log) r.entries kept.marks.known in
           subst (λ (xs : List Handle). All (Contains (take asked xs)) (handles_of (own_reservations r.entries))) (all_pool start sound flushed)
-          (calls_contain start asked (own_reservations r.entries)
+          (reservations_contain start asked (own_reservations r.entries)
           (All-weaker (Contains k.log) (IsAnswered start) (λ c inside. All-contains (IsAnswered start) k.log c k.answered inside) (own_reservations r.entries) own)
           (All-weaker (Contains k.log) W (λ c inside. All-contains W k.log c log_within inside) (own_reservations r.entries) own)))
           records k.each;

@@ -1,5 +1,5 @@
--- What a call and a meeting add to a record.
-use Rattle.std.proofs.Common.{◌≡◌, ℕ, ◌+◌, ◌≤◌, ℤ, pos, ◌-ℤ◌, ◌≤ℤ◌, List, [], ◌∷◌, ◌++◌, length, sym, refl, ap, subst, ◌∙◌, arith, append_assoc, append-nil, add-zero}
+-- What a reservation and a meeting add to a record.
+use Rattle.std.proofs.Common.{◌≡◌, ℕ, ◌+◌, ◌-◌, ◌≤◌, ℤ, pos, ◌-ℤ◌, ◌≤ℤ◌, List, [], ◌∷◌, ◌++◌, length, sym, refl, ap, subst, ◌∙◌, arith, append_assoc, append-nil, add-zero}
 use Rattle.std.specs.Prelude.{nat_le, cond, Bool, true, false}
 use Rattle.std.specs.List.{sum_by, All, Contains}
 use Rattle.std.specs.Int.{int_min}
@@ -9,9 +9,10 @@ use Rattle.std.proofs.lemmas.Int.{ints, int_min_is}
 use Rattle.ent_alloc.specs.Sequential.{Allocator, cursor, pool_at}
 use Rattle.ent_shared.specs.declared.record.Reservation.{Reservation}
 use Rattle.ent_shared.specs.declared.record.RecordEntry.{RecordEntry}
-use Rattle.ent_shared.specs.declared.record.RecordEntry.TheVariants.{Made, Met}
+use Rattle.ent_shared.specs.declared.record.RecordEntry.TheVariants.{Own, Met}
 use Rattle.ent_shared.specs.declared.record.Record.{Record}
-use Rattle.ent_shared.specs.Record.{low, calls_in, own_reservations, known_reservations, call_at, after_reservation}
+use Rattle.ent_alloc.specs.Limits.{credit}
+use Rattle.ent_shared.specs.Record.{low, reservations_in, own_reservations, known_reservations, requested_by, reservation_at, after_reservation}
 use Rattle.ent_shared.specs.Moves.{after_meeting}
 use Rattle.ent_shared.specs.Rule.{floor_after, floor_of, InOrder, IsKept}
 
@@ -27,42 +28,61 @@ module _ {X : Type 0} (P : X → Type 0) where
   pub all_one : (x : X) → P x → All P (x ∷ [])
   all_one x p = All-cons P x [] p (All-nil P)
 
-pub own-made : (es : List RecordEntry) (c : Reservation) → own_reservations (es ++ Made c ∷ []) ≡ own_reservations es ++ c ∷ []
+pub own-made : (es : List RecordEntry) (c : Reservation) → own_reservations (es ++ Own c ∷ []) ≡ own_reservations es ++ c ∷ []
 own-made [] c = refl
-own-made (Made d ∷ es) c = ap (λ ds. d ∷ ds) (own-made es c)
+own-made (Own d ∷ es) c = ap (λ ds. d ∷ ds) (own-made es c)
 own-made (Met ds ∷ es) c = own-made es c
 
 pub own-met : (es : List RecordEntry) (cs : List Reservation) → own_reservations (es ++ Met cs ∷ []) ≡ own_reservations es
 own-met [] cs = refl
-own-met (Made d ∷ es) cs = ap (λ ds. d ∷ ds) (own-met es cs)
+own-met (Own d ∷ es) cs = ap (λ ds. d ∷ ds) (own-met es cs)
 own-met (Met ds ∷ es) cs = own-met es cs
 
-pub known-more : (es : List RecordEntry) (e : RecordEntry) → known_reservations (es ++ e ∷ []) ≡ known_reservations es ++ calls_in e
-known-more [] e = append-nil (calls_in e)
-known-more (d ∷ es) e = ap (λ cs. calls_in d ++ cs) (known-more es e) ∙ sym (append_assoc (calls_in d) (known_reservations es) (calls_in e))
+pub known-more : (es : List RecordEntry) (e : RecordEntry) → known_reservations (es ++ e ∷ []) ≡ known_reservations es ++ reservations_in e
+known-more [] e = append-nil (reservations_in e)
+known-more (d ∷ es) e = ap (λ cs. reservations_in d ++ cs) (known-more es e) ∙ sym (append_assoc (reservations_in d) (known_reservations es) (reservations_in e))
 
--- own calls are known
+-- how much a reserver has requested after a reservation and after a meeting
+pub requested-reserved : (r : Record) (high : ℤ) (n : ℕ) → requested_by (after_reservation r high n) ≡ requested_by r + n
+requested-reserved r high n =
+    let f : Reservation → ℕ = λ (c : Reservation). c.requested in
+    let c : Reservation = reservation_at r high n in
+    let own : List Reservation = own_reservations r.entries in
+    let sums : sum_by f (own ++ c ∷ []) ≡ sum_by f own + sum_by f (c ∷ []) = sum_by-append f own (c ∷ []) in
+    let one : sum_by f (c ∷ []) ≡ n = sum_by-cons f c [] ∙ add-zero n in
+    ap (sum_by f) (own-made r.entries c) ∙ (sums ∙ ap (λ (k : ℕ). sum_by f own + k) one)
+
+pub requested-met : (r met : Record) → requested_by (after_meeting r met) ≡ requested_by r
+requested-met r met = ap (sum_by (λ (c : Reservation). c.requested)) (own-met r.entries (known_reservations met.entries))
+
+pub credit-reserved : (r : Record) (high : ℤ) (n : ℕ) → n ≤ r.left → r.left + requested_by r ≡ credit → (after_reservation r high n).left + requested_by (after_reservation r high n) ≡ credit
+credit-reserved r high n within adds_up = let more = requested-reserved r high n in omega arith
+
+pub credit-met : (r met : Record) → r.left + requested_by r ≡ credit → (after_meeting r met).left + requested_by (after_meeting r met) ≡ credit
+credit-met r met adds_up = ap (λ (k : ℕ). r.left + k) (requested-met r met) ∙ adds_up
+
+-- own reservations are known
 pub all_own : (P : Reservation → Type 0) (es : List RecordEntry) → All P (known_reservations es) → All P (own_reservations es)
 all_own P [] all = All-nil P
-all_own P (Made c ∷ es) all = All-cons P c (own_reservations es) (All-head P c (known_reservations es) all) (all_own P es (All-tail P c (known_reservations es) all))
+all_own P (Own c ∷ es) all = All-cons P c (own_reservations es) (All-head P c (known_reservations es) all) (all_own P es (All-tail P c (known_reservations es) all))
 all_own P (Met cs ∷ es) all = all_own P es (all_back P cs (known_reservations es) all)
 
--- a call behind all others
-pub order-made : (es : List RecordEntry) (c : Reservation) → InOrder es → All (λ (d : Reservation). c.high ≤ℤ low d) (known_reservations es) → InOrder (es ++ Made c ∷ [])
+-- a reservation after all others
+pub order-made : (es : List RecordEntry) (c : Reservation) → InOrder es → All (λ (d : Reservation). c.high ≤ℤ low d) (known_reservations es) → InOrder (es ++ Own c ∷ [])
 order-made [] c order below = (All-nil (λ (later : Reservation). All (λ (earlier : Reservation). later.high ≤ℤ low earlier) (c ∷ [])), tt)
 order-made (e ∷ es) c order below =
     let P : Reservation → Type 0 = λ (d : Reservation). c.high ≤ℤ low d in
-    let Q : Reservation → Type 0 = λ (later : Reservation). All (λ (earlier : Reservation). later.high ≤ℤ low earlier) (calls_in e) in (
-      subst (All Q) (sym (own-made es c)) (All-append Q (own_reservations es) (c ∷ []) order.0 (all_one Q c (all_front P (calls_in e) (known_reservations es) below))),
-      order-made es c order.1 (all_back P (calls_in e) (known_reservations es) below),
+    let Q : Reservation → Type 0 = λ (later : Reservation). All (λ (earlier : Reservation). later.high ≤ℤ low earlier) (reservations_in e) in (
+      subst (All Q) (sym (own-made es c)) (All-append Q (own_reservations es) (c ∷ []) order.0 (all_one Q c (all_front P (reservations_in e) (known_reservations es) below))),
+      order-made es c order.1 (all_back P (reservations_in e) (known_reservations es) below),
     )
 
 pub order-met : (es : List RecordEntry) (cs : List Reservation) → InOrder es → InOrder (es ++ Met cs ∷ [])
 order-met [] cs order = (All-nil (λ (later : Reservation). All (λ (earlier : Reservation). later.high ≤ℤ low earlier) cs), tt)
 order-met (e ∷ es) cs order =
-    (subst (All (λ (later : Reservation). All (λ (earlier : Reservation). later.high ≤ℤ low earlier) (calls_in e))) (sym (own-met es cs)) order.0, order-met es cs order.1)
+    (subst (All (λ (later : Reservation). All (λ (earlier : Reservation). later.high ≤ℤ low earlier) (reservations_in e))) (sym (own-met es cs)) order.0, order-met es cs order.1)
 
--- the least of a call that is lower than all others
+-- the least of a reservation that is lower than all others
 lower_first : (a b c : ℤ) (served : Bool) → b ≤ℤ a → int_min a (cond served b c) ≡ cond served b (int_min a c)
 lower_first a b c true le = grind (arith, ints)
 lower_first a b c false le = refl
@@ -96,10 +116,10 @@ kept_on start at now log more r le k = record {
   };
 }
 
-pub kept_drawn : (start : Allocator) (at : ℤ) (log : List Reservation) (n : ℕ) (r : Record) → n ≤ r.left → at ≤ℤ cursor start → IsKept start at log r
-    → IsKept start (at -ℤ pos n) (log ++ call_at r at n ∷ []) (after_reservation r at n)
-kept_drawn start at log n r within top k =
-    let c : Reservation = call_at r at n in
+pub kept_reserved : (start : Allocator) (at : ℤ) (log : List Reservation) (n : ℕ) (r : Record) → n ≤ r.left → at ≤ℤ cursor start → IsKept start at log r
+    → IsKept start (at -ℤ pos n) (log ++ reservation_at r at n ∷ []) (after_reservation r at n)
+kept_reserved start at log n r within top k =
+    let c : Reservation = reservation_at r at n in
     let es : List RecordEntry = r.entries in
     let own : List Reservation = own_reservations es in
     let mark = k.marks.mark in
@@ -111,20 +131,16 @@ kept_drawn start at log n r within top k =
       start_is = k.start_is;
       caller = subst (All (λ (d : Reservation). d.caller ≡ r.number)) (sym (own-made es c)) (All-append (λ (d : Reservation). d.caller ≡ r.number) own (c ∷ []) k.caller (all_one (λ (d : Reservation). d.caller ≡ r.number) c refl));
       credit = record {
-        credit =
-            let was = k.credit.credit in
-            let sums : sum_by (λ (d : Reservation). d.requested) (own ++ c ∷ []) ≡ sum_by (λ (d : Reservation). d.requested) own + sum_by (λ (d : Reservation). d.requested) (c ∷ []) = sum_by-append (λ (d : Reservation). d.requested) own (c ∷ []) in
-            let one : sum_by (λ (d : Reservation). d.requested) (c ∷ []) ≡ n = sum_by-cons (λ (d : Reservation). d.requested) c [] ∙ add-zero n in
-            rw (own-made es c) (omega arith);
+        credit = credit-reserved r at n within k.credit.credit;
         floor =
             rw (own-made es c, floor-made start own c (all_own Q es lower) (omega (arith, ints)))
             (rw (k.start_is, k.credit.floor) refl);
       };
       marks = record {
         mark = omega (arith, ints);
-        below = subst (All Q) (sym (known-more es (Made c))) (All-append Q (known_reservations es) (c ∷ []) lower (all_one Q c (omega (arith, ints))));
+        below = subst (All Q) (sym (known-more es (Own c))) (All-append Q (known_reservations es) (c ∷ []) lower (all_one Q c (omega (arith, ints))));
         order = order-made es c k.marks.order below;
-        known = subst (All (Contains (log ++ c ∷ []))) (sym (known-more es (Made c)))
+        known = subst (All (Contains (log ++ c ∷ []))) (sym (known-more es (Own c)))
             (All-append (Contains (log ++ c ∷ [])) (known_reservations es) (c ∷ []) (All-weaker (Contains log) (Contains (log ++ c ∷ [])) (λ d h. Contains-append_left log (c ∷ []) d h) (known_reservations es) k.marks.known)
             (all_one (Contains (log ++ c ∷ [])) c (Contains-push log c)));
       };
@@ -142,7 +158,7 @@ kept_met start at log r met k m =
       start_is = k.start_is;
       caller = subst (All (λ (d : Reservation). d.caller ≡ r.number)) (sym (own-met es cs)) k.caller;
       credit = record {
-        credit = rw (own-met es cs) k.credit.credit;
+        credit = credit-met r met k.credit.credit;
         floor = rw (own-met es cs) k.credit.floor;
       };
       marks = record {
@@ -155,14 +171,14 @@ kept_met start at log r met k m =
       };
     }
 
--- a record's mark lies below every call that it knows, after a call and after a meeting
-pub below_call : (r : Record) (high : ℤ) (n : ℕ) → All (λ (c : Reservation). r.mark ≤ℤ low c) (known_reservations r.entries) → high ≤ℤ r.mark
+-- a record's mark is below every reservation that it knows, after a reservation and after a meeting
+pub below_reservation : (r : Record) (high : ℤ) (n : ℕ) → All (λ (c : Reservation). r.mark ≤ℤ low c) (known_reservations r.entries) → high ≤ℤ r.mark
     → All (λ (c : Reservation). (after_reservation r high n).mark ≤ℤ low c) (known_reservations (after_reservation r high n).entries)
-below_call r high n below le =
-    let c : Reservation = call_at r high n in
+below_reservation r high n below le =
+    let c : Reservation = reservation_at r high n in
     let Q : Reservation → Type 0 = λ (d : Reservation). (high -ℤ pos n) ≤ℤ low d in
     let lower : All Q (known_reservations r.entries) = All-weaker (λ (d : Reservation). r.mark ≤ℤ low d) Q (λ d h. omega (arith, ints)) (known_reservations r.entries) below in
-    subst (All Q) (sym (known-more r.entries (Made c))) (All-append Q (known_reservations r.entries) (c ∷ []) lower (all_one Q c (omega (arith, ints))))
+    subst (All Q) (sym (known-more r.entries (Own c))) (All-append Q (known_reservations r.entries) (c ∷ []) lower (all_one Q c (omega (arith, ints))))
 
 pub met_below : (r met : Record) → All (λ (c : Reservation). met.mark ≤ℤ low c) (known_reservations met.entries) → All (λ (c : Reservation). (after_meeting r met).mark ≤ℤ low c) (known_reservations met.entries)
 met_below r met theirs = All-weaker (λ (d : Reservation). met.mark ≤ℤ low d) (λ (d : Reservation). int_min r.mark met.mark ≤ℤ low d) (λ d h. grind (arith, ints)) (known_reservations met.entries) theirs

@@ -1,20 +1,21 @@
--- A reserver's fields after a call and after a meeting.
-use Rattle.std.proofs.Common.{◌≡◌, ℕ, ◌-◌, ℤ, ◌≤ℤ◌, List, [], ◌∷◌, refl, sym, ap, subst}
+-- A reserver after a reservation and after a meeting: its fields say what its record says, and it stays of its allocator.
+use Rattle.std.proofs.Common.{◌≡◌, ℕ, ◌-◌, ◌≤◌, ℤ, ◌≤ℤ◌, List, [], ◌∷◌, refl, sym, ap, subst}
 use Rattle.ent_shared.specs.declared.record.Record.{Record}
 use Rattle.ent_shared.specs.Record.{after_reservation}
 use Rattle.ent_shared.specs.Moves.{after_meeting}
-use Rattle.ent_shared.specs.Phase.{own_of, IsSeated}
-use Rattle.ent_shared.proofs.Records.{below_call, below_meeting}
+use Rattle.ent_shared.specs.Phase.{Shared, Reserver, IsOf, own_of, IsSeated}
+use Rattle.ent_shared.proofs.Records.{below_reservation, below_meeting, credit-reserved, credit-met}
 
-pub seated_call : (views after : List (List Record)) (number left n : ℕ) (was high now : ℤ) → IsSeated views number left was → after ≡ (after_reservation (own_of views) high n ∷ []) ∷ [] → high ≤ℤ (own_of views).mark
+pub seated_reservation : (views after : List (List Record)) (number left n : ℕ) (was high now : ℤ) → IsSeated views number left was → after ≡ (after_reservation (own_of views) high n ∷ []) ∷ [] → high ≤ℤ (own_of views).mark → n ≤ (own_of views).left
     → now ≡ (after_reservation (own_of views) high n).floor → IsSeated after number (left - n) now
-seated_call views after number left n was high now seated is le floor =
+seated_reservation views after number left n was high now seated is le within floor =
     subst (λ (vs : List (List Record)). IsSeated vs number (left - n) now) (sym is) (record {
       views_is = refl;
       number_is = seated.number_is;
       left_is = ap (λ (k : ℕ). k - n) seated.left_is;
       floor_is = floor;
-      below = below_call (own_of views) high n seated.below le;
+      below = below_reservation (own_of views) high n seated.below le;
+      credit = credit-reserved (own_of views) high n within seated.credit;
     })
 
 pub seated_meeting : (views met after : List (List Record)) (number left met_number met_left : ℕ) (floor met_floor : ℤ) → IsSeated views number left floor → IsSeated met met_number met_left met_floor
@@ -26,4 +27,11 @@ seated_meeting views met after number left met_number met_left floor met_floor s
       left_is = seated.left_is;
       floor_is = seated.floor_is;
       below = below_meeting (own_of views) (own_of met) seated.below other.below;
+      credit = credit-met (own_of views) (own_of met) seated.credit;
     })
+
+pub of_reserved : (shared : Shared) (r after : Reserver) (high : ℤ) (n : ℕ) → IsOf shared r → n ≤ r.own.left → after ≡ record r { own = after_reservation r.own high n } → IsOf shared after
+of_reserved shared r after high n of within is = subst (IsOf shared) (sym is) (record { word = of.word; start = of.start; number = of.number; credit = credit-reserved r.own high n within of.credit })
+
+pub of_met : (shared : Shared) (r met after : Reserver) → IsOf shared r → after ≡ record r { own = after_meeting r.own met.own } → IsOf shared after
+of_met shared r met after of is = subst (IsOf shared) (sym is) (record { word = of.word; start = of.start; number = of.number; credit = credit-met r.own met.own of.credit })

@@ -18,13 +18,14 @@ use lib.ListN.{get_elem?}
 use Rattle.atomic_table.specs.Table.{State, Me, keeps, Allows, Splits, Joins, Enters, opening}
 use Rattle.ent_alloc.specs.Sequential.{Allocator, cursor, top, pool_at, reply_from}
 use Rattle.ent_shared.specs.declared.record.Reservation.{Reservation}
-use Rattle.ent_shared.specs.declared.record.RecordEntry.TheVariants.{Made}
+use Rattle.ent_shared.specs.declared.record.RecordEntry.TheVariants.{Own}
 use Rattle.ent_shared.specs.declared.record.Record.{Record}
-use Rattle.ent_shared.specs.Record.{low, own_reservations, known_reservations, credit, opened, opened_records, call_at, after_reservation}
+use Rattle.ent_alloc.specs.Limits.{credit}
+use Rattle.ent_shared.specs.Record.{low, own_reservations, known_reservations, requested_by, opened, opened_records, reservation_at, after_reservation}
 use Rattle.ent_shared.specs.Moves.{after_meeting, met_in}
-use Rattle.ent_shared.specs.Rule.{offset, cursor_of, Follow, weigh, IsAnswered, IsKept, IsStart, IsRuled, Drawn, Draws, IsClosed}
-use Rattle.ent_shared.proofs.Weighing.{sum_at, all_at, sum_below, only_at}
-use Rattle.ent_shared.proofs.Records.{all_one, own-made, own-met, kept_on, kept_drawn, kept_met}
+use Rattle.ent_shared.specs.Rule.{offset, cursor_of, Follow, weigh, IsAnswered, IsKept, IsStart, IsRuled, AfterReserve, ReserveTells, IsClosed}
+use Rattle.ent_shared.proofs.Weighing.{sum_at, all_at, sum_parts, only_at}
+use Rattle.ent_shared.proofs.Records.{all_one, own-made, own-met, kept_on, kept_reserved, kept_met}
 
 abbrev first_or : Record → List Record → Record
 first_or r [] = r
@@ -33,7 +34,7 @@ first_or r (x ∷ xs) = x
 abbrev pub requested : Reservation → ℕ
 requested c = c.requested
 
--- what calls that follow each other have asked for
+-- how much was requested by reservations that follow each other
 pub follow_asked : (high : ℤ) (cs : List Reservation) (end : ℤ) → Follow high cs end → high ≡ end +ℤ pos (sum_by requested cs)
 follow_asked high [] end f = omega (arith, ints, f)
 follow_asked high (c ∷ cs) end f =
@@ -70,24 +71,30 @@ module _ (start : Allocator) (count : ℕ) where
   abbrev Rule : St → Type 0
   Rule = IsRuled start count
 
-  -- a record has asked for its credit at most
-  record_asked : (at : ℤ) (log : List Reservation) (r : Record) → IsKept start at log r → sum_by requested (own_reservations r.entries) ≤ credit
-  record_asked at log r k = let c = k.credit.credit in omega arith
+  -- what the records of a seat have left and what they have requested is their credit
+  abbrev left_of : List Record → ℕ
+  left_of view = sum_by (λ (r : Record). r.left) view
 
-  view_asked : (at : ℤ) (log : List Reservation) (view : List Record) → All (IsKept start at log) view → weigh requested view ≤ length view * credit
-  view_asked at log [] all = omega arith
-  view_asked at log (r ∷ view) all =
-      let here = record_asked at log r (All-head (IsKept start at log) r view all) in
-      let rest = view_asked at log view (All-tail (IsKept start at log) r view all) in
-      let sums : weigh requested (r ∷ view) ≡ sum_by requested (own_reservations r.entries) + weigh requested view = sum_by-cons (λ (x : Record). sum_by requested (own_reservations x.entries)) r view in
+  view_credit : (at : ℤ) (log : List Reservation) (view : List Record) → All (IsKept start at log) view → left_of view + weigh requested view ≡ length view * credit
+  view_credit at log [] all = omega arith
+  view_credit at log (r ∷ view) all =
+      let here : r.left + requested_by r ≡ credit = (All-head (IsKept start at log) r view all).credit.credit in
+      let rest = view_credit at log view (All-tail (IsKept start at log) r view all) in
+      let lefts : left_of (r ∷ view) ≡ r.left + left_of view = sum_by-cons (λ (x : Record). x.left) r view in
+      let sums : weigh requested (r ∷ view) ≡ requested_by r + weigh requested view = sum_by-cons (λ (x : Record). sum_by requested (own_reservations x.entries)) r view in
       let product : suc (length view) * credit ≡ length view * credit + credit = suc-mul (length view) credit in
-      rw (sums, product) (omega arith)
+      rw (lefts, sums, product) (omega arith)
+
+  -- and so it is with the records of all seats
+  all_credit : (s : St) (k : Rule s) → sum_by left_of s.views + sum_by requested k.spans.log ≡ count * credit
+  all_credit s k =
+      let each = All-weaker (All (IsKept start (cursor_of k.word) k.spans.log)) (λ (v : List Record). left_of v + weigh requested v ≡ length v * credit) (view_credit (cursor_of k.word) k.spans.log) s.views k.each in
+      let sums = sum_parts left_of (weigh requested) length credit s.views each in
+      subst (λ (n : ℕ). sum_by left_of s.views + sum_by requested k.spans.log ≡ n * credit) k.records
+      (subst (λ (n : ℕ). sum_by left_of s.views + n ≡ sum_by length s.views * credit) (k.spans.all requested) sums)
 
   pub all_asked : (s : St) (k : Rule s) → sum_by requested k.spans.log ≤ count * credit
-  all_asked s k =
-      let each = All-weaker (All (IsKept start (cursor_of k.word) k.spans.log)) (λ (v : List Record). weigh requested v ≤ length v * credit) (view_asked (cursor_of k.word) k.spans.log) s.views k.each in
-      let sums = sum_below (weigh requested) length credit s.views each in
-      subst (λ n. sum_by requested k.spans.log ≤ n * credit) k.records (subst (λ n. n ≤ sum_by length s.views * credit) (k.spans.all requested) sums)
+  all_asked s k = let all = all_credit s k in omega arith
 
   few_asked : (n : ℕ) → n ≤ count * credit → count ≤ 1024 → n ≤ 2 ^ 50
   unfolding credit
@@ -121,25 +128,25 @@ module _ (start : Allocator) (count : ℕ) where
       let room : n ≤ word = omega arith in
       omega (arith, ints)
 
-  -- what a seat's one record weighs once it has a call more
-  weigh-made : (f : Reservation → ℕ) (r : Record) (at : ℤ) (n : ℕ) → weigh f (after_reservation r at n ∷ []) ≡ weigh f (r ∷ []) + f (call_at r at n)
+  -- what a seat's one record weighs after one more reservation
+  weigh-made : (f : Reservation → ℕ) (r : Record) (at : ℤ) (n : ℕ) → weigh f (after_reservation r at n ∷ []) ≡ weigh f (r ∷ []) + f (reservation_at r at n)
   weigh-made f r at n =
-      let c : Reservation = call_at r at n in
+      let c : Reservation = reservation_at r at n in
       let own : List Reservation = own_reservations r.entries in
       let g : Record → ℕ = λ x. sum_by f (own_reservations x.entries) in
       let before : weigh f (r ∷ []) ≡ sum_by f own + 0 = sum_by-cons g r [] in
-      let after : weigh f (after_reservation r at n ∷ []) ≡ sum_by f (own_reservations (r.entries ++ Made c ∷ [])) + 0 = sum_by-cons g (after_reservation r at n) [] in
-      let more : sum_by f (own_reservations (r.entries ++ Made c ∷ [])) ≡ sum_by f own + (f c + 0) = ap (sum_by f) (own-made r.entries c) ∙ (sum_by-append f own (c ∷ []) ∙ ap (λ (k : ℕ). sum_by f own + k) (sum_by-cons f c [])) in
+      let after : weigh f (after_reservation r at n ∷ []) ≡ sum_by f (own_reservations (r.entries ++ Own c ∷ [])) + 0 = sum_by-cons g (after_reservation r at n) [] in
+      let more : sum_by f (own_reservations (r.entries ++ Own c ∷ [])) ≡ sum_by f own + (f c + 0) = ap (sum_by f) (own-made r.entries c) ∙ (sum_by-append f own (c ∷ []) ∙ ap (λ (k : ℕ). sum_by f own + k) (sum_by-cons f c [])) in
       omega arith
 
-  pub draws : (slots id : ℕ) (r : Record) (n : ℕ) → 0 < n → n ≤ r.left
-      → Allows Rule slots id (r ∷ [], []) 0 (λ word. (word + (2 ^ 64 - n)) % 2 ^ 64) (Draws n (r ∷ [], []))
-  draws slots id r n some_request within s k _ at _ =
+  pub reserves : (slots id : ℕ) (r : Record) (n : ℕ) → 0 < n → n ≤ r.left
+      → Allows Rule slots id (r ∷ [], []) 0 (λ word. (word + (2 ^ 64 - n)) % 2 ^ 64) (ReserveTells n (r ∷ [], []))
+  reserves slots id r n some_request within s k _ at _ =
       let word : ℕ = k.word in
       let found : get_or s.words 0 0 ≡ word = ap (λ (ws : List ℕ). get_or ws 0 0) k.words in
       let log : List Reservation = k.spans.log in
       let high : ℤ = cursor_of word in
-      let c : Reservation = call_at r high n in
+      let c : Reservation = reservation_at r high n in
       let w : List Record = after_reservation r high n ∷ [] in
       let mine : All (IsKept start high log) (r ∷ []) = all_at (All (IsKept start high log)) s.views id (r ∷ []) at k.each in
       let kept : IsKept start high log r = All-head (IsKept start high log) r [] mine in
@@ -156,8 +163,8 @@ module _ (start : Allocator) (count : ℕ) where
       let K : ℤ → List Record → Type 0 = λ z v. All (IsKept start z (log ++ c ∷ [])) v in
       let others : All (K (high -ℤ pos n)) s.views = All-weaker (All (IsKept start high log)) (K (high -ℤ pos n))
       (λ v. All-weaker (IsKept start high log) (IsKept start (high -ℤ pos n) (log ++ c ∷ [])) (λ x. kept_on start high (high -ℤ pos n) log (c ∷ []) x down) v) s.views k.each in
-      let drawn : Drawn n r (get_or s.words 0 0) w = subst (λ (z : ℕ). Drawn n r z w) (sym found) (record { least = least; greatest = greatest; mark = mark; top = subst (λ (a : Allocator). high ≤ℤ cursor a) (sym kept.start_is) up; after = refl }) in
-      let own : K (high -ℤ pos n) w = all_one (IsKept start (high -ℤ pos n) (log ++ c ∷ [])) (after_reservation r high n) (kept_drawn start high log n r within up kept) in (
+      let told : AfterReserve n r (get_or s.words 0 0) w = subst (λ (z : ℕ). AfterReserve n r z w) (sym found) (record { least = least; greatest = greatest; mark = mark; top = subst (λ (a : Allocator). high ≤ℤ cursor a) (sym kept.start_is) up; after = refl }) in
+      let own : K (high -ℤ pos n) w = all_one (IsKept start (high -ℤ pos n) (log ++ c ∷ [])) (after_reservation r high n) (kept_reserved start high log n r within up kept) in (
         w,
         keeps,
         tt,
@@ -185,14 +192,14 @@ module _ (start : Allocator) (count : ℕ) where
               omega arith;
           each = subst (λ z. All (K z) (set s.views id w)) (sym now) (All-set (K (high -ℤ pos n)) s.views id w own others);
         },
-        (refl, λ x is. subst (λ (y : Record). Drawn n y (get_or s.words 0 0) w) (ap (first_or r) is) drawn),
+        (refl, λ x is. subst (λ (y : Record). AfterReserve n y (get_or s.words 0 0) w) (ap (first_or r) is) told),
       )
 
-  pub draws_at : (slots id : ℕ) (me : Me (Unit {0}) (List Record)) (r : Record) (n m : ℕ) → me.0 ≡ r ∷ [] → me.1 ≡ [] → m ≡ n → 0 < n → n ≤ r.left
-      → Allows Rule slots id me 0 (λ word. (word + (2 ^ 64 - m)) % 2 ^ 64) (Draws m me)
-  draws_at slots id me r n m view bare same some_request within =
-      let A : Me (Unit {0}) (List Record) × ℕ → Type 0 = λ p. Allows Rule slots id p.0 0 (λ word. (word + (2 ^ 64 - p.1)) % 2 ^ 64) (Draws p.1 p.0) in
-      subst A (λ i. ((sym view i, sym bare i), sym same i)) (draws slots id r n some_request within)
+  pub reserves_at : (slots id : ℕ) (me : Me (Unit {0}) (List Record)) (r : Record) (n m : ℕ) → me.0 ≡ r ∷ [] → me.1 ≡ [] → m ≡ n → 0 < n → n ≤ r.left
+      → Allows Rule slots id me 0 (λ word. (word + (2 ^ 64 - m)) % 2 ^ 64) (ReserveTells m me)
+  reserves_at slots id me r n m view bare same some_request within =
+      let A : Me (Unit {0}) (List Record) × ℕ → Type 0 = λ p. Allows Rule slots id p.0 0 (λ word. (word + (2 ^ 64 - p.1)) % 2 ^ 64) (ReserveTells p.1 p.0) in
+      subst A (λ i. ((sym view i, sym bare i), sym same i)) (reserves slots id r n some_request within)
 
   abbrev numbered : ℕ → List Record → ℕ
   numbered number = count_by (λ (x : Record). x.number == number)
@@ -255,12 +262,12 @@ module _ (start : Allocator) (count : ℕ) where
   numbered_two : (k : ℕ) (v w : List Record) → numbered k (v ++ w) ≡ numbered k v + numbered k w
   numbered_two k v w = sum_by-append (λ (r : Record). cond (r.number == k) 1 0) v w
 
-  pub gathers : (id other : ℕ) (v w : List Record) → Joins Rule id v other w (v ++ w) []
-  gathers id other v w = joins id other v w (v ++ w) (λ f. weigh_two f v w) (length-append v w) (λ k. numbered_two k v w) (λ at log. All-append (IsKept start at log) v w)
+  pub merges : (id other : ℕ) (v w : List Record) → Joins Rule id v other w (v ++ w) []
+  merges id other v w = joins id other v w (v ++ w) (λ f. weigh_two f v w) (length-append v w) (λ k. numbered_two k v w) (λ at log. All-append (IsKept start at log) v w)
 
-  pub deals : (id : ℕ) (v : List Record) → Splits Rule id v (drop 1 v) (take 1 v)
-  deals id [] = splits id [] [] [] (λ f. refl) refl (λ k. refl) (λ P all. (all, all))
-  deals id (r ∷ v) = splits id (r ∷ v) v (r ∷ [])
+  pub splits_first : (id : ℕ) (v : List Record) → Splits Rule id v (drop 1 v) (take 1 v)
+  splits_first id [] = splits id [] [] [] (λ f. refl) refl (λ k. refl) (λ P all. (all, all))
+  splits_first id (r ∷ v) = splits id (r ∷ v) v (r ∷ [])
       (λ f. let e = weigh_two f (r ∷ []) v in omega arith)
       (omega arith)
       (λ k. let e = numbered_two k (r ∷ []) v in omega arith)
@@ -400,10 +407,18 @@ module _ (start : Allocator) (count : ℕ) where
             let changed = sum_at (numbered number) s.views id v [] there in
             let was = k.numbers number in
             omega arith;
+        some = λ f.
+            let changed = sum_at (weigh f) s.views id v [] there in
+            let all = k.spans.all f in
+            omega arith;
         all = λ whole f.
             let only = only_at length (weigh f) s.views id v [] there refl refl (none_weigh f) (k.records ∙ sym whole) in
             sym only ∙ k.spans.all f;
-        asked = all_asked s k;
+        credit =
+            let changed = sum_at left_of s.views id v [] there in
+            let all = all_credit s k in
+            let within : left_of v + sum_by requested k.spans.log ≤ count * credit = omega arith in
+            within;
       }
 
   pub meets_at : (id other : ℕ) (v w : List Record) (r met : Record) → v ≡ r ∷ [] → w ≡ met ∷ [] → Joins Rule id v other w (met_in v w) []
@@ -411,8 +426,8 @@ module _ (start : Allocator) (count : ℕ) where
       let A : List Record × List Record → Type 0 = λ p. Joins Rule id p.0 other p.1 (met_in p.0 p.1) [] in
       subst A (λ i. (sym v_is i, sym w_is i)) (meets id other r met)
 
-  pub parts_at : (id : ℕ) (v : List Record) (r met : Record) → v ≡ r ∷ met ∷ [] → Splits Rule id v (take 1 v) (drop 1 v)
-  parts_at id v r met v_is = subst (λ (x : List Record). Splits Rule id x (take 1 x) (drop 1 x)) (sym v_is) (parts id r met)
+  pub splits_second_at : (id : ℕ) (v : List Record) (r met : Record) → v ≡ r ∷ met ∷ [] → Splits Rule id v (take 1 v) (drop 1 v)
+  splits_second_at id v r met v_is = subst (λ (x : List Record). Splits Rule id x (take 1 x) (drop 1 x)) (sym v_is) (parts id r met)
 
   pub last_word : (s : St) (k : Rule s) (items : List ℕ) (w : ℕ) → s.words ≡ items → get_elem? items 0 ≡ some w → k.word ≡ w
   last_word s k items w same e = some-injective k.word w (ap (λ (l : List ℕ). get_elem? l 0) (sym k.words ∙ same) ∙ e)

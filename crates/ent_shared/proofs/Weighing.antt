@@ -25,14 +25,14 @@ module _ {X : Type 0} where
   all_at P (x ∷ xs) zero v e all = subst P (some-injective x v e) (All-head P x xs all)
   all_at P (x ∷ xs) (suc i) v e all = all_at P xs i v e (All-tail P x xs all)
 
-  -- a sum is at most so much for each element
-  pub sum_below : (f g : X → ℕ) (most : ℕ) (xs : List X) → All (λ x. f x ≤ g x * most) xs → sum_by f xs ≤ sum_by g xs * most
-  sum_below f g most [] all = omega arith
-  sum_below f g most (x ∷ xs) all =
-      let here : f x ≤ g x * most = All-head (λ x. f x ≤ g x * most) x xs all in
-      let rest : sum_by f xs ≤ sum_by g xs * most = sum_below f g most xs (All-tail (λ x. f x ≤ g x * most) x xs all) in
-      let split : (g x + sum_by g xs) * most ≡ g x * most + sum_by g xs * most = add-mul (g x) (sum_by g xs) most in
-      rw (sum_by-cons f x xs, sum_by-cons g x xs, split) (omega arith)
+  -- two sums make up a third one if their terms do
+  pub sum_parts : (f g h : X → ℕ) (m : ℕ) (xs : List X) → All (λ x. f x + g x ≡ h x * m) xs → sum_by f xs + sum_by g xs ≡ sum_by h xs * m
+  sum_parts f g h m [] all = omega arith
+  sum_parts f g h m (x ∷ xs) all =
+      let here : f x + g x ≡ h x * m = All-head (λ x. f x + g x ≡ h x * m) x xs all in
+      let rest : sum_by f xs + sum_by g xs ≡ sum_by h xs * m = sum_parts f g h m xs (All-tail (λ x. f x + g x ≡ h x * m) x xs all) in
+      let split : (h x + sum_by h xs) * m ≡ h x * m + sum_by h xs * m = add-mul (h x) (sum_by h xs) m in
+      rw (sum_by-cons f x xs, sum_by-cons g x xs, sum_by-cons h x xs, split) (omega arith)
 
   pub all_zero : (f g : X → ℕ) → ((x : X) → f x ≡ 0 → g x ≡ 0) → (xs : List X) → sum_by f xs ≡ 0 → sum_by g xs ≡ 0
   all_zero f g zeros [] is = refl

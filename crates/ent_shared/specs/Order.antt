@@ -1,4 +1,4 @@
--- The one history of all reservers' calls, and what it respects.
+-- The one history of all reservers' reservations, and what it respects.
 use Rattle.std.specs.Prelude.{◌≡◌, ℕ, ◌<◌, ◌==◌, List, [], ◌∷◌, map, filter, slice_get, Some, if◌then◌else◌, int_lt}
 use Rattle.std.specs.List.{All, flat_map}
 use Rattle.ent_handle.specs.Handle.{Handle}
@@ -6,9 +6,9 @@ use Rattle.ent_alloc.specs.History as history
 use Rattle.ent_shared.specs.declared.record.Reservation.{Reservation}
 use Rattle.ent_shared.specs.declared.record.RecordEntry.{RecordEntry}
 use Rattle.ent_shared.specs.declared.record.Record.{Record}
-use Rattle.ent_shared.specs.Record.{calls_in, own_reservations}
+use Rattle.ent_shared.specs.Record.{reservations_in, own_reservations}
 
--- a call among others by falling high
+-- a reservation among others that stand by falling cursor
 abbrev pub insert_reservation : Reservation → List Reservation → List Reservation
 insert_reservation c [] = c ∷ []
 insert_reservation c (d ∷ ds) = if int_lt d.high c.high then c ∷ d ∷ ds else d ∷ insert_reservation c ds
@@ -17,37 +17,41 @@ abbrev pub by_falling_high : List Reservation → List Reservation
 by_falling_high [] = []
 by_falling_high (c ∷ cs) = insert_reservation c (by_falling_high cs)
 
--- the own calls of all these records, in the order of their steps: the cursor falls with each
-abbrev pub calls_of : List Record → List Reservation
-calls_of records = by_falling_high (flat_map (λ (r : Record). own_reservations r.entries) records)
+-- the own reservations of these records, one record after the other
+abbrev pub own_of_all : List Record → List Reservation
+own_of_all records = flat_map (λ (r : Record). own_reservations r.entries) records
 
--- a call as the sequential allocator sees it
+-- the same in the order of their steps: the cursor falls with each
+abbrev pub reservations_of : List Record → List Reservation
+reservations_of records = by_falling_high (own_of_all records)
+
+-- a reservation as the sequential allocator sees it
 abbrev pub as_call : Reservation → history.Call
 as_call c = record { caller = c.caller; requested = c.requested; reply = c.reply }
 
 -- the history of these records
 abbrev pub history_of : List Record → List history.Call
-history_of records = map as_call (calls_of records)
+history_of records = map as_call (reservations_of records)
 
--- the one call stands before the other
+-- the one reservation stands before the other
 abbrev pub StandsBefore : List Reservation → Reservation → Reservation → Type 0
-StandsBefore calls earlier later = (i : ℕ) × (j : ℕ) × (i < j) × (slice_get calls i ≡ Some earlier) × (slice_get calls j ≡ Some later)
+StandsBefore reservations earlier later = (i : ℕ) × (j : ℕ) × (i < j) × (slice_get reservations i ≡ Some earlier) × (slice_get reservations j ≡ Some later)
 
--- each own call of these entries stands after all that was made or met in an earlier one
+-- each own reservation of these entries stands after all of which an earlier entry speaks
 abbrev pub FollowsEntries : List Reservation → List RecordEntry → Type 0
-FollowsEntries calls [] = Unit {0}
-FollowsEntries calls (entry ∷ entries) =
-    All (λ (later : Reservation). All (λ (earlier : Reservation). StandsBefore calls earlier later) (calls_in entry)) (own_reservations entries) × FollowsEntries calls entries
+FollowsEntries reservations [] = Unit {0}
+FollowsEntries reservations (entry ∷ entries) =
+    All (λ (later : Reservation). All (λ (earlier : Reservation). StandsBefore reservations earlier later) (reservations_in entry)) (own_reservations entries) × FollowsEntries reservations entries
 
--- the calls by one caller, in order
-abbrev pub calls_by : ℕ → List Reservation → List Reservation
-calls_by caller calls = filter (λ (c : Reservation). c.caller == caller) calls
+-- the reservations of one caller, in order
+abbrev pub reservations_by : ℕ → List Reservation → List Reservation
+reservations_by caller reservations = filter (λ (c : Reservation). c.caller == caller) reservations
 
--- A history respects a reserver: its own calls stand in it in its order, each once, and each of them after all that it had made or met before.
-pub record Respects (calls : List Reservation) (r : Record) : Type 0 where
-  pub own : calls_by r.number calls ≡ own_reservations r.entries
-  pub after : FollowsEntries calls r.entries
+-- The order respects a reserver: its own reservations stand there in its order, each once, and each of them after all that it had made or learned of before.
+pub record Respects (reservations : List Reservation) (r : Record) : Type 0 where
+  pub own : reservations_by r.number reservations ≡ own_reservations r.entries
+  pub after : FollowsEntries reservations r.entries
 
--- the handles that these calls were given
+-- the handles that these reservations were given
 abbrev pub handles_of : List Reservation → List Handle
-handles_of calls = history.given_in (map as_call calls)
+handles_of reservations = history.given_in (map as_call reservations)

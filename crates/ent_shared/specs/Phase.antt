@@ -1,25 +1,26 @@
 -- What contracts see of a shared allocator and of its reservers.
-use Rattle.std.specs.Prelude.{◌≡◌, ℕ, ◌≤◌, ℤ, pos, ◌≤ℤ◌, List, [], ◌∷◌, take, drop, refl}
+use Rattle.std.specs.Prelude.{◌≡◌, ℕ, ◌+◌, ◌<◌, ◌≤◌, ℤ, pos, ◌≤ℤ◌, List, [], ◌∷◌, take, drop, refl}
 use Rattle.std.specs.List.{All}
 use Rattle.std.specs.Coded.{Coded, code_by, coded×, coded_ℕ}
 use Rattle.atomic_table.specs.Seated.{TableId, table_id_coded}
+use Rattle.ent_alloc.specs.Limits.{credit}
 use Rattle.ent_alloc.specs.Sequential.{Allocator, allocator_code, opening}
 use Rattle.ent_alloc.specs.Sound.{IsSound}
 use Rattle.ent_shared.specs.contracts.record.Record as recorded
 use Rattle.ent_shared.specs.declared.record.Record.{Record}
 use Rattle.ent_shared.specs.declared.record.Reservation.{Reservation}
 use Rattle.ent_shared.specs.declared.record.RecordEntry.{RecordEntry}
-use Rattle.ent_shared.specs.Record.{low, known_reservations}
+use Rattle.ent_shared.specs.Record.{low, known_reservations, requested_by}
 use Rattle.ent_shared.specs.declared.rule.Opening.{Opening}
 use Rattle.ent_shared.specs.Rule.{IsStart}
 
--- which word it is, the allocator as it was shared, and how many reservers there are
+-- which atomic word it is, the allocator as it was shared, and how many reservers there are
 pub record Shared : Type 0 where
   pub word : TableId
   pub start : Allocator
   pub count : ℕ
 
--- which word it draws from, and what it has done
+-- which word it reserves from, and what it has done
 pub record Reserver : Type 0 where
   pub word : TableId
   pub own : Record
@@ -32,9 +33,13 @@ shared_code =
 abbrev pub reserver_code : Coded Reserver
 reserver_code = code_by (TableId × Record) (coded× table_id_coded recorded.the_row.coded) (λ r. (r.word, r.own)) (λ p. record { word = p.0; own = p.1 }) (λ _. refl)
 
--- the reserver is one of those that came with this allocator
-abbrev pub IsOf : Shared → Reserver → Type 0
-IsOf shared r = (r.word ≡ shared.word) × (r.own.start ≡ shared.start)
+-- The reserver is one of those that came with this allocator.
+pub record IsOf (shared : Shared) (r : Reserver) : Type 0 where
+  pub word : r.word ≡ shared.word
+  pub start : r.own.start ≡ shared.start
+  pub number : r.own.number < shared.count
+  -- the credit adds up: what is left and what it has requested
+  pub credit : r.own.left + requested_by r.own ≡ credit
 
 -- no reserver's record
 abbrev pub blank : Record
@@ -45,17 +50,18 @@ abbrev pub own_of : List (List Record) → Record
 own_of ((r ∷ rs) ∷ views) = r
 own_of _ = blank
 
--- the mark lies where every call of these entries has ended, or lower
+-- the mark is at or below the end of every reservation of which these entries speak
 abbrev pub IsBelow : ℤ → List RecordEntry → Type 0
 IsBelow mark entries = All (λ (c : Reservation). mark ≤ℤ low c) (known_reservations entries)
 
--- A reserver's fields say what its record says, and its next call comes after every call that it knows.
+-- A reserver's fields say what its record says, and its next reservation comes after all that it knows.
 pub record IsSeated (views : List (List Record)) (number left : ℕ) (floor : ℤ) : Type 0 where
   pub views_is : views ≡ (own_of views ∷ []) ∷ []
   pub number_is : number ≡ (own_of views).number
   pub left_is : left ≡ (own_of views).left
   pub floor_is : floor ≡ (own_of views).floor
   pub below : IsBelow (own_of views).mark (own_of views).entries
+  pub credit : (own_of views).left + requested_by (own_of views) ≡ credit
 
 -- the allocator lies unchanged beside the word
 pub record IsPhase (start : Allocator) (count : ℕ) (key : Opening) (word : TableId) : Type 0 where
@@ -66,6 +72,6 @@ pub record IsPhase (start : Allocator) (count : ℕ) (key : Opening) (word : Tab
   pub words : word.words ≡ 1
   pub slots : word.slots ≡ 0
 
--- an allocator of which so much was asked, where the front of the pool counts as reserved, as far as it goes
+-- the allocator if that much was asked of it and the front of the pool counts as reserved, as far as it goes
 abbrev pub after_loss : Allocator → ℕ → Allocator
 after_loss s asked = record s { taken = take asked s.pool; aside = []; pool = drop asked s.pool; asked = asked }

@@ -1,52 +1,54 @@
--- What one reserver has done in a phase, and how a call adds to it.
-use Rattle.std.specs.Prelude.{ℕ, zero, suc, ◌+◌, ◌-◌, ◌^◌, ℤ, pos, ◌-ℤ◌, nat_le, if◌then◌else◌, List, [], ◌∷◌, ◌++◌, length}
+-- What one reserver has done in a phase, and how a reservation adds to it.
+use Rattle.std.specs.Prelude.{ℕ, zero, suc, ◌+◌, ◌-◌, ℤ, pos, ◌-ℤ◌, nat_le, if◌then◌else◌, List, [], ◌∷◌, ◌++◌, length}
+use Rattle.std.specs.List.{sum_by}
+use Rattle.ent_alloc.specs.Limits.{credit}
 use Rattle.ent_alloc.specs.Sequential.{Allocator, cursor, pool_at, reply_from}
 use Rattle.ent_shared.specs.declared.record.Reservation.{Reservation}
 use Rattle.ent_shared.specs.declared.record.RecordEntry.{RecordEntry}
-use Rattle.ent_shared.specs.declared.record.RecordEntry.TheVariants.{Made, Met}
+use Rattle.ent_shared.specs.declared.record.RecordEntry.TheVariants.{Own, Met}
 use Rattle.ent_shared.specs.declared.record.Record.{Record}
 
--- how much one reserver may request for in a phase
-unfoldable pub credit : ℕ
-credit = 2 ^ 40
-
--- the cursor that a call leaves
+-- the cursor that a reservation leaves
 abbrev pub low : Reservation → ℤ
-low call = call.high -ℤ pos call.requested
+low reservation = reservation.high -ℤ pos reservation.requested
 
--- the calls that an entry speaks of
-abbrev pub calls_in : RecordEntry → List Reservation
-calls_in (Made call) = call ∷ []
-calls_in (Met calls) = calls
+-- the reservations that an entry speaks of
+abbrev pub reservations_in : RecordEntry → List Reservation
+reservations_in (Own reservation) = reservation ∷ []
+reservations_in (Met reservations) = reservations
 
--- the calls that a reserver made itself
+-- the reservations that a reserver made itself
 abbrev pub own_reservations : List RecordEntry → List Reservation
 own_reservations [] = []
-own_reservations (Made call ∷ entries) = call ∷ own_reservations entries
-own_reservations (Met calls ∷ entries) = own_reservations entries
+own_reservations (Own reservation ∷ entries) = reservation ∷ own_reservations entries
+own_reservations (Met reservations ∷ entries) = own_reservations entries
 
--- all calls that it made or met
+-- all reservations that it made itself or learned of
 abbrev pub known_reservations : List RecordEntry → List Reservation
 known_reservations [] = []
-known_reservations (entry ∷ entries) = calls_in entry ++ known_reservations entries
+known_reservations (entry ∷ entries) = reservations_in entry ++ known_reservations entries
+
+-- how many handles a reserver has requested, served or not
+abbrev pub requested_by : Record → ℕ
+requested_by r = sum_by (λ (c : Reservation). c.requested) (own_reservations r.entries)
 
 -- a reserver that has done nothing yet
 abbrev pub opened : Allocator → ℕ → Record
 opened start number = record { start = start; number = number; entries = []; left = credit; mark = cursor start; floor = cursor start }
 
--- so many of them, from a number on
+-- that many of them, numbered from here on
 unfoldable pub opened_records : Allocator → ℕ → ℕ → List Record
 opened_records start number zero = []
 opened_records start number (suc count) = opened start number ∷ opened_records start (number + 1) count
 
--- the reservation of n handles by this reserver where the cursor is high
-abbrev pub call_at : Record → ℤ → ℕ → Reservation
-call_at r high n = record { caller = r.number; high = high; requested = n; reply = reply_from r.start.made (pool_at r.start high) n }
+-- this reserver's reservation of n handles if the cursor is high
+abbrev pub reservation_at : Record → ℤ → ℕ → Reservation
+reservation_at r high n = record { caller = r.number; high = high; requested = n; reply = reply_from r.start.made (pool_at r.start high) n }
 
--- the record behind it
+-- the record after it
 abbrev pub after_reservation : Record → ℤ → ℕ → Record
 after_reservation r high n = record r {
-  entries = r.entries ++ Made (call_at r high n) ∷ [];
+  entries = r.entries ++ Own (reservation_at r high n) ∷ [];
   left = r.left - n;
   mark = high -ℤ pos n;
   floor = if nat_le n (length (pool_at r.start high)) then high -ℤ pos n else r.floor;

@@ -1,16 +1,32 @@
--- What a reservation says to its caller.
-use Rattle.std.specs.Prelude.{List, [], ◌∷◌, Result, Ok, Err}
+-- What a reservation answers.
+use Rattle.std.specs.Prelude.{◌≡◌, ℕ, ℤ, ◌≤ℤ◌, List, [], ◌∷◌, Result, Ok, Err}
 use Rattle.ent_handle.specs.Handle.{Handle}
 use Rattle.ent_alloc.specs.declared.space.Space.{Space}
+use Rattle.ent_alloc.specs.Sequential.{pool_at, reply_from}
 use Rattle.ent_shared.specs.declared.refused.Refused.{Refused}
-use Rattle.ent_shared.specs.declared.refused.Refused.TheVariants.{Space as OutOfSpace}
+use Rattle.ent_shared.specs.declared.refused.Refused.TheVariants.{Space as OutOfSpace, Quota}
+use Rattle.ent_shared.specs.Record.{reservation_at, after_reservation}
+use Rattle.ent_shared.specs.Phase.{Shared, Reserver}
 
--- the allocator's reply
-abbrev pub answered : Result (List Handle) Space → Result (List Handle) Refused
-answered (Ok handles) = Ok handles
-answered (Err space) = Err (OutOfSpace space.wanted space.left)
+-- the answer says what the reply says
+abbrev pub Tells : Result (List Handle) Refused → Result (List Handle) Space → Type 0
+Tells (Ok handles) reply = reply ≡ Ok handles
+Tells (Err (OutOfSpace wanted left)) reply = reply ≡ Err (record { wanted = wanted; left = left })
+Tells (Err (Quota left)) reply = ⊥
 
 -- a single handle, as a list
 abbrev pub listed_alone : Result Handle Refused → Result (List Handle) Refused
 listed_alone (Ok handle) = Ok (handle ∷ [])
 listed_alone (Err refused) = Err refused
+
+-- A reserver has made one more reservation, of n handles.
+pub record Reserves (shared : Shared) (old new : Reserver) (n : ℕ) (answer : Result (List Handle) Refused) : Type 0 where
+  -- the cursor that its step found, which is the mark or lower
+  pub high : ℤ
+  pub at_mark : high ≤ℤ old.own.mark
+  -- the record ends with it, and nothing else has changed
+  pub after : new ≡ record old { own = after_reservation old.own high n }
+  -- the answer is the reply that is recorded
+  pub recorded : Tells answer (reservation_at old.own high n).reply
+  -- and that is the reply of an allocator whose cursor is there
+  pub reply : (reservation_at old.own high n).reply ≡ reply_from shared.start.made (pool_at shared.start high) n

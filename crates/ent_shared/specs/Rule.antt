@@ -3,11 +3,12 @@ use Rattle.std.specs.Prelude.{◌≡◌, ℕ, ◌+◌, ◌*◌, ◌^◌, ◌<◌
 use Rattle.std.specs.List.{sum_by}
 use Rattle.std.specs.Int.{int_min}
 use Rattle.atomic_table.specs.Table.{State, Me}
+use Rattle.ent_alloc.specs.Limits.{credit}
 use Rattle.ent_alloc.specs.Sequential.{Allocator, cursor, top, pool_at, reply_from}
 use Rattle.ent_shared.specs.declared.record.Reservation.{Reservation}
 use Rattle.ent_shared.specs.declared.record.RecordEntry.{RecordEntry}
 use Rattle.ent_shared.specs.declared.record.Record.{Record}
-use Rattle.ent_shared.specs.Record.{low, calls_in, own_reservations, known_reservations, credit, after_reservation}
+use Rattle.ent_shared.specs.Record.{low, reservations_in, own_reservations, known_reservations, requested_by, after_reservation}
 
 -- what is added to the cursor, so that the word is never negative
 unfoldable pub offset : ℕ
@@ -17,33 +18,33 @@ offset = 2 ^ 62
 abbrev pub cursor_of : ℕ → ℤ
 cursor_of word = pos word -ℤ pos offset
 
--- From high down to low the calls follow each other, and each of them draws something.
+-- From high down to end the reservations follow each other, and each of them requests something.
 abbrev pub Follow : ℤ → List Reservation → ℤ → Type 0
-Follow high [] low_end = high ≡ low_end
-Follow high (call ∷ calls) low_end = (call.high ≡ high) × (0 < call.requested) × Follow (low call) calls low_end
+Follow high [] end = high ≡ end
+Follow high (c ∷ cs) end = (c.high ≡ high) × (0 < c.requested) × Follow (low c) cs end
 
--- all own calls of a seat's records, each of them weighed
+-- the own reservations of a seat's records, each of them weighed
 abbrev pub weigh : (Reservation → ℕ) → List Record → ℕ
 weigh f records = sum_by (λ (r : Record). sum_by f (own_reservations r.entries)) records
 
--- The spans partition: the own calls of all records, one after the other, lead from the top down to the cursor.
+-- The spans partition: the own reservations of all records, one after the other, lead from the top down to the cursor.
 pub record SpansPartition (start : Allocator) (word : ℕ) (views : List (List Record)) : Type 0 where
   pub log : List Reservation
   pub follow : Follow (cursor start) log (cursor_of word)
   pub all : (f : Reservation → ℕ) → sum_by (weigh f) views ≡ sum_by f log
 
--- what an own call was answered is what the allocator says there
+-- what a reservation was answered is what the allocator says there
 abbrev pub IsAnswered : Allocator → Reservation → Type 0
-IsAnswered start call = call.reply ≡ reply_from start.made (pool_at start call.high) call.requested
+IsAnswered start c = c.reply ≡ reply_from start.made (pool_at start c.high) c.requested
 
--- the cursor that a call leaves, if it was served, and else the top
+-- the cursor that a reservation leaves, if it was served, and else the top
 abbrev pub floor_after : Allocator → Reservation → ℤ
-floor_after start call = if nat_le call.requested (length (pool_at start call.high)) then low call else cursor start
+floor_after start c = if nat_le c.requested (length (pool_at start c.high)) then low c else cursor start
 
--- the least cursor that these calls left where they were served, or the top
+-- the least cursor that those of them left that were served, or the top
 abbrev pub floor_of : Allocator → List Reservation → ℤ
 floor_of start [] = cursor start
-floor_of start (call ∷ calls) = int_min (floor_after start call) (floor_of start calls)
+floor_of start (c ∷ cs) = int_min (floor_after start c) (floor_of start cs)
 
 -- the least floor of these records, or the top
 abbrev pub least_floor : ℤ → List Record → ℤ
@@ -52,13 +53,13 @@ least_floor high (r ∷ rs) = int_min r.floor (least_floor high rs)
 
 -- The credit adds up: what is left and what was requested.
 pub record CreditAddsUp (start : Allocator) (r : Record) : Type 0 where
-  pub credit : r.left + sum_by (λ (c : Reservation). c.requested) (own_reservations r.entries) ≡ credit
+  pub credit : r.left + requested_by r ≡ credit
   pub floor : r.floor ≡ floor_of start (own_reservations r.entries)
 
--- each own call begins where every call of an earlier entry has ended, or lower
+-- each own reservation begins at or below the end of every reservation of which an earlier entry speaks
 abbrev pub InOrder : List RecordEntry → Type 0
 InOrder [] = Unit {0}
-InOrder (entry ∷ entries) = All (λ (later : Reservation). All (λ (earlier : Reservation). later.high ≤ℤ low earlier) (calls_in entry)) (own_reservations entries) × InOrder entries
+InOrder (entry ∷ entries) = All (λ (later : Reservation). All (λ (earlier : Reservation). later.high ≤ℤ low earlier) (reservations_in entry)) (own_reservations entries) × InOrder entries
 
 -- The marks are in order.
 pub record MarksInOrder (at : ℤ) (log : List Reservation) (r : Record) : Type 0 where
@@ -90,23 +91,24 @@ pub record IsRuled (start : Allocator) (count : ℕ) (s : State (Unit {0}) (List
   pub numbers : (k : ℕ) → sum_by (count_by (λ (r : Record). r.number == k)) s.views ≤ 1
   pub each : All (All (IsKept start (cursor_of word) spans.log)) s.views
 
--- A reservation of n by the one reserver of a seat: the word is in its range, and the record has one call more.
-pub record Drawn (n : ℕ) (r : Record) (found : ℕ) (others : List Record) : Type 0 where
+-- After a reservation of n by the one reserver of a seat: the word is in its range, and the record has one reservation more.
+pub record AfterReserve (n : ℕ) (r : Record) (found : ℕ) (others : List Record) : Type 0 where
   pub least : offset ≤ found + 2 ^ 50
   pub greatest : found < offset + 2 ^ 32
   pub mark : cursor_of found ≤ℤ r.mark
   pub top : cursor_of found ≤ℤ cursor r.start
   pub after : others ≡ after_reservation r (cursor_of found) n ∷ []
 
-abbrev pub Draws : ℕ → Me (Unit {0}) (List Record) → ℕ → Me (Unit {0}) (List Record) → Type 0
-Draws n before found after = (after.1 ≡ before.1) × ((r : Record) → before.0 ≡ r ∷ [] → Drawn n r found after.0)
+abbrev pub ReserveTells : ℕ → Me (Unit {0}) (List Record) → ℕ → Me (Unit {0}) (List Record) → Type 0
+ReserveTells n before found after = (after.1 ≡ before.1) × ((r : Record) → before.0 ≡ r ∷ [] → AfterReserve n r found after.0)
 
--- What is left of the rule once no thread steps any more, and these records are known.
+-- What the rule says once no thread steps any more, and these records are known.
 pub record IsClosed (start : Allocator) (count : ℕ) (records : List Record) (at : ℤ) : Type 0 where
   pub log : List Reservation
   pub follow : Follow (cursor start) log at
   pub answered : All (IsAnswered start) log
   pub each : All (IsKept start at log) records
   pub numbers : (k : ℕ) → count_by (λ (r : Record). r.number == k) records ≤ 1
+  pub some : (f : Reservation → ℕ) → weigh f records ≤ sum_by f log
   pub all : length records ≡ count → (f : Reservation → ℕ) → weigh f records ≡ sum_by f log
-  pub asked : sum_by (λ (c : Reservation). c.requested) log ≤ count * credit
+  pub credit : sum_by (λ (r : Record). r.left) records + sum_by (λ (c : Reservation). c.requested) log ≤ count * credit

@@ -1,4 +1,4 @@
-//! Reservation by many threads at once: one atomic word counts down, and each caller draws from it through a shared reference.
+//! Reservation by many threads at once: one atomic word counts down, and each caller reserves from it through a shared reference.
 #![tactic(auto)]
 
 mod phase;

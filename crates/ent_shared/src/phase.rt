@@ -1,4 +1,4 @@
-ghost use Rattle.std.specs.Prelude.{◌≡◌, ◌<◌, ◌≤◌, map, All, IfOk, IfErr};
+ghost use Rattle.std.specs.Prelude.{◌≡◌, ◌<◌, ◌≤◌, length, map, All, IfOk, IfErr};
 ghost use Rattle.ent_shared.specs.Record.{opened_records};
 ghost use Rattle.ent_shared.specs.Phase.{IsOf};
 
@@ -10,12 +10,12 @@ use ent_alloc::Entities;
 use ent_handle::Memory;
 use std::alloc::Global;
 
-/// Shares a flushed allocator among `n` reservers, 1 to 1,024, each of which may request for 2^40 handles. Bevy has no such
-/// limits; they are this project's own.
+/// Shares a flushed allocator among `n` reservers, 1 to 1,024, each of which may request [`CREDIT`](ent_alloc::CREDIT) handles.
+/// Bevy has no such limits; they are this project's own.
 ///
 /// # Errors
 ///
-/// `Memory`, and then the allocator comes back as it was.
+/// [`Memory`], with the allocator as it was.
 pub fn share(
     alloc: Global,
     entities: Entities,
@@ -25,6 +25,7 @@ pub fn share(
     requires some { 0 < n }
     requires few { n ≤ 1024 }
     ensures shared { IfOk result (λ made. (made.0.start ≡ entities) × (made.0.count ≡ n)) }
+    ensures count { IfOk result (λ made. length made.1.items ≡ n) }
     ensures reservers { IfOk result (λ made. map (λ r. r.own) made.1.items ≡ opened_records entities 0 n) }
     ensures own { IfOk result (λ made. All (IsOf made.0) made.1.items) }
     ensures err { IfErr result (λ refused. refused.0 ≡ entities) }
@@ -40,7 +41,7 @@ pub fn share(
         return Err((entities, Memory));
     };
     for number in 0..n {
-        reservers.push_reserved(Reserver::new(word::deal(&word, &mut all), number, top));
+        reservers.push_reserved(Reserver::new(word::split_first(&word, &mut all), number, top));
     }
     let Opening { entities, count } = opening;
     Ok((Shared::new(entities, word, count), reservers))

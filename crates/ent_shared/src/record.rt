@@ -4,23 +4,23 @@ use ent_alloc::{Entities, Space};
 use ent_handle::Handle;
 use std::collections::LinkedList;
 
-/// One reservation: it drew the numbers from `high` less `request` up to `high`.
+/// One reservation. It stands for the places from `high` less `requested` up to, not including, `high`.
 pub struct Reservation {
     /// The number of its reserver.
     pub caller: u64,
-    /// The cursor that it found.
+    /// The cursor that its step found.
     pub high: i64,
     /// How many handles were requested.
     pub requested: u32,
-    /// What was answered: the handles, or what was left of the pool.
+    /// What was answered: the handles, or how many the pool had.
     pub reply: Result<LinkedList<Handle>, Space>,
 }
 
 /// What a reserver did.
 pub enum RecordEntry {
     /// It made a reservation.
-    Made(Reservation),
-    /// It met another one, and these are all the calls that the other had made or met by then.
+    Own(Reservation),
+    /// It met another one. These are all the reservations that the other one had made or learned of by then.
     Met(LinkedList<Reservation>),
 }
 
@@ -28,14 +28,14 @@ pub enum RecordEntry {
 pub struct Record {
     /// The allocator as it was shared.
     pub start: Entities,
-    /// The place of the reserver in the list that `share` gave.
+    /// The position of the reserver in the list that `share` gave, from 0.
     pub number: u64,
     /// What it did, in order.
     pub entries: LinkedList<RecordEntry>,
-    /// How much it may still request for.
+    /// How many handles it may still request.
     pub left: u64,
-    /// Its next call begins here or lower.
+    /// Its next reservation begins here or lower.
     pub mark: i64,
-    /// Where its last call that was served ends, or the top of the allocator's free list.
+    /// Where its last reservation that was served ends, or the top of the allocator's pending list.
     pub floor: i64,
 }

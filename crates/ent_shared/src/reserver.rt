@@ -2,12 +2,13 @@ ghost use Rattle.std.specs.Prelude.{◌≡◌};
 
 use crate::rule::SeatRecords;
 use atomic_table::Badge;
+use ent_alloc::CREDIT;
 use std::marker::Model;
 
-/// How many handles a reserver may request for in one phase.
-const CREDIT: u64 = 1 << 40;
-
 /// The right of one caller to reserve from a shared allocator, and what is left of its credit.
+///
+/// [`share`](crate::share) makes them, and [`Shared::close`](crate::Shared::close) takes them back. A caller that reserves in a
+/// thread of its own takes one along.
 #[derive(Drop)]
 pub struct Reserver {
     pub(crate) badge: Badge<SeatRecords>,
@@ -29,8 +30,9 @@ impl Model for Reserver {
 }
 
 impl Reserver {
-    ghost use Rattle.std.specs.Prelude.{◌≡◌};
-    ghost use Rattle.ent_shared.specs.Record.{credit};
+    ghost use Rattle.std.specs.Prelude.{◌≡◌, ◌+◌};
+    ghost use Rattle.ent_alloc.specs.Limits.{credit};
+    ghost use Rattle.ent_shared.specs.Record.{requested_by};
     ghost use Rattle.ent_shared.specs.Phase.{own_of, IsSeated};
 
     pub(crate) fn new(badge: Badge<SeatRecords>, number: usize, floor: i64) -> Self
@@ -45,16 +47,17 @@ impl Reserver {
         }
     }
 
-    /// Which of the reservers it is, from 0.
+    /// Which of the reservers it is: its position in the list that `share` gave, from 0.
     pub fn number(&self) -> usize
         ensures { result ≡ self.now.own.number }
     {
         self.number
     }
 
-    /// How many handles it may still request for in this phase, at most 2^40.
+    /// How many handles it may still request in this phase: [`CREDIT`] less what it has requested, served or not.
     pub fn left(&self) -> u64
-        ensures { result ≡ self.now.own.left }
+        ensures left { result ≡ self.now.own.left }
+        ensures credit { result + requested_by self.now.own ≡ credit }
     {
         self.left
     }

@@ -1,5 +1,5 @@
 //! The rule over the cursor word and the records of all reservers, and what its steps tell.
-ghost use Rattle.ent_shared.specs.Rule.{IsRuled, Draws};
+ghost use Rattle.ent_shared.specs.Rule.{IsRuled, ReserveTells};
 ghost use Rattle.ent_shared.specs.Record.{opened_records};
 ghost use Rattle.std.specs.Prelude.{◌≡◌, List, [], ◌∷◌, ◌++◌, take, drop};
 ghost use Rattle.ent_shared.specs.Moves.{met_in};
@@ -28,38 +28,38 @@ impl TableRule<(), SeatRecords, Opening> for Cursor {
 }
 
 /// A reservation.
-pub(crate) struct Draw;
+pub(crate) struct Reserve;
 
-impl Play<(), SeatRecords> for Draw {
-    ghost then = { λ step before found after. Draws step.first before found after };
+impl Play<(), SeatRecords> for Reserve {
+    ghost then = { λ step before found after. ReserveTells step.first before found after };
 }
 
-/// A seat that has no record yet.
-pub(crate) struct Enter;
+/// A new seat, which has no record.
+pub(crate) struct NewSeat;
 
-impl Play<(), SeatRecords> for Enter {
+impl Play<(), SeatRecords> for NewSeat {
     ghost then = { λ step before found after. after.0 ≡ [] };
 }
 
-/// The first record goes to a seat of its own.
-pub(crate) struct Deal;
+/// The first record moves to a seat of its own.
+pub(crate) struct SplitFirst;
 
-impl Split<SeatRecords> for Deal {
+impl Split<SeatRecords> for SplitFirst {
     ghost left = { λ records. drop 1 records };
 
     ghost right = { λ records. take 1 records };
 }
 
-/// All records in one seat.
-pub(crate) struct Gather;
+/// The records of two seats in one.
+pub(crate) struct Merge;
 
-impl Join<SeatRecords> for Gather {
+impl Join<SeatRecords> for Merge {
     ghost both = { λ some others. some ++ others };
 
     ghost spent = { [] };
 }
 
-/// The first one meets the second.
+/// The first reserver meets the second.
 pub(crate) struct Meet;
 
 impl Join<SeatRecords> for Meet {
@@ -68,10 +68,10 @@ impl Join<SeatRecords> for Meet {
     ghost spent = { [] };
 }
 
-/// The one that was met goes back to a seat of its own.
-pub(crate) struct Part;
+/// The reserver that was met goes back to a seat of its own.
+pub(crate) struct SplitSecond;
 
-impl Split<SeatRecords> for Part {
+impl Split<SeatRecords> for SplitSecond {
     ghost left = { λ records. take 1 records };
 
     ghost right = { λ records. drop 1 records };

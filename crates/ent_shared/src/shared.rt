@@ -1,14 +1,16 @@
-ghost use Rattle.std.specs.Prelude.{◌≡◌, ℕ, ℤ, pos, ◌+ℤ◌, ◌-ℤ◌, ◌≤ℤ◌, ◌<◌, ◌≤◌, ◌+◌, ◌-◌, ◌*◌, ◌^◌, List, [], ◌∷◌, ◌++◌, length, map, All, AllPairs, Contains, ◌≢◌, ◌↔◌, ◌⊎◌, IfOk, IfErr, Ok, Err};
+ghost use Rattle.std.specs.Prelude.{◌≡◌, ◌≢◌, ◌↔◌, ◌⊎◌, ℕ, ℤ, ◌+◌, ◌*◌, ◌<◌, ◌≤◌, ◌≤ℤ◌, ◌<ℤ◌};
+ghost use Rattle.std.specs.Prelude.{List, [], ◌∷◌, length, map, All, AllPairs, Contains, sum_by};
+ghost use Rattle.std.specs.Prelude.{Ok, Err, IfOk};
 ghost use Rattle.ent_handle.specs.Handle.{Handle as HandleValue};
-ghost use Rattle.ent_alloc.specs.Sequential.{cursor, reply_from, pool_at, after_flush};
+ghost use Rattle.ent_alloc.specs.Limits.{credit};
+ghost use Rattle.ent_alloc.specs.Sequential.{cursor, after_flush};
 ghost use Rattle.ent_alloc.specs.History.{IsLegal, after_history, given_in};
 ghost use Rattle.ent_alloc.specs.Sound.{IsLive};
-ghost use Rattle.ent_shared.specs.Record.{after_reservation, own_reservations, credit};
+ghost use Rattle.ent_shared.specs.Record.{own_reservations, requested_by};
 ghost use Rattle.ent_shared.specs.Moves.{after_meeting};
 ghost use Rattle.ent_shared.specs.Phase.{IsPhase};
 ghost use Rattle.ent_shared.specs.Rule.{IsClosed, least_floor};
-ghost use Rattle.ent_shared.specs.Order.{calls_of, history_of, handles_of, Respects};
-ghost use Rattle.ent_shared.specs.Replies.{answered, listed_alone};
+ghost use Rattle.ent_shared.specs.Order.{reservations_of, history_of, handles_of, Respects};
 ghost use Rattle.ent_shared.specs.declared.refused.Refused.TheVariants.{Quota};
 
 use crate::refused::Refused;
@@ -19,7 +21,7 @@ use ent_alloc::{Entities, Reserved, Space, Span};
 use ent_handle::Handle;
 use std::marker::Model;
 
-/// An allocator that many callers reserve from at once.
+/// An allocator that many callers reserve from at once, each with a [`Reserver`] of its own.
 #[derive(Drop)]
 pub struct Shared {
     entities: Entities,
@@ -54,27 +56,30 @@ impl Shared {
 
 impl Shared {
     ghost use Rattle.ent_shared.specs.Phase.{IsOf, IsBelow, after_loss};
+    ghost use Rattle.ent_shared.specs.Replies.{Reserves, listed_alone};
 
-    /// How many reservers came with it.
+    /// How many reservers `share` made for it.
     pub fn count(&self) -> usize
         ensures { result ≡ self.now.count }
     {
         self.count
     }
 
-    /// Reserves one handle, by one atomic step.
+    /// Reserves one handle, by one atomic step. It takes no memory and waits for nobody.
+    ///
+    /// The handle is what the allocator would have given to one caller at that moment.
     ///
     /// # Errors
     ///
-    /// `Quota` where no credit is left, and then nothing has changed. `Space` where the pool is used up: the request
-    /// is taken from the credit all the same.
+    /// - [`Refused::Quota`] if no credit is left. Nothing has changed.
+    /// - [`Refused::Space`] if the pool is empty. The request is taken from the credit all the same.
     pub fn reserve(&self, reserver: &mut Reserver) -> Result<Handle, Refused>
         requires { IsOf self.now reserver.old }
         ensures stays { IsOf self.now reserver.new }
-        ensures quota { reserver.old.own.left ≡ 0 → (result ≡ Err (Quota 0)) × (reserver.new ≡ reserver.old) }
-        ensures gains { 0 < reserver.old.own.left → (high : ℤ) × (high ≤ℤ reserver.old.own.mark)
-            × (reserver.new ≡ record reserver.old { own = after_reservation reserver.old.own high 1 })
-            × (listed_alone result ≡ answered (reply_from self.now.start.made (pool_at self.now.start high) 1)) }
+        ensures quota { reserver.old.own.left ≡ 0
+            → (result ≡ Err (Quota 0)) × (reserver.new ≡ reserver.old) }
+        ensures gains { 0 < reserver.old.own.left
+            → Reserves self.now reserver.old reserver.new 1 (listed_alone result) }
     {
         let mut given = self.reserve_many(reserver, 1)?;
         let Some(handle) = given.next() else {
@@ -83,22 +88,26 @@ impl Shared {
         Ok(handle)
     }
 
-    /// Reserves `n` handles at once, by one atomic step. A request of 0 makes no step and is always served.
+    /// Reserves `n` handles at once, by one atomic step. It takes no memory and waits for nobody. A request of 0 makes no step and
+    /// is always served.
     ///
-    /// The reply is what the allocator would have said to one caller where the cursor was what the step found.
+    /// The handles are what the allocator would have given to one caller at that moment, in the order of
+    /// [`Entities::reply`]. They borrow from the allocator.
     ///
     /// # Errors
     ///
-    /// `Quota` where `n` is above the credit that is left, and then nothing has changed. `Space` where the pool
-    /// has fewer handles: the request is taken from the credit all the same, and the pool gives no more.
+    /// - [`Refused::Quota`] if `n` is above the credit that is left. Nothing has changed.
+    /// - [`Refused::Space`] if the pool has fewer than `n` handles. The request is taken from the credit all the same, and the
+    ///   pool gives no more until the next flush.
     pub fn reserve_many(&self, reserver: &mut Reserver, n: u32) -> Result<Reserved<'_>, Refused>
         requires { IsOf self.now reserver.old }
         ensures stays { IsOf self.now reserver.new }
-        ensures quota { reserver.old.own.left < n → (result ≡ Err (Quota reserver.old.own.left)) × (reserver.new ≡ reserver.old) }
+        ensures quota { reserver.old.own.left < n
+            → (result ≡ Err (Quota reserver.old.own.left)) × (reserver.new ≡ reserver.old) }
         ensures nothing { n ≡ 0 → (result ≡ Ok []) × (reserver.new ≡ reserver.old) }
-        ensures gains { 0 < n → n ≤ reserver.old.own.left → (high : ℤ) × (high ≤ℤ reserver.old.own.mark)
-            × (reserver.new ≡ record reserver.old { own = after_reservation reserver.old.own high n })
-            × (result ≡ answered (reply_from self.now.start.made (pool_at self.now.start high) n)) }
+        ensures gains { 0 < n → n ≤ reserver.old.own.left
+            → Reserves self.now reserver.old reserver.new n result }
+        ensures given { IfOk result (λ handles. length handles ≡ n) }
     {
         if u64::from(n) > reserver.left {
             return Err(Refused::Quota {
@@ -112,7 +121,7 @@ impl Shared {
             };
             return Ok(nothing);
         }
-        let span = Span::new(word::draw(&self.word, &mut reserver.badge, n), n);
+        let span = Span::new(word::reserve(&self.word, &mut reserver.badge, n), n);
         reserver.left -= u64::from(n);
         match self.entities.reply(span) {
             Ok(handles) => {
@@ -123,31 +132,44 @@ impl Shared {
         }
     }
 
-    /// Orders the two: the later calls of `a` stand behind the calls that `b` has made or met.
+    /// Orders two reservers: every later reservation by `a` comes after everything that `b` has reserved or learned of so far.
+    /// It makes two atomic steps, takes no memory and waits for nobody.
     pub fn meet(&self, a: &mut Reserver, b: &mut Reserver)
         requires first { IsOf self.now a.old }
         requires second { IsOf self.now b.old }
         ensures meets { a.new ≡ record a.old { own = after_meeting a.old.own b.old.own } }
         ensures met { b.new ≡ b.old }
+        ensures first { IsOf self.now a.new }
+        ensures second { IsOf self.now b.new }
 
-        // Every call that b had made or met has ended above what a may draw next.
+        // Every reservation that b has made or learned of ends above where a's next one may begin.
         ensures mark { IsBelow a.new.own.mark b.old.own.entries }
     {
         word::meet(&self.word, &mut a.badge, &mut b.badge);
     }
 
-    /// Ends the phase with all its reservers. The allocator is as if their calls had been made one by one, in the
-    /// order of their steps.
+    /// Ends the phase with all its reservers. The allocator is as if their reservations had been made one by one, in the order
+    /// of their atomic steps. It takes no memory.
     pub fn close(self, reservers: Vec<Reserver>) -> Entities
         requires all { length reservers.items ≡ self.count }
         requires own { All (IsOf self) reservers.items }
         ensures legal { IsLegal self.start (history_of (map (λ r. r.own) reservers.items)) }
-        ensures respects { let records = map (λ r. r.own) reservers.items in All (Respects (calls_of records)) records }
+        ensures respects { let records = map (λ r. r.own) reservers.items in
+            All (Respects (reservations_of records)) records }
         ensures after { result ≡ after_history self.start (history_of (map (λ r. r.own) reservers.items)) }
 
+        // Each reservation stands once, where its step came: the cursor falls with each.
+        ensures falls { AllPairs (λ earlier later. later.high <ℤ earlier.high)
+            (reservations_of (map (λ r. r.own) reservers.items)) }
+
+        // Each reserver has a number of its own. It is below the count.
+        ensures numbers { AllPairs (λ r s. r.number ≢ s.number) (map (λ r. r.own) reservers.items) }
+
         // No handle was given twice, and none was alive.
-        ensures distinct { AllPairs (λ g h. g ≢ h) (given_in (history_of (map (λ r. r.own) reservers.items))) }
-        ensures not_live { All (λ h. ¬ (IsLive self.start h)) (given_in (history_of (map (λ r. r.own) reservers.items))) }
+        ensures distinct { AllPairs (λ g h. g ≢ h)
+            (given_in (history_of (map (λ r. r.own) reservers.items))) }
+        ensures not_live { All (λ h. ¬ (IsLive self.start h))
+            (given_in (history_of (map (λ r. r.own) reservers.items))) }
 
         // A flush brings to life exactly what was given.
         ensures brings_to_life { let given = given_in (history_of (map (λ r. r.own) reservers.items)) in
@@ -158,21 +180,28 @@ impl Shared {
             word,
             ..
         } = self;
-        let (cursor, floor) = gather(word, i64::from(entities.top()), reservers);
+        let (cursor, floor) = end_phase(word, i64::from(entities.top()), reservers);
         entities.settle(cursor, floor);
         entities
     }
 
-    /// Ends the phase where some reservers are lost. What was asked for is known all the same, at least down to the
-    /// mark of each reserver that is there, but not who was refused: so the front of the pool counts as reserved, as
-    /// far as it goes.
+    /// Ends the phase although some reservers may be lost. The cursor tells how many handles were requested in all, but not which
+    /// of the lost reservers' requests were refused. So the front of the pool counts as reserved, as far as it goes, also those
+    /// handles that nobody got. It takes no memory.
     pub fn close_lost(self, reservers: Vec<Reserver>) -> Entities
         requires own { All (IsOf self) reservers.items }
-        ensures after { (asked : ℕ) × (asked ≤ self.count * credit)
-            × All (λ r. (cursor self.start -ℤ pos asked) ≤ℤ r.own.mark) reservers.items
-            × (result ≡ after_loss self.start asked) }
+        ensures after { result ≡ after_loss self.start result.asked }
 
-        // What the reservers that are there were given is reserved.
+        // It counts what the reservers that are here have requested, and of the others no more than their credit.
+        ensures least { sum_by (λ r. requested_by r.own) reservers.items ≤ result.asked }
+        ensures most { sum_by (λ r. r.own.left) reservers.items + result.asked ≤ self.count * credit }
+        ensures reached { All (λ r. cursor result ≤ℤ r.own.mark) reservers.items }
+
+        // If all are here, the cursor is where `close` leaves it.
+        ensures whole { length reservers.items ≡ self.count
+            → cursor result ≡ cursor (after_history self.start (history_of (map (λ r. r.own) reservers.items))) }
+
+        // What the reservers that are here were given is reserved.
         ensures given { All (λ r. All (Contains result.taken) (handles_of (own_reservations r.own.entries))) reservers.items }
     {
         let Shared {
@@ -180,24 +209,24 @@ impl Shared {
             word,
             ..
         } = self;
-        let (cursor, _) = gather(word, i64::from(entities.top()), reservers);
+        let (cursor, _) = end_phase(word, i64::from(entities.top()), reservers);
         entities.settle(cursor, cursor.max(-i64::from(entities.room())));
         entities
     }
 }
 
-/// The cursor at the end of a phase, and the least floor of the reservers that are there.
-fn gather(word: Word, top: i64, reservers: Vec<Reserver>) -> (i64, i64)
+/// The cursor at the end of a phase, and the least floor of the reservers that are here.
+fn end_phase(word: Word, top: i64, reservers: Vec<Reserver>) -> (i64, i64)
     requires word { (word.shared.table_id.words ≡ 1) × (word.shared.table_id.slots ≡ 0) }
     requires own { All (λ r. r.word ≡ word.shared.table_id) reservers.items }
     ensures cursor { IsClosed word.shared.key.entities word.shared.key.count (map (λ r. r.own) reservers.items) result.0 }
     ensures floor { result.1 ≡ least_floor top (map (λ r. r.own) reservers.items) }
 {
-    let mut all = word::enter(&word);
+    let mut all = word::new_seat(&word);
     let mut floor = top;
     for reserver in reservers {
         floor = floor.min(reserver.floor);
-        word::gather(&word, &mut all, reserver.badge);
+        word::merge(&word, &mut all, reserver.badge);
     }
     (word::close(word, all), floor)
 }

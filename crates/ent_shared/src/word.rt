@@ -7,7 +7,9 @@ ghost use Rattle.ent_shared.specs.declared.record.Record.{Record};
 ghost use Rattle.ent_shared.specs.Moves.{after_meeting};
 ghost use Rattle.ent_shared.specs.Phase.{own_of, IsPhase};
 
-use crate::rule::{Cursor, Deal, Draw, Enter, Gather, Meet, Opening, Part, SeatRecords};
+use crate::rule::{
+    Cursor, Meet, Merge, NewSeat, Opening, Reserve, SeatRecords, SplitFirst, SplitSecond,
+};
 use atomic_table::{Badge, Seat, Table};
 use std::alloc::{AllocError, Global};
 use std::mem;
@@ -17,10 +19,10 @@ const OFFSET: i64 = 1 << 62;
 
 pub(crate) type Word = Table<(), SeatRecords, Opening, Cursor, Global>;
 
-pub(crate) type Place = Seat<(), SeatRecords>;
+pub(crate) type CursorSeat = Seat<(), SeatRecords>;
 
-/// A word at the cursor of the allocator, and the seat of all its records.
-pub(crate) fn open(alloc: Global, opening: &Opening) -> Result<(Word, Place), AllocError>
+/// A word that begins at the cursor of the allocator, and a seat that has all records.
+pub(crate) fn open(alloc: Global, opening: &Opening) -> Result<(Word, CursorSeat), AllocError>
     requires start { IsStart opening.now.entities }
     requires count { opening.now.count ≤ 1024 }
     ensures word { IfOk result (λ made. IsPhase opening.now.entities opening.now.count made.0.shared.key made.0.shared.table_id) }
@@ -30,17 +32,17 @@ pub(crate) fn open(alloc: Global, opening: &Opening) -> Result<(Word, Place), Al
     Table::of_words(alloc, &[(cursor + OFFSET) as u64], opening)
 }
 
-/// A seat of its own for the first record.
-pub(crate) fn deal(word: &Word, all: &mut Place) -> Badge<SeatRecords>
+/// Takes the first record out of a seat, into a seat of its own.
+pub(crate) fn split_first(word: &Word, all: &mut CursorSeat) -> Badge<SeatRecords>
     requires word { (word.now.shared.table_id.words ≡ 1) × (all.old.table_id ≡ word.now.shared.table_id) × (all.old.me.1 ≡ []) }
     ensures kept { (all.new.table_id ≡ all.old.table_id) × (all.new.me ≡ (drop 1 all.old.me.0, [])) }
-    ensures dealt { (result.table_id ≡ all.old.table_id) × (result.views ≡ take 1 all.old.me.0 ∷ []) }
+    ensures first { (result.table_id ≡ all.old.table_id) × (result.views ≡ take 1 all.old.me.0 ∷ []) }
 {
-    word.shared.split_seat::<Deal>(all).into_badge()
+    word.shared.split_seat::<SplitFirst>(all).into_badge()
 }
 
-/// The reservation step: the word goes down by `n`, and the old cursor is answered.
-pub(crate) fn draw(word: &Word, badge: &mut Badge<SeatRecords>, n: u32) -> i64
+/// The reservation step: subtracts `n` from the word. Answers the cursor that it found.
+pub(crate) fn reserve(word: &Word, badge: &mut Badge<SeatRecords>, n: u32) -> i64
     requires word { (word.now.shared.table_id.words ≡ 1) × (badge.old.table_id ≡ word.now.shared.table_id) }
     requires alone { badge.old.views ≡ (own_of badge.old.views ∷ []) ∷ [] }
     requires some { 0 < n }
@@ -52,12 +54,12 @@ pub(crate) fn draw(word: &Word, badge: &mut Badge<SeatRecords>, n: u32) -> i64
     ensures greatest { result ≤ℤ cursor (own_of badge.old.views).start }
 {
     let mut seat = mem::replace(badge, Badge::blank()).into_seat();
-    let found = word.shared.fetch_sub::<Draw>(&mut seat, 0, n.into());
+    let found = word.shared.fetch_sub::<Reserve>(&mut seat, 0, n.into());
     *badge = seat.into_badge();
     found as i64 - OFFSET
 }
 
-/// The meeting step: the first one's record lists what the second one has made and met.
+/// The meeting step: the first reserver's record lists what the second one has made and learned of.
 pub(crate) fn meet(word: &Word, a: &mut Badge<SeatRecords>, b: &mut Badge<SeatRecords>)
     requires word { (word.now.shared.table_id.words ≡ 1) × (a.old.table_id ≡ word.now.shared.table_id) × (b.old.table_id ≡ word.now.shared.table_id) }
     requires first { a.old.views ≡ (own_of a.old.views ∷ []) ∷ [] }
@@ -69,29 +71,30 @@ pub(crate) fn meet(word: &Word, a: &mut Badge<SeatRecords>, b: &mut Badge<SeatRe
     let mut seat = mem::replace(a, Badge::blank()).into_seat();
     let other = mem::replace(b, Badge::blank()).into_seat();
     word.shared.join_seat::<Meet>(&mut seat, other);
-    *b = word.shared.split_seat::<Part>(&mut seat).into_badge();
+    *b = word.shared.split_seat::<SplitSecond>(&mut seat).into_badge();
     *a = seat.into_badge();
 }
 
-/// A seat that takes in the records of the reservers.
-pub(crate) fn enter(word: &Word) -> Place
+/// A seat without records, for those of the reservers that are handed in.
+pub(crate) fn new_seat(word: &Word) -> CursorSeat
     requires { word.now.shared.table_id.words ≡ 1 }
     ensures { (result.table_id ≡ word.now.shared.table_id) × (result.me ≡ ([], [])) }
 {
-    word.shared.load_new_seat::<Enter>(0).1
+    word.shared.load_new_seat::<NewSeat>(0).1
 }
 
-pub(crate) fn gather(word: &Word, all: &mut Place, badge: Badge<SeatRecords>)
+/// Moves a reserver's record into a seat.
+pub(crate) fn merge(word: &Word, all: &mut CursorSeat, badge: Badge<SeatRecords>)
     requires word { (word.now.shared.table_id.words ≡ 1) × (all.old.table_id ≡ word.now.shared.table_id) × (badge.table_id ≡ word.now.shared.table_id) × (all.old.me.1 ≡ []) }
     requires one { (records : List Record) × (badge.views ≡ records ∷ []) }
     ensures kept { all.new.table_id ≡ all.old.table_id }
-    ensures gathers { (all.new.me.1 ≡ []) × ((records : List Record) → badge.views ≡ records ∷ [] → all.new.me.0 ≡ all.old.me.0 ++ records) }
+    ensures merges { (all.new.me.1 ≡ []) × ((records : List Record) → badge.views ≡ records ∷ [] → all.new.me.0 ≡ all.old.me.0 ++ records) }
 {
-    word.shared.join_seat::<Gather>(all, badge.into_seat());
+    word.shared.join_seat::<Merge>(all, badge.into_seat());
 }
 
-/// The cursor at the end, where a seat knows these records.
-pub(crate) fn close(word: Word, all: Place) -> i64
+/// The cursor at the end of the phase, of which a seat knows these records.
+pub(crate) fn close(word: Word, all: CursorSeat) -> i64
     requires word { (word.shared.table_id.words ≡ 1) × (word.shared.table_id.slots ≡ 0) × (all.table_id ≡ word.shared.table_id) }
     ensures { IsClosed word.shared.key.entities word.shared.key.count all.me.0 result }
 {

@@ -3,7 +3,7 @@ use Rattle.ent_shared.specs.declared.record.Record.{Record}
 use Rattle.atomic_table.specs.Table.{Me}
 use Rattle.ent_shared.specs.Phase.{own_of}
 use Rattle.ent_shared.specs.Moves.{after_meeting, met_in}
-use Rattle.ent_shared.proofs.Steps.{meets_at, parts_at}
+use Rattle.ent_shared.proofs.Steps.{meets_at, splits_second_at}
 use Rattle.ent_shared.proofs.word.meet.Goals as goal
 
 first : (c : goal.After-seat-1) → c.into_seat-seat.result.me.0 ≡ own_of c.args.a.now.views ∷ []
@@ -47,4 +47,4 @@ both : (c : goal.After-seat-2-1) → c.join_seat.new.seat.me.0 ≡ after_meeting
 both c = ap (λ (m : Me (Unit {0}) (List Record)). m.0) c.join_seat.ensures.2 ∙ (λ i. met_in (first_is c i) (second_is c i))
 
 pub split_seat-requires : goal.split_seat-requires
-split_seat-requires c = (search rules, search rules, parts_at _ _ _ c.join_seat.new.seat.me.0 _ _ (both c))
+split_seat-requires c = (search rules, search rules, splits_second_at _ _ _ c.join_seat.new.seat.me.0 _ _ (both c))

@@ -1,6 +1,6 @@
 use Rattle.std.proofs.Common.{w64}
 use Rattle.std.proofs.lemmas.Int.{to_z-of_z}
-use Rattle.ent_shared.specs.Record.{credit}
+use Rattle.ent_alloc.specs.Limits.{credit}
 use Rattle.ent_shared.proofs.reserver.Reserver.new.Goals as goal
 
 pub invariant_of-result : goal.invariant_of-result

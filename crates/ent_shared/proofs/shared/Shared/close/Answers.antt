@@ -5,24 +5,24 @@ use Rattle.ent_alloc.specs.History.{given_in}
 use Rattle.ent_shared.specs.Order.{history_of}
 use Rattle.ent_shared.specs.Phase.{Shared}
 use Rattle.ent_shared.proofs.Closing.{ended, Ended}
-use Rattle.ent_shared.proofs.Gathering.{owns, length-owns}
+use Rattle.ent_shared.proofs.Merging.{owns, length-owns}
 use Rattle.ent_shared.proofs.shared.Shared.close.Goals as goal
 use Rattle.std.proofs.Common.{to_z, of_z, w64}
 
 -- what is known before the allocator is settled, and after it
-known : (c : goal.After-entities-2-1) → Ended c.self.inside.entities c.args.self.start (owns c.args.reservers.items) (to_z w64 (of_z w64 c.gather-cursor.result.0)) (to_z w64 (of_z w64 c.gather-cursor.result.1))
+known : (c : goal.After-entities-2-1) → Ended c.self.inside.entities c.args.self.start (owns c.args.reservers.items) (to_z w64 (of_z w64 c.end_phase-cursor.result.0)) (to_z w64 (of_z w64 c.end_phase-cursor.result.1))
 known c =
     let phase = c.self.invariant in
-    ended c.self.inside.entities c.args.self.start c.self.inside.count c.args.self.count c.self.inside.word.shared.key (owns c.args.reservers.items) c.gather-cursor.result.0 c.gather-cursor.result.1 c.from.result
+    ended c.self.inside.entities c.args.self.start c.self.inside.count c.args.self.count c.self.inside.word.shared.key (owns c.args.reservers.items) c.end_phase-cursor.result.0 c.end_phase-cursor.result.1 c.from.result
     phase.begins phase.sound phase.few phase.key_is (ap (λ (s : Shared). s.start) c.self.view_is) (ap (λ (s : Shared). s.count) c.self.view_is)
-    (length-owns c.args.reservers.items ∙ c.requires.all) c.gather-cursor.ensures.cursor (c.from.ensures ∙ ap pos c.top.ensures) c.gather-cursor.ensures.floor
+    (length-owns c.args.reservers.items ∙ c.requires.all) c.end_phase-cursor.ensures.cursor (c.from.ensures ∙ ap pos c.top.ensures) c.end_phase-cursor.ensures.floor
 
-after : (c : goal.After-settle) → Ended c.self.inside.entities c.args.self.start (owns c.args.reservers.items) (to_z w64 (of_z w64 c.gather-cursor.result.0)) (to_z w64 (of_z w64 c.gather-cursor.result.1))
+after : (c : goal.After-settle) → Ended c.self.inside.entities c.args.self.start (owns c.args.reservers.items) (to_z w64 (of_z w64 c.end_phase-cursor.result.0)) (to_z w64 (of_z w64 c.end_phase-cursor.result.1))
 after c =
     let phase = c.self.invariant in
-    ended c.self.inside.entities c.args.self.start c.self.inside.count c.args.self.count c.self.inside.word.shared.key (owns c.args.reservers.items) c.gather-cursor.result.0 c.gather-cursor.result.1 c.from.result
+    ended c.self.inside.entities c.args.self.start c.self.inside.count c.args.self.count c.self.inside.word.shared.key (owns c.args.reservers.items) c.end_phase-cursor.result.0 c.end_phase-cursor.result.1 c.from.result
     phase.begins phase.sound phase.few phase.key_is (ap (λ (s : Shared). s.start) c.self.view_is) (ap (λ (s : Shared). s.count) c.self.view_is)
-    (length-owns c.args.reservers.items ∙ c.requires.all) c.gather-cursor.ensures.cursor (c.from.ensures ∙ ap pos c.top.ensures) c.gather-cursor.ensures.floor
+    (length-owns c.args.reservers.items ∙ c.requires.all) c.end_phase-cursor.ensures.cursor (c.from.ensures ∙ ap pos c.top.ensures) c.end_phase-cursor.ensures.floor
 
 pub settle-requires-clause-least : goal.settle-requires-clause-least
 settle-requires-clause-least c = (known c).least
@@ -47,6 +47,12 @@ returns-clause-respects c = (after c).respects
 
 pub returns-clause-after : goal.returns-clause-after
 returns-clause-after c = c.settle.ensures.settled ∙ (after c).after
+
+pub returns-clause-falls : goal.returns-clause-falls
+returns-clause-falls c = (after c).all_fall
+
+pub returns-clause-numbers : goal.returns-clause-numbers
+returns-clause-numbers c = (after c).all_numbers
 
 pub returns-clause-distinct : goal.returns-clause-distinct
 returns-clause-distinct c = (after c).all_distinct

@@ -1,27 +1,29 @@
-use Rattle.std.proofs.Common.{ap, ◌∙◌, pos, ◌-ℤ◌, ◌≤ℤ◌, to_z, of_z, w64, All, Contains, subst, sym}
+use Rattle.std.proofs.Common.{◌≡◌, ℕ, ◌+◌, ◌*◌, ◌≤◌, ◌≤ℤ◌, ap, ◌∙◌, to_z, of_z, w64, All, Contains, subst, sym}
+use Rattle.std.specs.List.{sum_by}
+use Rattle.ent_alloc.specs.Limits.{credit}
 use Rattle.ent_alloc.specs.Sequential.{Allocator, cursor}
 use Rattle.ent_shared.specs.declared.record.Record.{Record}
-use Rattle.ent_shared.specs.Record.{own_reservations}
+use Rattle.ent_shared.specs.Record.{own_reservations, requested_by}
 use Rattle.ent_shared.specs.Order.{handles_of}
-use Rattle.ent_shared.specs.Phase.{Shared}
+use Rattle.ent_shared.specs.Phase.{Shared, Reserver, after_loss}
 use Rattle.ent_shared.proofs.Losing.{lost, Lost}
-use Rattle.ent_shared.proofs.Gathering.{owns, all_owners}
+use Rattle.ent_shared.proofs.Merging.{owns, length-owns, sum_owns, all_owners}
 use Rattle.ent_shared.proofs.shared.Shared.close_lost.Goals as goal
 
 -- what is known before the allocator is settled, and after it
-known : (c : goal.After-max) → Lost c.self.inside.entities c.args.self.start c.args.self.count (owns c.args.reservers.items) (to_z w64 (of_z w64 c.gather-cursor.result.0)) (to_z w64 (of_z w64 c.max.result))
+known : (c : goal.After-max) → Lost c.self.inside.entities c.args.self.start c.args.self.count (owns c.args.reservers.items) (to_z w64 (of_z w64 c.end_phase-cursor.result.0)) (to_z w64 (of_z w64 c.max.result))
 known c =
     let phase = c.self.invariant in
-    lost c.self.inside.entities c.args.self.start c.self.inside.count c.args.self.count c.room.result c.self.inside.word.shared.key (owns c.args.reservers.items) c.gather-cursor.result.0 c.max.result c.from-2.result
+    lost c.self.inside.entities c.args.self.start c.self.inside.count c.args.self.count c.room.result c.self.inside.word.shared.key (owns c.args.reservers.items) c.end_phase-cursor.result.0 c.max.result c.from-2.result
     phase.begins phase.sound phase.few phase.key_is (ap (λ (s : Shared). s.start) c.self.view_is) (ap (λ (s : Shared). s.count) c.self.view_is)
-    c.gather-cursor.ensures.cursor c.room.ensures c.room.type_inv (c.from-2.ensures) c.max.ensures.value
+    c.end_phase-cursor.ensures.cursor c.room.ensures c.room.type_inv (c.from-2.ensures) c.max.ensures.value
 
-after : (c : goal.After-settle) → Lost c.self.inside.entities c.args.self.start c.args.self.count (owns c.args.reservers.items) (to_z w64 (of_z w64 c.gather-cursor.result.0)) (to_z w64 (of_z w64 c.max.result))
+after : (c : goal.After-settle) → Lost c.self.inside.entities c.args.self.start c.args.self.count (owns c.args.reservers.items) (to_z w64 (of_z w64 c.end_phase-cursor.result.0)) (to_z w64 (of_z w64 c.max.result))
 after c =
     let phase = c.self.invariant in
-    lost c.self.inside.entities c.args.self.start c.self.inside.count c.args.self.count c.room.result c.self.inside.word.shared.key (owns c.args.reservers.items) c.gather-cursor.result.0 c.max.result c.from-2.result
+    lost c.self.inside.entities c.args.self.start c.self.inside.count c.args.self.count c.room.result c.self.inside.word.shared.key (owns c.args.reservers.items) c.end_phase-cursor.result.0 c.max.result c.from-2.result
     phase.begins phase.sound phase.few phase.key_is (ap (λ (s : Shared). s.start) c.self.view_is) (ap (λ (s : Shared). s.count) c.self.view_is)
-    c.gather-cursor.ensures.cursor c.room.ensures c.room.type_inv (c.from-2.ensures) c.max.ensures.value
+    c.end_phase-cursor.ensures.cursor c.room.ensures c.room.type_inv (c.from-2.ensures) c.max.ensures.value
 
 pub settle-requires-clause-least : goal.settle-requires-clause-least
 settle-requires-clause-least c = (known c).least
@@ -32,14 +34,40 @@ settle-requires-clause-greatest c = (known c).greatest
 pub settle-requires-clause-all_given : goal.settle-requires-clause-all_given
 settle-requires-clause-all_given c = (known c).all_given
 
+-- what is left, and how much it was asked for
+left_is : (c : goal.After-settle) → c.settle.new.self ≡ after_loss c.args.self.start (after c).asked
+left_is c = c.settle.ensures.settled ∙ (after c).after
+
 pub returns-clause-after : goal.returns-clause-after
 returns-clause-after c =
+    let asked : c.settle.new.self.asked ≡ (after c).asked = ap (λ (s : Allocator). s.asked) (left_is c) in
+    left_is c ∙ ap (after_loss c.args.self.start) (sym asked)
+
+pub returns-clause-least : goal.returns-clause-least
+returns-clause-least c =
     let l = after c in
-    let reached = all_owners (λ (r : Record). (cursor c.args.self.start -ℤ pos l.asked) ≤ℤ r.mark) c.args.reservers.items l.reached in
-    (l.asked, l.most, reached, c.settle.ensures.settled ∙ l.after)
+    let own : sum_by requested_by (owns c.args.reservers.items) ≡ sum_by (λ (r : Reserver). requested_by r.own) c.args.reservers.items = sum_owns requested_by c.args.reservers.items in
+    subst (λ (s : Allocator). sum_by (λ (r : Reserver). requested_by r.own) c.args.reservers.items ≤ s.asked) (sym (left_is c)) (subst (λ (n : ℕ). n ≤ l.asked) own l.some_asked)
+
+pub returns-clause-most : goal.returns-clause-most
+returns-clause-most c =
+    let l = after c in
+    let own : sum_by (λ (r : Record). r.left) (owns c.args.reservers.items) ≡ sum_by (λ (r : Reserver). r.own.left) c.args.reservers.items = sum_owns (λ (r : Record). r.left) c.args.reservers.items in
+    subst (λ (s : Allocator). sum_by (λ (r : Reserver). r.own.left) c.args.reservers.items + s.asked ≤ c.args.self.count * credit) (sym (left_is c))
+    (subst (λ (n : ℕ). n + l.asked ≤ c.args.self.count * credit) own l.most_asked)
+
+pub returns-clause-reached : goal.returns-clause-reached
+returns-clause-reached c =
+    let l = after c in
+    all_owners (λ (r : Record). cursor c.settle.new.self ≤ℤ r.mark) c.args.reservers.items
+    (subst (λ (s : Allocator). All (λ (r : Record). cursor s ≤ℤ r.mark) (owns c.args.reservers.items)) (sym (left_is c)) l.reached)
+
+pub returns-clause-whole : goal.returns-clause-whole
+returns-clause-whole c = λ all_here.
+    ap cursor (left_is c) ∙ (after c).whole (length-owns c.args.reservers.items ∙ all_here)
 
 pub returns-clause-given : goal.returns-clause-given
 returns-clause-given c =
     let l = after c in
     all_owners (λ (r : Record). All (Contains c.settle.new.self.taken) (handles_of (own_reservations r.entries))) c.args.reservers.items
-    (subst (λ (s : Allocator). All (λ (r : Record). All (Contains s.taken) (handles_of (own_reservations r.entries))) (owns c.args.reservers.items)) (sym (c.settle.ensures.settled ∙ l.after)) l.given)
+    (subst (λ (s : Allocator). All (λ (r : Record). All (Contains s.taken) (handles_of (own_reservations r.entries))) (owns c.args.reservers.items)) (sym (left_is c)) l.given)

@@ -1,5 +1,13 @@
-use Rattle.ent_shared.proofs.Seating.{seated_meeting}
+use Rattle.std.proofs.Common.{ap, ◌∙◌}
+use Rattle.ent_shared.specs.Moves.{after_meeting}
+use Rattle.ent_shared.specs.Phase.{Reserver, own_of}
+use Rattle.ent_shared.proofs.Seating.{seated_meeting, of_met}
 use Rattle.ent_shared.proofs.shared.Shared.meet.Goals as goal
 
 pub invariant_of-a : goal.invariant_of-a
 invariant_of-a c = seated_meeting c.a.inside.badge.views c.b.inside.badge.views c.meet.new.a.views _ _ _ _ _ _ c.a.invariant c.b.invariant c.meet.ensures.meets
+
+pub returns-clause-first : goal.returns-clause-first
+returns-clause-first c =
+    of_met c.args.self.now c.args.a.now c.args.b.now _ c.requires.first
+    (λ i. record { word = (c.meet.ensures.same.0 ∙ ap (λ (r : Reserver). r.word) c.a.view_is) i; own = (ap own_of c.meet.ensures.meets ∙ (λ j. after_meeting (c.a.view_is j).own (c.b.view_is j).own)) i })

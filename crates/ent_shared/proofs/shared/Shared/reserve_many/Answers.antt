@@ -2,11 +2,12 @@ use Rattle.std.proofs.Common.{ℕ, ◌-◌, ◌-ℤ◌, ◌≤ℤ◌, pos, sym, 
 use Rattle.std.proofs.lemmas.Int.{ints}
 use Rattle.ent_alloc.specs.declared.span.Span.{Span}
 use Rattle.ent_shared.specs.Phase.{Shared, Reserver, own_of, IsSeated}
-use Rattle.ent_shared.proofs.Seating.{seated_call}
+use Rattle.ent_shared.specs.Record.{after_reservation}
+use Rattle.ent_shared.proofs.Seating.{seated_reservation, of_reserved}
 use Rattle.ent_shared.proofs.Answering.{served_floor, refused_floor}
 use Rattle.std.proofs.Common.{◌≡◌, ap, refl, ◌∙◌, [], Ok}
 use Rattle.ent_alloc.specs.Sequential.{Allocator, pool_at, top, cursor}
-use Rattle.ent_shared.proofs.Answering.{reply-none, no_space, low_of}
+use Rattle.ent_shared.proofs.Answering.{reply-none, no_space, low_of, length_served}
 use Rattle.ent_shared.proofs.shared.Shared.reserve_many.Goals as goal
 
 pub unreachable-requires : goal.unreachable-requires
@@ -22,35 +23,55 @@ returns-then-n-eq0-clause-nothing c = λ n.
 
 pub reply-requires-2 : goal.reply-requires-2
 reply-requires-2 c =
-    let fits = c.draw.type_inv in
-    let least = c.draw.ensures.least in
-    let start : (own_of c.reserver.inside.badge.views).start ≡ c.self.inside.entities = ap (λ (r : Reserver). r.own.start) c.reserver.view_is ∙ (c.requires.1 ∙ sym (ap (λ (s : Shared). s.start) c.self.view_is)) in
-    let below : c.draw.result ≤ℤ cursor c.self.inside.entities = subst (λ (s : Allocator). c.draw.result ≤ℤ cursor s) start c.draw.ensures.greatest in
-    let passed : to_z w64 (of_z w64 c.draw.result) ≤ℤ pos (top c.self.inside.entities) = omega (arith, ints) in
+    let fits = c.reserve.type_inv in
+    let least = c.reserve.ensures.least in
+    let start : (own_of c.reserver.inside.badge.views).start ≡ c.self.inside.entities = ap (λ (r : Reserver). r.own.start) c.reserver.view_is ∙ (c.requires.start ∙ sym (ap (λ (s : Shared). s.start) c.self.view_is)) in
+    let below : c.reserve.result ≤ℤ cursor c.self.inside.entities = subst (λ (s : Allocator). c.reserve.result ≤ℤ cursor s) start c.reserve.ensures.greatest in
+    let passed : to_z w64 (of_z w64 c.reserve.result) ≤ℤ pos (top c.self.inside.entities) = omega (arith, ints) in
     c.new-span.ensures.valid c.self.inside.entities passed
 
 pub invariant_of-reserver : goal.invariant_of-reserver
 invariant_of-reserver c =
-    let fits = c.draw.type_inv in
-    let least = c.draw.ensures.least in
+    let fits = c.reserve.type_inv in
+    let least = c.reserve.ensures.least in
     let few = c.ranges.n in
-    let word : to_z w64 (of_z w64 c.draw.result) ≡ c.draw.result = omega (arith, ints) in
-    let span : c.new-span.result ≡ record { high = c.draw.result; low = c.draw.result -ℤ pos c.args.n } = c.new-span.ensures.value ∙ (λ i. record { high = word i; low = word i -ℤ pos c.args.n }) in
-    let low : c.new-span.result.low ≡ c.draw.result -ℤ pos c.args.n = ap (λ (s : Span). s.low) span in
+    let word : to_z w64 (of_z w64 c.reserve.result) ≡ c.reserve.result = omega (arith, ints) in
+    let span : c.new-span.result ≡ record { high = c.reserve.result; low = c.reserve.result -ℤ pos c.args.n } = c.new-span.ensures.value ∙ (λ i. record { high = word i; low = word i -ℤ pos c.args.n }) in
+    let low : c.new-span.result.low ≡ c.reserve.result -ℤ pos c.args.n = ap (λ (s : Span). s.low) span in
     let low_word : to_z w64 (of_z w64 c.new-span.result.low) ≡ c.new-span.result.low = omega (arith, ints) in
-    let start : (own_of c.reserver.inside.badge.views).start ≡ c.self.inside.entities = ap (λ (r : Reserver). r.own.start) c.reserver.view_is ∙ (c.requires.1 ∙ sym (ap (λ (s : Shared). s.start) c.self.view_is)) in
-    subst (λ (k : ℕ). IsSeated c.draw.new.badge.views c.reserver.inside.number (c.reserver.inside.left - k) (to_z w64 (of_z w64 c.new-span.result.low))) (sym c.from-2.ensures)
-    (seated_call c.reserver.inside.badge.views c.draw.new.badge.views c.reserver.inside.number c.reserver.inside.left c.args.n c.reserver.inside.floor c.draw.result (to_z w64 (of_z w64 c.new-span.result.low))
-    c.reserver.invariant c.draw.ensures.gains c.draw.ensures.mark
-    (low_word ∙ served_floor (own_of c.reserver.inside.badge.views) c.self.inside.entities c.draw.result c.args.n c.new-span.result _ c.reply-2.result start span c.reply-2.ensures c.in-Ok-reply.is))
+    let start : (own_of c.reserver.inside.badge.views).start ≡ c.self.inside.entities = ap (λ (r : Reserver). r.own.start) c.reserver.view_is ∙ (c.requires.start ∙ sym (ap (λ (s : Shared). s.start) c.self.view_is)) in
+    subst (λ (k : ℕ). IsSeated c.reserve.new.badge.views c.reserver.inside.number (c.reserver.inside.left - k) (to_z w64 (of_z w64 c.new-span.result.low))) (sym c.from-2.ensures)
+    (seated_reservation c.reserver.inside.badge.views c.reserve.new.badge.views c.reserver.inside.number c.reserver.inside.left c.args.n c.reserver.inside.floor c.reserve.result (to_z w64 (of_z w64 c.new-span.result.low))
+    c.reserver.invariant c.reserve.ensures.gains c.reserve.ensures.mark (omega arith)
+    (low_word ∙ served_floor (own_of c.reserver.inside.badge.views) c.self.inside.entities c.reserve.result c.args.n c.new-span.result _ c.reply-2.result start span c.reply-2.ensures c.in-Ok-reply.is))
 
 pub invariant_of-reserver-in-Err : goal.invariant_of-reserver-in-Err
 invariant_of-reserver-in-Err c =
-    let fits = c.draw.type_inv in
-    let word : to_z w64 (of_z w64 c.draw.result) ≡ c.draw.result = omega (arith, ints) in
-    let span : c.new-span.result ≡ record { high = c.draw.result; low = c.draw.result -ℤ pos c.args.n } = c.new-span.ensures.value ∙ (λ i. record { high = word i; low = word i -ℤ pos c.args.n }) in
-    let start : (own_of c.reserver.inside.badge.views).start ≡ c.self.inside.entities = ap (λ (r : Reserver). r.own.start) c.reserver.view_is ∙ (c.requires.1 ∙ sym (ap (λ (s : Shared). s.start) c.self.view_is)) in
-    subst (λ (k : ℕ). IsSeated c.draw.new.badge.views c.reserver.inside.number (c.reserver.inside.left - k) c.reserver.inside.floor) (sym c.from-2.ensures)
-    (seated_call c.reserver.inside.badge.views c.draw.new.badge.views c.reserver.inside.number c.reserver.inside.left c.args.n c.reserver.inside.floor c.draw.result c.reserver.inside.floor
-    c.reserver.invariant c.draw.ensures.gains c.draw.ensures.mark
-    (c.reserver.invariant.floor_is ∙ refused_floor (own_of c.reserver.inside.badge.views) c.self.inside.entities c.draw.result c.args.n c.new-span.result _ c.reply-2.result start span c.reply-2.ensures c.in-Err.is))
+    let fits = c.reserve.type_inv in
+    let word : to_z w64 (of_z w64 c.reserve.result) ≡ c.reserve.result = omega (arith, ints) in
+    let span : c.new-span.result ≡ record { high = c.reserve.result; low = c.reserve.result -ℤ pos c.args.n } = c.new-span.ensures.value ∙ (λ i. record { high = word i; low = word i -ℤ pos c.args.n }) in
+    let start : (own_of c.reserver.inside.badge.views).start ≡ c.self.inside.entities = ap (λ (r : Reserver). r.own.start) c.reserver.view_is ∙ (c.requires.start ∙ sym (ap (λ (s : Shared). s.start) c.self.view_is)) in
+    subst (λ (k : ℕ). IsSeated c.reserve.new.badge.views c.reserver.inside.number (c.reserver.inside.left - k) c.reserver.inside.floor) (sym c.from-2.ensures)
+    (seated_reservation c.reserver.inside.badge.views c.reserve.new.badge.views c.reserver.inside.number c.reserver.inside.left c.args.n c.reserver.inside.floor c.reserve.result c.reserver.inside.floor
+    c.reserver.invariant c.reserve.ensures.gains c.reserve.ensures.mark (omega arith)
+    (c.reserver.invariant.floor_is ∙ refused_floor (own_of c.reserver.inside.badge.views) c.self.inside.entities c.reserve.result c.args.n c.new-span.result _ c.reply-2.result start span c.reply-2.ensures c.in-Err.is))
+
+pub returns-then-n-eq0-clause-given : goal.returns-then-n-eq0-clause-given
+returns-then-n-eq0-clause-given c =
+    length_served c.self.inside.entities.made (pool_at c.self.inside.entities c.new.result.high) c.in-Ok.nothing 0 (sym (c.reply.ensures 0 (low_of c.new.result _ 0 c.new.ensures.value)) ∙ c.in-Ok.is) ∙ sym c.if-n-eq0.true
+
+pub returns-in-Ok-reply-clause-stays : goal.returns-in-Ok-reply-clause-stays
+returns-in-Ok-reply-clause-stays c =
+    let left : c.reserver.inside.left ≡ c.args.reserver.now.own.left = c.reserver.invariant.left_is ∙ ap (λ (r : Reserver). r.own.left) c.reserver.view_is in
+    of_reserved c.args.self.now c.args.reserver.now _ c.reserve.result c.args.n c.requires (omega arith)
+    (λ i. record { word = (c.reserve.ensures.same ∙ ap (λ (r : Reserver). r.word) c.reserver.view_is) i; own = (ap own_of c.reserve.ensures.gains ∙ ap (λ (r : Reserver). after_reservation r.own c.reserve.result c.args.n) c.reserver.view_is) i })
+
+pub returns-in-Ok-reply-clause-given : goal.returns-in-Ok-reply-clause-given
+returns-in-Ok-reply-clause-given c =
+    length_served _ _ c.in-Ok-reply.handles c.args.n (sym (c.reply-2.ensures c.args.n (low_of c.new-span.result _ c.args.n c.new-span.ensures.value)) ∙ c.in-Ok-reply.is)
+
+pub returns-in-Err-clause-stays : goal.returns-in-Err-clause-stays
+returns-in-Err-clause-stays c =
+    let left : c.reserver.inside.left ≡ c.args.reserver.now.own.left = c.reserver.invariant.left_is ∙ ap (λ (r : Reserver). r.own.left) c.reserver.view_is in
+    of_reserved c.args.self.now c.args.reserver.now _ c.reserve.result c.args.n c.requires (omega arith)
+    (λ i. record { word = (c.reserve.ensures.same ∙ ap (λ (r : Reserver). r.word) c.reserver.view_is) i; own = (ap own_of c.reserve.ensures.gains ∙ ap (λ (r : Reserver). after_reservation r.own c.reserve.result c.args.n) c.reserver.view_is) i })

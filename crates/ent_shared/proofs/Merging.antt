@@ -1,8 +1,9 @@
 -- The reservers that are handed in, as they are taken in one by one.
-use Rattle.std.proofs.Common.{◌≡◌, ℤ, List, [], ◌∷◌, ◌++◌, map, refl, sym, ap, subst, ◌∙◌, append_assoc, append-nil, length, arith, suc}
-use Rattle.std.specs.List.{All}
+use Rattle.std.proofs.Common.{◌≡◌, ℕ, ◌+◌, ℤ, List, [], ◌∷◌, ◌++◌, map, refl, sym, ap, subst, ◌∙◌, append_assoc, append-nil, length, arith, suc}
+use Rattle.std.specs.List.{All, sum_by}
 use Rattle.std.specs.Int.{int_min}
 use Rattle.std.proofs.lemmas.List.Elements.{All-head, All-tail, All-nil, All-cons}
+use Rattle.std.proofs.lemmas.List.Sums.{sum_by-cons}
 use Rattle.ent_shared.specs.declared.record.Record.{Record}
 use Rattle.ent_shared.specs.Phase.{Reserver}
 use Rattle.ent_shared.specs.Rule.{least_floor}
@@ -30,6 +31,10 @@ nothing_left (r ∷ rs) e = absurd (omega arith)
 pub length-owns : (rs : List Reserver) → length (owns rs) ≡ length rs
 length-owns [] = refl
 length-owns (r ∷ rs) = ap suc (length-owns rs)
+
+pub sum_owns : (f : Record → ℕ) (rs : List Reserver) → sum_by f (owns rs) ≡ sum_by (λ (r : Reserver). f r.own) rs
+sum_owns f [] = refl
+sum_owns f (r ∷ rs) = sum_by-cons f r.own (owns rs) ∙ (ap (λ (n : ℕ). f r.own + n) (sum_owns f rs) ∙ sym (sum_by-cons (λ (x : Reserver). f x.own) r rs))
 
 owns-more : (rs : List Reserver) (r : Reserver) → owns (rs ++ r ∷ []) ≡ owns rs ++ r.own ∷ []
 owns-more [] r = refl

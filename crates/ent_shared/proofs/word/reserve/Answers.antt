@@ -1,9 +1,9 @@
 use Rattle.std.proofs.Common.{rules, ◌≡◌, List, [], ◌∷◌, ap, subst, ◌∙◌}
 use Rattle.ent_shared.specs.declared.record.Record.{Record}
 use Rattle.ent_shared.specs.Phase.{own_of}
-use Rattle.ent_shared.specs.Rule.{Drawn}
-use Rattle.ent_shared.proofs.Steps.{draws_at, word_fits, cursor_fits, cursor_is, least_cursor}
-use Rattle.ent_shared.proofs.word.draw.Goals as goal
+use Rattle.ent_shared.specs.Rule.{AfterReserve}
+use Rattle.ent_shared.proofs.Steps.{reserves_at, word_fits, cursor_fits, cursor_is, least_cursor}
+use Rattle.ent_shared.proofs.word.reserve.Goals as goal
 
 -- the seat has the badge's record alone
 seat : (c : goal.After-into) → c.into_seat-seat.result.me.0 ≡ own_of c.args.badge.now.views ∷ []
@@ -17,27 +17,27 @@ pub fetch_sub-found-requires : goal.fetch_sub-found-requires
 fetch_sub-found-requires c = (
   search rules,
   search rules,
-  draws_at _ _ _ _ c.into_seat-seat.result.me (own_of c.args.badge.now.views) c.args.n c.into.result (seat c) c.into_seat-seat.ensures.3 c.into.ensures c.requires.some c.requires.credit,
+  reserves_at _ _ _ _ c.into_seat-seat.result.me (own_of c.args.badge.now.views) c.args.n c.into.result (seat c) c.into_seat-seat.ensures.3 c.into.ensures c.requires.some c.requires.credit,
 )
 
 -- what the step tells
-drawn : (c : goal.After-drop-badge) → Drawn c.args.n (own_of c.args.badge.now.views) c.fetch_sub-found.result c.fetch_sub-found.new.seat.me.0
-drawn c =
+told : (c : goal.After-drop-badge) → AfterReserve c.args.n (own_of c.args.badge.now.views) c.fetch_sub-found.result c.fetch_sub-found.new.seat.me.0
+told c =
     let e = c.into_seat-seat.ensures.2 in
     let same = c.replace.ensures.value in
     let alone = c.requires.alone in
     let n = c.into.ensures in
-    subst (λ k. Drawn k (own_of c.args.badge.now.views) c.fetch_sub-found.result c.fetch_sub-found.new.seat.me.0) n (c.fetch_sub-found.ensures.2.1 (own_of c.args.badge.now.views) cc)
+    subst (λ k. AfterReserve k (own_of c.args.badge.now.views) c.fetch_sub-found.result c.fetch_sub-found.new.seat.me.0) n (c.fetch_sub-found.ensures.2.1 (own_of c.args.badge.now.views) cc)
 
 pub overflow_cast-result : goal.overflow_cast-result
-overflow_cast-result c = word_fits c.fetch_sub-found.result (drawn c).greatest
+overflow_cast-result c = word_fits c.fetch_sub-found.result (told c).greatest
 
 pub overflow_sub-result : goal.overflow_sub-result
-overflow_sub-result c = cursor_fits c.fetch_sub-found.result (drawn c).least (drawn c).greatest
+overflow_sub-result c = cursor_fits c.fetch_sub-found.result (told c).least (told c).greatest
 
 pub returns-clause-gains : goal.returns-clause-gains
 returns-clause-gains c =
-    let d = drawn c in
+    let d = told c in
     let is = cursor_is c.fetch_sub-found.result d.least d.greatest in
     let after = d.after in
     let views = c.into_badge.ensures.2 in
@@ -45,19 +45,19 @@ returns-clause-gains c =
 
 pub returns-clause-mark : goal.returns-clause-mark
 returns-clause-mark c =
-    let d = drawn c in
+    let d = told c in
     let is = cursor_is c.fetch_sub-found.result d.least d.greatest in
     rw is d.mark
 
 pub returns-clause-least : goal.returns-clause-least
 returns-clause-least c =
-    let d = drawn c in
+    let d = told c in
     let is = cursor_is c.fetch_sub-found.result d.least d.greatest in
     let least = d.least in
     rw is (least_cursor c.fetch_sub-found.result least)
 
 pub returns-clause-greatest : goal.returns-clause-greatest
 returns-clause-greatest c =
-    let d = drawn c in
+    let d = told c in
     let is = cursor_is c.fetch_sub-found.result d.least d.greatest in
     rw is d.top

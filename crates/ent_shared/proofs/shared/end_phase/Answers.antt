@@ -3,11 +3,11 @@ use Rattle.std.proofs.lemmas.Int.{ints, to_z-of_z}
 use Rattle.ent_shared.specs.declared.record.Record.{Record}
 use Rattle.ent_shared.specs.Phase.{Reserver, own_of}
 use Rattle.ent_shared.specs.Rule.{IsClosed, least_floor}
-use Rattle.ent_shared.proofs.Gathering.{item_is, items_on, items_all, records_on, floor_on, owns, nothing_left}
-use Rattle.ent_shared.proofs.shared.gather.Goals as goal
+use Rattle.ent_shared.proofs.Merging.{item_is, items_on, items_all, records_on, floor_on, owns, nothing_left}
+use Rattle.ent_shared.proofs.shared.end_phase.Goals as goal
 
-pub gather-requires-clause-word : goal.gather-requires-clause-word
-gather-requires-clause-word c =
+pub merge-requires-clause-word : goal.merge-requires-clause-word
+merge-requires-clause-word c =
     let i = c.loop-reserver.invariant in
     let own = item_is (λ (r : Reserver). r.word ≡ c.args.word.shared.table_id) c.args.reservers.items c.loop-reserver.yielded c.loop-reserver.reserver-iterator.rest.items c.next.new.self.rest.items c.in-Some.reserver i.all c.in-Some.ensures.steps.0 c.requires.own in
     (c.requires.word.0, i.seat, ap (λ (r : Reserver). r.word) c.reserver.view_is ∙ own, i.bare)
@@ -18,11 +18,11 @@ loop-reserver-preserved c =
     let view = c.reserver.invariant in
     record {
       all = items_on c.args.reservers.items c.loop-reserver.yielded c.loop-reserver.reserver-iterator.rest.items c.next.new.self.rest.items c.in-Some.reserver i.all c.in-Some.ensures.steps.0;
-      seat = c.gather.ensures.kept ∙ i.seat;
-      bare = c.gather.ensures.gathers.0;
+      seat = c.merge.ensures.kept ∙ i.seat;
+      bare = c.merge.ensures.merges.0;
       records =
-          records_on c.loop-reserver.all.me.0 c.gather.new.all.me.0 c.loop-reserver.yielded c.in-Some.reserver (own_of c.reserver.inside.badge.views ∷ []) i.records
-          (c.gather.ensures.gathers.1 (own_of c.reserver.inside.badge.views ∷ []) view.views_is) (ap (λ (r : Reserver). r.own ∷ []) c.reserver.view_is);
+          records_on c.loop-reserver.all.me.0 c.merge.new.all.me.0 c.loop-reserver.yielded c.in-Some.reserver (own_of c.reserver.inside.badge.views ∷ []) i.records
+          (c.merge.ensures.merges.1 (own_of c.reserver.inside.badge.views ∷ []) view.views_is) (ap (λ (r : Reserver). r.own ∷ []) c.reserver.view_is);
       floor =
           let fits = c.min-floor.type_inv in
           let ranges = c.reserver.ranges in

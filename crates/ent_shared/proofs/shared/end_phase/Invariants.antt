@@ -1,7 +1,7 @@
 use Rattle.std.proofs.Common.{◌≡◌, [], ◌++◌, map}
 use Rattle.ent_shared.specs.Phase.{Reserver}
 use Rattle.ent_shared.specs.Rule.{least_floor}
-use Rattle.ent_shared.proofs.shared.gather.Given as goal
+use Rattle.ent_shared.proofs.shared.end_phase.Given as goal
 
 abbrev pub invariant-loop-reserver : goal.invariant-loop-reserver
 invariant-loop-reserver l = record {

@@ -1,5 +1,5 @@
--- The reservers of a phase, as they are dealt one by one.
-use Rattle.std.proofs.Common.{◌≡◌, ℕ, zero, suc, ◌+◌, ◌-◌, ◌<◌, ℤ, ◌≤ℤ◌, List, [], ◌∷◌, ◌++◌, map, take, drop, refl, sym, ap, subst, ◌∙◌, arith}
+-- The reservers of a phase, as they are made one by one.
+use Rattle.std.proofs.Common.{◌≡◌, ℕ, zero, suc, ◌+◌, ◌-◌, ◌<◌, ◌≤◌, ℤ, ◌≤ℤ◌, List, [], ◌∷◌, ◌++◌, map, take, drop, refl, sym, ap, subst, ◌∙◌, arith}
 use Rattle.std.specs.List.{All}
 use Rattle.std.proofs.lemmas.List.Elements.{All-nil, All-cons}
 use Rattle.atomic_table.specs.Seated.{TableId}
@@ -7,14 +7,15 @@ use Rattle.atomic_table.specs.Table.{Me}
 use Rattle.ent_alloc.specs.Sequential.{Allocator, cursor}
 use Rattle.ent_shared.specs.declared.record.Record.{Record}
 use Rattle.ent_shared.specs.declared.record.Reservation.{Reservation}
-use Rattle.ent_shared.specs.Record.{low, opened, opened_records, credit}
+use Rattle.ent_alloc.specs.Limits.{credit}
+use Rattle.ent_shared.specs.Record.{low, opened, opened_records}
 use Rattle.ent_shared.specs.Phase.{Shared, Reserver, IsOf, own_of, IsSeated}
 
 abbrev pub seated : TableId → Record → Reserver
 seated word r = record { word = word; own = r }
 
 -- the first reservers are made, and the seat has the other records
-pub record IsDealt (start : Allocator) (n number : ℕ) (word : TableId) (made : List Reserver) (seat : TableId) (me : Me (Unit {0}) (List Record)) : Type 0 where
+pub record AreShared (start : Allocator) (n number : ℕ) (word : TableId) (made : List Reserver) (seat : TableId) (me : Me (Unit {0}) (List Record)) : Type 0 where
   pub seat_is : seat ≡ word
   pub left : me ≡ (opened_records start number (n - number), [])
   pub made_is : made ≡ map (seated word) (opened_records start 0 number)
@@ -32,26 +33,26 @@ opened-last start from (suc many) =
     let same : (from + 1) + many ≡ from + suc many = omega arith in
     ap (λ rs. opened start from ∷ rs) (opened-last start (from + 1) many ∙ ap (λ (k : ℕ). opened_records start (from + 1) many ++ opened start k ∷ []) same)
 
-pub none_dealt : (start : Allocator) (n : ℕ) (word seat : TableId) (made : List Reserver) (me : Me (Unit {0}) (List Record)) → made ≡ [] → seat ≡ word → me ≡ (opened_records start 0 n, []) → IsDealt start n 0 word made seat me
+pub none_shared : (start : Allocator) (n : ℕ) (word seat : TableId) (made : List Reserver) (me : Me (Unit {0}) (List Record)) → made ≡ [] → seat ≡ word → me ≡ (opened_records start 0 n, []) → AreShared start n 0 word made seat me
 unfolding opened_records
-none_dealt start n word seat made me bare same left = record { seat_is = same; left = left ∙ ap (λ (k : ℕ). (opened_records start 0 k, [])) (omega arith); made_is = bare }
+none_shared start n word seat made me bare same left = record { seat_is = same; left = left ∙ ap (λ (k : ℕ). (opened_records start 0 k, [])) (omega arith); made_is = bare }
 
 map-snoc : (word : TableId) (rs : List Record) (r : Record) → map (seated word) (rs ++ r ∷ []) ≡ map (seated word) rs ++ seated word r ∷ []
 map-snoc word [] r = refl
 map-snoc word (x ∷ rs) r = ap (λ ys. seated word x ∷ ys) (map-snoc word rs r)
 
-module _ (start : Allocator) (n number : ℕ) (word seat : TableId) (made : List Reserver) (me : Me (Unit {0}) (List Record)) (below : number < n) (d : IsDealt start n number word made seat me) where
+module _ (start : Allocator) (n number : ℕ) (word seat : TableId) (made : List Reserver) (me : Me (Unit {0}) (List Record)) (below : number < n) (d : AreShared start n number word made seat me) where
   pub next_is : me.0 ≡ opened start number ∷ opened_records start (number + 1) (n - (number + 1))
   next_is = ap (λ (m : Me (Unit {0}) (List Record)). m.0) d.left ∙ opened-first start number n below
 
   pub next_seated : (views : List (List Record)) (floor : ℤ) → views ≡ take 1 me.0 ∷ [] → floor ≡ cursor start → IsSeated views number credit floor
   next_seated views floor is at =
       let one : views ≡ (opened start number ∷ []) ∷ [] = is ∙ ap (λ (rs : List Record). take 1 rs ∷ []) next_is in
-      subst (λ vs. IsSeated vs number credit floor) (sym one) (record { views_is = refl; number_is = refl; left_is = refl; floor_is = at; below = All-nil (λ (c : Reservation). cursor start ≤ℤ low c) })
+      subst (λ vs. IsSeated vs number credit floor) (sym one) (record { views_is = refl; number_is = refl; left_is = refl; floor_is = at; below = All-nil (λ (c : Reservation). cursor start ≤ℤ low c); credit = omega arith })
 
-  pub dealt_more : (later : TableId) (after : Me (Unit {0}) (List Record)) (r : Reserver) → later ≡ seat → after ≡ (drop 1 me.0, []) → (views : List (List Record)) → views ≡ take 1 me.0 ∷ []
-      → r ≡ record { word = seat; own = own_of views } → (now : List Reserver) → now ≡ made ++ r ∷ [] → IsDealt start n (number + 1) word now later after
-  dealt_more later after r same left views is r_is now now_is =
+  pub shared_more : (later : TableId) (after : Me (Unit {0}) (List Record)) (r : Reserver) → later ≡ seat → after ≡ (drop 1 me.0, []) → (views : List (List Record)) → views ≡ take 1 me.0 ∷ []
+      → r ≡ record { word = seat; own = own_of views } → (now : List Reserver) → now ≡ made ++ r ∷ [] → AreShared start n (number + 1) word now later after
+  shared_more later after r same left views is r_is now now_is =
       let one : views ≡ (opened start number ∷ []) ∷ [] = is ∙ ap (λ (rs : List Record). take 1 rs ∷ []) next_is in
       let r_seated : r ≡ seated word (opened start number) = r_is ∙ (λ i. record { word = d.seat_is i; own = own_of (one i) }) in
       record {
@@ -69,16 +70,16 @@ own_again word [] = refl
 own_again word (r ∷ rs) = ap (λ xs. r ∷ xs) (own_again word rs)
 
 -- all are made
-pub all_dealt : (start : Allocator) (n : ℕ) (word seat : TableId) (made : List Reserver) (me : Me (Unit {0}) (List Record)) → IsDealt start n n word made seat me → map (λ (r : Reserver). r.own) made ≡ opened_records start 0 n
-all_dealt start n word seat made me d = ap (map (λ (r : Reserver). r.own)) d.made_is ∙ own_again word (opened_records start 0 n)
+pub all_shared : (start : Allocator) (n : ℕ) (word seat : TableId) (made : List Reserver) (me : Me (Unit {0}) (List Record)) → AreShared start n n word made seat me → map (λ (r : Reserver). r.own) made ≡ opened_records start 0 n
+all_shared start n word seat made me d = ap (map (λ (r : Reserver). r.own)) d.made_is ∙ own_again word (opened_records start 0 n)
 
-all_of : (start : Allocator) (count : ℕ) (word : TableId) (number many : ℕ) → All (IsOf (record { word = word; start = start; count = count })) (map (seated word) (opened_records start number many))
+all_of : (start : Allocator) (count : ℕ) (word : TableId) (number many : ℕ) → number + many ≤ count → All (IsOf (record { word = word; start = start; count = count })) (map (seated word) (opened_records start number many))
 unfolding opened_records
-all_of start count word number zero = All-nil (IsOf (record { word = word; start = start; count = count }))
-all_of start count word number (suc many) =
-    All-cons (IsOf (record { word = word; start = start; count = count })) (seated word (opened start number)) (map (seated word) (opened_records start (number + 1) many)) (refl, refl) (all_of start count word (number + 1) many)
+all_of start count word number zero within = All-nil (IsOf (record { word = word; start = start; count = count }))
+all_of start count word number (suc many) within =
+    All-cons (IsOf (record { word = word; start = start; count = count })) (seated word (opened start number)) (map (seated word) (opened_records start (number + 1) many)) (record { word = refl; start = refl; number = omega arith; credit = omega arith }) (all_of start count word (number + 1) many (omega arith))
 
-pub all_own : (start : Allocator) (n : ℕ) (word seat : TableId) (made : List Reserver) (me : Me (Unit {0}) (List Record)) → IsDealt start n n word made seat me
+pub all_own : (start : Allocator) (n : ℕ) (word seat : TableId) (made : List Reserver) (me : Me (Unit {0}) (List Record)) → AreShared start n n word made seat me
     → (shared : Shared) → shared ≡ record { word = word; start = start; count = n } → All (IsOf shared) made
 all_own start n word seat made me d shared is =
-    subst (λ (p : Shared × List Reserver). All (IsOf p.0) p.1) (λ i. (sym is i, sym d.made_is i)) (all_of start n word 0 n)
+    subst (λ (p : Shared × List Reserver). All (IsOf p.0) p.1) (λ i. (sym is i, sym d.made_is i)) (all_of start n word 0 n (omega arith))
