@@ -9,7 +9,7 @@ use Rattle.ent_handle.specs.Handle.{Handle}
 use Rattle.ent_alloc.specs.declared.space.Space.{Space}
 use Rattle.ent_alloc.specs.declared.span.Span.{Span}
 use Rattle.ent_shared.specs.declared.record.Record.{Record}
-use Rattle.ent_shared.specs.Record.{after_reservation}
+use Rattle.ent_shared.specs.Record.{reservation_at, after_reservation}
 use Rattle.ent_alloc.specs.Sequential.{Allocator, pool_at, reply_from, listed}
 
 pub reply-none : (made : ℕ) (pool : List Handle) → reply_from made pool 0 ≡ Ok []
@@ -42,6 +42,13 @@ length_served made pool handles n is =
     let served : reply_from made pool n ≡ Ok (listed made (take n pool)) = ap (λ (b : Bool). cond {A = Result (List Handle) Space} b (Ok (listed made (take n pool))) (Err space)) test in
     let same : handles ≡ listed made (take n pool) = cc in
     ap length same ∙ (length_permutation (take n pool) (listed made (take n pool)) (listed-IsPermutation made (take n pool)) ∙ length-take-le n pool enough)
+
+-- the reply that is recorded is the allocator's
+pub recorded_reply : (r : Record) (start : Allocator) (high : ℤ) (n : ℕ) (span : Span) (reply : Result (List Handle) Space) → r.start ≡ start → span ≡ record { high = high; low = high -ℤ pos n }
+    → ((k : ℕ) → span.low ≡ span.high -ℤ pos k → reply ≡ reply_from start.made (pool_at start span.high) k) → (reservation_at r high n).reply ≡ reply
+recorded_reply r start high n span reply same is answers =
+    let at : span.high ≡ high = ap (λ (s : Span). s.high) is in
+    (λ i. reply_from (same i).made (pool_at (same i) (sym at i)) n) ∙ sym (answers n (low_of span high n is))
 
 -- of a list of one the first is all
 pub only_one : (given rest : List Handle) (h : Handle) → length given ≡ 1 → given ≡ h ∷ rest → given ≡ h ∷ []

@@ -31,7 +31,7 @@ use Rattle.ent_shared.proofs.Sorting.{FallsStrictly, follow_falls}
 use Rattle.ent_shared.proofs.Histories.{reservations_are, respects_all, numbers_differ}
 use Rattle.ent_shared.proofs.Settling.{IsLater, legal_from, min_right, floor_below, taken_floor, floor_sorted, floor_of_all}
 
-sum_requests : (cs : List Reservation) → sum (history.requests_of (map as_call cs)) ≡ sum_by requested cs
+pub sum_requests : (cs : List Reservation) → sum (history.requests_of (map as_call cs)) ≡ sum_by requested cs
 sum_requests [] = refl
 sum_requests (c ∷ cs) =
     let rest = sum_requests cs in

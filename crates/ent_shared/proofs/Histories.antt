@@ -20,7 +20,7 @@ use Rattle.ent_shared.specs.Order.{own_of_all, reservations_of, reservations_by,
 use Rattle.ent_shared.proofs.Records.{all_front, all_back, all_own}
 use Rattle.ent_shared.proofs.Sorting.{contains_cases, Falls, FallsStrictly, WeighSame, all_sorted, sum_sorted, falls_sorted, same_fall, follow_falls, follow_requests}
 
-sum_flat : (f : Reservation → ℕ) (records : List Record) → sum_by f (own_of_all records) ≡ weigh f records
+pub sum_flat : (f : Reservation → ℕ) (records : List Record) → sum_by f (own_of_all records) ≡ weigh f records
 sum_flat f [] = refl
 sum_flat f (r ∷ records) =
     let g : Record → ℕ = λ (x : Record). sum_by f (own_reservations x.entries) in

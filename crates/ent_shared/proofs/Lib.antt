@@ -10,3 +10,4 @@ pub mod Merging
 pub mod Closing
 pub mod Losing
 pub mod Seating
+pub mod Laws

@@ -1,9 +1,19 @@
 -- A reserver after a reservation and after a meeting: its fields say what its record says, and it stays of its allocator.
-use Rattle.std.proofs.Common.{◌≡◌, ℕ, ◌-◌, ◌≤◌, ℤ, ◌≤ℤ◌, List, [], ◌∷◌, refl, sym, ap, subst}
+use Rattle.std.proofs.Common.{◌≡◌, ℕ, ◌-◌, ◌≤◌, ℤ, pos, ◌-ℤ◌, ◌≤ℤ◌, List, [], ◌∷◌, ◌++◌, refl, sym, ap, subst, ◌∙◌}
+use Rattle.std.specs.Prelude.{Result}
+use Rattle.atomic_table.specs.Seated.{TableId}
+use Rattle.ent_handle.specs.Handle.{Handle}
+use Rattle.ent_alloc.specs.declared.space.Space.{Space}
+use Rattle.ent_alloc.specs.declared.span.Span.{Span}
+use Rattle.ent_alloc.specs.Sequential.{Allocator, pool_at, reply_from}
+use Rattle.ent_alloc.specs.History.{handles_in}
 use Rattle.ent_shared.specs.declared.record.Record.{Record}
 use Rattle.ent_shared.specs.Record.{after_reservation}
 use Rattle.ent_shared.specs.Moves.{after_meeting}
 use Rattle.ent_shared.specs.Phase.{Shared, Reserver, IsOf, own_of, IsSeated}
+use Rattle.ent_shared.specs.Order.{handles_given}
+use Rattle.ent_shared.proofs.Answering.{recorded_reply}
+use Rattle.ent_shared.proofs.Laws.{given-reserved}
 use Rattle.ent_shared.proofs.Records.{below_reservation, below_meeting, credit-reserved, credit-met}
 
 pub seated_reservation : (views after : List (List Record)) (number left n : ℕ) (was high now : ℤ) → IsSeated views number left was → after ≡ (after_reservation (own_of views) high n ∷ []) ∷ [] → high ≤ℤ (own_of views).mark → n ≤ (own_of views).left
@@ -35,3 +45,13 @@ of_reserved shared r after high n of within is = subst (IsOf shared) (sym is) (r
 
 pub of_met : (shared : Shared) (r met after : Reserver) → IsOf shared r → after ≡ record r { own = after_meeting r.own met.own } → IsOf shared after
 of_met shared r met after of is = subst (IsOf shared) (sym is) (record { word = of.word; start = of.start; number = of.number; credit = credit-met r.own met.own of.credit })
+
+-- what a reserver was given before, and then what the reply lists
+pub given_now : (views after : List (List Record)) (old : Reserver) (word : TableId) (start : Allocator) (high : ℤ) (n : ℕ) (span : Span) (reply : Result (List Handle) Space)
+    → record { word = word; own = own_of views } ≡ old → after ≡ (after_reservation (own_of views) high n ∷ []) ∷ [] → old.own.start ≡ start → span ≡ record { high = high; low = high -ℤ pos n }
+    → ((k : ℕ) → span.low ≡ span.high -ℤ pos k → reply ≡ reply_from start.made (pool_at start span.high) k) → handles_given (own_of after) ≡ handles_given old.own ++ handles_in reply
+given_now views after old word start high n span reply view is same span_is answers =
+    ap (λ (vs : List (List Record)). handles_given (own_of vs)) is
+    ∙ (ap (λ (r : Reserver). handles_given (after_reservation r.own high n)) view
+    ∙ (given-reserved old.own high n
+    ∙ ap (λ (x : Result (List Handle) Space). handles_given old.own ++ handles_in x) (recorded_reply old.own start high n span reply same span_is answers)))

@@ -79,6 +79,15 @@ all_of start count word number zero within = All-nil (IsOf (record { word = word
 all_of start count word number (suc many) within =
     All-cons (IsOf (record { word = word; start = start; count = count })) (seated word (opened start number)) (map (seated word) (opened_records start (number + 1) many)) (record { word = refl; start = refl; number = omega arith; credit = omega arith }) (all_of start count word (number + 1) many (omega arith))
 
+none_used : (start : Allocator) (word : TableId) (number many : ℕ) → All (λ (r : Reserver). r.own.entries ≡ []) (map (seated word) (opened_records start number many))
+unfolding opened_records
+none_used start word number zero = All-nil (λ (r : Reserver). r.own.entries ≡ [])
+none_used start word number (suc many) =
+    All-cons (λ (r : Reserver). r.own.entries ≡ []) (seated word (opened start number)) (map (seated word) (opened_records start (number + 1) many)) refl (none_used start word (number + 1) many)
+
+pub all_unused : (start : Allocator) (n : ℕ) (word seat : TableId) (made : List Reserver) (me : Me (Unit {0}) (List Record)) → AreShared start n n word made seat me → All (λ (r : Reserver). r.own.entries ≡ []) made
+all_unused start n word seat made me d = subst (All (λ (r : Reserver). r.own.entries ≡ [])) (sym d.made_is) (none_used start word 0 n)
+
 pub all_own : (start : Allocator) (n : ℕ) (word seat : TableId) (made : List Reserver) (me : Me (Unit {0}) (List Record)) → AreShared start n n word made seat me
     → (shared : Shared) → shared ≡ record { word = word; start = start; count = n } → All (IsOf shared) made
 all_own start n word seat made me d shared is =

@@ -55,3 +55,7 @@ pub record Respects (reservations : List Reservation) (r : Record) : Type 0 wher
 -- the handles that these reservations were given
 abbrev pub handles_of : List Reservation → List Handle
 handles_of reservations = history.given_in (map as_call reservations)
+
+-- the handles that a reserver was given, in the order of its reservations
+abbrev pub handles_given : Record → List Handle
+handles_given r = handles_of (own_reservations r.entries)

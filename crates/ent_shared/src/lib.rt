@@ -14,6 +14,3 @@ pub use record::{Record, RecordEntry, Reservation};
 pub use refused::Refused;
 pub use reserver::Reserver;
 pub use shared::Shared;
-
-#[cfg(test)]
-mod tests;

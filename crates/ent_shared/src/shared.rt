@@ -1,16 +1,16 @@
 ghost use Rattle.std.specs.Prelude.{◌≡◌, ◌≢◌, ◌↔◌, ◌⊎◌, ℕ, ℤ, ◌+◌, ◌*◌, ◌<◌, ◌≤◌, ◌≤ℤ◌, ◌<ℤ◌};
-ghost use Rattle.std.specs.Prelude.{List, [], ◌∷◌, length, map, All, AllPairs, Contains, sum_by};
-ghost use Rattle.std.specs.Prelude.{Ok, Err, IfOk};
+ghost use Rattle.std.specs.Prelude.{List, [], ◌∷◌, ◌++◌, length, map, All, AllPairs, Contains, sum_by};
+ghost use Rattle.std.specs.Prelude.{Ok, Err, IfOk, OnErr};
 ghost use Rattle.ent_handle.specs.Handle.{Handle as HandleValue};
 ghost use Rattle.ent_alloc.specs.Limits.{credit};
 ghost use Rattle.ent_alloc.specs.Sequential.{cursor, after_flush};
 ghost use Rattle.ent_alloc.specs.History.{IsLegal, after_history, given_in};
 ghost use Rattle.ent_alloc.specs.Sound.{IsLive};
-ghost use Rattle.ent_shared.specs.Record.{own_reservations, requested_by};
+ghost use Rattle.ent_shared.specs.Record.{requested_by};
 ghost use Rattle.ent_shared.specs.Moves.{after_meeting};
 ghost use Rattle.ent_shared.specs.Phase.{IsPhase};
 ghost use Rattle.ent_shared.specs.Rule.{IsClosed, least_floor};
-ghost use Rattle.ent_shared.specs.Order.{reservations_of, history_of, handles_of, Respects};
+ghost use Rattle.ent_shared.specs.Order.{reservations_of, history_of, handles_given, Respects};
 ghost use Rattle.ent_shared.specs.declared.refused.Refused.TheVariants.{Quota};
 
 use crate::refused::Refused;
@@ -80,6 +80,11 @@ impl Shared {
             → (result ≡ Err (Quota 0)) × (reserver.new ≡ reserver.old) }
         ensures gains { 0 < reserver.old.own.left
             → Reserves self.now reserver.old reserver.new 1 (listed_alone result) }
+
+        // What was given is recorded.
+        ensures given { IfOk result (λ handle.
+            handles_given reserver.new.own ≡ handles_given reserver.old.own ++ handle ∷ []) }
+        ensures refused { OnErr result (handles_given reserver.new.own ≡ handles_given reserver.old.own) }
     {
         let mut given = self.reserve_many(reserver, 1)?;
         let Some(handle) = given.next() else {
@@ -107,7 +112,12 @@ impl Shared {
         ensures nothing { n ≡ 0 → (result ≡ Ok []) × (reserver.new ≡ reserver.old) }
         ensures gains { 0 < n → n ≤ reserver.old.own.left
             → Reserves self.now reserver.old reserver.new n result }
-        ensures given { IfOk result (λ handles. length handles ≡ n) }
+        ensures length { IfOk result (λ handles. length handles ≡ n) }
+
+        // What was given is recorded.
+        ensures given { IfOk result (λ handles.
+            handles_given reserver.new.own ≡ handles_given reserver.old.own ++ handles) }
+        ensures refused { OnErr result (handles_given reserver.new.own ≡ handles_given reserver.old.own) }
     {
         if u64::from(n) > reserver.left {
             return Err(Refused::Quota {
@@ -202,7 +212,7 @@ impl Shared {
             → cursor result ≡ cursor (after_history self.start (history_of (map (λ r. r.own) reservers.items))) }
 
         // What the reservers that are here were given is reserved.
-        ensures given { All (λ r. All (Contains result.taken) (handles_of (own_reservations r.own.entries))) reservers.items }
+        ensures given { All (λ r. All (Contains result.taken) (handles_given r.own)) reservers.items }
     {
         let Shared {
             mut entities,

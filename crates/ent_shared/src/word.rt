@@ -71,7 +71,10 @@ pub(crate) fn meet(word: &Word, a: &mut Badge<SeatRecords>, b: &mut Badge<SeatRe
     let mut seat = mem::replace(a, Badge::blank()).into_seat();
     let other = mem::replace(b, Badge::blank()).into_seat();
     word.shared.join_seat::<Meet>(&mut seat, other);
-    *b = word.shared.split_seat::<SplitSecond>(&mut seat).into_badge();
+    *b = word
+        .shared
+        .split_seat::<SplitSecond>(&mut seat)
+        .into_badge();
     *a = seat.into_badge();
 }
 

@@ -2,7 +2,7 @@ use Rattle.std.proofs.Common.{rules, ◌≡◌, arith, subst, ◌∙◌, to_z, o
 use Rattle.std.proofs.lemmas.Int.{ints}
 use Rattle.ent_alloc.specs.Sequential.{cursor}
 use Rattle.ent_shared.specs.Phase.{own_of}
-use Rattle.ent_shared.proofs.Sharing.{AreShared, none_shared, next_seated, shared_more, all_shared, all_own}
+use Rattle.ent_shared.proofs.Sharing.{AreShared, none_shared, next_seated, shared_more, all_shared, all_unused, all_own}
 use Rattle.ent_shared.proofs.phase.share.Goals as goal
 
 pub loop-number-init : goal.loop-number-init
@@ -40,3 +40,8 @@ pub returns-clause-own : goal.returns-clause-own
 returns-clause-own c =
     let all : c.loop-number.number ≡ c.args.n = (let end = c.loop-number.auto.number-end in let last = c.loop-number-test.false in omega arith) in
     all_own c.args.entities c.args.n _ _ _ _ (subst (λ k. AreShared c.args.entities c.args.n k c.in-Ok-open.word.shared.table_id c.loop-number.reservers.items c.loop-number.all.table_id c.loop-number.all.me) all c.loop-number.invariant.first) c.new-2.result c.new-2.ensures
+
+pub returns-clause-unused : goal.returns-clause-unused
+returns-clause-unused c =
+    let all : c.loop-number.number ≡ c.args.n = (let end = c.loop-number.auto.number-end in let last = c.loop-number-test.false in omega arith) in
+    all_unused c.args.entities c.args.n _ _ _ _ (subst (λ k. AreShared c.args.entities c.args.n k c.in-Ok-open.word.shared.table_id c.loop-number.reservers.items c.loop-number.all.table_id c.loop-number.all.me) all c.loop-number.invariant.first)

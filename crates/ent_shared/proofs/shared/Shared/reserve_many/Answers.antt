@@ -1,9 +1,14 @@
-use Rattle.std.proofs.Common.{ℕ, ◌-◌, ◌-ℤ◌, ◌≤ℤ◌, pos, sym, arith, subst, to_z, of_z, w64}
+use Rattle.std.proofs.Common.{ℕ, ◌-◌, ◌-ℤ◌, ◌≤ℤ◌, pos, sym, arith, subst, to_z, of_z, w64, List, ◌++◌, append-nil}
+use Rattle.std.specs.Prelude.{Result}
+use Rattle.ent_handle.specs.Handle.{Handle}
+use Rattle.ent_alloc.specs.declared.space.Space.{Space}
+use Rattle.ent_alloc.specs.History.{handles_in}
+use Rattle.ent_shared.specs.Order.{handles_given}
 use Rattle.std.proofs.lemmas.Int.{ints}
 use Rattle.ent_alloc.specs.declared.span.Span.{Span}
 use Rattle.ent_shared.specs.Phase.{Shared, Reserver, own_of, IsSeated}
 use Rattle.ent_shared.specs.Record.{after_reservation}
-use Rattle.ent_shared.proofs.Seating.{seated_reservation, of_reserved}
+use Rattle.ent_shared.proofs.Seating.{seated_reservation, of_reserved, given_now}
 use Rattle.ent_shared.proofs.Answering.{served_floor, refused_floor}
 use Rattle.std.proofs.Common.{◌≡◌, ap, refl, ◌∙◌, [], Ok}
 use Rattle.ent_alloc.specs.Sequential.{Allocator, pool_at, top, cursor}
@@ -56,8 +61,8 @@ invariant_of-reserver-in-Err c =
     c.reserver.invariant c.reserve.ensures.gains c.reserve.ensures.mark (omega arith)
     (c.reserver.invariant.floor_is ∙ refused_floor (own_of c.reserver.inside.badge.views) c.self.inside.entities c.reserve.result c.args.n c.new-span.result _ c.reply-2.result start span c.reply-2.ensures c.in-Err.is))
 
-pub returns-then-n-eq0-clause-given : goal.returns-then-n-eq0-clause-given
-returns-then-n-eq0-clause-given c =
+pub returns-then-n-eq0-clause-length : goal.returns-then-n-eq0-clause-length
+returns-then-n-eq0-clause-length c =
     length_served c.self.inside.entities.made (pool_at c.self.inside.entities c.new.result.high) c.in-Ok.nothing 0 (sym (c.reply.ensures 0 (low_of c.new.result _ 0 c.new.ensures.value)) ∙ c.in-Ok.is) ∙ sym c.if-n-eq0.true
 
 pub returns-in-Ok-reply-clause-stays : goal.returns-in-Ok-reply-clause-stays
@@ -66,8 +71,8 @@ returns-in-Ok-reply-clause-stays c =
     of_reserved c.args.self.now c.args.reserver.now _ c.reserve.result c.args.n c.requires (omega arith)
     (λ i. record { word = (c.reserve.ensures.same ∙ ap (λ (r : Reserver). r.word) c.reserver.view_is) i; own = (ap own_of c.reserve.ensures.gains ∙ ap (λ (r : Reserver). after_reservation r.own c.reserve.result c.args.n) c.reserver.view_is) i })
 
-pub returns-in-Ok-reply-clause-given : goal.returns-in-Ok-reply-clause-given
-returns-in-Ok-reply-clause-given c =
+pub returns-in-Ok-reply-clause-length : goal.returns-in-Ok-reply-clause-length
+returns-in-Ok-reply-clause-length c =
     length_served _ _ c.in-Ok-reply.handles c.args.n (sym (c.reply-2.ensures c.args.n (low_of c.new-span.result _ c.args.n c.new-span.ensures.value)) ∙ c.in-Ok-reply.is)
 
 pub returns-in-Err-clause-stays : goal.returns-in-Err-clause-stays
@@ -75,3 +80,28 @@ returns-in-Err-clause-stays c =
     let left : c.reserver.inside.left ≡ c.args.reserver.now.own.left = c.reserver.invariant.left_is ∙ ap (λ (r : Reserver). r.own.left) c.reserver.view_is in
     of_reserved c.args.self.now c.args.reserver.now _ c.reserve.result c.args.n c.requires (omega arith)
     (λ i. record { word = (c.reserve.ensures.same ∙ ap (λ (r : Reserver). r.word) c.reserver.view_is) i; own = (ap own_of c.reserve.ensures.gains ∙ ap (λ (r : Reserver). after_reservation r.own c.reserve.result c.args.n) c.reserver.view_is) i })
+
+pub returns-then-n-eq0-clause-given : goal.returns-then-n-eq0-clause-given
+returns-then-n-eq0-clause-given c =
+    let is : c.reply.result ≡ Ok [] = c.reply.ensures 0 (low_of c.new.result _ 0 c.new.ensures.value) ∙ reply-none c.self.inside.entities.made (pool_at c.self.inside.entities c.new.result.high) in
+    let found = c.in-Ok.is in
+    let none : c.in-Ok.nothing ≡ [] = cc in
+    sym (append-nil (handles_given c.args.reserver.now.own)) ∙ ap (λ (handles : List Handle). handles_given c.args.reserver.now.own ++ handles) (sym none)
+
+pub returns-in-Ok-reply-clause-given : goal.returns-in-Ok-reply-clause-given
+returns-in-Ok-reply-clause-given c =
+    let fits = c.reserve.type_inv in
+    let word : to_z w64 (of_z w64 c.reserve.result) ≡ c.reserve.result = omega (arith, ints) in
+    let span : c.new-span.result ≡ record { high = c.reserve.result; low = c.reserve.result -ℤ pos c.args.n } = c.new-span.ensures.value ∙ (λ i. record { high = word i; low = word i -ℤ pos c.args.n }) in
+    let start : c.args.reserver.now.own.start ≡ c.self.inside.entities = c.requires.start ∙ sym (ap (λ (s : Shared). s.start) c.self.view_is) in
+    given_now c.reserver.inside.badge.views c.reserve.new.badge.views c.args.reserver.now _ c.self.inside.entities c.reserve.result c.args.n c.new-span.result c.reply-2.result c.reserver.view_is c.reserve.ensures.gains start span c.reply-2.ensures
+    ∙ ap (λ (reply : Result (List Handle) Space). handles_given c.args.reserver.now.own ++ handles_in reply) c.in-Ok-reply.is
+
+pub returns-in-Err-clause-refused : goal.returns-in-Err-clause-refused
+returns-in-Err-clause-refused c =
+    let fits = c.reserve.type_inv in
+    let word : to_z w64 (of_z w64 c.reserve.result) ≡ c.reserve.result = omega (arith, ints) in
+    let span : c.new-span.result ≡ record { high = c.reserve.result; low = c.reserve.result -ℤ pos c.args.n } = c.new-span.ensures.value ∙ (λ i. record { high = word i; low = word i -ℤ pos c.args.n }) in
+    let start : c.args.reserver.now.own.start ≡ c.self.inside.entities = c.requires.start ∙ sym (ap (λ (s : Shared). s.start) c.self.view_is) in
+    given_now c.reserver.inside.badge.views c.reserve.new.badge.views c.args.reserver.now _ c.self.inside.entities c.reserve.result c.args.n c.new-span.result c.reply-2.result c.reserver.view_is c.reserve.ensures.gains start span c.reply-2.ensures
+    ∙ (ap (λ (reply : Result (List Handle) Space). handles_given c.args.reserver.now.own ++ handles_in reply) c.in-Err.is ∙ append-nil (handles_given c.args.reserver.now.own))

@@ -2,9 +2,9 @@
 ghost use Rattle.std.specs.Prelude.{◌≡◌, ◌<◌, ◌≤◌, All};
 ghost use Rattle.ent_shared.specs.Phase.{IsOf};
 
-use super::*;
 use ent_alloc::{AllocFault, Entities, Limits, State};
 use ent_handle::{Handle, Memory};
+use ent_shared::{Refused, Reserver, Shared, share};
 use std::alloc::Global;
 use std::process::Abort;
 use std::sync::atomic::{AtomicU32, Ordering};
