@@ -4,7 +4,7 @@ use ent_alloc::{Entities, Space};
 use ent_handle::Handle;
 use std::collections::LinkedList;
 
-/// One reservation. It stands for the places from `high` less `requested` up to, not including, `high`.
+/// One reservation. It covers the positions from `high` less `requested` up to, not including, `high`.
 pub struct Reservation {
     /// The number of its reserver.
     pub caller: u64,

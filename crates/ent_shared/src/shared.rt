@@ -149,6 +149,7 @@ impl Shared {
         requires second { IsOf self.now b.old }
         ensures meets { a.new ≡ record a.old { own = after_meeting a.old.own b.old.own } }
         ensures met { b.new ≡ b.old }
+        ensures given { handles_given a.new.own ≡ handles_given a.old.own }
         ensures first { IsOf self.now a.new }
         ensures second { IsOf self.now b.new }
 

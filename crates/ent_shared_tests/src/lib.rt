@@ -2,4 +2,18 @@
 #![tactic(auto)]
 
 #[cfg(test)]
-mod phases;
+mod allocators;
+#[cfg(test)]
+mod caller;
+#[cfg(test)]
+mod gate;
+#[cfg(test)]
+mod in_turn;
+#[cfg(test)]
+mod lost;
+#[cfg(test)]
+mod memory;
+#[cfg(test)]
+mod phase;
+#[cfg(test)]
+mod threads;

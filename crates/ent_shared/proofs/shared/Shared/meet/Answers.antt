@@ -1,6 +1,9 @@
-use Rattle.std.proofs.Common.{ap, ◌∙◌}
+use Rattle.std.proofs.Common.{List, ap, ◌∙◌}
+use Rattle.ent_shared.specs.declared.record.Record.{Record}
+use Rattle.ent_shared.specs.Order.{handles_given}
 use Rattle.ent_shared.specs.Moves.{after_meeting}
 use Rattle.ent_shared.specs.Phase.{Reserver, own_of}
+use Rattle.ent_shared.proofs.Laws.{given-after_meeting}
 use Rattle.ent_shared.proofs.Seating.{seated_meeting, of_met}
 use Rattle.ent_shared.proofs.shared.Shared.meet.Goals as goal
 
@@ -11,3 +14,8 @@ pub returns-clause-first : goal.returns-clause-first
 returns-clause-first c =
     of_met c.args.self.now c.args.a.now c.args.b.now _ c.requires.first
     (λ i. record { word = (c.meet.ensures.same.0 ∙ ap (λ (r : Reserver). r.word) c.a.view_is) i; own = (ap own_of c.meet.ensures.meets ∙ (λ j. after_meeting (c.a.view_is j).own (c.b.view_is j).own)) i })
+
+pub returns-clause-given : goal.returns-clause-given
+returns-clause-given c =
+    ap (λ (views : List (List Record)). handles_given (own_of views)) c.meet.ensures.meets
+    ∙ (given-after_meeting (own_of c.a.inside.badge.views) (own_of c.b.inside.badge.views) ∙ ap (λ (r : Reserver). handles_given r.own) c.a.view_is)

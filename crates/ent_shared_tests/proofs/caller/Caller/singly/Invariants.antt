@@ -1,5 +1,5 @@
 use Rattle.ent_shared.specs.Phase.{IsOf}
-use Rattle.ent_shared_tests.proofs.phases.Caller.in_bulks.Given as goal
+use Rattle.ent_shared_tests.proofs.caller.Caller.singly.Given as goal
 
 -- the reserver stays one of this allocator
 abbrev pub invariant-loop : goal.invariant-loop

@@ -1,0 +1,57 @@
+//! Allocators to begin with, and what they give.
+ghost use Rattle.std.specs.Prelude.{◌≡◌};
+
+use ent_alloc::{AllocFault, Entities, Limits};
+use ent_handle::Handle;
+use std::alloc::Global;
+use std::process::Abort;
+
+/// An allocator that may make `slots` slots.
+pub fn with_slots(rt: &impl Abort, alloc: Global, slots: u32) -> Entities
+    ensures { result.asked ≡ 0 }
+{
+    Entities::new(alloc, Limits::new(slots, 7).expect(rt, "limits"))
+}
+
+/// An allocator with `n` slots, whose first occupants are gone: 0 was freed first.
+pub fn with_freed(rt: &impl Abort, alloc: Global, n: u32) -> Entities
+    ensures { result.asked ≡ 0 }
+{
+    let mut entities = Entities::new(alloc, Limits::default_limits());
+    for _ in 0..n {
+        entities.alloc().expect(rt, "memory for a slot");
+    }
+    for index in 0..n {
+        entities
+            .free(first(rt, index))
+            .expect(rt, "memory for a slot");
+    }
+    assert!(rt; !entities.needs_flush());
+    entities
+}
+
+/// The first handle of a slot.
+pub fn first(rt: &impl Abort, index: u32) -> Handle {
+    Handle::new(index, 1).expect(rt, "a handle in range")
+}
+
+/// The second handle of a slot.
+pub fn second(rt: &impl Abort, index: u32) -> Handle {
+    Handle::new(index, 2).expect(rt, "a handle in range")
+}
+
+/// What a flush brings to life.
+pub fn flushed(rt: &impl Abort, alloc: Global, entities: &mut Entities) -> Vec<Handle> {
+    let mut born = Vec::new(alloc);
+    entities.flush(&mut born).expect(rt, "memory for the born");
+    born
+}
+
+/// The next handle, also if one growth is refused.
+pub fn next(rt: &impl Abort, entities: &mut Entities) -> Handle {
+    let given = match entities.alloc() {
+        Err(AllocFault::Memory) => entities.alloc(),
+        given => given,
+    };
+    given.expect(rt, "memory for a slot")
+}

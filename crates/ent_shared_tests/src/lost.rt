@@ -1,0 +1,138 @@
+//! Phases that end although reservers may be lost.
+ghost use Rattle.std.specs.Prelude.{◌≡◌};
+
+use crate::allocators::{first, flushed, with_freed, with_slots};
+use crate::phase::{closed, give_back, last, opened};
+use ent_alloc::Entities;
+use ent_handle::Handle;
+use ent_shared::Refused;
+use std::alloc::Global;
+use std::process::Abort;
+
+/// How a phase ends: with all its reservers, or as if some may be lost.
+#[derive(Clone, Copy)]
+enum End {
+    Close,
+    NoneLost,
+    AllLost,
+}
+
+/// The allocator after a phase of two reservers, each of which requested these numbers of handles in turn.
+fn after(rt: &impl Abort, alloc: Global, entities: Entities, requests: &[u32], end: End) -> Entities
+    requires { entities.asked ≡ 0 }
+{
+    let (shared, mut reservers) = opened(rt, alloc, entities, 2);
+    let mut b = last(rt, alloc, &shared, &mut reservers);
+    let mut a = last(rt, alloc, &shared, &mut reservers);
+    for n in requests {
+        a.at_once(&shared, *n);
+        b.at_once(&shared, *n);
+    }
+    if let End::AllLost = end {
+        return shared.close_lost(reservers);
+    }
+    give_back(rt, &shared, &mut reservers, a.reserver);
+    give_back(rt, &shared, &mut reservers, b.reserver);
+    match end {
+        End::Close => closed(rt, shared, reservers),
+        _ => shared.close_lost(reservers),
+    }
+}
+
+/// What was served counts although nobody is handed in: over fresh slots, over freed ones and over both. The flush lists the
+/// fresh ones first.
+#[test]
+fn what_lost_reservers_were_given_counts(rt: HostRuntime) {
+    let alloc = rt.alloc();
+    let cases: [(u32, u32, i64, &[(u32, u32)]); 4] = [
+        (0, 2, -4, &[(0, 1), (1, 1), (2, 1), (3, 1)]),
+        (5, 2, 1, &[(1, 2), (2, 2), (3, 2), (4, 2)]),
+        (3, 2, -1, &[(3, 1), (0, 2), (1, 2), (2, 2)]),
+        (3, 0, 3, &[]),
+    ];
+    for (freed, requested, cursor, alive) in cases {
+        let entities = with_freed(&rt, alloc, freed);
+        let mut entities = after(&rt, alloc, entities, &[requested], End::AllLost);
+        assert_eq!(rt; entities.cursor(), cursor, "for {freed} freed");
+        let born = flushed(&rt, alloc, &mut entities);
+        let found = born
+            .iter()
+            .map(|handle| (handle.index(), handle.generation()));
+        assert!(rt; found.eq(alive.iter().copied()), "for {freed} freed");
+    }
+}
+
+/// The cursor is where `close` leaves it, and if nothing was refused, a flush brings to life the same handles.
+#[test]
+fn close_lost_beside_close(rt: HostRuntime) {
+    let alloc = rt.alloc();
+    let cases: [(u32, &[u32]); 5] = [
+        (0, &[1, 2, 3]),
+        (4, &[1]),
+        (4, &[2, 5]),
+        (100, &[10, 0, 7]),
+        (2, &[]),
+    ];
+    for (freed, requests) in cases {
+        let entities = with_freed(&rt, alloc, freed);
+        let mut one_by_one = after(&rt, alloc, entities, requests, End::Close);
+        let cursor = one_by_one.cursor();
+        let born = flushed(&rt, alloc, &mut one_by_one);
+        for end in [End::NoneLost, End::AllLost] {
+            let entities = with_freed(&rt, alloc, freed);
+            let mut entities = after(&rt, alloc, entities, requests, end);
+            assert_eq!(rt; entities.cursor(), cursor, "for {freed} freed");
+            assert!(rt;
+                flushed(&rt, alloc, &mut entities).as_slice() == born.as_slice(),
+                "for {freed} freed"
+            );
+        }
+    }
+}
+
+#[test]
+fn a_refused_request_counts_where_reservers_are_lost(rt: HostRuntime) {
+    let alloc = rt.alloc();
+    let handles: &[Handle] = &[0, 1, 2].map(|index| first(&rt, index));
+    for (is_lost, alive) in [(false, 2), (true, 3)] {
+        let (shared, mut reservers) = opened(&rt, alloc, with_slots(&rt, alloc, 3), 1);
+        let mut only = last(&rt, alloc, &shared, &mut reservers);
+        only.at_once(&shared, 2);
+        assert!(rt; only.given.as_slice() == &handles[..2]);
+        let short = Refused::Space { wanted: 2, left: 1 };
+        assert!(rt; only.refusal(&shared, 2) == Some(short));
+        give_back(&rt, &shared, &mut reservers, only.reserver);
+        let mut entities = if is_lost {
+            shared.close_lost(reservers)
+        } else {
+            closed(&rt, shared, reservers)
+        };
+        assert_eq!(rt; entities.cursor(), -4);
+        let born = flushed(&rt, alloc, &mut entities);
+        assert!(rt; born.len() == alive && handles.starts_with(&born));
+    }
+}
+
+/// One of two reservers is lost: what it requested counts, whether it was served before or after the other.
+#[test]
+fn a_lost_reserver_counts(rt: HostRuntime) {
+    let alloc = rt.alloc();
+    for (requested, alive) in [(1, 2), (3, 5)] {
+        for is_lost_last in [false, true] {
+            let (shared, mut reservers) = opened(&rt, alloc, with_slots(&rt, alloc, 5), 2);
+            let mut kept = last(&rt, alloc, &shared, &mut reservers);
+            let mut lost = last(&rt, alloc, &shared, &mut reservers);
+            if is_lost_last {
+                kept.at_once(&shared, requested);
+                lost.at_once(&shared, requested);
+            } else {
+                lost.at_once(&shared, requested);
+                kept.at_once(&shared, requested);
+            }
+            give_back(&rt, &shared, &mut reservers, kept.reserver);
+            let mut entities = shared.close_lost(reservers);
+            let born = flushed(&rt, alloc, &mut entities);
+            assert_eq!(rt; born.len(), alive, "for {requested} each");
+        }
+    }
+}

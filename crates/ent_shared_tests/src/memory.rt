@@ -1,0 +1,23 @@
+//! Memory that is refused.
+use crate::allocators::{first, next};
+use ent_alloc::{Entities, Limits};
+use ent_handle::Memory;
+use ent_shared::share;
+
+/// Passes whichever single allocation is refused.
+#[test]
+fn a_refused_share_hands_the_allocator_back(rt: HostRuntime) {
+    let alloc = rt.alloc();
+    let mut entities = Entities::new(alloc, Limits::default_limits());
+    let _ = (next(&rt, &mut entities), next(&rt, &mut entities));
+    assert!(rt; !entities.needs_flush());
+    let mut entities = match share(alloc, entities, 4) {
+        Ok((shared, reservers)) => shared.close_lost(reservers),
+        Err((entities, Memory)) => entities,
+    };
+    assert_eq!(rt;
+        (entities.len(), entities.total(), entities.cursor()),
+        (2, 2, 0)
+    );
+    assert!(rt; next(&rt, &mut entities) == first(&rt, 2));
+}
