@@ -9,7 +9,7 @@ use std::cmp::Ordering;
 /// The number of a component. What it means is up to the world that uses it.
 ///
 /// Components are ordered by number.
-#[derive(Clone, Copy, Debug, PartialEq, Eq, Hash)]
+#[derive(Clone, Copy, Debug, Default, PartialEq, Eq, Hash)]
 pub struct ComponentId(pub u8);
 
 impl Ord for ComponentId {

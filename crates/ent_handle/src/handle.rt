@@ -70,7 +70,8 @@ impl Handle {
 
     /// The handle in one number: the generation times 2^32, and the index.
     pub fn to_bits(self) -> u64
-        ensures { result ≡ bits self }
+        ensures bits { result ≡ bits self }
+        ensures in_range { IsHandle self }
     {
         (u64::from(self.generation) << 32) + u64::from(self.index)
     }
@@ -78,6 +79,7 @@ impl Handle {
     /// The handle of these bits, or `None` where they are no handle's.
     pub fn from_bits(of: u64) -> Option<Self>
         ensures found { IfSome result (λ h. bits h ≡ of) }
+        ensures in_range { IfSome result IsHandle }
         ensures none { IfNone result ((h : Handle) → IsHandle h → bits h ≢ of) }
     {
         Handle::new((of & 0xffff_ffff) as u32, (of >> 32) as u32)
