@@ -1,19 +1,27 @@
--- A text is read as the one handle that it spells, and each text that spells one is read.
-use Rattle.std.proofs.Common.{◌≡◌, ◌≢◌, ℕ, ◌<◌, ◌↔◌, ◌⊎◌, Bool, true, false, ◌&&◌, cond, eqb, List, [], ◌∷◌, ◌++◌, length, Option, Some, None, Result, Ok, Err, All, IsSome, IfSome, IfOk, IsErrOf, refl, sym, ap, subst, ◌∙◌, inl, inr, arith}
+-- The text of each handle is read as that handle, and no other text is read as it.
+use Rattle.std.proofs.Common.{◌≡◌, ◌≢◌, ℕ, ◌<◌, ◌↔◌, ◌⊎◌, Bool, true, false, ◌&&◌, cond, eqb, List}
+use Rattle.std.proofs.Common.{[], ◌∷◌, ◌++◌, length, Option, Some, None, Result, Ok, Err, All}
+use Rattle.std.proofs.Common.{IsSome, IfSome, IfOk, IsErrOf, refl, sym, ap, subst, ◌∙◌, inl, inr}
+use Rattle.std.proofs.Common.{arith}
 use Rattle.std.specs.Fmt.{decimal}
 use Rattle.std.specs.List.{join_with_byte, slice_split, before_first, after_first, position_or_len}
 use Rattle.std.specs.Option.{ok_or}
 use Rattle.std.specs.Str.Parse.{digits_value}
-use Rattle.std.proofs.lemmas.Bool.{cases_Bool, cases_lt, false_from_ne_true, false≢true, cond-true, cond-false, eqb-true, eqb-false, ne_eqb, and_parts, and_from, and_left, and_right, lt-ltb, le-leb, ltb-true, leb-true}
+use Rattle.std.proofs.lemmas.Bool.{cases_Bool, cases_lt, false_from_ne_true, false≢true, cond-true}
+use Rattle.std.proofs.lemmas.Bool.{cond-false, eqb-true, eqb-false, ne_eqb, and_parts, and_from}
+use Rattle.std.proofs.lemmas.Bool.{and_left, and_right, lt-ltb, le-leb, ltb-true, leb-true}
 use Rattle.std.proofs.lemmas.List.{get_or_default, get_or-take, length-take}
 use Rattle.std.proofs.lemmas.List.Sums.{split_at_first, fails_before_first, passes_at_first}
-use Rattle.std.proofs.lemmas.List.Splits.{slice_split_none, slice_split_at, length-slice_split, join_with_byte-slice_split}
+use Rattle.std.proofs.lemmas.List.Splits.{slice_split_none, slice_split_at, length-slice_split}
+use Rattle.std.proofs.lemmas.List.Splits.{join_with_byte-slice_split}
 use Rattle.std.proofs.lemmas.Str.Parse.{not_in_digits}
 use Rattle.ent_handle.specs.Handle.{Handle, IsHandle}
 use Rattle.ent_handle.specs.declared.text.TextFault.{TextFault}
 use Rattle.ent_handle.specs.declared.text.TextFault.TheVariants.{Shape, Range}
-use Rattle.ent_handle.specs.Text.{is_decimal, IsDecimal, handle_text, HasHandleForm, is_handle, written, handle_of_parts, handle_of}
-use Rattle.ent_handle.proofs.Decimals.{digit_texts, plain_from_decimal, decimal-value, decimal_is_decimal, value-decimal}
+use Rattle.ent_handle.specs.Text.{is_decimal, IsDecimal, handle_text, HasHandleForm, is_handle}
+use Rattle.ent_handle.specs.Text.{written, handle_of_parts, handle_of}
+use Rattle.ent_handle.proofs.Decimals.{digit_texts, plain_from_decimal, decimal-value}
+use Rattle.ent_handle.proofs.Decimals.{decimal_is_decimal, value-decimal}
 
 abbrev handle_of_numbers : List ℕ → List ℕ → Result Handle TextFault
 handle_of_numbers index generation = handle_of_parts (index ∷ generation ∷ [])
@@ -121,7 +129,7 @@ handle_of_text h is =
     let same : written index generation ≡ h = same_handle _ _ (value-decimal h.index (omega (arith, is.index))) (value-decimal h.generation (omega (arith, is.greatest))) in
     handle_of_form (handle_text h) index generation i g refl ∙ ap (λ (k : Handle). cond (is_handle k) (Ok k) (Err Range)) same ∙ cond-true _ _ _ (is_handle_from h is)
 
--- what is read is spelled so
+-- a text that is read is the text of that handle
 spelled : (bytes index generation : List ℕ) → IsDecimal index → IsDecimal generation → bytes ≡ index ++ 118 ∷ generation → IsHandle (written index generation) → bytes ≡ handle_text (written index generation)
 spelled bytes index generation i g e is =
     e ∙ ap (λ (ds : List ℕ). ds ++ 118 ∷ generation) (sym (decimal-value index i (omega (arith, is.index))))

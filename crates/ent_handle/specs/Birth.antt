@@ -11,12 +11,14 @@ use Rattle.ent_handle.specs.Ties.{both_tie}
 -- by frame, then by system, then by ordinal
 abbrev pub birth_cmp : Birth → Birth → Ordering
 birth_cmp =
-    then_cmp (on (λ b. b.frame) nat_cmp) (then_cmp (on (λ b. b.system) nat_cmp) (on (λ b. b.ordinal) nat_cmp))
+    then_cmp (on (λ b. b.frame) nat_cmp)
+    (then_cmp (on (λ b. b.system) nat_cmp) (on (λ b. b.ordinal) nat_cmp))
 
 pub birth_cmp_total : IsTotalOrder birth_cmp
 birth_cmp_total =
     then_total (on_total (λ (b : Birth). b.frame) nat_cmp_total)
-    (then_total (on_total (λ (b : Birth). b.system) nat_cmp_total) (on_total (λ (b : Birth). b.ordinal) nat_cmp_total))
+    (then_total (on_total (λ (b : Birth). b.system) nat_cmp_total)
+    (on_total (λ (b : Birth). b.ordinal) nat_cmp_total))
 
 pub birth_cmp-IsAntisymmetric : IsAntisymmetric birth_cmp
 birth_cmp-IsAntisymmetric a b e =
@@ -30,4 +32,6 @@ birth_cmp-IsAntisymmetric a b e =
 -- a birth is stored as its three numbers
 abbrev pub birth_code : Coded Birth
 birth_code =
-    code_by (ℕ × (ℕ × ℕ)) (coded× coded_ℕ (coded× coded_ℕ coded_ℕ)) (λ b. (b.frame, (b.system, b.ordinal))) (λ p. record { frame = p.0; system = p.1.0; ordinal = p.1.1 }) (λ _. refl)
+    code_by (ℕ × (ℕ × ℕ)) (coded× coded_ℕ (coded× coded_ℕ coded_ℕ))
+    (λ b. (b.frame, (b.system, b.ordinal)))
+    (λ p. record { frame = p.0; system = p.1.0; ordinal = p.1.1 }) (λ _. refl)

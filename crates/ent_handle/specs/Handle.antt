@@ -1,4 +1,4 @@
--- Handles: which slot of the allocator, and which of its occupants.
+-- Handles: a slot of the allocator, and one of its occupants.
 use Rattle.std.specs.Prelude.{ℕ, ◌+◌, ◌-◌, ◌*◌, ◌^◌, ◌<◌, ◌≤◌, refl}
 use Rattle.std.specs.Coded.{Coded, code_by, coded×, coded_ℕ}
 use Rattle.std.specs.declared.cmp.Ordering.{Ordering}
@@ -28,7 +28,8 @@ handle_cmp = then_cmp (on (λ h. h.index) nat_cmp) (on (λ h. h.generation) nat_
 
 pub handle_cmp_total : IsTotalOrder handle_cmp
 handle_cmp_total =
-    then_total (on_total (λ (h : Handle). h.index) nat_cmp_total) (on_total (λ (h : Handle). h.generation) nat_cmp_total)
+    then_total (on_total (λ (h : Handle). h.index) nat_cmp_total)
+    (on_total (λ (h : Handle). h.generation) nat_cmp_total)
 
 pub handle_cmp-IsAntisymmetric : IsAntisymmetric handle_cmp
 handle_cmp-IsAntisymmetric a b e =
@@ -40,4 +41,5 @@ handle_cmp-IsAntisymmetric a b e =
 -- a handle is stored as the pair of its numbers
 abbrev pub handle_code : Coded Handle
 handle_code =
-    code_by (ℕ × ℕ) (coded× coded_ℕ coded_ℕ) (λ h. (h.index, h.generation)) (λ p. record { index = p.0; generation = p.1 }) (λ _. refl)
+    code_by (ℕ × ℕ) (coded× coded_ℕ coded_ℕ) (λ h. (h.index, h.generation))
+    (λ p. record { index = p.0; generation = p.1 }) (λ _. refl)

@@ -1,5 +1,6 @@
--- Decimals and the texts of handles: what is spelled how, and what reading a text gives.
-use Rattle.std.specs.Prelude.{◌≡◌, ℕ, ◌-◌, ◌^◌, Bool, false, ◌&&◌, List, [], ◌∷◌, ◌++◌, length, ◌==◌, nat_lt, nat_le, if◌then◌else◌, IsTrue, Result, Ok, Err}
+-- Decimals, the texts of handles, and what a text is read as.
+use Rattle.std.specs.Prelude.{◌≡◌, ℕ, ◌-◌, ◌^◌, Bool, false, ◌&&◌, List, [], ◌∷◌, ◌++◌, length}
+use Rattle.std.specs.Prelude.{◌==◌, nat_lt, nat_le, if◌then◌else◌, IsTrue, Result, Ok, Err}
 use Rattle.std.specs.Fmt.{decimal}
 use Rattle.std.specs.Char.{is_ascii_digit}
 use Rattle.std.specs.List.{list_all, slice_split}
@@ -11,7 +12,8 @@ use Rattle.ent_handle.specs.declared.text.TextFault.TheVariants.{Shape, Range}
 -- `0`, or digits of which the first is not `0`
 abbrev pub is_decimal : List ℕ → Bool
 is_decimal [] = false
-is_decimal (first ∷ others) = if first == 48 then length others == 0 else list_all is_ascii_digit (first ∷ others)
+is_decimal (first ∷ others) =
+    if first == 48 then length others == 0 else list_all is_ascii_digit (first ∷ others)
 
 abbrev pub IsDecimal : List ℕ → Type 0
 IsDecimal bytes = IsTrue (is_decimal bytes)
@@ -30,7 +32,8 @@ handle_text h = decimal h.index ++ 118 ∷ decimal h.generation
 -- a decimal, the letter `v`, and a decimal, however large the numbers are
 abbrev pub HasHandleForm : List ℕ → Type 0
 HasHandleForm bytes =
-    (index : List ℕ) × (generation : List ℕ) × IsDecimal index × IsDecimal generation × (bytes ≡ index ++ 118 ∷ generation)
+    (index : List ℕ) × (generation : List ℕ)
+    × IsDecimal index × IsDecimal generation × (bytes ≡ index ++ 118 ∷ generation)
 
 -- the two numbers are those of a handle
 abbrev pub is_handle : Handle → Bool
@@ -38,7 +41,8 @@ is_handle h = nat_lt h.index (2 ^ 32 - 1) && nat_le 1 h.generation && nat_lt h.g
 
 -- the numbers that two decimals write
 abbrev pub written : List ℕ → List ℕ → Handle
-written index generation = record { index = digits_value 10 index; generation = digits_value 10 generation }
+written index generation =
+    record { index = digits_value 10 index; generation = digits_value 10 generation }
 
 -- the handle of the parts between the letters `v`: two decimals, with the numbers of a handle
 abbrev pub handle_of_parts : List (List ℕ) → Result Handle TextFault

@@ -6,16 +6,17 @@ ghost use Rattle.ent_handle.specs.Birth.{birth_cmp, birth_cmp_total};
 
 use std::cmp::Ordering;
 
-/// When and by whom an entity was brought to life. It names the entity without a handle.
+/// When and by whom an entity was brought to life: a name of the entity that needs no handle.
 ///
-/// Births are ordered by frame, then by system, then by ordinal. That order is this project's own.
+/// The order is by frame, then by system, then by ordinal. Births and their order are this project's
+/// own.
 #[derive(Clone, Copy, Debug, PartialEq, Eq, Hash)]
 pub struct Birth {
     /// The number of the frame.
     pub frame: u64,
     /// Which system of the frame asked for the entity, counted from 0.
     pub system: u32,
-    /// Which of the handles that the system was given in the frame it is, counted from 0.
+    /// Which of the handles that the system was given in that frame it is, counted from 0.
     pub ordinal: u32,
 }
 
@@ -39,7 +40,8 @@ impl Ord for Birth {
 impl PartialOrd for Birth {
     ghost partial_cmp = { as_partial_cmp birth_cmp };
 
-    ghost laws = { partial_order_from_own_ties (Prim.search (comparing, rules)) (Prim.search (comparing, rules)) };
+    ghost laws = { partial_order_from_own_ties
+        (Prim.search (comparing, rules)) (Prim.search (comparing, rules)) };
 
     fn partial_cmp(&self, other: &Self) -> Option<Ordering> {
         Some(self.cmp(other))

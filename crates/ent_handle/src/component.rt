@@ -6,10 +6,10 @@ ghost use Rattle.ent_handle.specs.Component.{component_cmp, component_cmp_total}
 
 use std::cmp::Ordering;
 
-/// The number of a component. What it means is up to the world that uses it.
+/// The number of a component: a kind of data that an entity may have. What it means is up to its user.
 ///
-/// Components are ordered by number.
-#[derive(Clone, Copy, Debug, Default, PartialEq, Eq, Hash)]
+/// The order is by number.
+#[derive(Clone, Copy, Debug, PartialEq, Eq, Hash)]
 pub struct ComponentId(pub u8);
 
 impl Ord for ComponentId {
@@ -29,7 +29,8 @@ impl Ord for ComponentId {
 impl PartialOrd for ComponentId {
     ghost partial_cmp = { as_partial_cmp component_cmp };
 
-    ghost laws = { partial_order_from_own_ties (Prim.search (comparing, rules)) (Prim.search (comparing, rules)) };
+    ghost laws = { partial_order_from_own_ties
+        (Prim.search (comparing, rules)) (Prim.search (comparing, rules)) };
 
     fn partial_cmp(&self, other: &Self) -> Option<Ordering> {
         Some(self.cmp(other))

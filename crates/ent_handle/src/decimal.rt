@@ -13,7 +13,7 @@ fn all_digits(bytes: &[u8]) -> bool
     bytes.iter().all(|byte| byte.is_ascii_digit())
 }
 
-/// Whether it is `0`, or digits of which the first is not `0`.
+/// Whether the bytes are `0`, or digits of which the first is not `0`.
 #[tactic(auto, using(crate::proofs::Decimals::is_decimal_unless_zero))]
 pub(crate) fn is_decimal(bytes: &[u8]) -> bool
     ensures { result ≡ is_decimal_of bytes.now }
@@ -28,7 +28,7 @@ pub(crate) fn is_decimal(bytes: &[u8]) -> bool
     }
 }
 
-/// The number that a decimal writes, or `None` where it is 2^32 or more.
+/// The number that a decimal writes, or `None` if it is 2^32 or more.
 pub(crate) fn decimal_value(bytes: &[u8]) -> Option<u32>
     requires { IsDecimal bytes.now }
     ensures value { IfSome result (λ n. n ≡ digits_value 10 bytes.now) }
@@ -39,24 +39,25 @@ pub(crate) fn decimal_value(bytes: &[u8]) -> Option<u32>
     text.parse().ok()
 }
 
-/// The number that a decimal writes, which is `0` or digits of which the first is not `0`.
+/// The number of this text, which is a decimal: `0`, or digits of which the first is not `0`.
 ///
-/// It is linear in the text, however long that is, and takes no memory.
+/// It takes time linear in the length of the text, which may be any, and no memory.
 ///
 /// # Errors
 ///
-/// `Shape` where the text is no decimal, and `Range` where it is one and writes 2^32 or more.
+/// - `Shape`: the text is not a decimal.
+/// - `Range`: it is a decimal, and its number is 2^32 or more.
 pub fn read_decimal(bytes: &[u8]) -> Result<u32, TextFault>
-    // What is read is spelled so.
+    // The text is the decimal of the number that is read.
     ensures found { IfOk result (λ n. bytes.now ≡ decimal n) }
-    // What is spelled so is read.
+    // The decimal of each number below 2^32 is read as that number.
     ensures only { (n : ℕ) → n < 2 ^ 32 → bytes.now ≡ decimal n → result ≡ Ok n }
 
     ensures shape { IsErrOf result TextFault.Shape ↔ (¬ IsDecimal bytes.now) }
     ensures range { IsErrOf result TextFault.Range
         ↔ (IsDecimal bytes.now × (2 ^ 32 ≤ digits_value 10 bytes.now)) }
 
-    // All of it, as a function of the text.
+    // The whole answer, as a function of the text.
     ensures exact { result ≡ number_of bytes.now }
 {
     if !is_decimal(bytes) {

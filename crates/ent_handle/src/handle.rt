@@ -1,4 +1,5 @@
-ghost use Rattle.std.specs.Prelude.{◌≡◌, ◌+◌, ◌-◌, ◌*◌, ◌^◌, ◌<◌, ◌≤◌, ◌↔◌, ◌≢◌, IsSome, IfSome, IfNone};
+ghost use Rattle.std.specs.Prelude.{◌≡◌, ◌+◌, ◌-◌, ◌*◌, ◌^◌, ◌<◌, ◌≤◌, ◌↔◌, ◌≢◌, IsSome, IfSome};
+ghost use Rattle.std.specs.Prelude.{IfNone};
 ghost use Rattle.std.proofs.Common.{rules};
 ghost use Rattle.std.specs.Cmp.{partial_order_from_own_ties};
 ghost use Rattle.std.specs.Cmp.Rules.{comparing};
@@ -8,11 +9,13 @@ ghost use Rattle.ent_handle.specs.Handle.{Handle, IsHandle, bits, handle_cmp, ha
 use std::cmp::Ordering;
 use std::marker::Model;
 
-/// Names one occupant of one slot: the slot's index, and the generation that tells its occupants apart.
+/// Names one occupant of one slot: the slot's index, and a generation that tells the slot's occupants
+/// apart.
 ///
-/// An index is 0 to 4,294,967,294 and a generation 1 to 2,147,483,647. Handles are ordered by index,
-/// then by generation. As in Bevy, a slot that is given anew has another handle, until its generations
-/// begin anew.
+/// An index is 0 to 4,294,967,294, and a generation 1 to 2,147,483,647. As in Bevy, each occupant of a
+/// slot has another generation than the one before it, so that an old handle does not name a later
+/// occupant. After the last generation they begin again at the first. The ranges are this project's
+/// own, and so is the order: by index, then by generation.
 #[derive(Clone, Copy, Debug, PartialEq, Eq, Hash)]
 pub struct Handle {
     index: u32,
@@ -32,9 +35,10 @@ impl Model for Handle {
 }
 
 impl Handle {
-    /// The handle of these numbers, or `None` where one of them is out of range.
+    /// The handle of these numbers, or `None` if one of them is out of range.
     pub fn new(index: u32, generation: u32) -> Option<Self>
-        ensures in_range { IsSome result ↔ IsHandle (record { index = index; generation = generation }) }
+        ensures in_range { IsSome result
+            ↔ IsHandle (record { index = index; generation = generation }) }
         ensures value { IfSome result (λ h. h ≡ record { index = index; generation = generation }) }
     {
         if index < u32::MAX && 1 <= generation && generation < 1 << 31 {
@@ -44,9 +48,9 @@ impl Handle {
         }
     }
 
-    /// The handle of these numbers, which have to be in range: the index below 4,294,967,295, the
-    /// generation 1 to 2,147,483,647. Nothing is tested when it runs, so this is for a caller that keeps
-    /// such numbers; `new` tests them.
+    /// The handle of these numbers, which have to be in range: the index is 0 to 4,294,967,294, the
+    /// generation 1 to 2,147,483,647. It tests nothing when it runs, so it is for a caller that keeps
+    /// such numbers. `new` tests them.
     pub fn from_parts(index: u32, generation: u32) -> Self
         requires { IsHandle (record { index = index; generation = generation }) }
         ensures { result ≡ record { index = index; generation = generation } }
@@ -54,32 +58,30 @@ impl Handle {
         Handle { index, generation }
     }
 
-    /// Which slot it is, 0 to 4,294,967,294.
+    /// Which slot it is: 0 to 4,294,967,294.
     pub fn index(self) -> u32
         ensures { result ≡ self.index }
     {
         self.index
     }
 
-    /// Which occupant of the slot it is, 1 to 2,147,483,647.
+    /// Which occupant of the slot it is: 1 to 2,147,483,647.
     pub fn generation(self) -> u32
         ensures { result ≡ self.generation }
     {
         self.generation
     }
 
-    /// The handle in one number: the generation times 2^32, and the index.
+    /// The handle as one number: the generation times 2^32, plus the index.
     pub fn to_bits(self) -> u64
-        ensures bits { result ≡ bits self }
-        ensures in_range { IsHandle self }
+        ensures { result ≡ bits self }
     {
         (u64::from(self.generation) << 32) + u64::from(self.index)
     }
 
-    /// The handle of these bits, or `None` where they are no handle's.
+    /// The handle that has these bits, or `None` if no handle has them.
     pub fn from_bits(of: u64) -> Option<Self>
         ensures found { IfSome result (λ h. bits h ≡ of) }
-        ensures in_range { IfSome result IsHandle }
         ensures none { IfNone result ((h : Handle) → IsHandle h → bits h ≢ of) }
     {
         Handle::new((of & 0xffff_ffff) as u32, (of >> 32) as u32)
@@ -104,7 +106,8 @@ impl Ord for Handle {
 impl PartialOrd for Handle {
     ghost partial_cmp = { as_partial_cmp handle_cmp };
 
-    ghost laws = { partial_order_from_own_ties (Prim.search (comparing, rules)) (Prim.search (comparing, rules)) };
+    ghost laws = { partial_order_from_own_ties
+        (Prim.search (comparing, rules)) (Prim.search (comparing, rules)) };
 
     fn partial_cmp(&self, other: &Self) -> Option<Ordering> {
         Some(self.cmp(other))

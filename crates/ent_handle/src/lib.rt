@@ -1,4 +1,4 @@
-//! Handles of entities, their text, and the small types that every crate above shares.
+//! Handles of entities and their text, and the small types that all crates above share.
 #![tactic(auto)]
 
 mod birth;
@@ -14,6 +14,3 @@ pub use decimal::read_decimal;
 pub use handle::Handle;
 pub use memory::Memory;
 pub use text::{TextFault, split_once};
-
-#[cfg(test)]
-mod tests;

@@ -1,4 +1,6 @@
-ghost use Rattle.std.specs.Prelude.{◌≡◌, ◌≢◌, ◌+◌, ◌<◌, ◌≤◌, length, vec_len, vec_capacity, ◌∷◌, ◌++◌, ◌↔◌, IfOk, IsSome, IfSome, IfNone, OnOk, OnErr, IsErrOf, All};
+ghost use Rattle.std.specs.Prelude.{◌≡◌, ◌≢◌, ◌+◌, ◌<◌, ◌≤◌, length, vec_len, vec_capacity, ◌∷◌};
+ghost use Rattle.std.specs.Prelude.{◌++◌, ◌↔◌, IfOk, IsSome, IfSome, IfNone, OnOk, OnErr, IsErrOf};
+ghost use Rattle.std.specs.Prelude.{All};
 ghost use Rattle.ent_handle.specs.Handle.{Handle as HandleValue, IsHandle};
 ghost use Rattle.ent_handle.specs.Text.{IsDecimal, handle_text, HasHandleForm, written, handle_of};
 
@@ -9,18 +11,18 @@ use itoa::Buffer;
 use std::fmt;
 use thiserror::Error;
 
-/// Why a text is no number, or no handle.
+/// Why a text is not a number, or not a handle.
 #[derive(Clone, Copy, Debug, PartialEq, Eq, Hash, Error)]
 pub enum TextFault {
-    /// It is not of the form.
+    /// The text does not have the form.
     #[error("not of the form")]
     Shape,
-    /// It is of the form, and a number in it is out of range.
+    /// The text has the form, but a number in it is out of range.
     #[error("a number out of range")]
     Range,
 }
 
-/// What stands before the first separator and what stands behind it, or `None` where there is none.
+/// The bytes before the first separator and the bytes after it, or `None` if there is no separator.
 pub fn split_once(bytes: &[u8], separator: u8) -> Option<(&[u8], &[u8])>
     ensures found { IfSome result (λ parts. bytes.now ≡ parts.0.now ++ separator ∷ parts.1.now) }
     ensures first { IfSome result (λ parts. All (λ byte. byte ≢ separator) parts.0.now) }
@@ -31,25 +33,26 @@ pub fn split_once(bytes: &[u8], separator: u8) -> Option<(&[u8], &[u8])>
 }
 
 impl Handle {
-    /// The handle of this text: its index in decimal, the letter `v`, its generation in decimal.
+    /// The handle of this text: the index in decimal, the letter `v`, the generation in decimal. A
+    /// decimal has no sign and no leading zero.
     ///
-    /// It is linear in the text, however long that is, and takes no memory.
+    /// It takes time linear in the length of the text, which may be any, and no memory.
     ///
     /// # Errors
     ///
-    /// `Shape` where the text is not of this form, as with a leading zero, and `Range` where it is
-    /// and no handle has these numbers.
+    /// - `Shape`: the text does not have this form.
+    /// - `Range`: it has this form, and no handle has these numbers.
     pub fn read_text(bytes: &[u8]) -> Result<Self, TextFault>
-        // What is read is spelled so.
+        // The text is that of the handle that is read.
         ensures found { IfOk result (λ h. IsHandle h × (bytes.now ≡ handle_text h)) }
-        // What is spelled so is read.
+        // The text of each handle is read as that handle.
         ensures only { (h : HandleValue) → IsHandle h → bytes.now ≡ handle_text h → result ≡ Ok h }
 
         ensures shape { IsErrOf result TextFault.Shape ↔ (¬ HasHandleForm bytes.now) }
-        ensures range { IsErrOf result TextFault.Range
-            ↔ (HasHandleForm bytes.now × ((h : HandleValue) → IsHandle h → bytes.now ≢ handle_text h)) }
+        ensures range { IsErrOf result TextFault.Range ↔ (HasHandleForm bytes.now
+            × ((h : HandleValue) → IsHandle h → bytes.now ≢ handle_text h)) }
 
-        // All of it, as a function of the text.
+        // The whole answer, as a function of the text.
         ensures exact { result ≡ handle_of bytes.now }
     {
         let Some((index, generation)) = split_once(bytes, b'v') else {
@@ -70,15 +73,16 @@ impl Handle {
         Handle::new(decimal_value(index)?, decimal_value(generation)?)
     }
 
-    /// Appends the handle's text.
+    /// Appends the handle's text. It takes memory only if `out` has no room for the whole text.
     ///
     /// # Errors
     ///
-    /// `Memory` where there is no room for all of it, and then `out` keeps its items.
+    /// `Memory`: there is no memory for the text. `out` has the same items as before.
     pub fn write_text(&self, out: &mut Vec<u8>) -> Result<(), Memory>
         ensures ok { OnOk result (out.new.items ≡ out.old.items ++ handle_text self.now) }
         ensures err { OnErr result (out.new.items ≡ out.old.items) }
-        ensures full { OnErr result (vec_capacity out.old < vec_len out.old + length (handle_text self.now)) }
+        ensures full { OnErr result
+            (vec_capacity out.old < vec_len out.old + length (handle_text self.now)) }
         ensures capacity { vec_capacity out.old ≤ vec_capacity out.new }
     {
         let mut index = Buffer::new();
@@ -88,13 +92,13 @@ impl Handle {
 
         out.reserve(index.len() + 1 + generation.len())?;
         out.extend_from_slice(index).unwrap();
-        out.push(b'v').unwrap();
+        out.push_reserved(b'v');
         out.extend_from_slice(generation).unwrap();
         Ok(())
     }
 }
 
-/// Writes the handle's text, as `write_text` does.
+/// The handle's text, as `Handle::write_text` appends it.
 impl fmt::Display for Handle {
     ghost use Rattle.std.specs.Prelude.{Some};
     ghost use Rattle.ent_handle.specs.Text.{handle_text};

@@ -1,5 +1,7 @@
--- The handles of some rows, by birth and then by handle.
-use Rattle.std.proofs.Common.{◌≡◌, ◌≢◌, ℕ, zero, suc, ◌<◌, Bool, true, false, cond, List, [], ◌∷◌, map, length, get_or, Option, Some, None, Contains, IsSomeAnd, IsTrue, unwrap_or, refl, sym, ap, subst, ◌∙◌, arith}
+-- The handles of the living entities that pass, by birth and then by handle.
+use Rattle.std.proofs.Common.{◌≡◌, ◌≢◌, ℕ, zero, suc, ◌<◌, Bool, true, false, cond, List, [], ◌∷◌}
+use Rattle.std.proofs.Common.{map, length, get_or, Option, Some, None, Contains, IsSomeAnd, IsTrue}
+use Rattle.std.proofs.Common.{unwrap_or, refl, sym, ap, subst, ◌∙◌, arith}
 use Rattle.std.specs.declared.cmp.Ordering.{Ordering}
 use Rattle.std.specs.declared.cmp.Ordering.TheVariants.{Less, Equal, Greater}
 use Rattle.std.specs.Ordering.{is_lt, is_eq, eq_by_cmp, ordering_then, ordering_reverse}
@@ -7,26 +9,29 @@ use Rattle.std.specs.Option.{option_map, option_cmp}
 use Rattle.std.specs.Cmp.{IsTotalOrder, then_total, on_total, eq_by_cmp_equiv}
 use Rattle.std.specs.List.{All, AllPairs, filter, IsDistinct}
 use Rattle.std.proofs.lemmas.List.{get_or-map, get_or_default, length-map}
-use Rattle.std.proofs.lemmas.List.Sorted.{sorted_far, ranks_by, All-permutation, Contains-permutation}
+use Rattle.std.proofs.lemmas.List.Sorted.{sorted_far, ranks_by, All-permutation}
+use Rattle.std.proofs.lemmas.List.Sorted.{Contains-permutation}
 use Rattle.std.proofs.lemmas.List.Elements.{All-filter, filter_passes}
 use Rattle.std.proofs.lemmas.List.Kept.{AllPairs-filter}
-use Rattle.std.proofs.lemmas.Map.Keys.{IsDistinct-from_apart, IsDistinct-IsPermutation, apart_from_distinct}
+use Rattle.std.proofs.lemmas.Map.Keys.{IsDistinct-from_apart, IsDistinct-IsPermutation}
+use Rattle.std.proofs.lemmas.Map.Keys.{apart_from_distinct}
 use Rattle.std.specs.FinMap as finite
 use Rattle.std.specs.FinMap.{FinMap}
 use Rattle.ent_handle.specs.declared.birth.Birth.{Birth}
 use Rattle.ent_handle.specs.Birth.{birth_cmp, birth_cmp_total}
-use Rattle.ent_handle.specs.Handle.{Handle, handle_cmp, handle_cmp_total, handle_cmp-IsAntisymmetric}
-use Rattle.ent_storage.specs.declared.row.Row.{Row}
+use Rattle.ent_handle.specs.Handle.{Handle, handle_cmp, handle_cmp_total}
+use Rattle.ent_handle.specs.Handle.{handle_cmp-IsAntisymmetric}
+use Rattle.ent_storage.specs.declared.living.LivingEntity.{LivingEntity}
 use Rattle.ent_storage.specs.EntityMap.{Entity}
-use Rattle.ent_storage.specs.Rows.{entity_of, entities_of, IsIndexed}
-use Rattle.ent_storage.specs.BirthOrder.{birth_order, born_cmp, ListsByBirth, IsInOrder}
+use Rattle.ent_storage.specs.Indexed.{entity_of, entities_of, IsIndexed}
+use Rattle.ent_storage.specs.BirthOrder.{birth_order, pair_cmp, ListsByBirth, IsInOrder}
 use Rattle.ent_storage.proofs.Keys.{apart}
-use Rattle.ent_storage.proofs.Indexed.{some_row, get_placed, placed_from_get, distinct}
+use Rattle.ent_storage.proofs.Indexed.{some_entity, get_placed, placed_from_get, distinct}
 
 -- ---- the order is total
 
-born_cmp_total : IsTotalOrder born_cmp
-born_cmp_total =
+pair_cmp_total : IsTotalOrder pair_cmp
+pair_cmp_total =
     then_total (on_total (λ (b : Birth × Handle). b.0) birth_cmp_total) (on_total (λ (b : Birth × Handle). b.1) handle_cmp_total)
 
 -- an order that does not turn, at handles that differ
@@ -60,14 +65,14 @@ pub filter-all : {X : Type 0} (xs : List X) → filter (λ _. true) xs ≡ xs
 filter-all [] = refl
 filter-all (x ∷ xs) = ap (λ ys. x ∷ ys) (filter-all xs)
 
--- ---- the births of the rows that pass
+-- ---- the births of the entities that pass
 
-abbrev born_of : Row → Birth × Handle
-born_of row = (row.birth, row.handle)
+abbrev born_of : LivingEntity → Birth × Handle
+born_of entity = (entity.birth, entity.handle)
 
-module _ (rows : List Row) (index : FinMap handle_cmp ℕ) (indexed : IsIndexed rows index) (passes : Entity → Bool) where
-  abbrev chosen : List Row
-  chosen = filter (λ row. passes (entity_of row)) rows
+module _ (living : List LivingEntity) (index : FinMap handle_cmp ℕ) (indexed : IsIndexed living index) (passes : Entity → Bool) where
+  abbrev chosen : List LivingEntity
+  chosen = filter (λ entity. passes (entity_of entity)) living
 
   abbrev births : List (Birth × Handle)
   births = map born_of chosen
@@ -75,23 +80,23 @@ module _ (rows : List Row) (index : FinMap handle_cmp ℕ) (indexed : IsIndexed 
   -- an entity that passes has this birth and this handle
   record IsBorn (b : Birth × Handle) : Type 0 where
     entity : Entity
-    there : finite.get (entities_of rows) b.1 ≡ Some entity
+    there : finite.get (entities_of living) b.1 ≡ Some entity
     birth : entity.birth ≡ b.0
     pass : passes entity ≡ true
 
-  all_there : All (λ row. finite.get (entities_of rows) row.handle ≡ Some (entity_of row)) rows
-  all_there k d l = get_placed rows index indexed (get_or rows k d).handle k d (indexed.each_row k l d)
+  all_there : All (λ entity. finite.get (entities_of living) entity.handle ≡ Some (entity_of entity)) living
+  all_there k d l = get_placed living index indexed (get_or living k d).handle k d (indexed.each_entity k l d)
 
   all_born : All IsBorn births
   all_born k d l =
-      let r : Row = some_row d.1 in
+      let r : LivingEntity = some_entity d.1 in
       let below : k < length chosen = omega (arith, length-map {B = Birth × Handle} chosen born_of) in
       let at = get_or-map born_of chosen k r d below in
       subst IsBorn (sym at) (record {
         entity = entity_of (get_or chosen k r);
-        there = All-filter (λ row. passes (entity_of row)) (λ row. finite.get (entities_of rows) row.handle ≡ Some (entity_of row)) rows all_there k r below;
+        there = All-filter (λ entity. passes (entity_of entity)) (λ entity. finite.get (entities_of living) entity.handle ≡ Some (entity_of entity)) living all_there k r below;
         birth = refl;
-        pass = filter_passes (λ row. passes (entity_of row)) rows k r below;
+        pass = filter_passes (λ entity. passes (entity_of entity)) living k r below;
       })
 
   abbrev alike : Birth × Handle → Birth × Handle → Bool
@@ -99,11 +104,11 @@ module _ (rows : List Row) (index : FinMap handle_cmp ℕ) (indexed : IsIndexed 
 
   births_apart : IsDistinct alike births
   births_apart = IsDistinct-from_apart alike births (λ i j d l k.
-      let r : Row = some_row d.1 in
+      let r : LivingEntity = some_entity d.1 in
       let below : j < length chosen = omega (arith, length-map {B = Birth × Handle} chosen born_of) in
       let at_i = get_or-map born_of chosen i r d (omega arith) in
       let at_j = get_or-map born_of chosen j r d below in
-      let differ = AllPairs-filter (λ (a b : Row). a.handle ≢ b.handle) (λ row. passes (entity_of row)) rows (λ i j d l k e. let twice : i ≡ j = distinct rows index indexed i j d (omega arith) k e in absurd (omega arith)) i j r l below in
+      let differ = AllPairs-filter (λ (a b : LivingEntity). a.handle ≢ b.handle) (λ entity. passes (entity_of entity)) living (λ i j d l k e. let twice : i ≡ j = distinct living index indexed i j d (omega arith) k e in absurd (omega arith)) i j r l below in
       rw (at_i, at_j) (apart handle_cmp_total handle_cmp-IsAntisymmetric _ _ differ))
 
   module _ (handles : List Handle) (ordered : IsInOrder births handles) where
@@ -117,7 +122,7 @@ module _ (rows : List Row) (index : FinMap handle_cmp ℕ) (indexed : IsIndexed 
     sorted_apart =
         IsDistinct-IsPermutation alike (λ x y. (eq_by_cmp_equiv handle_cmp_total).symm x.1 y.1) births sorted ordered.permutation births_apart
 
-    in_order : (i j : ℕ) (b : Birth × Handle) → i < j → j < length sorted → birth_order (entities_of rows) (get_or sorted i b).1 (get_or sorted j b).1 ≡ Less
+    in_order : (i j : ℕ) (b : Birth × Handle) → i < j → j < length sorted → birth_order (entities_of living) (get_or sorted i b).1 (get_or sorted j b).1 ≡ Less
     in_order i j b l k =
         let x = get_or sorted i b in
         let y = get_or sorted j b in
@@ -125,46 +130,46 @@ module _ (rows : List Row) (index : FinMap handle_cmp ℕ) (indexed : IsIndexed 
         let born_y : IsBorn (get_or sorted j b) = all_sorted j b k in
         let birth_x = ap (λ (o : Option Entity). option_map (λ (e : Entity). e.birth) o) born_x.there ∙ ap Some born_x.birth in
         let birth_y = ap (λ (o : Option Entity). option_map (λ (e : Entity). e.birth) o) born_y.there ∙ ap Some born_y.birth in
-        let unturned = sorted_far (λ (p q : Birth × Handle). is_lt (born_cmp p q)) (ranks_by born_cmp_total (λ p. p)) sorted ordered.in_order i j b (omega arith) k in
-        let turned = ap is_lt (sym (born_cmp_total.antisymm y x)) ∙ unturned in
+        let unturned = sorted_far (λ (p q : Birth × Handle). is_lt (pair_cmp p q)) (ranks_by pair_cmp_total (λ p. p)) sorted ordered.in_order i j b (omega arith) k in
+        let turned = ap is_lt (sym (pair_cmp_total.antisymm y x)) ∙ unturned in
         let differ = apart_from_distinct alike sorted i j b sorted_apart l k in
         (λ t. ordering_then (option_cmp birth_cmp (birth_x t) (birth_y t)) (handle_cmp x.1 y.1)) ∙ strictly (birth_cmp x.0 y.0) (handle_cmp x.1 y.1) turned differ
 
-    rising : AllPairs (λ a b. birth_order (entities_of rows) a b ≡ Less) (map (λ (born : Birth × Handle). born.1) sorted)
+    rising : AllPairs (λ a b. birth_order (entities_of living) a b ≡ Less) (map (λ (born : Birth × Handle). born.1) sorted)
     rising i j d l k =
         let b : Birth × Handle = (record { frame = 0; system = 0; ordinal = 0 }, d) in
         let below : j < length sorted = omega (arith, length-map {B = Handle} sorted (λ born. born.1)) in
         let at_i = get_or-map (λ (born : Birth × Handle). born.1) sorted i b d (omega arith) in
         let at_j = get_or-map (λ (born : Birth × Handle). born.1) sorted j b d below in
-        (λ t. birth_order (entities_of rows) (at_i t) (at_j t)) ∙ in_order i j b l below
+        (λ t. birth_order (entities_of living) (at_i t) (at_j t)) ∙ in_order i j b l below
 
-    from_list : (h : Handle) → Contains (map (λ (born : Birth × Handle). born.1) sorted) h → IsSomeAnd (finite.get (entities_of rows) h) (λ e. IsTrue (passes e))
+    from_list : (h : Handle) → Contains (map (λ (born : Birth × Handle). born.1) sorted) h → IsSomeAnd (finite.get (entities_of living) h) (λ e. IsTrue (passes e))
     from_list h at =
         let b : Birth × Handle = (record { frame = 0; system = 0; ordinal = 0 }, h) in
         let below : at.0 < length sorted = omega (arith, length-map {B = Handle} sorted (λ born. born.1), at.1) in
         let is = sym (get_or-map (λ (born : Birth × Handle). born.1) sorted at.0 b h below) ∙ at.2 in
         let born : IsBorn (get_or sorted at.0 b) = all_sorted at.0 b below in
-        subst (λ (o : Option Entity). IsSomeAnd o (λ e. IsTrue (passes e))) (sym (ap (finite.get (entities_of rows)) (sym is) ∙ born.there)) born.pass
+        subst (λ (o : Option Entity). IsSomeAnd o (λ e. IsTrue (passes e))) (sym (ap (finite.get (entities_of living)) (sym is) ∙ born.there)) born.pass
 
-    of_row : (h : Handle) (e : Entity) (i : ℕ) → finite.get (entities_of rows) h ≡ Some e → finite.get index h ≡ Some i → passes e ≡ true → Contains (map (λ (born : Birth × Handle). born.1) sorted) h
-    of_row h e i found placed pass =
-        let r : Row = some_row h in
-        let row : Row = get_or rows i r in
+    of_entity : (h : Handle) (e : Entity) (i : ℕ) → finite.get (entities_of living) h ≡ Some e → finite.get index h ≡ Some i → passes e ≡ true → Contains (map (λ (born : Birth × Handle). born.1) sorted) h
+    of_entity h e i found placed pass =
+        let r : LivingEntity = some_entity h in
+        let entity : LivingEntity = get_or living i r in
         let at = indexed.each_place h i placed in
-        let is : entity_of row ≡ e = same_entity (entity_of row) e (sym (get_placed rows index indexed h i r placed) ∙ found) in
-        let read = get_or_default rows i row r at.0 in
-        let among = contains_filter (λ row. passes (entity_of row)) rows row i at.0 read (ap passes is ∙ pass) in
-        let listed = Contains-permutation births sorted (born_of row) ordered.permutation (contains_map born_of chosen row among) in
-        subst (λ q. Contains (map (λ (born : Birth × Handle). born.1) sorted) q) (at.1 r) (contains_map (λ (born : Birth × Handle). born.1) sorted (born_of row) listed)
+        let is : entity_of entity ≡ e = same_entity (entity_of entity) e (sym (get_placed living index indexed h i r placed) ∙ found) in
+        let read = get_or_default living i entity r at.0 in
+        let among = contains_filter (λ entity. passes (entity_of entity)) living entity i at.0 read (ap passes is ∙ pass) in
+        let listed = Contains-permutation births sorted (born_of entity) ordered.permutation (contains_map born_of chosen entity among) in
+        subst (λ q. Contains (map (λ (born : Birth × Handle). born.1) sorted) q) (at.1 r) (contains_map (λ (born : Birth × Handle). born.1) sorted (born_of entity) listed)
 
-    to_list : (h : Handle) (o : Option Entity) → finite.get (entities_of rows) h ≡ o → IsSomeAnd o (λ e. IsTrue (passes e)) → Contains (map (λ (born : Birth × Handle). born.1) sorted) h
+    to_list : (h : Handle) (o : Option Entity) → finite.get (entities_of living) h ≡ o → IsSomeAnd o (λ e. IsTrue (passes e)) → Contains (map (λ (born : Birth × Handle). born.1) sorted) h
     to_list h None found pass = absurd pass
     to_list h (Some e) found pass =
-        let place = placed_from_get rows index indexed h e found in
-        of_row h e place.0 found place.1 pass
+        let place = placed_from_get living index indexed h e found in
+        of_entity h e place.0 found place.1 pass
 
-    pub lists : ListsByBirth passes (entities_of rows) handles
-    lists = subst (ListsByBirth passes (entities_of rows)) (sym ordered.are) (record {
+    pub lists : ListsByBirth passes (entities_of living) handles
+    lists = subst (ListsByBirth passes (entities_of living)) (sym ordered.are) (record {
       rising = rising;
       holds = λ h. (from_list h, to_list h _ refl);
     })

@@ -1,11 +1,12 @@
 -- How many items set a component that is not there.
-use Rattle.std.proofs.Common.{◌≡◌, ℕ, ℤ, ◌+◌, ◌<◌, ◌≤◌, Bool, true, false, cond, List, [], ◌∷◌, length, get_or, drop, Some, is_none, arith}
+use Rattle.std.proofs.Common.{◌≡◌, ℕ, ℤ, ◌+◌, ◌<◌, ◌≤◌, Bool, true, false, cond, List, [], ◌∷◌}
+use Rattle.std.proofs.Common.{length, get_or, drop, Some, is_none, arith}
 use Rattle.std.specs.Ordering.{eq_by_cmp}
 use Rattle.std.specs.FinMap as map
 use Rattle.std.proofs.lemmas.List.Sums.{sum_by-drop_more, sum_by-le-sum_by}
 use Rattle.ent_handle.specs.declared.component.ComponentId.{ComponentId}
 use Rattle.ent_handle.specs.Component.{component_cmp, component_cmp_total}
-use Rattle.ent_storage.specs.Component.{Components, missing}
+use Rattle.ent_storage.specs.Components.{Components, missing}
 
 still : (b : Bool) (v : ℤ) (o : _) → cond (is_none (cond b (Some v) o)) 1 0 ≤ cond (is_none o) 1 0
 still true v o = omega arith

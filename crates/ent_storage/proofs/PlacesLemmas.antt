@@ -2,5 +2,5 @@
 use Rattle.std.proofs.Common.{◌≡◌}
 use Rattle.ent_storage.specs.Places.{Places}
 
-pub same_places : (p q : Places) → p.rows ≡ q.rows → p.room ≡ q.room → p ≡ q
-same_places p q rows room = λ i. record { rows = rows i; room = room i }
+pub same_places : (p q : Places) → p.by_handle ≡ q.by_handle → p.room ≡ q.room → p ≡ q
+same_places p q by_handle room = λ i. record { by_handle = by_handle i; room = room i }

@@ -1,5 +1,7 @@
--- Lists of entries whose keys strictly rise: what stands where a search ends, and what an edit there leaves.
-use Rattle.std.proofs.Common.{◌≡◌, ℕ, zero, suc, ◌+◌, ◌<◌, ◌≤◌, Bool, true, false, cond, not, ◌&&◌, T, List, [], ◌∷◌, length, get_or, set, Some, None, Result, Ok, Err, IfOk, IfErr, Ordering, refl, sym, ap, subst, ◌∙◌, arith}
+-- Lists of pairs whose keys strictly rise: what a search finds, and what an edit at its position leaves.
+use Rattle.std.proofs.Common.{◌≡◌, ℕ, zero, suc, ◌+◌, ◌<◌, ◌≤◌, Bool, true, false, cond, not, ◌&&◌}
+use Rattle.std.proofs.Common.{T, List, [], ◌∷◌, length, get_or, set, Some, None, Result, Ok, Err}
+use Rattle.std.proofs.Common.{IfOk, IfErr, Ordering, refl, sym, ap, subst, ◌∙◌, arith}
 use Rattle.std.specs.declared.cmp.Ordering.TheVariants.{Less, Equal, Greater}
 use Rattle.std.specs.Ordering.{is_lt, is_eq, eq_by_cmp, ordering_reverse, ordering_index}
 use Rattle.std.specs.Cmp.{IsTotalOrder, alike_right, eq_by_cmp_equiv}
@@ -7,9 +9,10 @@ use Rattle.std.specs.List.{insert, remove, AllWithin}
 use Rattle.std.specs.List.Sorted.{IsNonDecreasingBy, IsSearchInRange, IsBinarySearchResult}
 use Rattle.std.proofs.lemmas.List.Sorted.{searchable_from_sorted}
 use Rattle.std.specs.FinMap as map
-use Rattle.ent_storage.specs.Place.{IsAt, IsGapFor}
+use Rattle.ent_storage.specs.Position.{IsAt, IsGapFor}
 use Rattle.std.specs.FinMap.{IsAntisymmetric, find, put, is_sorted}
-use Rattle.std.specs.FinMap.Entries.{below_all, where_key, by_order, is_sorted-put, is_sorted-where_key, find-where_key}
+use Rattle.std.specs.FinMap.Entries.{below_all, where_key, by_order, is_sorted-put}
+use Rattle.std.specs.FinMap.Entries.{is_sorted-where_key, find-where_key}
 
 first : (a b : Bool) → T (a && b) → T a
 first true b h = tt
@@ -58,14 +61,14 @@ module _ {K X : Type 0} {R : K → K → Ordering} (o : IsTotalOrder R) where
   above_head k e es i d h l t =
       o.congr k (get_or es i d).0 e.0 (turn o _ _ Equal t) ∙ turn o _ _ Less (below_at e.0 es i d (first _ _ h) l)
 
-  -- a key that ties at a place is found there
+  -- a key that ties at a position is found there
   pub find_at : (es : List (K × X)) (k : K) (i : ℕ) (d : K × X) → T (is_sorted R es) → i < length es → R (get_or es i d).0 k ≡ Equal → find R k es ≡ Some (get_or es i d).1
   find_at [] k i d h l t = absurd (omega arith)
   find_at (e ∷ es) k zero d h l t = ap (λ r. cond (is_eq r) (Some e.1) (find R k es)) (turn o _ _ Equal t)
   find_at (e ∷ es) k (suc i) d h l t =
       ap (λ r. cond (is_eq r) (Some e.1) (find R k es)) (above_head k e es i d h (omega arith) t) ∙ find_at es k i d (second _ _ h) (omega arith) t
 
-  -- a key that stands between two places is not found
+  -- a key between two positions is not found
   pub find_gap : (es : List (K × X)) (k : K) (i : ℕ) → AllWithin (λ e. R e.0 k ≡ Less) es 0 i → AllWithin (λ e. R e.0 k ≡ Greater) es i (length es) → find R k es ≡ None
   find_gap [] k i below above = refl
   find_gap (e ∷ es) k zero below above =
@@ -75,7 +78,7 @@ module _ {K X : Type 0} {R : K → K → Ordering} (o : IsTotalOrder R) where
       ap (λ r. cond (is_eq r) (Some e.1) (find R k es)) (turn o _ _ Less (below zero e (omega arith) (omega arith)))
       ∙ find_gap es k i (λ j d low high. below (suc j) d (omega arith) (omega arith)) (λ j d low high. above (suc j) d (omega arith) (omega arith))
 
-  -- an entry is put where its key stands between two places
+  -- a pair whose key is between two positions is put there
   pub put_gap : (es : List (K × X)) (k : K) (v : X) (i : ℕ) → i ≤ length es → AllWithin (λ e. R e.0 k ≡ Less) es 0 i → AllWithin (λ e. R e.0 k ≡ Greater) es i (length es) → put R k v es ≡ insert es i (k, v)
   put_gap [] k v zero l below above = refl
   put_gap [] k v (suc i) l below above = absurd (omega arith)
@@ -85,7 +88,7 @@ module _ {K X : Type 0} {R : K → K → Ordering} (o : IsTotalOrder R) where
       ap (λ r. by_order r ((k, v) ∷ e ∷ es) ((e.0, v) ∷ es) (e ∷ put R k v es)) (turn o _ _ Less (below zero e (omega arith) (omega arith)))
       ∙ ap (λ fs. e ∷ fs) (put_gap es k v i (omega arith) (λ j d low high. below (suc j) d (omega arith) (omega arith)) (λ j d low high. above (suc j) d (omega arith) (omega arith)))
 
-  -- an entry is put over the one whose key ties
+  -- a pair is put over the one whose key ties
   pub put_at : (es : List (K × X)) (k : K) (v : X) (i : ℕ) (d : K × X) → T (is_sorted R es) → i < length es → R (get_or es i d).0 k ≡ Equal → put R k v es ≡ set es i ((get_or es i d).0, v)
   put_at [] k v i d h l t = absurd (omega arith)
   put_at (e ∷ es) k v zero d h l t =
@@ -101,7 +104,7 @@ module _ {K X : Type 0} {R : K → K → Ordering} (o : IsTotalOrder R) where
       let here : R k e.0 ≡ Less = sym (o.congr x k e.0 t) ∙ less _ (first _ _ h) in
       ap (λ r. cond (not (is_eq r)) (e ∷ where_key R (λ y. not (eq_by_cmp R k y)) es) (where_key R (λ y. not (eq_by_cmp R k y)) es)) here ∙ ap (λ fs. e ∷ fs) rest
 
-  -- taking a key out takes out the entry that ties
+  -- taking a key out takes out the pair that ties
   pub where_key_at : (es : List (K × X)) (k : K) (i : ℕ) (d : K × X) → T (is_sorted R es) → i < length es → R (get_or es i d).0 k ≡ Equal → where_key R (λ y. not (eq_by_cmp R k y)) es ≡ remove es i
   where_key_at [] k i d h l t = absurd (omega arith)
   where_key_at (e ∷ es) k zero d h l t =
@@ -144,7 +147,7 @@ remove_absent {K = K} {R = R} o same m k none =
     by q true e = sym none ∙ map.get_tied o m q k (equal _ (subst T (sym e) tt))
     by q false e = refl
 
--- what an edit leaves, where the entries stand for a map
+-- what an edit leaves, if the pairs stand for a map
 module _ {K X : Type 0} {R : K → K → Ordering} (o : IsTotalOrder R) (same : IsAntisymmetric R) (es : List (K × X)) (h : T (is_sorted R es)) (k : K) (i : ℕ) where
   pub get_at : (d : K × X) → IsAt R es k i → map.get (map.from_sorted {R = R} es) k ≡ Some (get_or es i d).1
   get_at d at = map.get-from_sorted R es k h ∙ find_at o es k i d h at.in_range (at.has_key d)

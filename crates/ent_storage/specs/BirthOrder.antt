@@ -1,26 +1,28 @@
--- Lists of handles in the order of birth.
+-- Lists of handles in the order of births.
 use Rattle.std.specs.Prelude.{◌≡◌, Bool, true, ◌↔◌, List, map, Contains, IsTrue, IsSomeAnd}
 use Rattle.std.specs.Option.{option_cmp}
 use Rattle.std.specs.declared.cmp.Ordering.{Ordering}
 use Rattle.std.specs.declared.cmp.Ordering.TheVariants.{Less}
-use Rattle.std.specs.Ordering.{on, ordering_then, then_cmp}
+use Rattle.std.specs.Ordering.{on, then_cmp}
 use Rattle.std.specs.List.{AllPairs}
 use Rattle.std.specs.List.Sorted.{IsPermutation, IsSorted}
 use Rattle.std.specs.FinMap as finite
 use Rattle.ent_handle.specs.declared.birth.Birth.{Birth}
-use Rattle.ent_handle.specs.Birth.{birth_cmp}
 use Rattle.ent_handle.specs.declared.component.ComponentId.{ComponentId}
+use Rattle.ent_handle.specs.Birth.{birth_cmp}
 use Rattle.ent_handle.specs.Handle.{Handle, handle_cmp}
 use Rattle.ent_storage.specs.EntityMap.{Entity, EntityMap, birth_of}
 
--- by birth, then by handle
+-- entities by birth, then by handle
 abbrev pub birth_order : EntityMap → Handle → Handle → Ordering
-birth_order m a b = ordering_then (option_cmp birth_cmp (birth_of m a) (birth_of m b)) (handle_cmp a b)
+birth_order m = then_cmp (on (birth_of m) (option_cmp birth_cmp)) handle_cmp
 
--- the list has the handles of the entities that pass and no others, rising by birth and then by handle
-pub record ListsByBirth (passes : Entity → Bool) (m : EntityMap) (handles : List Handle) : Type 0 where
+-- the list has the handles of the entities that pass and no others, each once, in the order of births
+pub record ListsByBirth (passes : Entity → Bool) (m : EntityMap) (handles : List Handle)
+    : Type 0 where
   pub rising : AllPairs (λ a b. birth_order m a b ≡ Less) handles
-  pub holds : (h : Handle) → Contains handles h ↔ IsSomeAnd (finite.get m h) (λ e. IsTrue (passes e))
+  pub holds : (h : Handle) → Contains handles h
+      ↔ IsSomeAnd (finite.get m h) (λ e. IsTrue (passes e))
 
 -- all entities
 abbrev pub ListsAll : EntityMap → List Handle → Type 0
@@ -30,13 +32,13 @@ ListsAll = ListsByBirth (λ _. true)
 abbrev pub ListsWith : ComponentId → EntityMap → List Handle → Type 0
 ListsWith id = ListsByBirth (λ e. finite.contains_key e.components id)
 
--- births with their handles, as they are compared
-abbrev pub born_cmp : Birth × Handle → Birth × Handle → Ordering
-born_cmp = then_cmp (on (λ b. b.0) birth_cmp) (on (λ b. b.1) handle_cmp)
+-- pairs of a birth and a handle, in the same order
+abbrev pub pair_cmp : Birth × Handle → Birth × Handle → Ordering
+pair_cmp = then_cmp (on (λ pair. pair.0) birth_cmp) (on (λ pair. pair.1) handle_cmp)
 
--- the handles are those of the births, in order
-pub record IsInOrder (births : List (Birth × Handle)) (handles : List Handle) : Type 0 where
+-- the handles are those of the pairs, in order
+pub record IsInOrder (pairs : List (Birth × Handle)) (handles : List Handle) : Type 0 where
   pub sorted : List (Birth × Handle)
-  pub permutation : IsPermutation births sorted
-  pub in_order : IsSorted born_cmp sorted
-  pub are : handles ≡ map (λ born. born.1) sorted
+  pub permutation : IsPermutation pairs sorted
+  pub in_order : IsSorted pair_cmp sorted
+  pub are : handles ≡ map (λ pair. pair.1) sorted

@@ -1,7 +1,7 @@
-pub mod Component
+pub mod Components
 pub mod EntityMap
 pub mod BirthOrder
-pub mod Place
+pub mod Position
 pub mod Places
-pub mod Rows
+pub mod Indexed
 pub mod Fault

@@ -1,15 +1,16 @@
--- Where each entity's row stands.
+-- The places of entities: where each of them stands in the vectors of a storage.
 use Rattle.std.specs.Prelude.{ℕ, refl}
 use Rattle.std.specs.Coded.{Coded, code_by, coded×, coded_ℕ}
 use Rattle.std.specs.FinMap as map
 use Rattle.ent_handle.specs.Handle.{handle_cmp, handle_code}
 
--- the number of each entity's row, and for how many more there is room
+-- the place of each handle, and for how many more there is room
 pub record Places : Type 0 where
-  pub rows : map.FinMap handle_cmp ℕ
+  pub by_handle : map.FinMap handle_cmp ℕ
   pub room : ℕ
 
--- places are stored as the pair of these
+-- places are stored as the pair of these two
 abbrev pub places_code : Coded Places
 places_code =
-    code_by (map.FinMap handle_cmp ℕ × ℕ) (coded× (map.code handle_code coded_ℕ) coded_ℕ) (λ p. (p.rows, p.room)) (λ p. record { rows = p.0; room = p.1 }) (λ _. refl)
+    code_by (map.FinMap handle_cmp ℕ × ℕ) (coded× (map.code handle_code coded_ℕ) coded_ℕ)
+    (λ p. (p.by_handle, p.room)) (λ p. record { by_handle = p.0; room = p.1 }) (λ _. refl)

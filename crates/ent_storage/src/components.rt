@@ -1,33 +1,33 @@
-ghost use Rattle.std.specs.Prelude.{◌≡◌, ◌+◌, ◌<◌, ◌≤◌, [], ◌∷◌, None, OnOk, OnErr, T, vec_len, vec_capacity};
+ghost use Rattle.std.specs.Prelude.{◌≡◌, ◌+◌, ◌<◌, ◌≤◌, [], ◌∷◌, None, OnOk, OnErr, T, vec_len};
+ghost use Rattle.std.specs.Prelude.{vec_capacity};
 ghost use Rattle.std.specs.FinMap as map;
 ghost use Rattle.ent_handle.specs.Component.{component_cmp};
-ghost use Rattle.ent_storage.specs.Component.{with_items, missing};
+ghost use Rattle.ent_storage.specs.Components.{with_items, missing};
 
 use super::sorted::search;
 use ent_handle::ComponentId;
 use std::alloc::{AllocError, Global};
 use std::marker::Model;
 
-/// The components of one entity, in the order of their numbers.
+/// The components of one entity. The pairs are in the order of component numbers.
 #[derive(Drop)]
 pub struct Components {
-    entries: Vec<(ComponentId, i64)>,
+    pairs: Vec<(ComponentId, i64)>,
 }
 
 impl Model for Components {
-    ghost use Rattle.std.specs.Prelude.{T};
+    ghost use Rattle.std.specs.Prelude.{ℤ, T};
     ghost use Rattle.std.specs.FinMap as map;
     ghost use Rattle.ent_handle.specs.Component.{component_cmp};
-    ghost use Rattle.ent_storage.specs.Component.{components_code};
-    ghost use Rattle.std.specs.Prelude.{ℤ};
+    ghost use Rattle.ent_storage.specs.Components.{components_code};
 
     ghost Value = { map.FinMap component_cmp ℤ };
 
     ghost coded = { components_code };
 
-    ghost view = { λ a. map.from_sorted a.entries.items };
+    ghost view = { λ a. map.from_sorted a.pairs.items };
 
-    ghost invariant = { λ a. T (map.is_sorted component_cmp a.entries.items) };
+    ghost invariant = { λ a. T (map.is_sorted component_cmp a.pairs.items) };
 }
 
 impl Components {
@@ -35,20 +35,21 @@ impl Components {
         ensures { result ≡ map.empty }
     {
         Components {
-            entries: Vec::new(alloc),
+            pairs: Vec::new(alloc),
         }
     }
 
+    /// The value of the component, if it is there.
     pub fn get(&self, id: ComponentId) -> Option<i64>
         ensures { result ≡ map.get self.now id }
     {
-        match search(&self.entries, id) {
-            Ok(place) => Some(self.entries[place].1),
+        match search(&self.pairs, id) {
+            Ok(position) => Some(self.pairs[position].1),
             Err(_) => None,
         }
     }
 
-    /// Sets each of the items. On an `Err` nothing is changed.
+    /// Sets each of the items, the first item first. After an `Err` nothing is changed.
     pub fn insert(&mut self, items: &[(ComponentId, i64)]) -> Result<(), AllocError>
         ensures ok { OnOk result (self.new ≡ with_items self.old items.now) }
         ensures err { OnErr result (self.new ≡ self.old) }
@@ -58,8 +59,8 @@ impl Components {
             .iter()
             .filter(|item| self.get(item.0).is_none())
             .count();
-        self.entries.reserve(missing)?;
-        set_all(&mut self.entries, items);
+        self.pairs.reserve(missing)?;
+        set_all(&mut self.pairs, items);
         Ok(())
     }
 
@@ -68,45 +69,50 @@ impl Components {
         ensures value { result ≡ map.get self.old id }
         ensures after { self.new ≡ map.remove self.old id }
     {
-        match search(&self.entries, id) {
-            Ok(place) => Some(self.entries.remove(place).1),
+        match search(&self.pairs, id) {
+            Ok(position) => Some(self.pairs.remove(position).1),
             Err(_) => None,
         }
     }
 
     /// The components and their values, by rising number.
-    pub fn entries(&self) -> &[(ComponentId, i64)]
+    pub fn items(&self) -> &[(ComponentId, i64)]
         ensures { result.now ≡ map.entries self.now }
     {
-        &self.entries
+        &self.pairs
     }
 }
 
-/// Sets each of the items. There is room for those that are missing.
-fn set_all(entries: &mut Vec<(ComponentId, i64)>, items: &[(ComponentId, i64)])
-    requires sorted { T (map.is_sorted component_cmp entries.old.items) }
-    requires room { vec_len entries.old + missing (map.from_sorted entries.old.items) items.now ≤ vec_capacity entries.old }
-    ensures sorted { T (map.is_sorted component_cmp entries.new.items) }
-    ensures items { map.from_sorted entries.new.items ≡ with_items (map.from_sorted entries.old.items) items.now }
+/// Sets each of the items. There has to be room for those that are missing.
+fn set_all(pairs: &mut Vec<(ComponentId, i64)>, items: &[(ComponentId, i64)])
+    requires sorted { T (map.is_sorted component_cmp pairs.old.items) }
+    requires room { vec_len pairs.old + missing (map.from_sorted pairs.old.items) items.now
+        ≤ vec_capacity pairs.old }
+    ensures sorted { T (map.is_sorted component_cmp pairs.new.items) }
+    ensures items { map.from_sorted pairs.new.items
+        ≡ with_items (map.from_sorted pairs.old.items) items.now }
 {
     for item in items {
-        set(entries, *item);
+        set(pairs, *item);
     }
 }
 
-/// Sets one component. There is room for it if it is missing.
-fn set(entries: &mut Vec<(ComponentId, i64)>, item: (ComponentId, i64))
-    requires sorted { T (map.is_sorted component_cmp entries.old.items) }
-    requires room { map.get (map.from_sorted {R = component_cmp} entries.old.items) item.0 ≡ None → vec_len entries.old < vec_capacity entries.old }
-    ensures sorted { T (map.is_sorted component_cmp entries.new.items) }
-    ensures items { map.from_sorted entries.new.items ≡ map.insert (map.from_sorted {R = component_cmp} entries.old.items) item.0 item.1 }
-    ensures len { vec_len entries.new ≡ vec_len entries.old + missing (map.from_sorted entries.old.items) (item ∷ []) }
-    ensures capacity { vec_capacity entries.new ≡ vec_capacity entries.old }
+/// Sets one component. There has to be room for it if it is missing.
+fn set(pairs: &mut Vec<(ComponentId, i64)>, item: (ComponentId, i64))
+    requires sorted { T (map.is_sorted component_cmp pairs.old.items) }
+    requires room { map.get (map.from_sorted {R = component_cmp} pairs.old.items) item.0 ≡ None
+        → vec_len pairs.old < vec_capacity pairs.old }
+    ensures sorted { T (map.is_sorted component_cmp pairs.new.items) }
+    ensures items { map.from_sorted pairs.new.items
+        ≡ map.insert (map.from_sorted {R = component_cmp} pairs.old.items) item.0 item.1 }
+    ensures len { vec_len pairs.new
+        ≡ vec_len pairs.old + missing (map.from_sorted pairs.old.items) (item ∷ []) }
+    ensures capacity { vec_capacity pairs.new ≡ vec_capacity pairs.old }
 {
-    match search(entries, item.0) {
-        Ok(place) => entries[place] = item,
-        Err(place) => {
-            let _ = entries.insert(place, item);
+    match search(pairs, item.0) {
+        Ok(position) => pairs[position] = item,
+        Err(position) => {
+            let _ = pairs.insert(position, item);
         }
     }
 }

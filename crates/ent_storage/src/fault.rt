@@ -5,7 +5,7 @@ use std::alloc::AllocError;
 use std::error::Error;
 use std::fmt;
 
-/// Why a storage refused a call. It is then as it was before.
+/// Why a storage refused a call. The storage is as it was before.
 #[derive(Clone, Copy, Debug, PartialEq, Eq)]
 pub enum StorageFault {
     /// No entity has that handle.

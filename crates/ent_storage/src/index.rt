@@ -1,16 +1,17 @@
-ghost use Rattle.std.specs.Prelude.{◌≡◌, ◌+◌, ◌<◌, ◌≤◌, None, OnOk, OnErr, OnSome, IfNone, IsSome, IsOk};
+ghost use Rattle.std.specs.Prelude.{◌≡◌, ◌+◌, ◌<◌, ◌≤◌, None, OnOk, OnErr, OnSome, IfNone, IsSome};
+ghost use Rattle.std.specs.Prelude.{IsOk};
 ghost use Rattle.std.specs.FinMap as map;
-ghost use Rattle.ent_handle.specs.Handle.{handle_cmp};
 
 use super::sorted::search;
 use ent_handle::Handle;
 use std::alloc::{AllocError, Global};
 use std::marker::Model;
 
-/// The row of each entity, in the order of handles, so that a look-up halves.
+/// The place of each entity. The pairs are in the order of handles, so that a look-up is a binary
+/// search.
 #[derive(Drop)]
 pub struct Index {
-    entries: Vec<(Handle, usize)>,
+    pairs: Vec<(Handle, usize)>,
 }
 
 impl Model for Index {
@@ -23,60 +24,68 @@ impl Model for Index {
 
     ghost coded = { places_code };
 
-    ghost view = { λ a. record { rows = map.from_sorted a.entries.items; room = vec_capacity a.entries - vec_len a.entries } };
+    ghost view = { λ a. record {
+      by_handle = map.from_sorted a.pairs.items;
+      room = vec_capacity a.pairs - vec_len a.pairs;
+    } };
 
-    ghost invariant = { λ a. T (map.is_sorted handle_cmp a.entries.items) };
+    ghost invariant = { λ a. T (map.is_sorted handle_cmp a.pairs.items) };
 }
 
 impl Index {
+    /// An index of no entities, without room.
     pub fn new(alloc: Global) -> Self
-        ensures { result ≡ record { rows = map.empty; room = 0 } }
+        ensures { result ≡ record { by_handle = map.empty; room = 0 } }
     {
         Index {
-            entries: Vec::new(alloc),
+            pairs: Vec::new(alloc),
         }
     }
 
-    /// The row of the entity, if it is there.
-    pub fn row(&self, handle: Handle) -> Option<usize>
-        ensures { result ≡ map.get self.now.rows handle }
+    /// The place of the entity, if it is there.
+    pub fn place(&self, handle: Handle) -> Option<usize>
+        ensures { result ≡ map.get self.now.by_handle handle }
     {
-        match search(&self.entries, handle) {
-            Ok(place) => Some(self.entries[place].1),
+        match search(&self.pairs, handle) {
+            Ok(position) => Some(self.pairs[position].1),
             Err(_) => None,
         }
     }
 
-    /// Notes the row of an entity that has none, where there is room.
-    pub fn insert(&mut self, handle: Handle, row: usize)
-        requires absent { map.get self.old.rows handle ≡ None }
+    /// Adds an entity that is not there. It takes the room of one.
+    pub fn insert(&mut self, handle: Handle, place: usize)
+        requires absent { map.get self.old.by_handle handle ≡ None }
         requires room { 0 < self.old.room }
-        ensures rows { self.new.rows ≡ map.insert self.old.rows handle row }
+        ensures by_handle { self.new.by_handle ≡ map.insert self.old.by_handle handle place }
         ensures room { self.new.room + 1 ≡ self.old.room }
     {
-        if let Err(place) = search(&self.entries, handle) {
-            let _ = self.entries.insert(place, (handle, row));
+        if let Err(position) = search(&self.pairs, handle) {
+            let _ = self.pairs.insert(position, (handle, place));
         }
     }
 
-    /// Notes another row for an entity that has one.
-    pub fn set_row(&mut self, handle: Handle, row: usize)
-        requires { IsSome (map.get self.old.rows handle) }
-        ensures { self.new ≡ record self.old { rows = map.insert self.old.rows handle row } }
+    /// Changes the place of an entity that is there.
+    pub fn set_place(&mut self, handle: Handle, place: usize)
+        requires { IsSome (map.get self.old.by_handle handle) }
+        ensures { self.new
+            ≡ record self.old { by_handle = map.insert self.old.by_handle handle place } }
     {
-        if let Ok(place) = search(&self.entries, handle) {
-            self.entries[place] = (handle, row);
+        if let Ok(position) = search(&self.pairs, handle) {
+            self.pairs[position] = (handle, place);
         }
     }
 
-    /// Forgets the entity, and answers the row that it had.
+    /// Takes the entity out, and answers the place that it had.
     pub fn remove(&mut self, handle: Handle) -> Option<usize>
-        ensures value { result ≡ map.get self.old.rows handle }
-        ensures found { OnSome result (self.new ≡ record { rows = map.remove self.old.rows handle; room = self.old.room + 1 }) }
+        ensures value { result ≡ map.get self.old.by_handle handle }
+        ensures found { OnSome result (self.new ≡ record {
+          by_handle = map.remove self.old.by_handle handle;
+          room = self.old.room + 1;
+        }) }
         ensures absent { IfNone result (self.new ≡ self.old) }
     {
-        match search(&self.entries, handle) {
-            Ok(place) => Some(self.entries.remove(place).1),
+        match search(&self.pairs, handle) {
+            Ok(position) => Some(self.pairs.remove(position).1),
             Err(_) => None,
         }
     }
@@ -85,17 +94,17 @@ impl Index {
     pub fn room(&self) -> usize
         ensures { result ≡ self.now.room }
     {
-        self.entries.capacity() - self.entries.len()
+        self.pairs.capacity() - self.pairs.len()
     }
 
-    /// Makes room for `additional` more entities. On an `Err` nothing is changed.
+    /// Makes room for `additional` more entities. After an `Err` nothing is changed.
     pub fn reserve(&mut self, additional: usize) -> Result<(), AllocError>
-        ensures rows { self.new.rows ≡ self.old.rows }
+        ensures by_handle { self.new.by_handle ≡ self.old.by_handle }
         ensures ok { OnOk result (additional ≤ self.new.room) }
         ensures err { OnErr result (self.new.room ≡ self.old.room) }
         ensures grows { self.old.room ≤ self.new.room }
         ensures succeeds { additional ≤ self.old.room → IsOk result }
     {
-        self.entries.reserve(additional)
+        self.pairs.reserve(additional)
     }
 }

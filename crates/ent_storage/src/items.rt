@@ -6,6 +6,8 @@ use ent_handle::ComponentId;
 use std::marker::Model;
 
 /// The components of one entity and their values, by rising number.
+///
+/// `Storage::items` makes it. It borrows the storage and copies nothing.
 #[derive(Drop)]
 pub struct Items<'a> {
     left: &'a [(ComponentId, i64)],

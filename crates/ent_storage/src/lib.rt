@@ -1,14 +1,15 @@
-//! Components of living entities: a finite map from handles to births and components.
+//! Birth and components of living entities: a finite map from handles.
 //!
-//! `Storage` keeps the entities in rows, beside an index that finds a row by its handle.
+//! `Storage` keeps the entities in one vector. An entity's *place* is where it stands there. Beside
+//! the vector an index has the place of each handle.
 #![tactic(auto)]
 
 mod components;
 mod fault;
 mod index;
 mod items;
+mod living;
 mod order;
-mod row;
 mod sorted;
 mod storage;
 

@@ -4,7 +4,7 @@ ghost use Rattle.ent_storage.specs.BirthOrder.{IsInOrder};
 use ent_handle::{Birth, Handle};
 use std::alloc::{AllocError, Global};
 
-/// The handles by birth and then by handle.
+/// The handles, by birth and then by handle.
 pub fn handles_in_order(
     alloc: Global,
     mut births: Vec<(Birth, Handle)>,
@@ -16,7 +16,7 @@ pub fn handles_in_order(
 }
 
 fn handles(alloc: Global, births: &[(Birth, Handle)]) -> Result<Vec<Handle>, AllocError>
-    ensures { IfOk result (λ handles. handles.items ≡ map (λ born. born.1) births.now) }
+    ensures { IfOk result (λ handles. handles.items ≡ map (λ pair. pair.1) births.now) }
 {
-    births.iter().map(|born| born.1).collect(alloc)
+    births.iter().map(|pair| pair.1).collect(alloc)
 }

@@ -1,27 +1,30 @@
-ghost use Rattle.std.specs.Prelude.{◌≡◌, ◌+◌, ◌≤◌, ◌<◌, ◌↔◌, IsTrue, IsErrOf, IfOk, IfSome, IfErr, OnOk, OnErr, IsOk, None};
+ghost use Rattle.std.specs.Prelude.{◌≡◌, ◌+◌, ◌≤◌, ◌<◌, ◌↔◌, IsTrue, IsErrOf, IfOk, IfSome, IfErr};
+ghost use Rattle.std.specs.Prelude.{OnOk, OnErr, IsOk, None};
 ghost use Rattle.std.specs.Option.{option_map};
 ghost use Rattle.std.specs.FinMap as map;
-ghost use Rattle.ent_storage.specs.Component.{with_items, missing};
-ghost use Rattle.ent_storage.specs.EntityMap.{newborn, birth_of, components_of, value_of, with_components};
+ghost use Rattle.ent_storage.specs.Components.{with_items, missing};
+ghost use Rattle.ent_storage.specs.EntityMap.{newborn, birth_of, components_of, value_of};
+ghost use Rattle.ent_storage.specs.EntityMap.{with_components};
 ghost use Rattle.ent_storage.specs.BirthOrder.{ListsAll, ListsWith};
-ghost use Rattle.ent_storage.specs.Rows.{entity_of};
+ghost use Rattle.ent_storage.specs.Indexed.{entity_of};
 
 use super::components::Components;
 use super::fault::StorageFault;
 use super::index::Index;
 use super::items::Items;
+use super::living::{LivingEntity, births, births_with};
 use super::order::handles_in_order;
-use super::row::{Row, births, births_with};
 use ent_handle::{Birth, ComponentId, Handle, Memory};
 use std::alloc::Global;
 use std::marker::Model;
 
 /// The living entities: a finite map from handles to births and components.
 ///
-/// Beside the map it has a number, `spare`: for how many more entities there is room.
+/// It also has a number, `spare`: for how many more entities there is room. It takes logarithmic time
+/// to look an entity up by its handle.
 #[derive(Drop)]
 pub struct Storage {
-    rows: Vec<Row>,
+    living: Vec<LivingEntity>,
     index: Index,
     alloc: Global,
 }
@@ -34,20 +37,24 @@ impl Model for Storage {
 
     ghost coded = { store_code };
 
-    ghost use Rattle.ent_storage.specs.Rows.{entities_of, IsIndexed};
+    ghost use Rattle.ent_storage.specs.Indexed.{entities_of, IsIndexed};
 
-    ghost view = { λ a. record { entities = entities_of a.rows.items; spare = min (vec_capacity a.rows - vec_len a.rows) a.index.room } };
+    ghost view = { λ a. record {
+      entities = entities_of a.living.items;
+      spare = min (vec_capacity a.living - vec_len a.living) a.index.room;
+    } };
 
-    ghost invariant = { λ a. IsIndexed a.rows.items a.index.rows };
+    ghost invariant = { λ a. IsIndexed a.living.items a.index.by_handle };
 }
 
 impl Storage {
-    /// A storage of no entities. It takes no memory.
+    /// A storage without entities. It takes no memory.
     pub fn new(alloc: Global) -> Self
-        ensures { result ≡ record { entities = map.empty; spare = 0 } }
+        ensures entities { result.entities ≡ map.empty }
+        ensures spare { result.spare ≡ 0 }
     {
         Storage {
-            rows: Vec::new(alloc),
+            living: Vec::new(alloc),
             index: Index::new(alloc),
             alloc,
         }
@@ -57,78 +64,100 @@ impl Storage {
     pub fn len(&self) -> usize
         ensures { result ≡ map.len self.now.entities }
     {
-        self.rows.len()
+        self.living.len()
     }
 
     /// Whether there are no entities.
     pub fn is_empty(&self) -> bool
         ensures { IsTrue result ↔ (self.now.entities ≡ map.empty) }
     {
-        self.rows.is_empty()
+        self.living.is_empty()
     }
 
-    /// Whether the entity is there. The time is logarithmic.
+    /// Whether the entity is there.
     pub fn contains(&self, handle: Handle) -> bool
         ensures { result ≡ map.contains_key self.now.entities handle }
     {
-        self.row(handle).is_some()
+        self.find(handle).is_some()
     }
 
-    /// When the entity was brought to life, if it is there. The time is logarithmic.
+    /// When and by whom the entity was brought to life, if it is there.
     pub fn birth(&self, handle: Handle) -> Option<Birth>
         ensures { result ≡ birth_of self.now.entities handle }
     {
-        let row = self.row(handle)?;
-        Some(row.birth)
+        let entity = self.find(handle)?;
+        Some(entity.birth)
     }
 
-    /// The value of the entity's component, if both are there. The time is logarithmic.
+    /// The value of the entity's component, if the entity is there and has it.
     pub fn get(&self, handle: Handle, id: ComponentId) -> Option<i64>
         ensures { result ≡ value_of self.now.entities handle id }
     {
-        self.row(handle)?.components.get(id)
+        self.find(handle)?.components.get(id)
     }
 
     /// The entity's components and their values, by rising number, if the entity is there.
     pub fn items(&self, handle: Handle) -> Option<Items<'_>>
         ensures { result ≡ option_map map.entries (components_of self.now.entities handle) }
     {
-        let row = self.row(handle)?;
-        Some(Items::new(row.components.entries()))
+        let entity = self.find(handle)?;
+        Some(Items::new(entity.components.items()))
     }
 
     /// For how many more entities there is room.
+    ///
+    /// `born` lowers it by 1, or makes more room if it is 0. `reserve` and `despawn` raise it. Nothing
+    /// else changes it.
     pub fn spare(&self) -> usize
         ensures { result ≡ self.now.spare }
     {
-        let rows = self.rows.capacity() - self.rows.len();
-        rows.min(self.index.room())
+        let room = self.living.capacity() - self.living.len();
+        room.min(self.index.room())
     }
 
-    /// Makes room for `additional` more entities, which then take no memory to be born.
+    /// Makes room for `additional` more entities, so that `born` takes no memory for them. If there
+    /// is room for that many already, it takes no memory and changes nothing.
     ///
-    /// On an `Err` there is no such room, and the entities are as before.
+    /// # Errors
+    ///
+    /// `Memory`. The entities are as before, and `spare` is below `additional`. It may have grown.
     pub fn reserve(&mut self, additional: usize) -> Result<(), Memory>
         ensures entities { self.new.entities ≡ self.old.entities }
         ensures ok { OnOk result (additional ≤ self.new.spare) }
-        ensures err { OnErr result (self.new.spare < additional) }
         ensures grows { self.old.spare ≤ self.new.spare }
+
+        // With room for that many, the call succeeds and changes nothing.
         ensures succeeds { additional ≤ self.old.spare → IsOk result }
+        ensures in_place { additional ≤ self.old.spare → self.new ≡ self.old }
+
+        ensures err { OnErr result (self.new.spare < additional) }
     {
-        self.rows.reserve(additional)?;
+        if additional <= self.spare() {
+            return Ok(());
+        }
+        self.living.reserve(additional)?;
         self.index.reserve(additional)?;
         Ok(())
     }
 
-    /// Takes in an entity without components. With `spare` above 0 it takes no memory.
+    /// Adds an entity without components. With `spare` above 0 it takes no memory, and `spare` is
+    /// then less by 1.
     ///
-    /// It answers `Present` where the entity is there already, and `Memory`.
-    /// After either nothing is changed.
+    /// The time is that of a look-up, and of moving the later handles of the index up by one.
+    ///
+    /// # Errors
+    ///
+    /// After either of them nothing is changed.
+    ///
+    /// - `Present`: the entity is there already. This is tested first.
+    /// - `Memory`: `spare` is 0, and there is no memory for more.
     pub fn born(&mut self, handle: Handle, birth: Birth) -> Result<(), StorageFault>
-        ensures ok { OnOk result (self.new.entities ≡ map.insert self.old.entities handle (newborn birth)) }
-        ensures spare { OnOk result (self.old.spare ≤ self.new.spare + 1) }
+        ensures ok { OnOk result
+            (self.new.entities ≡ map.insert self.old.entities handle (newborn birth)) }
+        ensures spare { OnOk result (0 < self.old.spare → self.new.spare + 1 ≡ self.old.spare) }
 
-        ensures present { IsErrOf result StorageFault.Present ↔ IsTrue (map.contains_key self.old.entities handle) }
+        ensures present { IsErrOf result StorageFault.Present
+            ↔ IsTrue (map.contains_key self.old.entities handle) }
         ensures memory_without_room { IsErrOf result StorageFault.Memory → self.old.spare ≡ 0 }
         ensures never_absent { ¬ (IsErrOf result StorageFault.Absent) }
         ensures err { OnErr result (self.new ≡ self.old) }
@@ -137,9 +166,9 @@ impl Storage {
             return Err(StorageFault::Present);
         }
         self.reserve(1)?;
-        self.index.insert(handle, self.rows.len());
+        self.index.insert(handle, self.living.len());
         let components = Components::new(self.alloc);
-        let _ = self.rows.push(Row {
+        self.living.push_reserved(LivingEntity {
             handle,
             birth,
             components,
@@ -147,105 +176,123 @@ impl Storage {
         Ok(())
     }
 
-    /// Takes the entity out. It takes no memory.
+    /// Takes the entity out. It takes no memory, and `spare` is then greater by 1.
     ///
-    /// It answers `Absent` where the entity is not there, and then nothing is changed.
+    /// The time is that of a look-up, and of moving the later handles of the index down by one.
+    ///
+    /// # Errors
+    ///
+    /// `Absent`: the entity is not there. Nothing is changed.
     pub fn despawn(&mut self, handle: Handle) -> Result<(), StorageFault>
         ensures ok { OnOk result (self.new.entities ≡ map.remove self.old.entities handle) }
         ensures spare { OnOk result (self.new.spare ≡ self.old.spare + 1) }
 
-        ensures absent { IsErrOf result StorageFault.Absent ↔ (map.get self.old.entities handle ≡ None) }
+        ensures absent { IsErrOf result StorageFault.Absent
+            ↔ (map.get self.old.entities handle ≡ None) }
         ensures only_absent { IfErr result (λ fault. fault ≡ StorageFault.Absent) }
         ensures err { OnErr result (self.new ≡ self.old) }
     {
-        let Some(row) = self.index.remove(handle) else {
+        let Some(place) = self.index.remove(handle) else {
             return Err(StorageFault::Absent);
         };
-        let _ = self.rows.swap_remove(row);
-        if row < self.rows.len() {
-            self.index.set_row(self.rows[row].handle, row);
+        let _ = self.living.swap_remove(place);
+        if place < self.living.len() {
+            self.index.set_place(self.living[place].handle, place);
         }
         Ok(())
     }
 
-    /// Sets each of the components, by the last of its values where it stands twice.
+    /// Sets each of the components, and leaves the entity's others as they are. If a component stands
+    /// twice among the items, its last value counts.
     ///
-    /// It answers `Absent` where the entity is not there, and `Memory`, which needs a component that
-    /// the entity does not have yet. After either nothing is changed.
+    /// It takes memory only for components that the entity does not have yet.
+    ///
+    /// # Errors
+    ///
+    /// After either of them nothing is changed.
+    ///
+    /// - `Absent`: the entity is not there.
+    /// - `Memory`: there is no memory for the components that the entity does not have yet.
     pub fn insert(
         &mut self,
         handle: Handle,
         items: &[(ComponentId, i64)],
     ) -> Result<(), StorageFault>
-        ensures ok { OnOk result (self.new.entities ≡ with_components self.old.entities handle (λ held. with_items held items.now)) }
+        ensures ok { OnOk result (self.new.entities
+            ≡ with_components self.old.entities handle (λ held. with_items held items.now)) }
         ensures spare { self.new.spare ≡ self.old.spare }
 
-        ensures absent { IsErrOf result StorageFault.Absent ↔ (map.get self.old.entities handle ≡ None) }
-        ensures memory_to_grow { IsErrOf result StorageFault.Memory → IfSome (components_of self.old.entities handle) (λ held. 0 < missing held items.now) }
+        ensures absent { IsErrOf result StorageFault.Absent
+            ↔ (map.get self.old.entities handle ≡ None) }
+        ensures memory_to_grow { IsErrOf result StorageFault.Memory
+            → IfSome (components_of self.old.entities handle)
+            (λ held. 0 < missing held items.now) }
         ensures never_present { ¬ (IsErrOf result StorageFault.Present) }
         ensures err { OnErr result (self.new ≡ self.old) }
     {
-        let Some(place) = self.index.row(handle) else {
+        let Some(place) = self.index.place(handle) else {
             return Err(StorageFault::Absent);
         };
-        let row = &mut self.rows[place];
-        row.components.insert(items)?;
+        let entity = &mut self.living[place];
+        entity.components.insert(items)?;
         Ok(())
     }
 
-    /// Takes the component out of the entity, and answers the value that it had. It takes no memory.
+    /// Takes the component out of the entity, and answers the value that it had, or `None` if the
+    /// entity does not have it. It takes no memory.
     ///
-    /// It answers `Absent` where the entity is not there, and then nothing is changed. A component
-    /// that the entity does not have is `None`.
+    /// # Errors
+    ///
+    /// `Absent`: the entity is not there. Nothing is changed.
     pub fn remove(&mut self, handle: Handle, id: ComponentId) -> Result<Option<i64>, StorageFault>
         ensures value { IfOk result (λ value. value ≡ value_of self.old.entities handle id) }
-        ensures ok { OnOk result (self.new.entities ≡ with_components self.old.entities handle (λ held. map.remove held id)) }
+        ensures ok { OnOk result (self.new.entities
+            ≡ with_components self.old.entities handle (λ held. map.remove held id)) }
         ensures spare { self.new.spare ≡ self.old.spare }
 
-        ensures absent { IsErrOf result StorageFault.Absent ↔ (map.get self.old.entities handle ≡ None) }
+        ensures absent { IsErrOf result StorageFault.Absent
+            ↔ (map.get self.old.entities handle ≡ None) }
         ensures only_absent { IfErr result (λ fault. fault ≡ StorageFault.Absent) }
         ensures err { OnErr result (self.new ≡ self.old) }
     {
-        let Some(place) = self.index.row(handle) else {
+        let Some(place) = self.index.place(handle) else {
             return Err(StorageFault::Absent);
         };
-        let row = &mut self.rows[place];
-        Ok(row.components.remove(id))
+        let entity = &mut self.living[place];
+        Ok(entity.components.remove(id))
     }
 
     /// The handles of all entities, by birth and then by handle. The time is that of a sort.
     ///
     /// # Errors
     ///
-    /// `Memory` for the list.
+    /// `Memory`: there is no memory for the list.
     pub fn by_birth(&self) -> Result<Vec<Handle>, Memory>
         ensures { IfOk result (λ handles. ListsAll self.now.entities handles.items) }
     {
-        let births = births(self.alloc, &self.rows)?;
+        let births = births(self.alloc, &self.living)?;
         Ok(handles_in_order(self.alloc, births)?)
     }
 
-    /// The handles of the entities that have the component, by birth and then by handle.
-    /// The time is that of a sort.
+    /// The handles of the entities that have the component, by birth and then by handle. The time
+    /// is that of a pass over all entities and a sort of those that are listed.
     ///
     /// # Errors
     ///
-    /// `Memory` for the list.
+    /// `Memory`: there is no memory for the list.
     pub fn with(&self, id: ComponentId) -> Result<Vec<Handle>, Memory>
         ensures { IfOk result (λ handles. ListsWith id self.now.entities handles.items) }
     {
-        let births = births_with(self.alloc, &self.rows, id)?;
+        let births = births_with(self.alloc, &self.living, id)?;
         Ok(handles_in_order(self.alloc, births)?)
     }
 
-    /// The entity's row, if the entity is there.
-    fn row(&self, handle: Handle) -> Option<&Row>
-        ensures { option_map (λ row. entity_of row.now) result ≡ map.get self.now.entities handle }
+    /// The entity, if it is there.
+    fn find(&self, handle: Handle) -> Option<&LivingEntity>
+        ensures { option_map (λ entity. entity_of entity.now) result
+            ≡ map.get self.now.entities handle }
     {
-        let place = self.index.row(handle)?;
-        Some(&self.rows[place])
+        let place = self.index.place(handle)?;
+        Some(&self.living[place])
     }
 }
-
-#[cfg(test)]
-mod tests;

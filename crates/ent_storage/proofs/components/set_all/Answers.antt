@@ -2,7 +2,7 @@ use Rattle.std.proofs.Common.{ℤ, ◌+◌, ◌<◌, length, get_or, drop, pos, 
 use Rattle.std.proofs.lemmas.List.{at_drop_more}
 use Rattle.std.specs.FinMap as map
 use Rattle.ent_handle.specs.declared.component.ComponentId.{ComponentId}
-use Rattle.ent_storage.specs.Component.{Components, with_items, missing}
+use Rattle.ent_storage.specs.Components.{Components, with_items, missing}
 use Rattle.ent_storage.proofs.Missing.{missing-insert, missing-drop}
 use Rattle.ent_storage.proofs.components.set_all.Goals as goal
 
@@ -12,7 +12,7 @@ loop-item-preserved c =
     let items = c.args.items.now in
     let i = c.loop-item.item-index in
     let none : ComponentId × ℤ = (record { 0 = 0 }, pos 0) in
-    let held : Components = map.from_sorted c.loop-item.entries.items in
+    let held : Components = map.from_sorted c.loop-item.pairs.items in
     let left = drop (i + 1) items in
     let below : i < length items = omega arith in
     let next = missing-drop held items i none below in

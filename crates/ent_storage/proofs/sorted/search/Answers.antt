@@ -3,7 +3,7 @@ use Rattle.std.proofs.lemmas.List.Sorted.{answers_always}
 use Rattle.ent_storage.proofs.Rising.{searched}
 use Rattle.ent_storage.proofs.sorted.search.Goals as goal
 
--- the closure gives an entry's key
+-- the closure gives a pair's key
 pub returns : goal.returns
 returns g c =
     let facts = c.binary_search_by_key.ensures in

@@ -2,12 +2,13 @@ use Rattle.std.proofs.Common.{ℤ, Some, ap, sym, ◌∙◌, rules, SFits, w64}
 use Rattle.std.proofs.lemmas.Int.{to_z-of_z}
 use Rattle.std.specs.FinMap as map
 use Rattle.ent_handle.specs.declared.component.ComponentId.{ComponentId}
-use Rattle.ent_handle.specs.Component.{component_cmp_total as total, component_cmp-IsAntisymmetric as same}
-use Rattle.ent_storage.specs.Component.{Components}
+use Rattle.ent_handle.specs.Component.{component_cmp_total as total}
+use Rattle.ent_handle.specs.Component.{component_cmp-IsAntisymmetric as same}
+use Rattle.ent_storage.specs.Components.{Components}
 use Rattle.ent_storage.proofs.Rising.{get_at, get_in_gap}
 use Rattle.ent_storage.proofs.components.Components.get.Goals as goal
 
--- the entry that was read is the component's
+-- the pair that was read is the component's
 pub returns-in-Ok : goal.returns-in-Ok
 returns-in-Ok c =
     let at = rw c.deref.ensures.value at c.in-Ok.ensures.found in

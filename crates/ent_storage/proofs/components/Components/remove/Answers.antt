@@ -2,8 +2,9 @@ use Rattle.std.proofs.Common.{ℤ, Some, ap, sym, ◌∙◌, rules, SFits, w64}
 use Rattle.std.proofs.lemmas.Int.{to_z-of_z}
 use Rattle.std.specs.FinMap as map
 use Rattle.ent_handle.specs.declared.component.ComponentId.{ComponentId}
-use Rattle.ent_handle.specs.Component.{component_cmp, component_cmp_total as total, component_cmp-IsAntisymmetric as same}
-use Rattle.ent_storage.specs.Component.{Components}
+use Rattle.ent_handle.specs.Component.{component_cmp, component_cmp_total as total}
+use Rattle.ent_handle.specs.Component.{component_cmp-IsAntisymmetric as same}
+use Rattle.ent_storage.specs.Components.{Components}
 use Rattle.ent_storage.proofs.Rising.{get_at, get_in_gap, rising_remove, map_remove, remove_absent}
 use Rattle.ent_storage.proofs.components.Components.remove.Goals as goal
 

@@ -2,17 +2,17 @@ use Rattle.std.proofs.Common.{◌≡◌, vec_len, ap, sym, ◌∙◌, eqb-true, 
 use Rattle.std.specs.FinMap as map
 use Rattle.ent_handle.specs.Handle.{handle_cmp}
 use Rattle.ent_storage.specs.EntityMap.{Entity, Store}
-use Rattle.ent_storage.proofs.Indexed.{len_rows}
+use Rattle.ent_storage.proofs.Indexed.{len_living}
 use Rattle.ent_storage.proofs.storage.Storage.is_empty.Goals as goal
 
--- no rows make no entities, and entities that are none have no rows
+-- an empty list stands for the empty map, and no other list does
 pub returns : goal.returns
 returns c =
-    let rows = c.self.inside.rows.items in
-    let counted = len_rows rows c.self.inside.index.rows c.self.invariant in
+    let living = c.self.inside.living.items in
+    let counted = len_living living c.self.inside.index.by_handle c.self.invariant in
     let view = ap (λ (s : Store). map.len s.entities) c.self.view_is in (
       λ empty.
-          let none : vec_len c.self.inside.rows ≡ 0 = eqb-true _ _ (sym c.is_empty.ensures ∙ empty) in
+          let none : vec_len c.self.inside.living ≡ 0 = eqb-true _ _ (sym c.is_empty.ensures ∙ empty) in
           map.empty_of_len _ (omega (arith, counted, view, none)),
       λ empty.
           let none = ap map.len empty ∙ map.len-empty handle_cmp Entity in

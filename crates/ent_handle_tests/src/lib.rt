@@ -1,0 +1,5 @@
+//! Tests of `ent_handle`, over its public calls.
+#![tactic(auto)]
+
+#[cfg(test)]
+mod handle;

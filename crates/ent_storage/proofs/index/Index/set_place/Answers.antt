@@ -1,0 +1,27 @@
+use Rattle.std.proofs.Common.{ap, sym, ◌∙◌, is_some}
+use Rattle.std.proofs.lemmas.Bool.{false≢true}
+use Rattle.std.specs.FinMap as map
+use Rattle.ent_handle.specs.Handle.{handle_cmp_total as total, handle_cmp-IsAntisymmetric as same}
+use Rattle.ent_storage.specs.Places.{Places}
+use Rattle.ent_storage.proofs.Rising.{get_in_gap, rising_set, map_set}
+use Rattle.ent_storage.proofs.PlacesLemmas.{same_places}
+use Rattle.ent_storage.proofs.index.Index.set_place.Goals as goal
+
+pub invariant_of-self : goal.invariant_of-self
+invariant_of-self c =
+    let at = rw c.deref.ensures.value at c.in-Ok.ensures.found in
+    rising_set total same _ c.self.invariant _ _ c.args.place at
+
+pub returns-in-Ok : goal.returns-in-Ok
+returns-in-Ok c =
+    let at = rw c.deref.ensures.value at c.in-Ok.ensures.found in
+    let by_handle =
+    map_set total same _ c.self.invariant _ _ c.args.place at
+    ∙ ap (λ (p : Places). map.insert p.by_handle c.args.handle c.args.place) c.self.view_is in
+    same_places _ _ by_handle (ap (λ (p : Places). p.room) c.self.view_is)
+
+pub returns-in_default : goal.returns-in_default
+returns-in_default c =
+    let gap = rw c.deref.ensures.value at c.in_default.ensures.absent in
+    let none = ap (λ (p : Places). map.get p.by_handle c.args.handle) (sym c.self.view_is) ∙ get_in_gap total same _ c.self.invariant _ _ gap in
+    absurd (false≢true (sym (ap is_some none) ∙ c.requires))

@@ -1,0 +1,42 @@
+ghost use Rattle.std.specs.Prelude.{◌≡◌, IfOk, map, filter};
+ghost use Rattle.std.specs.FinMap as finite;
+
+use super::components::Components;
+use ent_handle::{Birth, ComponentId, Handle};
+use std::alloc::{AllocError, Global};
+
+/// One living entity.
+#[derive(Drop)]
+pub struct LivingEntity {
+    pub handle: Handle,
+    pub birth: Birth,
+    pub components: Components,
+}
+
+/// The birth and the handle of each entity.
+pub fn births(alloc: Global, living: &[LivingEntity]) -> Result<Vec<(Birth, Handle)>, AllocError>
+    ensures { IfOk result (λ births. births.items
+        ≡ map (λ entity. (entity.birth, entity.handle)) living.now) }
+{
+    living
+        .iter()
+        .map(|entity| (entity.birth, entity.handle))
+        .collect(alloc)
+}
+
+/// The birth and the handle of each entity that has the component.
+pub fn births_with(
+    alloc: Global,
+    living: &[LivingEntity],
+    id: ComponentId,
+) -> Result<Vec<(Birth, Handle)>, AllocError>
+    ensures { IfOk result (λ births. births.items
+        ≡ map (λ entity. (entity.birth, entity.handle))
+        (filter (λ entity. finite.contains_key entity.components id) living.now)) }
+{
+    living
+        .iter()
+        .filter(|entity| entity.components.get(id).is_some())
+        .map(|entity| (entity.birth, entity.handle))
+        .collect(alloc)
+}
