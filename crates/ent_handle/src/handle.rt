@@ -74,7 +74,8 @@ impl Handle {
 
     /// The handle as one number: the generation times 2^32, plus the index.
     pub fn to_bits(self) -> u64
-        ensures { result ≡ bits self }
+        ensures bits { result ≡ bits self }
+        ensures in_range { IsHandle self }
     {
         (u64::from(self.generation) << 32) + u64::from(self.index)
     }
@@ -82,6 +83,7 @@ impl Handle {
     /// The handle that has these bits, or `None` if no handle has them.
     pub fn from_bits(of: u64) -> Option<Self>
         ensures found { IfSome result (λ h. bits h ≡ of) }
+        ensures in_range { IfSome result IsHandle }
         ensures none { IfNone result ((h : Handle) → IsHandle h → bits h ≢ of) }
     {
         Handle::new((of & 0xffff_ffff) as u32, (of >> 32) as u32)

@@ -1,0 +1,38 @@
+-- A bundle has no more items than there are components.
+use Rattle.std.proofs.Common.{◌≡◌, refl, sym, ℕ, ◌+◌, ◌<◌, ◌≤◌, ℤ, [], ◌∷◌, length, arith, T, Bool, true, false, ◌&&◌, Ordering}
+use Rattle.std.specs.List.{All}
+use Rattle.std.proofs.lemmas.List.Elements.{All-head, All-tail}
+use Rattle.std.specs.Ordering.{is_lt, nat_cmp}
+use Rattle.std.specs.Cmp.{ranked}
+use Rattle.std.specs.declared.cmp.Ordering.TheVariants.{Less, Equal, Greater}
+use Rattle.std.specs.FinMap.{is_sorted}
+use Rattle.ent_handle.specs.Component.{component_cmp}
+use Rattle.ent_handle.specs.declared.component.ComponentId.{ComponentId}
+use Rattle.ent_queue.specs.Command.{Bundle, IsItem, IsBundle}
+
+first : (a b : Bool) → T (a && b) → T a
+first true b h = tt
+first false b h = absurd h
+
+second : (a b : Bool) → T (a && b) → T b
+second true b h = h
+second false b h = absurd h
+
+less : (r : Ordering) → T (is_lt r) → r ≡ Less
+less Less h = refl
+less Equal h = absurd h
+less Greater h = absurd h
+
+below : (m n : ℕ) → T (is_lt (nat_cmp m n)) → m < n
+below m n h = ranked m n Less (sym (less (nat_cmp m n) h))
+
+from_head : (item : ComponentId × ℤ) (items : Bundle) → T (is_sorted component_cmp (item ∷ items)) → All IsItem (item ∷ items) → item.0.0 + length (item ∷ items) ≤ 256
+from_head item [] rising all = let id = (All-head IsItem item [] all).id in omega arith
+from_head item (next ∷ items) rising all =
+    let more : next.0.0 + length (next ∷ items) ≤ 256 = from_head next items (second _ _ rising) (All-tail IsItem item (next ∷ items) all) in
+    let step : item.0.0 < next.0.0 = below item.0.0 next.0.0 (first _ _ (first _ _ rising)) in
+    omega arith
+
+pub few_items : (items : Bundle) → IsBundle items → length items ≤ 256
+few_items [] is = omega arith
+few_items (item ∷ items) is = let n : item.0.0 + length (item ∷ items) ≤ 256 = from_head item items is.rising is.each in omega arith

@@ -1,0 +1,11 @@
+pub mod Numbers
+pub mod Parts
+pub mod Chunks
+pub mod Few
+pub mod Results
+pub mod Rising
+pub mod Queues
+pub mod Fronts
+pub mod Pushes
+pub mod Gaining
+pub mod Issuing

@@ -1,0 +1,73 @@
+-- Numbers as bytes, and back.
+use Rattle.std.proofs.Common.{◌≡◌, refl, ℕ, ◌^◌, ◌<◌, List, ◌++◌, length, take, drop, arith, ap, sym, ◌∙◌}
+use Rattle.std.proofs.lemmas.Nat.{from_le_bytes-to_le_bytes_2, from_le_bytes-to_le_bytes_4, from_le_bytes-to_le_bytes_8, div-add-mod', shr_high, mod_low}
+use Rattle.ent_handle.specs.Handle.{Handle, IsHandle, bits}
+use Rattle.ent_queue.specs.Packing.{bytes_2, bytes_4, bytes_8, handle_bytes}
+use Rattle.ent_queue.specs.Unpacking.{number_2, number_4, number_8, handle_of, handle_in}
+
+pub length-bytes_2 : (n : ℕ) → length (bytes_2 n) ≡ 2
+unfolding bytes_2
+length-bytes_2 n = refl
+
+pub length-bytes_4 : (n : ℕ) → length (bytes_4 n) ≡ 4
+unfolding bytes_4
+length-bytes_4 n = refl
+
+pub length-bytes_8 : (n : ℕ) → length (bytes_8 n) ≡ 8
+unfolding bytes_8
+length-bytes_8 n = refl
+
+pub number_2-bytes : (n : ℕ) (rest : List ℕ) → n < 2 ^ 16 → number_2 (bytes_2 n ++ rest) ≡ n
+unfolding number_2 bytes_2
+number_2-bytes n rest h = from_le_bytes-to_le_bytes_2 n h
+
+pub number_4-bytes : (n : ℕ) (rest : List ℕ) → n < 2 ^ 32 → number_4 (bytes_4 n ++ rest) ≡ n
+unfolding number_4 bytes_4
+number_4-bytes n rest h = from_le_bytes-to_le_bytes_4 n h
+
+pub number_8-bytes : (n : ℕ) (rest : List ℕ) → n < 2 ^ 64 → number_8 (bytes_8 n ++ rest) ≡ n
+unfolding number_8 bytes_8
+number_8-bytes n rest h = from_le_bytes-to_le_bytes_8 n h
+
+pub drop-bytes_2 : (n : ℕ) (rest : List ℕ) → drop 2 (bytes_2 n ++ rest) ≡ rest
+unfolding bytes_2
+drop-bytes_2 n rest = refl
+
+pub drop-bytes_4 : (n : ℕ) (rest : List ℕ) → drop 4 (bytes_4 n ++ rest) ≡ rest
+unfolding bytes_4
+drop-bytes_4 n rest = refl
+
+pub drop-bytes_8 : (n : ℕ) (rest : List ℕ) → drop 8 (bytes_8 n ++ rest) ≡ rest
+unfolding bytes_8
+drop-bytes_8 n rest = refl
+
+pub take-bytes_8 : (n : ℕ) (rest : List ℕ) → take 8 (bytes_8 n ++ rest) ≡ bytes_8 n
+unfolding bytes_8
+take-bytes_8 n rest = refl
+
+pub number_8-alone : (n : ℕ) → n < 2 ^ 64 → number_8 (bytes_8 n) ≡ n
+unfolding number_8 bytes_8
+number_8-alone n h = from_le_bytes-to_le_bytes_8 n h
+
+pub bits_below : (h : Handle) → IsHandle h → bits h < 2 ^ 64
+bits_below h is = omega (arith, is.index, is.greatest)
+
+pub bits-handle_of : (n : ℕ) → bits (handle_of n) ≡ n
+bits-handle_of n = div-add-mod' n (2 ^ 32)
+
+pub handle_of-bits : (h : Handle) → IsHandle h → handle_of (bits h) ≡ h
+handle_of-bits h is =
+    let below : h.index < 2 ^ 32 = omega (arith, is.index) in
+    let index = mod_low h.generation 32 h.index below in
+    let generation = shr_high h.generation 32 h.index below in
+    λ i. record { index = index i; generation = generation i }
+
+pub handle_in-bytes : (h : Handle) (rest : List ℕ) → IsHandle h → handle_in (handle_bytes h ++ rest) ≡ h
+handle_in-bytes h rest is = ap handle_of (number_8-bytes (bits h) rest (bits_below h is)) ∙ handle_of-bits h is
+
+pub handle_in-alone : (h : Handle) → IsHandle h → handle_in (handle_bytes h) ≡ h
+handle_in-alone h is = ap handle_of (number_8-alone (bits h) (bits_below h is)) ∙ handle_of-bits h is
+
+-- the handle whose bits these are
+pub handle_from_bits : (h : Handle) (n : ℕ) → IsHandle h → bits h ≡ n → h ≡ handle_of n
+handle_from_bits h n is e = sym (handle_of-bits h is) ∙ ap handle_of e

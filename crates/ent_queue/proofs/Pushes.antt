@@ -1,0 +1,57 @@
+-- A command at the end of a queue.
+use Rattle.std.proofs.Common.{◌≡◌, ℕ, ◌+◌, ◌≤◌, List, [], ◌∷◌, ◌++◌, length, arith, ap, sym, ◌∙◌, subst, append_assoc, append-nil, length-append}
+use Rattle.std.specs.List.{All, flat_map}
+use Rattle.std.proofs.lemmas.List.Elements.{All-nil, All-push}
+use Rattle.ent_handle.specs.Handle.{Handle}
+use Rattle.ent_queue.specs.Command.{Command, Bundle, Spawn, SpawnMany, Insert, Remove, Despawn, Refused, IsCommand}
+use Rattle.ent_queue.specs.Packing.{command_bytes, queue_bytes, bytes_4, handle_bytes, bundle_bytes}
+use Rattle.ent_queue.specs.Unpacking.{commands_in, ArePacked}
+use Rattle.ent_queue.proofs.Queues.{commands_in-bytes, are_packed, length_of_commands}
+
+queue_bytes-push : (cs : List Command) (c : Command) → queue_bytes (cs ++ c ∷ []) ≡ queue_bytes cs ++ command_bytes c
+queue_bytes-push [] c = append-nil (command_bytes c)
+queue_bytes-push (d ∷ cs) c =
+    ap (λ bytes. command_bytes d ++ bytes) (queue_bytes-push cs c) ∙ sym (append_assoc (command_bytes d) (queue_bytes cs) (command_bytes c))
+
+-- The bytes of some commands, and then those of one more, are those of one more command.
+pub record Pushed (count : ℕ) (bytes : List ℕ) (c : Command) : Type 0 where
+  pub packed : ArePacked (count + 1) (bytes ++ command_bytes c)
+  pub commands : commands_in (count + 1) (bytes ++ command_bytes c) ≡ commands_in count bytes ++ c ∷ []
+
+pub pushed : (count : ℕ) (bytes : List ℕ) (c : Command) → ArePacked count bytes → IsCommand c → Pushed count bytes c
+pushed count bytes c packed is =
+    let cs = commands_in count bytes in
+    let all : All IsCommand (cs ++ c ∷ []) = All-push IsCommand cs c packed.each is in
+    let whole : queue_bytes (cs ++ c ∷ []) ≡ bytes ++ command_bytes c = queue_bytes-push cs c ∙ ap (λ bs. bs ++ command_bytes c) (sym packed.bytes_are) in
+    let number : length (cs ++ c ∷ []) ≡ count + 1 = length-append cs (c ∷ []) ∙ ap (λ n. n + 1) (length_of_commands count bytes) in
+    record {
+      packed = subst (λ n. ArePacked n (bytes ++ command_bytes c)) number (subst (ArePacked (length (cs ++ c ∷ []))) whole (are_packed (cs ++ c ∷ []) all));
+      commands = ap (λ n. commands_in n (bytes ++ command_bytes c)) (sym number) ∙ ap (commands_in (length (cs ++ c ∷ []))) (sym whole) ∙ commands_in-bytes (cs ++ c ∷ []) all;
+    }
+
+some_bytes : (c : Command) → 1 ≤ length (command_bytes c)
+some_bytes (Spawn h items) = omega arith
+some_bytes (SpawnMany hs items) = omega arith
+some_bytes (Insert h items) = omega arith
+some_bytes (Remove h id) = omega arith
+some_bytes (Despawn h) = omega arith
+some_bytes (Refused wanted why) = omega arith
+
+counted : (cs : List Command) → length cs ≤ length (queue_bytes cs)
+counted [] = omega arith
+counted (c ∷ cs) = omega (arith, length-append (command_bytes c) (queue_bytes cs), some_bytes c, counted cs)
+
+-- there are no more commands than bytes
+pub count_le_bytes : (count : ℕ) (bytes : List ℕ) → ArePacked count bytes → count ≤ length bytes
+count_le_bytes count bytes packed =
+    omega (arith, counted (commands_in count bytes), length_of_commands count bytes, ap length packed.bytes_are)
+
+pub nothing_packed : ArePacked 0 []
+nothing_packed = are_packed [] (All-nil IsCommand)
+
+-- the bytes of a spawn of many, part by part
+pub many_written : (old : List ℕ) (hs : List Handle) (items : Bundle) (n : ℕ) → length hs ≡ n → (old ++ 1 ∷ (bytes_4 n ++ flat_map handle_bytes hs)) ++ bundle_bytes items ≡ old ++ command_bytes (SpawnMany hs items)
+many_written old hs items n e =
+    append_assoc old (1 ∷ (bytes_4 n ++ flat_map handle_bytes hs)) (bundle_bytes items)
+    ∙ ap (λ bytes. old ++ 1 ∷ bytes) (append_assoc (bytes_4 n) (flat_map handle_bytes hs) (bundle_bytes items))
+    ∙ ap (λ k. old ++ 1 ∷ (bytes_4 k ++ (flat_map handle_bytes hs ++ bundle_bytes items))) (sym e)

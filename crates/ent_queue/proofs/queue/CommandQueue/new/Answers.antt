@@ -1,0 +1,11 @@
+use Rattle.std.proofs.Common.{subst, sym, refl}
+use Rattle.ent_queue.specs.Unpacking.{ArePacked}
+use Rattle.ent_queue.proofs.Queues.{no_commands}
+use Rattle.ent_queue.proofs.Pushes.{nothing_packed}
+use Rattle.ent_queue.proofs.queue.CommandQueue.new.Goals as goal
+
+pub invariant_of-result : goal.invariant_of-result
+invariant_of-result c = subst (ArePacked 0) (sym c.new.ensures.items) nothing_packed
+
+pub returns : goal.returns
+returns c = no_commands 0 c.new.result.items refl

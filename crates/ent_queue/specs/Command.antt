@@ -1,0 +1,53 @@
+-- Commands: what a system asks of the world. A queue of them stands for their list.
+use Rattle.std.specs.Prelude.{◌≡◌, ℕ, ℤ, ◌^◌, ◌<◌, T, List, length}
+use Rattle.std.specs.List.{All}
+use Rattle.std.specs.Int.{w64}
+use Rattle.std.specs.Int.RustNames.{FitsSigned}
+use Rattle.std.specs.FinMap.{is_sorted}
+use Rattle.ent_handle.specs.declared.component.ComponentId.{ComponentId}
+use Rattle.ent_handle.specs.Component.{component_cmp}
+use Rattle.ent_handle.specs.Handle.{Handle, IsHandle}
+use Rattle.ent_shared.specs.declared.refused.Refused.{Refused as Refusal}
+use Rattle.ent_shared.specs.declared.refused.Refused.TheVariants.{Space, Quota}
+
+-- components and their values, by strictly rising number
+abbrev pub Bundle : Type 0
+Bundle = List (ComponentId × ℤ)
+
+-- Spawn and SpawnMany give what was reserved its components, Insert sets components of an entity, Remove takes one away,
+-- Despawn takes the entity. Refused stands for a reservation of so many handles that was refused, and says why.
+pub data Command : Type 0 where
+  Spawn : Handle → Bundle → Command
+  SpawnMany : List Handle → Bundle → Command
+  Insert : Handle → Bundle → Command
+  Remove : Handle → ComponentId → Command
+  Despawn : Handle → Command
+  Refused : ℕ → Refusal → Command
+
+-- a component's number is a byte, and its value has 64 bits
+pub record IsItem (item : ComponentId × ℤ) : Type 0 where
+  pub id : item.0.0 < 2 ^ 8
+  pub value : FitsSigned w64 item.1
+
+pub record IsBundle (items : Bundle) : Type 0 where
+  pub rising : T (is_sorted component_cmp items)
+  pub each : All IsItem items
+
+-- the ranges of what a refusal says
+abbrev pub HasRange : Refusal → Type 0
+HasRange (Space wanted left) = left < 2 ^ 32
+HasRange (Quota left) = left < 2 ^ 64
+
+-- a refusal by the pool says how many handles were requested
+abbrev pub IsRefusal : ℕ → Refusal → Type 0
+IsRefusal requested (Space wanted left) = (wanted ≡ requested) × (left < 2 ^ 32)
+IsRefusal requested (Quota left) = left < 2 ^ 64
+
+-- the ranges of what a command names
+abbrev pub IsCommand : Command → Type 0
+IsCommand (Spawn h items) = IsHandle h × IsBundle items
+IsCommand (SpawnMany hs items) = (length hs < 2 ^ 32) × All IsHandle hs × IsBundle items
+IsCommand (Insert h items) = IsHandle h × IsBundle items
+IsCommand (Remove h id) = IsHandle h × (id.0 < 2 ^ 8)
+IsCommand (Despawn h) = IsHandle h
+IsCommand (Refused wanted why) = (wanted < 2 ^ 32) × IsRefusal wanted why

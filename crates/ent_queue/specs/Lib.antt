@@ -1,0 +1,7 @@
+pub mod Command
+pub mod Packing
+pub mod Unpacking
+pub mod Entry
+pub mod Place
+pub mod Reserving
+pub mod Commands

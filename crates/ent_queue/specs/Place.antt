@@ -1,0 +1,14 @@
+-- Where a component stands among others whose numbers rise, or where it would go.
+use Rattle.std.specs.Prelude.{◌≡◌, ℕ, ◌<◌, ◌≤◌, length}
+use Rattle.std.specs.List.{AllWithin, HoldsAt}
+use Rattle.ent_queue.specs.Command.{Bundle}
+
+pub record IsPlaceOf (items : Bundle) (number place : ℕ) : Type 0 where
+  pub within : place < length items
+  pub lower : AllWithin (λ item. item.0.0 < number) items 0 place
+  pub here : HoldsAt (λ item. item.0.0 ≡ number) items place
+
+pub record IsGapFor (items : Bundle) (number place : ℕ) : Type 0 where
+  pub within : place ≤ length items
+  pub lower : AllWithin (λ item. item.0.0 < number) items 0 place
+  pub greater : place < length items → HoldsAt (λ item. number < item.0.0) items place

@@ -1,0 +1,98 @@
+ghost use Rattle.std.specs.Prelude.{◌≡◌, ◌^◌, ◌<◌, ◌≤◌, [], length, None, OnOk, OnErr, IfOk, IfErr};
+ghost use Rattle.std.specs.List.{AllWithin, HoldsAt};
+ghost use Rattle.std.specs.FinMap.{put, find};
+ghost use Rattle.ent_handle.specs.Component.{component_cmp};
+ghost use Rattle.ent_queue.specs.Command.{IsBundle};
+ghost use Rattle.ent_queue.specs.Place.{IsPlaceOf, IsGapFor};
+
+use ent_handle::{ComponentId, Memory};
+use smallvec::SmallVec;
+use std::alloc::Global;
+use std::marker::Model;
+
+/// How many components lie in the bundle itself.
+const INLINE: usize = 4;
+
+/// Components and their values, by strictly rising number.
+///
+/// A bundle of up to four components takes no memory.
+#[derive(Drop)]
+pub struct Bundle {
+    items: SmallVec<(ComponentId, i64), INLINE>,
+}
+
+impl Model for Bundle {
+    ghost use Rattle.std.specs.Prelude.{ℤ, List};
+    ghost use Rattle.ent_handle.specs.declared.component.ComponentId.{ComponentId};
+
+    ghost Value = { List (ComponentId × ℤ) };
+
+    ghost use Rattle.std.specs.Prelude.{◌≤◌};
+    ghost use Rattle.ent_queue.specs.Command.{IsBundle};
+
+    ghost view = { λ b. b.items.items };
+
+    ghost invariant = { λ b. IsBundle b.items.items × (4 ≤ b.items.capacity) };
+}
+
+impl Bundle {
+    /// A bundle with no components.
+    pub fn new(alloc: Global) -> Self
+        ensures { result ≡ [] }
+    {
+        Bundle {
+            items: SmallVec::new(alloc),
+        }
+    }
+
+    /// Puts the component's value, in place of the one that is there.
+    ///
+    /// # Errors
+    ///
+    /// `Memory`, which needs a component that is not there and at least four that are. Nothing has changed.
+    pub fn put(&mut self, id: ComponentId, value: i64) -> Result<(), Memory>
+        ensures ok { OnOk result (self.new ≡ put component_cmp id value self.old) }
+        ensures memory { OnErr result ((4 ≤ length self.old) × (find component_cmp id self.old ≡ None)) }
+        ensures err { OnErr result (self.new ≡ self.old) }
+    {
+        match place_of(self.items.as_slice(), id.0) {
+            Ok(place) => self.items[place].1 = value,
+            Err(place) => self.items.insert(place, (id, value))?,
+        }
+        Ok(())
+    }
+
+    /// The components and their values, by strictly rising number.
+    pub fn items(&self) -> &[(ComponentId, i64)]
+        ensures items { result.now ≡ self.now }
+        ensures is { IsBundle self.now }
+    {
+        self.items.as_slice()
+    }
+}
+
+/// Where the component of this number stands, or else where it goes.
+fn place_of(items: &[(ComponentId, i64)], number: u8) -> Result<usize, usize>
+    ensures number { number < 2 ^ 8 }
+    ensures found { IfOk result (IsPlaceOf items.now number) }
+    ensures absent { IfErr result (IsGapFor items.now number) }
+{
+    let place = first_from(items, number);
+    if place < items.len() && items[place].0.0 == number {
+        Ok(place)
+    } else {
+        Err(place)
+    }
+}
+
+/// How many of the components have a lower number.
+fn first_from(items: &[(ComponentId, i64)], number: u8) -> usize
+    ensures within { result ≤ length items.now }
+    ensures lower { AllWithin (λ item. item.0.0 < number) items.now 0 result }
+    ensures here { result < length items.now → HoldsAt (λ item. number ≤ item.0.0) items.now result }
+{
+    items
+        .iter()
+        .position(|item| number <= item.0.0)
+        .unwrap_or(items.len())
+}

@@ -1,0 +1,127 @@
+ghost use Rattle.std.specs.Prelude.{◌≡◌, ◌+◌, ◌*◌, ◌≤◌, ◌↔◌, T, IsTrue, [], drop, length, map, IfSome};
+ghost use Rattle.std.specs.FinMap.{is_sorted};
+ghost use Rattle.std.specs.Simd.{first_chunks};
+ghost use Rattle.std.specs.Iterator.{YieldsFirst, UpTo, item_count};
+ghost use Rattle.std.specs.Iterator.SizeHint.{IsWithinCount};
+ghost use Rattle.ent_handle.specs.Component.{component_cmp};
+ghost use Rattle.ent_queue.specs.Command.{IsBundle};
+ghost use Rattle.ent_queue.specs.Unpacking.{number_2, bundle_in, item_in};
+
+use crate::reading::{read_u8, read_u16, read_u64};
+use ent_handle::ComponentId;
+use std::marker::Model;
+
+/// How many bytes an item has: its component's number, and its value.
+const ITEM: usize = 9;
+
+/// The components of one command and their values, read in place.
+#[derive(Drop)]
+pub struct BundleRef<'a> {
+    items: &'a [[u8; ITEM]],
+}
+
+impl<'a> Model for BundleRef<'a> {
+    ghost use Rattle.std.specs.Prelude.{ℤ, List, map};
+    ghost use Rattle.ent_handle.specs.declared.component.ComponentId.{ComponentId};
+
+    ghost Value = { List (ComponentId × ℤ) };
+
+    ghost use Rattle.ent_queue.specs.Command.{IsBundle};
+    ghost use Rattle.ent_queue.specs.Unpacking.{item_in};
+
+    ghost view = { λ b. map item_in b.items.now };
+
+    ghost invariant = { λ b. IsBundle (map item_in b.items.now) };
+}
+
+impl<'a> BundleRef<'a> {
+    /// The bundle at the front of the bytes, and the bytes after it.
+    pub(crate) fn read(bytes: &'a [u8]) -> (Self, &'a [u8])
+        requires header { 2 ≤ length bytes.now }
+        requires items { 2 + 9 * number_2 bytes.now ≤ length bytes.now }
+        requires is { IsBundle (bundle_in bytes.now) }
+        ensures value { result.0 ≡ bundle_in bytes.now }
+        ensures rest { result.1.now ≡ drop (9 * number_2 bytes.now) (drop 2 bytes.now) }
+    {
+        let (count, bytes) = read_u16(bytes);
+        let (items, rest) = bytes.split_at(ITEM * usize::from(count));
+        let (items, _) = items.as_chunks();
+        (BundleRef { items }, rest)
+    }
+
+    /// How many components there are.
+    pub fn len(&self) -> usize
+        ensures { result ≡ length self.now }
+    {
+        self.items.len()
+    }
+
+    /// Whether there is none.
+    pub fn is_empty(&self) -> bool
+        ensures { IsTrue result ↔ (self.now ≡ []) }
+    {
+        self.items.is_empty()
+    }
+
+    /// The components and their values, by strictly rising number.
+    pub fn iter(&self) -> BundleItems<'a>
+        ensures items { result ≡ self.now }
+        ensures rising { T (is_sorted component_cmp self.now) }
+    {
+        BundleItems { left: self.items }
+    }
+}
+
+/// Yields the components of one command and their values, by strictly rising number.
+#[derive(Drop)]
+pub struct BundleItems<'a> {
+    left: &'a [[u8; ITEM]],
+}
+
+impl<'a> Model for BundleItems<'a> {
+    ghost use Rattle.std.specs.Prelude.{ℤ, List, map};
+    ghost use Rattle.ent_handle.specs.declared.component.ComponentId.{ComponentId};
+
+    ghost Value = { List (ComponentId × ℤ) };
+
+    ghost use Rattle.ent_queue.specs.Unpacking.{item_in};
+
+    ghost view = { λ b. map item_in b.left.now };
+}
+
+impl Iterator for BundleItems<'_> {
+    type Item = (ComponentId, i64);
+
+    ghost next_gives = { YieldsFirst (λ items. items) };
+
+    ghost remaining = { item_count (λ items. items) };
+
+    fn next(&mut self) -> Option<(ComponentId, i64)> {
+        let (first, others) = self.left.split_first()?;
+        self.left = others;
+        Some(item_of(first))
+    }
+
+    fn size_hint(&self) -> (usize, Option<usize>)
+        ensures lower { IsWithinCount result.0 (item_count (λ items. items) self.now) }
+        ensures upper { IfSome result.1 (UpTo (item_count (λ items. items) self.now)) }
+        ensures exact { result ≡ (length self.now, Some (length self.now)) }
+    {
+        (self.left.len(), Some(self.left.len()))
+    }
+}
+
+impl ExactSizeIterator for BundleItems<'_> {
+    fn len(&self) -> usize {
+        self.left.len()
+    }
+}
+
+/// The component and its value.
+fn item_of(bytes: &[u8; ITEM]) -> (ComponentId, i64)
+    ensures { result ≡ item_in bytes.now }
+{
+    let (id, value) = read_u8(bytes);
+    let (value, _) = read_u64(value);
+    (ComponentId(id), value.cast_signed())
+}

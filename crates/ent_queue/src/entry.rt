@@ -1,0 +1,26 @@
+use crate::bundle_ref::BundleRef;
+use crate::handles_ref::HandlesRef;
+use ent_handle::{ComponentId, Handle};
+use ent_shared::Refused;
+
+/// One command of a queue, read in place.
+#[derive(Drop)]
+pub enum Entry<'a> {
+    /// The handle was reserved, and is to have these components.
+    Spawn(Handle, BundleRef<'a>),
+    /// These handles were reserved, and each is to have these components.
+    SpawnMany(HandlesRef<'a>, BundleRef<'a>),
+    /// The entity gets these components, in place of those that it has under the same numbers.
+    Insert(Handle, BundleRef<'a>),
+    /// The entity loses the component, if it has it.
+    Remove(Handle, ComponentId),
+    /// The entity goes.
+    Despawn(Handle),
+    /// A reservation was refused.
+    Refused {
+        /// How many handles were requested.
+        wanted: u32,
+        /// Why there are none.
+        why: Refused,
+    },
+}
