@@ -1,20 +1,29 @@
-//! Threads of the caller's own that reserve handles from one allocator, side by side.
+//! Threads of the caller's own that reserve handles from one allocator, side by side. `phase` ensures that they were given 1,024
+//! handles, no two of them the same.
 #![tactic(auto)]
 
-ghost use Rattle.std.specs.Prelude.{◌≡◌};
+ghost use Rattle.std.specs.Prelude.{◌≡◌, ◌≢◌, ◌+◌, [], vec_len, AllPairs, OnOk, IfOk};
 ghost use Rattle.ent_shared.specs.Phase.{IsOf};
+
+mod worker;
 
 use anyhow::{Result, anyhow};
 use ent_alloc::{Entities, Limits};
+use ent_handle::Handle;
 use ent_shared::{Reserver, Shared, share};
 use std::thread::{Threads, join_mut};
+use worker::Worker;
 
 fn main(rt: HostRuntime) -> Result<()> {
     let entities = Entities::new(rt.alloc(), Limits::default_limits());
     match share(rt.alloc(), entities, 2) {
         // A reserver for each thread.
         Ok((shared, mut reservers)) => match (reservers.pop(), reservers.pop()) {
-            (Some(b), Some(a)) => reserve(&rt, shared, a, b),
+            (Some(b), Some(a)) => {
+                let given = phase(&rt, shared, a, b)?;
+                println!(rt; "{} handles, none of them twice", given.len())?;
+                Ok(())
+            }
             _ => Err(anyhow!("a thread has no reserver")),
         },
         Err((_, memory)) => Err(memory.into()),
@@ -22,72 +31,67 @@ fn main(rt: HostRuntime) -> Result<()> {
 }
 
 /// A whole phase: two threads reserve, one of them meets the other and reserves again, and a flush brings to life what they were
-/// given.
-fn reserve<R>(rt: &R, shared: Shared, a: Reserver, b: Reserver) -> Result<()>
+/// given. Returns all handles that they were given.
+fn phase<R>(rt: &R, shared: Shared, a: Reserver, b: Reserver) -> Result<Vec<Handle>>
 where
     R: Threads + Sync + Print + AllocGlobal,
-    requires count { shared.count ≡ 2 }
+    requires two { shared.count ≡ 2 }
     requires first { IsOf shared a }
     requires second { IsOf shared b }
+    requires unused { (a.own.entries ≡ []) × (b.own.entries ≡ []) }
+    ensures count { IfOk result (λ given. vec_len given ≡ 1024) }
+    ensures distinct { IfOk result (λ given. AllPairs (λ g h. g ≢ h) given.items) }
 {
-    let (mut a, mut b) = (a, b);
+    let mut a = Worker {
+        reserver: a,
+        given: Vec::new(rt.alloc()),
+    };
+    let mut b = Worker {
+        reserver: b,
+        given: Vec::new(rt.alloc()),
+    };
     side_by_side(rt, &shared, &mut a, &mut b)?;
 
     // From now on a reserves after all that b has reserved.
-    shared.meet(&mut a, &mut b);
-    let reserved = shared.reserve_many(&mut a, 24)?;
-    println!(rt; "{} after the meeting", reserved.len())?;
+    a.meet(&shared, &mut b);
+    a.at_once(&shared, 24)?;
 
     // The phase ends with all its reservers.
-    let mut entities = shared.close(Vec::from_array(rt.alloc(), [a, b])?);
+    let Worker {
+        reserver: first,
+        given: mut given,
+        ..
+    } = a;
+    let Worker {
+        reserver: second,
+        given: mut others,
+        ..
+    } = b;
+    given.append(&mut others)?;
+    let mut entities = shared.close(Vec::from_array(rt.alloc(), [first, second])?);
     let mut born = Vec::new(rt.alloc());
     entities.flush(&mut born)?;
     println!(rt; "{} born", born.len())?;
-    Ok(())
+    Ok(given)
 }
 
-/// One thread reserves one by one, the other in bulks.
-fn side_by_side<R>(rt: &R, shared: &Shared, a: &mut Reserver, b: &mut Reserver) -> Result<()>
+/// One thread reserves one by one, the other at once.
+fn side_by_side<R>(rt: &R, shared: &Shared, a: &mut Worker, b: &mut Worker) -> Result<()>
 where
     R: Threads + Print,
-    requires first { IsOf shared.now a.old }
-    requires second { IsOf shared.now b.old }
-    ensures first { IsOf shared.now a.new }
-    ensures second { IsOf shared.now b.new }
+    requires first { IsOf shared.now a.old.reserver }
+    requires second { IsOf shared.now b.old.reserver }
+    ensures first { IsOf shared.now a.new.reserver }
+    ensures second { IsOf shared.now b.new.reserver }
+    ensures given { OnOk result ((vec_len a.new.given ≡ vec_len a.old.given + 600)
+        × (vec_len b.new.given ≡ vec_len b.old.given + 400)) }
 {
-    let (singles, bulks) = join_mut(
+    let (singles, bulk) = join_mut(
         rt,
-        &mut || one_by_one(shared, a, 600),
-        &mut || in_bulks(shared, b, 10),
+        &mut || a.one_by_one(shared, 600),
+        &mut || b.at_once(shared, 400),
     );
-    println!(rt; "{singles} one by one, {bulks} in bulks")?;
+    singles?;
+    bulk?;
     Ok(())
-}
-
-/// How many of `n` single reservations were served.
-fn one_by_one(shared: &Shared, reserver: &mut Reserver, n: u32) -> usize
-    requires { IsOf shared.now reserver.old }
-    ensures { IsOf shared.now reserver.new }
-{
-    let mut served: usize = 0;
-    for _ in 0..n {
-        if shared.reserve(reserver).is_ok() {
-            served = served.saturating_add(1);
-        }
-    }
-    served
-}
-
-/// How many handles `n` bulks of 40 gave.
-fn in_bulks(shared: &Shared, reserver: &mut Reserver, n: u32) -> usize
-    requires { IsOf shared.now reserver.old }
-    ensures { IsOf shared.now reserver.new }
-{
-    let mut given: usize = 0;
-    for _ in 0..n {
-        if let Ok(handles) = shared.reserve_many(reserver, 40) {
-            given = given.saturating_add(handles.len());
-        }
-    }
-    given
 }
