@@ -1,7 +1,11 @@
 -- What a flush brings to life: exactly what was taken, the fresh handles in rising order of index.
-use Rattle.std.proofs.Common.{◌≡◌, sym, subst, ◌-◌, ◌<◌, ◌++◌, length, get_or, take, reverse, filter, All, AllPairs, Contains, IsPermutation, ◌⊎◌}
+use Rattle.std.proofs.Common.{◌≡◌, sym, subst, ◌-◌, ◌<◌, ◌++◌, length, get_or, take, reverse}
+use Rattle.std.proofs.Common.{filter, All, AllPairs, Contains, IsPermutation, ◌⊎◌}
 use Rattle.std.proofs.lemmas.List.Elements.{All-contains_itself}
-use Rattle.std.proofs.lemmas.List.Sorted.{IsPermutation-refl, IsPermutation-trans, IsPermutation-append, IsPermutation-append_comm, IsPermutation-reverse, IsPermutation-filter_both, All-permutation}
+use Rattle.std.proofs.lemmas.List.Sorted.{IsPermutation-refl, IsPermutation-trans}
+use Rattle.std.proofs.lemmas.List.Sorted.{IsPermutation-append, IsPermutation-append_comm}
+use Rattle.std.proofs.lemmas.List.Sorted.{IsPermutation-reverse, IsPermutation-filter_both}
+use Rattle.std.proofs.lemmas.List.Sorted.{All-permutation}
 use Rattle.ent_handle.specs.Handle.{Handle}
 use Rattle.ent_alloc.specs.Sequential.{Allocator, after_flush, born, fresh, top, is_old, is_fresh}
 use Rattle.ent_alloc.specs.Sound.{IsSound, AreApart, IsLive}

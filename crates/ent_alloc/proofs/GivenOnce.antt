@@ -1,15 +1,22 @@
--- No handle is given twice: each step keeps the list of all given handles free of repetitions, if no free wraps.
-use Rattle.std.proofs.Common.{le_of_eq, append-nil, ◌≡◌, ◌≢◌, refl, sym, ap, subst, ℕ, ◌+◌, ◌<◌, ◌≤◌, List, [], ◌∷◌, ◌++◌, length, get_or, take, drop, All, Contains, IsPermutation, Ok, arith, inl, inr}
+-- No handle is given twice: each step keeps the list of all given handles free of repetitions, if
+-- no free wraps.
+use Rattle.std.proofs.Common.{le_of_eq, append-nil, ◌≡◌, ◌≢◌, refl, sym, ap, subst, ℕ, ◌+◌, ◌<◌}
+use Rattle.std.proofs.Common.{◌≤◌, List, [], ◌∷◌, ◌++◌, length, get_or, take, drop, All, Contains}
+use Rattle.std.proofs.Common.{IsPermutation, Ok, arith, inl, inr}
 use Rattle.std.proofs.lemmas.Bool.{cases_lt}
-use Rattle.std.proofs.lemmas.List.Elements.{Contains-get_or, All-push, All-nil, All-cons, All-append, All-head, All-contains, All-contains_itself, All-weaker, All-take, All-drop, Contains-append_left}
+use Rattle.std.proofs.lemmas.List.Elements.{Contains-get_or, All-push, All-nil, All-cons}
+use Rattle.std.proofs.lemmas.List.Elements.{All-append, All-head, All-contains, All-contains_itself}
+use Rattle.std.proofs.lemmas.List.Elements.{All-weaker, All-take, All-drop, Contains-append_left}
 use Rattle.std.proofs.lemmas.List.Quantifiers.{all_pairs_push}
 use Rattle.std.proofs.lemmas.List.Sorted.{All-permutation}
 use Rattle.ent_handle.specs.Handle.{Handle}
 use Rattle.ent_alloc.specs.Limits.{Limits}
-use Rattle.ent_alloc.specs.Sequential.{Allocator, opening, available, after_take, after_flush, after_alloc, after_free, next, reply_to}
+use Rattle.ent_alloc.specs.Sequential.{Allocator, opening, available, after_take, after_flush}
+use Rattle.ent_alloc.specs.Sequential.{after_alloc, after_free, next, reply_to}
 use Rattle.ent_alloc.specs.Sound.{IsSound, AreApart, IsLive}
 use Rattle.ent_alloc.specs.Given.{IsSpent, AreSpent}
-use Rattle.ent_alloc.proofs.ListLaws.{All-left, All-right, AllPairs-append, AllPairs-left, AllPairs-across, AllPairs-IsPermutation, same_from_AllPairs}
+use Rattle.ent_alloc.proofs.ListLaws.{All-left, All-right, AllPairs-append, AllPairs-left}
+use Rattle.ent_alloc.proofs.ListLaws.{AllPairs-across, AllPairs-IsPermutation, same_from_AllPairs}
 use Rattle.ent_alloc.proofs.HandleSets.{inserted, in_removed, of_inserted, of_joined}
 use Rattle.ent_alloc.proofs.Taken.{after_take-served, after_take-refused}
 use Rattle.ent_alloc.proofs.Soundness.{after_alloc-sound, after_take-sound, next-later}

@@ -1,12 +1,15 @@
 -- Which handles a set, a map or a list of handles has after a change.
-use Rattle.std.proofs.Common.{◌≡◌, ◌≢◌, refl, sym, ap, ◌∙◌, Bool, true, false, cond, not, ◌&&◌, ◌||◌, true≢false, List, IsTrue, is_some, None, ◌⊎◌, inl, inr, ℕ, Contains, subst, All, AllPairs}
+use Rattle.std.proofs.Common.{◌≡◌, ◌≢◌, refl, sym, ap, ◌∙◌, Bool, true, false, cond, not, ◌&&◌}
+use Rattle.std.proofs.Common.{◌||◌, true≢false, List, IsTrue, is_some, None, ◌⊎◌, inl, inr, ℕ}
+use Rattle.std.proofs.Common.{Contains, subst, All, AllPairs}
 use Rattle.std.specs.FinSet as set
 use Rattle.std.specs.FinMap as map
 use Rattle.std.specs.Ordering.{eq_by_cmp}
 use Rattle.std.proofs.lemmas.Cmp.{eq_by_cmp_equiv}
 use Rattle.std.proofs.lemmas.Map.Views.{Contains-from_any, list_any-from_Contains, tells_apart}
 use Rattle.std.proofs.lemmas.List.Elements.{All-contains}
-use Rattle.ent_handle.specs.Handle.{Handle, handle_cmp, handle_cmp_total, handle_cmp-IsAntisymmetric}
+use Rattle.ent_handle.specs.Handle.{Handle, handle_cmp, handle_cmp_total}
+use Rattle.ent_handle.specs.Handle.{handle_cmp-IsAntisymmetric}
 use Rattle.ent_alloc.specs.Sequential.{stands_in}
 use Rattle.ent_alloc.specs.Sound.{AreApart}
 use Rattle.ent_alloc.proofs.ListLaws.{same_from_AllPairs}

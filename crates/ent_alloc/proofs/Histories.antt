@@ -1,5 +1,6 @@
 -- What a legal history leaves and gives.
-use Rattle.std.proofs.Common.{◌≡◌, ◌≢◌, refl, sym, ap, ◌∙◌, subst, List, [], ◌∷◌, ◌++◌, length, sum, All, AllPairs, Contains, IsPermutation, Result, Ok, Err, ◌↔◌, ◌⊎◌}
+use Rattle.std.proofs.Common.{◌≡◌, ◌≢◌, refl, sym, ap, ◌∙◌, subst, List, [], ◌∷◌, ◌++◌, length, sum}
+use Rattle.std.proofs.Common.{All, AllPairs, Contains, IsPermutation, Result, Ok, Err, ◌↔◌, ◌⊎◌}
 use Rattle.ent_handle.specs.Handle.{Handle}
 use Rattle.ent_alloc.specs.declared.space.Space.{Space}
 use Rattle.ent_alloc.specs.Sequential.{Allocator, after_take, after_flush, reply_to, settled}
@@ -7,7 +8,8 @@ use Rattle.ent_alloc.specs.Sound.{IsSound, IsLive}
 use Rattle.ent_alloc.specs.History.{Call, IsLegal, after_history, handles_in, given_in, requests_of}
 use Rattle.ent_alloc.proofs.PoolLaw.{after_takes}
 use Rattle.ent_alloc.proofs.Replies.{distinct_from_apart}
-use Rattle.ent_alloc.proofs.Requests.{handles_of, given_by, given_by-apart, given_by-not_live, taken-since_flush, live-since_flush}
+use Rattle.ent_alloc.proofs.RequestLaws.{given_by, given_by-apart, given_by-not_live}
+use Rattle.ent_alloc.proofs.RequestLaws.{taken-since_flush, live-since_flush}
 use Rattle.ent_alloc.proofs.Settled.{after_takes-settled}
 
 -- only the requests count
@@ -15,15 +17,11 @@ pub after_history-takes : (s : Allocator) (calls : List Call) → after_history 
 after_history-takes s [] = refl
 after_history-takes s (call ∷ calls) = after_history-takes (after_take s call.requested) calls
 
-same_handles : (r : Result (List Handle) Space) → handles_in r ≡ handles_of r
-same_handles (Ok handles) = refl
-same_handles (Err space) = refl
-
 -- the replies of a legal history are those to its requests
 pub given_in-legal : (s : Allocator) (calls : List Call) → IsLegal s calls → given_in calls ≡ given_by s (requests_of calls)
 given_in-legal s [] legal = refl
 given_in-legal s (call ∷ calls) legal =
-    let first : handles_in call.reply ≡ handles_of (reply_to s call.requested) = same_handles call.reply ∙ ap handles_of legal.1 in
+    let first : handles_in call.reply ≡ handles_in (reply_to s call.requested) = ap handles_in legal.1 in
     let rest = given_in-legal (after_take s call.requested) calls legal.2 in
     λ i. first i ++ rest i
 

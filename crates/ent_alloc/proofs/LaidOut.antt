@@ -1,5 +1,6 @@
 -- A sound allocator that is flushed, by the old handles of its pool.
-use Rattle.std.proofs.Common.{◌≡◌, sym, ap, ◌∙◌, subst, ℕ, ◌+◌, ◌-◌, ◌<◌, ◌≤◌, true, List, [], ◌++◌, length, get_or, drop, filter, All, AllPairs, arith, ltb-true, IsTrue}
+use Rattle.std.proofs.Common.{◌≡◌, sym, ap, ◌∙◌, subst, ℕ, ◌+◌, ◌-◌, ◌<◌, ◌≤◌, true, List, [], ◌++◌}
+use Rattle.std.proofs.Common.{length, get_or, drop, filter, All, AllPairs, arith, ltb-true, IsTrue}
 use Rattle.std.specs.FinMap as map
 use Rattle.std.proofs.lemmas.List.{nil_from_length, length-append}
 use Rattle.std.proofs.lemmas.List.Elements.{All-append, All-weaker, filter_passes, All-filter}

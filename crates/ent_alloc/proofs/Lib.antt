@@ -7,7 +7,7 @@ pub mod Taken
 pub mod PoolLaw
 pub mod Replies
 pub mod Flushes
-pub mod Requests
+pub mod RequestLaws
 pub mod Settled
 pub mod Spans
 pub mod GivenOnce

@@ -1,21 +1,37 @@
--- What the calls of the slots do to their vectors keeps them linked, and does to the roster what it should.
-use Rattle.std.proofs.Common.{◌≡◌, ◌≢◌, ℕ, ◌+◌, ◌-◌, ◌<◌, ◌≤◌, Bool, true, false, cond, not, ◌&&◌, eqb, List, [], ◌∷◌, ◌++◌, length, get_or, set, take, drop, map, replicate, refl, sym, ap, ◌∙◌, arith, inl, inr, suc, Option, None}
+-- What the calls of the slots do to their vectors keeps them linked, and does to the roster what it
+-- should.
+use Rattle.std.proofs.Common.{◌≡◌, ◌≢◌, ℕ, ◌+◌, ◌-◌, ◌<◌, ◌≤◌, Bool, true, false, cond, not, ◌&&◌}
+use Rattle.std.proofs.Common.{eqb, List, [], ◌∷◌, ◌++◌, length, get_or, set, take, drop, map}
+use Rattle.std.proofs.Common.{replicate, slice_get, refl, sym, ap, subst, ◌∙◌, arith, inl, inr, suc}
+use Rattle.std.proofs.Common.{Option, None, Some}
 use Rattle.std.specs.FinSet as sets
 use Rattle.std.specs.FinMap as maps
 use Rattle.std.proofs.lemmas.Bool.{cases_lt, cases_eq, false≢true, and_parts, eqb-true, eqb-false}
-use Rattle.std.proofs.lemmas.List.{get_or-take, get_or-drop, length-drop, length-take-le, length-append, length-replicate, length-set, length_push, drop-map, take-map, map_push, get_or-set_same, get_or-set_other, get_or_append_left, get_or-append_right, get_or-replicate, get_or_past, get_or_push}
-use Rattle.ent_handle.specs.Handle.{Handle, handle_cmp, handle_cmp_total, handle_cmp-IsAntisymmetric}
+use Rattle.std.proofs.lemmas.Option.{slice_get_read}
+use Rattle.std.proofs.lemmas.List.{take_at, drop_at, get_or-map, length-map, get_or-take}
+use Rattle.std.proofs.lemmas.List.{get_or-drop, length-drop, length-take-le, length-append}
+use Rattle.std.proofs.lemmas.List.{length-replicate, length-set, length_push, drop-map, take-map}
+use Rattle.std.proofs.lemmas.List.{map_push, get_or-set_same, get_or-set_other, get_or_append_left}
+use Rattle.std.proofs.lemmas.List.{get_or-append_right, get_or-replicate, get_or_past, get_or_push}
+use Rattle.ent_handle.specs.Handle.{Handle, handle_cmp, handle_cmp_total}
+use Rattle.ent_handle.specs.Handle.{handle_cmp-IsAntisymmetric}
 use Rattle.ent_alloc.proofs.ListLaws.{eqb_sym}
 use Rattle.ent_alloc.specs.Limits.{Limits}
 use Rattle.ent_alloc.specs.Sequential.{fresh, next}
 use Rattle.ent_alloc.specs.declared.slot_record.SlotRecord.{SlotRecord}
 use Rattle.ent_alloc.specs.declared.slot_record.Occupancy.TheVariants.{Pending}
-use Rattle.ent_alloc.specs.Slots.{occupants, is_occupant, has_occupant, is_alive, row_of, row_at, record_at, blank, newborn, handle_at, kept, reused, roster_of, AreLinked}
+use Rattle.ent_alloc.specs.Slots.{occupants, is_alive, row_of, record_at, blank, new_record}
+use Rattle.ent_alloc.specs.Slots.{handle_at, rows_from, reuse, reused, roster_of, AreLinked}
 use Rattle.ent_alloc.proofs.FreshHandles.{length-fresh}
-use Rattle.ent_alloc.proofs.Occupants.{contains_occupants, is_occupant-set, row_at-set, get_kept, ties, one, length-occupants-set, occupants-append, occupants-newborn, kept-made, from_list-append}
-use Rattle.ent_alloc.proofs.Reused.{Wait, Alive≢Pending, position_of, length-reused, generation-reused, waiting-reused, waited-reused, length-occupants-reused, kept-reused, live-reused}
+use Rattle.ent_alloc.proofs.Occupants.{is_occupant, has_occupant, row_at, contains_occupants}
+use Rattle.ent_alloc.proofs.Occupants.{is_occupant-set, row_at-set, get_rows, ties, one}
+use Rattle.ent_alloc.proofs.Occupants.{length-occupants-set, occupants-append, occupants-new}
+use Rattle.ent_alloc.proofs.Occupants.{rows_from-made, from_list-append}
+use Rattle.ent_alloc.proofs.Reused.{Wait, Alive≢Pending, position_of, length-reused}
+use Rattle.ent_alloc.proofs.Reused.{generation-reused, waiting-reused, waited-reused}
+use Rattle.ent_alloc.proofs.Reused.{length-occupants-reused, rows_from-reused, live-reused}
 
--- ---- waking
+-- ---- reusing
 
 module _ (limits : Limits) (records : List SlotRecord) (pending : List ℕ) (live from : ℕ) (linked : AreLinked limits records pending live) (within : from ≤ length pending) where
   pub Wait-drop : Wait records from (drop from pending)
@@ -84,10 +100,60 @@ module _ (limits : Limits) (records : List SlotRecord) (pending : List ℕ) (liv
   }
   roster_of-reuse =
       let live_is = live-reused records from (drop from pending) Wait-drop ∙ ap (λ (hs : List Handle). sets.union (sets.from_list (occupants 0 records)) (sets.from_list hs)) (sym (drop-map (handle_at records) from pending)) in
-      let rows_is = ap maps.from_entries (kept-reused records from (drop from pending) Wait-drop) in
+      let rows_is = ap maps.from_entries (rows_from-reused records from (drop from pending) Wait-drop) in
       let pending_is = same_map (take from pending) ∙ sym (take-map (handle_at records) from pending) in
       let made_is = length-reused records (drop from pending) in
       λ i. record { limits = limits; live = live_is i; rows = rows_is i; pending = pending_is i; made = made_is i }
+
+-- one slot, which waits last
+module _ (limits : Limits) (records : List SlotRecord) (pending rest : List ℕ) (live index : ℕ) (linked : AreLinked limits records pending live) (last : pending ≡ rest ++ index ∷ []) where
+  long : length pending ≡ length rest + 1
+  long = ap length last ∙ length_push rest index
+
+  within : length rest ≤ length pending
+  within = let more = long in omega arith
+
+  taken : take (length rest) pending ≡ rest
+  taken = ap (take (length rest)) last ∙ take_at rest (index ∷ []) (length rest) refl
+
+  dropped : drop (length rest) pending ≡ index ∷ []
+  dropped = ap (drop (length rest)) last ∙ drop_at rest (index ∷ []) (length rest) refl
+
+  one_less : length pending - length rest ≡ 1
+  one_less = let more = long in omega arith
+
+  pub last_made : index < length records
+  last_made =
+      let more = long in
+      let made : get_or pending (length rest) 0 < length records = linked.made (length rest) (omega arith) in
+      omega (arith, ap (λ ps. get_or ps (length rest) 0) last ∙ get_or_push rest index 0 (length rest) refl)
+
+  pub reuse_last_keeps_links : AreLinked limits (set records index (reuse (record_at records index))) rest (live + 1)
+  reuse_last_keeps_links =
+      let P : List ℕ × List ℕ × ℕ → Type 0 = λ p. AreLinked limits (reused records p.0) p.1 (live + p.2) in
+      subst P (λ i. (dropped i, taken i, one_less i)) (reuse_keeps_links limits records pending live (length rest) linked within)
+
+  pub roster_of-reuse_last : roster_of limits (set records index (reuse (record_at records index))) rest ≡ record (roster_of limits records pending) {
+    live = sets.union (roster_of limits records pending).live (sets.from_list (handle_at records index ∷ []));
+    pending = take (length (roster_of limits records pending).pending - 1) (roster_of limits records pending).pending;
+  }
+  roster_of-reuse_last =
+      let r = roster_of limits records pending in
+      let handles : drop (length rest) r.pending ≡ handle_at records index ∷ [] = drop-map (handle_at records) (length rest) pending ∙ ap (map (handle_at records)) dropped in
+      let more = long in
+      let at : length rest ≡ length r.pending - 1 = omega (arith, length-map pending (handle_at records)) in
+      (λ i. roster_of limits (reused records (sym dropped i)) (sym taken i))
+      ∙ roster_of-reuse limits records pending live (length rest) linked within
+      ∙ (λ i. record r { live = sets.union r.live (sets.from_list (handles i)); pending = take (at i) r.pending })
+
+  pub last_handle : slice_get (map (handle_at records) pending) (length (map (handle_at records) pending) - 1) ≡ Some (handle_at records index)
+  last_handle =
+      let f = handle_at records in
+      let n = length (map f pending) in
+      let more = long in
+      let same = length-map pending f in
+      let at : get_or pending (n - 1) 0 ≡ index = ap (λ ps. get_or ps (n - 1) 0) last ∙ get_or_push rest index 0 (n - 1) (omega arith) in
+      slice_get_read (map f pending) n (n - 1) (f index) refl (omega arith) (sym (get_or-map f pending (n - 1) 0 (f index) (omega arith) ∙ ap f at))
 
 -- ---- making
 
@@ -98,16 +164,16 @@ map_alike f g (x ∷ xs) alike = λ i. alike 0 (omega arith) i ∷ map_alike f g
 
 module _ (limits : Limits) (records : List SlotRecord) (pending : List ℕ) (live count : ℕ) (linked : AreLinked limits records pending live) (room : length records + count ≤ limits.slots) where
   abbrev grown : List SlotRecord
-  grown = records ++ replicate count newborn
+  grown = records ++ replicate count new_record
 
   old_stays : (index : ℕ) → index < length records → record_at grown index ≡ record_at records index
-  old_stays index made = get_or_append_left records (replicate count newborn) blank index made
+  old_stays index made = get_or_append_left records (replicate count new_record) blank index made
 
-  new_is : (index : ℕ) → length records ≤ index → index < length grown → record_at grown index ≡ newborn
+  new_is : (index : ℕ) → length records ≤ index → index < length grown → record_at grown index ≡ new_record
   new_is index past within =
-      let below : index - length records < count = omega (arith, length-append records (replicate count newborn), length-replicate count newborn) in
-      get_or-append_right records (replicate count newborn) (length records) index blank refl past
-      ∙ get_or-replicate count (index - length records) newborn blank below
+      let below : index - length records < count = omega (arith, length-append records (replicate count new_record), length-replicate count new_record) in
+      get_or-append_right records (replicate count new_record) (length records) index blank refl past
+      ∙ get_or-replicate count (index - length records) new_record blank below
 
   waits_in_old : (index position : ℕ) → index < length grown → (record_at grown index).occupancy ≡ Pending position → index < length records
   waits_in_old index position within is =
@@ -118,9 +184,9 @@ module _ (limits : Limits) (records : List SlotRecord) (pending : List ℕ) (liv
 
   pub make_keeps_links : AreLinked limits grown pending (live + count)
   make_keeps_links =
-      let long : length grown ≡ length records + count = length-append records (replicate count newborn) ∙ ap (λ n. length records + n) (length-replicate count newborn) in
+      let long : length grown ≡ length records + count = length-append records (replicate count new_record) ∙ ap (λ n. length records + n) (length-replicate count new_record) in
       let more : length (occupants 0 grown) ≡ length (occupants 0 records) + count =
-      ap length (occupants-append 0 records (replicate count newborn) ∙ ap (λ hs. occupants 0 records ++ hs) (occupants-newborn (0 + length records) count))
+      ap length (occupants-append 0 records (replicate count new_record) ∙ ap (λ hs. occupants 0 records ++ hs) (occupants-new (0 + length records) count))
       ∙ length-append (occupants 0 records) (fresh (0 + length records) count)
       ∙ ap (λ n. length (occupants 0 records) + n) (length-fresh (0 + length records) count) in
       let counted = linked.counted in
@@ -158,11 +224,11 @@ module _ (limits : Limits) (records : List SlotRecord) (pending : List ℕ) (liv
   roster_of-make =
       let zero_plus : 0 + length records ≡ length records = omega arith in
       let live_is =
-      ap (λ (hs : List Handle). sets.from_list {R = handle_cmp} hs) (occupants-append 0 records (replicate count newborn) ∙ ap (λ hs. occupants 0 records ++ hs) (occupants-newborn (0 + length records) count ∙ ap (λ n. fresh n count) zero_plus))
+      ap (λ (hs : List Handle). sets.from_list {R = handle_cmp} hs) (occupants-append 0 records (replicate count new_record) ∙ ap (λ hs. occupants 0 records ++ hs) (occupants-new (0 + length records) count ∙ ap (λ n. fresh n count) zero_plus))
       ∙ from_list-append (occupants 0 records) (fresh (length records) count) in
-      let rows_is = ap (λ (es : List (Handle × ℕ)). maps.from_entries {R = handle_cmp} es) (kept-made 0 count records) in
+      let rows_is = ap (λ (es : List (Handle × ℕ)). maps.from_entries {R = handle_cmp} es) (rows_from-made 0 count records) in
       let pending_is = map_alike (handle_at grown) (handle_at records) pending (λ k below i. record { index = get_or pending k 0; generation = (old_stays (get_or pending k 0) (linked.made k below) i).generation }) in
-      let made_is : length grown ≡ length records + count = length-append records (replicate count newborn) ∙ ap (λ n. length records + n) (length-replicate count newborn) in
+      let made_is : length grown ≡ length records + count = length-append records (replicate count new_record) ∙ ap (λ n. length records + n) (length-replicate count new_record) in
       λ i. record { limits = limits; live = live_is i; rows = rows_is i; pending = pending_is i; made = made_is i }
 
 -- ---- releasing
@@ -318,15 +384,15 @@ module _ (limits : Limits) (records : List SlotRecord) (pending : List ℕ) (liv
           ∙ (λ i. occupant_alive records h lives i && eqb (occupant_generation records h lives i) q.generation)
           ∙ eqb_sym h.generation q.generation
 
-  rows_is : maps.from_entries {R = handle_cmp} (kept 0 released) ≡ maps.remove (maps.from_entries (kept 0 records)) h
+  rows_is : maps.from_entries {R = handle_cmp} (rows_from 0 released) ≡ maps.remove (maps.from_entries (rows_from 0 records)) h
   rows_is =
       maps.same_map handle_cmp_total handle_cmp-IsAntisymmetric _ _ (λ q.
-      get_kept released q
+      get_rows released q
       ∙ row_at-set records h.index vacant q made_slot
       ∙ (λ i. cond (eqb q.index h.index) (never (eqb (next limits h).generation q.generation) None refl i) (row_at records q))
       ∙ gone_row (eqb q.index h.index) (eqb q.generation h.generation) (row_at records q) (at_h q)
-      ∙ (λ i. cond (sym (ties q h) i) None (sym (get_kept records q) i))
-      ∙ sym (maps.get-remove handle_cmp_total (maps.from_entries (kept 0 records)) h q))
+      ∙ (λ i. cond (sym (ties q h) i) None (sym (get_rows records q) i))
+      ∙ sym (maps.get-remove handle_cmp_total (maps.from_entries (rows_from 0 records)) h q))
     where
       at_h : (q : Handle) → eqb q.index h.index ≡ true → eqb q.generation h.generation ≡ false → row_at records q ≡ None
       at_h q e ne =

@@ -1,6 +1,11 @@
 -- Laws of lists: filters that keep all or nothing, parts of joined lists, and pairs.
-use Rattle.std.proofs.Common.{◌≡◌, refl, sym, ap, ◌∙◌, ℕ, zero, suc, ◌+◌, ◌-◌, ◌<◌, Bool, true, false, eqb, List, [], ◌∷◌, ◌++◌, length, get_or, take, drop, reverse, filter, All, AllPairs, Contains, arith, cond, ◌==◌, ◌≢◌, swap, IsPermutation, eq-eqb, ne_eqb, inl, inr, subst₂}
-use Rattle.std.proofs.lemmas.List.{get_or-take, get_or-drop, get_or_append_left, length-append, length-take, length-drop, length-reverse, get_or-reverse, get_or_default}
+use Rattle.std.proofs.Common.{◌≡◌, refl, sym, ap, ◌∙◌, ℕ, zero, suc, ◌+◌, ◌-◌, ◌<◌, Bool, true}
+use Rattle.std.proofs.Common.{false, eqb, List, [], ◌∷◌, ◌++◌, length, get_or, take, drop, reverse}
+use Rattle.std.proofs.Common.{filter, All, AllPairs, Contains, arith, cond, ◌==◌, ◌≢◌, swap}
+use Rattle.std.proofs.Common.{IsPermutation, eq-eqb, ne_eqb, inl, inr, subst₂}
+use Rattle.std.proofs.lemmas.List.{get_or-take, get_or-drop, get_or_append_left, length-append}
+use Rattle.std.proofs.lemmas.List.{length-take, length-drop, length-reverse, get_or-reverse}
+use Rattle.std.proofs.lemmas.List.{get_or_default}
 use Rattle.std.proofs.lemmas.Bool.{cases_lt, cases_eq}
 use Rattle.std.proofs.lemmas.Bool.Decides.{nat_tests}
 use Rattle.std.proofs.lemmas.List.Edits.{Swapped, length-swap, swapped_from_swap}

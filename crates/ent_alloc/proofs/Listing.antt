@@ -1,6 +1,9 @@
 -- What a reply that borrows the slots lists, one handle after the other.
-use Rattle.std.proofs.Common.{◌≡◌, ℕ, ◌+◌, ◌-◌, ◌<◌, ◌≤◌, List, [], ◌∷◌, ◌++◌, length, take, drop, get_or, slice_get, Some, sym, ap, ◌∙◌, arith, suc, zero, add-zero}
-use Rattle.std.proofs.lemmas.List.{length-append, length-take-le, length-drop, drop_more, take_more, get_or-drop}
+use Rattle.std.proofs.Common.{◌≡◌, ℕ, ◌+◌, ◌-◌, ◌<◌, ◌≤◌, List, [], ◌∷◌, ◌++◌, length, take, drop}
+use Rattle.std.proofs.Common.{replicate, get_or, slice_get, Some, refl, sym, ap, ◌∙◌, arith, suc}
+use Rattle.std.proofs.Common.{zero, add-zero}
+use Rattle.std.proofs.lemmas.List.{length-append, length-take-le, length-drop, drop_more, take_more}
+use Rattle.std.proofs.lemmas.List.{get_or-drop}
 use Rattle.std.proofs.lemmas.Option.{get_or_from_slice_get}
 use Rattle.ent_handle.specs.Handle.{Handle}
 use Rattle.ent_alloc.specs.Roster.{Roster}
@@ -62,3 +65,9 @@ take-push hs from position h after below at =
     (λ i. take (position - from) (drop from hs) ++ item i ∷ [])
     ∙ sym (take_more (drop from hs) (position - from) h (omega (arith, length-drop from hs)))
     ∙ ap (λ n. take n (drop from hs)) more
+
+pub replicate-push : {X : Type 0} (count : ℕ) (x : X) → replicate count x ++ x ∷ [] ≡ replicate (count + 1) x
+replicate-push zero x = refl
+replicate-push (suc count) x =
+    let more : suc (count + 1) ≡ suc count + 1 = omega arith in
+    ap (λ rest. x ∷ rest) (replicate-push count x) ∙ ap (λ n. replicate n x) more

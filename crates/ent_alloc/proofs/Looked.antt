@@ -1,23 +1,104 @@
--- What looking a handle up in the records tells of the pending list, of the fresh handles and of the rows.
-use Rattle.std.proofs.Common.{◌≡◌, ◌≢◌, ℕ, ◌+◌, ◌-◌, ◌<◌, ◌≤◌, Bool, true, false, cond, ◌&&◌, eqb, ltb, List, length, get_or, set, drop, map, refl, sym, ap, ◌∙◌, arith, inl, inr, Option, None, Some}
+-- What looking a handle up in the records tells of the pending list, of the fresh handles and of
+-- the rows.
+use Rattle.std.proofs.Common.{◌≡◌, ◌≢◌, ℕ, ◌+◌, ◌-◌, ◌<◌, ◌≤◌, Bool, true, false, cond, ◌&&◌, eqb}
+use Rattle.std.proofs.Common.{ltb, List, length, get_or, set, drop, map, refl, sym, ap, ◌∙◌, arith}
+use Rattle.std.proofs.Common.{inl, inr, Option, None, Some}
 use Rattle.std.specs.List.{Contains}
+use Rattle.std.specs.Option.{OnSome}
 use Rattle.std.specs.FinSet as sets
 use Rattle.std.specs.FinMap as maps
-use Rattle.std.proofs.lemmas.Bool.{cases_eq, false≢true, and_parts, and_from, eqb-true, leb-true, ltb-true, eq-eqb, le-leb, lt-ltb, false_from_ne_true}
-use Rattle.std.proofs.lemmas.List.{get_or-drop, get_or-map, length-drop, length-map, length-set, get_or-set_same, get_or-set_other}
-use Rattle.ent_handle.specs.Handle.{Handle, handle_cmp, handle_cmp_total, handle_cmp-IsAntisymmetric}
+use Rattle.std.proofs.lemmas.Bool.{cases_eq, cases_lt, false≢true, and_parts, and_from, eqb-true}
+use Rattle.std.proofs.lemmas.Bool.{leb-true, ltb-true, eq-eqb, le-leb, lt-ltb, le-ltb}
+use Rattle.std.proofs.lemmas.Bool.{false_from_ne_true}
+use Rattle.std.proofs.lemmas.List.{get_or-drop, get_or-map, get_or_past, length-drop, length-map}
+use Rattle.std.proofs.lemmas.List.{length-set, get_or-set_same, get_or-set_other}
+use Rattle.ent_handle.specs.Handle.{Handle, handle_cmp, handle_cmp_total}
+use Rattle.ent_handle.specs.Handle.{handle_cmp-IsAntisymmetric}
 use Rattle.ent_alloc.proofs.ListLaws.{eqb_sym}
 use Rattle.ent_alloc.specs.Limits.{Limits}
 use Rattle.ent_alloc.specs.Sequential.{fresh, stands_in}
 use Rattle.ent_alloc.specs.declared.slot_record.SlotRecord.{SlotRecord}
 use Rattle.ent_alloc.specs.declared.slot_record.Occupancy.{Occupancy}
-use Rattle.ent_alloc.specs.declared.slot_record.Occupancy.TheVariants.{Alive, Pending}
-use Rattle.ent_alloc.specs.Slots.{occupants, is_occupant, has_occupant, is_alive, row_of, row_at, record_at, blank, handle_at, kept, waits_behind, waits_from, roster_of, AreLinked}
+use Rattle.ent_alloc.specs.declared.slot_record.Occupancy.TheVariants.{Alive, AliveWithRow, Pending}
+use Rattle.ent_alloc.specs.Slots.{occupants, occupancy_of, is_alive, lives, row_of, row_kept}
+use Rattle.ent_alloc.specs.Slots.{record_at, blank, handle_at, rows_from, is_pending_from}
+use Rattle.ent_alloc.specs.Slots.{waits_from, roster_of, AreLinked}
 use Rattle.ent_alloc.proofs.HandleSets.{Contains-from_stands_in, stands_in-from_Contains}
 use Rattle.ent_alloc.proofs.FreshHandles.{length-fresh, get_or-fresh}
-use Rattle.ent_alloc.proofs.Occupants.{contains_occupants, is_occupant-set, row_at-set, get_kept, ties, one, length-occupants-set}
-use Rattle.ent_alloc.proofs.Reused.{Alive≢Pending}
+use Rattle.ent_alloc.proofs.Occupants.{is_occupant, has_occupant, row_at, contains_occupants}
+use Rattle.ent_alloc.proofs.Occupants.{is_occupant-set, row_at-set, get_rows, ties, one}
+use Rattle.ent_alloc.proofs.Occupants.{length-occupants-set}
 use Rattle.ent_alloc.proofs.Linked.{occupant_made, occupant_alive, occupant_generation, map_alike}
+
+-- the handle is the next one of a slot that waits at this position or after it
+abbrev pub waits_at : List SlotRecord → Handle → ℕ → Bool
+waits_at records h from =
+    ltb h.index (length records)
+    && (is_pending_from (record_at records h.index).occupancy from && eqb (record_at records h.index).generation h.generation)
+
+-- ---- one look-up tells all of a handle
+
+and-true : (b : Bool) → (b && true) ≡ b
+and-true true = refl
+and-true false = refl
+
+and-false : (b : Bool) → (b && false) ≡ false
+and-false true = refl
+and-false false = refl
+
+lives_if : (made same : Bool) (o : Occupancy) → (made ≡ false → is_alive o ≡ false) → (is_alive o && same) ≡ lives (cond (made && same) (Some o) None)
+lives_if true true o none = and-true (is_alive o)
+lives_if true false o none = and-false (is_alive o)
+lives_if false same o none = ap (λ b. b && same) (none refl)
+
+row_if : (made same : Bool) (o : Occupancy) → (made ≡ false → row_of o ≡ None) → cond same (row_of o) None ≡ row_kept (cond (made && same) (Some o) None)
+row_if true true o none = refl
+row_if true false o none = refl
+row_if false true o none = none refl
+row_if false false o none = refl
+
+waits_if : (made same : Bool) (o : Occupancy) (from : ℕ) → (made && (is_pending_from o from && same)) ≡ waits_from (cond (made && same) (Some o) None) from
+waits_if true true o from = and-true (is_pending_from o from)
+waits_if true false o from = and-false (is_pending_from o from)
+waits_if false same o from = refl
+
+anyhow : (o : Option Occupancy) (P : Type 0) → P → OnSome o P
+anyhow None P so = tt
+anyhow (Some x) P so = so
+
+module _ (records : List SlotRecord) (h : Handle) where
+  abbrev found_record : SlotRecord
+  found_record = record_at records h.index
+
+  absent : ltb h.index (length records) ≡ false → found_record ≡ blank
+  absent is = elim (cases_lt h.index (length records)) [
+    | inl made ↦ absurd (false≢true (sym is ∙ lt-ltb h.index (length records) made))
+    | inr past ↦ get_or_past records h.index blank past
+  ]
+
+  pub is_occupant-occupancy : is_occupant records h ≡ lives (occupancy_of records h)
+  is_occupant-occupancy =
+      lives_if (ltb h.index (length records)) (eqb found_record.generation h.generation) found_record.occupancy
+      (λ is. ap (λ (r : SlotRecord). is_alive r.occupancy) (absent is))
+
+  -- what is found was made
+  pub made-occupancy : OnSome (occupancy_of records h) (h.index < length records)
+  made-occupancy = elim (cases_lt h.index (length records)) [
+    | inl made ↦ anyhow (occupancy_of records h) (h.index < length records) made
+    | inr past ↦
+        rw (le-ltb h.index (length records) past) tt
+  ]
+
+  pub row_at-occupancy : row_at records h ≡ row_kept (occupancy_of records h)
+  row_at-occupancy =
+      row_if (ltb h.index (length records)) (eqb found_record.generation h.generation) found_record.occupancy
+      (λ is. ap (λ (r : SlotRecord). row_of r.occupancy) (absent is))
+
+  pub waits_at-occupancy : (from : ℕ) → waits_at records h from ≡ waits_from (occupancy_of records h) from
+  waits_at-occupancy from =
+      waits_if (ltb h.index (length records)) (eqb found_record.generation h.generation) found_record.occupancy from
+
+-- ---- who waits
 
 -- two tests that imply each other
 same_test : (a b : Bool) → (a ≡ true → b ≡ true) → (b ≡ true → a ≡ true) → a ≡ b
@@ -26,8 +107,9 @@ same_test false true f g = g refl
 same_test false false f g = refl
 
 -- the position that a slot waits at
-waiting_position : (t : Occupancy) (from : ℕ) → waits_behind t from ≡ true → (position : ℕ) × (t ≡ Pending position) × (from ≤ position)
-waiting_position (Alive row) from is = absurd (false≢true is)
+waiting_position : (t : Occupancy) (from : ℕ) → is_pending_from t from ≡ true → (position : ℕ) × (t ≡ Pending position) × (from ≤ position)
+waiting_position Alive from is = absurd (false≢true is)
+waiting_position (AliveWithRow row) from is = absurd (false≢true is)
 waiting_position (Pending position) from is = (position, refl, leb-true from position is)
 
 module _ (limits : Limits) (records : List SlotRecord) (pending : List ℕ) (live : ℕ) (linked : AreLinked limits records pending live) where
@@ -37,7 +119,7 @@ module _ (limits : Limits) (records : List SlotRecord) (pending : List ℕ) (liv
   long : (from : ℕ) → length (drop from (map (handle_at records) pending)) ≡ length pending - from
   long from = length-drop from (map (handle_at records) pending) ∙ ap (λ n. n - from) (length-map pending (handle_at records))
 
-  found : (h : Handle) (from : ℕ) → Contains (drop from (map (handle_at records) pending)) h → waits_from records h from ≡ true
+  found : (h : Handle) (from : ℕ) → Contains (drop from (map (handle_at records) pending)) h → waits_at records h from ≡ true
   found h from (k, within, is) =
       let below : from + k < length pending = omega (arith, long from) in
       let index = get_or pending (from + k) 0 in
@@ -45,14 +127,14 @@ module _ (limits : Limits) (records : List SlotRecord) (pending : List ℕ) (liv
       let at : index ≡ h.index = ap (λ (x : Handle). x.index) same in
       let made = linked.made (from + k) below in
       and_from (ltb h.index (length records)) _ (lt-ltb h.index (length records) (omega arith))
-      (and_from (waits_behind (record_at records h.index).occupancy from) _
-      (ap (λ t. waits_behind t from) (sym (ap (λ n. (record_at records n).occupancy) at) ∙ linked.forward (from + k) below) ∙ le-leb from (from + k) (omega arith))
+      (and_from (is_pending_from (record_at records h.index).occupancy from) _
+      (ap (λ t. is_pending_from t from) (sym (ap (λ n. (record_at records n).occupancy) at) ∙ linked.forward (from + k) below) ∙ le-leb from (from + k) (omega arith))
       (eq-eqb _ _ (sym (ap (λ n. (record_at records n).generation) at) ∙ ap (λ (x : Handle). x.generation) same)))
 
-  waiting : (h : Handle) (from : ℕ) → waits_from records h from ≡ true → Contains (drop from (map (handle_at records) pending)) h
+  waiting : (h : Handle) (from : ℕ) → waits_at records h from ≡ true → Contains (drop from (map (handle_at records) pending)) h
   waiting h from is =
       let parts = and_parts (ltb h.index (length records)) _ is in
-      let rest = and_parts (waits_behind (record_at records h.index).occupancy from) _ parts.1 in
+      let rest = and_parts (is_pending_from (record_at records h.index).occupancy from) _ parts.1 in
       let made = ltb-true h.index (length records) parts.0 in
       let position = waiting_position (record_at records h.index).occupancy from rest.0 in
       let listed : position.0 < length pending = linked.listed h.index position.0 made position.1 in
@@ -67,7 +149,7 @@ module _ (limits : Limits) (records : List SlotRecord) (pending : List ℕ) (liv
       )
 
   -- who waits behind a position is told by the record
-  pub stands_in-pending : (h : Handle) (from : ℕ) → waits_from records h from ≡ stands_in (drop from (map (handle_at records) pending)) h
+  pub stands_in-pending : (h : Handle) (from : ℕ) → waits_at records h from ≡ stands_in (drop from (map (handle_at records) pending)) h
   stands_in-pending h from =
       same_test _ _
       (λ is. stands_in-from_Contains (drop from (map (handle_at records) pending)) h (waiting h from is))
@@ -103,7 +185,7 @@ new_row false gen row old is = refl
 
 module _ (limits : Limits) (records : List SlotRecord) (pending : List ℕ) (live : ℕ) (h : Handle) (row : ℕ) (linked : AreLinked limits records pending live) (lives : is_occupant records h ≡ true) where
   abbrev labelled : SlotRecord
-  labelled = record { generation = (record_at records h.index).generation; occupancy = Alive (Some row) }
+  labelled = record { generation = (record_at records h.index).generation; occupancy = AliveWithRow row }
 
   abbrev relabelled : List SlotRecord
   relabelled = set records h.index labelled
@@ -131,7 +213,7 @@ module _ (limits : Limits) (records : List SlotRecord) (pending : List ℕ) (liv
   waited : (at position : ℕ) → (record_at relabelled at).occupancy ≡ Pending position → (record_at records at).occupancy ≡ Pending position
   waited at position is =
       elim (cases_eq at h.index) [
-        | inl e ↦ absurd (Alive≢Pending (sym (ap (λ (r : SlotRecord). r.occupancy) (itself at e)) ∙ is))
+        | inl e ↦ absurd (false≢true (sym (ap is_alive (sym (ap (λ (r : SlotRecord). r.occupancy) (itself at e)) ∙ is))))
         | inr ne ↦ sym (ap (λ (r : SlotRecord). r.occupancy) (others at ne)) ∙ is
       ]
 
@@ -169,15 +251,15 @@ module _ (limits : Limits) (records : List SlotRecord) (pending : List ℕ) (liv
           ap (λ n. has_occupant (record_at records n) q.generation) (eqb-true q.index h.index e)
           ∙ (λ i. occupant_alive records h lives i && eqb (record_at records h.index).generation q.generation)
 
-  new_rows : maps.from_entries {R = handle_cmp} (kept 0 relabelled) ≡ maps.insert (maps.from_entries (kept 0 records)) h row
+  new_rows : maps.from_entries {R = handle_cmp} (rows_from 0 relabelled) ≡ maps.insert (maps.from_entries (rows_from 0 records)) h row
   new_rows =
       maps.same_map handle_cmp_total handle_cmp-IsAntisymmetric _ _ (λ q.
-      get_kept relabelled q
+      get_rows relabelled q
       ∙ row_at-set records h.index labelled q slot_made
       ∙ (λ i. cond (eqb q.index h.index) (cond ((ap (λ n. eqb n q.generation) (occupant_generation records h lives) ∙ eqb_sym h.generation q.generation) i) (Some row) None) (row_at records q))
       ∙ new_row (eqb q.index h.index) (eqb q.generation h.generation) (Some row) (row_at records q) (here q)
-      ∙ (λ i. cond (sym (ties q h) i) (Some row) (sym (get_kept records q) i))
-      ∙ sym (maps.get-insert handle_cmp_total (maps.from_entries (kept 0 records)) h row q))
+      ∙ (λ i. cond (sym (ties q h) i) (Some row) (sym (get_rows records q) i))
+      ∙ sym (maps.get-insert handle_cmp_total (maps.from_entries (rows_from 0 records)) h row q))
     where
       here : (q : Handle) → eqb q.index h.index ≡ true → eqb q.generation h.generation ≡ false → row_at records q ≡ None
       here q e ne =

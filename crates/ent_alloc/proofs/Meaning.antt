@@ -1,24 +1,40 @@
 -- What an `Entities` stands for, and what its calls make of that.
-use Rattle.std.proofs.Common.{◌≡◌, ℕ, ℤ, pos, negsuc, ◌+ℤ◌, ◌-ℤ◌, ◌≤ℤ◌, ◌+◌, ◌-◌, ◌<◌, ◌≤◌, ◌^◌, Bool, true, false, cond, ◌||◌, List, [], ◌∷◌, ◌++◌, length, take, drop, reverse, filter, refl, sym, ap, ◌∙◌, arith, inl, inr, suc, zero, slice_get, Some, subst, All, nat_le, Ok, Err, IsTrue, ◌↔◌, to_z, of_z, w64, Option, ◌⊎◌}
+use Rattle.std.proofs.Common.{◌≡◌, ℕ, ℤ, pos, negsuc, ◌+ℤ◌, ◌-ℤ◌, ◌≤ℤ◌, neg_ℤ, ◌+◌, ◌-◌, ◌<◌, ◌≤◌}
+use Rattle.std.proofs.Common.{◌^◌, Bool, true, false, cond, ◌||◌, List, [], ◌∷◌, ◌++◌, length, take}
+use Rattle.std.proofs.Common.{drop, reverse, filter, refl, sym, ap, ◌∙◌, arith, inl, inr, suc, zero}
+use Rattle.std.proofs.Common.{slice_get, Some, subst, All, nat_le, Ok, Err, IsTrue, ◌↔◌, to_z, of_z}
+use Rattle.std.proofs.Common.{w64, Option, ◌⊎◌}
 use Rattle.std.specs.List.{list_any}
 use Rattle.std.specs.Option.{is_some}
 use Rattle.std.specs.Ordering.{eq_by_cmp}
 use Rattle.std.specs.FinSet as sets
 use Rattle.std.specs.FinMap as maps
 use Rattle.std.proofs.lemmas.Int.{ints}
-use Rattle.std.proofs.lemmas.Bool.{cases_lt, false≢true, lt-ltb, le-ltb, le-leb, lt-leb, cond-true, cond-false}
-use Rattle.std.proofs.lemmas.List.{append_cancel_right, append-nil, length-append, length-reverse, length-take, length-take-le, length-drop, take-append-drop, drop-take, take_all, drop_all, drop_at, take_at, reverse-append, reverse-reverse, drop-drop, take_more, nil_from_length}
+use Rattle.std.proofs.lemmas.Bool.{cases_lt, false≢true, lt-ltb, le-ltb, le-leb, lt-leb, cond-true}
+use Rattle.std.proofs.lemmas.Bool.{cond-false}
+use Rattle.std.proofs.lemmas.List.{append_cancel_right, append-nil, length-append, length-reverse}
+use Rattle.std.proofs.lemmas.List.{length-take, length-take-le, length-drop, take-append-drop}
+use Rattle.std.proofs.lemmas.List.{drop-take, take_all, drop_all, drop_at, take_at, reverse-append}
+use Rattle.std.proofs.lemmas.List.{reverse-reverse, drop-drop, take_more, nil_from_length}
 use Rattle.std.proofs.lemmas.List.Folds.{list_any-append}
 use Rattle.std.proofs.lemmas.List.Elements.{All-take, All-drop, All-head, filter-append}
 use Rattle.std.proofs.Math.Seq.{take-add}
 use Rattle.std.proofs.lemmas.Option.{get_or_from_slice_get}
-use Rattle.ent_handle.specs.Handle.{Handle, handle_cmp, handle_cmp_total, handle_cmp-IsAntisymmetric}
+use Rattle.ent_handle.specs.Handle.{Handle, handle_cmp, handle_cmp_total}
+use Rattle.ent_handle.specs.Handle.{handle_cmp-IsAntisymmetric}
 use Rattle.ent_alloc.specs.Limits.{Limits}
+use Rattle.ent_alloc.specs.declared.requests.Requests.{Requests}
 use Rattle.ent_alloc.specs.Roster.{Roster}
-use Rattle.ent_alloc.specs.Sequential.{Allocator, opening, fresh, is_old, is_fresh, available, top, cursor, after_take, after_flush, after_alloc, after_free, next, born, listed, asked_at, pool_at, reply_from, stands_in, settled, after_set_row}
+use Rattle.ent_alloc.specs.Sequential.{Allocator, opening, fresh, is_old, is_fresh, available, top}
+use Rattle.ent_alloc.specs.Sequential.{cursor, after_take, made_at_flush, after_flush, after_alloc}
+use Rattle.ent_alloc.specs.Sequential.{after_free, next, born, listed, asked_at, pool_at}
+use Rattle.ent_alloc.specs.Sequential.{reply_from, stands_in, settled, after_set_row}
 use Rattle.ent_alloc.specs.Sound.{IsSound, IsLive}
 use Rattle.ent_alloc.specs.Entities.{idle, allocator_of, beneath, AreReserved}
-use Rattle.ent_alloc.proofs.FreshHandles.{length-fresh, fresh-next, take-fresh, take_joined, drop_joined, old_of_joined, fresh_of_joined, all_old_are_old, no_fresh_is_old, no_old_is_fresh, all_fresh_are_fresh}
+use Rattle.ent_alloc.proofs.FreshHandles.{length-fresh, fresh-next, take-fresh, take_joined}
+use Rattle.ent_alloc.proofs.FreshHandles.{drop_joined, old_of_joined, fresh_of_joined}
+use Rattle.ent_alloc.proofs.FreshHandles.{all_old_are_old, no_fresh_is_old, no_old_is_fresh}
+use Rattle.ent_alloc.proofs.FreshHandles.{all_fresh_are_fresh}
 use Rattle.ent_alloc.proofs.ListLaws.{take-append}
 use Rattle.ent_alloc.specs.Reserved.{handles_of}
 use Rattle.ent_alloc.proofs.HandleSets.{contains-union_list, same_handle}
@@ -207,6 +223,10 @@ module _ (r : Roster) (asked given : ℕ) (within : given ≤ asked) (enough : g
   taken_fresh : filter (is_fresh r.made) (take given (idle r)) ≡ fresh r.made news
   taken_fresh = ap (filter (is_fresh r.made)) taken_is ∙ fresh_of_joined r.made news (reverse (drop kept r.pending)) taken_below
 
+  -- how many slots it makes
+  pub made_at_flush_is : made_at_flush (allocator_of r asked given) ≡ news
+  made_at_flush_is = ap length taken_fresh ∙ length-fresh r.made news
+
   -- who is reserved
   pub stands_in_taken : (h : Handle) → (stands_in (drop kept r.pending) h || stands_in (fresh r.made news) h) ≡ stands_in (take given (idle r)) h
   stands_in_taken h =
@@ -221,8 +241,7 @@ module _ (r : Roster) (asked given : ℕ) (within : given ≤ asked) (enough : g
   flush_is =
       let live_is : flushed_roster.live ≡ sets.union r.live (sets.from_list (take given (idle r))) =
       live_after r.live (fresh r.made news) (drop kept r.pending) ∙ ap (λ hs. sets.union r.live (sets.from_list hs)) (sym taken_is) in
-      let made_is : r.made + news ≡ r.made + length (filter (is_fresh r.made) (take given (idle r))) =
-      ap (λ n. r.made + n) (sym (length-fresh r.made news) ∙ ap length (sym taken_fresh)) in
+      let made_is : r.made + news ≡ r.made + made_at_flush (allocator_of r asked given) = ap (λ n. r.made + n) (sym made_at_flush_is) in
       let room_is : r.limits.slots - (r.made + news) ≡ r.limits.slots - r.made - news = omega arith in
       let pool_is : reverse (take kept r.pending) ++ fresh (r.made + news) (r.limits.slots - (r.made + news)) ≡ drop given (take asked (idle r)) ++ drop asked (idle r) =
       (λ i. sym (drop-reverse given r.pending) i ++ fresh (r.made + news) (room_is i))
@@ -433,17 +452,29 @@ pub rest_is : (r : Roster) (cursor floor : ℤ) (s : Allocator) → AreReserved 
 rest_is r cursor floor s reserved view none =
     sym (flushed r (beneath r cursor) (beneath r floor) (ap (λ (t : Allocator). t.asked) view ∙ none) reserved.given_least) ∙ view
 
--- both cursors are put at the top again
-pub closed_is : (r r' : Roster) (cursor floor : ℤ) (s : Allocator) → r ≡ r' → cursor ≡ pos (length r.pending) → floor ≡ pos (length r.pending) → allocator_of r' 0 0 ≡ s → allocator_of r (beneath r cursor) (beneath r floor) ≡ s
-closed_is r r' cursor floor s same at_cursor at_floor is =
-    (λ i. allocator_of r (asked_at (length r.pending) (at_cursor i)) (asked_at (length r.pending) (at_floor i)))
+-- no request: both positions are at the top
+abbrev pub none_at : Roster → Requests
+none_at r = record { cursor = pos (length r.pending); floor = pos (length r.pending) }
+
+pub closed_is : (r r' : Roster) (requests : Requests) (s : Allocator) → r ≡ r' → requests ≡ none_at r → allocator_of r' 0 0 ≡ s → allocator_of r (beneath r requests.cursor) (beneath r requests.floor) ≡ s
+closed_is r r' requests s same at_top is =
+    (λ i. allocator_of r (asked_at (length r.pending) (at_top i).cursor) (asked_at (length r.pending) (at_top i).floor))
     ∙ (λ i. allocator_of r (asked_at-top (length r.pending) i) (asked_at-top (length r.pending) i))
     ∙ ap (λ (x : Roster). allocator_of x 0 0) same
     ∙ is
 
-pub closed : (r r' : Roster) (cursor floor : ℤ) (s : Allocator) → r ≡ r' → cursor ≡ pos (length r.pending) → floor ≡ pos (length r.pending) → allocator_of r' 0 0 ≡ s → IsSound s → AreReserved r cursor floor
-closed r r' cursor floor s same at_cursor at_floor is sound =
-    rw (at_cursor, at_floor) (AreReserved-flushed r (subst IsSound (sym (ap (λ (x : Roster). allocator_of x 0 0) same ∙ is)) sound))
+pub closed : (r r' : Roster) (requests : Requests) (s : Allocator) → r ≡ r' → requests ≡ none_at r → allocator_of r' 0 0 ≡ s → IsSound s → AreReserved r requests.cursor requests.floor
+closed r r' requests s same at_top is sound =
+    subst (λ (q : Requests). AreReserved r q.cursor q.floor) (sym at_top) (AreReserved-flushed r (subst IsSound (sym (ap (λ (x : Roster). allocator_of x 0 0) same ∙ is)) sound))
+
+-- how many pending slots are not reserved, and how many fresh ones are
+pub kept_is : (n : ℕ) (floor : ℤ) (k : ℕ) → floor ≤ℤ pos n → (pos 0 ≤ℤ floor → pos k ≡ floor) → (floor ≤ℤ pos 0 → k ≡ 0) → k ≡ n - asked_at n floor
+kept_is n (pos c) k within some none = let same : pos k ≡ pos c = some (omega (arith, ints)) in omega (arith, ints)
+kept_is n (negsuc c) k within some none = let same : k ≡ 0 = none (omega (arith, ints)) in omega (arith, ints)
+
+pub fresh_is : (n : ℕ) (floor : ℤ) (k : ℕ) → (pos 0 ≤ℤ floor → k ≡ 0) → (floor ≤ℤ pos 0 → floor ≡ neg_ℤ (pos k)) → k ≡ asked_at n floor - n
+fresh_is n (pos c) k none some = let same : k ≡ 0 = none (omega (arith, ints)) in omega (arith, ints)
+fresh_is n (negsuc c) k none some = let same : negsuc c ≡ neg_ℤ (pos k) = some (omega (arith, ints)) in omega (arith, ints)
 
 -- a test that no request was made
 pub none_asked : (b : Bool) (n : ℕ) → (IsTrue b ↔ (0 < n)) → b ≡ false → n ≡ 0
@@ -453,7 +484,8 @@ none_asked b n tells is =
       | inr none ↦ omega arith
     ]
 
--- a position that lies between the top and what a handle can reach is the same as a machine's number
+-- a position that lies between the top and what a handle can reach is the same as a machine's
+-- number
 pub as_word : (r : Roster) (z : ℤ) → z ≤ℤ pos (length r.pending) → beneath r z ≤ 2 ^ 60 → length r.pending < 2 ^ 32 → to_z w64 (of_z w64 z) ≡ z
 as_word r z within small few = omega (arith, ints, asked_at-is (length r.pending) z within)
 

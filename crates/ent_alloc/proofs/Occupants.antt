@@ -1,5 +1,7 @@
 -- What the set of occupants holds, and how many they are.
-use Rattle.std.proofs.Common.{◌≡◌, ℕ, ◌+◌, ◌-◌, ◌<◌, Bool, true, false, cond, ◌&&◌, ◌||◌, eqb, leb, List, [], ◌∷◌, ◌++◌, length, get_or, set, refl, sym, ap, ◌∙◌, arith, inl, inr, suc, zero, replicate, Option, None, Some}
+use Rattle.std.proofs.Common.{◌≡◌, ℕ, ◌+◌, ◌-◌, ◌<◌, Bool, true, false, cond, ◌&&◌, ◌||◌, eqb, leb}
+use Rattle.std.proofs.Common.{List, [], ◌∷◌, ◌++◌, length, get_or, set, refl, sym, ap, ◌∙◌, arith}
+use Rattle.std.proofs.Common.{inl, inr, suc, zero, replicate, Option, None, Some}
 use Rattle.std.specs.List.{list_any}
 use Rattle.std.specs.Ordering.{eq_by_cmp, nat_cmp, is_eq, ordering_then}
 use Rattle.std.specs.declared.cmp.Ordering.{Ordering}
@@ -7,15 +9,36 @@ use Rattle.std.specs.declared.cmp.Ordering.TheVariants.{Less, Equal, Greater}
 use Rattle.std.specs.FinSet as sets
 use Rattle.std.specs.FinMap as maps
 use Rattle.std.proofs.lemmas.Bool.Decides.{nat_tests}
-use Rattle.std.proofs.lemmas.Bool.{cases_order, cases_eq, eq-eqb, ne_eqb, lt-leb, le-leb, cond-true, cond-false}
-use Rattle.ent_handle.specs.Handle.{Handle, handle_cmp, handle_cmp_total, handle_cmp-IsAntisymmetric}
+use Rattle.std.proofs.lemmas.Bool.{cases_order, cases_eq, eq-eqb, ne_eqb, lt-leb, le-leb, cond-true}
+use Rattle.std.proofs.lemmas.Bool.{cond-false}
+use Rattle.ent_handle.specs.Handle.{Handle, handle_cmp, handle_cmp_total}
+use Rattle.ent_handle.specs.Handle.{handle_cmp-IsAntisymmetric}
 use Rattle.ent_alloc.proofs.ListLaws.{eqb_sym}
 use Rattle.ent_alloc.specs.declared.slot_record.SlotRecord.{SlotRecord}
-use Rattle.ent_alloc.specs.Slots.{occupants, is_occupant, has_occupant, record_at, blank, is_alive, row_of, row_in, row_at, kept, with_row, newborn}
+use Rattle.ent_alloc.specs.Slots.{occupants, record_at, blank, is_alive, row_of, rows_from}
+use Rattle.ent_alloc.specs.Slots.{with_row, new_record}
 use Rattle.ent_alloc.specs.Sequential.{fresh}
 use Rattle.std.specs.FinMap.{find}
 use Rattle.std.specs.Option.{is_some}
 use Rattle.std.proofs.lemmas.List.{get_or-set_same, get_or-set_other}
+
+-- ---- looking a handle up
+
+-- the record has this living occupant
+abbrev pub has_occupant : SlotRecord → ℕ → Bool
+has_occupant r generation = is_alive r.occupancy && eqb r.generation generation
+
+-- the handle names the living occupant of its slot
+abbrev pub is_occupant : List SlotRecord → Handle → Bool
+is_occupant records h = has_occupant (record_at records h.index) h.generation
+
+-- the row that a record keeps with its occupant of a generation
+abbrev pub row_in : SlotRecord → ℕ → Option ℕ
+row_in r generation = cond (eqb r.generation generation) (row_of r.occupancy) None
+
+-- the row that is kept with the occupant that a handle names
+abbrev pub row_at : List SlotRecord → Handle → Option ℕ
+row_at records h = row_in (record_at records h.index) h.generation
 
 -- the test of two orderings, one after the other
 is_eq-then : (x y : Ordering) → is_eq (ordering_then x y) ≡ (is_eq x && is_eq y)
@@ -195,19 +218,19 @@ row_head index r records q =
           ∙ sym (λ i. cond (M i) (row_in (get_or (r ∷ records) (off i) blank) q.generation) None)
     ]
 
-find-kept : (index : ℕ) (records : List SlotRecord) (q : Handle) → find handle_cmp q (kept index records) ≡ row_from index records q
-find-kept index [] q = sym (cond-none (leb index q.index) (eqb 0 q.generation))
-find-kept index (r ∷ records) q =
-    found (record { index = index; generation = r.generation }) q (row_of r.occupancy) (kept (index + 1) records)
-    ∙ (λ i. cond (ties q (record { index = index; generation = r.generation }) i) (cond (is_some (row_of r.occupancy)) (row_of r.occupancy) (find-kept (index + 1) records q i)) (find-kept (index + 1) records q i))
+find-rows_from : (index : ℕ) (records : List SlotRecord) (q : Handle) → find handle_cmp q (rows_from index records) ≡ row_from index records q
+find-rows_from index [] q = sym (cond-none (leb index q.index) (eqb 0 q.generation))
+find-rows_from index (r ∷ records) q =
+    found (record { index = index; generation = r.generation }) q (row_of r.occupancy) (rows_from (index + 1) records)
+    ∙ (λ i. cond (ties q (record { index = index; generation = r.generation }) i) (cond (is_some (row_of r.occupancy)) (row_of r.occupancy) (find-rows_from (index + 1) records q i)) (find-rows_from (index + 1) records q i))
     ∙ row_head index r records q
 
 -- the map of the rows answers with these
-pub get_kept : (records : List SlotRecord) (q : Handle) → maps.get {R = handle_cmp} (maps.from_entries (kept 0 records)) q ≡ row_at records q
-get_kept records q =
+pub get_rows : (records : List SlotRecord) (q : Handle) → maps.get {R = handle_cmp} (maps.from_entries (rows_from 0 records)) q ≡ row_at records q
+get_rows records q =
     let all : leb 0 q.index ≡ true = le-leb 0 q.index (omega arith) in
     let off : q.index - 0 ≡ q.index = omega arith in
-    maps.get-from_entries handle_cmp_total (kept 0 records) q ∙ find-kept 0 records q ∙ (λ i. cond (all i) (row_in (get_or records (off i) blank) q.generation) None)
+    maps.get-from_entries handle_cmp_total (rows_from 0 records) q ∙ find-rows_from 0 records q ∙ (λ i. cond (all i) (row_in (get_or records (off i) blank) q.generation) None)
 
 -- ---- one record set
 
@@ -246,14 +269,14 @@ length-occupants-set from (x ∷ records) (suc index) r within =
     let old = length-one (is_alive x.occupancy) (record { index = from; generation = x.generation }) (occupants (from + 1) records) in
     omega (arith, new, old, length-occupants-set (from + 1) records index r (omega arith))
 
--- a record that keeps no row set for one that kept none leaves the rows
-pub kept-set : (from : ℕ) (records : List SlotRecord) (index : ℕ) (r : SlotRecord) → row_of r.occupancy ≡ None → row_of (record_at records index).occupancy ≡ None → kept from (set records index r) ≡ kept from records
-kept-set from [] index r new old = refl
-kept-set from (x ∷ records) zero r new old =
-    (λ i. with_row (record { index = from; generation = r.generation }) (new i) (kept (from + 1) records))
-    ∙ sym (λ i. with_row (record { index = from; generation = x.generation }) (old i) (kept (from + 1) records))
-kept-set from (x ∷ records) (suc index) r new old =
-    ap (λ rest. with_row (record { index = from; generation = x.generation }) (row_of x.occupancy) rest) (kept-set (from + 1) records index r new old)
+-- a record without a row in the place of another one leaves the rows
+pub rows_from-set : (from : ℕ) (records : List SlotRecord) (index : ℕ) (r : SlotRecord) → row_of r.occupancy ≡ None → row_of (record_at records index).occupancy ≡ None → rows_from from (set records index r) ≡ rows_from from records
+rows_from-set from [] index r new old = refl
+rows_from-set from (x ∷ records) zero r new old =
+    (λ i. with_row (record { index = from; generation = r.generation }) (new i) (rows_from (from + 1) records))
+    ∙ sym (λ i. with_row (record { index = from; generation = x.generation }) (old i) (rows_from (from + 1) records))
+rows_from-set from (x ∷ records) (suc index) r new old =
+    ap (λ rest. with_row (record { index = from; generation = x.generation }) (row_of x.occupancy) rest) (rows_from-set (from + 1) records index r new old)
 
 -- ---- records put behind
 
@@ -285,16 +308,16 @@ occupants-append from (r ∷ records) more =
     (λ i. cond (is_alive r.occupancy) (record { index = from; generation = r.generation } ∷ (occupants-append (from + 1) records more ∙ ap (λ n. occupants (from + 1) records ++ occupants n more) step) i) ((occupants-append (from + 1) records more ∙ ap (λ n. occupants (from + 1) records ++ occupants n more) step) i))
     ∙ cond-append (is_alive r.occupancy) (record { index = from; generation = r.generation }) (occupants (from + 1) records) (occupants (from + suc (length records)) more)
 
-pub occupants-newborn : (from count : ℕ) → occupants from (replicate count newborn) ≡ fresh from count
+pub occupants-new : (from count : ℕ) → occupants from (replicate count new_record) ≡ fresh from count
 unfolding fresh
-occupants-newborn from zero = refl
-occupants-newborn from (suc count) = ap (λ rest. record { index = from; generation = 1 } ∷ rest) (occupants-newborn (from + 1) count)
+occupants-new from zero = refl
+occupants-new from (suc count) = ap (λ rest. record { index = from; generation = 1 } ∷ rest) (occupants-new (from + 1) count)
 
-kept-newborn : (from count : ℕ) → kept from (replicate count newborn) ≡ []
-kept-newborn from zero = refl
-kept-newborn from (suc count) = kept-newborn (from + 1) count
+rows_from-new : (from count : ℕ) → rows_from from (replicate count new_record) ≡ []
+rows_from-new from zero = refl
+rows_from-new from (suc count) = rows_from-new (from + 1) count
 
-pub kept-made : (from count : ℕ) (records : List SlotRecord) → kept from (records ++ replicate count newborn) ≡ kept from records
-kept-made from count [] = kept-newborn from count
-kept-made from count (r ∷ records) =
-    ap (λ rest. with_row (record { index = from; generation = r.generation }) (row_of r.occupancy) rest) (kept-made (from + 1) count records)
+pub rows_from-made : (from count : ℕ) (records : List SlotRecord) → rows_from from (records ++ replicate count new_record) ≡ rows_from from records
+rows_from-made from count [] = rows_from-new from count
+rows_from-made from count (r ∷ records) =
+    ap (λ rest. with_row (record { index = from; generation = r.generation }) (row_of r.occupancy) rest) (rows_from-made (from + 1) count records)

@@ -1,14 +1,18 @@
--- What requests take off the pool, whether they are served or not. It depends on their sum alone, so a reply depends on the
--- cursor alone, and can be computed later.
-use Rattle.std.proofs.Common.{◌≡◌, refl, sym, ap, ◌∙◌, ℕ, ◌+◌, ◌≤◌, ℤ, pos, negsuc, ◌-ℤ◌, List, [], ◌∷◌, ◌++◌, length, take, drop, filter, sum, Ok, nat_le, true, le-leb, arith, append-nil, inl, inr}
+-- What requests take off the pool, whether they are served or not. It depends on their sum alone,
+-- so a reply depends on the cursor alone, and can be computed later.
+use Rattle.std.proofs.Common.{◌≡◌, refl, sym, ap, ◌∙◌, ℕ, ◌+◌, ◌≤◌, ℤ, pos, negsuc, ◌-ℤ◌, List, []}
+use Rattle.std.proofs.Common.{◌∷◌, ◌++◌, length, take, drop, filter, sum, Ok, nat_le, true, le-leb}
+use Rattle.std.proofs.Common.{arith, append-nil, inl, inr}
 use Rattle.std.proofs.lemmas.Bool.{cases_lt}
 use Rattle.std.proofs.lemmas.Int.{ints}
 use Rattle.std.proofs.lemmas.List.{take_all, drop-drop, drop_all, length-append}
 use Rattle.std.proofs.lemmas.List.Sums.{sum_by-cons}
 use Rattle.std.proofs.Math.Seq.{take-append_seam, drop-append_seam}
-use Rattle.ent_alloc.specs.Sequential.{Allocator, available, top, cursor, after_take, asked_at, pool_at, reply_from, reply_to, is_old}
+use Rattle.ent_alloc.specs.Sequential.{Allocator, available, top, cursor, after_take, asked_at}
+use Rattle.ent_alloc.specs.Sequential.{pool_at, reply_from, reply_to, is_old}
 use Rattle.ent_alloc.specs.Sound.{IsSound}
-use Rattle.ent_alloc.proofs.Taken.{after_take-served, after_take-refused, available-after_take, length-pool}
+use Rattle.ent_alloc.proofs.Taken.{after_take-served, after_take-refused, available-after_take}
+use Rattle.ent_alloc.proofs.Taken.{length-pool}
 use Rattle.ent_alloc.proofs.Soundness.{after_take-sound}
 
 -- the cursor tells how much was asked

@@ -1,14 +1,23 @@
--- What a served reply lists: handles of different slots, none of them alive, all of them taken, and none twice in two replies.
-use Rattle.std.proofs.Common.{◌≡◌, ◌≢◌, refl, sym, ap, subst, ℕ, ◌<◌, ◌≤◌, true, false, not, nat_le, List, [], ◌∷◌, ◌++◌, length, get_or, take, reverse, filter, All, AllPairs, Contains, IsPermutation, Ok, Err, arith, le-leb, inl, inr}
+-- What a served reply lists: handles of different slots, none of them alive, all of them taken, and
+-- none twice in two replies.
+use Rattle.std.proofs.Common.{◌≡◌, ◌≢◌, refl, sym, ap, subst, ℕ, ◌<◌, ◌≤◌, true, false, not, nat_le}
+use Rattle.std.proofs.Common.{List, [], ◌∷◌, ◌++◌, length, get_or, take, reverse, filter, All}
+use Rattle.std.proofs.Common.{AllPairs, Contains, IsPermutation, Ok, Err, arith, le-leb, inl, inr}
 use Rattle.std.proofs.lemmas.Bool.{cases_lt, lt-leb}
 use Rattle.std.proofs.lemmas.Bool.Decides.{nat_tests}
-use Rattle.std.proofs.lemmas.List.Elements.{All-take, All-contains, Contains-append_left, Contains-append_right, All-contains_itself}
-use Rattle.std.proofs.lemmas.List.Sorted.{IsPermutation-refl, IsPermutation-sym, IsPermutation-trans, IsPermutation-append, IsPermutation-reverse, IsPermutation-filter_both, All-permutation}
+use Rattle.std.proofs.lemmas.List.Elements.{All-take, All-contains, Contains-append_left}
+use Rattle.std.proofs.lemmas.List.Elements.{Contains-append_right, All-contains_itself}
+use Rattle.std.proofs.lemmas.List.Sorted.{IsPermutation-refl, IsPermutation-sym}
+use Rattle.std.proofs.lemmas.List.Sorted.{IsPermutation-trans, IsPermutation-append}
+use Rattle.std.proofs.lemmas.List.Sorted.{IsPermutation-reverse, IsPermutation-filter_both}
+use Rattle.std.proofs.lemmas.List.Sorted.{All-permutation}
 use Rattle.ent_handle.specs.Handle.{Handle}
 use Rattle.ent_alloc.specs.declared.space.Space.{Space}
-use Rattle.ent_alloc.specs.Sequential.{Allocator, available, after_take, listed, reply_to, is_old, is_fresh}
+use Rattle.ent_alloc.specs.Sequential.{Allocator, available, after_take, listed, reply_to, is_old}
+use Rattle.ent_alloc.specs.Sequential.{is_fresh}
 use Rattle.ent_alloc.specs.Sound.{IsSound, AreApart, IsLive}
-use Rattle.ent_alloc.proofs.ListLaws.{AllPairs-right, AllPairs-take, AllPairs-across, AllPairs-IsPermutation, All-right}
+use Rattle.ent_alloc.proofs.ListLaws.{AllPairs-right, AllPairs-take, AllPairs-across}
+use Rattle.ent_alloc.proofs.ListLaws.{AllPairs-IsPermutation, All-right}
 use Rattle.ent_alloc.proofs.Taken.{after_take-served, after_take-refused}
 use Rattle.ent_alloc.proofs.PoolLaw.{after_takes, after_takes-sound}
 use Rattle.ent_alloc.proofs.Soundness.{after_take-sound}

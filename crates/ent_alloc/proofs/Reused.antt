@@ -1,18 +1,24 @@
 -- What becomes of the records when pending slots get their next occupants.
-use Rattle.std.proofs.Common.{◌≡◌, ◌≢◌, ℕ, ◌+◌, ◌<◌, Bool, true, false, cond, ◌&&◌, ◌||◌, eqb, List, [], ◌∷◌, length, get_or, set, map, refl, sym, ap, ◌∙◌, arith, inl, inr, suc, zero, Option, None}
+use Rattle.std.proofs.Common.{◌≡◌, ◌≢◌, ℕ, ◌+◌, ◌<◌, Bool, true, false, cond, ◌&&◌, ◌||◌, eqb, List}
+use Rattle.std.proofs.Common.{[], ◌∷◌, length, get_or, set, map, refl, sym, ap, ◌∙◌, arith, inl}
+use Rattle.std.proofs.Common.{inr, suc, zero, Option, None}
 use Rattle.std.specs.List.{list_any}
 use Rattle.std.specs.Ordering.{eq_by_cmp}
 use Rattle.std.specs.FinSet as sets
 use Rattle.std.proofs.lemmas.Bool.Decides.{nat_tests}
 use Rattle.std.proofs.lemmas.Bool.{cases_eq}
 use Rattle.std.proofs.lemmas.List.{get_or-set_same, get_or-set_other, length-set}
-use Rattle.ent_handle.specs.Handle.{Handle, handle_cmp, handle_cmp_total, handle_cmp-IsAntisymmetric}
+use Rattle.ent_handle.specs.Handle.{Handle, handle_cmp, handle_cmp_total}
+use Rattle.ent_handle.specs.Handle.{handle_cmp-IsAntisymmetric}
 use Rattle.ent_alloc.proofs.ListLaws.{eqb_sym}
 use Rattle.ent_alloc.specs.declared.slot_record.SlotRecord.{SlotRecord}
 use Rattle.ent_alloc.specs.declared.slot_record.Occupancy.{Occupancy}
-use Rattle.ent_alloc.specs.declared.slot_record.Occupancy.TheVariants.{Alive, Pending}
-use Rattle.ent_alloc.specs.Slots.{occupants, is_occupant, has_occupant, record_at, blank, is_alive, row_of, kept, reuse, reused, handle_at}
-use Rattle.ent_alloc.proofs.Occupants.{contains_occupants, is_occupant-set, length-occupants-set, kept-set, ties, one}
+use Rattle.ent_alloc.specs.declared.slot_record.Occupancy.TheVariants.{Alive, AliveWithRow, Pending}
+use Rattle.ent_alloc.specs.Slots.{occupants, record_at, blank, is_alive, row_of, rows_from, reuse}
+use Rattle.ent_alloc.specs.Slots.{reused, handle_at}
+use Rattle.ent_alloc.proofs.Occupants.{is_occupant, has_occupant, contains_occupants}
+use Rattle.ent_alloc.proofs.Occupants.{is_occupant-set, length-occupants-set, rows_from-set, ties}
+use Rattle.ent_alloc.proofs.Occupants.{one}
 
 -- The slots of these indexes wait at the positions from a first one on.
 pub record Wait (records : List SlotRecord) (from : ℕ) (indices : List ℕ) : Type 0 where
@@ -20,7 +26,8 @@ pub record Wait (records : List SlotRecord) (from : ℕ) (indices : List ℕ) : 
   pub pending : (k : ℕ) → k < length indices → (record_at records (get_or indices k 0)).occupancy ≡ Pending (from + k)
 
 abbrev pub position_of : Occupancy → ℕ
-position_of (Alive row) = 0
+position_of Alive = 0
+position_of (AliveWithRow row) = 0
 position_of (Pending position) = position
 
 -- after the first of them got its occupant, the others still wait
@@ -77,14 +84,14 @@ pub record StillWaits (records : List SlotRecord) (indices : List ℕ) (at posit
   pub before : (record_at records at).occupancy ≡ Pending position
   pub apart : (k : ℕ) → k < length indices → get_or indices k 0 ≢ at
 
-pub Alive≢Pending : {row : Option ℕ} {position : ℕ} → Alive row ≢ Pending position
+pub Alive≢Pending : {position : ℕ} → Alive ≢ Pending position
 Alive≢Pending e = cc
 
 pub waited-reused : (records : List SlotRecord) (from : ℕ) (indices : List ℕ) (at position : ℕ) → Wait records from indices → (record_at (reused records indices) at).occupancy ≡ Pending position → StillWaits records indices at position
 waited-reused records from [] at position wait is = record { before = is; apart = λ k within. absurd (omega arith) }
 waited-reused records from (index ∷ indices) at position wait is =
     let later = waited-reused (set records index (reuse (record_at records index))) (from + 1) indices at position (Wait-rest records from index indices wait) is in
-    let woke : (record_at (set records index (reuse (record_at records index))) index).occupancy ≡ Alive None =
+    let woke : (record_at (set records index (reuse (record_at records index))) index).occupancy ≡ Alive =
     ap (λ (r : SlotRecord). r.occupancy) (get_or-set_same records index (reuse (record_at records index)) blank (wait.made 0 (omega arith))) in
     let apart : index ≢ at = λ e. Alive≢Pending (sym woke ∙ ap (λ n. (record_at (set records index (reuse (record_at records index))) n).occupancy) e ∙ later.before) in
     record {
@@ -108,12 +115,12 @@ length-occupants-reused records from (index ∷ indices) wait =
     omega (arith, step, later)
 
 -- the rows stay
-pub kept-reused : (records : List SlotRecord) (from : ℕ) (indices : List ℕ) → Wait records from indices → kept 0 (reused records indices) ≡ kept 0 records
-kept-reused records from [] wait = refl
-kept-reused records from (index ∷ indices) wait =
+pub rows_from-reused : (records : List SlotRecord) (from : ℕ) (indices : List ℕ) → Wait records from indices → rows_from 0 (reused records indices) ≡ rows_from 0 records
+rows_from-reused records from [] wait = refl
+rows_from-reused records from (index ∷ indices) wait =
     let here : (record_at records index).occupancy ≡ Pending (from + 0) = wait.pending 0 (omega arith) in
-    kept-reused (set records index (reuse (record_at records index))) (from + 1) indices (Wait-rest records from index indices wait)
-    ∙ kept-set 0 records index (reuse (record_at records index)) refl (ap row_of here)
+    rows_from-reused (set records index (reuse (record_at records index))) (from + 1) indices (Wait-rest records from index indices wait)
+    ∙ rows_from-set 0 records index (reuse (record_at records index)) refl (ap row_of here)
 
 one_reused : (same : Bool) (gen : Bool) (old : Bool) → (same ≡ true → old ≡ false) → cond same gen old ≡ ((same && gen) || old)
 one_reused true true old f = refl

@@ -1,10 +1,13 @@
--- Worked runs of the sequential allocator, computed from its definitions alone. Each run begins with an allocator that
--- has given nothing; few slots stand for many, since only the first handles are named.
-use Rattle.std.proofs.Common.{◌≡◌, refl, ℕ, ◌==◌, Bool, true, false, ℤ, pos, neg_ℤ, List, [], ◌∷◌, take, Result, Ok, Err}
+-- Worked runs of the sequential allocator, computed from its definitions alone. Each run begins
+-- with an allocator that has given nothing; few slots stand for many, since only the first handles
+-- are named.
+use Rattle.std.proofs.Common.{◌≡◌, refl, ℕ, ◌==◌, Bool, true, false, ℤ, pos, neg_ℤ, List, [], ◌∷◌}
+use Rattle.std.proofs.Common.{take, Result, Ok, Err}
 use Rattle.std.specs.FinSet as set
 use Rattle.ent_handle.specs.Handle.{Handle, handle_cmp_total}
 use Rattle.ent_alloc.specs.declared.space.Space.{Space}
-use Rattle.ent_alloc.specs.Sequential.{Allocator, opening, cursor, after_take, after_flush, after_alloc, after_free, next, reply_to, born, fresh}
+use Rattle.ent_alloc.specs.Sequential.{Allocator, opening, cursor, after_take, after_flush}
+use Rattle.ent_alloc.specs.Sequential.{after_alloc, after_free, next, reply_to, born, fresh}
 use Rattle.ent_alloc.specs.Sound.{IsLive}
 use Rattle.ent_alloc.proofs.HandleSets.{inserted, inserted_keeps}
 

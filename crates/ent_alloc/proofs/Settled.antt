@@ -1,16 +1,24 @@
--- Two numbers tell what requests leave of a flushed allocator: how many handles were given, and how many were asked for.
-use Rattle.std.proofs.Common.{◌≡◌, sym, ap, ◌∙◌, ℕ, ◌+◌, ◌-◌, ◌<◌, ◌≤◌, List, [], ◌++◌, length, take, drop, sum, Err, arith, nat_le, false, append_assoc, append-nil, inl, inr}
+-- Two numbers tell what requests leave of a flushed allocator: how many handles were given, and how
+-- many were asked for.
+use Rattle.std.proofs.Common.{◌≡◌, sym, ap, ◌∙◌, ℕ, ◌+◌, ◌-◌, ◌<◌, ◌≤◌, List, [], ◌++◌, length}
+use Rattle.std.proofs.Common.{take, drop, sum, Err, arith, nat_le, false, append_assoc, append-nil}
+use Rattle.std.proofs.Common.{inl, inr}
 use Rattle.std.proofs.lemmas.Bool.{lt-leb, cases_lt}
-use Rattle.std.proofs.lemmas.List.{take-append-drop, take-take, take_all, drop_all, length-take, length-drop}
+use Rattle.std.proofs.lemmas.List.{take-append-drop, take-take, take_all, drop_all, length-take}
+use Rattle.std.proofs.lemmas.List.{length-drop}
 use Rattle.std.proofs.lemmas.List.Sorted.{length_permutation}
 use Rattle.ent_handle.specs.Handle.{Handle}
 use Rattle.ent_alloc.specs.Sequential.{Allocator, available, top, after_take, reply_to, settled}
 use Rattle.ent_alloc.specs.Sound.{IsSound}
 use Rattle.ent_alloc.proofs.LaidOut.{flushed-laid_out}
-use Rattle.ent_alloc.proofs.Taken.{length-available, length-pool, after_take-refused, after_take-served}
-use Rattle.ent_alloc.proofs.PoolLaw.{limits-after_takes, live-after_takes, rows-after_takes, after_takes, after_takes-sound, available-after_takes, made-after_takes, asked-after_takes, pool-after_takes, taken_is, aside_is, length-taken}
+use Rattle.ent_alloc.proofs.Taken.{length-available, length-pool, after_take-refused}
+use Rattle.ent_alloc.proofs.Taken.{after_take-served}
+use Rattle.ent_alloc.proofs.PoolLaw.{limits-after_takes, live-after_takes, rows-after_takes}
+use Rattle.ent_alloc.proofs.PoolLaw.{after_takes, after_takes-sound, available-after_takes}
+use Rattle.ent_alloc.proofs.PoolLaw.{made-after_takes, asked-after_takes, pool-after_takes}
+use Rattle.ent_alloc.proofs.PoolLaw.{taken_is, aside_is, length-taken}
 use Rattle.ent_alloc.proofs.Soundness.{IsSound-moved}
-use Rattle.ent_alloc.proofs.Requests.{given_by, taken-since_flush}
+use Rattle.ent_alloc.proofs.RequestLaws.{given_by, taken-since_flush}
 
 -- the front of a list, the rest of what was asked for, and what is left
 three_parts : (given asked : ℕ) (pool : List Handle) → given ≤ asked → take given pool ++ (drop given (take asked pool) ++ drop asked pool) ≡ pool
@@ -48,7 +56,8 @@ module _ (s : Allocator) (h : IsSound s) (flushed : s.asked ≡ 0) where
   pub length-all : length s.pool ≡ top s + (s.limits.slots - s.made)
   length-all = ap length (sym all_in_pool) ∙ length-available s h
 
-  -- two requests leave such a state: one that is served, and one that is refused where more was asked for
+  -- two requests leave such a state: one that is served, and one that is refused where more was
+  -- asked for
   pub settled-requests : (given asked : ℕ) → given ≤ asked → given ≤ length s.pool → (asked ≤ length s.pool → given ≡ asked) → settled s given asked ≡ after_take (after_take s given) (asked - given)
   settled-requests given asked le enough whole =
       let t : Allocator = record s { taken = s.taken ++ take given s.pool; pool = drop given s.pool; asked = s.asked + given } in

@@ -1,20 +1,31 @@
 -- Every step of the sequential allocator leads from a sound state to a sound state.
-use Rattle.std.proofs.Common.{◌≡◌, refl, sym, ap, ◌∙◌, subst, ℕ, zero, suc, ◌+◌, ◌-◌, ◌<◌, ◌≤◌, true, false, true≢false, List, [], ◌∷◌, ◌++◌, length, get_or, take, drop, All, arith, append-nil, lt-ltb, le-ltb, is_some, ◌==◌, ◌≢◌, eq-eqb, ne_eqb, inl, inr}
+use Rattle.std.proofs.Common.{◌≡◌, refl, sym, ap, ◌∙◌, subst, ℕ, zero, suc, ◌+◌, ◌-◌, ◌<◌, ◌≤◌}
+use Rattle.std.proofs.Common.{true, false, true≢false, List, [], ◌∷◌, ◌++◌, length, get_or, take}
+use Rattle.std.proofs.Common.{drop, All, arith, append-nil, lt-ltb, le-ltb, is_some, ◌==◌, ◌≢◌}
+use Rattle.std.proofs.Common.{eq-eqb, ne_eqb, inl, inr}
 use Rattle.std.proofs.lemmas.Bool.{cases_lt, cases_eq}
 use Rattle.std.specs.FinSet as set
 use Rattle.std.specs.FinMap as map
 use Rattle.std.proofs.lemmas.List.{drop-drop, drop_all}
-use Rattle.std.proofs.lemmas.List.Elements.{All-drop, All-head, All-tail, All-nil, All-cons, All-weaker, All-filter}
+use Rattle.std.proofs.lemmas.List.Elements.{All-drop, All-head, All-tail, All-nil, All-cons}
+use Rattle.std.proofs.lemmas.List.Elements.{All-weaker, All-filter}
 use Rattle.std.proofs.lemmas.List.Kept.{AllPairs-filter, AllPairs-cons}
 use Rattle.ent_handle.specs.Handle.{Handle, IsHandle, handle_cmp}
 use Rattle.ent_alloc.specs.Limits.{Limits, AreLimits}
-use Rattle.ent_alloc.specs.Sequential.{Allocator, opening, available, after_take, after_flush, after_alloc, after_free, next, fresh, is_old}
+use Rattle.ent_alloc.specs.Sequential.{Allocator, opening, available, after_take, after_flush}
+use Rattle.ent_alloc.specs.Sequential.{after_alloc, after_free, next, fresh, is_old}
 use Rattle.ent_alloc.specs.Sound.{IsSound, IsWithin, AreApart, IsLive}
-use Rattle.ent_alloc.proofs.ListLaws.{AllPairs-left, AllPairs-across, All-left, AllPairs-drop, AllPairs-head, AllPairs-tail}
+use Rattle.ent_alloc.proofs.ListLaws.{AllPairs-left, AllPairs-across, All-left, AllPairs-drop}
+use Rattle.ent_alloc.proofs.ListLaws.{AllPairs-head, AllPairs-tail}
 use Rattle.ent_alloc.proofs.FreshHandles.{fresh-next, fresh-none, first_of_slot}
-use Rattle.ent_alloc.proofs.HandleSets.{inserted_keeps, in_removed, removed_keeps, in_removed_keys, union_list_keeps, one_occupant_inserted, one_occupant_joined, of_inserted, of_joined}
-use Rattle.ent_alloc.proofs.LaidOut.{old_ones, old_ones_below, IsLaidOut, laid_out-sound, flushed-laid_out, apart_by_made}
-use Rattle.ent_alloc.proofs.Taken.{aside_or_pool, length-pool, take_moves, after_take-served, after_take-refused, enough, left-parts, taken_below, made-after_flush}
+use Rattle.ent_alloc.proofs.HandleSets.{inserted_keeps, in_removed, removed_keeps, in_removed_keys}
+use Rattle.ent_alloc.proofs.HandleSets.{union_list_keeps, one_occupant_inserted}
+use Rattle.ent_alloc.proofs.HandleSets.{one_occupant_joined, of_inserted, of_joined}
+use Rattle.ent_alloc.proofs.LaidOut.{old_ones, old_ones_below, IsLaidOut, laid_out-sound}
+use Rattle.ent_alloc.proofs.LaidOut.{flushed-laid_out, apart_by_made}
+use Rattle.ent_alloc.proofs.Taken.{aside_or_pool, length-pool, take_moves, after_take-served}
+use Rattle.ent_alloc.proofs.Taken.{after_take-refused, enough, left-parts, taken_below}
+use Rattle.ent_alloc.proofs.Taken.{made-after_flush}
 
 -- the allocator that has given nothing
 pub opening-sound : (limits : Limits) → AreLimits limits → IsSound (opening limits)

@@ -1,14 +1,18 @@
 -- What a request does to the lists of a sound allocator, and what is taken by all requests.
-use Rattle.std.proofs.Common.{◌≡◌, sym, ap, ◌∙◌, subst, ℕ, ◌+◌, ◌-◌, ◌<◌, ◌≤◌, true, false, nat_le, List, [], ◌++◌, length, take, drop, filter, All, arith, append_assoc, append-nil, le-leb, ◌⊎◌, inl, inr}
+use Rattle.std.proofs.Common.{◌≡◌, sym, ap, ◌∙◌, subst, ℕ, ◌+◌, ◌-◌, ◌<◌, ◌≤◌, true, false, nat_le}
+use Rattle.std.proofs.Common.{List, [], ◌++◌, length, take, drop, filter, All, arith, append_assoc}
+use Rattle.std.proofs.Common.{append-nil, le-leb, ◌⊎◌, inl, inr}
 use Rattle.std.proofs.lemmas.Bool.{cases_lt, lt-leb}
 use Rattle.std.proofs.Math.Seq.{take-append_seam, drop-append_seam}
 use Rattle.std.proofs.lemmas.List.{take-append-drop, length-append, length-drop, drop_all}
 use Rattle.std.proofs.lemmas.List.Elements.{All-take, All-append, All-weaker}
 use Rattle.ent_handle.specs.Handle.{Handle}
-use Rattle.ent_alloc.specs.Sequential.{Allocator, top, available, after_take, after_flush, fresh, is_old, is_fresh}
+use Rattle.ent_alloc.specs.Sequential.{Allocator, top, available, after_take, after_flush, fresh}
+use Rattle.ent_alloc.specs.Sequential.{is_old, is_fresh}
 use Rattle.ent_alloc.specs.Sound.{IsSound}
 use Rattle.ent_alloc.proofs.ListLaws.{take-nil, drop-nil}
-use Rattle.ent_alloc.proofs.FreshHandles.{All-fresh, old_of_joined, fresh_of_joined, take_joined, drop_joined, length-fresh}
+use Rattle.ent_alloc.proofs.FreshHandles.{All-fresh, old_of_joined, fresh_of_joined, take_joined}
+use Rattle.ent_alloc.proofs.FreshHandles.{drop_joined, length-fresh}
 use Rattle.ent_alloc.proofs.LaidOut.{old_ones, old_ones_below}
 
 -- something was passed over, or something is left

@@ -1,4 +1,5 @@
--- Histories: the reservations of many callers in one order, and what the sequential allocator says to them.
+-- Histories: the reservations of many callers in one order, and what the sequential allocator says
+-- to them.
 use Rattle.std.specs.Prelude.{◌≡◌, ℕ, ◌<◌, List, [], ◌∷◌, ◌++◌, map, Result, Ok, Err}
 use Rattle.ent_handle.specs.Handle.{Handle}
 use Rattle.ent_alloc.specs.declared.space.Space.{Space}
@@ -13,7 +14,10 @@ pub record Call : Type 0 where
 -- Each call in turn asks for something, and is answered what the allocator says at its point.
 abbrev pub IsLegal : Allocator → List Call → Type 0
 IsLegal s [] = Unit {0}
-IsLegal s (call ∷ calls) = (0 < call.requested) × (call.reply ≡ reply_to s call.requested) × IsLegal (after_take s call.requested) calls
+IsLegal s (call ∷ calls) =
+    (0 < call.requested)
+    × (call.reply ≡ reply_to s call.requested)
+    × IsLegal (after_take s call.requested) calls
 
 -- the allocator after all calls
 abbrev pub after_history : Allocator → List Call → Allocator

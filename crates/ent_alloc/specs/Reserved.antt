@@ -4,9 +4,11 @@ use Rattle.ent_handle.specs.Handle.{Handle}
 use Rattle.ent_alloc.specs.Roster.{Roster}
 use Rattle.ent_alloc.specs.Sequential.{fresh}
 
--- the handles that wait at the positions from one to another, and the first occupants of the slots between two indexes
+-- the handles that wait at the positions from one to another, and the first occupants of the slots
+-- between two indexes
 abbrev pub handles_of : Roster → ℕ → ℕ → ℕ → ℕ → List Handle
-handles_of r position end index index_end = take (end - position) (drop position r.pending) ++ fresh index (index_end - index)
+handles_of r position end index index_end =
+    take (end - position) (drop position r.pending) ++ fresh index (index_end - index)
 
 -- the positions are pending, and the indexes are those of handles
 pub record IsInRange (r : Roster) (position end index index_end : ℕ) : Type 0 where

@@ -1,6 +1,8 @@
--- The sequential allocator: what one caller alone would see. Each call of this crate is one of its steps,
--- and the calls of many threads are compared with it.
-use Rattle.std.specs.Prelude.{ℕ, ◌+◌, ◌-◌, ℤ, pos, negsuc, suc, zero, ◌-ℤ◌, Bool, nat_lt, nat_le, ◌==◌, if◌then◌else◌, List, [], ◌∷◌, ◌++◌, length, take, drop, reverse, filter, Result, Ok, Err, refl}
+-- The sequential allocator: what one caller alone would see. Each call of this crate is one of its
+-- steps, and the calls of many threads are compared with it.
+use Rattle.std.specs.Prelude.{ℕ, ◌+◌, ◌-◌, ℤ, pos, negsuc, suc, zero, ◌-ℤ◌, Bool, nat_lt, nat_le}
+use Rattle.std.specs.Prelude.{◌==◌, if◌then◌else◌, List, [], ◌∷◌, ◌++◌, length, take, drop, reverse}
+use Rattle.std.specs.Prelude.{filter, Result, Ok, Err, refl}
 use Rattle.std.specs.List.{list_any}
 use Rattle.std.specs.Ordering.{eq_by_cmp}
 use Rattle.std.specs.Coded.{Coded, code_by, coded×, coded_ℕ, coded_list}
@@ -12,10 +14,10 @@ use Rattle.ent_alloc.specs.declared.space.Space.{Space}
 use Rattle.ent_alloc.specs.declared.state.State.{State}
 use Rattle.ent_alloc.specs.declared.state.State.TheVariants.{Alive, Reserved, Gone}
 
--- Where a handle stands: alive, or in a list of those that may be given. The pool is given from its front;
--- taken is what was given and is not yet alive; aside is what a refused request has passed over. made counts the
--- slots that have ever had a occupant, asked all that was requested since the last flush. rows is what a caller
--- keeps with a living handle.
+-- Where a handle stands: alive, or in a list of those that may be given. The pool is given from its
+-- front; taken is what was given and is not yet alive; aside is what a refused request has passed
+-- over. made counts the slots that were made, asked all that was requested since the last flush.
+-- rows is what a caller keeps with a living handle.
 pub record Allocator : Type 0 where
   pub limits : Limits
   pub live : set.FinSet handle_cmp
@@ -44,7 +46,7 @@ opening limits = record {
   asked = 0;
 }
 
--- its slot has had a occupant; it hasn't
+-- its slot was made; it wasn't yet
 abbrev pub is_old : ℕ → Handle → Bool
 is_old made h = nat_lt h.index made
 
@@ -77,14 +79,21 @@ listed made given = reverse (filter (is_old made) given) ++ filter (is_fresh mad
 -- the reply to a request for n where this is the pool
 abbrev pub reply_from : ℕ → List Handle → ℕ → Result (List Handle) Space
 reply_from made pool n =
-    if nat_le n (length pool) then Ok (listed made (take n pool)) else Err (record { wanted = n; left = length pool })
+    if nat_le n (length pool)
+    then Ok (listed made (take n pool))
+    else Err (record { wanted = n; left = length pool })
 
 abbrev pub reply_to : Allocator → ℕ → Result (List Handle) Space
 reply_to s n = reply_from s.made s.pool n
 
--- what a flush brings to life, in its order: the fresh handles, then the old ones, the last of the pool first
+-- what a flush brings to life, in its order: the fresh handles, then the old ones, the last of the
+-- pool first
 abbrev pub born : Allocator → List Handle
 born s = filter (is_fresh s.made) s.taken ++ reverse (filter (is_old s.made) s.taken)
+
+-- how many slots a flush makes
+abbrev pub made_at_flush : Allocator → ℕ
+made_at_flush s = length (filter (is_fresh s.made) s.taken)
 
 -- what was taken comes to life, and what was passed over is available again
 abbrev pub after_flush : Allocator → Allocator
@@ -93,7 +102,7 @@ after_flush s = record s {
   pool = s.aside ++ s.pool;
   taken = [];
   aside = [];
-  made = s.made + length (filter (is_fresh s.made) s.taken);
+  made = s.made + made_at_flush s;
   asked = 0;
 }
 
@@ -107,7 +116,10 @@ after_alloc s h = record s {
 
 -- what the slot gives after this handle: the next generation, and the first one after the last
 abbrev pub next : Limits → Handle → Handle
-next limits h = record { index = h.index; generation = if h.generation == limits.generations then 1 else h.generation + 1 }
+next limits h = record {
+  index = h.index;
+  generation = if h.generation == limits.generations then 1 else h.generation + 1;
+}
 
 -- a living handle goes, and its slot's next one stands at the front of the pool
 abbrev pub after_free : Allocator → Handle → Allocator
@@ -144,7 +156,8 @@ stands_in handles h = list_any (eq_by_cmp handle_cmp h) handles
 
 -- what became of a handle
 abbrev pub state_of : Allocator → Handle → State
-state_of s h = if set.contains s.live h then Alive else (if stands_in s.taken h then Reserved else Gone)
+state_of s h =
+    if set.contains s.live h then Alive else (if stands_in s.taken h then Reserved else Gone)
 
 -- an allocator is stored as the tuple of its fields
 abbrev pub allocator_code : Coded Allocator

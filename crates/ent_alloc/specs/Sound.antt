@@ -31,7 +31,8 @@ pub record IsSound (s : Allocator) : Type 0 where
   pub limits : AreLimits s.limits
   pub made : s.made ≤ s.limits.slots
   -- the old handles stand first, then the first occupants of all slots that were never made
-  pub order : available s ≡ filter (is_old s.made) (available s) ++ fresh s.made (s.limits.slots - s.made)
+  pub order : available s
+      ≡ filter (is_old s.made) (available s) ++ fresh s.made (s.limits.slots - s.made)
   pub within : All (IsWithin s.limits) (available s)
   -- no slot stands twice in what may be given
   pub apart : AllPairs AreApart (available s)

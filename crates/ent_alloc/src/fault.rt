@@ -1,10 +1,14 @@
-use ent_handle::Handle;
+ghost use Rattle.std.specs.Prelude.{◌≡◌};
+ghost use Rattle.ent_alloc.specs.declared.fault.AllocFault.TheVariants.{Memory as AllocMemory};
+ghost use Rattle.ent_alloc.specs.declared.fault.FreeFault.TheVariants.{Memory as FreeMemory};
+
+use ent_handle::{Handle, Memory};
 use thiserror::Error;
 
-/// Why `Entities::alloc` gave no handle. Nothing has changed then.
+/// Why `Entities::alloc` gave no handle. Nothing has changed.
 #[derive(Clone, Copy, Debug, PartialEq, Eq, Error)]
 pub enum AllocFault {
-    /// Handles were asked for since the last flush, also where the request was refused.
+    /// Handles were requested since the last flush, even if the request was refused.
     #[error("a flush is needed first")]
     NeedsFlush,
     /// Every slot has a living occupant.
@@ -15,10 +19,18 @@ pub enum AllocFault {
     Memory,
 }
 
-/// Why `Entities::free` freed nothing. Nothing has changed then.
+impl From<Memory> for AllocFault {
+    ghost from_gives = { λ _ fault. fault ≡ AllocMemory };
+
+    fn from(_refused: Memory) -> Self {
+        AllocFault::Memory
+    }
+}
+
+/// Why `Entities::free` freed nothing. Nothing has changed.
 #[derive(Clone, Copy, Debug, PartialEq, Eq, Error)]
 pub enum FreeFault {
-    /// Handles were asked for since the last flush, also where the request was refused.
+    /// Handles were requested since the last flush, even if the request was refused.
     #[error("a flush is needed first")]
     NeedsFlush,
     /// The handle isn't alive.
@@ -29,11 +41,20 @@ pub enum FreeFault {
     Memory,
 }
 
+impl From<Memory> for FreeFault {
+    ghost from_gives = { λ _ fault. fault ≡ FreeMemory };
+
+    fn from(_refused: Memory) -> Self {
+        FreeFault::Memory
+    }
+}
+
 /// What `Entities::free` answers.
 #[derive(Clone, Copy, Debug, PartialEq, Eq)]
 pub struct Freed {
     /// The handle that the slot gives next.
     pub next: Handle,
-    /// The generations of the slot begin anew, so `next` may alias a handle that was given before.
+    /// `next` has generation 1 because the last generation was freed, so it may be a handle that
+    /// was given before.
     pub wrapped: bool,
 }

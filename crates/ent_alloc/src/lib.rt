@@ -1,9 +1,11 @@
-//! Bevy's entity allocator for one thread: exclusive calls, and the arithmetic of reservations.
+//! Bevy's entity allocator for one caller: its exclusive calls, and the arithmetic by which many
+//! callers reserve.
 #![tactic(auto)]
 
 mod entities;
 mod fault;
 mod limits;
+mod requests;
 mod reserved;
 mod slot_record;
 mod slots;

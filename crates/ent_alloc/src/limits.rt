@@ -1,15 +1,16 @@
 ghost use Rattle.std.specs.Prelude.{◌≡◌, ◌-◌, ◌^◌, ◌<◌, ◌≤◌, ◌↔◌, IsSome, IfSome};
 ghost use Rattle.ent_alloc.specs.Limits.{AreLimits};
 
+use std::fmt;
 use std::marker::Model;
 
-/// How many handles one caller may request between two flushes. This project's own limit: 1,024 callers
-/// together stay within the 2^50 that an allocator can count.
+/// How many handles one caller may request between two flushes. It is this project's own limit:
+/// with it 1,024 callers together stay within the 2^50 that an allocator can count.
 pub const CREDIT: u64 = 1 << 40;
 
-/// How far an allocator may go: how many slots it may make, and the last generation of a slot.
+/// How many slots an allocator may make, and the last generation of a slot.
 ///
-/// This project's own; Bevy has the greatest limits alone.
+/// Limits are this project's own: Bevy always has the greatest ones, which are the default.
 #[derive(Clone, Copy, Debug, PartialEq, Eq)]
 pub struct Limits {
     slots: u32,
@@ -29,10 +30,13 @@ impl Model for Limits {
 }
 
 impl Limits {
-    /// Slots 1 to 4,294,967,295 and generations 1 to 2,147,483,647; `None` where one is out of its range.
+    /// The limits of these numbers: slots from 1 to 4,294,967,295, generations from 1 to
+    /// 2,147,483,647. `None` if one of them is out of its range.
     pub fn new(slots: u32, generations: u32) -> Option<Self>
-        ensures in_range { IsSome result ↔ AreLimits (record { slots = slots; generations = generations }) }
-        ensures value { IfSome result (λ l. l ≡ record { slots = slots; generations = generations }) }
+        ensures in_range { IsSome result
+            ↔ AreLimits (record { slots = slots; generations = generations }) }
+        ensures value { IfSome result (λ limits.
+            limits ≡ record { slots = slots; generations = generations }) }
     {
         if 1 <= slots && 1 <= generations && generations < 1 << 31 {
             Some(Limits { slots, generations })
@@ -51,7 +55,7 @@ impl Limits {
         }
     }
 
-    /// How many slots may be made: an index is below it.
+    /// How many slots may be made. Every index is below it.
     pub fn slots(self) -> u32
         ensures { result ≡ self.slots }
     {
@@ -63,5 +67,22 @@ impl Limits {
         ensures { result ≡ self.generations }
     {
         self.generations
+    }
+}
+
+impl Default for Limits {
+    ghost is_default = { λ limits.
+        limits ≡ record { slots = 2 ^ 32 - 1; generations = 2 ^ 31 - 1 } };
+
+    fn default() -> Self {
+        Limits::default_limits()
+    }
+}
+
+impl fmt::Display for Limits {
+    fn fmt<W: fmt::Write>(&self, f: &mut fmt::Formatter<W>) -> fmt::Result {
+        let slots = self.slots;
+        let generations = self.generations;
+        write!(f, "{slots} slots, {generations} generations")
     }
 }

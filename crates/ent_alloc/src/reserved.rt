@@ -2,13 +2,16 @@ ghost use Rattle.std.specs.Prelude.{◌≡◌, IfSome, length};
 ghost use Rattle.std.specs.Iterator.{YieldsFirst, UpTo, item_count};
 ghost use Rattle.std.specs.Iterator.SizeHint.{IsWithinCount};
 
-use crate::slots::{Slots, first_occupant};
+use crate::slot_record::first_occupant;
+use crate::slots::Slots;
 use ent_handle::Handle;
 use std::marker::Model;
 
-/// The handles that one reservation was given, in the order of the reply: reused slots first, then fresh ones.
+/// The handles that one request was given, in the order of the reply: those of old slots, then the
+/// fresh ones.
 ///
-/// It borrows the allocator and copies nothing; each handle is looked up as it is yielded.
+/// It borrows the allocator and copies nothing. Each handle is looked up when it is yielded, in
+/// constant time.
 #[derive(Drop)]
 pub struct Reserved<'a> {
     slots: &'a Slots,
@@ -37,8 +40,8 @@ impl<'a> Model for Reserved<'a> {
 impl<'a> Reserved<'a> {
     ghost use Rattle.ent_alloc.specs.Reserved.{handles_of, IsInRange};
 
-    /// The handles that wait from `position` up to `end`, and the first occupants of the slots from `index` up to
-    /// `index_end`.
+    /// The handles that wait from `position` up to, not including, `end`, and the first occupants
+    /// of the slots from `index` up to, not including, `index_end`.
     pub(crate) fn new(
         slots: &'a Slots,
         position: usize,

@@ -1,104 +1,92 @@
-ghost use Rattle.std.specs.Prelude.{◌≡◌, ◌<◌, length, All};
-ghost use Rattle.ent_alloc.specs.Slots.{has_occupant, is_occupant, newborn, row_at, row_in, waits_behind, waits_from, reused};
+ghost use Rattle.std.specs.Prelude.{◌≡◌, ◌+◌, ◌-◌, ◌^◌, ◌<◌, ◌≤◌, ◌++◌};
+ghost use Rattle.std.specs.Prelude.{length, map, replicate, All, vec_len, vec_capacity};
+ghost use Rattle.ent_handle.specs.Handle.{IsHandle};
+ghost use Rattle.ent_alloc.specs.Sequential.{fresh};
+ghost use Rattle.ent_alloc.specs.Slots.{new_record, occupancy_of, handle_at, reused};
 
 use ent_handle::Handle;
 
 /// Who has a slot.
-#[derive(Clone, Copy, Debug, PartialEq, Eq)]
+#[derive(Clone, Copy)]
 pub(crate) enum Occupancy {
+    /// A living entity.
+    Alive,
     /// A living entity, and the row that a caller keeps with it.
-    Alive { row: Option<u32> },
+    AliveWithRow { row: u32 },
     /// Nobody: the slot waits at this position of the pending list.
     Pending { position: u32 },
 }
 
-/// One slot that has had a occupant.
+/// One slot that was made.
 ///
-/// The generation is that of the living occupant, or of the next one where the slot is pending.
-#[derive(Clone, Copy, Debug, PartialEq, Eq)]
+/// The generation is that of the living occupant, or of the next one if the slot waits.
+#[derive(Clone, Copy)]
 pub(crate) struct SlotRecord {
     pub(crate) generation: u32,
     pub(crate) occupancy: Occupancy,
 }
 
 impl SlotRecord {
-    /// A new slot with its first occupant.
-    pub(crate) fn newborn() -> Self
-        ensures { result ≡ newborn }
+    /// A new slot, with its first occupant.
+    pub(crate) fn new() -> Self
+        ensures { result ≡ new_record }
     {
         SlotRecord {
             generation: 1,
-            occupancy: Occupancy::Alive { row: None },
-        }
-    }
-
-    /// Whether the living occupant has this generation.
-    pub(crate) fn has_occupant(&self, generation: u32) -> bool
-        ensures { result ≡ has_occupant self.now generation }
-    {
-        matches!(self.occupancy, Occupancy::Alive { .. }) && self.generation == generation
-    }
-
-    /// Whether the slot waits at this position or behind it.
-    pub(crate) fn waits_behind(&self, from: usize) -> bool
-        ensures { result ≡ waits_behind self.now.occupancy from }
-    {
-        match self.occupancy {
-            Occupancy::Alive { .. } => false,
-            Occupancy::Pending { position } => from <= position as usize,
-        }
-    }
-
-    /// The row that is kept with the occupant of this generation.
-    pub(crate) fn row_of(&self, generation: u32) -> Option<u32>
-        ensures { result ≡ row_in self.now generation }
-    {
-        if self.generation != generation {
-            return None;
-        }
-        match self.occupancy {
-            Occupancy::Alive { row } => row,
-            Occupancy::Pending { .. } => None,
+            occupancy: Occupancy::Alive,
         }
     }
 }
 
-/// Whether the handle names the living occupant of its slot.
-pub(crate) fn is_occupant(records: &[SlotRecord], handle: Handle) -> bool
-    ensures { result ≡ is_occupant records.now handle }
+/// Who has the handle's slot; `None` if the slot wasn't made or is at another generation.
+pub(crate) fn occupancy_of(records: &[SlotRecord], handle: Handle) -> Option<Occupancy>
+    ensures { result ≡ occupancy_of records.now handle }
 {
-    match records.get(handle.index() as usize) {
-        Some(record) => record.has_occupant(handle.generation()),
-        None => false,
+    let index = handle.index() as usize;
+    if index < records.len() && records[index].generation == handle.generation() {
+        Some(records[index].occupancy)
+    } else {
+        None
     }
 }
 
-/// Whether the handle is the next one of a slot that waits at this position or behind it.
-pub(crate) fn waits_from(records: &[SlotRecord], handle: Handle, from: usize) -> bool
-    ensures { result ≡ waits_from records.now handle from }
+/// The first occupant of a slot.
+pub(crate) fn first_occupant(index: u32) -> Handle
+    requires { index < 2 ^ 32 - 1 }
+    ensures { result ≡ record { index = index; generation = 1 } }
 {
-    match records.get(handle.index() as usize) {
-        Some(record) => record.waits_behind(from) && record.generation == handle.generation(),
-        None => false,
-    }
+    Handle::from_parts(index, 1)
 }
 
-/// The row that is kept with the occupant that the handle names.
-pub(crate) fn row_at(records: &[SlotRecord], handle: Handle) -> Option<u32>
-    ensures { result ≡ row_at records.now handle }
+/// Makes `count` slots, and appends their first occupants to a list. There is room in both.
+pub(crate) fn make_all(records: &mut Vec<SlotRecord>, count: u32, out: &mut Vec<Handle>)
+    requires room { vec_len records.old + count ≤ vec_capacity records.old }
+    requires list_room { vec_len out.old + count ≤ vec_capacity out.old }
+    requires indices { vec_len records.old + count < 2 ^ 32 }
+    ensures records { records.new.items ≡ records.old.items ++ replicate count new_record }
+    ensures listed { out.new.items ≡ out.old.items ++ fresh (vec_len records.old) count }
+    ensures len { vec_len out.new ≡ vec_len out.old + count }
+    ensures capacity { vec_capacity out.new ≡ vec_capacity out.old }
 {
-    match records.get(handle.index() as usize) {
-        Some(record) => record.row_of(handle.generation()),
-        None => None,
+    let made = records.len() as u32;
+    for index in made..made + count {
+        records.push_reserved(SlotRecord::new());
+        out.push_reserved(first_occupant(index));
     }
 }
 
-/// Gives each of these slots its next occupant.
-pub(crate) fn reuse_all(records: &mut [SlotRecord], indices: &[u32])
-    requires { All (λ index. index < length records.old) indices.now }
-    ensures { records.new ≡ reused records.old indices.now }
+/// Gives each of these slots its next occupant, and appends the occupants to a list that has room
+/// for them.
+pub(crate) fn reuse_all(records: &mut [SlotRecord], indices: &[u32], out: &mut Vec<Handle>)
+    requires made { All (λ index. index < length records.old) indices.now }
+    requires handles { All (λ index. IsHandle (handle_at records.old index)) indices.now }
+    requires room { vec_len out.old + length indices.now ≤ vec_capacity out.old }
+    ensures records { records.new ≡ reused records.old indices.now }
+    ensures listed { out.new.items ≡ out.old.items ++ map (handle_at records.old) indices.now }
 {
     for index in indices {
-        records[*index as usize].occupancy = Occupancy::Alive { row: None };
+        let record = &mut records[*index as usize];
+        record.occupancy = Occupancy::Alive;
+        out.push_reserved(Handle::from_parts(*index, record.generation));
     }
 }

@@ -1,11 +1,11 @@
 use thiserror::Error;
 
-/// A request for handles that the pool couldn't serve.
+/// The refusal of a request for which too few handles were left.
 #[derive(Clone, Copy, Debug, PartialEq, Eq, Error)]
 #[error("{wanted} wanted and {left} left")]
 pub struct Space {
     /// How many handles were requested.
     pub wanted: u32,
-    /// How many the pool still had.
+    /// How many were left.
     pub left: u32,
 }

@@ -1,10 +1,10 @@
 /// What became of a handle.
 #[derive(Clone, Copy, Debug, PartialEq, Eq)]
 pub enum State {
-    /// It lives.
+    /// It is alive.
     Alive,
-    /// It was given by a reservation, and the next flush brings it to life.
+    /// A request was given it, and the next flush brings it to life.
     Reserved,
-    /// Neither: freed, not given yet, or of a slot that was never made.
+    /// Neither: it was freed, or it was never given.
     Gone,
 }

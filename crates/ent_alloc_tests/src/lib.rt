@@ -8,6 +8,8 @@ use ent_handle::Handle;
 use std::alloc::{AllocError, Global};
 
 #[cfg(test)]
+mod edges;
+#[cfg(test)]
 mod tests;
 
 /// What a reservation of `n` lists, or what was left. The contracts of `lower` and `reply` meet

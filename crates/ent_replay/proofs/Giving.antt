@@ -13,7 +13,7 @@ use Rattle.ent_alloc.specs.Sound.{IsSound}
 use Rattle.ent_alloc.specs.Given as spent
 use Rattle.ent_alloc.specs.History.{handles_in}
 use Rattle.ent_alloc.proofs.ListLaws.{All-right, AllPairs-left, AllPairs-right}
-use Rattle.ent_alloc.proofs.Requests.{handles_of, requested-given}
+use Rattle.ent_alloc.proofs.RequestLaws.{requested-given}
 use Rattle.ent_alloc.proofs.GivenOnce.{alloc-given, free-given, flush-given, given-IsPermutation}
 use Rattle.ent_alloc.proofs.Soundness.{after_take-sound, after_alloc-sound, after_free-sound, after_flush-sound}
 use Rattle.ent_replay.specs.declared.event.Event.{Event}
@@ -66,11 +66,6 @@ joined-more f g c (suc n) lt none alike = elim (cases_lt c n) [
 ]
 
 -- ---- the handles that are kept for open calls
-
--- two definitions of the handles of a reply agree
-handles-same : (reply : Reply) → handles_in reply ≡ handles_of reply
-handles-same (Ok handles) = refl
-handles-same (Err space) = refl
 
 pub pending-none : (calls : FinMap nat_cmp OpenCall) → calls ≡ finite.empty → pending calls ≡ []
 pending-none calls none = joined-none (λ q. held (finite.get calls q)) callers (λ q. ap (λ m. held (finite.get m q)) none ∙ ap held (get-empty nat_cmp q))
@@ -148,7 +143,7 @@ given-next s e given h fresh (steps caller call is below some waits makes at) =
           (subst (λ xs. IsPermutation ((given ++ pending s.calls) ++ hs) (xs ++ pending (finite.insert s.calls caller new))) (sym (append-nil given))
           (subst (λ xs. IsPermutation xs (given ++ pending (finite.insert s.calls caller new))) (sym (append_assoc given (pending s.calls) hs))
           (IsPermutation-append_right given (pending s.calls ++ hs) (pending (finite.insert s.calls caller new)) kept)))
-          (subst (λ xs. spent.AreSpent (after_take s.allocator n) ((given ++ pending s.calls) ++ xs)) (sym (handles-same (reply_to s.allocator n))) (requested-given s.allocator n (given ++ pending s.calls) h.sound h.once));
+          (requested-given s.allocator n (given ++ pending s.calls) h.sound h.once);
     })
 given-next s e given h fresh (answers caller call reply is below some stepped at) =
     let left = pending (finite.remove s.calls caller) in

@@ -1,18 +1,27 @@
-use Rattle.std.proofs.Common.{◌≡◌, ◌+◌, ◌-◌, pos, List, [], ◌∷◌, length, slice_get, Some, take, reverse, ◌++◌, refl, sym, ap, subst, ◌∙◌, arith, to_z, of_z, w64}
+use Rattle.std.proofs.Common.{◌≡◌, ℕ, ◌+◌, ◌-◌, ◌<◌, ◌≤◌, pos, List, [], ◌∷◌, length, slice_get}
+use Rattle.std.proofs.Common.{Some, Result, Ok, Err, take, reverse, ◌++◌, refl, sym, ap, subst, ◌∙◌}
+use Rattle.std.proofs.Common.{arith, to_z, of_z, w64}
 use Rattle.std.specs.FinSet as sets
 use Rattle.std.proofs.lemmas.Int.{ints}
+use Rattle.std.proofs.lemmas.List.{nil_from_length}
+use Rattle.std.proofs.lemmas.Option.{slice_get_within}
 use Rattle.ent_handle.specs.Handle.{Handle}
+use Rattle.std.specs.Result.{IsErrAnd, IsErrOf}
+use Rattle.ent_alloc.specs.declared.fault.AllocFault.{AllocFault}
+use Rattle.ent_alloc.specs.declared.fault.AllocFault.TheVariants.{Memory, Space}
 use Rattle.ent_alloc.specs.Sequential.{Allocator, after_alloc, fresh, top}
 use Rattle.ent_alloc.specs.Roster.{Roster}
 use Rattle.ent_alloc.specs.Sound.{IsSound}
 use Rattle.ent_alloc.specs.Entities.{allocator_of, beneath}
 use Rattle.ent_alloc.proofs.Soundness.{after_alloc-sound}
-use Rattle.ent_alloc.proofs.Meaning.{rest_is, closed, closed_is, none_asked, alloc_old_front, alloc_old_is, alloc_fresh_front, alloc_fresh_is, length-idle, top_is}
-use Rattle.std.proofs.lemmas.List.{nil_from_length}
+use Rattle.ent_alloc.proofs.Meaning.{none_at, rest_is, closed, closed_is, none_asked}
+use Rattle.ent_alloc.proofs.Meaning.{alloc_old_front, alloc_old_is, alloc_fresh_front}
+use Rattle.ent_alloc.proofs.Meaning.{alloc_fresh_is, length-idle, top_is}
 use Rattle.ent_alloc.proofs.entities.Entities.alloc.Goals as goal
-use Rattle.ent_alloc.proofs.entities.Entities.alloc.Goals.{then-waiting-gt0, else-waiting-gt0+else-room-eq0+in-Ok}
+use Rattle.ent_alloc.proofs.entities.Entities.alloc.Goals.{in-Some}
+use Rattle.ent_alloc.proofs.entities.Entities.alloc.Goals.{in_default+then-room-gt0+in_ok-handle}
 
--- the length of the pool where nothing is reserved
+-- the length of the pool if nothing is reserved
 length_pool : (r : Roster) (s : Allocator) → allocator_of r 0 0 ≡ s → length s.pool ≡ length r.pending + (r.limits.slots - r.made)
 length_pool r s rest = sym (ap (λ (t : Allocator). length t.pool) rest) ∙ length-idle r
 
@@ -20,142 +29,148 @@ length_pool r s rest = sym (ap (λ (t : Allocator). length t.pool) rest) ∙ len
 front_of : (hs rest : List Handle) (h : Handle) → hs ≡ h ∷ rest → slice_get hs 0 ≡ Some h
 front_of hs rest h is = ap (λ xs. slice_get xs 0) is
 
-pub returns-then-room-eq0-clause-space : goal.returns-then-room-eq0-clause-space
-returns-then-room-eq0-clause-space c =
-    let e = c.self.inside in
-    let r = e.slots in
-    let none = none_asked c.needs_flush.result c.args.self.now.asked c.needs_flush.ensures c.if-needs_flush.false in
-    let rest = rest_is r e.cursor e.floor c.args.self.now c.self.invariant c.self.view_is none in
-    let waits = c.waiting.ensures.value in
-    let made : r.made ≡ c.args.self.now.made = ap (λ (s : Allocator). s.made) c.self.view_is in
-    let slots : r.limits.slots ≡ c.args.self.now.limits.slots = ap (λ (s : Allocator). s.limits.slots) c.self.view_is in
-    let empty = nil_from_length c.args.self.now.pool (omega (arith, length_pool r c.args.self.now rest)) in
-    (λ _. (none, empty), λ _. refl)
+-- nothing has changed where no slot waits, and there is room for one more
+some_room : (r old : Roster) (room : ℕ) → old ≡ r → room ≡ old.limits.slots - old.made → 0 < room → r.made < r.limits.slots
+some_room r old room same is some = let left : room ≡ r.limits.slots - r.made = is ∙ ap (λ (x : Roster). x.limits.slots - x.made) same in omega arith
 
-pub returns-in-Err-clause-space : goal.returns-in-Err-clause-space
-returns-in-Err-clause-space c =
-    let e = c.self.inside in
-    let r = e.slots in
-    let none = none_asked c.needs_flush.result c.args.self.now.asked c.needs_flush.ensures c.if-needs_flush.false in
-    let rest = rest_is r e.cursor e.floor c.args.self.now c.self.invariant c.self.view_is none in
-    let waits = c.waiting.ensures.value in
-    let made : r.made ≡ c.args.self.now.made = ap (λ (s : Allocator). s.made) c.self.view_is in
-    let slots : r.limits.slots ≡ c.args.self.now.limits.slots = ap (λ (s : Allocator). s.limits.slots) c.self.view_is in
-    let some = c.if-room-eq0.false in
-    (λ is. absurd cc, λ both. absurd (omega (arith, length_pool r c.args.self.now rest, ap length both.1)))
+no_room : (r old : Roster) (room : ℕ) → old ≡ r → room ≡ old.limits.slots - old.made → room ≤ 0 → r.limits.slots - r.made ≡ 0
+no_room r old room same is none = let left : room ≡ r.limits.slots - r.made = is ∙ ap (λ (x : Roster). x.limits.slots - x.made) same in omega arith
 
-pub returns-in-Err-clause-memory : goal.returns-in-Err-clause-memory
-returns-in-Err-clause-memory c =
-    let e = c.self.inside in
+-- one slot made where nothing has changed before
+made_one : (r old new : Roster) (h : Handle) → old ≡ r → new ≡ record old { live = sets.union old.live (sets.from_list (h ∷ [])); made = old.made + 1 } → new ≡ record r { live = sets.union r.live (sets.from_list (h ∷ [])); made = r.made + 1 }
+made_one r old new h same is =
+    is ∙ ap (λ (x : Roster). record x { live = sets.union x.live (sets.from_list (h ∷ [])); made = x.made + 1 }) same
+
+-- want of memory is no want of slots
+not_space : (result : Result Handle AllocFault) → IsErrAnd result (λ e. e ≡ Memory) → IsErrOf result Space → ⊥
+not_space (Ok h) is same = is
+not_space (Err e) is same = cc
+
+pub returns-in_err-handle-clause-space : goal.returns-in_err-handle-clause-space
+returns-in_err-handle-clause-space c =
+    let r = c.self.inside.slots in
+    let s = c.args.self.now in
+    let none = none_asked c.needs_flush.result s.asked c.needs_flush.ensures c.if-needs_flush.false in
+    let rest = rest_is r c.self.inside.requests.cursor c.self.inside.requests.floor s c.self.invariant c.self.view_is none in
+    let some = some_room r c.reuse_last.new.self c.room.result c.in_default.ensures.unchanged c.room.ensures c.if-room-gt0.true in
+    (λ is. absurd (not_space c.from_residual.result c.from_residual.ensures.1 is), λ both. absurd (omega (arith, length_pool r s rest, ap length both.1)))
+
+pub returns-in_err-handle-clause-memory : goal.returns-in_err-handle-clause-memory
+returns-in_err-handle-clause-memory c =
+    let r = c.self.inside.slots in
     let inv = c.self.invariant in
-    let waits = c.waiting.ensures.value in
-    λ _. sym (ap top c.self.view_is) ∙ top_is e.slots (beneath e.slots e.cursor) (beneath e.slots e.floor) inv.given_least inv.sound ∙ omega arith
+    λ _. sym (ap top c.self.view_is) ∙ top_is r (beneath r c.self.inside.requests.cursor) (beneath r c.self.inside.requests.floor) inv.given_least inv.sound ∙ ap length c.in_default.ensures.none
+
+pub returns-else-room-gt0-clause-space : goal.returns-else-room-gt0-clause-space
+returns-else-room-gt0-clause-space c =
+    let r = c.self.inside.slots in
+    let s = c.args.self.now in
+    let none = none_asked c.needs_flush.result s.asked c.needs_flush.ensures c.if-needs_flush.false in
+    let rest = rest_is r c.self.inside.requests.cursor c.self.inside.requests.floor s c.self.invariant c.self.view_is none in
+    let full = no_room r c.reuse_last.new.self c.room.result c.in_default.ensures.unchanged c.room.ensures c.if-room-gt0.false in
+    let waits : length r.pending ≡ 0 = ap length c.in_default.ensures.none in
+    let empty = nil_from_length s.pool (omega (arith, length_pool r s rest)) in
+    (λ _. (none, empty), λ _. refl)
 
 pub returns-clause-front : goal.returns-clause-front
 returns-clause-front c =
-    let e = c.self.inside in
-    let r = e.slots in
-    let none = none_asked c.needs_flush.result c.args.self.now.asked c.needs_flush.ensures c.if-needs_flush.false in
-    let rest = rest_is r e.cursor e.floor c.args.self.now c.self.invariant c.self.view_is none in
-    let waits = c.waiting.ensures.value in
+    let r = c.self.inside.slots in
+    let s = c.args.self.now in
+    let none = none_asked c.needs_flush.result s.asked c.needs_flush.ensures c.if-needs_flush.false in
+    let rest = rest_is r c.self.inside.requests.cursor c.self.inside.requests.floor s c.self.invariant c.self.view_is none in
     let pool = ap (λ (s : Allocator). s.pool) rest in
-    elim c.if-waiting-gt0.branch [
-      | then-waiting-gt0 w ↦
-          (let h = w.reuse_last-handle.result in
-          front_of c.args.self.now.pool (reverse (take (length r.pending - 1) r.pending) ++ fresh r.made (r.limits.slots - r.made)) h (sym pool ∙ alloc_old_front r h (omega arith) w.reuse_last-handle.ensures.last)
+    elim c.match-reuse_last.branch [
+      | in-Some w ↦
+          (let h = w.in-Some.handle in
+          let last = w.in-Some.ensures.last in
+          front_of s.pool (reverse (take (length r.pending - 1) r.pending) ++ fresh r.made (r.limits.slots - r.made)) h (sym pool ∙ alloc_old_front r h (let within = slice_get_within r.pending (length r.pending - 1) h last in omega arith) last)
           ∙ ap Some (sym w.handle-is))
-      | else-waiting-gt0+else-room-eq0+in-Ok w ↦
-          (let h = w.in-Ok.handle in
-          let made : r.made ≡ c.args.self.now.made = ap (λ (s : Allocator). s.made) c.self.view_is in
-          let slots : r.limits.slots ≡ c.args.self.now.limits.slots = ap (λ (s : Allocator). s.limits.slots) c.self.view_is in
-          let room = w.room.ensures in
-          let some = w.if-room-eq0.false in
-          front_of c.args.self.now.pool (fresh (r.made + 1) (r.limits.slots - (r.made + 1))) h
-          (sym pool ∙ alloc_fresh_front r (omega arith) (omega arith) ∙ ap (λ (x : Handle). x ∷ fresh (r.made + 1) (r.limits.slots - (r.made + 1))) (sym w.in-Ok.ensures.first))
+      | in_default+then-room-gt0+in_ok-handle w ↦
+          (let h = w.in_ok-handle.handle in
+          let some = some_room r c.reuse_last.new.self w.room.result w.in_default.ensures.unchanged w.room.ensures w.if-room-gt0.true in
+          let first : h ≡ record { index = r.made; generation = 1 } = w.in_ok-handle.ensures.first ∙ ap (λ (x : Roster). record { index = x.made; generation = 1 }) w.in_default.ensures.unchanged in
+          front_of s.pool (fresh (r.made + 1) (r.limits.slots - (r.made + 1))) h
+          (sym pool ∙ alloc_fresh_front r (ap length w.in_default.ensures.none) some ∙ ap (λ (x : Handle). x ∷ fresh (r.made + 1) (r.limits.slots - (r.made + 1))) (sym first))
           ∙ ap Some (sym w.handle-is))
     ]
 
 pub invariant_of-self-2 : goal.invariant_of-self-2
 invariant_of-self-2 c =
-    let e = c.self.inside in
-    let r = e.slots in
-    let none = none_asked c.needs_flush.result c.args.self.now.asked c.needs_flush.ensures c.if-needs_flush.false in
-    let rest = rest_is r e.cursor e.floor c.args.self.now c.self.invariant c.self.view_is none in
-    let waits = c.waiting.ensures.value in
+    let r = c.self.inside.slots in
+    let s = c.args.self.now in
+    let none = none_asked c.needs_flush.result s.asked c.needs_flush.ensures c.if-needs_flush.false in
+    let rest = rest_is r c.self.inside.requests.cursor c.self.inside.requests.floor s c.self.invariant c.self.view_is none in
     let sound = subst IsSound c.self.view_is c.self.invariant.sound in
-    let sound_rest = subst IsSound (sym rest) sound in
     let pool = ap (λ (s : Allocator). s.pool) rest in
-    let new = c.if-waiting-gt0.self-inside.slots in
-    let top : to_z w64 (of_z w64 c.top-top.result) ≡ pos (length new.pending) = omega (arith, ints) in
-    elim c.if-waiting-gt0.branch [
-      | then-waiting-gt0 w ↦
-          (let h = w.reuse_last-handle.result in
+    let new = c.match-reuse_last.self-inside.slots in
+    let tops = c.top.ensures.value in
+    let top : to_z w64 (of_z w64 c.top.result) ≡ pos (length new.pending) = omega (arith, ints) in
+    let at_top : c.none-self-inside.result ≡ none_at new = c.none-self-inside.ensures ∙ (λ i. record { cursor = top i; floor = top i }) in
+    elim c.match-reuse_last.branch [
+      | in-Some w ↦
+          (let h = w.in-Some.handle in
+          let last = w.in-Some.ensures.last in
+          let waits : 0 < length r.pending = (let within = slice_get_within r.pending (length r.pending - 1) h last in omega arith) in
           closed new (record r { live = sets.union r.live (sets.from_list (h ∷ [])); pending = take (length r.pending - 1) r.pending })
-          (to_z w64 (of_z w64 c.top-top.result)) (to_z w64 (of_z w64 c.top-top.result)) (after_alloc c.args.self.now h)
-          (ap (λ x. x.slots) w.self-inside-is ∙ w.reuse_last-handle.ensures.ok) top top
-          (alloc_old_is r h sound_rest (omega arith) w.reuse_last-handle.ensures.last ∙ ap (λ s. after_alloc s h) rest)
-          (after_alloc-sound c.args.self.now h (reverse (take (length r.pending - 1) r.pending) ++ fresh r.made (r.limits.slots - r.made)) sound none (sym pool ∙ alloc_old_front r h (omega arith) w.reuse_last-handle.ensures.last)))
-      | else-waiting-gt0+else-room-eq0+in-Ok w ↦
-          (let h = w.in-Ok.handle in
-          let made : r.made ≡ c.args.self.now.made = ap (λ (s : Allocator). s.made) c.self.view_is in
-          let slots : r.limits.slots ≡ c.args.self.now.limits.slots = ap (λ (s : Allocator). s.limits.slots) c.self.view_is in
-          let room = w.room.ensures in
-          let some = w.if-room-eq0.false in
+          c.none-self-inside.result (after_alloc s h)
+          (ap (λ x. x.slots) w.self-inside-is ∙ w.in-Some.ensures.some) at_top
+          (alloc_old_is r h (subst IsSound (sym rest) sound) waits last ∙ ap (λ s. after_alloc s h) rest)
+          (after_alloc-sound s h (reverse (take (length r.pending - 1) r.pending) ++ fresh r.made (r.limits.slots - r.made)) sound none (sym pool ∙ alloc_old_front r h waits last)))
+      | in_default+then-room-gt0+in_ok-handle w ↦
+          (let h = w.in_ok-handle.handle in
+          let some = some_room r c.reuse_last.new.self w.room.result w.in_default.ensures.unchanged w.room.ensures w.if-room-gt0.true in
+          let first : h ≡ record { index = r.made; generation = 1 } = w.in_ok-handle.ensures.first ∙ ap (λ (x : Roster). record { index = x.made; generation = 1 }) w.in_default.ensures.unchanged in
           closed new (record r { live = sets.union r.live (sets.from_list (h ∷ [])); made = r.made + 1 })
-          (to_z w64 (of_z w64 c.top-top.result)) (to_z w64 (of_z w64 c.top-top.result)) (after_alloc c.args.self.now h)
-          (ap (λ x. x.slots) w.self-inside-is ∙ w.in-Ok.ensures.ok) top top
-          (alloc_fresh_is r h (omega arith) (omega arith) w.in-Ok.ensures.first ∙ ap (λ s. after_alloc s h) rest)
-          (after_alloc-sound c.args.self.now h (fresh (r.made + 1) (r.limits.slots - (r.made + 1))) sound none
-          (sym pool ∙ alloc_fresh_front r (omega arith) (omega arith) ∙ ap (λ (x : Handle). x ∷ fresh (r.made + 1) (r.limits.slots - (r.made + 1))) (sym w.in-Ok.ensures.first))))
+          c.none-self-inside.result (after_alloc s h)
+          (ap (λ x. x.slots) w.self-inside-is ∙ made_one r c.reuse_last.new.self w.make_one.new.self h w.in_default.ensures.unchanged w.in_ok-handle.ensures.ok) at_top
+          (alloc_fresh_is r h (ap length w.in_default.ensures.none) some first ∙ ap (λ s. after_alloc s h) rest)
+          (after_alloc-sound s h (fresh (r.made + 1) (r.limits.slots - (r.made + 1))) sound none
+          (sym pool ∙ alloc_fresh_front r (ap length w.in_default.ensures.none) some ∙ ap (λ (x : Handle). x ∷ fresh (r.made + 1) (r.limits.slots - (r.made + 1))) (sym first))))
     ]
 
 pub returns-clause-ok : goal.returns-clause-ok
 returns-clause-ok c =
-    let e = c.self.inside in
-    let r = e.slots in
-    let none = none_asked c.needs_flush.result c.args.self.now.asked c.needs_flush.ensures c.if-needs_flush.false in
-    let rest = rest_is r e.cursor e.floor c.args.self.now c.self.invariant c.self.view_is none in
-    let waits = c.waiting.ensures.value in
+    let r = c.self.inside.slots in
+    let s = c.args.self.now in
+    let none = none_asked c.needs_flush.result s.asked c.needs_flush.ensures c.if-needs_flush.false in
+    let rest = rest_is r c.self.inside.requests.cursor c.self.inside.requests.floor s c.self.invariant c.self.view_is none in
     let sound = subst IsSound c.self.view_is c.self.invariant.sound in
-    let sound_rest = subst IsSound (sym rest) sound in
-    let new = c.if-waiting-gt0.self-inside.slots in
-    let top : to_z w64 (of_z w64 c.top-top.result) ≡ pos (length new.pending) = omega (arith, ints) in
-    elim c.if-waiting-gt0.branch [
-      | then-waiting-gt0 w ↦
-          (let h = w.reuse_last-handle.result in
+    let new = c.match-reuse_last.self-inside.slots in
+    let tops = c.top.ensures.value in
+    let top : to_z w64 (of_z w64 c.top.result) ≡ pos (length new.pending) = omega (arith, ints) in
+    let at_top : c.none-self-inside.result ≡ none_at new = c.none-self-inside.ensures ∙ (λ i. record { cursor = top i; floor = top i }) in
+    elim c.match-reuse_last.branch [
+      | in-Some w ↦
+          (let h = w.in-Some.handle in
+          let last = w.in-Some.ensures.last in
+          let waits : 0 < length r.pending = (let within = slice_get_within r.pending (length r.pending - 1) h last in omega arith) in
           closed_is new (record r { live = sets.union r.live (sets.from_list (h ∷ [])); pending = take (length r.pending - 1) r.pending })
-          (to_z w64 (of_z w64 c.top-top.result)) (to_z w64 (of_z w64 c.top-top.result)) (after_alloc c.args.self.now h)
-          (ap (λ x. x.slots) w.self-inside-is ∙ w.reuse_last-handle.ensures.ok) top top
-          (alloc_old_is r h sound_rest (omega arith) w.reuse_last-handle.ensures.last ∙ ap (λ s. after_alloc s h) rest)
-          ∙ ap (λ (x : Handle). after_alloc c.args.self.now x) (sym w.handle-is))
-      | else-waiting-gt0+else-room-eq0+in-Ok w ↦
-          (let h = w.in-Ok.handle in
-          let made : r.made ≡ c.args.self.now.made = ap (λ (s : Allocator). s.made) c.self.view_is in
-          let slots : r.limits.slots ≡ c.args.self.now.limits.slots = ap (λ (s : Allocator). s.limits.slots) c.self.view_is in
-          let room = w.room.ensures in
-          let some = w.if-room-eq0.false in
+          c.none-self-inside.result (after_alloc s h)
+          (ap (λ x. x.slots) w.self-inside-is ∙ w.in-Some.ensures.some) at_top
+          (alloc_old_is r h (subst IsSound (sym rest) sound) waits last ∙ ap (λ s. after_alloc s h) rest)
+          ∙ ap (λ (x : Handle). after_alloc s x) (sym w.handle-is))
+      | in_default+then-room-gt0+in_ok-handle w ↦
+          (let h = w.in_ok-handle.handle in
+          let some = some_room r c.reuse_last.new.self w.room.result w.in_default.ensures.unchanged w.room.ensures w.if-room-gt0.true in
+          let first : h ≡ record { index = r.made; generation = 1 } = w.in_ok-handle.ensures.first ∙ ap (λ (x : Roster). record { index = x.made; generation = 1 }) w.in_default.ensures.unchanged in
           closed_is new (record r { live = sets.union r.live (sets.from_list (h ∷ [])); made = r.made + 1 })
-          (to_z w64 (of_z w64 c.top-top.result)) (to_z w64 (of_z w64 c.top-top.result)) (after_alloc c.args.self.now h)
-          (ap (λ x. x.slots) w.self-inside-is ∙ w.in-Ok.ensures.ok) top top
-          (alloc_fresh_is r h (omega arith) (omega arith) w.in-Ok.ensures.first ∙ ap (λ s. after_alloc s h) rest)
-          ∙ ap (λ (x : Handle). after_alloc c.args.self.now x) (sym w.handle-is))
+          c.none-self-inside.result (after_alloc s h)
+          (ap (λ x. x.slots) w.self-inside-is ∙ made_one r c.reuse_last.new.self w.make_one.new.self h w.in_default.ensures.unchanged w.in_ok-handle.ensures.ok) at_top
+          (alloc_fresh_is r h (ap length w.in_default.ensures.none) some first ∙ ap (λ s. after_alloc s h) rest)
+          ∙ ap (λ (x : Handle). after_alloc s x) (sym w.handle-is))
     ]
 
 pub returns-clause-space : goal.returns-clause-space
 returns-clause-space c =
-    let e = c.self.inside in
-    let r = e.slots in
-    let none = none_asked c.needs_flush.result c.args.self.now.asked c.needs_flush.ensures c.if-needs_flush.false in
-    let rest = rest_is r e.cursor e.floor c.args.self.now c.self.invariant c.self.view_is none in
-    let waits = c.waiting.ensures.value in
-    elim c.if-waiting-gt0.branch [
-      | then-waiting-gt0 w ↦
-          (let some = w.if-waiting-gt0.true in
-          (λ is. absurd cc, λ both. absurd (omega (arith, length_pool r c.args.self.now rest, ap length both.1))))
-      | else-waiting-gt0+else-room-eq0+in-Ok w ↦
-          (let made : r.made ≡ c.args.self.now.made = ap (λ (s : Allocator). s.made) c.self.view_is in
-          let slots : r.limits.slots ≡ c.args.self.now.limits.slots = ap (λ (s : Allocator). s.limits.slots) c.self.view_is in
-          let room = w.room.ensures in
-          let some = w.if-room-eq0.false in
-          (λ is. absurd cc, λ both. absurd (omega (arith, length_pool r c.args.self.now rest, ap length both.1))))
+    let r = c.self.inside.slots in
+    let s = c.args.self.now in
+    let none = none_asked c.needs_flush.result s.asked c.needs_flush.ensures c.if-needs_flush.false in
+    let rest = rest_is r c.self.inside.requests.cursor c.self.inside.requests.floor s c.self.invariant c.self.view_is none in
+    elim c.match-reuse_last.branch [
+      | in-Some w ↦
+          (let within = slice_get_within r.pending (length r.pending - 1) w.in-Some.handle w.in-Some.ensures.last in
+          (λ is. absurd cc, λ both. absurd (omega (arith, length_pool r s rest, ap length both.1))))
+      | in_default+then-room-gt0+in_ok-handle w ↦
+          (let some = some_room r c.reuse_last.new.self w.room.result w.in_default.ensures.unchanged w.room.ensures w.if-room-gt0.true in
+          (λ is. absurd cc, λ both. absurd (omega (arith, length_pool r s rest, ap length both.1))))
     ]

@@ -1,14 +1,18 @@
-use Rattle.std.proofs.Common.{◌≡◌, ℕ, ◌<◌, Result, Ok, Err, OnErr, ◌+◌, ◌-◌, pos, ◌++◌, List, length, take, drop, sym, ap, subst, ◌∙◌, arith, to_z, of_z, w64}
+use Rattle.std.specs.Prelude.{vec_capacity}
+use Rattle.std.proofs.Common.{◌≡◌, ℕ, ℤ, ◌<◌, ◌⊎◌, inl, inr, vec_len, Result, Ok, Err, OnErr, ◌+◌}
+use Rattle.std.proofs.Common.{◌-◌, pos, ◌++◌, List, length, take, drop, sym, ap, subst, ◌∙◌, arith}
+use Rattle.std.proofs.Common.{to_z, of_z, w64}
 use Rattle.std.specs.FinSet as sets
 use Rattle.std.proofs.lemmas.Int.{ints}
 use Rattle.std.proofs.lemmas.List.{length-take-le}
 use Rattle.ent_handle.specs.Handle.{Handle}
-use Rattle.ent_alloc.specs.Sequential.{Allocator, after_flush, born, fresh, asked_at}
+use Rattle.ent_alloc.specs.Sequential.{Allocator, made_at_flush, after_flush, born, fresh}
 use Rattle.ent_alloc.specs.Roster.{Roster}
 use Rattle.ent_alloc.specs.Sound.{IsSound}
 use Rattle.ent_alloc.specs.Entities.{idle, beneath}
 use Rattle.ent_alloc.proofs.Soundness.{after_flush-sound}
-use Rattle.ent_alloc.proofs.Meaning.{as_word, length-idle, closed, closed_is, flush_is, born_is_listed}
+use Rattle.ent_alloc.proofs.Meaning.{none_at, length-idle, kept_is, fresh_is, closed, closed_is}
+use Rattle.ent_alloc.proofs.Meaning.{made_at_flush_is, flush_is, born_is_listed}
 use Rattle.ent_alloc.proofs.entities.Entities.flush.Goals as goal
 
 -- the roster after so many new slots and with so many pending ones kept
@@ -24,63 +28,71 @@ anyhow : {T E : Type 0} (r : Result T E) (P : Type 0) → P → OnErr r P
 anyhow (Ok x) P so = tt
 anyhow (Err e) P so = so
 
+-- the roster that a flush leaves
+left : (r new : Roster) (floor : ℤ) (kept fresh : ℕ) → kept ≡ length r.pending - beneath r floor → fresh ≡ beneath r floor - length r.pending → new ≡ after r kept fresh → new ≡ after r (length r.pending - beneath r floor) (beneath r floor - length r.pending)
+left r new floor kept news kept_same news_same is = is ∙ (λ i. after r (kept_same i) (news_same i))
+
 pub returns-in_err-bring_to_life-clause-memory : goal.returns-in_err-bring_to_life-clause-memory
 returns-in_err-bring_to_life-clause-memory c =
     let e = c.self.inside in
     let r = e.slots in
+    let s = c.args.self.now in
     let inv = c.self.invariant in
-    let word = as_word r e.floor inv.floor_in (omega arith) (omega arith) in
-    let given_is : c.distance-reserved.result ≡ beneath r e.floor = c.distance-reserved.ensures ∙ (λ i. asked_at (c.waiting-2.ensures.value i) (word i)) in
-    let some : 0 < c.saturating_sub-fresh.result + (length r.pending - c.saturating_sub-kept.result) = c.in_err-bring_to_life.ensures.memory in
-    let long : beneath r e.floor ≡ length c.args.self.now.taken =
-    sym (length-take-le (beneath r e.floor) (idle r) (omega (arith, length-idle r))) ∙ ap (λ (s : Allocator). length s.taken) c.self.view_is in
-    anyhow c.from_residual.result (0 < length c.args.self.now.taken) (omega arith)
+    let given = beneath r e.requests.floor in
+    let kept : c.kept-kept.result ≡ length r.pending - given = kept_is (length r.pending) e.requests.floor c.kept-kept.result inv.floor_in c.kept-kept.ensures.some c.kept-kept.ensures.none in
+    let news : c.fresh-fresh.result ≡ given - length r.pending = fresh_is (length r.pending) e.requests.floor c.fresh-fresh.result c.fresh-fresh.ensures.none c.fresh-fresh.ensures.some in
+    let taken : given ≡ length s.taken =
+    sym (length-take-le given (idle r) (let enough = inv.given_in in omega (arith, length-idle r))) ∙ ap (λ (s : Allocator). length s.taken) c.self.view_is in
+    let made : made_at_flush s ≡ given - length r.pending =
+    sym (ap made_at_flush c.self.view_is) ∙ made_at_flush_is r (beneath r e.requests.cursor) given inv.given_least inv.given_in inv.sound in
+    anyhow c.from_residual.result ((0 < made_at_flush s) ⊎ (vec_capacity c.args.out.now < vec_len c.args.out.now + length s.taken))
+    (elim c.in_err-bring_to_life.ensures.memory [
+      | inl some ↦ inl (omega arith)
+      | inr full ↦ inr (omega arith)
+    ])
 
 pub invariant_of-self-2 : goal.invariant_of-self-2
 invariant_of-self-2 c =
     let e = c.self.inside in
     let r = e.slots in
+    let new = c.bring_to_life.new.self in
     let inv = c.self.invariant in
-    let slots = inv.sound.limits.slots in
-    let word = as_word r e.floor inv.floor_in (omega arith) (omega arith) in
-    let given_is : c.distance-reserved.result ≡ beneath r e.floor = c.distance-reserved.ensures ∙ (λ i. asked_at (c.waiting-2.ensures.value i) (word i)) in
-    let kept_is : c.saturating_sub-kept.result ≡ length r.pending - beneath r e.floor = omega arith in
-    let news_is : c.saturating_sub-fresh.result ≡ beneath r e.floor - length r.pending = omega arith in
-    let top : to_z w64 (of_z w64 c.top-top.result) ≡ pos (length c.bring_to_life.new.self.pending) = omega (arith, ints) in
-    closed c.bring_to_life.new.self (after r (length r.pending - beneath r e.floor) (beneath r e.floor - length r.pending))
-    (to_z w64 (of_z w64 c.top-top.result)) (to_z w64 (of_z w64 c.top-top.result)) (after_flush c.args.self.now)
-    (c.in_ok-bring_to_life.ensures.ok ∙ (λ i. after r (kept_is i) (news_is i))) top top
-    (flush_is r (beneath r e.cursor) (beneath r e.floor) inv.given_least inv.given_in inv.sound ∙ ap after_flush c.self.view_is)
+    let kept = kept_is (length r.pending) e.requests.floor c.kept-kept.result inv.floor_in c.kept-kept.ensures.some c.kept-kept.ensures.none in
+    let news = fresh_is (length r.pending) e.requests.floor c.fresh-fresh.result c.fresh-fresh.ensures.none c.fresh-fresh.ensures.some in
+    let tops = c.top.ensures.value in
+    let top : to_z w64 (of_z w64 c.top.result) ≡ pos (length new.pending) = omega (arith, ints) in
+    let at_top : c.none-self-inside.result ≡ none_at new = c.none-self-inside.ensures ∙ (λ i. record { cursor = top i; floor = top i }) in
+    closed new (after r (length r.pending - beneath r e.requests.floor) (beneath r e.requests.floor - length r.pending))
+    c.none-self-inside.result (after_flush c.args.self.now)
+    (left r new e.requests.floor c.kept-kept.result c.fresh-fresh.result kept news c.in_ok-bring_to_life.ensures.ok) at_top
+    (flush_is r (beneath r e.requests.cursor) (beneath r e.requests.floor) inv.given_least inv.given_in inv.sound ∙ ap after_flush c.self.view_is)
     (after_flush-sound c.args.self.now (subst IsSound c.self.view_is inv.sound))
 
 pub returns-clause-ok : goal.returns-clause-ok
 returns-clause-ok c =
     let e = c.self.inside in
     let r = e.slots in
+    let new = c.bring_to_life.new.self in
     let inv = c.self.invariant in
-    let slots = inv.sound.limits.slots in
-    let word = as_word r e.floor inv.floor_in (omega arith) (omega arith) in
-    let given_is : c.distance-reserved.result ≡ beneath r e.floor = c.distance-reserved.ensures ∙ (λ i. asked_at (c.waiting-2.ensures.value i) (word i)) in
-    let kept_is : c.saturating_sub-kept.result ≡ length r.pending - beneath r e.floor = omega arith in
-    let news_is : c.saturating_sub-fresh.result ≡ beneath r e.floor - length r.pending = omega arith in
-    let top : to_z w64 (of_z w64 c.top-top.result) ≡ pos (length c.bring_to_life.new.self.pending) = omega (arith, ints) in
-    closed_is c.bring_to_life.new.self (after r (length r.pending - beneath r e.floor) (beneath r e.floor - length r.pending))
-    (to_z w64 (of_z w64 c.top-top.result)) (to_z w64 (of_z w64 c.top-top.result)) (after_flush c.args.self.now)
-    (c.in_ok-bring_to_life.ensures.ok ∙ (λ i. after r (kept_is i) (news_is i))) top top
-    (flush_is r (beneath r e.cursor) (beneath r e.floor) inv.given_least inv.given_in inv.sound ∙ ap after_flush c.self.view_is)
+    let kept = kept_is (length r.pending) e.requests.floor c.kept-kept.result inv.floor_in c.kept-kept.ensures.some c.kept-kept.ensures.none in
+    let news = fresh_is (length r.pending) e.requests.floor c.fresh-fresh.result c.fresh-fresh.ensures.none c.fresh-fresh.ensures.some in
+    let tops = c.top.ensures.value in
+    let top : to_z w64 (of_z w64 c.top.result) ≡ pos (length new.pending) = omega (arith, ints) in
+    let at_top : c.none-self-inside.result ≡ none_at new = c.none-self-inside.ensures ∙ (λ i. record { cursor = top i; floor = top i }) in
+    closed_is new (after r (length r.pending - beneath r e.requests.floor) (beneath r e.requests.floor - length r.pending))
+    c.none-self-inside.result (after_flush c.args.self.now)
+    (left r new e.requests.floor c.kept-kept.result c.fresh-fresh.result kept news c.in_ok-bring_to_life.ensures.ok) at_top
+    (flush_is r (beneath r e.requests.cursor) (beneath r e.requests.floor) inv.given_least inv.given_in inv.sound ∙ ap after_flush c.self.view_is)
 
 pub returns-clause-born : goal.returns-clause-born
 returns-clause-born c =
     let e = c.self.inside in
     let r = e.slots in
     let inv = c.self.invariant in
-    let slots = inv.sound.limits.slots in
-    let word = as_word r e.floor inv.floor_in (omega arith) (omega arith) in
-    let given_is : c.distance-reserved.result ≡ beneath r e.floor = c.distance-reserved.ensures ∙ (λ i. asked_at (c.waiting-2.ensures.value i) (word i)) in
-    let kept_is : c.saturating_sub-kept.result ≡ length r.pending - beneath r e.floor = omega arith in
-    let news_is : c.saturating_sub-fresh.result ≡ beneath r e.floor - length r.pending = omega arith in
+    let kept = kept_is (length r.pending) e.requests.floor c.kept-kept.result inv.floor_in c.kept-kept.ensures.some c.kept-kept.ensures.none in
+    let news = fresh_is (length r.pending) e.requests.floor c.fresh-fresh.result c.fresh-fresh.ensures.none c.fresh-fresh.ensures.some in
     c.in_ok-bring_to_life.ensures.born
     ∙ ap (λ (hs : List Handle). c.args.out.now.items ++ hs)
-    ((λ i. fresh r.made (news_is i) ++ drop (kept_is i) r.pending)
-    ∙ sym (born_is_listed r (beneath r e.cursor) (beneath r e.floor) inv.given_least inv.given_in inv.sound)
+    ((λ i. fresh r.made (news i) ++ drop (kept i) r.pending)
+    ∙ sym (born_is_listed r (beneath r e.requests.cursor) (beneath r e.requests.floor) inv.given_least inv.given_in inv.sound)
     ∙ ap born c.self.view_is)

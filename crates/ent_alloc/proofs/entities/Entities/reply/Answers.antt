@@ -1,11 +1,14 @@
-use Rattle.std.proofs.Common.{◌≡◌, ℕ, ℤ, ◌+◌, ◌-◌, ◌≤◌, pos, ◌≤ℤ◌, length, drop, Ok, Err, sym, ap, ◌∙◌, arith, to_z, of_z, w64}
+use Rattle.std.proofs.Common.{◌≡◌, ℕ, ℤ, ◌+◌, ◌-◌, ◌≤◌, pos, ◌≤ℤ◌, length, drop, Ok, Err, sym, ap}
+use Rattle.std.proofs.Common.{◌∙◌, arith, to_z, of_z, w64}
 use Rattle.std.proofs.lemmas.Int.{ints}
 use Rattle.ent_alloc.specs.Sequential.{Allocator, asked_at, top, reply_from, pool_at}
 use Rattle.ent_alloc.specs.Roster.{Roster}
 use Rattle.ent_alloc.specs.Entities.{idle, allocator_of, beneath, AreReserved}
 use Rattle.ent_alloc.specs.Reserved.{handles_of}
 use Rattle.ent_alloc.proofs.FreshHandles.{fresh-none}
-use Rattle.ent_alloc.proofs.Meaning.{top_is, asked_at-is, asked_at-lower, length_available, pool_at_is, pending_below, reply_none, reply_refused, reply_served}
+use Rattle.ent_alloc.proofs.Meaning.{top_is, asked_at-is, asked_at-lower, length_available}
+use Rattle.ent_alloc.proofs.Meaning.{pool_at_is, pending_below, reply_none, reply_refused}
+use Rattle.ent_alloc.proofs.Meaning.{reply_served}
 use Rattle.ent_alloc.proofs.entities.Entities.reply.Goals as goal
 
 -- the reply in the words of what the vectors stand for
@@ -23,7 +26,7 @@ returns-then-before-after c =
     let high = c.args.span.high in
     let low = c.args.span.low in
     let waits = c.waiting-waiting.ensures.value in
-    let tops : top s ≡ length r.pending = ap top (sym c.self.view_is) ∙ top_is r (beneath r e.cursor) (beneath r e.floor) inv.given_least inv.sound in
+    let tops : top s ≡ length r.pending = ap top (sym c.self.view_is) ∙ top_is r (beneath r e.requests.cursor) (beneath r e.requests.floor) inv.given_least inv.sound in
     let least = c.requires.least in
     let passed = c.requires.passed in
     let short = c.requires.short in
@@ -34,13 +37,13 @@ returns-then-before-after c =
     let low_word : to_z w64 (of_z w64 low) ≡ low = omega (arith, ints) in
     let before_is : c.distance-before.result ≡ beneath r high = c.distance-before.ensures ∙ (λ i. asked_at (waits i) (high_word i)) in
     let after_is : c.distance-after.result ≡ beneath r low = c.distance-after.ensures ∙ (λ i. asked_at (waits i) (low_word i)) in
-    let all = length_available r e.cursor e.floor s inv c.self.view_is in
+    let all = length_available r e.requests.cursor e.requests.floor s inv c.self.view_is in
     let has = c.available-available.ensures.value in
     let made : r.made ≡ s.made = ap (λ (t : Allocator). t.made) c.self.view_is in
     let slots : r.limits.slots ≡ s.limits.slots = ap (λ (t : Allocator). t.limits.slots) c.self.view_is in
     λ n requested.
     let requested : beneath r low ≡ beneath r high + n = ap (beneath r) requested ∙ asked_at-lower (length r.pending) high n high_in in
-    ap Ok (c.new.ensures ∙ fresh-none 0) ∙ reply_none r (beneath r high) n (omega arith) ∙ replied r e.cursor e.floor high s n inv c.self.view_is
+    ap Ok (c.new.ensures ∙ fresh-none 0) ∙ reply_none r (beneath r high) n (omega arith) ∙ replied r e.requests.cursor e.requests.floor high s n inv c.self.view_is
 
 pub returns-then-available-after : goal.returns-then-available-after
 returns-then-available-after c =
@@ -51,7 +54,7 @@ returns-then-available-after c =
     let high = c.args.span.high in
     let low = c.args.span.low in
     let waits = c.waiting-waiting.ensures.value in
-    let tops : top s ≡ length r.pending = ap top (sym c.self.view_is) ∙ top_is r (beneath r e.cursor) (beneath r e.floor) inv.given_least inv.sound in
+    let tops : top s ≡ length r.pending = ap top (sym c.self.view_is) ∙ top_is r (beneath r e.requests.cursor) (beneath r e.requests.floor) inv.given_least inv.sound in
     let least = c.requires.least in
     let passed = c.requires.passed in
     let short = c.requires.short in
@@ -62,7 +65,7 @@ returns-then-available-after c =
     let low_word : to_z w64 (of_z w64 low) ≡ low = omega (arith, ints) in
     let before_is : c.distance-before.result ≡ beneath r high = c.distance-before.ensures ∙ (λ i. asked_at (waits i) (high_word i)) in
     let after_is : c.distance-after.result ≡ beneath r low = c.distance-after.ensures ∙ (λ i. asked_at (waits i) (low_word i)) in
-    let all = length_available r e.cursor e.floor s inv c.self.view_is in
+    let all = length_available r e.requests.cursor e.requests.floor s inv c.self.view_is in
     let has = c.available-available.ensures.value in
     let made : r.made ≡ s.made = ap (λ (t : Allocator). t.made) c.self.view_is in
     let slots : r.limits.slots ≡ s.limits.slots = ap (λ (t : Allocator). t.limits.slots) c.self.view_is in
@@ -72,7 +75,7 @@ returns-then-available-after c =
     let past = c.if-available-after.true in
     let wanted : c.distance-after.result - c.distance-before.result ≡ n = omega arith in
     let left : c.saturating_sub.result ≡ length r.pending + (r.limits.slots - r.made) - beneath r high = omega arith in
-    (λ i. Err (record { wanted = wanted i; left = left i })) ∙ reply_refused r (beneath r high) n (omega arith) (omega arith) ∙ replied r e.cursor e.floor high s n inv c.self.view_is
+    (λ i. Err (record { wanted = wanted i; left = left i })) ∙ reply_refused r (beneath r high) n (omega arith) (omega arith) ∙ replied r e.requests.cursor e.requests.floor high s n inv c.self.view_is
 
 pub overflow_cast-made : goal.overflow_cast-made
 overflow_cast-made c =
@@ -83,7 +86,7 @@ overflow_cast-made c =
     let high = c.args.span.high in
     let low = c.args.span.low in
     let waits = c.waiting-waiting.ensures.value in
-    let tops : top s ≡ length r.pending = ap top (sym c.self.view_is) ∙ top_is r (beneath r e.cursor) (beneath r e.floor) inv.given_least inv.sound in
+    let tops : top s ≡ length r.pending = ap top (sym c.self.view_is) ∙ top_is r (beneath r e.requests.cursor) (beneath r e.requests.floor) inv.given_least inv.sound in
     let least = c.requires.least in
     let passed = c.requires.passed in
     let short = c.requires.short in
@@ -94,7 +97,7 @@ overflow_cast-made c =
     let low_word : to_z w64 (of_z w64 low) ≡ low = omega (arith, ints) in
     let before_is : c.distance-before.result ≡ beneath r high = c.distance-before.ensures ∙ (λ i. asked_at (waits i) (high_word i)) in
     let after_is : c.distance-after.result ≡ beneath r low = c.distance-after.ensures ∙ (λ i. asked_at (waits i) (low_word i)) in
-    let all = length_available r e.cursor e.floor s inv c.self.view_is in
+    let all = length_available r e.requests.cursor e.requests.floor s inv c.self.view_is in
     let has = c.available-available.ensures.value in
     let made : r.made ≡ s.made = ap (λ (t : Allocator). t.made) c.self.view_is in
     let slots : r.limits.slots ≡ s.limits.slots = ap (λ (t : Allocator). t.limits.slots) c.self.view_is in
@@ -116,7 +119,7 @@ overflow_cast-made-2 c =
     let high = c.args.span.high in
     let low = c.args.span.low in
     let waits = c.waiting-waiting.ensures.value in
-    let tops : top s ≡ length r.pending = ap top (sym c.self.view_is) ∙ top_is r (beneath r e.cursor) (beneath r e.floor) inv.given_least inv.sound in
+    let tops : top s ≡ length r.pending = ap top (sym c.self.view_is) ∙ top_is r (beneath r e.requests.cursor) (beneath r e.requests.floor) inv.given_least inv.sound in
     let least = c.requires.least in
     let passed = c.requires.passed in
     let short = c.requires.short in
@@ -127,7 +130,7 @@ overflow_cast-made-2 c =
     let low_word : to_z w64 (of_z w64 low) ≡ low = omega (arith, ints) in
     let before_is : c.distance-before.result ≡ beneath r high = c.distance-before.ensures ∙ (λ i. asked_at (waits i) (high_word i)) in
     let after_is : c.distance-after.result ≡ beneath r low = c.distance-after.ensures ∙ (λ i. asked_at (waits i) (low_word i)) in
-    let all = length_available r e.cursor e.floor s inv c.self.view_is in
+    let all = length_available r e.requests.cursor e.requests.floor s inv c.self.view_is in
     let has = c.available-available.ensures.value in
     let made : r.made ≡ s.made = ap (λ (t : Allocator). t.made) c.self.view_is in
     let slots : r.limits.slots ≡ s.limits.slots = ap (λ (t : Allocator). t.limits.slots) c.self.view_is in
@@ -149,7 +152,7 @@ new-requires-2 c =
     let high = c.args.span.high in
     let low = c.args.span.low in
     let waits = c.waiting-waiting.ensures.value in
-    let tops : top s ≡ length r.pending = ap top (sym c.self.view_is) ∙ top_is r (beneath r e.cursor) (beneath r e.floor) inv.given_least inv.sound in
+    let tops : top s ≡ length r.pending = ap top (sym c.self.view_is) ∙ top_is r (beneath r e.requests.cursor) (beneath r e.requests.floor) inv.given_least inv.sound in
     let least = c.requires.least in
     let passed = c.requires.passed in
     let short = c.requires.short in
@@ -160,7 +163,7 @@ new-requires-2 c =
     let low_word : to_z w64 (of_z w64 low) ≡ low = omega (arith, ints) in
     let before_is : c.distance-before.result ≡ beneath r high = c.distance-before.ensures ∙ (λ i. asked_at (waits i) (high_word i)) in
     let after_is : c.distance-after.result ≡ beneath r low = c.distance-after.ensures ∙ (λ i. asked_at (waits i) (low_word i)) in
-    let all = length_available r e.cursor e.floor s inv c.self.view_is in
+    let all = length_available r e.requests.cursor e.requests.floor s inv c.self.view_is in
     let has = c.available-available.ensures.value in
     let made : r.made ≡ s.made = ap (λ (t : Allocator). t.made) c.self.view_is in
     let slots : r.limits.slots ≡ s.limits.slots = ap (λ (t : Allocator). t.limits.slots) c.self.view_is in
@@ -188,7 +191,7 @@ returns c =
     let high = c.args.span.high in
     let low = c.args.span.low in
     let waits = c.waiting-waiting.ensures.value in
-    let tops : top s ≡ length r.pending = ap top (sym c.self.view_is) ∙ top_is r (beneath r e.cursor) (beneath r e.floor) inv.given_least inv.sound in
+    let tops : top s ≡ length r.pending = ap top (sym c.self.view_is) ∙ top_is r (beneath r e.requests.cursor) (beneath r e.requests.floor) inv.given_least inv.sound in
     let least = c.requires.least in
     let passed = c.requires.passed in
     let short = c.requires.short in
@@ -199,7 +202,7 @@ returns c =
     let low_word : to_z w64 (of_z w64 low) ≡ low = omega (arith, ints) in
     let before_is : c.distance-before.result ≡ beneath r high = c.distance-before.ensures ∙ (λ i. asked_at (waits i) (high_word i)) in
     let after_is : c.distance-after.result ≡ beneath r low = c.distance-after.ensures ∙ (λ i. asked_at (waits i) (low_word i)) in
-    let all = length_available r e.cursor e.floor s inv c.self.view_is in
+    let all = length_available r e.requests.cursor e.requests.floor s inv c.self.view_is in
     let has = c.available-available.ensures.value in
     let made : r.made ≡ s.made = ap (λ (t : Allocator). t.made) c.self.view_is in
     let slots : r.limits.slots ≡ s.limits.slots = ap (λ (t : Allocator). t.limits.slots) c.self.view_is in
@@ -217,5 +220,5 @@ returns c =
     let index_is : c.from-made.result + c.saturating_sub-4.result ≡ r.made + (beneath r high - length r.pending) = omega arith in
     let index_end_is : c.from-made.result + c.saturating_sub-5.result ≡ r.made + (beneath r high + n - length r.pending) = omega arith in
     ap Ok (c.new-2.ensures ∙ (λ i. handles_of r (position_is i) (end_is i) (index_is i) (index_end_is i)))
-    ∙ reply_served r (beneath r high) n (pending_below r (beneath r e.cursor) (beneath r e.floor) inv.given_least inv.sound) (omega arith)
-    ∙ replied r e.cursor e.floor high s n inv c.self.view_is
+    ∙ reply_served r (beneath r high) n (pending_below r (beneath r e.requests.cursor) (beneath r e.requests.floor) inv.given_least inv.sound) (omega arith)
+    ∙ replied r e.requests.cursor e.requests.floor high s n inv c.self.view_is

@@ -24,5 +24,5 @@ with_row r at floor h row reserved lives = record {
 pub invariant_of-self : goal.invariant_of-self
 invariant_of-self c =
     let e = c.self.inside in
-    let P : Roster → Type 0 = λ r. AreReserved r e.cursor e.floor in
-    subst P (sym c.set_row.ensures) (with_row e.slots e.cursor e.floor c.args.handle c.args.row c.self.invariant (ap (λ (s : Allocator). sets.contains s.live c.args.handle) c.self.view_is ∙ c.requires))
+    let P : Roster → Type 0 = λ r. AreReserved r e.requests.cursor e.requests.floor in
+    subst P (sym c.set_row.ensures) (with_row e.slots e.requests.cursor e.requests.floor c.args.handle c.args.row c.self.invariant (ap (λ (s : Allocator). sets.contains s.live c.args.handle) c.self.view_is ∙ c.requires))

@@ -1,26 +1,22 @@
-use Rattle.std.proofs.Common.{sym, ◌∙◌, arith, inl, inr}
-use Rattle.std.proofs.lemmas.Bool.{cases_lt, lt-ltb, le-ltb}
+use Rattle.std.proofs.Common.{◌-◌, sym, ◌∙◌, arith, inl, inr}
+use Rattle.std.proofs.lemmas.Bool.{cases_lt, lt-ltb, le-ltb, ne_eqb}
 use Rattle.ent_alloc.proofs.Looked.{fresh_yes, fresh_no}
 use Rattle.ent_alloc.proofs.slots.Slots.is_next.Goals as goal
 
-pub returns-then-generation-ne1 : goal.returns-then-generation-ne1
-returns-then-generation-ne1 c =
-    sym (fresh_no c.args.handle c.args.self.now.made c.args.count (λ first _ _. c.if-generation-ne1.true (c.generation.ensures ∙ first)))
-
-pub returns-in-Some : goal.returns-in-Some
-returns-in-Some c =
+pub returns-then-generation-eq1 : goal.returns-then-generation-eq1
+returns-then-generation-eq1 c =
     let made = c.made.ensures.value in
     let index = c.index.ensures in
     let generation = c.generation.ensures in
-    let past = c.in-Some.ensures.1 in
-    let after = c.in-Some.ensures.0 in
-    elim (cases_lt c.in-Some.past c.args.count) [
-      | inl within ↦ lt-ltb c.in-Some.past c.args.count within ∙ sym (fresh_yes c.args.handle c.args.self.now.made c.args.count (omega arith) (omega arith) (omega arith))
-      | inr beyond ↦ le-ltb c.in-Some.past c.args.count beyond ∙ sym (fresh_no c.args.handle c.args.self.now.made c.args.count (λ _ _ within. absurd (omega arith)))
+    let first = c.if-generation-eq1.true in
+    let past = c.index.result - c.made.result in
+    elim (cases_lt past c.args.count) [
+      | inl within ↦ lt-ltb past c.args.count within ∙ sym (fresh_yes c.args.handle c.args.self.now.made c.args.count (omega arith) (omega arith) (omega arith))
+      | inr beyond ↦ le-ltb past c.args.count beyond ∙ sym (fresh_no c.args.handle c.args.self.now.made c.args.count (λ _ _ below. absurd (omega arith)))
     ]
 
-pub returns-in-None : goal.returns-in-None
-returns-in-None c =
-    let made = c.made.ensures.value in
-    let index = c.index.ensures in
-    sym (fresh_no c.args.handle c.args.self.now.made c.args.count (λ _ after _. c.in-None.ensures (omega arith)))
+pub returns-else-generation-eq1 : goal.returns-else-generation-eq1
+returns-else-generation-eq1 c =
+    let later = c.if-generation-eq1.false in
+    ne_eqb c.generation.result 1 later
+    ∙ sym (fresh_no c.args.handle c.args.self.now.made c.args.count (λ first _ _. later (c.generation.ensures ∙ first)))

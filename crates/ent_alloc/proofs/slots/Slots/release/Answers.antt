@@ -1,4 +1,5 @@
-use Rattle.std.proofs.Common.{if◌then◌else◌, ◌==◌, ◌≡◌, ℕ, ◌+◌, List, [], ◌∷◌, ◌++◌, length, set, true, sym, ap, ◌∙◌, arith}
+use Rattle.std.proofs.Common.{if◌then◌else◌, ◌==◌, ◌≡◌, ℕ, ◌+◌, List, [], ◌∷◌, ◌++◌, length, set}
+use Rattle.std.proofs.Common.{true, sym, ap, ◌∙◌, arith}
 use Rattle.std.specs.FinSet as sets
 use Rattle.std.specs.FinMap as maps
 use Rattle.ent_handle.specs.Handle.{Handle}
@@ -7,9 +8,10 @@ use Rattle.ent_alloc.specs.declared.slot_record.SlotRecord.{SlotRecord}
 use Rattle.ent_alloc.specs.declared.slot_record.Occupancy.TheVariants.{Pending}
 use Rattle.ent_alloc.specs.Sequential.{next}
 use Rattle.ent_alloc.specs.Roster.{Roster}
-use Rattle.ent_alloc.specs.Slots.{roster_of, is_occupant}
-use Rattle.ent_alloc.proofs.Occupants.{contains_occupants}
-use Rattle.ent_alloc.proofs.Linked.{occupant_made, occupant_generation, next_generation, one_lives, release_keeps_links, roster_of-release}
+use Rattle.ent_alloc.specs.Slots.{roster_of}
+use Rattle.ent_alloc.proofs.Occupants.{is_occupant, contains_occupants}
+use Rattle.ent_alloc.proofs.Linked.{occupant_made, occupant_generation, next_generation, one_lives}
+use Rattle.ent_alloc.proofs.Linked.{release_keeps_links, roster_of-release}
 use Rattle.ent_alloc.proofs.slots.Slots.release.Goals as goal
 
 -- who is in the set is a occupant
@@ -40,8 +42,8 @@ overflow_sub-self c =
     let is = lives c.self.inside.limits records c.self.inside.pending.items c.args.self.now c.args.handle c.self.view_is c.requires in
     one_lives c.self.inside.limits records c.self.inside.pending.items c.self.inside.live c.args.handle c.self.invariant is
 
-pub handle_of-requires : goal.handle_of-requires
-handle_of-requires c =
+pub from_parts-requires : goal.from_parts-requires
+from_parts-requires c =
     let records = c.self.inside.records.items in
     let is = lives c.self.inside.limits records c.self.inside.pending.items c.args.self.now c.args.handle c.self.view_is c.requires in
     let range = next_generation c.self.inside.limits records c.self.inside.pending.items c.self.inside.live c.args.handle c.self.invariant is in

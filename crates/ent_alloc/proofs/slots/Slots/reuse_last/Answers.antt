@@ -1,18 +1,48 @@
-use Rattle.std.proofs.Common.{◌≡◌, ◌+◌, ◌-◌, List, [], ◌∷◌, length, take, drop, ap, ◌∙◌, arith}
+use Rattle.std.proofs.Common.{◌≡◌, ◌+◌, ◌-◌, ◌<◌, ℕ, List, [], ◌∷◌, ◌++◌, length, set, slice_get}
+use Rattle.std.proofs.Common.{take, Some, sym, ap, ◌∙◌, arith}
 use Rattle.std.specs.FinSet as sets
-use Rattle.std.proofs.lemmas.List.{drop_all}
+use Rattle.std.proofs.lemmas.List.{get_or_read}
 use Rattle.ent_handle.specs.Handle.{Handle}
+use Rattle.ent_alloc.specs.declared.slot_record.SlotRecord.{SlotRecord}
+use Rattle.ent_alloc.specs.declared.slot_record.Occupancy.TheVariants.{Alive}
 use Rattle.ent_alloc.specs.Roster.{Roster}
-use Rattle.ent_alloc.proofs.Listing.{drop_at}
+use Rattle.ent_alloc.specs.Slots.{roster_of, record_at, handle_at, blank, reuse}
+use Rattle.ent_alloc.proofs.Linked.{last_made, last_handle, reuse_last_keeps_links}
+use Rattle.ent_alloc.proofs.Linked.{roster_of-reuse_last}
 use Rattle.ent_alloc.proofs.slots.Slots.reuse_last.Goals as goal
 
-pub returns-clause-ok : goal.returns-clause-ok
-returns-clause-ok c =
-    let r : Roster = c.args.self.now in
-    let position = c.waiting.result - 1 in
-    let h = c.pending_at-handle.result in
-    let waits = c.waiting.ensures.value in
-    let last : drop position r.pending ≡ h ∷ [] =
-    drop_at r.pending position h (omega arith) c.pending_at-handle.ensures ∙ ap (λ (hs : List Handle). h ∷ hs) (drop_all (position + 1) r.pending (omega arith)) in
-    let at : position ≡ length r.pending - 1 = omega arith in
-    c.reuse.ensures ∙ (λ i. record r { live = sets.union r.live (sets.from_list (last i)); pending = take (at i) r.pending })
+pub invariant_of-self-2 : goal.invariant_of-self-2
+invariant_of-self-2 c =
+    let e = c.self.inside in
+    let index = c.in_ok-index.index in
+    let rest = c.pop.new.self.items in
+    let last = c.in_ok-index.ensures.items in
+    let made = last_made e.limits e.records.items e.pending.items rest e.live index c.self.invariant last in
+    let read : c.index_mut-record.result.now ≡ record_at e.records.items index = get_or_read e.records.items index c.index_mut-record.result.now made c.index_mut-record.ensures.value blank in
+    rw (ap (λ (r : SlotRecord). r.generation) read) (reuse_last_keeps_links e.limits e.records.items e.pending.items rest e.live index c.self.invariant last)
+
+pub returns-clause-last : goal.returns-clause-last
+returns-clause-last c =
+    let e = c.self.inside in
+    let index = c.in_ok-index.index in
+    let rest = c.pop.new.self.items in
+    let last = c.in_ok-index.ensures.items in
+    let made = last_made e.limits e.records.items e.pending.items rest e.live index c.self.invariant last in
+    let read : c.index_mut-record.result.now ≡ record_at e.records.items index = get_or_read e.records.items index c.index_mut-record.result.now made c.index_mut-record.ensures.value blank in
+    sym (ap (λ (r : Roster). slice_get r.pending (length r.pending - 1)) c.self.view_is)
+    ∙ last_handle e.limits e.records.items e.pending.items rest e.live index c.self.invariant last
+    ∙ (λ i. Some (record { index = index; generation = (sym read i).generation }))
+    ∙ ap Some (sym c.from_parts.ensures)
+
+pub returns-clause-some : goal.returns-clause-some
+returns-clause-some c =
+    let e = c.self.inside in
+    let index = c.in_ok-index.index in
+    let rest = c.pop.new.self.items in
+    let last = c.in_ok-index.ensures.items in
+    let made = last_made e.limits e.records.items e.pending.items rest e.live index c.self.invariant last in
+    let read : c.index_mut-record.result.now ≡ record_at e.records.items index = get_or_read e.records.items index c.index_mut-record.result.now made c.index_mut-record.ensures.value blank in
+    let h : c.from_parts.result ≡ handle_at e.records.items index = c.from_parts.ensures ∙ (λ i. record { index = index; generation = (read i).generation }) in
+    (λ i. roster_of e.limits (set e.records.items index (record { generation = (read i).generation; occupancy = Alive })) rest)
+    ∙ roster_of-reuse_last e.limits e.records.items e.pending.items rest e.live index c.self.invariant last
+    ∙ (λ i. let r : Roster = c.self.view_is i in record r { live = sets.union r.live (sets.from_list (sym h i ∷ [])); pending = take (length r.pending - 1) r.pending })

@@ -3,10 +3,10 @@ use Rattle.std.specs.FinSet as sets
 use Rattle.std.specs.FinMap as maps
 use Rattle.std.proofs.lemmas.List.{get_or_read}
 use Rattle.ent_alloc.specs.declared.slot_record.SlotRecord.{SlotRecord}
-use Rattle.ent_alloc.specs.declared.slot_record.Occupancy.TheVariants.{Alive}
+use Rattle.ent_alloc.specs.declared.slot_record.Occupancy.TheVariants.{AliveWithRow}
 use Rattle.ent_alloc.specs.Roster.{Roster}
-use Rattle.ent_alloc.specs.Slots.{roster_of, is_occupant, record_at, blank}
-use Rattle.ent_alloc.proofs.Occupants.{contains_occupants}
+use Rattle.ent_alloc.specs.Slots.{roster_of, record_at, blank}
+use Rattle.ent_alloc.proofs.Occupants.{is_occupant, contains_occupants}
 use Rattle.ent_alloc.proofs.Linked.{occupant_made}
 use Rattle.ent_alloc.proofs.Looked.{set_row_keeps_links, roster_of-set_row}
 use Rattle.ent_alloc.proofs.slots.Slots.set_row.Goals as goal
@@ -39,6 +39,6 @@ returns c =
     let index = c.index.ensures in
     let read : c.index_mut.result.now ≡ record_at e.records.items c.index.result = get_or_read e.records.items c.index.result c.index_mut.result.now (omega arith) c.index_mut.ensures.value blank in
     let generation_is = ap (λ (r : SlotRecord). r.generation) read ∙ ap (λ n. (record_at e.records.items n).generation) index in
-    (λ i. roster_of e.limits (set e.records.items (index i) (record { generation = generation_is i; occupancy = Alive (Some c.args.row) })) e.pending.items)
+    (λ i. roster_of e.limits (set e.records.items (index i) (record { generation = generation_is i; occupancy = AliveWithRow c.args.row })) e.pending.items)
     ∙ roster_of-set_row e.limits e.records.items e.pending.items e.live h c.args.row c.self.invariant lives
     ∙ ap (λ (r : Roster). record r { rows = maps.insert r.rows h c.args.row }) c.self.view_is

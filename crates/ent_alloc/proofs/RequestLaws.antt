@@ -1,33 +1,36 @@
--- All replies to requests in turn, taken together: no handle twice, none alive before, and a flush brings to life exactly those.
-use Rattle.std.proofs.Common.{get_or, IsTrue, ◌≡◌, refl, sym, subst, ℕ, List, [], ◌∷◌, ◌++◌, All, AllPairs, Contains, IsPermutation, Result, Ok, Err, ◌⊎◌, ◌↔◌, append-nil, append_assoc, inl, inr}
+-- All replies to requests in turn, taken together: no handle twice, none alive before, and a flush
+-- brings to life exactly those.
+use Rattle.std.proofs.Common.{get_or, IsTrue, ◌≡◌, refl, sym, subst, ℕ, List, [], ◌∷◌, ◌++◌, All}
+use Rattle.std.proofs.Common.{AllPairs, Contains, IsPermutation, Result, Ok, Err, ◌⊎◌, ◌↔◌}
+use Rattle.std.proofs.Common.{append-nil, append_assoc, inl, inr}
 use Rattle.std.specs.FinSet as set
-use Rattle.std.proofs.lemmas.List.Sorted.{IsPermutation-refl, IsPermutation-sym, IsPermutation-trans, IsPermutation-append_left, All-permutation, Contains-permutation}
+use Rattle.std.proofs.lemmas.List.Sorted.{IsPermutation-refl, IsPermutation-sym}
+use Rattle.std.proofs.lemmas.List.Sorted.{IsPermutation-trans, IsPermutation-append_left}
+use Rattle.std.proofs.lemmas.List.Sorted.{All-permutation, Contains-permutation}
 use Rattle.ent_handle.specs.Handle.{Handle}
 use Rattle.ent_alloc.specs.declared.space.Space.{Space}
 use Rattle.ent_alloc.specs.Sequential.{Allocator, after_take, after_flush, reply_to, born}
 use Rattle.ent_alloc.specs.Sound.{IsSound, AreApart, IsLive}
 use Rattle.ent_alloc.specs.Given.{AreSpent}
-use Rattle.ent_alloc.proofs.ListLaws.{All-left, All-right, AllPairs-left, AllPairs-right, AllPairs-IsPermutation}
+use Rattle.ent_alloc.specs.History.{handles_in}
+use Rattle.ent_alloc.proofs.ListLaws.{All-left, All-right, AllPairs-left, AllPairs-right}
+use Rattle.ent_alloc.proofs.ListLaws.{AllPairs-IsPermutation}
 use Rattle.ent_alloc.proofs.LaidOut.{flushed-laid_out}
 use Rattle.ent_alloc.proofs.PoolLaw.{after_takes, live-after_takes, after_takes-sound}
 use Rattle.ent_alloc.proofs.Soundness.{after_take-sound}
-use Rattle.ent_alloc.proofs.Replies.{taken-IsPermutation, taken-after_refused, apart_both, not_apart}
+use Rattle.ent_alloc.proofs.Replies.{taken-IsPermutation, taken-after_refused, apart_both}
+use Rattle.ent_alloc.proofs.Replies.{not_apart}
 use Rattle.ent_alloc.proofs.Flushes.{live-after_flush, live-stays, taken-lives, born-IsPermutation}
 use Rattle.ent_alloc.proofs.GivenOnce.{take-given, refused-given}
-
--- the handles of a reply
-abbrev pub handles_of : Result (List Handle) Space → List Handle
-handles_of (Ok given) = given
-handles_of (Err space) = []
 
 -- the handles of all replies to requests in turn
 abbrev pub given_by : Allocator → List ℕ → List Handle
 given_by s [] = []
-given_by s (n ∷ requests) = handles_of (reply_to s n) ++ given_by (after_take s n) requests
+given_by s (n ∷ requests) = handles_in (reply_to s n) ++ given_by (after_take s n) requests
 
 -- what is taken is what was taken, and the handles of the reply
-pub taken-after_take : (s : Allocator) (n : ℕ) → IsPermutation (s.taken ++ handles_of (reply_to s n)) (after_take s n).taken
-taken-after_take s n = elim (reply_to s n) as (λ r. reply_to s n ≡ r → IsPermutation (s.taken ++ handles_of r) (after_take s n).taken) [
+pub taken-after_take : (s : Allocator) (n : ℕ) → IsPermutation (s.taken ++ handles_in (reply_to s n)) (after_take s n).taken
+taken-after_take s n = elim (reply_to s n) as (λ r. reply_to s n ≡ r → IsPermutation (s.taken ++ handles_in r) (after_take s n).taken) [
   | Ok given ↦ λ is. taken-IsPermutation s n given is
   | Err space ↦ λ is. rw (append-nil s.taken, taken-after_refused s n space is) (IsPermutation-refl s.taken)
 ] refl
@@ -37,7 +40,7 @@ pub taken-after_takes : (s : Allocator) (requests : List ℕ) → IsPermutation 
 taken-after_takes s [] = rw (append-nil s.taken) (IsPermutation-refl s.taken)
 taken-after_takes s (n ∷ requests) =
     let t = after_take s n in
-    let one = handles_of (reply_to s n) in
+    let one = handles_in (reply_to s n) in
     let rest = given_by t requests in
     IsPermutation-trans (s.taken ++ (one ++ rest)) (t.taken ++ rest) (after_takes t requests).taken
     (subst (λ front. IsPermutation front (t.taken ++ rest)) (append_assoc s.taken one rest) (IsPermutation-append_left rest (s.taken ++ one) t.taken (taken-after_take s n)))
@@ -92,8 +95,8 @@ module _ (s : Allocator) (requests : List ℕ) (h : IsSound s) where
       )
 
 -- one request gives nothing that was given before
-pub requested-given : (s : Allocator) (n : ℕ) (given : List Handle) → IsSound s → AreSpent s given → AreSpent (after_take s n) (given ++ handles_of (reply_to s n))
-requested-given s n given h once = elim (reply_to s n) as (λ r. reply_to s n ≡ r → AreSpent (after_take s n) (given ++ handles_of r)) [
+pub requested-given : (s : Allocator) (n : ℕ) (given : List Handle) → IsSound s → AreSpent s given → AreSpent (after_take s n) (given ++ handles_in (reply_to s n))
+requested-given s n given h once = elim (reply_to s n) as (λ r. reply_to s n ≡ r → AreSpent (after_take s n) (given ++ handles_in r)) [
   | Ok more ↦ λ is. take-given s n given more h is once
   | Err space ↦ λ is. rw (append-nil given) (refused-given s n given once)
 ] refl
@@ -103,6 +106,6 @@ pub requests-given : (s : Allocator) (requests : List ℕ) (given : List Handle)
 requests-given s [] given h once = rw (append-nil given) once
 requests-given s (n ∷ requests) given h once =
     let t = after_take s n in
-    rw (← append_assoc given (handles_of (reply_to s n)) (given_by t requests)) (
-    requests-given t requests (given ++ handles_of (reply_to s n)) (after_take-sound s n h) (requested-given s n given h once)
+    rw (← append_assoc given (handles_in (reply_to s n)) (given_by t requests)) (
+    requests-given t requests (given ++ handles_in (reply_to s n)) (after_take-sound s n h) (requested-given s n given h once)
     )

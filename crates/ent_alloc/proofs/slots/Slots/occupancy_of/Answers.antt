@@ -1,0 +1,47 @@
+use Rattle.std.proofs.Common.{◌≡◌, ◌<◌, drop, length, Option, sym, ap, subst, ◌∙◌}
+use Rattle.std.specs.Option.{OnSome}
+use Rattle.std.specs.FinSet as sets
+use Rattle.std.specs.FinMap as maps
+use Rattle.ent_alloc.specs.Roster.{Roster}
+use Rattle.ent_alloc.specs.declared.slot_record.Occupancy.{Occupancy}
+use Rattle.ent_alloc.specs.Sequential.{stands_in}
+use Rattle.ent_alloc.specs.Slots.{occupancy_of, lives, row_kept, waits_from}
+use Rattle.ent_alloc.proofs.Occupants.{contains_occupants, get_rows}
+use Rattle.ent_alloc.proofs.Looked.{is_occupant-occupancy, row_at-occupancy, waits_at-occupancy}
+use Rattle.ent_alloc.proofs.Looked.{made-occupancy, stands_in-pending}
+use Rattle.ent_alloc.proofs.slots.Slots.occupancy_of.Goals as goal
+
+pub returns-clause-lives : goal.returns-clause-lives
+returns-clause-lives c =
+    let e = c.self.inside in
+    let h = c.args.handle in
+    sym (ap (λ (r : Roster). sets.contains r.live h) c.self.view_is)
+    ∙ contains_occupants e.records.items h
+    ∙ is_occupant-occupancy e.records.items h
+    ∙ sym (ap lives (c.occupancy_of.ensures ∙ ap (λ records. occupancy_of records h) c.deref.ensures.value))
+
+pub returns-clause-row : goal.returns-clause-row
+returns-clause-row c =
+    let e = c.self.inside in
+    let h = c.args.handle in
+    sym (ap (λ (r : Roster). maps.get r.rows h) c.self.view_is)
+    ∙ get_rows e.records.items h
+    ∙ row_at-occupancy e.records.items h
+    ∙ sym (ap row_kept (c.occupancy_of.ensures ∙ ap (λ records. occupancy_of records h) c.deref.ensures.value))
+
+pub returns-clause-waits : goal.returns-clause-waits
+returns-clause-waits c from =
+    let e = c.self.inside in
+    let h = c.args.handle in
+    sym (ap (λ (r : Roster). stands_in (drop from r.pending) h) c.self.view_is)
+    ∙ sym (stands_in-pending e.limits e.records.items e.pending.items e.live c.self.invariant h from)
+    ∙ waits_at-occupancy e.records.items h from
+    ∙ sym (ap (λ o. waits_from o from) (c.occupancy_of.ensures ∙ ap (λ records. occupancy_of records h) c.deref.ensures.value))
+
+pub returns-clause-made : goal.returns-clause-made
+returns-clause-made c =
+    let e = c.self.inside in
+    let h = c.args.handle in
+    let is = c.occupancy_of.ensures ∙ ap (λ records. occupancy_of records h) c.deref.ensures.value in
+    subst (λ (r : Roster). OnSome c.occupancy_of.result (h.index < r.made)) c.self.view_is
+    (subst (λ (o : Option Occupancy). OnSome o (h.index < length e.records.items)) (sym is) (made-occupancy e.records.items h))
