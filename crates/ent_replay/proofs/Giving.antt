@@ -20,8 +20,8 @@ use Rattle.ent_replay.specs.declared.event.Event.{Event}
 use Rattle.ent_replay.specs.declared.outcome.Outcome.{Outcome}
 use Rattle.ent_replay.specs.declared.outcome.Outcome.TheVariants as outcome
 use Rattle.ent_replay.specs.declared.fault.ReplayFault.{ReplayFault}
-use Rattle.ent_replay.specs.Schedule.{Schedule, OpenCall, Reply, Answered, on_event, outcome_of, after_event, outcomes_of, reported, callers, wraps}
-use Rattle.ent_replay.specs.Pending.{joined, held_by, held, pending}
+use Rattle.ent_replay.specs.Schedule.{MachineState, OpenCall, Reply, Answered, on_event, outcome_of, after_event, outcomes_of, reported, callers, wraps}
+use Rattle.ent_replay.specs.Held.{joined, held_by, held, all_held}
 use Rattle.ent_replay.specs.Histories.{given_by, given_in, has_wrapped, NoneWrapped, AreGivenOnce}
 use Rattle.ent_replay.proofs.Maps.{get-inserted, get-insert_other, get-removed, get-remove_other}
 use Rattle.ent_replay.proofs.Moves.{Move, move, stays, allocates, frees, flushes, begins, steps, answers}
@@ -67,26 +67,26 @@ joined-more f g c (suc n) lt none alike = elim (cases_lt c n) [
 
 -- ---- the handles that are kept for open calls
 
-pub pending-none : (calls : FinMap nat_cmp OpenCall) → calls ≡ finite.empty → pending calls ≡ []
-pending-none calls none = joined-none (λ q. held (finite.get calls q)) callers (λ q. ap (λ m. held (finite.get m q)) none ∙ ap held (get-empty nat_cmp q))
+pub all_held-none : (calls : FinMap nat_cmp OpenCall) → calls ≡ finite.empty → all_held calls ≡ []
+all_held-none calls none = joined-none (λ q. held (finite.get calls q)) callers (λ q. ap (λ m. held (finite.get m q)) none ∙ ap held (get-empty nat_cmp q))
 
 module _ (calls : FinMap nat_cmp OpenCall) (caller : ℕ) (below : caller < callers) where
-  pending-inserted : (new : OpenCall) → held (finite.get calls caller) ≡ [] → IsPermutation (pending calls ++ held_by new.reply) (pending (finite.insert calls caller new))
-  pending-inserted new none =
-      subst (λ hs. IsPermutation (pending calls ++ hs) (pending (finite.insert calls caller new))) (ap held (get-inserted calls caller new))
+  all_held-inserted : (new : OpenCall) → held (finite.get calls caller) ≡ [] → IsPermutation (all_held calls ++ held_by new.reply) (all_held (finite.insert calls caller new))
+  all_held-inserted new none =
+      subst (λ hs. IsPermutation (all_held calls ++ hs) (all_held (finite.insert calls caller new))) (ap held (get-inserted calls caller new))
       (joined-more (λ q. held (finite.get calls q)) (λ q. held (finite.get (finite.insert calls caller new) q)) caller callers below none
       (λ q other. ap held (sym (get-insert_other calls caller new q other))))
 
-  pending-removed : IsPermutation (pending (finite.remove calls caller) ++ held (finite.get calls caller)) (pending calls)
-  pending-removed =
+  all_held-removed : IsPermutation (all_held (finite.remove calls caller) ++ held (finite.get calls caller)) (all_held calls)
+  all_held-removed =
       joined-more (λ q. held (finite.get (finite.remove calls caller) q)) (λ q. held (finite.get calls q)) caller callers below (ap held (get-removed calls caller))
       (λ q other. ap held (get-remove_other calls caller q other))
 
 -- ---- what is kept from event to event
 
-record IsGiven (s : Schedule) (given : List Handle) : Type 0 where
+record IsGiven (s : MachineState) (given : List Handle) : Type 0 where
   sound : IsSound s.allocator
-  once : spent.AreSpent s.allocator (given ++ pending s.calls)
+  once : spent.AreSpent s.allocator (given ++ all_held s.calls)
 
 given_by-reported : (reply : Reply) → given_by (Ok (reported reply)) ≡ handles_in reply
 given_by-reported (Ok handles) = refl
@@ -96,66 +96,66 @@ none_left : (given more : List Handle) → more ≡ [] → given ++ more ≡ giv
 none_left given more none = ap (given ++◌) none ∙ append-nil given
 
 -- the state and the answer as the event gives them
-onward : (s : Schedule) (e : Event) (given : List Handle) (r : Result Outcome ReplayFault) (t : Schedule) → on_event s e ≡ (r, t) → IsGiven t (given ++ given_by r) → IsGiven (after_event s e) (given ++ given_by (outcome_of s e))
+onward : (s : MachineState) (e : Event) (given : List Handle) (r : Result Outcome ReplayFault) (t : MachineState) → on_event s e ≡ (r, t) → IsGiven t (given ++ given_by r) → IsGiven (after_event s e) (given ++ given_by (outcome_of s e))
 onward s e given r t is h = subst (λ p. IsGiven p.1 (given ++ given_by p.0)) (sym is) h
 
-given-next : (s : Schedule) (e : Event) (given : List Handle) → IsGiven s given → has_wrapped (outcome_of s e) ≡ false → Move s e → IsGiven (after_event s e) (given ++ given_by (outcome_of s e))
+given-next : (s : MachineState) (e : Event) (given : List Handle) → IsGiven s given → has_wrapped (outcome_of s e) ≡ false → Move s e → IsGiven (after_event s e) (given ++ given_by (outcome_of s e))
 given-next s e given h fresh (stays r is gives fine tells none) =
     onward s e given r s is (subst (IsGiven s) (sym (none_left given (given_by r) gives)) h)
 given-next s e given h fresh (allocates x rest is none flushed pool at) =
-    let nothing = pending-none s.calls none in
+    let nothing = all_held-none s.calls none in
     onward s e given (Ok (outcome.Handle x)) (record s { allocator = after_alloc s.allocator x }) is (record {
       sound = after_alloc-sound s.allocator x rest h.sound flushed pool;
-      once = subst (spent.AreSpent (after_alloc s.allocator x)) (sym (none_left (given ++ x ∷ []) (pending s.calls) nothing))
-          (alloc-given s.allocator x rest given h.sound flushed pool (subst (spent.AreSpent s.allocator) (none_left given (pending s.calls) nothing) h.once));
+      once = subst (spent.AreSpent (after_alloc s.allocator x)) (sym (none_left (given ++ x ∷ []) (all_held s.calls) nothing))
+          (alloc-given s.allocator x rest given h.sound flushed pool (subst (spent.AreSpent s.allocator) (none_left given (all_held s.calls) nothing) h.once));
     })
 given-next s e given h fresh (frees x is none flushed lives at) =
     let new : wraps s.allocator.limits x ≡ false = sym (ap (λ p. has_wrapped p.0) is) ∙ fresh in
     onward s e given _ (record s { allocator = after_free s.allocator x }) is (record {
       sound = after_free-sound s.allocator x h.sound flushed lives;
-      once = subst (λ hs. spent.AreSpent (after_free s.allocator x) (hs ++ pending s.calls)) (sym (append-nil given))
-          (free-given s.allocator x (given ++ pending s.calls) lives (grind (arith, nat_tests)) h.once);
+      once = subst (λ hs. spent.AreSpent (after_free s.allocator x) (hs ++ all_held s.calls)) (sym (append-nil given))
+          (free-given s.allocator x (given ++ all_held s.calls) lives (grind (arith, nat_tests)) h.once);
     })
 given-next s e given h fresh (flushes is none at) =
     onward s e given _ (record s { allocator = after_flush s.allocator; spent = finite.empty }) is (record {
       sound = after_flush-sound s.allocator h.sound;
-      once = subst (λ hs. spent.AreSpent (after_flush s.allocator) (hs ++ pending s.calls)) (sym (append-nil given)) (flush-given s.allocator (given ++ pending s.calls) h.once);
+      once = subst (λ hs. spent.AreSpent (after_flush s.allocator) (hs ++ all_held s.calls)) (sym (append-nil given)) (flush-given s.allocator (given ++ all_held s.calls) h.once);
     })
 given-next s e given h fresh (begins caller n costs is below none at) =
     let new : OpenCall = record { requested = n; reply = None } in
-    let kept = pending-inserted s.calls caller below new (ap held none) in
+    let kept = all_held-inserted s.calls caller below new (ap held none) in
     onward s e given (Ok outcome.Open) (record s { spent = costs; calls = finite.insert s.calls caller new }) is (record {
       sound = h.sound;
-      once = given-IsPermutation s.allocator (given ++ pending s.calls) ((given ++ []) ++ pending (finite.insert s.calls caller new))
-          (subst (λ hs. IsPermutation (given ++ pending s.calls) (hs ++ pending (finite.insert s.calls caller new))) (sym (append-nil given))
-          (IsPermutation-append_right given (pending s.calls) (pending (finite.insert s.calls caller new))
-          (subst (λ hs. IsPermutation hs (pending (finite.insert s.calls caller new))) (append-nil (pending s.calls)) kept)))
+      once = given-IsPermutation s.allocator (given ++ all_held s.calls) ((given ++ []) ++ all_held (finite.insert s.calls caller new))
+          (subst (λ hs. IsPermutation (given ++ all_held s.calls) (hs ++ all_held (finite.insert s.calls caller new))) (sym (append-nil given))
+          (IsPermutation-append_right given (all_held s.calls) (all_held (finite.insert s.calls caller new))
+          (subst (λ hs. IsPermutation hs (all_held (finite.insert s.calls caller new))) (append-nil (all_held s.calls)) kept)))
           h.once;
     })
 given-next s e given h fresh (steps caller call is below some waits makes at) =
     let n = call.requested in
     let new : OpenCall = record { requested = n; reply = Some (reply_to s.allocator n) } in
     let hs = handles_in (reply_to s.allocator n) in
-    let kept = pending-inserted s.calls caller below new (ap held some ∙ ap held_by waits) in
+    let kept = all_held-inserted s.calls caller below new (ap held some ∙ ap held_by waits) in
     onward s e given _ (record s { allocator = after_take s.allocator n; calls = finite.insert s.calls caller new }) is (record {
       sound = after_take-sound s.allocator n h.sound;
-      once = given-IsPermutation (after_take s.allocator n) ((given ++ pending s.calls) ++ hs) ((given ++ []) ++ pending (finite.insert s.calls caller new))
-          (subst (λ xs. IsPermutation ((given ++ pending s.calls) ++ hs) (xs ++ pending (finite.insert s.calls caller new))) (sym (append-nil given))
-          (subst (λ xs. IsPermutation xs (given ++ pending (finite.insert s.calls caller new))) (sym (append_assoc given (pending s.calls) hs))
-          (IsPermutation-append_right given (pending s.calls ++ hs) (pending (finite.insert s.calls caller new)) kept)))
-          (requested-given s.allocator n (given ++ pending s.calls) h.sound h.once);
+      once = given-IsPermutation (after_take s.allocator n) ((given ++ all_held s.calls) ++ hs) ((given ++ []) ++ all_held (finite.insert s.calls caller new))
+          (subst (λ xs. IsPermutation ((given ++ all_held s.calls) ++ hs) (xs ++ all_held (finite.insert s.calls caller new))) (sym (append-nil given))
+          (subst (λ xs. IsPermutation xs (given ++ all_held (finite.insert s.calls caller new))) (sym (append_assoc given (all_held s.calls) hs))
+          (IsPermutation-append_right given (all_held s.calls ++ hs) (all_held (finite.insert s.calls caller new)) kept)))
+          (requested-given s.allocator n (given ++ all_held s.calls) h.sound h.once);
     })
 given-next s e given h fresh (answers caller call reply is below some stepped at) =
-    let left = pending (finite.remove s.calls caller) in
+    let left = all_held (finite.remove s.calls caller) in
     let hs = handles_in reply in
     let holds : held (finite.get s.calls caller) ≡ hs = ap held some ∙ ap held_by stepped in
-    let kept : IsPermutation (left ++ hs) (pending s.calls) = subst (λ xs. IsPermutation (left ++ xs) (pending s.calls)) holds (pending-removed s.calls caller below) in
+    let kept : IsPermutation (left ++ hs) (all_held s.calls) = subst (λ xs. IsPermutation (left ++ xs) (all_held s.calls)) holds (all_held-removed s.calls caller below) in
     onward s e given (Ok (reported reply)) (record s { calls = finite.remove s.calls caller }) is (record {
       sound = h.sound;
       once = subst (λ xs. spent.AreSpent s.allocator ((given ++ xs) ++ left)) (sym (given_by-reported reply))
-          (given-IsPermutation s.allocator (given ++ pending s.calls) ((given ++ hs) ++ left)
-          (IsPermutation-trans (given ++ pending s.calls) (given ++ (left ++ hs)) ((given ++ hs) ++ left)
-          (IsPermutation-append_right given (pending s.calls) (left ++ hs) (IsPermutation-sym (left ++ hs) (pending s.calls) kept))
+          (given-IsPermutation s.allocator (given ++ all_held s.calls) ((given ++ hs) ++ left)
+          (IsPermutation-trans (given ++ all_held s.calls) (given ++ (left ++ hs)) ((given ++ hs) ++ left)
+          (IsPermutation-append_right given (all_held s.calls) (left ++ hs) (IsPermutation-sym (left ++ hs) (all_held s.calls) kept))
           (IsPermutation-trans (given ++ (left ++ hs)) ((given ++ left) ++ hs) ((given ++ hs) ++ left) (same_order (given ++ (left ++ hs)) ((given ++ left) ++ hs) (sym (append_assoc given left hs))) (swapped given left hs)))
           h.once);
     })
@@ -174,20 +174,20 @@ pub not_wrapped-reported : (reply : Reply) → has_wrapped (Ok (reported reply))
 not_wrapped-reported (Ok handles) = refl
 not_wrapped-reported (Err space) = refl
 
-pub pending-next : (s : Schedule) (e : Event) (r : Result Outcome ReplayFault) (t : Schedule) → on_event s e ≡ (r, t) → has_wrapped r ≡ false
-    → IsSound s.allocator → spent.AreSpent s.allocator (pending s.calls) → spent.AreSpent t.allocator (pending t.calls)
-pending-next s e r t is fresh sound once =
+pub all_held-next : (s : MachineState) (e : Event) (r : Result Outcome ReplayFault) (t : MachineState) → on_event s e ≡ (r, t) → has_wrapped r ≡ false
+    → IsSound s.allocator → spent.AreSpent s.allocator (all_held s.calls) → spent.AreSpent t.allocator (all_held t.calls)
+all_held-next s e r t is fresh sound once =
     let h = given-next s e [] (record { sound = sound; once = once }) (ap (λ p. has_wrapped p.0) is ∙ fresh) (move s e) in
-    subst (λ (p : Answered). spent.AreSpent p.1.allocator (pending p.1.calls)) is
-    (given-right (after_event s e).allocator (given_by (outcome_of s e)) (pending (after_event s e).calls) h.once)
+    subst (λ (p : Answered). spent.AreSpent p.1.allocator (all_held p.1.calls)) is
+    (given-right (after_event s e).allocator (given_by (outcome_of s e)) (all_held (after_event s e).calls) h.once)
 
 -- ---- whole runs
 
-given_run : (s : Schedule) (events : List Event) (given : List Handle) → IsGiven s given → NoneWrapped (outcomes_of s events) → AllPairs (λ g h. g ≢ h) (given ++ given_in (outcomes_of s events))
-given_run s [] given h fresh = subst (AllPairs (λ g h. g ≢ h)) (sym (append-nil given)) (AllPairs-left (λ g h. g ≢ h) given (pending s.calls) h.once.distinct)
+given_run : (s : MachineState) (events : List Event) (given : List Handle) → IsGiven s given → NoneWrapped (outcomes_of s events) → AllPairs (λ g h. g ≢ h) (given ++ given_in (outcomes_of s events))
+given_run s [] given h fresh = subst (AllPairs (λ g h. g ≢ h)) (sym (append-nil given)) (AllPairs-left (λ g h. g ≢ h) given (all_held s.calls) h.once.distinct)
 given_run s (e ∷ events) given h fresh =
     subst (AllPairs (λ g h. g ≢ h)) (append_assoc given (given_by (outcome_of s e)) (given_in (outcomes_of (after_event s e) events)))
     (given_run (after_event s e) events (given ++ given_by (outcome_of s e)) (given-next s e given h fresh.0 (move s e)) fresh.1)
 
-pub given_once : (s : Schedule) (events : List Event) → IsSound s.allocator → spent.AreSpent s.allocator (pending s.calls) → NoneWrapped (outcomes_of s events) → AreGivenOnce (outcomes_of s events)
+pub given_once : (s : MachineState) (events : List Event) → IsSound s.allocator → spent.AreSpent s.allocator (all_held s.calls) → NoneWrapped (outcomes_of s events) → AreGivenOnce (outcomes_of s events)
 given_once s events sound once fresh = given_run s events [] (record { sound = sound; once = once }) fresh

@@ -8,6 +8,6 @@ pub mod Totals
 pub mod Conditions
 pub mod Moves
 pub mod Giving
-pub mod Playing
+pub mod MachineEvents
 pub mod Schedules
 pub mod Linear

@@ -15,7 +15,7 @@ use Rattle.ent_replay.specs.declared.event.Event.{Event}
 use Rattle.ent_replay.specs.declared.event.Event.TheVariants as event
 use Rattle.ent_replay.specs.declared.outcome.Outcome.{Outcome}
 use Rattle.ent_replay.specs.declared.fault.ReplayFault.{ReplayFault}
-use Rattle.ent_replay.specs.Schedule.{Schedule, OpenCall, Reply, outcome_of, after_event, outcomes_of, reported}
+use Rattle.ent_replay.specs.Schedule.{MachineState, OpenCall, Reply, outcome_of, after_event, outcomes_of, reported}
 use Rattle.ent_replay.specs.Histories.{reserved, reservations, Phase, next_phase, last_of, TellsOf, Tells, StandInHistory, IsAtRest, new_phase}
 use Rattle.ent_replay.proofs.Maps.{get-inserted, get-insert_other, get-removed, get-remove_other}
 use Rattle.ent_replay.proofs.Conditions.{when, unless}
@@ -46,17 +46,17 @@ abbrev RequestedNone : ℕ → Reply → Type 0
 RequestedNone requested r = (requested ≡ 0) × (r ≡ Ok [])
 
 -- every open call that has made its step requested none
-abbrev NothingTold : Schedule → Type 0
+abbrev NothingTold : MachineState → Type 0
 NothingTold s = (q : ℕ) (call : OpenCall) (r : Reply) → finite.get s.calls q ≡ Some call → call.reply ≡ Some r → RequestedNone call.requested r
 
 -- the reply was given by the caller's last reservation, of this request, or is that to a request for none
 abbrev IsOfHistory : List Call → ℕ → ℕ → Reply → Type 0
 IsOfHistory calls q requested r = RequestedNone requested r ⊎ ((made : Call) × (last_of q calls ≡ Some made) × (made.requested ≡ requested) × (r ≡ made.reply))
 
-abbrev AreOfHistory : List Call → Schedule → Type 0
+abbrev AreOfHistory : List Call → MachineState → Type 0
 AreOfHistory calls s = (q : ℕ) (call : OpenCall) (r : Reply) → finite.get s.calls q ≡ Some call → call.reply ≡ Some r → IsOfHistory calls q call.requested r
 
-pub record IsFollowed (p : Phase) (s : Schedule) : Type 0 where
+pub record IsFollowed (p : Phase) (s : MachineState) : Type 0 where
   pub legal : IsLegal p.start p.calls
   pub reached : after_history p.start p.calls ≡ s.allocator
   pub rest : s.allocator.asked ≡ 0 → NothingTold s
@@ -93,7 +93,7 @@ none_some x is = cc
 zero_sum : (a b : ℕ) → a + b ≡ 0 → (a ≡ 0) × (b ≡ 0)
 zero_sum a b is = (omega arith, omega arith)
 
-module _ (p : Phase) (s : Schedule) (e : Event) (h : IsFollowed p s) where
+module _ (p : Phase) (s : MachineState) (e : Event) (h : IsFollowed p s) where
   -- the phase that goes on
   abbrev onward : Phase
   onward = record { start = p.start; calls = p.calls ++ reservations s e }
@@ -105,7 +105,7 @@ module _ (p : Phase) (s : Schedule) (e : Event) (h : IsFollowed p s) where
   at_rest : Move s e → (after_event s e).allocator.asked ≡ 0 → NothingTold (after_event s e)
   at_rest (stays r is gives fine tells none) zero_asked =
       let t = ap (λ x. x.1) is in
-      subst NothingTold (sym t) (h.rest (sym (ap (λ (x : Schedule). x.allocator.asked) t) ∙ zero_asked))
+      subst NothingTold (sym t) (h.rest (sym (ap (λ (x : MachineState). x.allocator.asked) t) ∙ zero_asked))
   at_rest (allocates x rest is none flushed pool at) zero_asked =
       subst NothingTold (sym (ap (λ x. x.1) is)) (λ q call r at _. absurd (no_calls s.calls none q call at))
   at_rest (frees x is none flushed lives at) zero_asked =
@@ -114,17 +114,17 @@ module _ (p : Phase) (s : Schedule) (e : Event) (h : IsFollowed p s) where
       subst NothingTold (sym (ap (λ x. x.1) is)) (λ q call r at _. absurd (no_calls s.calls none q call at))
   at_rest (begins caller n spent is below none at) zero_asked =
       let t = ap (λ x. x.1) is in
-      let still = h.rest (sym (ap (λ (x : Schedule). x.allocator.asked) t) ∙ zero_asked) in
+      let still = h.rest (sym (ap (λ (x : MachineState). x.allocator.asked) t) ∙ zero_asked) in
       subst NothingTold (sym t) (on_inserted (λ q. RequestedNone) s.calls caller (λ q call r _. still q call r) (record { requested = n; reply = None }) (λ r told. absurd (none_some r told)))
   at_rest (steps caller call is below some waits makes at) zero_asked =
       let t = ap (λ x. x.1) is in
-      let parts = zero_sum s.allocator.asked call.requested (sym (asked-after_take s.allocator call.requested) ∙ sym (ap (λ (x : Schedule). x.allocator.asked) t) ∙ zero_asked) in
+      let parts = zero_sum s.allocator.asked call.requested (sym (asked-after_take s.allocator call.requested) ∙ sym (ap (λ (x : MachineState). x.allocator.asked) t) ∙ zero_asked) in
       let still = h.rest parts.0 in
       subst NothingTold (sym t) (on_inserted (λ q. RequestedNone) s.calls caller (λ q call r _. still q call r) (record { requested = call.requested; reply = Some (reply_to s.allocator call.requested) })
       (λ r told. (parts.1, sym (same_Some (reply_to s.allocator call.requested) r told) ∙ ap (reply_to s.allocator) parts.1 ∙ reply-none s.allocator)))
   at_rest (answers caller call reply is below some stepped at) zero_asked =
       let t = ap (λ x. x.1) is in
-      let still = h.rest (sym (ap (λ (x : Schedule). x.allocator.asked) t) ∙ zero_asked) in
+      let still = h.rest (sym (ap (λ (x : MachineState). x.allocator.asked) t) ∙ zero_asked) in
       subst NothingTold (sym t) (on_removed (λ q. RequestedNone) s.calls caller (λ q call r _. still q call r))
 
   -- a step of some request, as the request is
@@ -206,7 +206,7 @@ caller_of : Event → ℕ
 caller_of (event.Answer caller) = caller
 caller_of other = 0
 
-told_by : (p : Phase) (s : Schedule) (caller : ℕ) → IsFollowed p s → (r : Result Outcome ReplayFault) → outcome_of s (event.Answer caller) ≡ r → Tells s p.calls (event.Answer caller) r
+told_by : (p : Phase) (s : MachineState) (caller : ℕ) → IsFollowed p s → (r : Result Outcome ReplayFault) → outcome_of s (event.Answer caller) ≡ r → Tells s p.calls (event.Answer caller) r
 told_by p s caller h (Err why) result = tt
 told_by p s caller h (Ok told) result = go (move s (event.Answer caller))
   where
@@ -227,7 +227,7 @@ told_by p s caller h (Ok told) result = go (move s (event.Answer caller))
         ] in
         (call, here, tells)
 
-tells : (p : Phase) (s : Schedule) (e : Event) → IsFollowed p s → Tells s p.calls e (outcome_of s e)
+tells : (p : Phase) (s : MachineState) (e : Event) → IsFollowed p s → Tells s p.calls e (outcome_of s e)
 tells p s event.Alloc h = tt
 tells p s (event.Free x) h = tt
 tells p s event.Flush h = tt
@@ -237,13 +237,13 @@ tells p s (event.Answer caller) h = told_by p s caller h (outcome_of s (event.An
 
 -- ---- whole runs
 
-follows : (p : Phase) (s : Schedule) (events : List Event) → IsFollowed p s → StandInHistory p s events (outcomes_of s events)
+follows : (p : Phase) (s : MachineState) (events : List Event) → IsFollowed p s → StandInHistory p s events (outcomes_of s events)
 follows p s [] h = tt
 follows p s (e ∷ events) h =
     let then = followed-next p s e h in
     (tells p s e h, then.legal, then.reached, follows (next_phase p s e) (after_event s e) events then)
 
-pub linear : (s : Schedule) (events : List Event) → IsAtRest s → StandInHistory (new_phase s) s events (outcomes_of s events)
+pub linear : (s : MachineState) (events : List Event) → IsAtRest s → StandInHistory (new_phase s) s events (outcomes_of s events)
 linear s events rest = follows (new_phase s) s events (record {
   legal = tt;
   reached = refl;

@@ -11,22 +11,22 @@ use Rattle.ent_replay.specs.declared.event.Event.TheVariants as event
 use Rattle.ent_replay.specs.declared.outcome.Outcome.{Outcome}
 use Rattle.ent_replay.specs.declared.outcome.Outcome.TheVariants as outcome
 use Rattle.ent_replay.specs.declared.fault.ReplayFault.{ReplayFault}
-use Rattle.ent_replay.specs.Schedule.{Schedule, OpenCall, Reply, after_event, callers, reported}
+use Rattle.ent_replay.specs.Schedule.{MachineState, OpenCall, Reply, after_event, callers, reported}
 
 -- ---- the history of steps
 
 -- a first step for some handles is a reservation; a request for none is none
-abbrev pub reserved : Schedule → ℕ → ℕ → Option Reply → List Call
+abbrev pub reserved : MachineState → ℕ → ℕ → Option Reply → List Call
 reserved s caller n (Some reply) = []
 reserved s caller zero None = []
 reserved s caller (suc n) None = record { caller = caller; requested = suc n; reply = reply_to s.allocator (suc n) } ∷ []
 
-abbrev pub reserved_by : Schedule → ℕ → Option OpenCall → List Call
+abbrev pub reserved_by : MachineState → ℕ → Option OpenCall → List Call
 reserved_by s caller None = []
 reserved_by s caller (Some call) = reserved s caller call.requested call.reply
 
 -- the reservation that the event makes, if it makes one
-abbrev pub reservations : Schedule → Event → List Call
+abbrev pub reservations : MachineState → Event → List Call
 reservations s (event.Step caller) = if nat_lt caller callers then reserved_by s caller (map.get s.calls caller) else []
 reservations s other = []
 
@@ -36,7 +36,7 @@ pub record Phase : Type 0 where
   pub calls : List Call
 
 -- the phase after an event: a new one begins wherever nothing is asked for
-abbrev pub next_phase : Phase → Schedule → Event → Phase
+abbrev pub next_phase : Phase → MachineState → Event → Phase
 next_phase p s e =
     if (after_event s e).allocator.asked == 0 then record { start = (after_event s e).allocator; calls = [] }
     else record { start = p.start; calls = p.calls ++ reservations s e }
@@ -53,13 +53,13 @@ TellsOf calls caller requested told =
     ((requested ≡ 0) × (told ≡ outcome.Handles [])) ⊎ ((call : Call) × (last_of caller calls ≡ Some call) × (call.requested ≡ requested) × (told ≡ reported call.reply))
 
 -- An answer tells of the request of the caller's open call.
-abbrev pub Tells : Schedule → List Call → Event → Result Outcome ReplayFault → Type 0
+abbrev pub Tells : MachineState → List Call → Event → Result Outcome ReplayFault → Type 0
 Tells s calls (event.Answer caller) (Ok told) = (call : OpenCall) × (map.get s.calls caller ≡ Some call) × TellsOf calls caller call.requested told
 Tells s calls e result = Unit {0}
 
 -- After each event the reservations of the phase, in the order of their steps, are a legal history that leads from its
 -- start to the allocator, and each answer tells a reply of that history: so it doesn't matter when a call is answered.
-abbrev pub StandInHistory : Phase → Schedule → List Event → List (Result Outcome ReplayFault) → Type 0
+abbrev pub StandInHistory : Phase → MachineState → List Event → List (Result Outcome ReplayFault) → Type 0
 StandInHistory p s [] results = Unit {0}
 StandInHistory p s (e ∷ events) [] = ⊥
 StandInHistory p s (e ∷ events) (result ∷ results) =
@@ -69,12 +69,12 @@ StandInHistory p s (e ∷ events) (result ∷ results) =
     × StandInHistory (next_phase p s e) (after_event s e) events results
 
 -- no call is open, and nothing is asked for
-pub record IsAtRest (s : Schedule) : Type 0 where
+pub record IsAtRest (s : MachineState) : Type 0 where
   pub closed : s.calls ≡ map.empty
   pub flushed : s.allocator.asked ≡ 0
 
 -- the phase that begins there
-abbrev pub new_phase : Schedule → Phase
+abbrev pub new_phase : MachineState → Phase
 new_phase s = record { start = s.allocator; calls = [] }
 
 -- ---- the handles that are given

@@ -2,6 +2,6 @@ pub mod OutcomeText
 pub mod ScheduleText
 pub mod Schedule
 pub mod Totals
-pub mod Pending
+pub mod Held
 pub mod Machine
 pub mod Histories

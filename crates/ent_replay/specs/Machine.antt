@@ -3,35 +3,36 @@ use Rattle.std.specs.Prelude.{◌≡◌, ℕ, ◌+◌, ◌^◌, ◌<◌, ◌≤�
 use Rattle.std.specs.Option.{unwrap_or, option_map}
 use Rattle.std.specs.Ordering.{nat_cmp}
 use Rattle.std.specs.FinMap as finite
+use Rattle.ent_alloc.specs.Limits.{credit}
 use Rattle.ent_alloc.specs.Sequential.{Allocator, top, pool_at, reply_from}
 use Rattle.ent_alloc.specs.Sound.{IsSound}
 use Rattle.ent_alloc.specs.Given as given
 use Rattle.ent_alloc.specs.declared.span.Span.{Span}
-use Rattle.ent_replay.specs.declared.call.Call.{Call}
+use Rattle.ent_replay.specs.declared.stored_call.StoredCall.{StoredCall}
 use Rattle.ent_replay.specs.declared.outcome.Outcome.{Outcome}
 use Rattle.ent_replay.specs.declared.fault.ReplayFault.{ReplayFault}
 use Rattle.ent_replay.specs.declared.fault.ReplayFault.TheVariants as fault
-use Rattle.ent_replay.specs.Schedule.{Schedule, OpenCall, Answered, takes_memory, callers, credit}
+use Rattle.ent_replay.specs.Schedule.{MachineState, OpenCall, Answered, takes_memory, callers}
 use Rattle.ent_replay.specs.Totals.{total}
-use Rattle.ent_replay.specs.Pending.{pending}
+use Rattle.ent_replay.specs.Held.{all_held}
 
 -- the same keys, with f of each value
 abbrev pub map_values : {X Y : Type 0} → (X → Y) → finite.FinMap nat_cmp X → finite.FinMap nat_cmp Y
 map_values f m = finite.from_entries (map (λ e. (e.0, f e.1)) (finite.entries m))
 
 -- The places that a call's step passed tell its reply, whatever was taken since.
-abbrev pub replied : Allocator → Call → OpenCall
-replied s call = record { requested = call.requested; reply = option_map (λ span. reply_from s.made (pool_at s span.high) call.requested) call.span }
+abbrev pub open_call_of : Allocator → StoredCall → OpenCall
+open_call_of s call = record { requested = call.requested; reply = option_map (λ span. reply_from s.made (pool_at s span.high) call.requested) call.span }
 
-abbrev pub schedule_of : Allocator → finite.FinMap nat_cmp ℕ → finite.FinMap nat_cmp Call → Schedule
-schedule_of s spent calls = record { allocator = s; spent = spent; calls = map_values (replied s) calls }
+abbrev pub machine_state : Allocator → finite.FinMap nat_cmp ℕ → finite.FinMap nat_cmp StoredCall → MachineState
+machine_state s spent calls = record { allocator = s; spent = spent; calls = map_values (open_call_of s) calls }
 
 -- what a call will ask for at its step
 abbrev pub unasked : ℕ → Option Span → ℕ
 unasked requested None = requested
 unasked requested (Some span) = 0
 
-abbrev pub awaited : Option Call → ℕ
+abbrev pub awaited : Option StoredCall → ℕ
 awaited None = 0
 awaited (Some call) = unasked call.requested call.span
 
@@ -43,15 +44,15 @@ pub record HasPassed (s : Allocator) (n : ℕ) (span : Span) : Type 0 where
 
 -- What was asked for, and what the open calls will ask for, is within what the callers have spent of their credit. What
 -- is kept for the open calls was given once.
-pub record IsPlayed (s : Allocator) (spent : finite.FinMap nat_cmp ℕ) (calls : finite.FinMap nat_cmp Call) : Type 0 where
+pub record AreConsistent (s : Allocator) (spent : finite.FinMap nat_cmp ℕ) (calls : finite.FinMap nat_cmp StoredCall) : Type 0 where
   pub sound : IsSound s
   pub credit : (q : ℕ) → unwrap_or (finite.get spent q) 0 ≤ credit
   pub asked : s.asked + total (λ q. awaited (finite.get calls q)) callers ≤ total (λ q. unwrap_or (finite.get spent q) 0) callers
-  pub requests : (q : ℕ) (call : Call) → finite.get calls q ≡ Some call → call.requested < 2 ^ 32
-  pub spans : (q : ℕ) (call : Call) (span : Span) → finite.get calls q ≡ Some call → call.span ≡ Some span → HasPassed s call.requested span
-  pub once : given.AreSpent s (pending (map_values (replied s) calls))
+  pub requests : (q : ℕ) (call : StoredCall) → finite.get calls q ≡ Some call → call.requested < 2 ^ 32
+  pub spans : (q : ℕ) (call : StoredCall) (span : Span) → finite.get calls q ≡ Some call → call.span ≡ Some span → HasPassed s call.requested span
+  pub once : given.AreSpent s (all_held (map_values (open_call_of s) calls))
 
 -- The machine did this step; or it was one that takes memory, memory ran out, and nothing has changed.
-abbrev pub Makes : Answered → Schedule → Result Outcome ReplayFault → Schedule → Type 0
+abbrev pub Makes : Answered → MachineState → Result Outcome ReplayFault → MachineState → Type 0
 Makes step before result after =
-    ((result ≡ step.0) × (after ≡ step.1)) ⊎ ((result ≡ Err fault.Memory) × (after ≡ before) × (takes_memory step.0 ≡ true))
+    ((result ≡ step.0) × (after ≡ step.1)) ⊎ ((result ≡ Err fault.Memory) × (after ≡ before) × (takes_memory before step.0 ≡ true))

@@ -1,5 +1,5 @@
 -- The line of each outcome and of each fault.
-use Rattle.std.specs.Prelude.{ℕ, Bool, List, [], ◌∷◌, ◌++◌, map, if◌then◌else◌, codes, Result, Ok, Err}
+use Rattle.std.specs.Prelude.{ℕ, Bool, true, false, List, [], ◌∷◌, ◌++◌, map, if◌then◌else◌, codes, Result, Ok, Err}
 use Rattle.std.specs.Fmt.{decimal, signed_decimal}
 use Rattle.std.specs.List.{flat_map, join_with_byte}
 use Rattle.ent_handle.specs.Handle.{Handle}
@@ -37,7 +37,7 @@ outcome_text (outcomes.Cursor cursor) = codes "cursor " ++ signed_decimal cursor
 outcome_text (outcomes.Handles handles) = handles_text handles
 outcome_text (outcomes.Space wanted left) = space_text wanted left
 
--- want of memory has no text: no line is written of it
+-- want of memory has no text, since no line is written of it
 abbrev pub fault_text : ReplayFault → List ℕ
 fault_text faults.Busy = codes "busy"
 fault_text faults.NotOpen = codes "not open"
@@ -52,3 +52,9 @@ fault_text faults.Memory = []
 abbrev pub line_of : Result Outcome ReplayFault → List ℕ
 line_of (Ok outcome) = outcome_text outcome ++ 10 ∷ []
 line_of (Err fault) = fault_text fault ++ 10 ∷ []
+
+-- the outcome lists handles, so its line may be long
+abbrev pub lists_handles : Outcome → Bool
+lists_handles (outcomes.Born handles) = true
+lists_handles (outcomes.Handles handles) = true
+lists_handles other = false

@@ -1,13 +1,15 @@
 -- Schedules: what each event answers, and what it does to the state. The reply to a call is fixed at its step.
-use Rattle.std.specs.Prelude.{ℕ, ◌+◌, ◌-◌, ◌^◌, Bool, true, false, not, nat_lt, ◌==◌, if◌then◌else◌, List, [], ◌∷◌, Option, Some, None, Result, Ok, Err, refl}
+use Rattle.std.specs.Prelude.{◌≡◌, ℕ, ◌+◌, ◌-◌, Bool, true, false, not, nat_lt, ◌==◌, if◌then◌else◌, ◌⊎◌, refl}
+use Rattle.std.specs.Prelude.{List, [], ◌∷◌, length, take, slice_get, Option, Some, None, IsSomeAnd, Result, Ok, Err}
 use Rattle.std.specs.Option.{unwrap_or}
 use Rattle.std.specs.Ordering.{nat_cmp}
 use Rattle.std.specs.Coded.{Coded, code_by, coded×, coded_ℕ, coded_list, coded_option, coded_result}
 use Rattle.std.specs.FinMap as map
 use Rattle.std.specs.FinSet as set
 use Rattle.ent_handle.specs.Handle.{Handle, handle_code}
-use Rattle.ent_alloc.specs.Limits.{Limits}
-use Rattle.ent_alloc.specs.Sequential.{Allocator, allocator_code, opening, cursor, after_take, reply_to, born, after_flush, after_alloc, after_free, next}
+use Rattle.ent_alloc.specs.Limits.{Limits, credit}
+use Rattle.ent_alloc.specs.Sequential.{Allocator, allocator_code, opening, cursor, is_fresh, next}
+use Rattle.ent_alloc.specs.Sequential.{after_take, reply_to, born, after_flush, after_alloc, after_free}
 use Rattle.ent_alloc.specs.declared.space.Space.{Space}
 use Rattle.ent_replay.specs.declared.event.Event.{Event}
 use Rattle.ent_replay.specs.declared.event.Event.TheVariants as event
@@ -27,52 +29,52 @@ pub record OpenCall : Type 0 where
 
 -- The allocator, what each caller has requested since the last flush, and the calls that are open. A caller that
 -- stands in neither map has requested nothing and has no call open.
-pub record Schedule : Type 0 where
+pub record MachineState : Type 0 where
   pub allocator : Allocator
   pub spent : map.FinMap nat_cmp ℕ
   pub calls : map.FinMap nat_cmp OpenCall
 
 -- nobody has asked for anything
-abbrev pub starting : Limits → Schedule
+abbrev pub starting : Limits → MachineState
 starting limits = record { allocator = opening limits; spent = map.empty; calls = map.empty }
 
 -- what an event answers, and the state after it
 abbrev pub Answered : Type 0
-Answered = Result Outcome ReplayFault × Schedule
+Answered = Result Outcome ReplayFault × MachineState
 
 -- a fault changes nothing
-abbrev pub refuse : Schedule → ReplayFault → Answered
+abbrev pub refuse : MachineState → ReplayFault → Answered
 refuse s why = (Err why, s)
 
 -- nor do some answers
-abbrev pub say : Schedule → Outcome → Answered
+abbrev pub say : MachineState → Outcome → Answered
 say s what = (Ok what, s)
 
--- An event with this outcome may take memory: it makes or frees a slot, brings handles to life, opens a call, or lists
--- what a call was given. One that answers a fault takes none, nor does any other.
-abbrev pub takes_memory : Result Outcome ReplayFault → Bool
-takes_memory (Ok (outcome.Handle h)) = true
-takes_memory (Ok (outcome.Freed h after wrapped)) = true
-takes_memory (Ok (outcome.Born handles)) = true
-takes_memory (Ok outcome.Open) = true
-takes_memory (Ok (outcome.Handles handles)) = true
-takes_memory other = false
+-- An event with this outcome may take memory: it makes a slot, frees one, brings handles to life, opens a call, or
+-- lists what a call was given. No other event takes any: no fault, no handle of an old slot, no empty list.
+abbrev pub takes_memory : MachineState → Result Outcome ReplayFault → Bool
+takes_memory s (Ok (outcome.Handle h)) = is_fresh s.allocator.made h
+takes_memory s (Ok (outcome.Freed h after wrapped)) = true
+takes_memory s (Ok (outcome.Born handles)) = nat_lt 0 (length handles)
+takes_memory s (Ok outcome.Open) = true
+takes_memory s (Ok (outcome.Handles handles)) = nat_lt 0 (length handles)
+takes_memory s other = false
 
 -- ---- events that need the allocator to themselves
 
 -- some call is open
-abbrev pub is_busy : Schedule → Bool
+abbrev pub is_busy : MachineState → Bool
 is_busy s = not (map.len s.calls == 0)
 
 -- handles were asked for since the last flush
-abbrev pub needs_flush : Schedule → Bool
+abbrev pub needs_flush : MachineState → Bool
 needs_flush s = nat_lt 0 s.allocator.asked
 
-abbrev pub alloc_front : Schedule → List Handle → Answered
+abbrev pub alloc_front : MachineState → List Handle → Answered
 alloc_front s [] = say s (outcome.Space 1 0)
 alloc_front s (h ∷ rest) = (Ok (outcome.Handle h), record s { allocator = after_alloc s.allocator h })
 
-abbrev pub on_alloc : Schedule → Answered
+abbrev pub on_alloc : MachineState → Answered
 on_alloc s =
     if is_busy s then refuse s fault.Busy else
     (if needs_flush s then say s outcome.NeedsFlush else alloc_front s s.allocator.pool)
@@ -81,7 +83,7 @@ on_alloc s =
 abbrev pub wraps : Limits → Handle → Bool
 wraps limits h = h.generation == limits.generations
 
-abbrev pub on_free : Schedule → Handle → Answered
+abbrev pub on_free : MachineState → Handle → Answered
 on_free s h =
     if is_busy s then refuse s fault.Busy else
     (if needs_flush s then say s outcome.NeedsFlush else
@@ -90,28 +92,26 @@ on_free s h =
     else say s outcome.NotAlive))
 
 -- it also renews the credit of every caller
-abbrev pub on_flush : Schedule → Answered
+abbrev pub on_flush : MachineState → Answered
 on_flush s =
     if is_busy s then refuse s fault.Busy else
     (Ok (outcome.Born (born s.allocator)), record s { allocator = after_flush s.allocator; spent = map.empty })
 
 -- ---- the three events of a call
 
--- there are so many callers, numbered from 0
+-- how many callers there are; they are numbered from 0
 abbrev pub callers : ℕ
 callers = 1024
 
--- how much a caller may request for between two flushes
-abbrev pub credit : ℕ
-credit = 2 ^ 40
-
-abbrev pub spent_by : Schedule → ℕ → ℕ
+-- how many handles a caller has requested since the last flush
+abbrev pub spent_by : MachineState → ℕ → ℕ
 spent_by s caller = unwrap_or (map.get s.spent caller) 0
 
-abbrev pub left_of : Schedule → ℕ → ℕ
+-- how many it may still request
+abbrev pub left_of : MachineState → ℕ → ℕ
 left_of s caller = credit - spent_by s caller
 
-abbrev pub begin_with : Schedule → ℕ → ℕ → Option OpenCall → Answered
+abbrev pub begin_with : MachineState → ℕ → ℕ → Option OpenCall → Answered
 begin_with s caller n (Some call) = refuse s fault.AlreadyOpen
 begin_with s caller n None =
     if nat_lt (left_of s caller) n then refuse s (fault.Quota (left_of s caller)) else (
@@ -122,11 +122,11 @@ begin_with s caller n None =
       },
     )
 
-abbrev pub on_begin : Schedule → ℕ → ℕ → Answered
+abbrev pub on_begin : MachineState → ℕ → ℕ → Answered
 on_begin s caller n = if nat_lt caller callers then begin_with s caller n (map.get s.calls caller) else refuse s fault.Caller
 
 -- the request takes from the pool, and the reply is fixed
-abbrev pub step_with : Schedule → ℕ → ℕ → Option Reply → Answered
+abbrev pub step_with : MachineState → ℕ → ℕ → Option Reply → Answered
 step_with s caller n (Some reply) = refuse s fault.AlreadyStepped
 step_with s caller n None = (
   Ok (outcome.Cursor (cursor (after_take s.allocator n))),
@@ -136,11 +136,11 @@ step_with s caller n None = (
   },
 )
 
-abbrev pub step_open : Schedule → ℕ → Option OpenCall → Answered
+abbrev pub step_open : MachineState → ℕ → Option OpenCall → Answered
 step_open s caller None = refuse s fault.NotOpen
 step_open s caller (Some call) = step_with s caller call.requested call.reply
 
-abbrev pub on_step : Schedule → ℕ → Answered
+abbrev pub on_step : MachineState → ℕ → Answered
 on_step s caller = if nat_lt caller callers then step_open s caller (map.get s.calls caller) else refuse s fault.Caller
 
 -- the reply as it is reported
@@ -148,20 +148,20 @@ abbrev pub reported : Reply → Outcome
 reported (Ok handles) = outcome.Handles handles
 reported (Err space) = outcome.Space space.wanted space.left
 
-abbrev pub answer_with : Schedule → ℕ → Option Reply → Answered
+abbrev pub answer_with : MachineState → ℕ → Option Reply → Answered
 answer_with s caller None = refuse s fault.NotStepped
 answer_with s caller (Some reply) = (Ok (reported reply), record s { calls = map.remove s.calls caller })
 
-abbrev pub answer_open : Schedule → ℕ → Option OpenCall → Answered
+abbrev pub answer_open : MachineState → ℕ → Option OpenCall → Answered
 answer_open s caller None = refuse s fault.NotOpen
 answer_open s caller (Some call) = answer_with s caller call.reply
 
-abbrev pub on_answer : Schedule → ℕ → Answered
+abbrev pub on_answer : MachineState → ℕ → Answered
 on_answer s caller = if nat_lt caller callers then answer_open s caller (map.get s.calls caller) else refuse s fault.Caller
 
 -- ---- whole schedules
 
-abbrev pub on_event : Schedule → Event → Answered
+abbrev pub on_event : MachineState → Event → Answered
 on_event s event.Alloc = on_alloc s
 on_event s (event.Free h) = on_free s h
 on_event s event.Flush = on_flush s
@@ -170,22 +170,28 @@ on_event s (event.Step caller) = on_step s caller
 on_event s (event.Answer caller) = on_answer s caller
 
 -- what the event answers
-abbrev pub outcome_of : Schedule → Event → Result Outcome ReplayFault
+abbrev pub outcome_of : MachineState → Event → Result Outcome ReplayFault
 outcome_of s e = (on_event s e).0
 
 -- the state after it
-abbrev pub after_event : Schedule → Event → Schedule
+abbrev pub after_event : MachineState → Event → MachineState
 after_event s e = (on_event s e).1
 
 -- what the events answer, one after the other
-abbrev pub outcomes_of : Schedule → List Event → List (Result Outcome ReplayFault)
+abbrev pub outcomes_of : MachineState → List Event → List (Result Outcome ReplayFault)
 outcomes_of s [] = []
 outcomes_of s (e ∷ events) = outcome_of s e ∷ outcomes_of (after_event s e) events
 
 -- the state after them all
-abbrev pub after_events : Schedule → List Event → Schedule
+abbrev pub after_events : MachineState → List Event → MachineState
 after_events s [] = s
 after_events s (e ∷ events) = after_events (after_event s e) events
+
+-- Memory ran out after that many events: the next one would have taken some, or nothing was done and there was no room
+-- to list the outcomes.
+abbrev pub RunsOutAt : MachineState → List Event → ℕ → Type 0
+RunsOutAt s events done = (done ≡ 0) ⊎ IsSomeAnd (slice_get events done) (λ e.
+    takes_memory (after_events s (take done events)) (outcome_of (after_events s (take done events)) e) ≡ true)
 
 -- an open call is stored as the pair of its fields
 abbrev pub open_call_code : Coded OpenCall
@@ -201,8 +207,8 @@ open_call_code =
     space_code = code_by (ℕ × ℕ) (coded× coded_ℕ coded_ℕ) (λ s. (s.wanted, s.left)) (λ p. record { wanted = p.0; left = p.1 }) (λ _. refl)
 
 -- a state as the tuple of its fields
-abbrev pub schedule_code : Coded Schedule
-schedule_code =
+abbrev pub machine_state_code : Coded MachineState
+machine_state_code =
     code_by
     (Allocator × (map.FinMap nat_cmp ℕ × map.FinMap nat_cmp OpenCall))
     (coded× allocator_code (coded× (map.code coded_ℕ coded_ℕ) (map.code coded_ℕ open_call_code)))

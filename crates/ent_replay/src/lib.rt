@@ -2,7 +2,6 @@
 #![tactic(auto)]
 
 mod by_caller;
-mod call;
 mod event;
 mod fault;
 mod handle_list;
@@ -10,6 +9,7 @@ mod machine;
 mod outcome;
 mod read_fault;
 mod reading;
+mod stored_call;
 mod writing;
 
 pub use event::Event;
@@ -20,6 +20,3 @@ pub use outcome::Outcome;
 pub use read_fault::{Cause, ReadFault};
 pub use reading::read_schedule;
 pub use writing::write_outcome;
-
-#[cfg(test)]
-mod tests;

@@ -1,65 +1,67 @@
-ghost use Rattle.std.specs.Prelude.{◌≡◌, ◌<◌, ◌↔◌, true, IsTrue, IfOk, OnOk, IfErr, Ok, length, take};
-ghost use Rattle.ent_replay.specs.Schedule.{starting, outcome_of, after_event, outcomes_of, after_events, takes_memory, on_alloc, on_free, on_flush, on_begin, on_step, on_answer, spent_by, credit};
+ghost use Rattle.std.specs.Prelude.{◌≡◌, ◌<◌, ◌↔◌, true, IsTrue, length, take};
+ghost use Rattle.std.specs.Prelude.{IfOk, OnOk, IfErr, OnErr, Ok};
+ghost use Rattle.ent_replay.specs.Schedule.{starting, outcome_of, after_event, outcomes_of, after_events};
+ghost use Rattle.ent_replay.specs.Schedule.{takes_memory, RunsOutAt};
+ghost use Rattle.ent_replay.specs.Schedule.{on_alloc, on_free, on_flush, on_begin, on_step, on_answer};
 ghost use Rattle.ent_replay.specs.Machine.{Makes};
-ghost use Rattle.ent_replay.specs.Histories.{IsAtRest, new_phase, StandInHistory, NoneWrapped, AreGivenOnce};
+ghost use Rattle.ent_replay.specs.Histories.{IsAtRest, new_phase, StandInHistory};
+ghost use Rattle.ent_replay.specs.Histories.{NoneWrapped, AreGivenOnce};
 
 use crate::by_caller::ByCaller;
-use crate::call::Call;
 use crate::event::Event;
 use crate::fault::ReplayFault;
 use crate::handle_list::HandleList;
 use crate::outcome::Outcome;
-use ent_alloc::{AllocFault, Entities, FreeFault, Limits, Reserved};
+use crate::stored_call::StoredCall;
+use ent_alloc::{AllocFault, CREDIT, Entities, FreeFault, Limits, Reserved};
 use ent_handle::{Handle, Memory};
 use std::alloc::Global;
 use std::marker::Model;
 
-/// There are so many callers, numbered from 0.
+/// How many callers there are. They are numbered from 0.
 const CALLERS: u32 = 1024;
 
-/// How much a caller may request for between two flushes.
-const CREDIT: u64 = 1 << 40;
-
-/// Applies the events of a schedule, one after the other.
+/// Applies the events of a schedule, one after the other, to an allocator of its own.
 ///
-/// Callers are numbered from 0 to 1,023, and each has at most one call open. Contracts see the
-/// allocator, what each caller has requested since the last flush, and the open calls with the
-/// replies that their steps fixed.
+/// Callers are numbered from 0 to 1,023, and each has at most one open call. Contracts see the
+/// allocator, how many handles each caller has requested since the last flush, and the open calls
+/// with the replies that their steps fixed. This project's own: Bevy has no such machine.
 #[derive(Drop)]
 pub struct Machine {
     alloc: Global,
     entities: Entities,
     spent: ByCaller<u64>,
-    calls: ByCaller<Call>,
+    calls: ByCaller<StoredCall>,
 }
 
 impl Model for Machine {
-    ghost use Rattle.ent_replay.specs.Schedule.{Schedule, schedule_code};
+    ghost use Rattle.ent_replay.specs.Schedule.{MachineState, machine_state_code};
 
-    ghost Value = { Schedule };
+    ghost Value = { MachineState };
 
-    ghost coded = { schedule_code };
+    ghost coded = { machine_state_code };
 
-    ghost use Rattle.ent_replay.specs.Machine.{schedule_of, IsPlayed};
+    ghost use Rattle.ent_replay.specs.Machine.{machine_state, AreConsistent};
 
-    ghost view = { λ m. schedule_of m.entities m.spent m.calls };
+    ghost view = { λ m. machine_state m.entities m.spent m.calls };
 
-    ghost invariant = { λ m. IsPlayed m.entities m.spent m.calls };
+    ghost invariant = { λ m. AreConsistent m.entities m.spent m.calls };
 }
 
 /// Memory ran out while a list of events was applied.
 #[derive(Clone, Copy, Debug, PartialEq, Eq)]
 pub struct RunMemory {
-    /// How many events were applied; the next one and those behind it were not.
+    /// How many events were applied. The event at this position and all later ones were not.
     pub done: usize,
 }
 
 impl Machine {
-    /// A machine over an allocator without entities, with no call open and all credit left.
+    /// Makes a machine over an allocator without entities. No call is open, and every caller has its full
+    /// credit of 2^40 handles.
     ///
     /// # Errors
     ///
-    /// None today: it takes no memory.
+    /// None: it takes no memory.
     pub fn new(alloc: Global, limits: Limits) -> Result<Self, Memory>
         ensures { result ≡ Ok (starting limits) }
     {
@@ -73,20 +75,26 @@ impl Machine {
         })
     }
 
-    /// Applies one event.
+    /// Applies one event, and says what it gave.
     ///
     /// # Errors
     ///
-    /// Nothing changes. `Alloc`, `Free` and `Flush` answer `Busy` while a call is open. The events of
-    /// a call answer `Caller` for a caller above 1,023; then `Begin` answers `AlreadyOpen` or `Quota`,
-    /// `Step` answers `NotOpen` or `AlreadyStepped`, and `Answer` answers `NotOpen` or `NotStepped`.
-    /// `Memory` comes last, and only where the event would have been applied: where it takes a handle,
-    /// frees one, flushes, opens a call or lists the handles of a reply.
+    /// A fault changes nothing.
+    ///
+    /// - `Busy`: `Alloc`, `Free` or `Flush` while a call is open.
+    /// - `Caller`: `Begin`, `Step` or `Answer` of a caller above 1,023. It is tested before the faults below.
+    /// - `AlreadyOpen`, and then `Quota` if the request is above the caller's credit: `Begin`.
+    /// - `NotOpen`, and then `AlreadyStepped`: `Step`.
+    /// - `NotOpen`, and then `NotStepped`: `Answer`.
+    /// - `Memory`: tested last, and only if the event makes a slot, frees a handle, brings handles to life,
+    ///   opens a call or lists the handles of a reply. A reply and a flush ask for their whole list before
+    ///   they list a handle.
     pub fn step(&mut self, event: Event) -> Result<Outcome, ReplayFault>
         ensures outcome { ¬ (result ≡ Err ReplayFault.Memory) → result ≡ outcome_of self.old event }
         ensures state { ¬ (result ≡ Err ReplayFault.Memory) → self.new ≡ after_event self.old event }
         ensures memory { result ≡ Err ReplayFault.Memory → self.new ≡ self.old }
-        ensures grows { result ≡ Err ReplayFault.Memory → takes_memory (outcome_of self.old event) ≡ true }
+        ensures grows { result ≡ Err ReplayFault.Memory
+            → takes_memory self.old (outcome_of self.old event) ≡ true }
     {
         match event {
             Event::Alloc => self.alloc(),
@@ -98,18 +106,29 @@ impl Machine {
         }
     }
 
-    /// Applies all events in order. The answers, faults among them, stand in the list.
+    /// Applies all events in order, and lists what each of them gave. A fault is listed like an outcome,
+    /// and the events after it are applied as usual.
+    ///
+    /// From a machine at rest, the reservations of the run are a legal history in the order of their steps.
+    /// If no free of the run wrapped, no handle is given twice in it.
     ///
     /// # Errors
     ///
-    /// Where memory runs out, the first `done` events stand, and no later one was applied.
+    /// `RunMemory` if memory ran out. The first `done` events stand, and no later one was applied. Either the
+    /// event at `done` would have taken memory, or `done` is 0 and there was no room to list the outcomes.
     pub fn run(&mut self, events: &[Event]) -> Result<Vec<Result<Outcome, ReplayFault>>, RunMemory>
-        ensures outcomes { IfOk result (λ outcomes. outcomes.items ≡ outcomes_of self.old events.now) }
+        ensures outcomes { IfOk result (λ outcomes.
+            outcomes.items ≡ outcomes_of self.old events.now) }
         ensures state { OnOk result (self.new ≡ after_events self.old events.now) }
-        ensures history { IfOk result (λ outcomes. IsAtRest self.old → StandInHistory (new_phase self.old) self.old events.now outcomes.items) }
-        ensures given_once { IfOk result (λ outcomes. NoneWrapped outcomes.items → AreGivenOnce outcomes.items) }
+        ensures history { IfOk result (λ outcomes. IsAtRest self.old
+            → StandInHistory (new_phase self.old) self.old events.now outcomes.items) }
+        ensures given_once { IfOk result (λ outcomes.
+            NoneWrapped outcomes.items → AreGivenOnce outcomes.items) }
+
         ensures cut { IfErr result (λ memory. memory.done < length events.now) }
-        ensures cut_state { IfErr result (λ memory. self.new ≡ after_events self.old (take memory.done events.now)) }
+        ensures cut_state { IfErr result (λ memory.
+            self.new ≡ after_events self.old (take memory.done events.now)) }
+        ensures grows { IfErr result (λ memory. RunsOutAt self.old events.now memory.done) }
     {
         let Ok(mut outcomes) = Vec::with_capacity(self.alloc, events.len()) else {
             return Err(RunMemory { done: 0 });
@@ -184,7 +203,7 @@ impl Machine {
         if left < u64::from(n) {
             return Err(ReplayFault::Quota { left });
         }
-        let call = Call {
+        let call = StoredCall {
             requested: n,
             span: None,
         };
@@ -211,7 +230,7 @@ impl Machine {
             return Err(ReplayFault::AlreadyStepped);
         }
         let span = self.entities.lower(call.requested);
-        let stepped = Call {
+        let stepped = StoredCall {
             requested: call.requested,
             span: Some(span),
         };
@@ -256,12 +275,14 @@ fn is_out_of_memory(outcome: &Result<Outcome, ReplayFault>) -> bool
     }
 }
 
-/// The handles of a reply as a list of its own.
+/// Lists the handles of a reply. A list that doesn't fit is refused before a handle is listed.
 fn listed(alloc: Global, reserved: Reserved<'_>) -> Result<HandleList, Memory>
-    ensures { IfOk result (λ handles. handles ≡ reserved.entry) }
+    ensures ok { IfOk result (λ handles. handles ≡ reserved.entry) }
+    ensures memory { OnErr result (0 < length reserved.entry) }
 {
-    Ok(HandleList::new(reserved.collect(alloc)?))
+    let mut handles = Vec::with_capacity(alloc, reserved.len())?;
+    for handle in reserved {
+        handles.push_reserved(handle);
+    }
+    Ok(HandleList::new(handles))
 }
-
-#[cfg(test)]
-mod tests;

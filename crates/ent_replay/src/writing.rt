@@ -1,5 +1,8 @@
-ghost use Rattle.std.specs.Prelude.{◌≡◌, ◌≢◌, ◌+◌, ◌<◌, ◌≤◌, ◌++◌, Err, length, take, vec_len, vec_capacity, OnOk, OnErr};
-ghost use Rattle.ent_replay.specs.OutcomeText.{spaced, handles_text, born_text, freed_text, space_text, outcome_text, fault_text, line_of};
+ghost use Rattle.std.specs.Prelude.{◌≡◌, ◌≢◌, ◌+◌, ◌-◌, ◌^◌, ◌<◌, ◌≤◌, ◌++◌, true, length, take, min};
+ghost use Rattle.std.specs.Prelude.{Err, OnOk, OnErr, vec_len, vec_capacity};
+ghost use Rattle.ent_handle.specs.Text.{handle_text};
+ghost use Rattle.ent_replay.specs.OutcomeText.{spaced, handles_text, born_text, freed_text, space_text};
+ghost use Rattle.ent_replay.specs.OutcomeText.{outcome_text, fault_text, lists_handles, line_of};
 
 use crate::fault::ReplayFault;
 use crate::handle_list::HandleList;
@@ -23,6 +26,41 @@ fn append_number<N: Integer>(out: &mut Vec<u8>, number: N) -> Result<(), Memory>
     ensures capacity { vec_capacity out.old ≤ vec_capacity out.new }
 {
     append(out, Buffer::new().format(number).as_bytes())
+}
+
+/// The length of a handle's text.
+fn text_len(handle: Handle) -> usize
+    ensures value { result ≡ length (handle_text handle) }
+    ensures short { result ≤ 81 }
+{
+    let mut buffer = Buffer::new();
+    let index = buffer.format(handle.index()).len();
+    index + 1 + buffer.format(handle.generation()).len()
+}
+
+/// The length of the handles' texts with a space before each, or the greatest `usize` if that is less.
+fn spaced_len(handles: &[Handle]) -> usize
+    ensures { result ≡ min (length (spaced handles.now)) (2 ^ 64 - 1) }
+{
+    let mut len: usize = 0;
+    for handle in handles {
+        len = len.saturating_add(1 + text_len(*handle));
+    }
+    len
+}
+
+/// The length of the line of an outcome that lists handles, or the greatest `usize` if that is less; 0 for any
+/// other outcome.
+fn list_len(outcome: &Outcome) -> usize
+    ensures within { result ≤ length (outcome_text outcome.now) + 1 }
+    ensures exact { lists_handles outcome.now ≡ true
+        → result ≡ min (length (outcome_text outcome.now) + 1) (2 ^ 64 - 1) }
+{
+    match outcome {
+        Outcome::Born(handles) => spaced_len(handles.as_slice()).saturating_add(5),
+        Outcome::Handles(handles) => spaced_len(handles.as_slice()).max(1),
+        _ => 0,
+    }
 }
 
 /// Appends a space before each handle.
@@ -146,7 +184,10 @@ fn write_line(outcome: &Result<Outcome, ReplayFault>, out: &mut Vec<u8>) -> Resu
     ensures capacity { vec_capacity out.old ≤ vec_capacity out.new }
 {
     match outcome {
-        Ok(outcome) => write_text(outcome, out)?,
+        Ok(outcome) => {
+            out.reserve(list_len(outcome))?;
+            write_text(outcome, out)?;
+        }
         Err(fault) => write_fault(*fault, out)?,
     }
     append(out, b"\n")
@@ -154,14 +195,16 @@ fn write_line(outcome: &Result<Outcome, ReplayFault>, out: &mut Vec<u8>) -> Resu
 
 /// Appends the line of an event: what it gave, or why it was not applied.
 ///
+/// A line that lists handles may be long. It asks for all of its room before it writes a byte.
+///
 /// # Errors
 ///
-/// `Memory` where there is no room for all of the line, and then `out` keeps its items.
+/// `Memory` if there is no room for all of the line. `out` keeps its items then.
 pub fn write_outcome(
     outcome: &Result<Outcome, ReplayFault>,
     out: &mut Vec<u8>,
 ) -> Result<(), Memory>
-    // Of an event that met want of memory no line is written.
+    // An event that ran out of memory has no line.
     requires { outcome.now ≢ Err ReplayFault.Memory }
     ensures ok { OnOk result (out.new.items ≡ out.old.items ++ line_of outcome.now) }
     ensures err { OnErr result (out.new.items ≡ out.old.items) }

@@ -4,11 +4,11 @@ use Rattle.ent_alloc.specs.declared.fault.AllocFault.{AllocFault}
 use Rattle.ent_alloc.specs.declared.fault.AllocFault.TheVariants as why
 use Rattle.ent_handle.specs.Handle.{Handle}
 use Rattle.ent_replay.specs.Schedule.{on_alloc}
-use Rattle.ent_replay.specs.Machine.{schedule_of, IsPlayed}
+use Rattle.ent_replay.specs.Machine.{machine_state, AreConsistent}
 use Rattle.ent_replay.specs.declared.outcome.Outcome.TheVariants as outcome
 use Rattle.ent_replay.specs.declared.fault.ReplayFault.TheVariants as fault
 use Rattle.ent_replay.proofs.Maps.{no_test}
-use Rattle.ent_replay.proofs.Playing.{done, refused, flushed, ok_not_err, busy-alloc, alloc-needs_flush, alloc-space, alloc-given, alloc-takes_memory, alloc-played}
+use Rattle.ent_replay.proofs.MachineEvents.{done, refused, flushed, ok_not_err, busy-alloc, alloc-needs_flush, alloc-space, alloc-given, alloc-takes_memory, alloc-consistent}
 use Rattle.ent_replay.proofs.machine.Machine.alloc.Goals as goal
 use Rattle.ent_replay.proofs.machine.Machine.alloc.Goals.{in-Ok, in-Err-NeedsFlush, in-Err-Space, in-Err-Memory}
 
@@ -25,7 +25,7 @@ not_space x memory space = cc
 pub returns-then-not-is_empty : goal.returns-then-not-is_empty
 returns-then-not-is_empty c =
     let e = c.self.inside in
-    let before = schedule_of e.entities e.spent e.calls in
+    let before = machine_state e.entities e.spent e.calls in
     done on_alloc before c.args.self.now c.self.view_is (Err fault.Busy) (Err fault.Busy) refl c.args.self.now before (sym c.self.view_is)
     (busy-alloc e.entities e.spent e.calls (λ none. no_test (c.if-not-is_empty.ensures.1 none)))
 
@@ -36,39 +36,40 @@ invariant_of-self c =
     elim c.match-alloc.branch [
       | in-Ok w ↦
           let h = w.in-Ok.handle in
-          subst (λ s. IsPlayed s e.spent e.calls) (sym w.in-Ok.ensures.ok)
-          (alloc-played e.entities e.spent e.calls none h c.self.invariant (λ some. ok_not_err h why.NeedsFlush (w.in-Ok.ensures.needs_flush.1 some)) w.in-Ok.ensures.front)
-      | in-Err-NeedsFlush w ↦ subst (λ s. IsPlayed s e.spent e.calls) (sym w.in-Err-NeedsFlush.ensures.err) c.self.invariant
-      | in-Err-Space w ↦ subst (λ s. IsPlayed s e.spent e.calls) (sym w.in-Err-Space.ensures.err) c.self.invariant
-      | in-Err-Memory w ↦ subst (λ s. IsPlayed s e.spent e.calls) (sym w.in-Err-Memory.ensures.err) c.self.invariant
+          subst (λ s. AreConsistent s e.spent e.calls) (sym w.in-Ok.ensures.ok)
+          (alloc-consistent e.entities e.spent e.calls none h c.self.invariant (λ some. ok_not_err h why.NeedsFlush (w.in-Ok.ensures.needs_flush.1 some)) w.in-Ok.ensures.front)
+      | in-Err-NeedsFlush w ↦ subst (λ s. AreConsistent s e.spent e.calls) (sym w.in-Err-NeedsFlush.ensures.err) c.self.invariant
+      | in-Err-Space w ↦ subst (λ s. AreConsistent s e.spent e.calls) (sym w.in-Err-Space.ensures.err) c.self.invariant
+      | in-Err-Memory w ↦ subst (λ s. AreConsistent s e.spent e.calls) (sym w.in-Err-Memory.ensures.err) c.self.invariant
     ]
 
 pub returns : goal.returns
 returns c =
     let e = c.self.inside in
     let none = c.if-not-is_empty.ensures.0 refl in
-    let before = schedule_of e.entities e.spent e.calls in
-    let after = schedule_of c.alloc.new.self e.spent e.calls in
+    let before = machine_state e.entities e.spent e.calls in
+    let after = machine_state c.alloc.new.self e.spent e.calls in
     elim c.match-alloc.branch [
       | in-Ok w ↦
           let h = w.in-Ok.handle in
-          done on_alloc before c.args.self.now c.self.view_is c.match-alloc.result (Ok (outcome.Handle h)) w.result-is after (schedule_of (after_alloc e.entities h) e.spent e.calls)
-          (ap (λ (s : Allocator). schedule_of s e.spent e.calls) w.in-Ok.ensures.ok)
+          done on_alloc before c.args.self.now c.self.view_is c.match-alloc.result (Ok (outcome.Handle h)) w.result-is after (machine_state (after_alloc e.entities h) e.spent e.calls)
+          (ap (λ (s : Allocator). machine_state s e.spent e.calls) w.in-Ok.ensures.ok)
           (alloc-given e.entities e.spent e.calls none h (λ some. ok_not_err h why.NeedsFlush (w.in-Ok.ensures.needs_flush.1 some)) w.in-Ok.ensures.front)
       | in-Err-NeedsFlush w ↦
           let why = w.in-Err-NeedsFlush in
           done on_alloc before c.args.self.now c.self.view_is c.match-alloc.result (Ok outcome.NeedsFlush) w.result-is after before
-          (ap (λ (s : Allocator). schedule_of s e.spent e.calls) why.ensures.err)
+          (ap (λ (s : Allocator). machine_state s e.spent e.calls) why.ensures.err)
           (alloc-needs_flush e.entities e.spent e.calls none (why.ensures.needs_flush.0 (ap Err why.field-0-is)))
       | in-Err-Space w ↦
           let why = w.in-Err-Space in
           let both = why.ensures.space.0 (ap Err why.field-0-is) in
           done on_alloc before c.args.self.now c.self.view_is c.match-alloc.result (Ok (outcome.Space 1 0)) w.result-is after before
-          (ap (λ (s : Allocator). schedule_of s e.spent e.calls) why.ensures.err)
+          (ap (λ (s : Allocator). machine_state s e.spent e.calls) why.ensures.err)
           (alloc-space e.entities e.spent e.calls none both.0 both.1)
       | in-Err-Memory w ↦
           let why = w.in-Err-Memory in
-          refused on_alloc before c.args.self.now c.self.view_is c.match-alloc.result w.result-is after (ap (λ (s : Allocator). schedule_of s e.spent e.calls) why.ensures.err)
-          (alloc-takes_memory e.entities e.spent e.calls none (λ some. not_needs_flush why.field-0 why.field-0-is (why.ensures.needs_flush.1 some))
-          (λ empty. not_space why.field-0 why.field-0-is (why.ensures.space.1 (flushed (λ some. not_needs_flush why.field-0 why.field-0-is (why.ensures.needs_flush.1 some)), empty))))
+          refused on_alloc before c.args.self.now c.self.view_is c.match-alloc.result w.result-is after (ap (λ (s : Allocator). machine_state s e.spent e.calls) why.ensures.err)
+          (alloc-takes_memory e.entities e.spent e.calls none c.self.invariant.sound (λ some. not_needs_flush why.field-0 why.field-0-is (why.ensures.needs_flush.1 some))
+          (λ empty. not_space why.field-0 why.field-0-is (why.ensures.space.1 (flushed (λ some. not_needs_flush why.field-0 why.field-0-is (why.ensures.needs_flush.1 some)), empty)))
+          (why.ensures.memory (ap Err why.field-0-is)))
     ]

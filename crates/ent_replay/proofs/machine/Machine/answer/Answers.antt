@@ -3,26 +3,26 @@ use Rattle.std.specs.FinMap as finite
 use Rattle.std.proofs.lemmas.Int.{ints}
 use Rattle.ent_alloc.specs.Sequential.{reply_from, pool_at}
 use Rattle.ent_replay.specs.Schedule.{Reply, on_answer, takes_memory, reported}
-use Rattle.ent_replay.specs.Machine.{schedule_of, IsPlayed}
+use Rattle.ent_replay.specs.Machine.{machine_state, AreConsistent}
 use Rattle.ent_replay.specs.declared.machine.Machine.TheInside.{Inside}
 use Rattle.ent_replay.specs.declared.outcome.Outcome.{Outcome}
 use Rattle.ent_replay.specs.declared.outcome.Outcome.TheVariants as outcome
 use Rattle.ent_replay.specs.declared.fault.ReplayFault.TheVariants as fault
-use Rattle.ent_replay.proofs.Playing.{done, refused, answer-not_open, answer-not_stepped, answer-answered, answer-played}
+use Rattle.ent_replay.proofs.MachineEvents.{done, refused, answer-not_open, answer-not_stepped, answer-answered, answer-consistent, listed-takes_memory}
 use Rattle.ent_replay.proofs.machine.Machine.answer.Goals as goal
 use Rattle.ent_replay.proofs.machine.Machine.answer.Goals.{in-Ok+in-Ok-listed, in-Err}
 
 pub returns-in_default : goal.returns-in_default
 returns-in_default c =
     let e = c.self.inside in
-    let before = schedule_of e.entities e.spent e.calls in
+    let before = machine_state e.entities e.spent e.calls in
     done (λ v. on_answer v c.args.caller) before c.args.self.now c.self.view_is (Err fault.NotOpen) (Err fault.NotOpen) refl c.args.self.now before (sym c.self.view_is)
     (answer-not_open e.entities e.spent e.calls c.args.caller (omega arith) (sym c.get.ensures ∙ c.in_default.is))
 
 pub returns-in_default-span : goal.returns-in_default-span
 returns-in_default-span c =
     let e = c.self.inside in
-    let before = schedule_of e.entities e.spent e.calls in
+    let before = machine_state e.entities e.spent e.calls in
     done (λ v. on_answer v c.args.caller) before c.args.self.now c.self.view_is (Err fault.NotStepped) (Err fault.NotStepped) refl c.args.self.now before (sym c.self.view_is)
     (answer-not_stepped e.entities e.spent e.calls c.args.caller (omega arith) c.in-Some.call (sym c.get.ensures ∙ c.in-Some.is) c.in_default-span.is)
 
@@ -36,41 +36,42 @@ reply-requires c =
 pub returns-in-Err-listed : goal.returns-in-Err-listed
 returns-in-Err-listed c =
     let e = c.self.inside in
-    let before = schedule_of e.entities e.spent e.calls in
+    let before = machine_state e.entities e.spent e.calls in
     let call = c.in-Some.call in
     let span = c.in-Some-span.span in
     let passed = c.self.invariant.spans c.args.caller call span (sym c.get.ensures ∙ c.in-Some.is) c.in-Some-span.is in
-    let replied = c.reply.ensures call.requested passed.low in
+    let says = c.reply.ensures call.requested passed.low in
     refused (λ v. on_answer v c.args.caller) before c.args.self.now c.self.view_is (Err fault.Memory) refl c.args.self.now (sym c.self.view_is)
-    (ap (λ p. takes_memory p.0) (answer-answered e.entities e.spent e.calls c.args.caller (omega arith) call (sym c.get.ensures ∙ c.in-Some.is) span c.in-Some-span.is)
-    ∙ ap (λ (r : Reply). takes_memory (Ok (reported r))) (sym replied ∙ c.in-Ok.is))
+    (ap (λ p. takes_memory before p.0) (answer-answered e.entities e.spent e.calls c.args.caller (omega arith) call (sym c.get.ensures ∙ c.in-Some.is) span c.in-Some-span.is)
+    ∙ ap (λ (r : Reply). takes_memory before (Ok (reported r))) (sym says ∙ c.in-Ok.is)
+    ∙ listed-takes_memory before _ c.in-Err-listed.ensures.memory)
 
 pub invariant_of-self : goal.invariant_of-self
 invariant_of-self c =
     let e = c.self.inside in
     let unchanged : c.match-reply.self-inside ≡ e = elim c.match-reply.branch [ in-Ok+in-Ok-listed w ↦ w.self-inside-is | in-Err w ↦ w.self-inside-is ] in
     let calls = c.remove.ensures ∙ ap (λ (x : Inside). finite.remove x.calls c.args.caller) unchanged in
-    subst (λ m. IsPlayed c.match-reply.self-inside.entities c.match-reply.self-inside.spent m) (sym calls)
-    (subst (λ (x : Inside). IsPlayed x.entities x.spent (finite.remove e.calls c.args.caller)) (sym unchanged)
-    (answer-played e.entities e.spent e.calls c.args.caller (omega arith) c.in-Some.call (sym c.get.ensures ∙ c.in-Some.is) c.self.invariant c.in-Some-span.span c.in-Some-span.is))
+    subst (λ m. AreConsistent c.match-reply.self-inside.entities c.match-reply.self-inside.spent m) (sym calls)
+    (subst (λ (x : Inside). AreConsistent x.entities x.spent (finite.remove e.calls c.args.caller)) (sym unchanged)
+    (answer-consistent e.entities e.spent e.calls c.args.caller (omega arith) c.in-Some.call (sym c.get.ensures ∙ c.in-Some.is) c.self.invariant c.in-Some-span.span c.in-Some-span.is))
 
 pub returns : goal.returns
 returns c =
     let e = c.self.inside in
-    let before = schedule_of e.entities e.spent e.calls in
+    let before = machine_state e.entities e.spent e.calls in
     let call = c.in-Some.call in
     let span = c.in-Some-span.span in
     let passed = c.self.invariant.spans c.args.caller call span (sym c.get.ensures ∙ c.in-Some.is) c.in-Some-span.is in
-    let replied = c.reply.ensures call.requested passed.low in
+    let says = c.reply.ensures call.requested passed.low in
     let unchanged : c.match-reply.self-inside ≡ e = elim c.match-reply.branch [ in-Ok+in-Ok-listed w ↦ w.self-inside-is | in-Err w ↦ w.self-inside-is ] in
     let calls = c.remove.ensures ∙ ap (λ (x : Inside). finite.remove x.calls c.args.caller) unchanged in
     let told : c.match-reply.outcome ≡ reported (reply_from e.entities.made (pool_at e.entities span.high) call.requested) = elim c.match-reply.branch [
-      | in-Ok+in-Ok-listed w ↦ w.outcome-is ∙ ap outcome.Handles w.in-Ok-listed.ensures ∙ ap reported (sym w.in-Ok.is ∙ replied)
-      | in-Err w ↦ w.outcome-is ∙ ap reported (sym w.in-Err.is ∙ replied)
+      | in-Ok+in-Ok-listed w ↦ w.outcome-is ∙ ap outcome.Handles w.in-Ok-listed.ensures.ok ∙ ap reported (sym w.in-Ok.is ∙ says)
+      | in-Err w ↦ w.outcome-is ∙ ap reported (sym w.in-Err.is ∙ says)
     ] in
     done (λ v. on_answer v c.args.caller) before c.args.self.now c.self.view_is (Ok c.match-reply.outcome) (Ok (reported (reply_from e.entities.made (pool_at e.entities span.high) call.requested)))
     (ap (λ (o : Outcome). Ok o) told)
-    (schedule_of c.match-reply.self-inside.entities c.match-reply.self-inside.spent c.remove.new.self)
-    (schedule_of e.entities e.spent (finite.remove e.calls c.args.caller))
-    (λ i. schedule_of (unchanged i).entities (unchanged i).spent (calls i))
+    (machine_state c.match-reply.self-inside.entities c.match-reply.self-inside.spent c.remove.new.self)
+    (machine_state e.entities e.spent (finite.remove e.calls c.args.caller))
+    (λ i. machine_state (unchanged i).entities (unchanged i).spent (calls i))
     (answer-answered e.entities e.spent e.calls c.args.caller (omega arith) call (sym c.get.ensures ∙ c.in-Some.is) span c.in-Some-span.is)

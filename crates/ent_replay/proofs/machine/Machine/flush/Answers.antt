@@ -2,18 +2,18 @@ use Rattle.std.proofs.Common.{◌≡◌, refl, sym, ap, subst, ◌∙◌, Ok, Er
 use Rattle.std.specs.FinMap as finite
 use Rattle.ent_handle.specs.Handle.{Handle}
 use Rattle.ent_alloc.specs.Sequential.{after_flush, born}
-use Rattle.ent_replay.specs.Schedule.{on_flush, takes_memory}
-use Rattle.ent_replay.specs.Machine.{schedule_of, IsPlayed}
+use Rattle.ent_replay.specs.Schedule.{on_flush}
+use Rattle.ent_replay.specs.Machine.{machine_state, AreConsistent}
 use Rattle.ent_replay.specs.declared.outcome.Outcome.TheVariants as outcome
 use Rattle.ent_replay.specs.declared.fault.ReplayFault.TheVariants as fault
 use Rattle.ent_replay.proofs.Maps.{no_test}
-use Rattle.ent_replay.proofs.Playing.{done, refused, on_ok, on_err, busy-flush, flush-flushed, flush-played}
+use Rattle.ent_replay.proofs.MachineEvents.{done, refused, on_ok, on_err, busy-flush, flush-flushed, flush-takes_memory, flush-consistent}
 use Rattle.ent_replay.proofs.machine.Machine.flush.Goals as goal
 
 pub returns-then-not-is_empty : goal.returns-then-not-is_empty
 returns-then-not-is_empty c =
     let e = c.self.inside in
-    let before = schedule_of e.entities e.spent e.calls in
+    let before = machine_state e.entities e.spent e.calls in
     done on_flush before c.args.self.now c.self.view_is (Err fault.Busy) (Err fault.Busy) refl c.args.self.now before (sym c.self.view_is)
     (busy-flush e.entities e.spent e.calls (λ none. no_test (c.if-not-is_empty.ensures.1 none)))
 
@@ -21,29 +21,29 @@ pub returns-then-is_err : goal.returns-then-is_err
 returns-then-is_err c =
     let e = c.self.inside in
     let none = c.if-not-is_empty.ensures.0 refl in
-    let before = schedule_of e.entities e.spent e.calls in
+    let before = machine_state e.entities e.spent e.calls in
     let unchanged : c.flush.new.self ≡ e.entities = on_err c.flush.result c.if-is_err.ensures.value c.flush.ensures.err in
-    refused on_flush before c.args.self.now c.self.view_is (Err fault.Memory) refl (schedule_of c.flush.new.self e.spent e.calls)
-    (ap (λ s. schedule_of s e.spent e.calls) unchanged)
-    (ap (λ p. takes_memory p.0) (flush-flushed e.entities e.spent e.calls none))
+    refused on_flush before c.args.self.now c.self.view_is (Err fault.Memory) refl (machine_state c.flush.new.self e.spent e.calls)
+    (ap (λ s. machine_state s e.spent e.calls) unchanged)
+    (flush-takes_memory e.entities e.spent e.calls none (on_err c.flush.result c.if-is_err.ensures.value c.flush.ensures.memory))
 
 pub invariant_of-self-2 : goal.invariant_of-self-2
 invariant_of-self-2 c =
     let e = c.self.inside in
     let none = c.if-not-is_empty.ensures.0 refl in
     let flushed : c.flush.new.self ≡ after_flush e.entities = on_ok c.flush.result c.if-is_err.ensures.value c.flush.ensures.ok in
-    subst (λ s. IsPlayed s c.clear.new.self e.calls) (sym flushed)
-    (subst (λ m. IsPlayed (after_flush e.entities) m e.calls) (sym c.clear.ensures) (flush-played e.entities e.spent e.calls none c.self.invariant))
+    subst (λ s. AreConsistent s c.clear.new.self e.calls) (sym flushed)
+    (subst (λ m. AreConsistent (after_flush e.entities) m e.calls) (sym c.clear.ensures) (flush-consistent e.entities e.spent e.calls none c.self.invariant))
 
 pub returns : goal.returns
 returns c =
     let e = c.self.inside in
     let none = c.if-not-is_empty.ensures.0 refl in
-    let before = schedule_of e.entities e.spent e.calls in
+    let before = machine_state e.entities e.spent e.calls in
     let flushed : c.flush.new.self ≡ after_flush e.entities = on_ok c.flush.result c.if-is_err.ensures.value c.flush.ensures.ok in
     let items : c.flush.new.out.items ≡ c.new-born.result.items ++ born e.entities = on_ok c.flush.result c.if-is_err.ensures.value c.flush.ensures.born in
     let listed : c.new.result ≡ born e.entities = c.new.ensures ∙ items ∙ ap (λ hs. hs ++ born e.entities) c.new-born.ensures.items in
     done on_flush before c.args.self.now c.self.view_is (Ok (outcome.Born c.new.result)) (Ok (outcome.Born (born e.entities))) (ap (λ (hs : List Handle). Ok (outcome.Born hs)) listed)
-    (schedule_of c.flush.new.self c.clear.new.self e.calls) (schedule_of (after_flush e.entities) finite.empty e.calls)
-    (λ i. schedule_of (flushed i) (c.clear.ensures i) e.calls)
+    (machine_state c.flush.new.self c.clear.new.self e.calls) (machine_state (after_flush e.entities) finite.empty e.calls)
+    (λ i. machine_state (flushed i) (c.clear.ensures i) e.calls)
     (flush-flushed e.entities e.spent e.calls none)

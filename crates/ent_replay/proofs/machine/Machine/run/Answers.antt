@@ -2,19 +2,19 @@ use Rattle.std.proofs.Common.{ℕ, ◌≤◌, List, Result, ◌≡◌, ◌≢◌
 use Rattle.std.proofs.lemmas.List.{take_more, take_all}
 use Rattle.ent_replay.specs.declared.outcome.Outcome.{Outcome}
 use Rattle.ent_replay.specs.declared.fault.ReplayFault.{ReplayFault}
-use Rattle.ent_replay.specs.Machine.{schedule_of}
+use Rattle.ent_replay.specs.Machine.{machine_state}
 use Rattle.ent_replay.specs.Histories.{new_phase, StandInHistory, NoneWrapped, AreGivenOnce}
 use Rattle.ent_replay.proofs.Linear.{linear}
 use Rattle.ent_replay.proofs.Giving.{given_once}
 use Rattle.ent_replay.specs.declared.event.Event.{Event}
-use Rattle.ent_replay.specs.Schedule.{Schedule, outcome_of, after_event, outcomes_of, after_events}
+use Rattle.ent_replay.specs.Schedule.{MachineState, outcome_of, after_event, outcomes_of, after_events}
 use Rattle.ent_replay.specs.declared.fault.ReplayFault.TheVariants as fault
 use Rattle.ent_replay.proofs.Maps.{no_test}
 use Rattle.ent_replay.proofs.Schedules.{after_events-append, outcomes_of-append}
 use Rattle.ent_replay.proofs.machine.Machine.run.Goals as goal
 
 -- all outcomes, where the loop has seen all events
-all_outcomes : (s : Schedule) (outcomes : List (Result Outcome ReplayFault)) (events : List Event) (done : ℕ) → length events ≤ done → outcomes ≡ outcomes_of s (take done events) → outcomes ≡ outcomes_of s events
+all_outcomes : (s : MachineState) (outcomes : List (Result Outcome ReplayFault)) (events : List Event) (done : ℕ) → length events ≤ done → outcomes ≡ outcomes_of s (take done events) → outcomes ≡ outcomes_of s events
 all_outcomes s outcomes events done seen is = is ∙ ap (outcomes_of s) (take_all done events seen)
 
 pub returns-clause-history : goal.returns-clause-history
@@ -27,8 +27,8 @@ returns-clause-given_once c =
     let all = all_outcomes c.args.self.now c.loop-done.outcomes.items c.args.events.now c.loop-done.done (omega arith) c.loop-done.invariant.1 in
     let e = c.self.inside in
     λ fresh. subst AreGivenOnce (sym all)
-    (subst (λ (s : Schedule). NoneWrapped (outcomes_of s c.args.events.now) → AreGivenOnce (outcomes_of s c.args.events.now)) c.self.view_is
-    (given_once (schedule_of e.entities e.spent e.calls) c.args.events.now c.self.invariant.sound c.self.invariant.once)
+    (subst (λ (s : MachineState). NoneWrapped (outcomes_of s c.args.events.now) → AreGivenOnce (outcomes_of s c.args.events.now)) c.self.view_is
+    (given_once (machine_state e.entities e.spent e.calls) c.args.events.now c.self.invariant.sound c.self.invariant.once)
     (subst NoneWrapped all fresh))
 
 pub loop-done-preserved : goal.loop-done-preserved

@@ -4,23 +4,23 @@ use Rattle.std.proofs.lemmas.Int.{ints}
 use Rattle.ent_alloc.specs.Sequential.{cursor, after_take}
 use Rattle.ent_alloc.specs.declared.span.Span.{Span}
 use Rattle.ent_replay.specs.Schedule.{on_step}
-use Rattle.ent_replay.specs.Machine.{schedule_of, unasked, IsPlayed}
+use Rattle.ent_replay.specs.Machine.{machine_state, unasked, AreConsistent}
 use Rattle.ent_replay.specs.declared.outcome.Outcome.TheVariants as outcome
 use Rattle.ent_replay.specs.declared.fault.ReplayFault.TheVariants as fault
-use Rattle.ent_replay.proofs.Playing.{done, some_of, none_of, awaited-bound, step-not_open, step-stepped, step-taken, step-played}
+use Rattle.ent_replay.proofs.MachineEvents.{done, some_of, none_of, awaited-bound, step-not_open, step-stepped, step-taken, step-consistent}
 use Rattle.ent_replay.proofs.machine.Machine.take.Goals as goal
 
 pub returns-in_default : goal.returns-in_default
 returns-in_default c =
     let e = c.self.inside in
-    let before = schedule_of e.entities e.spent e.calls in
+    let before = machine_state e.entities e.spent e.calls in
     done (λ v. on_step v c.args.caller) before c.args.self.now c.self.view_is (Err fault.NotOpen) (Err fault.NotOpen) refl c.args.self.now before (sym c.self.view_is)
     (step-not_open e.entities e.spent e.calls c.args.caller (omega arith) (sym c.get.ensures ∙ c.in_default.is))
 
 pub returns-then-is_some : goal.returns-then-is_some
 returns-then-is_some c =
     let e = c.self.inside in
-    let before = schedule_of e.entities e.spent e.calls in
+    let before = machine_state e.entities e.spent e.calls in
     let passed = some_of c.in-Some.call.span c.if-is_some.ensures in
     done (λ v. on_step v c.args.caller) before c.args.self.now c.self.view_is (Err fault.AlreadyStepped) (Err fault.AlreadyStepped) refl c.args.self.now before (sym c.self.view_is)
     (step-stepped e.entities e.spent e.calls c.args.caller (omega arith) c.in-Some.call (sym c.get.ensures ∙ c.in-Some.is) passed.0 passed.1)
@@ -39,14 +39,14 @@ invariant_of-self c =
     let call = c.in-Some.call in
     let waits = none_of call.span c.if-is_some.ensures in
     let calls = c.replace.ensures ∙ ap (λ (x : Span). finite.insert e.calls c.args.caller (record { requested = call.requested; span = Some x })) c.lower-span.ensures.span in
-    subst (λ s. IsPlayed s e.spent c.replace.new.self) (sym c.lower-span.ensures.step)
-    (subst (λ m. IsPlayed (after_take e.entities call.requested) e.spent m) (sym calls)
-    (step-played e.entities e.spent e.calls c.args.caller (omega arith) call (sym c.get.ensures ∙ c.in-Some.is) c.self.invariant waits))
+    subst (λ s. AreConsistent s e.spent c.replace.new.self) (sym c.lower-span.ensures.step)
+    (subst (λ m. AreConsistent (after_take e.entities call.requested) e.spent m) (sym calls)
+    (step-consistent e.entities e.spent e.calls c.args.caller (omega arith) call (sym c.get.ensures ∙ c.in-Some.is) c.self.invariant waits))
 
 pub returns : goal.returns
 returns c =
     let e = c.self.inside in
-    let before = schedule_of e.entities e.spent e.calls in
+    let before = machine_state e.entities e.spent e.calls in
     let call = c.in-Some.call in
     let waits = none_of call.span c.if-is_some.ensures in
     let calls = c.replace.ensures ∙ ap (λ (x : Span). finite.insert e.calls c.args.caller (record { requested = call.requested; span = Some x })) c.lower-span.ensures.span in
@@ -54,7 +54,7 @@ returns c =
     let low : to_z w64 (of_z w64 c.lower-span.result.low) ≡ cursor e.entities -ℤ pos call.requested = word ∙ ap (λ (x : Span). x.low) c.lower-span.ensures.span in
     done (λ v. on_step v c.args.caller) before c.args.self.now c.self.view_is (Ok (outcome.Cursor (to_z w64 (of_z w64 c.lower-span.result.low)))) (Ok (outcome.Cursor (cursor e.entities -ℤ pos call.requested)))
     (ap (λ z. Ok (outcome.Cursor z)) low)
-    (schedule_of c.lower-span.new.self e.spent c.replace.new.self)
-    (schedule_of (after_take e.entities call.requested) e.spent (finite.insert e.calls c.args.caller (record { requested = call.requested; span = Some (record { high = cursor e.entities; low = cursor e.entities -ℤ pos call.requested }) })))
-    (λ i. schedule_of (c.lower-span.ensures.step i) e.spent (calls i))
+    (machine_state c.lower-span.new.self e.spent c.replace.new.self)
+    (machine_state (after_take e.entities call.requested) e.spent (finite.insert e.calls c.args.caller (record { requested = call.requested; span = Some (record { high = cursor e.entities; low = cursor e.entities -ℤ pos call.requested }) })))
+    (λ i. machine_state (c.lower-span.ensures.step i) e.spent (calls i))
     (step-taken e.entities e.spent e.calls c.args.caller (omega arith) call (sym c.get.ensures ∙ c.in-Some.is) c.self.invariant.sound waits)

@@ -1,0 +1,145 @@
+ghost use Rattle.std.specs.Prelude.{◌≡◌, ◌↔◌, IsTrue, Err};
+
+use ent_alloc::Limits;
+use ent_handle::Handle;
+use ent_replay::{
+    Event, HandleList, Machine, Outcome, ReplayFault, RunMemory, read_schedule, write_outcome,
+};
+use std::alloc::Global;
+use std::test::Fail;
+
+// Whether memory ran out.
+fn is_out_of_memory(outcome: &Result<Outcome, ReplayFault>) -> bool
+    ensures { IsTrue result ↔ (outcome.now ≡ Err ReplayFault.Memory) }
+{
+    match outcome {
+        Ok(_) => false,
+        Err(fault) => *fault == ReplayFault::Memory,
+    }
+}
+
+// Appends the line of an outcome.
+fn write(outcome: &Result<Outcome, ReplayFault>, out: &mut Vec<u8>) -> Result<(), Fail> {
+    if is_out_of_memory(outcome) {
+        return Err(Fail::new("out of memory"));
+    }
+    write_outcome(outcome, out)?;
+    Ok(())
+}
+
+// The lines of a schedule, as `run` gives them.
+fn lines_by_run(alloc: Global, limits: Limits, schedule: &[u8]) -> Result<Vec<u8>, Fail> {
+    let events = read_schedule(alloc, schedule)?;
+    let mut machine = Machine::new(alloc, limits)?;
+    let mut lines = Vec::new(alloc);
+    for outcome in &machine.run(&events)? {
+        write(outcome, &mut lines)?;
+    }
+    Ok(lines)
+}
+
+// The lines of a schedule, as `step` gives them.
+fn lines_by_step(alloc: Global, limits: Limits, schedule: &[u8]) -> Result<Vec<u8>, Fail> {
+    let events = read_schedule(alloc, schedule)?;
+    let mut machine = Machine::new(alloc, limits)?;
+    let mut lines = Vec::new(alloc);
+    for event in &events {
+        write(&machine.step(*event), &mut lines)?;
+    }
+    Ok(lines)
+}
+
+// The generation limit, a schedule over 3 slots, and its lines. Each outcome and fault stands here once at least,
+// but for `Quota`: it takes hundreds of calls, and the tests of the program have it.
+const SCHEDULES: [(u32, &[u8], &[u8]); 4] = [
+    // It begins with the events of a call that was never begun.
+    (
+        9,
+        b"answer 1\nstep 1\nbegin 1024 1\nbegin 1 1\nanswer 1\nbegin 1 1\nstep 1\nstep 1\nanswer 1\nanswer 1\n",
+        b"not open\nnot open\ncaller\nopen\nnot stepped\nalready open\ncursor -1\nalready stepped\n0v1\nnot open\n",
+    ),
+    // Exclusive events while a call is open, and while a flush is needed.
+    (
+        9,
+        b"begin 0 2\nalloc\nfree 0v1\nflush\nstep 0\nanswer 0\nalloc\nfree 0v1\nflush\nfree 0v1\nfree 0v1\n",
+        b"open\nbusy\nbusy\nbusy\ncursor -2\n0v1 1v1\nneeds flush\nneeds flush\nborn 0v1 1v1\nfreed 0v1 next 0v2\nnot alive\n",
+    ),
+    // Too few slots, for a call and for `alloc`.
+    (
+        9,
+        b"begin 7 4\nstep 7\nanswer 7\nflush\nalloc\nalloc\nalloc\nalloc\n",
+        b"open\ncursor -4\nspace wanted 4 left 3\nborn\n0v1\n1v1\n2v1\nspace wanted 1 left 0\n",
+    ),
+    // With one generation a slot's next handle is the one that was freed.
+    (
+        1,
+        b"alloc\nfree 0v1\nalloc\nfree 0v1\nbegin 1 1\nstep 1\nanswer 1\nflush\n",
+        b"0v1\nfreed 0v1 next 0v1 wrapped\n0v1\nfreed 0v1 next 0v1 wrapped\nopen\ncursor 0\n0v1\nborn 0v1\n",
+    ),
+];
+
+#[test]
+fn schedules(rt: HostRuntime) -> Result<(), Fail> {
+    for (generations, schedule, lines) in SCHEDULES {
+        let limits = Limits::new(3, generations).ok_or("limits")?;
+        let by_run = lines_by_run(rt.alloc(), limits, schedule)?;
+        assert_eq!(rt; by_run.as_slice(), lines);
+        let by_step = lines_by_step(rt.alloc(), limits, schedule)?;
+        assert_eq!(rt; by_step.as_slice(), lines);
+    }
+    Ok(())
+}
+
+// A reply of more than 65,536 handles.
+#[test]
+fn a_long_reply(rt: HostRuntime) -> Result<(), Fail> {
+    let mut machine = Machine::new(rt.alloc(), Limits::default_limits())?;
+    let events = [
+        Event::Begin { caller: 1, n: 70_000 },
+        Event::Step(1),
+        Event::Answer(1),
+    ];
+    let outcomes = machine.run(&events)?;
+    let Some(Ok(Outcome::Handles(handles))) = outcomes.last() else {
+        return Err(Fail::new("no reply"));
+    };
+    assert_eq!(rt; (handles.len(), handles.is_empty()), (70_000, false));
+    for (index, handle) in (0..70_000u32).zip(handles.as_slice()) {
+        assert!(rt; Handle::new(index, 1) == Some(*handle), "at {index}");
+    }
+    Ok(())
+}
+
+const BULK: [Event; 4] = [
+    Event::Begin { caller: 1, n: 2 },
+    Event::Step(1),
+    Event::Answer(1),
+    Event::Flush,
+];
+
+// Passes whichever single allocation fails: a second run goes on after the events that are done.
+#[test]
+fn a_run_goes_on_where_it_was_cut(rt: HostRuntime) -> Result<(), Fail> {
+    let mut machine = Machine::new(rt.alloc(), Limits::default_limits())?;
+    let done = match machine.run(&BULK) {
+        Ok(outcomes) => outcomes.len(),
+        Err(RunMemory { done }) => {
+            let left = BULK.get(done..).ok_or("more events than there are")?;
+            let outcomes = machine.run(left)?;
+            done.saturating_add(outcomes.len())
+        }
+    };
+    assert_eq!(rt; done, 4);
+    Ok(())
+}
+
+#[test]
+fn lists_of_handles(rt: HostRuntime) -> Result<(), Fail> {
+    let handle = Handle::new(2, 1).ok_or("handle")?;
+    let list = HandleList::new(Vec::from_slice(rt.alloc(), &[handle, handle])?);
+    let none = HandleList::new(Vec::new(rt.alloc()));
+    assert_eq!(rt; (list.len(), list.is_empty(), none.is_empty()), (2, false, true));
+    assert!(rt; list != none);
+    assert_eq!(rt; list.into_vec().as_slice(), [handle, handle].as_slice());
+    Ok(())
+}

@@ -1,5 +1,0 @@
-pub mod Device
-pub mod Counted
-pub mod CommandLine
-pub mod Status
-pub mod Replay

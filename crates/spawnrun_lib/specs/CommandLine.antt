@@ -1,0 +1,78 @@
+-- The program's command line, in the words of clap.
+use Rattle.std.specs.Prelude.{⊤, ◌≡◌, ◌≢◌, ℕ, List, [], ◌∷◌, Option, Some, true, pos, codes, option_map}
+use Rattle.std.specs.Str.Parse.{digits_value, without_leading_plus}
+use Rattle.clap.specs.Words.{App, IsAmong, IsSignedIn, Row, Rule, Text, fault_of, found_of, kind_of, rows_of, without_minus, new_app, new_rule, one_of, subcommand_of, with_rule, with_subcommand}
+use Rattle.clap.specs.Simple.{on_top}
+use Rattle.clap.specs.declared.builder.value_parser.ValueParser.TheVariants.{Signed}
+use Rattle.clap.specs.declared.parser.ArgMatches.{ArgMatches}
+use Rattle.clap.specs.declared.error.Error.{Error}
+use Rattle.clap.specs.declared.error.kind.ErrorKind.{ErrorKind}
+use Rattle.clap.specs.declared.error.kind.ErrorKind.TheVariants.{OutOfMemory}
+use Rattle.ent_alloc.specs.Limits.{AreLimits}
+use Rattle.spawnrun_lib.specs.declared.task.LineFault.{LineFault}
+use Rattle.spawnrun_lib.specs.declared.task.LineFault.TheVariants.{Line, Memory}
+use Rattle.spawnrun_lib.specs.declared.task.Task.{Task}
+use Rattle.spawnrun_lib.specs.declared.task.Task.TheVariants.{Replay}
+
+-- an option that takes a whole number from 1 to `most`, and has a default
+abbrev pub number_option : Text → ℕ → Text → Rule
+number_option name most default = record (new_rule name) {
+  long = Some name;
+  value_names = 1;
+  parser = Some (Signed (pos 1) (pos most));
+  defaults = default ∷ [];
+}
+
+abbrev pub slots_option : Rule
+slots_option = number_option (codes "slots") 4294967295 (codes "4294967295")
+
+abbrev pub generations_option : Rule
+generations_option = number_option (codes "generations") 2147483647 (codes "2147483647")
+
+abbrev pub replay_command : App
+replay_command = with_rule (with_rule (new_app (codes "replay")) slots_option) generations_option
+
+-- the words begin after the program's name, and name one of its subcommands
+abbrev pub program : App
+program = with_subcommand (on_top (λ top. record top {
+  no_binary_name = true;
+  disable_help_subcommand = true;
+  subcommand_required = true;
+}) (new_app (codes "spawnrun"))) replay_command.top
+
+-- what clap's matches have for each option
+abbrev pub given : ArgMatches → List Row
+given matches = rows_of (found_of matches)
+
+-- the number that an option has in clap's matches
+abbrev pub number_of : Text → List Row → Option ℕ
+number_of option rows =
+    option_map (λ text. digits_value 10 (without_leading_plus text)) (one_of option rows)
+
+-- the option's value is a whole number from 1 to `most`, which may have a sign
+pub record HasNumber (option : Text) (most : ℕ) (rows : List Row) : Type 0 where
+  pub text : Text
+  pub is : one_of option rows ≡ Some (without_minus text)
+  pub within : IsSignedIn (pos 1) (pos most) text
+
+-- the task is the subcommand that clap finds in the words, with the numbers of its options
+abbrev pub AsksFor : List Text → Task → Type 0
+AsksFor words (Replay limits) = (rows : List Row)
+    × (subcommand_of program words ≡ Some (codes "replay", rows))
+    × (number_of (codes "slots") rows ≡ Some limits.slots)
+    × (number_of (codes "generations") rows ≡ Some limits.generations)
+    × AreLimits limits
+
+-- the fault that an error of clap's is
+abbrev pub IsFaultOf : Error → LineFault → Type 0
+IsFaultOf error (Line same) = (same ≡ error) × (kind_of error ≢ OutOfMemory)
+IsFaultOf error Memory = kind_of error ≡ OutOfMemory
+
+-- clap's rules find the fault in the words, unless memory was refused
+abbrev pub IsFaultIn : List Text → LineFault → Type 0
+IsFaultIn words (Line error) = IsAmong (kind_of error) (fault_of program words)
+IsFaultIn words Memory = ⊤
+
+-- clap's rules find a fault in the words, or a request for help
+abbrev pub IsFaulty : List Text → Type 0
+IsFaulty words = (kind : ErrorKind) × IsAmong kind (fault_of program words)

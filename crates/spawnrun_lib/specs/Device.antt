@@ -1,0 +1,28 @@
+-- What devices tell of their bytes and failures, beside the words of std's readers and writers.
+use Rattle.std.specs.Prelude.{◌≡◌, ℕ, ◌+◌, ◌-◌, ◌^◌, ◌≤◌, ◌⊎◌, ◌==◌, if◌then◌else◌, List, length, Option, None, IfSome}
+use Rattle.std.specs.Io.KnownBytes.{Consumes}
+
+-- the bytes that a device tells before and after a failed call are the same
+abbrev pub KeepsIfTold : Option (List ℕ) → Option (List ℕ) → Type 0
+KeepsIfTold old new = IfSome old (λ before. IfSome new (λ after. after ≡ before))
+
+-- this many of the bytes were taken
+abbrev pub Takes : Option (List ℕ) → Option (List ℕ) → ℕ → Type 0
+Takes old new count = (taken : List ℕ) × (length taken ≡ count) × Consumes old new taken
+
+-- no more than this many were
+abbrev pub TakesAtMost : Option (List ℕ) → Option (List ℕ) → ℕ → Type 0
+TakesAtMost old new count = (taken : List ℕ) × (length taken ≤ count) × Consumes old new taken
+
+-- of two devices, with their failures before and after, one failed once and the other did not
+abbrev pub OneFails : ℕ → ℕ → ℕ → ℕ → Type 0
+OneFails old new other_old other_new =
+    ((new ≡ old + 1) × (other_new ≡ other_old)) ⊎ ((new ≡ old) × (other_new ≡ other_old + 1))
+
+-- how many failures a counting adapter can count
+abbrev pub most_failures : ℕ
+most_failures = 2 ^ 64 - 1
+
+-- an adapter tells its device's bytes until it has counted all the failures that it can
+abbrev pub told : ℕ → Option (List ℕ) → Option (List ℕ)
+told failures bytes = if failures == most_failures then None else bytes

@@ -1,0 +1,6 @@
+pub mod Device
+pub mod Counted
+pub mod CommandLine
+pub mod Program
+pub mod Status
+pub mod Replay

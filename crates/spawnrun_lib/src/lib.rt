@@ -1,0 +1,19 @@
+//! The program `spawnrun` but for its `main`: devices, the whole input, the command line, and the run of a schedule.
+//!
+//! `main` hands its arguments and the standard streams to `execute`. All that it does from then on has a contract,
+//! over any devices, so that tests can put devices in memory in their place.
+#![tactic(auto)]
+
+mod device;
+mod input;
+mod program;
+mod replaying;
+mod status;
+mod task;
+
+pub use device::{Counted, Failed, Sink, Source};
+pub use input::{INPUT_LIMIT, InputFault, read_all};
+pub use program::{execute, refuse_words};
+pub use replaying::replay;
+pub use status::Status;
+pub use task::{LineFault, Task, command_line};

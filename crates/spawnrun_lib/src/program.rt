@@ -1,0 +1,130 @@
+//! The program: what its words ask for, done between two devices, and what it says on the error stream.
+ghost use Rattle.std.specs.Prelude.{◌≡◌, ◌≢◌, ◌≤◌, ◌+◌, ◌⊎◌, min, map, length, codes, true, OnErr, IfSome};
+ghost use Rattle.std.specs.IoError.{error_kind};
+ghost use Rattle.std.specs.Io.KnownBytes.{Appends};
+ghost use Rattle.clap.specs.Words.{takes};
+ghost use Rattle.spawnrun_lib.specs.CommandLine.{IsFaulty, program};
+ghost use Rattle.spawnrun_lib.specs.Device.{OneFails, Takes, TakesAtMost};
+ghost use Rattle.spawnrun_lib.specs.Replay.{HasWritten, input_limit};
+ghost use Rattle.spawnrun_lib.specs.Status.{exit_number, said, words_status};
+ghost use Rattle.spawnrun_lib.specs.Program.{AsksToReplay};
+
+use crate::device::{Sink, Source};
+use crate::replaying::replay;
+use crate::status::Status;
+use crate::task::{LineFault, Task, command_line};
+use std::alloc::Global;
+use std::convert::AsStr;
+use std::io;
+use std::io::ErrorKind;
+
+// The exit status for words that are no command line of the program, and for a request for help.
+const LINE_FAULT: u8 = 2;
+
+/// Does what the words after the program's name ask for, and answers the exit status.
+///
+/// | Status | Meaning | On the error stream |
+/// |---|---|---|
+/// | 0 | The task was done. | nothing |
+/// | 1 | The input was refused. One line of output says why. | nothing |
+/// | 2 | The words are no command line, or ask for help. No device was used. | clap's text |
+/// | 3 | Memory ran out. Nothing was written. | `memory` |
+/// | 4 | A call of the input or the output failed. | `device` |
+///
+/// A failure of the error stream changes no status.
+pub fn execute<S: AsStr, I: Source, O: Sink, E: Sink>(
+    alloc: Global,
+    words: &[S],
+    input: &mut I,
+    output: &mut O,
+    errors: &mut E,
+) -> u8
+    ensures statuses { result ≤ 4 }
+
+    // A replay was done, or its input refused.
+    ensures done { result ≡ 0 → AsksToReplay (map S.text words.now) (λ limits. HasWritten limits Status.Done
+        (I.remaining input.old) (O.written output.old) (O.written output.new)) }
+    ensures refused { result ≡ 1 → AsksToReplay (map S.text words.now) (λ limits. HasWritten limits Status.Refused
+        (I.remaining input.old) (O.written output.old) (O.written output.new)) }
+
+    // The words are faulty, exactly then without want of memory.
+    ensures faulty { result ≡ 2 → IsFaulty (map S.text words.now) }
+    ensures taken { takes program (map S.text words.now) ≡ true → result ≢ 2 }
+    ensures unused_input { result ≡ 2 → input.new ≡ input.old }
+    ensures unused_output { result ≡ 2 → output.new ≡ output.old }
+
+    ensures memory { result ≡ 3 → output.new ≡ output.old }
+    ensures device { result ≡ 4 → OneFails
+        (I.failures input.old) (I.failures input.new) (O.failures output.old) (O.failures output.new) }
+    ensures input_unfailed { result ≢ 4 → I.failures input.new ≡ I.failures input.old }
+    ensures output_unfailed { result ≢ 4 → O.failures output.new ≡ O.failures output.old }
+    ensures unread { I.failures input.new ≢ I.failures input.old → output.new ≡ output.old }
+
+    // How much of the input is taken.
+    ensures reads { I.failures input.new ≡ I.failures input.old → result ≢ 2 → result ≢ 3
+        → IfSome (I.remaining input.old) (λ all.
+        Takes (I.remaining input.old) (I.remaining input.new) (min (length all) (input_limit + 1))) }
+    ensures stops { I.failures input.new ≡ I.failures input.old
+        → TakesAtMost (I.remaining input.old) (I.remaining input.new) (input_limit + 1) }
+
+    // What the error stream tells.
+    ensures quiet { result ≤ 1 → errors.new ≡ errors.old }
+    ensures memory_said { result ≡ 3 → E.failures errors.new ≡ E.failures errors.old
+        → Appends (E.written errors.old) (E.written errors.new) (codes "memory\n") }
+    ensures device_said { result ≡ 4 → E.failures errors.new ≡ E.failures errors.old
+        → Appends (E.written errors.old) (E.written errors.new) (codes "device\n") }
+{
+    match command_line(alloc, words) {
+        Ok(task) => {
+            let status = match task {
+                Task::Replay(limits) => replay(alloc, input, output, limits),
+            };
+            finish(errors, status)
+        }
+        Err(LineFault::Line(error)) => match format!(in alloc; "{error}") {
+            Ok(text) => {
+                let _ = errors.put(text.as_bytes());
+                LINE_FAULT
+            }
+            Err(_) => finish(errors, Status::Memory),
+        },
+        Err(LineFault::Memory) => finish(errors, Status::Memory),
+    }
+}
+
+/// Ends the program if its words can't be read, and answers the exit status: 3 if memory ran out, 2 if a
+/// word is no UTF-8, else 4. It says on the error stream what `execute` says then.
+pub fn refuse_words<E: Sink>(error: &io::Error, errors: &mut E) -> u8
+    ensures status { result ≡ words_status (error_kind error.now) }
+    ensures memory_said { result ≡ 3 → E.failures errors.new ≡ E.failures errors.old
+        → Appends (E.written errors.old) (E.written errors.new) (codes "memory\n") }
+    ensures text_said { result ≡ 2 → E.failures errors.new ≡ E.failures errors.old
+        → Appends (E.written errors.old) (E.written errors.new)
+        (codes "error: invalid UTF-8 was detected in one or more arguments\n") }
+    ensures device_said { result ≡ 4 → E.failures errors.new ≡ E.failures errors.old
+        → Appends (E.written errors.old) (E.written errors.new) (codes "device\n") }
+{
+    match error.kind() {
+        ErrorKind::OutOfMemory => finish(errors, Status::Memory),
+        ErrorKind::InvalidData => {
+            let _ = errors.put(b"error: invalid UTF-8 was detected in one or more arguments\n");
+            LINE_FAULT
+        }
+        _ => finish(errors, Status::Device),
+    }
+}
+
+// Says on the error stream what the output doesn't show, and gives the status its number.
+fn finish<E: Sink>(errors: &mut E, status: Status) -> u8
+    ensures number { result ≡ exit_number status }
+    ensures quiet { result ≤ 1 → errors.new ≡ errors.old }
+    ensures said { E.failures errors.new ≡ E.failures errors.old
+        → Appends (E.written errors.old) (E.written errors.new) (said status) }
+{
+    let _ = match status {
+        Status::Done | Status::Refused => Ok(()),
+        Status::Memory => errors.put(b"memory\n"),
+        Status::Device => errors.put(b"device\n"),
+    };
+    status.number()
+}

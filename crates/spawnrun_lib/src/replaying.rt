@@ -1,0 +1,128 @@
+//! The run of a schedule: bytes in, bytes out.
+ghost use Rattle.std.specs.Prelude.{◌≡◌, ◌≢◌, ◌+◌, ◌⊎◌, min, length, All};
+ghost use Rattle.std.specs.Prelude.{Err, IfOk, IfSome, OnErr, OnOk};
+ghost use Rattle.std.specs.Io.KnownBytes.{Appends};
+ghost use Rattle.ent_replay.specs.Schedule.{outcomes_of, starting};
+ghost use Rattle.spawnrun_lib.specs.Device.{Takes, TakesAtMost, OneFails};
+ghost use Rattle.spawnrun_lib.specs.Replay.{HasWritten, input_limit, outcome_lines, refused_line, size_line};
+
+use crate::device::{Failed, Sink, Source};
+use crate::input::{INPUT_LIMIT, InputFault, read_all};
+use crate::status::Status;
+use ent_alloc::Limits;
+use ent_handle::Memory;
+use ent_replay::{
+    Cause, Event, Machine, Outcome, ReadFault, ReplayFault, read_schedule, write_outcome,
+};
+use std::alloc::Global;
+
+/// Runs the schedule that the input spells over an empty allocator of these limits, and writes a line for
+/// each event.
+///
+/// No event is applied before the whole input is read, and nothing is written before all of the output is
+/// made. An input of more than 67,108,864 bytes is refused by one line, and so is one that is no schedule.
+/// Of a longer input just one byte more than the limit is taken.
+///
+/// After `Memory`, or a failure of the input, the output is as it was. `Device` is one failed call of one
+/// of the two devices.
+pub fn replay<I: Source, O: Sink>(
+    alloc: Global,
+    input: &mut I,
+    output: &mut O,
+    limits: Limits,
+) -> Status
+    ensures done { result ≡ Status.Done → HasWritten limits Status.Done
+        (I.remaining input.old) (O.written output.old) (O.written output.new) }
+    ensures refused { result ≡ Status.Refused → HasWritten limits Status.Refused
+        (I.remaining input.old) (O.written output.old) (O.written output.new) }
+    ensures memory { result ≡ Status.Memory → output.new ≡ output.old }
+
+    // The failures of the two devices.
+    ensures device { result ≡ Status.Device → OneFails
+        (I.failures input.old) (I.failures input.new) (O.failures output.old) (O.failures output.new) }
+    ensures input_unfailed { result ≢ Status.Device → I.failures input.new ≡ I.failures input.old }
+    ensures output_unfailed { result ≢ Status.Device → O.failures output.new ≡ O.failures output.old }
+    ensures unread { I.failures input.new ≢ I.failures input.old → output.new ≡ output.old }
+
+    // What is taken of an input that didn't fail: all of it, or one byte more than the limit.
+    ensures reads { I.failures input.new ≡ I.failures input.old → result ≢ Status.Memory
+        → IfSome (I.remaining input.old) (λ all.
+        Takes (I.remaining input.old) (I.remaining input.new) (min (length all) (input_limit + 1))) }
+    ensures stops { I.failures input.new ≡ I.failures input.old
+        → TakesAtMost (I.remaining input.old) (I.remaining input.new) (input_limit + 1) }
+{
+    match read_all(alloc, input, INPUT_LIMIT) {
+        Ok(bytes) => match read_schedule(alloc, &bytes) {
+            Ok(events) => write(output, outcome_text(alloc, limits, &events), Status::Done),
+            Err(ReadFault::Line { line, cause }) => {
+                write(output, refused_line(alloc, line, cause), Status::Refused)
+            }
+            Err(ReadFault::Memory) => Status::Memory,
+        },
+        Err(InputFault::TooLong) => write(output, size_line(alloc), Status::Refused),
+        Err(InputFault::Memory) => Status::Memory,
+        Err(InputFault::Device) => Status::Device,
+    }
+}
+
+// Writes a text, if there was memory for it, and ends with the status.
+fn write<O: Sink>(output: &mut O, text: Result<Vec<u8>, Memory>, status: Status) -> Status
+    requires { status ≢ Status.Device }
+    ensures ends { OnOk text ((result ≡ status) ⊎ (result ≡ Status.Device)) }
+    ensures written { IfOk text (λ bytes. result ≡ status
+        → Appends (O.written output.old) (O.written output.new) bytes.items) }
+    ensures memory { OnErr text ((result ≡ Status.Memory) × (output.new ≡ output.old)) }
+    ensures failed { result ≡ Status.Device
+        → O.failures output.new ≡ O.failures output.old + 1 }
+    ensures unfailed { result ≢ Status.Device → O.failures output.new ≡ O.failures output.old }
+{
+    match text {
+        Ok(text) => match output.put(&text) {
+            Ok(()) => status,
+            Err(Failed) => Status::Device,
+        },
+        Err(Memory) => Status::Memory,
+    }
+}
+
+fn size_line(alloc: Global) -> Result<Vec<u8>, Memory>
+    ensures { IfOk result (λ text. text.items ≡ size_line) }
+{
+    Ok(Vec::from_slice(alloc, b"refused size\n")?)
+}
+
+// The lines of what the events give, from an empty allocator.
+fn outcome_text(alloc: Global, limits: Limits, events: &[Event]) -> Result<Vec<u8>, Memory>
+    ensures { IfOk result (λ text.
+        text.items ≡ outcome_lines (outcomes_of (starting limits) events.now)) }
+{
+    let mut machine = Machine::new(alloc, limits)?;
+    match machine.run(events) {
+        Ok(outcomes) => outcome_lines(alloc, &outcomes),
+        Err(_) => Err(Memory),
+    }
+}
+
+// A line for each outcome or fault, in order.
+fn outcome_lines(
+    alloc: Global,
+    outcomes: &[Result<Outcome, ReplayFault>],
+) -> Result<Vec<u8>, Memory>
+    requires { All (λ outcome. outcome ≢ Err ReplayFault.Memory) outcomes.now }
+    ensures { IfOk result (λ text. text.items ≡ outcome_lines outcomes.now) }
+{
+    let mut text = Vec::new(alloc);
+    for outcome in outcomes {
+        write_outcome(outcome, &mut text)?;
+    }
+    Ok(text)
+}
+
+// The line that refuses a text, whose line of this number names no event.
+fn refused_line(alloc: Global, line: usize, cause: Cause) -> Result<Vec<u8>, Memory>
+    ensures { IfOk result (λ text. text.items ≡ refused_line line cause) }
+{
+    let cause = cause.text();
+    let text = format!(in alloc; "refused line {line} {cause}\n")?;
+    Ok(text.into_bytes())
+}

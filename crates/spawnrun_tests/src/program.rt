@@ -1,0 +1,86 @@
+use crate::memory::{MemorySink, MemorySource, NEVER};
+use spawnrun_lib::{execute, refuse_words};
+use std::io;
+use std::io::ErrorKind;
+use std::process::Abort;
+
+// How the program ends: its exit status, what it writes, and what it says on the error stream.
+struct Ending<'a> {
+    status: u8,
+    output: &'a str,
+    errors: &'a str,
+}
+
+// Runs the program on these words and this input, and compares how it ends. Its output fails after `puts`
+// calls that succeed.
+fn ends(rt: &(impl Abort + AllocGlobal), words: &[&str], input: &str, puts: u64, ending: Ending) {
+    let mut source = MemorySource::new(input.as_bytes(), 7, NEVER);
+    let mut sink = MemorySink::new(rt.alloc(), puts);
+    let mut errors = MemorySink::new(rt.alloc(), NEVER);
+    let status = execute(rt.alloc(), words, &mut source, &mut sink, &mut errors);
+    assert_eq!(rt; status, ending.status, "at {words:?}");
+    assert_eq!(rt; sink.bytes.as_slice(), ending.output.as_bytes(), "at {words:?}");
+    assert_eq!(rt; errors.bytes.as_slice(), ending.errors.as_bytes(), "at {words:?}");
+}
+
+#[test]
+fn tasks_are_done(rt: HostRuntime) {
+    let done = Ending {
+        status: 0,
+        output: "0v1\nspace wanted 1 left 0\n",
+        errors: "",
+    };
+    ends(&rt, &["replay", "--slots", "1"], "alloc\nalloc\n", NEVER, done);
+    let refused = Ending {
+        status: 1,
+        output: "refused line 1 word\n",
+        errors: "",
+    };
+    ends(&rt, &["replay"], "alloc_\n", NEVER, refused);
+    let failed = Ending {
+        status: 4,
+        output: "",
+        errors: "device\n",
+    };
+    ends(&rt, &["replay"], "alloc\n", 0, failed);
+}
+
+#[test]
+fn faulty_words_use_no_device(rt: HostRuntime) {
+    let none = Ending {
+        status: 2,
+        output: "",
+        errors: "error: 'spawnrun' requires a subcommand but one was not provided\n  \
+                 [subcommands: replay]\n\nUsage: spawnrun <COMMAND>\n\n\
+                 For more information, try '--help'.\n",
+    };
+    ends(&rt, &[], "alloc\n", 0, none);
+    let help = Ending {
+        status: 2,
+        output: "",
+        errors: "Runs the schedule of allocator events on standard input\n\n\
+                 Usage: spawnrun replay [OPTIONS]\n\nOptions:\n      \
+                 --slots <N>        How many slots may be made [default: 4294967295]\n      \
+                 --generations <N>  The last generation of a slot [default: 2147483647]\n  \
+                 -h, --help             Print help\n",
+    };
+    ends(&rt, &["replay", "--help"], "alloc\n", 0, help);
+}
+
+#[test]
+fn words_that_cannot_be_read(rt: HostRuntime) {
+    let cases = [
+        (ErrorKind::OutOfMemory, 3, "memory\n"),
+        (
+            ErrorKind::InvalidData,
+            2,
+            "error: invalid UTF-8 was detected in one or more arguments\n",
+        ),
+        (ErrorKind::Other, 4, "device\n"),
+    ];
+    for (kind, status, text) in cases {
+        let mut errors = MemorySink::new(rt.alloc(), NEVER);
+        assert_eq!(rt; refuse_words(&io::Error::from(kind), &mut errors), status);
+        assert_eq!(rt; errors.bytes.as_slice(), text.as_bytes());
+    }
+}

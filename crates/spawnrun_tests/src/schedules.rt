@@ -1,0 +1,240 @@
+use crate::memory::{EndlessSource, MemorySink, MemorySource, NEVER};
+use ent_alloc::Limits;
+use spawnrun_lib::{Status, replay};
+use std::process::Abort;
+use std::test::Fail;
+
+const SLOTS: u32 = u32::MAX;
+
+const GENERATIONS: u32 = (1 << 31) - 1;
+
+// Runs the schedule, given in pieces of 7 bytes, and compares what is written.
+fn replays(
+    rt: &(impl Abort + AllocGlobal),
+    slots: u32,
+    generations: u32,
+    schedule: &str,
+    status: Status,
+    output: &str,
+) {
+    let limits = Limits::new(slots, generations).expect(rt, "limits");
+    let mut source = MemorySource::new(schedule.as_bytes(), 7, NEVER);
+    let mut sink = MemorySink::new(rt.alloc(), NEVER);
+    let ended = replay(rt.alloc(), &mut source, &mut sink, limits);
+    assert_eq!(rt; ended, status, "at {schedule}");
+    assert_eq!(rt; sink.bytes.as_slice(), output.as_bytes(), "at {schedule}");
+}
+
+// A schedule with its limits, and what it writes.
+const WORKED: [(u32, u32, &str, &str); 13] = [
+    // One bulk takes freed slots and fresh ones, and a flush lists the fresh ones first.
+    (
+        SLOTS,
+        GENERATIONS,
+        "alloc\nalloc\nfree 0v1\nbegin 1 2\nstep 1\nanswer 1\nflush\n",
+        "0v1\n1v1\nfreed 0v1 next 0v2\nopen\ncursor -1\n0v2 2v1\nborn 2v1 0v2\n",
+    ),
+    (
+        SLOTS,
+        GENERATIONS,
+        "alloc\nalloc\nalloc\nfree 2v1\nfree 0v1\nbegin 1 4\nstep 1\nanswer 1\nflush\n",
+        "0v1\n1v1\n2v1\nfreed 2v1 next 2v2\nfreed 0v1 next 0v2\nopen\ncursor -2\n\
+         2v2 0v2 3v1 4v1\nborn 3v1 4v1 2v2 0v2\n",
+    ),
+    // Single reservations take the slot that was freed last first.
+    (
+        SLOTS,
+        GENERATIONS,
+        "alloc\nalloc\nalloc\nfree 2v1\nfree 0v1\nbegin 1 1\nstep 1\nanswer 1\nbegin 1 1\nstep 1\n\
+         answer 1\nbegin 1 1\nstep 1\nanswer 1\nbegin 1 1\nstep 1\nanswer 1\nflush\n",
+        "0v1\n1v1\n2v1\nfreed 2v1 next 2v2\nfreed 0v1 next 0v2\nopen\ncursor 1\n0v2\nopen\n\
+         cursor 0\n2v2\nopen\ncursor -1\n3v1\nopen\ncursor -2\n4v1\nborn 3v1 4v1 2v2 0v2\n",
+    ),
+    // A reply is that of its step, in whatever order the calls are answered.
+    (
+        SLOTS,
+        GENERATIONS,
+        "alloc\nfree 0v1\nbegin 1 1\nbegin 2 2\nstep 2\nstep 1\nanswer 1\nanswer 2\nflush\n",
+        "0v1\nfreed 0v1 next 0v2\nopen\nopen\ncursor -1\ncursor -2\n2v1\n0v2 1v1\n\
+         born 1v1 2v1 0v2\n",
+    ),
+    (
+        SLOTS,
+        GENERATIONS,
+        "begin 0 1\nbegin 1023 1\nstep 1023\nfree 0v1\nstep 0\nanswer 0\nanswer 1023\nflush\n",
+        "open\nopen\ncursor -1\nbusy\ncursor -2\n1v1\n0v1\nborn 0v1 1v1\n",
+    ),
+    // A call may stay open, and nothing gives nothing.
+    (SLOTS, GENERATIONS, "begin 1 1\nstep 1\n", "open\ncursor -1\n"),
+    (SLOTS, GENERATIONS, "", ""),
+    (
+        SLOTS,
+        GENERATIONS,
+        "begin 1 0\nstep 1\nanswer 1\nflush\n",
+        "open\ncursor 0\n\nborn\n",
+    ),
+    // A refused request shuts the pool until the flush.
+    (
+        3,
+        GENERATIONS,
+        "begin 1 2\nstep 1\nanswer 1\nbegin 1 2\nstep 1\nanswer 1\nbegin 1 1\nstep 1\nanswer 1\n\
+         flush\nbegin 1 1\nstep 1\nanswer 1\n",
+        "open\ncursor -2\n0v1 1v1\nopen\ncursor -4\nspace wanted 2 left 1\nopen\ncursor -5\n\
+         space wanted 1 left 0\nborn 0v1 1v1\nopen\ncursor -1\n2v1\n",
+    ),
+    // Exclusive events wait for calls and for flushes.
+    (
+        SLOTS,
+        GENERATIONS,
+        "begin 1 1\nalloc\nstep 1\nanswer 1\nalloc\nflush\nalloc\n",
+        "open\nbusy\ncursor -1\n0v1\nneeds flush\nborn 0v1\n1v1\n",
+    ),
+    // Only the living are freed, and generations begin anew after the last.
+    (
+        SLOTS,
+        GENERATIONS,
+        "alloc\nfree 0v1\nfree 0v1\nfree 0v2\nfree 9v1\n",
+        "0v1\nfreed 0v1 next 0v2\nnot alive\nnot alive\nnot alive\n",
+    ),
+    (
+        SLOTS,
+        2,
+        "alloc\nfree 0v1\nalloc\nfree 0v2\nalloc\n",
+        "0v1\nfreed 0v1 next 0v2\n0v2\nfreed 0v2 next 0v1 wrapped\n0v1\n",
+    ),
+    // The events of a call have their order, and callers their numbers.
+    (
+        SLOTS,
+        GENERATIONS,
+        "step 5\nbegin 1 1\nbegin 1 1\nanswer 1\nstep 1\nstep 1\nanswer 1\nanswer 1\nbegin 1024 1\n",
+        "not open\nopen\nalready open\nnot stepped\ncursor -1\nalready stepped\n0v1\nnot open\n\
+         caller\n",
+    ),
+];
+
+#[test]
+fn worked_schedules(rt: HostRuntime) {
+    for (slots, generations, schedule, output) in WORKED {
+        replays(&rt, slots, generations, schedule, Status::Done, output);
+    }
+}
+
+#[test]
+fn credit_ends_and_returns_with_a_flush(rt: HostRuntime) -> Result<(), Fail> {
+    let mut schedule = String::new(rt.alloc());
+    let mut output = String::new(rt.alloc());
+    for call in 1..257u64 {
+        schedule.push_str("begin 1 4294967295\nstep 1\nanswer 1\n")?;
+        let asked = call * 4_294_967_295;
+        let left = if call == 1 { 1 } else { 0 };
+        writeln!(
+            output,
+            "open\ncursor -{asked}\nspace wanted 4294967295 left {left}"
+        )?;
+    }
+    schedule.push_str("begin 1 257\nbegin 1 256\nstep 1\nanswer 1\nbegin 1 1\nbegin 1 0\n")?;
+    schedule.push_str("step 1\nanswer 1\nflush\n")?;
+    output.push_str("quota left 256\nopen\ncursor -1099511627776\nspace wanted 256 left 0\n")?;
+    output.push_str("quota left 0\nopen\ncursor -1099511627776\n\nborn\n")?;
+    assert!(rt;
+        output
+            .as_str()
+            .contains("cursor -8589934590\nspace wanted 4294967295 left 0\n")
+    );
+    assert!(rt;
+        output
+            .as_str()
+            .contains("cursor -1099511627520\nspace wanted 4294967295 left 0\n")
+    );
+    replays(
+        &rt,
+        1,
+        GENERATIONS,
+        schedule.as_str(),
+        Status::Done,
+        output.as_str(),
+    );
+    Ok(())
+}
+
+#[test]
+fn no_schedule_is_refused_with_its_line(rt: HostRuntime) {
+    let cases = [
+        ("alloc\nfree 0v0\n", "refused line 2 handle\n"),
+        ("alloc \n", "refused line 1 count\n"),
+        ("\n", "refused line 1 word\n"),
+        ("begin 1 4294967296\n", "refused line 1 number\n"),
+        ("begin 01 1\n", "refused line 1 number\n"),
+    ];
+    for (schedule, line) in cases {
+        replays(&rt, SLOTS, GENERATIONS, schedule, Status::Refused, line);
+    }
+}
+
+#[test]
+fn an_input_without_end_is_refused(rt: HostRuntime) {
+    let mut sink = MemorySink::new(rt.alloc(), NEVER);
+    let limits = Limits::default_limits();
+    let status = replay(rt.alloc(), &mut EndlessSource, &mut sink, limits);
+    assert_eq!(rt; status, Status::Refused);
+    assert_eq!(rt; sink.bytes.as_slice(), b"refused size\n".as_slice());
+}
+
+#[test]
+fn each_read_and_the_write_fails_in_turn(rt: HostRuntime) {
+    let schedule = b"alloc\nalloc\nfree 0v1\nflush\n";
+    let limits = Limits::default_limits();
+    for calls in 0..5 {
+        let mut source = MemorySource::new(schedule, 7, calls);
+        let mut sink = MemorySink::new(rt.alloc(), NEVER);
+        let status = replay(rt.alloc(), &mut source, &mut sink, limits);
+        assert_eq!(rt; status, Status::Device, "after {calls} reads");
+        assert!(rt; sink.bytes.is_empty(), "after {calls} reads");
+    }
+    for text in [schedule.as_slice(), b"al\n".as_slice()] {
+        let mut source = MemorySource::new(text, 7, NEVER);
+        let mut sink = MemorySink::new(rt.alloc(), 0);
+        let status = replay(rt.alloc(), &mut source, &mut sink, limits);
+        assert_eq!(rt; status, Status::Device);
+    }
+    let mut sink = MemorySink::new(rt.alloc(), 0);
+    let status = replay(rt.alloc(), &mut EndlessSource, &mut sink, limits);
+    assert_eq!(rt; status, Status::Device);
+}
+
+/// Passes whichever single allocation is refused, be it the run's or its sink's.
+#[test]
+fn refused_memory_writes_nothing(rt: HostRuntime) {
+    let schedule = b"alloc\nalloc\nfree 0v1\nbegin 1 2\nstep 1\nanswer 1\nflush\n";
+    let output = b"0v1\n1v1\nfreed 0v1 next 0v2\nopen\ncursor -1\n0v2 2v1\nborn 2v1 0v2\n";
+    let mut source = MemorySource::new(schedule, 7, NEVER);
+    let mut sink = MemorySink::new(rt.alloc(), NEVER);
+    let limits = Limits::default_limits();
+    match replay(rt.alloc(), &mut source, &mut sink, limits) {
+        Status::Memory | Status::Device => assert!(rt; sink.bytes.is_empty()),
+        status => {
+            assert_eq!(rt; status, Status::Done);
+            assert_eq!(rt; sink.bytes.as_slice(), output.as_slice());
+        }
+    }
+}
+
+// A reply of more than 65,536 handles, and an output of more than 1 MB.
+#[test]
+fn long_lines(rt: HostRuntime) -> Result<(), Fail> {
+    let mut answer = String::new(rt.alloc());
+    let mut born = String::new(rt.alloc());
+    for index in 0..100_000u32 {
+        if index > 0 {
+            answer.push_str(" ")?;
+        }
+        write!(answer, "{index}v1")?;
+        write!(born, " {index}v1")?;
+    }
+    assert!(rt; answer.len() > 500_000 && born.len() > 500_000);
+    let (answer, born) = (answer.as_str(), born.as_str());
+    let output = format!(in rt.alloc(); "open\ncursor -100000\n{answer}\nborn{born}\n")?;
+    let schedule = "begin 1 100000\nstep 1\nanswer 1\nflush\n";
+    replays(&rt, SLOTS, GENERATIONS, schedule, Status::Done, output.as_str());
+    Ok(())
+}
