@@ -1,7 +1,8 @@
-use Rattle.std.proofs.Common.{◌≡◌, refl, sym, ap, subst, ◌∙◌, Ok, Err, List, ◌++◌}
+use Rattle.std.proofs.Common.{◌≡◌, ◌<◌, ℕ, Bool, refl, sym, ap, subst, ◌∙◌, Ok, Err, List, [], ◌∷◌, ◌++◌, length, vec_len, inl, inr, arith}
+use Rattle.std.specs.List.{filter}
 use Rattle.std.specs.FinMap as finite
 use Rattle.ent_handle.specs.Handle.{Handle}
-use Rattle.ent_alloc.specs.Sequential.{after_flush, born}
+use Rattle.ent_alloc.specs.Sequential.{after_flush, born, is_fresh}
 use Rattle.ent_replay.specs.Schedule.{on_flush}
 use Rattle.ent_replay.specs.Machine.{machine_state, AreConsistent}
 use Rattle.ent_replay.specs.declared.outcome.Outcome.TheVariants as outcome
@@ -17,15 +18,25 @@ returns-then-not-is_empty c =
     done on_flush before c.args.self.now c.self.view_is (Err fault.Busy) (Err fault.Busy) refl c.args.self.now before (sym c.self.view_is)
     (busy-flush e.entities e.spent e.calls (λ none. no_test (c.if-not-is_empty.ensures.1 none)))
 
+-- what has an element that passes has an element
+some_of_filter : {X : Type 0} (p : X → Bool) (xs : List X) → 0 < length (filter p xs) → 0 < length xs
+some_of_filter p [] some = some
+some_of_filter p (x ∷ xs) some = omega arith
+
 pub returns-then-is_err : goal.returns-then-is_err
 returns-then-is_err c =
     let e = c.self.inside in
     let none = c.if-not-is_empty.ensures.0 refl in
     let before = machine_state e.entities e.spent e.calls in
     let unchanged : c.flush.new.self ≡ e.entities = on_err c.flush.result c.if-is_err.ensures.value c.flush.ensures.err in
+    let empty : vec_len c.new-born.result ≡ 0 = c.new-born.ensures.len in
+    let some : 0 < length e.entities.taken = elim (on_err c.flush.result c.if-is_err.ensures.value c.flush.ensures.memory) [
+      | inl fresh ↦ some_of_filter (is_fresh e.entities.made) e.entities.taken fresh
+      | inr lacking ↦ omega arith
+    ] in
     refused on_flush before c.args.self.now c.self.view_is (Err fault.Memory) refl (machine_state c.flush.new.self e.spent e.calls)
     (ap (λ s. machine_state s e.spent e.calls) unchanged)
-    (flush-takes_memory e.entities e.spent e.calls none (on_err c.flush.result c.if-is_err.ensures.value c.flush.ensures.memory))
+    (flush-takes_memory e.entities e.spent e.calls none some)
 
 pub invariant_of-self-2 : goal.invariant_of-self-2
 invariant_of-self-2 c =
