@@ -34,8 +34,8 @@ enough_served made pool handles n is =
     all is
 
 -- a reply that serves n lists n handles
-pub length_served : (made : ℕ) (pool handles : List Handle) (n : ℕ) → reply_from made pool n ≡ Ok handles → length handles ≡ n
-length_served made pool handles n is =
+pub length-served : (made : ℕ) (pool handles : List Handle) (n : ℕ) → reply_from made pool n ≡ Ok handles → length handles ≡ n
+length-served made pool handles n is =
     let test = enough_served made pool handles n is in
     let enough : n ≤ length pool = grind (arith, nat_tests) in
     let space : Space = record { wanted = n; left = length pool } in

@@ -1,8 +1,7 @@
 -- The end of a phase: the history of all records is legal, and the cursor and the least floor tell the allocator after it.
 use Rattle.std.proofs.Common.{◌≡◌, ◌≢◌, ℕ, ◌+◌, ◌-◌, ◌*◌, ◌^◌, ◌<◌, ◌≤◌, ℤ, pos, ◌+ℤ◌, ◌-ℤ◌, ◌≤ℤ◌, ◌<ℤ◌, List, [], ◌∷◌, ◌++◌, length, map, refl, sym, ap, subst, ◌∙◌, arith, sum, length-append, All, AllPairs, Contains, inl, inr, ◌↔◌, ◌⊎◌}
-use Rattle.std.specs.List.{sum_by, flat_map}
+use Rattle.std.specs.List.{sum_by}
 use Rattle.std.specs.Int.{int_min}
-use Rattle.std.proofs.lemmas.List.Elements.{All-weaker, All-contains_itself}
 use Rattle.std.proofs.lemmas.List.Kept.{AllPairs-cons}
 use Rattle.std.proofs.lemmas.List.Sums.{sum_by-cons}
 use Rattle.std.proofs.lemmas.Bool.{cases_lt}
@@ -23,7 +22,6 @@ use mir.Val.{to_z, of_z}
 use Rattle.ent_shared.specs.declared.record.Record.{Record}
 use Rattle.ent_shared.specs.declared.rule.Opening.{Opening}
 use Rattle.ent_alloc.specs.Limits.{credit}
-use Rattle.ent_shared.specs.Record.{own_reservations}
 use Rattle.ent_shared.specs.Rule.{floor_of, least_floor, IsStart, IsClosed}
 use Rattle.ent_shared.specs.Order.{as_call, own_of_all, reservations_of, history_of, Respects}
 use Rattle.ent_shared.proofs.Steps.{requested, follow_asked}

@@ -1,7 +1,7 @@
 -- What all records together tell once no thread steps any more: their own calls are the calls that lead from the top to the cursor.
 use Rattle.std.proofs.Common.{◌≡◌, ◌≢◌, ℕ, zero, suc, ◌+◌, ◌<◌, ◌≤◌, ⊎_elim, ℤ, ◌≤ℤ◌, ◌<ℤ◌, List, [], ◌∷◌, length, get_or, refl, sym, ap, subst, ◌∙◌, arith, eq-eqb, Some}
 use Rattle.std.specs.Prelude.{Bool, true, false, cond, ◌==◌, count_by}
-use Rattle.std.specs.List.{sum_by, All, AllPairs, Contains, flat_map}
+use Rattle.std.specs.List.{sum_by, All, AllPairs, Contains}
 use Rattle.std.proofs.lemmas.List.Elements.{All-head, All-tail, All-nil, All-cons, All-append, All-weaker, All-contains, All-contains_itself, All-filter}
 use Rattle.std.proofs.lemmas.List.Kept.{AllPairs-cons}
 use Rattle.std.proofs.lemmas.List.Sums.{sum_by-cons, sum_by-append}

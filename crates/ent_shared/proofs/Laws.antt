@@ -1,30 +1,23 @@
 -- What crates above need to know of records: how they make up the history, what they were given, and what they have left.
-use Rattle.std.proofs.Common.{◌≡◌, ◌≢◌, ℕ, ◌+◌, ◌*◌, ◌<◌, ◌≤◌, ℤ, ◌<ℤ◌, List, [], ◌∷◌, ◌++◌, length, map, refl, sym, ap, subst, ◌∙◌, arith, sum, append_assoc, append-nil, All, AllPairs, Contains, IsPermutation, Ok, Err}
+use Rattle.std.proofs.Common.{◌≡◌, ◌≢◌, ℕ, ◌+◌, ◌≤◌, ℤ, ◌<ℤ◌, List, [], ◌∷◌, ◌++◌, length, map, refl, sym, ap, subst, ◌∙◌, arith, sum, append_assoc, append-nil, All, AllPairs, Contains, IsPermutation, Ok}
 use Rattle.std.proofs.lemmas.Bool.{eqb-true}
-use Rattle.std.specs.Prelude.{Result, true, false, cond, int_lt, ◌==◌}
-use Rattle.std.specs.List.{sum_by, flat_map, filter}
+use Rattle.std.specs.Prelude.{true, false, cond, int_lt, ◌==◌}
+use Rattle.std.specs.List.{sum_by, flat_map}
 use Rattle.std.proofs.lemmas.List.Elements.{All-nil, All-cons, All-filter, All-weaker, All-contains_itself, filter_passes}
 use Rattle.std.proofs.lemmas.List.Kept.{AllPairs-filter}
 use Rattle.std.proofs.lemmas.List.Sorted.{IsPermutation-refl, IsPermutation-sym, IsPermutation-trans, IsPermutation-cons, IsPermutation-middle, IsPermutation-map, IsPermutation-append_left, IsPermutation-append_right, IsPermutation-append_comm}
 use Rattle.std.proofs.lemmas.List.Sums.{sum_by-cons, sum_by-append}
 use Rattle.ent_handle.specs.Handle.{Handle}
 use Rattle.ent_alloc.specs.Limits.{credit}
-use Rattle.ent_alloc.specs.declared.space.Space.{Space}
-use Rattle.ent_alloc.specs.Sequential.{Allocator, after_take, reply_from}
+use Rattle.ent_alloc.specs.Sequential.{Allocator, after_take}
 use Rattle.ent_alloc.specs.History as history
 use Rattle.ent_alloc.proofs.ListLaws.{AllPairs-IsPermutation}
-use Rattle.ent_shared.specs.declared.refused.Refused.{Refused}
-use Rattle.ent_shared.specs.declared.refused.Refused.TheVariants.{Space as OutOfSpace, Quota}
 use Rattle.ent_shared.specs.declared.record.Reservation.{Reservation}
-use Rattle.ent_shared.specs.declared.record.RecordEntry.{RecordEntry}
-use Rattle.ent_shared.specs.declared.record.RecordEntry.TheVariants.{Own, Met}
 use Rattle.ent_shared.specs.declared.record.Record.{Record}
 use Rattle.ent_shared.specs.Record.{own_reservations, known_reservations, requested_by, reservation_at, after_reservation}
 use Rattle.ent_shared.specs.Moves.{after_meeting}
 use Rattle.ent_shared.specs.Order.{insert_reservation, by_falling_high, own_of_all, reservations_of, as_call, history_of, reservations_by, Respects, handles_of, handles_given}
-use Rattle.ent_shared.specs.Phase.{Shared, Reserver}
-use Rattle.ent_shared.specs.Replies.{Tells, Reserves}
-use Rattle.ent_shared.proofs.Answering.{length_served}
+pub use Rattle.ent_shared.proofs.Answering.{length-served}
 use Rattle.ent_shared.proofs.Records.{own-made, own-met}
 use Rattle.ent_shared.proofs.Histories.{sum_flat}
 use Rattle.ent_shared.proofs.Sorting.{sum_sorted}
@@ -52,17 +45,6 @@ given-reserved r high n =
 
 pub given-after_meeting : (r met : Record) → handles_given (after_meeting r met) ≡ handles_given r
 given-after_meeting r met = ap handles_of (own-after_meeting r met)
-
-pub given-served : (shared : Shared) (old new : Reserver) (n : ℕ) (handles : List Handle) → Reserves shared old new n (Ok handles) → handles_given new.own ≡ handles_given old.own ++ handles
-given-served shared old new n handles r =
-    ap (λ (x : Reserver). handles_given x.own) r.after ∙ (given-reserved old.own r.high n ∙ ap (λ (reply : Result (List Handle) Space). handles_given old.own ++ history.handles_in reply) r.recorded)
-
-pub given-refused : (shared : Shared) (old new : Reserver) (n : ℕ) (refused : Refused) → Reserves shared old new n (Err refused) → handles_given new.own ≡ handles_given old.own
-given-refused shared old new n (OutOfSpace wanted left) r =
-    ap (λ (x : Reserver). handles_given x.own) r.after
-    ∙ (given-reserved old.own r.high n
-    ∙ (ap (λ (reply : Result (List Handle) Space). handles_given old.own ++ history.handles_in reply) r.recorded ∙ append-nil (handles_given old.own)))
-given-refused shared old new n (Quota left) r = absurd r.recorded
 
 -- The history is a permutation of all own reservations.
 
@@ -135,9 +117,6 @@ module _ (reservations : List Reservation) (r : Record) (respects : Respects res
   own-falls falls = subst (AllPairs (λ earlier later. later.high <ℤ earlier.high)) respects.own (AllPairs-filter (λ earlier later. later.high <ℤ earlier.high) (λ (c : Reservation). c.caller == r.number) reservations falls)
 
 -- A served reply has as many handles as were requested.
-
-pub length-served : (made : ℕ) (pool handles : List Handle) (n : ℕ) → reply_from made pool n ≡ Ok handles → length handles ≡ n
-length-served made pool handles n is = length_served made pool handles n is
 
 -- the call was refused, or has as many handles as it requested
 abbrev pub IsServedInFull : history.Call → Type 0

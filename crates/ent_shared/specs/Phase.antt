@@ -1,5 +1,5 @@
 -- What contracts see of a shared allocator and of its reservers.
-use Rattle.std.specs.Prelude.{◌≡◌, ℕ, ◌+◌, ◌<◌, ◌≤◌, ℤ, pos, ◌≤ℤ◌, List, [], ◌∷◌, take, drop, refl}
+use Rattle.std.specs.Prelude.{◌≡◌, ℕ, ◌+◌, ◌<◌, ◌≤◌, ℤ, pos, ◌≤ℤ◌, List, [], ◌∷◌, map, take, drop, refl}
 use Rattle.std.specs.List.{All}
 use Rattle.std.specs.Coded.{Coded, code_by, coded×, coded_ℕ}
 use Rattle.atomic_table.specs.Seated.{TableId, table_id_coded}
@@ -32,6 +32,10 @@ shared_code =
 
 abbrev pub reserver_code : Coded Reserver
 reserver_code = code_by (TableId × Record) (coded× table_id_coded recorded.the_row.coded) (λ r. (r.word, r.own)) (λ p. record { word = p.0; own = p.1 }) (λ _. refl)
+
+-- what these reservers have done
+abbrev pub records_of : List Reserver → List Record
+records_of reservers = map (λ (r : Reserver). r.own) reservers
 
 -- The reserver is one of those that came with this allocator.
 pub record IsOf (shared : Shared) (r : Reserver) : Type 0 where

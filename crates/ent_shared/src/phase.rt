@@ -1,6 +1,6 @@
-ghost use Rattle.std.specs.Prelude.{◌≡◌, ◌<◌, ◌≤◌, [], length, map, All, IfOk, IfErr};
+ghost use Rattle.std.specs.Prelude.{◌≡◌, ◌<◌, ◌≤◌, [], length, All, IfOk, IfErr};
 ghost use Rattle.ent_shared.specs.Record.{opened_records};
-ghost use Rattle.ent_shared.specs.Phase.{IsOf};
+ghost use Rattle.ent_shared.specs.Phase.{IsOf, records_of};
 
 use crate::reserver::Reserver;
 use crate::rule::Opening;
@@ -26,7 +26,7 @@ pub fn share(
     requires few { n ≤ 1024 }
     ensures shared { IfOk result (λ made. (made.0.start ≡ entities) × (made.0.count ≡ n)) }
     ensures count { IfOk result (λ made. length made.1.items ≡ n) }
-    ensures reservers { IfOk result (λ made. map (λ r. r.own) made.1.items ≡ opened_records entities 0 n) }
+    ensures reservers { IfOk result (λ made. records_of made.1.items ≡ opened_records entities 0 n) }
     ensures unused { IfOk result (λ made. All (λ r. r.own.entries ≡ []) made.1.items) }
     ensures own { IfOk result (λ made. All (IsOf made.0) made.1.items) }
     ensures err { IfErr result (λ refused. refused.0 ≡ entities) }

@@ -1,5 +1,5 @@
-ghost use Rattle.std.specs.Prelude.{◌≡◌, ◌≢◌, ◌↔◌, ◌⊎◌, ℕ, ℤ, ◌+◌, ◌*◌, ◌<◌, ◌≤◌, ◌≤ℤ◌, ◌<ℤ◌};
-ghost use Rattle.std.specs.Prelude.{List, [], ◌∷◌, ◌++◌, length, map, All, AllPairs, Contains, sum_by};
+ghost use Rattle.std.specs.Prelude.{◌≡◌, ◌≢◌, ◌↔◌, ◌⊎◌, ◌+◌, ◌*◌, ◌<◌, ◌≤◌, ◌≤ℤ◌, ◌<ℤ◌};
+ghost use Rattle.std.specs.Prelude.{[], ◌∷◌, ◌++◌, length, sum_by, All, AllPairs, Contains};
 ghost use Rattle.std.specs.Prelude.{Ok, Err, IfOk, OnErr};
 ghost use Rattle.ent_handle.specs.Handle.{Handle as HandleValue};
 ghost use Rattle.ent_alloc.specs.Limits.{credit};
@@ -8,7 +8,7 @@ ghost use Rattle.ent_alloc.specs.History.{IsLegal, after_history, given_in};
 ghost use Rattle.ent_alloc.specs.Sound.{IsLive};
 ghost use Rattle.ent_shared.specs.Record.{requested_by};
 ghost use Rattle.ent_shared.specs.Moves.{after_meeting};
-ghost use Rattle.ent_shared.specs.Phase.{IsPhase};
+ghost use Rattle.ent_shared.specs.Phase.{IsPhase, records_of};
 ghost use Rattle.ent_shared.specs.Rule.{IsClosed, least_floor};
 ghost use Rattle.ent_shared.specs.Order.{reservations_of, history_of, handles_given, Respects};
 ghost use Rattle.ent_shared.specs.declared.refused.Refused.TheVariants.{Quota};
@@ -36,7 +36,8 @@ impl Model for Shared {
 
     ghost coded = { shared_code };
 
-    ghost view = { λ s. record { word = s.word.shared.table_id; start = s.entities; count = s.count } };
+    ghost view = { λ s.
+        record { word = s.word.shared.table_id; start = s.entities; count = s.count } };
 
     ghost invariant = { λ s. IsPhase s.entities s.count s.word.shared.key s.word.shared.table_id };
 }
@@ -84,7 +85,8 @@ impl Shared {
         // What was given is recorded.
         ensures given { IfOk result (λ handle.
             handles_given reserver.new.own ≡ handles_given reserver.old.own ++ handle ∷ []) }
-        ensures refused { OnErr result (handles_given reserver.new.own ≡ handles_given reserver.old.own) }
+        ensures refused { OnErr result
+            (handles_given reserver.new.own ≡ handles_given reserver.old.own) }
     {
         let mut given = self.reserve_many(reserver, 1)?;
         let Some(handle) = given.next() else {
@@ -117,7 +119,8 @@ impl Shared {
         // What was given is recorded.
         ensures given { IfOk result (λ handles.
             handles_given reserver.new.own ≡ handles_given reserver.old.own ++ handles) }
-        ensures refused { OnErr result (handles_given reserver.new.own ≡ handles_given reserver.old.own) }
+        ensures refused { OnErr result
+            (handles_given reserver.new.own ≡ handles_given reserver.old.own) }
     {
         if u64::from(n) > reserver.left {
             return Err(Refused::Quota {
@@ -164,27 +167,28 @@ impl Shared {
     pub fn close(self, reservers: Vec<Reserver>) -> Entities
         requires all { length reservers.items ≡ self.count }
         requires own { All (IsOf self) reservers.items }
-        ensures legal { IsLegal self.start (history_of (map (λ r. r.own) reservers.items)) }
-        ensures respects { let records = map (λ r. r.own) reservers.items in
+        ensures legal { IsLegal self.start (history_of (records_of reservers.items)) }
+        ensures respects { let records = records_of reservers.items in
             All (Respects (reservations_of records)) records }
-        ensures after { result ≡ after_history self.start (history_of (map (λ r. r.own) reservers.items)) }
+        ensures after { result ≡ after_history self.start (history_of (records_of reservers.items)) }
 
         // Each reservation stands once, where its step came: the cursor falls with each.
         ensures falls { AllPairs (λ earlier later. later.high <ℤ earlier.high)
-            (reservations_of (map (λ r. r.own) reservers.items)) }
+            (reservations_of (records_of reservers.items)) }
 
         // Each reserver has a number of its own. It is below the count.
-        ensures numbers { AllPairs (λ r s. r.number ≢ s.number) (map (λ r. r.own) reservers.items) }
+        ensures numbers { AllPairs (λ r s. r.number ≢ s.number) (records_of reservers.items) }
 
         // No handle was given twice, and none was alive.
         ensures distinct { AllPairs (λ g h. g ≢ h)
-            (given_in (history_of (map (λ r. r.own) reservers.items))) }
+            (given_in (history_of (records_of reservers.items))) }
         ensures not_live { All (λ h. ¬ (IsLive self.start h))
-            (given_in (history_of (map (λ r. r.own) reservers.items))) }
+            (given_in (history_of (records_of reservers.items))) }
 
         // A flush brings to life exactly what was given.
-        ensures brings_to_life { let given = given_in (history_of (map (λ r. r.own) reservers.items)) in
-            (h : HandleValue) → IsLive (after_flush result) h ↔ (IsLive self.start h ⊎ Contains given h) }
+        ensures brings_to_life { let given = given_in (history_of (records_of reservers.items)) in
+            (h : HandleValue) →
+            IsLive (after_flush result) h ↔ (IsLive self.start h ⊎ Contains given h) }
     {
         let Shared {
             mut entities,
@@ -205,15 +209,17 @@ impl Shared {
 
         // It counts what the reservers that are here have requested, and of the others no more than their credit.
         ensures least { sum_by (λ r. requested_by r.own) reservers.items ≤ result.asked }
-        ensures most { sum_by (λ r. r.own.left) reservers.items + result.asked ≤ self.count * credit }
+        ensures most { sum_by (λ r. r.own.left) reservers.items + result.asked
+            ≤ self.count * credit }
         ensures reached { All (λ r. cursor result ≤ℤ r.own.mark) reservers.items }
 
         // If all are here, the cursor is where `close` leaves it.
         ensures whole { length reservers.items ≡ self.count
-            → cursor result ≡ cursor (after_history self.start (history_of (map (λ r. r.own) reservers.items))) }
+            → cursor result ≡ cursor (after_history self.start (history_of (records_of reservers.items))) }
 
         // What the reservers that are here were given is reserved.
-        ensures given { All (λ r. All (Contains result.taken) (handles_given r.own)) reservers.items }
+        ensures given { All (λ r. All (Contains result.taken) (handles_given r.own))
+            reservers.items }
     {
         let Shared {
             mut entities,
@@ -230,8 +236,9 @@ impl Shared {
 fn end_phase(word: Word, top: i64, reservers: Vec<Reserver>) -> (i64, i64)
     requires word { (word.shared.table_id.words ≡ 1) × (word.shared.table_id.slots ≡ 0) }
     requires own { All (λ r. r.word ≡ word.shared.table_id) reservers.items }
-    ensures cursor { IsClosed word.shared.key.entities word.shared.key.count (map (λ r. r.own) reservers.items) result.0 }
-    ensures floor { result.1 ≡ least_floor top (map (λ r. r.own) reservers.items) }
+    ensures cursor { let opening = word.shared.key in
+        IsClosed opening.entities opening.count (records_of reservers.items) result.0 }
+    ensures floor { result.1 ≡ least_floor top (records_of reservers.items) }
 {
     let mut all = word::new_seat(&word);
     let mut floor = top;

@@ -1,5 +1,6 @@
 //! The cursor as one atomic word: what each kind of step does to the word and to the records.
-ghost use Rattle.std.specs.Prelude.{◌≡◌, ℕ, ℤ, pos, ◌+ℤ◌, ◌-ℤ◌, ◌≤ℤ◌, ◌<ℤ◌, ◌<◌, ◌≤◌, ◌+◌, ◌-◌, ◌^◌, ◌*◌, List, [], ◌∷◌, ◌++◌, length, take, drop, IfOk};
+ghost use Rattle.std.specs.Prelude.{◌≡◌, pos, ◌-ℤ◌, ◌≤ℤ◌, ◌<◌, ◌≤◌, ◌^◌};
+ghost use Rattle.std.specs.Prelude.{List, [], ◌∷◌, ◌++◌, take, drop, IfOk};
 ghost use Rattle.ent_alloc.specs.Sequential.{cursor};
 ghost use Rattle.ent_shared.specs.Record.{opened_records, after_reservation};
 ghost use Rattle.ent_shared.specs.Rule.{IsStart, IsClosed};
@@ -25,8 +26,10 @@ pub(crate) type CursorSeat = Seat<(), SeatRecords>;
 pub(crate) fn open(alloc: Global, opening: &Opening) -> Result<(Word, CursorSeat), AllocError>
     requires start { IsStart opening.now.entities }
     requires count { opening.now.count ≤ 1024 }
-    ensures word { IfOk result (λ made. IsPhase opening.now.entities opening.now.count made.0.shared.key made.0.shared.table_id) }
-    ensures seat { IfOk result (λ made. (made.1.table_id ≡ made.0.shared.table_id) × (made.1.me ≡ (opened_records opening.now.entities 0 opening.now.count, []))) }
+    ensures word { IfOk result (λ made.
+        IsPhase opening.now.entities opening.now.count made.0.shared.key made.0.shared.table_id) }
+    ensures seat { IfOk result (λ made. (made.1.table_id ≡ made.0.shared.table_id)
+        × (made.1.me ≡ (opened_records opening.now.entities 0 opening.now.count, []))) }
 {
     let cursor = opening.entities.cursor();
     Table::of_words(alloc, &[(cursor + OFFSET) as u64], opening)
@@ -34,21 +37,26 @@ pub(crate) fn open(alloc: Global, opening: &Opening) -> Result<(Word, CursorSeat
 
 /// Takes the first record out of a seat, into a seat of its own.
 pub(crate) fn split_first(word: &Word, all: &mut CursorSeat) -> Badge<SeatRecords>
-    requires word { (word.now.shared.table_id.words ≡ 1) × (all.old.table_id ≡ word.now.shared.table_id) × (all.old.me.1 ≡ []) }
-    ensures kept { (all.new.table_id ≡ all.old.table_id) × (all.new.me ≡ (drop 1 all.old.me.0, [])) }
-    ensures first { (result.table_id ≡ all.old.table_id) × (result.views ≡ take 1 all.old.me.0 ∷ []) }
+    requires word { (word.now.shared.table_id.words ≡ 1)
+        × (all.old.table_id ≡ word.now.shared.table_id) × (all.old.me.1 ≡ []) }
+    ensures kept { (all.new.table_id ≡ all.old.table_id)
+        × (all.new.me ≡ (drop 1 all.old.me.0, [])) }
+    ensures first { (result.table_id ≡ all.old.table_id)
+        × (result.views ≡ take 1 all.old.me.0 ∷ []) }
 {
     word.shared.split_seat::<SplitFirst>(all).into_badge()
 }
 
 /// The reservation step: subtracts `n` from the word. Answers the cursor that it found.
 pub(crate) fn reserve(word: &Word, badge: &mut Badge<SeatRecords>, n: u32) -> i64
-    requires word { (word.now.shared.table_id.words ≡ 1) × (badge.old.table_id ≡ word.now.shared.table_id) }
+    requires word { (word.now.shared.table_id.words ≡ 1)
+        × (badge.old.table_id ≡ word.now.shared.table_id) }
     requires alone { badge.old.views ≡ (own_of badge.old.views ∷ []) ∷ [] }
     requires some { 0 < n }
     requires credit { n ≤ (own_of badge.old.views).left }
     ensures same { badge.new.table_id ≡ badge.old.table_id }
-    ensures gains { badge.new.views ≡ (after_reservation (own_of badge.old.views) result n ∷ []) ∷ [] }
+    ensures gains { badge.new.views
+        ≡ (after_reservation (own_of badge.old.views) result n ∷ []) ∷ [] }
     ensures mark { result ≤ℤ (own_of badge.old.views).mark }
     ensures least { (pos 0 -ℤ pos (2 ^ 50)) ≤ℤ result }
     ensures greatest { result ≤ℤ cursor (own_of badge.old.views).start }
@@ -61,11 +69,13 @@ pub(crate) fn reserve(word: &Word, badge: &mut Badge<SeatRecords>, n: u32) -> i6
 
 /// The meeting step: the first reserver's record lists what the second one has made and learned of.
 pub(crate) fn meet(word: &Word, a: &mut Badge<SeatRecords>, b: &mut Badge<SeatRecords>)
-    requires word { (word.now.shared.table_id.words ≡ 1) × (a.old.table_id ≡ word.now.shared.table_id) × (b.old.table_id ≡ word.now.shared.table_id) }
+    requires word { (word.now.shared.table_id.words ≡ 1)
+        × (a.old.table_id ≡ word.now.shared.table_id) × (b.old.table_id ≡ word.now.shared.table_id) }
     requires first { a.old.views ≡ (own_of a.old.views ∷ []) ∷ [] }
     requires second { b.old.views ≡ (own_of b.old.views ∷ []) ∷ [] }
     ensures same { (a.new.table_id ≡ a.old.table_id) × (b.new.table_id ≡ b.old.table_id) }
-    ensures meets { a.new.views ≡ (after_meeting (own_of a.old.views) (own_of b.old.views) ∷ []) ∷ [] }
+    ensures meets { a.new.views
+        ≡ (after_meeting (own_of a.old.views) (own_of b.old.views) ∷ []) ∷ [] }
     ensures met { b.new.views ≡ b.old.views }
 {
     let mut seat = mem::replace(a, Badge::blank()).into_seat();
@@ -88,17 +98,21 @@ pub(crate) fn new_seat(word: &Word) -> CursorSeat
 
 /// Moves a reserver's record into a seat.
 pub(crate) fn merge(word: &Word, all: &mut CursorSeat, badge: Badge<SeatRecords>)
-    requires word { (word.now.shared.table_id.words ≡ 1) × (all.old.table_id ≡ word.now.shared.table_id) × (badge.table_id ≡ word.now.shared.table_id) × (all.old.me.1 ≡ []) }
+    requires word { (word.now.shared.table_id.words ≡ 1)
+        × (all.old.table_id ≡ word.now.shared.table_id) × (badge.table_id ≡ word.now.shared.table_id)
+        × (all.old.me.1 ≡ []) }
     requires one { (records : List Record) × (badge.views ≡ records ∷ []) }
     ensures kept { all.new.table_id ≡ all.old.table_id }
-    ensures merges { (all.new.me.1 ≡ []) × ((records : List Record) → badge.views ≡ records ∷ [] → all.new.me.0 ≡ all.old.me.0 ++ records) }
+    ensures merges { (all.new.me.1 ≡ []) × ((records : List Record) → badge.views ≡ records ∷ []
+        → all.new.me.0 ≡ all.old.me.0 ++ records) }
 {
     word.shared.join_seat::<Merge>(all, badge.into_seat());
 }
 
 /// The cursor at the end of the phase, of which a seat knows these records.
 pub(crate) fn close(word: Word, all: CursorSeat) -> i64
-    requires word { (word.shared.table_id.words ≡ 1) × (word.shared.table_id.slots ≡ 0) × (all.table_id ≡ word.shared.table_id) }
+    requires word { (word.shared.table_id.words ≡ 1) × (word.shared.table_id.slots ≡ 0)
+        × (all.table_id ≡ word.shared.table_id) }
     ensures { IsClosed word.shared.key.entities word.shared.key.count all.me.0 result }
 {
     let closed = word.close_with(all);

@@ -1,9 +1,9 @@
 use Rattle.std.proofs.Common.{◌≡◌, w64, to_z, of_z, List, [], ◌∷◌, arith, sym, ap, subst, ◌∙◌}
 use Rattle.std.proofs.lemmas.Int.{ints, to_z-of_z}
 use Rattle.ent_shared.specs.declared.record.Record.{Record}
-use Rattle.ent_shared.specs.Phase.{Reserver, own_of}
+use Rattle.ent_shared.specs.Phase.{Reserver, own_of, records_of}
 use Rattle.ent_shared.specs.Rule.{IsClosed, least_floor}
-use Rattle.ent_shared.proofs.Merging.{item_is, items_on, items_all, records_on, floor_on, owns, nothing_left}
+use Rattle.ent_shared.proofs.Merging.{item_is, items_on, items_all, records_on, floor_on, nothing_left}
 use Rattle.ent_shared.proofs.shared.end_phase.Goals as goal
 
 pub merge-requires-clause-word : goal.merge-requires-clause-word
@@ -45,7 +45,7 @@ all_in c =
 pub returns-clause-cursor : goal.returns-clause-cursor
 returns-clause-cursor c =
     let i = c.loop-reserver.invariant in
-    let records : c.loop-reserver.all.me.0 ≡ owns c.args.reservers.items = i.records ∙ ap owns (all_in c) in
+    let records : c.loop-reserver.all.me.0 ≡ records_of c.args.reservers.items = i.records ∙ ap records_of (all_in c) in
     let fits = c.close.type_inv in
     let at : to_z w64 (of_z w64 c.close.result) ≡ c.close.result = omega (arith, ints) in
     rw at (subst (λ (rs : List Record). IsClosed c.args.word.shared.key.entities c.args.word.shared.key.count rs c.close.result) records c.close.ensures)
@@ -54,4 +54,4 @@ pub returns-clause-floor : goal.returns-clause-floor
 returns-clause-floor c =
     let i = c.loop-reserver.invariant in
     let top : to_z w64 (of_z w64 c.args.top) ≡ c.args.top = to_z-of_z w64 c.args.top c.ranges.top in
-    i.floor ∙ (λ k. least_floor (top k) (owns (all_in c k)))
+    i.floor ∙ (λ k. least_floor (top k) (records_of (all_in c k)))

@@ -5,23 +5,23 @@ use Rattle.ent_alloc.specs.Sequential.{Allocator, cursor}
 use Rattle.ent_shared.specs.declared.record.Record.{Record}
 use Rattle.ent_shared.specs.Record.{own_reservations, requested_by}
 use Rattle.ent_shared.specs.Order.{handles_of}
-use Rattle.ent_shared.specs.Phase.{Shared, Reserver, after_loss}
+use Rattle.ent_shared.specs.Phase.{Shared, Reserver, records_of, after_loss}
 use Rattle.ent_shared.proofs.Losing.{lost, Lost}
-use Rattle.ent_shared.proofs.Merging.{owns, length-owns, sum_owns, all_owners}
+use Rattle.ent_shared.proofs.Merging.{length-records_of, sum_by-records_of, all_owners}
 use Rattle.ent_shared.proofs.shared.Shared.close_lost.Goals as goal
 
 -- what is known before the allocator is settled, and after it
-known : (c : goal.After-max) → Lost c.self.inside.entities c.args.self.start c.args.self.count (owns c.args.reservers.items) (to_z w64 (of_z w64 c.end_phase-cursor.result.0)) (to_z w64 (of_z w64 c.max.result))
+known : (c : goal.After-max) → Lost c.self.inside.entities c.args.self.start c.args.self.count (records_of c.args.reservers.items) (to_z w64 (of_z w64 c.end_phase-cursor.result.0)) (to_z w64 (of_z w64 c.max.result))
 known c =
     let phase = c.self.invariant in
-    lost c.self.inside.entities c.args.self.start c.self.inside.count c.args.self.count c.room.result c.self.inside.word.shared.key (owns c.args.reservers.items) c.end_phase-cursor.result.0 c.max.result c.from-2.result
+    lost c.self.inside.entities c.args.self.start c.self.inside.count c.args.self.count c.room.result c.self.inside.word.shared.key (records_of c.args.reservers.items) c.end_phase-cursor.result.0 c.max.result c.from-2.result
     phase.begins phase.sound phase.few phase.key_is (ap (λ (s : Shared). s.start) c.self.view_is) (ap (λ (s : Shared). s.count) c.self.view_is)
     c.end_phase-cursor.ensures.cursor c.room.ensures c.room.type_inv (c.from-2.ensures) c.max.ensures.value
 
-after : (c : goal.After-settle) → Lost c.self.inside.entities c.args.self.start c.args.self.count (owns c.args.reservers.items) (to_z w64 (of_z w64 c.end_phase-cursor.result.0)) (to_z w64 (of_z w64 c.max.result))
+after : (c : goal.After-settle) → Lost c.self.inside.entities c.args.self.start c.args.self.count (records_of c.args.reservers.items) (to_z w64 (of_z w64 c.end_phase-cursor.result.0)) (to_z w64 (of_z w64 c.max.result))
 after c =
     let phase = c.self.invariant in
-    lost c.self.inside.entities c.args.self.start c.self.inside.count c.args.self.count c.room.result c.self.inside.word.shared.key (owns c.args.reservers.items) c.end_phase-cursor.result.0 c.max.result c.from-2.result
+    lost c.self.inside.entities c.args.self.start c.self.inside.count c.args.self.count c.room.result c.self.inside.word.shared.key (records_of c.args.reservers.items) c.end_phase-cursor.result.0 c.max.result c.from-2.result
     phase.begins phase.sound phase.few phase.key_is (ap (λ (s : Shared). s.start) c.self.view_is) (ap (λ (s : Shared). s.count) c.self.view_is)
     c.end_phase-cursor.ensures.cursor c.room.ensures c.room.type_inv (c.from-2.ensures) c.max.ensures.value
 
@@ -46,13 +46,13 @@ returns-clause-after c =
 pub returns-clause-least : goal.returns-clause-least
 returns-clause-least c =
     let l = after c in
-    let own : sum_by requested_by (owns c.args.reservers.items) ≡ sum_by (λ (r : Reserver). requested_by r.own) c.args.reservers.items = sum_owns requested_by c.args.reservers.items in
+    let own : sum_by requested_by (records_of c.args.reservers.items) ≡ sum_by (λ (r : Reserver). requested_by r.own) c.args.reservers.items = sum_by-records_of requested_by c.args.reservers.items in
     subst (λ (s : Allocator). sum_by (λ (r : Reserver). requested_by r.own) c.args.reservers.items ≤ s.asked) (sym (left_is c)) (subst (λ (n : ℕ). n ≤ l.asked) own l.some_asked)
 
 pub returns-clause-most : goal.returns-clause-most
 returns-clause-most c =
     let l = after c in
-    let own : sum_by (λ (r : Record). r.left) (owns c.args.reservers.items) ≡ sum_by (λ (r : Reserver). r.own.left) c.args.reservers.items = sum_owns (λ (r : Record). r.left) c.args.reservers.items in
+    let own : sum_by (λ (r : Record). r.left) (records_of c.args.reservers.items) ≡ sum_by (λ (r : Reserver). r.own.left) c.args.reservers.items = sum_by-records_of (λ (r : Record). r.left) c.args.reservers.items in
     subst (λ (s : Allocator). sum_by (λ (r : Reserver). r.own.left) c.args.reservers.items + s.asked ≤ c.args.self.count * credit) (sym (left_is c))
     (subst (λ (n : ℕ). n + l.asked ≤ c.args.self.count * credit) own l.most_asked)
 
@@ -60,14 +60,14 @@ pub returns-clause-reached : goal.returns-clause-reached
 returns-clause-reached c =
     let l = after c in
     all_owners (λ (r : Record). cursor c.settle.new.self ≤ℤ r.mark) c.args.reservers.items
-    (subst (λ (s : Allocator). All (λ (r : Record). cursor s ≤ℤ r.mark) (owns c.args.reservers.items)) (sym (left_is c)) l.reached)
+    (subst (λ (s : Allocator). All (λ (r : Record). cursor s ≤ℤ r.mark) (records_of c.args.reservers.items)) (sym (left_is c)) l.reached)
 
 pub returns-clause-whole : goal.returns-clause-whole
 returns-clause-whole c = λ all_here.
-    ap cursor (left_is c) ∙ (after c).whole (length-owns c.args.reservers.items ∙ all_here)
+    ap cursor (left_is c) ∙ (after c).whole (length-records_of c.args.reservers.items ∙ all_here)
 
 pub returns-clause-given : goal.returns-clause-given
 returns-clause-given c =
     let l = after c in
     all_owners (λ (r : Record). All (Contains c.settle.new.self.taken) (handles_of (own_reservations r.entries))) c.args.reservers.items
-    (subst (λ (s : Allocator). All (λ (r : Record). All (Contains s.taken) (handles_of (own_reservations r.entries))) (owns c.args.reservers.items)) (sym (left_is c)) l.given)
+    (subst (λ (s : Allocator). All (λ (r : Record). All (Contains s.taken) (handles_of (own_reservations r.entries))) (records_of c.args.reservers.items)) (sym (left_is c)) l.given)

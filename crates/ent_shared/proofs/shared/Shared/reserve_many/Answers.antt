@@ -12,7 +12,7 @@ use Rattle.ent_shared.proofs.Seating.{seated_reservation, of_reserved, given_now
 use Rattle.ent_shared.proofs.Answering.{served_floor, refused_floor}
 use Rattle.std.proofs.Common.{◌≡◌, ap, refl, ◌∙◌, [], Ok}
 use Rattle.ent_alloc.specs.Sequential.{Allocator, pool_at, top, cursor}
-use Rattle.ent_shared.proofs.Answering.{reply-none, no_space, low_of, length_served}
+use Rattle.ent_shared.proofs.Answering.{reply-none, no_space, low_of, length-served}
 use Rattle.ent_shared.proofs.shared.Shared.reserve_many.Goals as goal
 
 pub unreachable-requires : goal.unreachable-requires
@@ -63,7 +63,7 @@ invariant_of-reserver-in-Err c =
 
 pub returns-then-n-eq0-clause-length : goal.returns-then-n-eq0-clause-length
 returns-then-n-eq0-clause-length c =
-    length_served c.self.inside.entities.made (pool_at c.self.inside.entities c.new.result.high) c.in-Ok.nothing 0 (sym (c.reply.ensures 0 (low_of c.new.result _ 0 c.new.ensures.value)) ∙ c.in-Ok.is) ∙ sym c.if-n-eq0.true
+    length-served c.self.inside.entities.made (pool_at c.self.inside.entities c.new.result.high) c.in-Ok.nothing 0 (sym (c.reply.ensures 0 (low_of c.new.result _ 0 c.new.ensures.value)) ∙ c.in-Ok.is) ∙ sym c.if-n-eq0.true
 
 pub returns-in-Ok-reply-clause-stays : goal.returns-in-Ok-reply-clause-stays
 returns-in-Ok-reply-clause-stays c =
@@ -73,7 +73,7 @@ returns-in-Ok-reply-clause-stays c =
 
 pub returns-in-Ok-reply-clause-length : goal.returns-in-Ok-reply-clause-length
 returns-in-Ok-reply-clause-length c =
-    length_served _ _ c.in-Ok-reply.handles c.args.n (sym (c.reply-2.ensures c.args.n (low_of c.new-span.result _ c.args.n c.new-span.ensures.value)) ∙ c.in-Ok-reply.is)
+    length-served _ _ c.in-Ok-reply.handles c.args.n (sym (c.reply-2.ensures c.args.n (low_of c.new-span.result _ c.args.n c.new-span.ensures.value)) ∙ c.in-Ok-reply.is)
 
 pub returns-in-Err-clause-stays : goal.returns-in-Err-clause-stays
 returns-in-Err-clause-stays c =
