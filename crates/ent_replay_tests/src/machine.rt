@@ -95,7 +95,10 @@ fn schedules(rt: HostRuntime) -> Result<(), Fail> {
 fn a_long_reply(rt: HostRuntime) -> Result<(), Fail> {
     let mut machine = Machine::new(rt.alloc(), Limits::default_limits())?;
     let events = [
-        Event::Begin { caller: 1, n: 70_000 },
+        Event::Begin {
+            caller: 1,
+            n: 70_000,
+        },
         Event::Step(1),
         Event::Answer(1),
     ];
@@ -138,7 +141,10 @@ fn lists_of_handles(rt: HostRuntime) -> Result<(), Fail> {
     let handle = Handle::new(2, 1).ok_or("handle")?;
     let list = HandleList::new(Vec::from_slice(rt.alloc(), &[handle, handle])?);
     let none = HandleList::new(Vec::new(rt.alloc()));
-    assert_eq!(rt; (list.len(), list.is_empty(), none.is_empty()), (2, false, true));
+    assert_eq!(rt;
+        (list.len(), list.is_empty(), none.is_empty()),
+        (2, false, true)
+    );
     assert!(rt; list != none);
     assert_eq!(rt; list.into_vec().as_slice(), [handle, handle].as_slice());
     Ok(())

@@ -4,12 +4,16 @@ use std::test::Fail;
 
 #[test]
 fn each_event_is_read(rt: HostRuntime) -> Result<(), Fail> {
-    let text = b"alloc\nfree 4294967294v2147483647\nflush\nbegin 4294967295 0\nstep 7\nanswer 1024\n";
+    let text =
+        b"alloc\nfree 4294967294v2147483647\nflush\nbegin 4294967295 0\nstep 7\nanswer 1024\n";
     let events = [
         Event::Alloc,
         Event::Free(Handle::new(4294967294, 2147483647).ok_or("handle")?),
         Event::Flush,
-        Event::Begin { caller: 4294967295, n: 0 },
+        Event::Begin {
+            caller: 4294967295,
+            n: 0,
+        },
         Event::Step(7),
         Event::Answer(1024),
     ];

@@ -5,6 +5,7 @@ use std::io::ErrorKind;
 use std::process::Abort;
 
 // How the program ends: its exit status, what it writes, and what it says on the error stream.
+#[derive(Clone, Copy)]
 struct Ending<'a> {
     status: u8,
     output: &'a str,
@@ -19,8 +20,16 @@ fn ends(rt: &(impl Abort + AllocGlobal), words: &[&str], input: &str, puts: u64,
     let mut errors = MemorySink::new(rt.alloc(), NEVER);
     let status = execute(rt.alloc(), words, &mut source, &mut sink, &mut errors);
     assert_eq!(rt; status, ending.status, "at {words:?}");
-    assert_eq!(rt; sink.bytes.as_slice(), ending.output.as_bytes(), "at {words:?}");
-    assert_eq!(rt; errors.bytes.as_slice(), ending.errors.as_bytes(), "at {words:?}");
+    assert_eq!(rt;
+        sink.bytes.as_slice(),
+        ending.output.as_bytes(),
+        "at {words:?}"
+    );
+    assert_eq!(rt;
+        errors.bytes.as_slice(),
+        ending.errors.as_bytes(),
+        "at {words:?}"
+    );
 }
 
 #[test]
@@ -30,7 +39,13 @@ fn tasks_are_done(rt: HostRuntime) {
         output: "0v1\nspace wanted 1 left 0\n",
         errors: "",
     };
-    ends(&rt, &["replay", "--slots", "1"], "alloc\nalloc\n", NEVER, done);
+    ends(
+        &rt,
+        &["replay", "--slots", "1"],
+        "alloc\nalloc\n",
+        NEVER,
+        done,
+    );
     let refused = Ending {
         status: 1,
         output: "refused line 1 word\n",

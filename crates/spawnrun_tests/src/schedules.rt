@@ -65,7 +65,12 @@ const WORKED: [(u32, u32, &str, &str); 13] = [
         "open\nopen\ncursor -1\nbusy\ncursor -2\n1v1\n0v1\nborn 0v1 1v1\n",
     ),
     // A call may stay open, and nothing gives nothing.
-    (SLOTS, GENERATIONS, "begin 1 1\nstep 1\n", "open\ncursor -1\n"),
+    (
+        SLOTS,
+        GENERATIONS,
+        "begin 1 1\nstep 1\n",
+        "open\ncursor -1\n",
+    ),
     (SLOTS, GENERATIONS, "", ""),
     (
         SLOTS,
@@ -235,6 +240,13 @@ fn long_lines(rt: HostRuntime) -> Result<(), Fail> {
     let (answer, born) = (answer.as_str(), born.as_str());
     let output = format!(in rt.alloc(); "open\ncursor -100000\n{answer}\nborn{born}\n")?;
     let schedule = "begin 1 100000\nstep 1\nanswer 1\nflush\n";
-    replays(&rt, SLOTS, GENERATIONS, schedule, Status::Done, output.as_str());
+    replays(
+        &rt,
+        SLOTS,
+        GENERATIONS,
+        schedule,
+        Status::Done,
+        output.as_str(),
+    );
     Ok(())
 }

@@ -1,0 +1,15 @@
+#!/bin/sh
+# Builds the static library of crates/bench_queue and the driver, and prints the table of times.
+# It needs `rt` and `rustc` on the path.
+set -eu
+here=$(cd "$(dirname "$0")" && pwd)
+crate=$here/../../crates/bench_queue
+kit=$(dirname "$(dirname "$(readlink -f "$(command -v rt)")")")
+out=$(mktemp -d)
+trap 'rm -rf "$out"' EXIT
+
+(cd "$crate" && rt lib >"$out/log" 2>&1) || { tail -5 "$out/log"; exit 1; }
+rustc -O --edition 2021 -o "$out/queue" "$here/main.rs" \
+    -L "native=$crate/out" -l static=bench_queue \
+    -L "native=$kit/c" -l static=libc_c
+"$out/queue"
