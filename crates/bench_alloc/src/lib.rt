@@ -170,10 +170,8 @@ fn reserve_each(entities: &mut Entities, given: &mut [Handle])
     }
     for place in given {
         let span = entities.lower(1);
-        if let Ok(mut reserved) = entities.reply(span) {
-            if let Some(handle) = reserved.next() {
-                *place = handle;
-            }
+        if let Ok(handle) = entities.reply_one(span.high) {
+            *place = handle;
         }
     }
 }

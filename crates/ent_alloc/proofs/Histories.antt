@@ -1,8 +1,7 @@
 -- What a legal history leaves and gives.
 use Rattle.std.proofs.Common.{◌≡◌, ◌≢◌, refl, sym, ap, ◌∙◌, subst, List, [], ◌∷◌, ◌++◌, length, sum}
-use Rattle.std.proofs.Common.{All, AllPairs, Contains, IsPermutation, Result, Ok, Err, ◌↔◌, ◌⊎◌}
+use Rattle.std.proofs.Common.{All, AllPairs, Contains, IsPermutation, ◌↔◌, ◌⊎◌}
 use Rattle.ent_handle.specs.Handle.{Handle}
-use Rattle.ent_alloc.specs.declared.space.Space.{Space}
 use Rattle.ent_alloc.specs.Sequential.{Allocator, after_take, after_flush, reply_to, settled}
 use Rattle.ent_alloc.specs.Sound.{IsSound, IsLive}
 use Rattle.ent_alloc.specs.History.{Call, IsLegal, after_history, handles_in, given_in, requests_of}

@@ -17,5 +17,6 @@ pub mod Reused
 pub mod Linked
 pub mod Listing
 pub mod Meaning
+pub mod OneReply
 pub mod Looked
 pub mod Histories

@@ -24,10 +24,9 @@ drop_at hs k h below at =
     drop_more hs k h below ∙ ap (λ x. x ∷ drop (k + 1) hs) (get_or_from_slice_get hs k h h at)
 
 -- the handle that waits at the position comes first
-pub handles_of-pending : (r : Roster) (position end index index_end : ℕ) (h : Handle) → IsInRange r position end index index_end → position < end → slice_get r.pending position ≡ Some h → handles_of r position end index index_end ≡ h ∷ handles_of r (position + 1) end index index_end
-handles_of-pending r position end index index_end h range below at =
+pub handles_of-pending : (r : Roster) (position end index index_end : ℕ) (h : Handle) → end ≤ length r.pending → position < end → slice_get r.pending position ≡ Some h → handles_of r position end index index_end ≡ h ∷ handles_of r (position + 1) end index index_end
+handles_of-pending r position end index index_end h within below at =
     let more : end - position ≡ suc (end - (position + 1)) = omega arith in
-    let within = range.within in
     λ i. take (more i) (drop_at r.pending position h (omega arith) at i) ++ fresh index (index_end - index)
 
 -- else the first fresh one

@@ -1,14 +1,13 @@
 -- All replies to requests in turn, taken together: no handle twice, none alive before, and a flush
 -- brings to life exactly those.
 use Rattle.std.proofs.Common.{get_or, IsTrue, ◌≡◌, refl, sym, subst, ℕ, List, [], ◌∷◌, ◌++◌, All}
-use Rattle.std.proofs.Common.{AllPairs, Contains, IsPermutation, Result, Ok, Err, ◌⊎◌, ◌↔◌}
+use Rattle.std.proofs.Common.{AllPairs, Contains, IsPermutation, Ok, Err, ◌⊎◌, ◌↔◌}
 use Rattle.std.proofs.Common.{append-nil, append_assoc, inl, inr}
 use Rattle.std.specs.FinSet as set
 use Rattle.std.proofs.lemmas.List.Sorted.{IsPermutation-refl, IsPermutation-sym}
 use Rattle.std.proofs.lemmas.List.Sorted.{IsPermutation-trans, IsPermutation-append_left}
 use Rattle.std.proofs.lemmas.List.Sorted.{All-permutation, Contains-permutation}
 use Rattle.ent_handle.specs.Handle.{Handle}
-use Rattle.ent_alloc.specs.declared.space.Space.{Space}
 use Rattle.ent_alloc.specs.Sequential.{Allocator, after_take, after_flush, reply_to, born}
 use Rattle.ent_alloc.specs.Sound.{IsSound, AreApart, IsLive}
 use Rattle.ent_alloc.specs.Given.{AreSpent}

@@ -1,7 +1,7 @@
 -- What becomes of the records when pending slots get their next occupants.
 use Rattle.std.proofs.Common.{◌≡◌, ◌≢◌, ℕ, ◌+◌, ◌<◌, Bool, true, false, cond, ◌&&◌, ◌||◌, eqb, List}
 use Rattle.std.proofs.Common.{[], ◌∷◌, length, get_or, set, map, refl, sym, ap, ◌∙◌, arith, inl}
-use Rattle.std.proofs.Common.{inr, suc, zero, Option, None}
+use Rattle.std.proofs.Common.{inr, suc, zero}
 use Rattle.std.specs.List.{list_any}
 use Rattle.std.specs.Ordering.{eq_by_cmp}
 use Rattle.std.specs.FinSet as sets

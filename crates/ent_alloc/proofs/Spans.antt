@@ -1,8 +1,8 @@
 -- The span of a request is one that the allocator can reply to.
-use Rattle.std.proofs.Common.{◌≡◌, ℕ, pos, ◌-◌, ◌^◌, ◌<◌, ◌≤◌, ◌-ℤ◌, ◌≤ℤ◌, neg_ℤ, sym, subst, arith}
+use Rattle.std.proofs.Common.{◌≡◌, ℕ, pos, ◌^◌, ◌<◌, ◌≤◌, ◌-ℤ◌, sym, subst, arith}
 use Rattle.std.proofs.lemmas.Int.{ints}
 use Rattle.ent_alloc.specs.declared.span.Span.{Span}
-use Rattle.ent_alloc.specs.Sequential.{Allocator, top, cursor, after_take}
+use Rattle.ent_alloc.specs.Sequential.{Allocator, cursor, after_take}
 use Rattle.ent_alloc.specs.Sound.{IsSound}
 use Rattle.ent_alloc.specs.Span.{IsSpanOf}
 use Rattle.ent_alloc.proofs.PoolLaw.{top-after_take}

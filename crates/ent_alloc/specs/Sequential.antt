@@ -83,6 +83,11 @@ reply_from made pool n =
     then Ok (listed made (take n pool))
     else Err (record { wanted = n; left = length pool })
 
+-- a single handle, as a list
+abbrev pub listed_alone : Result Handle Space → Result (List Handle) Space
+listed_alone (Ok handle) = Ok (handle ∷ [])
+listed_alone (Err space) = Err space
+
 abbrev pub reply_to : Allocator → ℕ → Result (List Handle) Space
 reply_to s n = reply_from s.made s.pool n
 

@@ -5,7 +5,7 @@ ghost use Rattle.std.specs.Prelude.{[], ◌∷◌, ◌++◌, length, slice_get, 
 ghost use Rattle.std.specs.FinSet as set;
 ghost use Rattle.std.specs.FinMap as map;
 ghost use Rattle.ent_alloc.specs.Sequential.{opening, top, cursor, available, asked_at, pool_at};
-ghost use Rattle.ent_alloc.specs.Sequential.{reply_from};
+ghost use Rattle.ent_alloc.specs.Sequential.{reply_from, listed_alone};
 ghost use Rattle.ent_alloc.specs.Sequential.{born, made_at_flush, next, state_of, settled};
 ghost use Rattle.ent_alloc.specs.Sequential.{after_flush, after_alloc, after_free, after_set_row};
 ghost use Rattle.ent_alloc.specs.Sequential.{after_take};
@@ -16,7 +16,7 @@ use crate::fault::{AllocFault, FreeFault, Freed};
 use crate::limits::Limits;
 use crate::requests::Requests;
 use crate::reserved::Reserved;
-use crate::slot_record::Occupancy;
+use crate::slot_record::{Occupancy, first_occupant};
 use crate::slots::Slots;
 use crate::space::Space;
 use crate::span::Span;
@@ -348,6 +348,30 @@ impl Entities {
             (made + before.saturating_sub(top)) as u32,
             (made + after.saturating_sub(top)) as u32,
         ))
+    }
+
+    /// What the request for one handle was given that found the cursor at `high`: the handle that
+    /// `reply` lists for its span. It is faster, since there is nothing to list.
+    ///
+    /// `high` is from -2^60 to the top.
+    ///
+    /// # Errors
+    ///
+    /// `Space`, with 1 wanted and 0 left, if the position is that of no slot.
+    pub fn reply_one(&self, high: i64) -> Result<Handle, Space>
+        requires least { neg_ℤ (pos (2 ^ 60)) ≤ℤ high }
+        requires passed { high ≤ℤ pos (top self.now) }
+        ensures { listed_alone result ≡ reply_from self.now.made (pool_at self.now high) 1 }
+    {
+        if high > 0 {
+            return Ok(self.slots.pending_at(high as usize - 1));
+        }
+        let index = u64::from(self.slots.made()) + (-high) as u64;
+        if index < u64::from(self.slots.limits().slots()) {
+            Ok(first_occupant(index as u32))
+        } else {
+            Err(Space { wanted: 1, left: 0 })
+        }
     }
 
     /// How many handles there were to give after the last flush.

@@ -1,6 +1,7 @@
 -- What a reservation answers.
-use Rattle.std.proofs.Common.{◌≡◌, ℕ, ◌≤◌, ℤ, pos, ◌-ℤ◌, List, [], ◌∷◌, length, take, refl, sym, ap, ◌∙◌, arith, Ok, Err}
-use Rattle.std.specs.Prelude.{Result, Bool, nat_le, true, false, cond}
+use Rattle.std.proofs.Common.{◌≡◌, ℕ, ◌≤◌, ℤ, pos, ◌-ℤ◌, List, [], length, take, refl, sym, ap, ◌∙◌, arith, Ok, Err}
+use Rattle.std.specs.Prelude.{Result, OnErr, Bool, nat_le, true, false, cond}
+use Rattle.std.proofs.lemmas.Int.{ints}
 use Rattle.std.proofs.lemmas.List.{length-take-le}
 use Rattle.std.proofs.lemmas.List.Sorted.{length_permutation}
 use Rattle.ent_alloc.proofs.Replies.{listed-IsPermutation}
@@ -43,17 +44,22 @@ length-served made pool handles n is =
     let same : handles ≡ listed made (take n pool) = cc in
     ap length same ∙ (length_permutation (take n pool) (listed made (take n pool)) (listed-IsPermutation made (take n pool)) ∙ length-take-le n pool enough)
 
+-- what holds anyway holds after a refusal
+pub on_err : {T E P : Type 0} (r : Result T E) → P → OnErr r P
+on_err (Ok _) p = tt
+on_err (Err _) p = p
+
+-- a span of one number
+pub one_low : (start : Allocator) (high : ℤ) (reply : Result (List Handle) Space) → reply ≡ reply_from start.made (pool_at start high) 1
+    → (k : ℕ) → high -ℤ pos 1 ≡ high -ℤ pos k → reply ≡ reply_from start.made (pool_at start high) k
+one_low start high reply is k lowered = let one : 1 ≡ k = omega (arith, ints) in is ∙ ap (reply_from start.made (pool_at start high)) one
+
 -- the reply that is recorded is the allocator's
 pub recorded_reply : (r : Record) (start : Allocator) (high : ℤ) (n : ℕ) (span : Span) (reply : Result (List Handle) Space) → r.start ≡ start → span ≡ record { high = high; low = high -ℤ pos n }
     → ((k : ℕ) → span.low ≡ span.high -ℤ pos k → reply ≡ reply_from start.made (pool_at start span.high) k) → (reservation_at r high n).reply ≡ reply
 recorded_reply r start high n span reply same is answers =
     let at : span.high ≡ high = ap (λ (s : Span). s.high) is in
     (λ i. reply_from (same i).made (pool_at (same i) (sym at i)) n) ∙ sym (answers n (low_of span high n is))
-
--- of a list of one the first is all
-pub only_one : (given rest : List Handle) (h : Handle) → length given ≡ 1 → given ≡ h ∷ rest → given ≡ h ∷ []
-only_one given [] h one first = first
-only_one given (x ∷ rest) h one first = absurd (let long : length given ≡ length (h ∷ x ∷ rest) = ap length first in omega arith)
 
 pub short_refused : (made : ℕ) (pool : List Handle) (n : ℕ) (refusal : Space) → reply_from made pool n ≡ Err refusal → nat_le n (length pool) ≡ false
 short_refused made pool n refusal is =

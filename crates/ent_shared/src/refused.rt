@@ -1,3 +1,7 @@
+ghost use Rattle.std.specs.Prelude.{◌≡◌};
+ghost use Rattle.ent_shared.specs.declared.refused.Refused.TheVariants.{Space as OutOfSpace};
+
+use ent_alloc::Space;
 use thiserror::Error;
 
 /// Why a reservation gave no handle.
@@ -18,4 +22,13 @@ pub enum Refused {
         /// The credit that is left.
         left: u64,
     },
+}
+
+impl From<Space> for Refused {
+    ghost from_gives = { λ space refused. refused ≡ OutOfSpace space.wanted space.left };
+
+    fn from(space: Space) -> Self {
+        let Space { wanted, left } = space;
+        Refused::Space { wanted, left }
+    }
 }

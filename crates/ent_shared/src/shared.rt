@@ -17,7 +17,7 @@ use crate::refused::Refused;
 use crate::reserver::Reserver;
 use crate::word;
 use crate::word::Word;
-use ent_alloc::{Entities, Reserved, Space, Span};
+use ent_alloc::{Entities, Reserved, Span};
 use ent_handle::Handle;
 use std::marker::Model;
 
@@ -88,10 +88,13 @@ impl Shared {
         ensures refused { OnErr result
             (handles_given reserver.new.own ≡ handles_given reserver.old.own) }
     {
-        let mut given = self.reserve_many(reserver, 1)?;
-        let Some(handle) = given.next() else {
-            unreachable!()
-        };
+        if reserver.left == 0 {
+            return Err(Refused::Quota { left: 0 });
+        }
+        let high = word::reserve(&self.word, &mut reserver.badge, 1);
+        reserver.left -= 1;
+        let handle = self.entities.reply_one(high)?;
+        reserver.floor = high - 1;
         Ok(handle)
     }
 
@@ -136,13 +139,9 @@ impl Shared {
         }
         let span = Span::new(word::reserve(&self.word, &mut reserver.badge, n), n);
         reserver.left -= u64::from(n);
-        match self.entities.reply(span) {
-            Ok(handles) => {
-                reserver.floor = span.low;
-                Ok(handles)
-            }
-            Err(Space { wanted, left }) => Err(Refused::Space { wanted, left }),
-        }
+        let handles = self.entities.reply(span)?;
+        reserver.floor = span.low;
+        Ok(handles)
     }
 
     /// Orders two reservers: every later reservation by `a` comes after everything that `b` has reserved or learned of so far.

@@ -1,4 +1,4 @@
-use Rattle.std.proofs.Common.{[], pos, sym, subst}
+use Rattle.std.proofs.Common.{[], sym, subst}
 use Rattle.std.specs.FinSet as sets
 use Rattle.std.specs.FinMap as maps
 use Rattle.ent_alloc.specs.declared.requests.Requests.{Requests}

@@ -1,21 +1,15 @@
-use Rattle.std.proofs.Common.{◌≡◌, ℕ, ℤ, ◌+◌, ◌-◌, ◌≤◌, pos, ◌≤ℤ◌, length, drop, Ok, Err, sym, ap}
+use Rattle.std.proofs.Common.{◌≡◌, ◌+◌, ◌-◌, ◌≤◌, pos, ◌≤ℤ◌, length, Ok, Err, sym, ap}
 use Rattle.std.proofs.Common.{◌∙◌, arith, to_z, of_z, w64}
 use Rattle.std.proofs.lemmas.Int.{ints}
-use Rattle.ent_alloc.specs.Sequential.{Allocator, asked_at, top, reply_from, pool_at}
-use Rattle.ent_alloc.specs.Roster.{Roster}
-use Rattle.ent_alloc.specs.Entities.{idle, allocator_of, beneath, AreReserved}
+use Rattle.ent_alloc.specs.Sequential.{Allocator, asked_at, top}
+use Rattle.ent_alloc.specs.Entities.{beneath}
 use Rattle.ent_alloc.specs.Reserved.{handles_of}
 use Rattle.ent_alloc.proofs.FreshHandles.{fresh-none}
 use Rattle.ent_alloc.proofs.Meaning.{top_is, asked_at-is, asked_at-lower, length_available}
-use Rattle.ent_alloc.proofs.Meaning.{pool_at_is, pending_below, reply_none, reply_refused}
+use Rattle.ent_alloc.proofs.Meaning.{pending_below, reply_none, reply_refused}
 use Rattle.ent_alloc.proofs.Meaning.{reply_served}
+use Rattle.ent_alloc.proofs.OneReply.{replied}
 use Rattle.ent_alloc.proofs.entities.Entities.reply.Goals as goal
-
--- the reply in the words of what the vectors stand for
-replied : (r : Roster) (at floor high : ℤ) (s : Allocator) (n : ℕ) → AreReserved r at floor → allocator_of r (beneath r at) (beneath r floor) ≡ s → reply_from r.made (drop (beneath r high) (idle r)) n ≡ reply_from s.made (pool_at s high) n
-replied r at floor high s n reserved view =
-    (λ i. reply_from r.made (pool_at_is r (beneath r at) (beneath r floor) high reserved.given_least reserved.sound i) n)
-    ∙ ap (λ (t : Allocator). reply_from t.made (pool_at t high) n) view
 
 pub returns-then-before-after : goal.returns-then-before-after
 returns-then-before-after c =
@@ -43,7 +37,7 @@ returns-then-before-after c =
     let slots : r.limits.slots ≡ s.limits.slots = ap (λ (t : Allocator). t.limits.slots) c.self.view_is in
     λ n requested.
     let requested : beneath r low ≡ beneath r high + n = ap (beneath r) requested ∙ asked_at-lower (length r.pending) high n high_in in
-    ap Ok (c.new.ensures ∙ fresh-none 0) ∙ reply_none r (beneath r high) n (omega arith) ∙ replied r e.requests.cursor e.requests.floor high s n inv c.self.view_is
+    ap Ok (c.new.ensures ∙ fresh-none 0) ∙ reply_none r (beneath r high) n (omega arith) ∙ replied r e.requests.cursor e.requests.floor high s inv c.self.view_is n
 
 pub returns-then-available-after : goal.returns-then-available-after
 returns-then-available-after c =
@@ -75,7 +69,7 @@ returns-then-available-after c =
     let past = c.if-available-after.true in
     let wanted : c.distance-after.result - c.distance-before.result ≡ n = omega arith in
     let left : c.saturating_sub.result ≡ length r.pending + (r.limits.slots - r.made) - beneath r high = omega arith in
-    (λ i. Err (record { wanted = wanted i; left = left i })) ∙ reply_refused r (beneath r high) n (omega arith) (omega arith) ∙ replied r e.requests.cursor e.requests.floor high s n inv c.self.view_is
+    (λ i. Err (record { wanted = wanted i; left = left i })) ∙ reply_refused r (beneath r high) n (omega arith) (omega arith) ∙ replied r e.requests.cursor e.requests.floor high s inv c.self.view_is n
 
 pub overflow_cast-made : goal.overflow_cast-made
 overflow_cast-made c =
@@ -221,4 +215,4 @@ returns c =
     let index_end_is : c.from-made.result + c.saturating_sub-5.result ≡ r.made + (beneath r high + n - length r.pending) = omega arith in
     ap Ok (c.new-2.ensures ∙ (λ i. handles_of r (position_is i) (end_is i) (index_is i) (index_end_is i)))
     ∙ reply_served r (beneath r high) n (pending_below r (beneath r e.requests.cursor) (beneath r e.requests.floor) inv.given_least inv.sound) (omega arith)
-    ∙ replied r e.requests.cursor e.requests.floor high s n inv c.self.view_is
+    ∙ replied r e.requests.cursor e.requests.floor high s inv c.self.view_is n

@@ -7,7 +7,7 @@ use Rattle.ent_alloc.proofs.reserved.ReservedIterator.next.Goals as goal
 pub returns-then-self-clause-steps : goal.returns-then-self-clause-steps
 returns-then-self-clause-steps c =
     let r = c.self.inside in
-    sym c.self.view_is ∙ handles_of-pending r.slots.now r.position r.end r.index r.index_end c.pending_at-handle.result c.self.invariant c.if-self.true c.pending_at-handle.ensures
+    sym c.self.view_is ∙ handles_of-pending r.slots.now r.position r.end r.index r.index_end c.pending_at-handle.result c.self.invariant.within c.if-self.true c.pending_at-handle.ensures
 
 pub returns-then-self-2-clause-steps : goal.returns-then-self-2-clause-steps
 returns-then-self-2-clause-steps c =

@@ -3,7 +3,6 @@ use Rattle.std.proofs.Common.{sym, ap, ◌∙◌, arith}
 use Rattle.std.specs.FinSet as sets
 use Rattle.std.proofs.lemmas.List.{append_assoc, with_items_is, take_rest, length-drop, length-map}
 use Rattle.std.proofs.lemmas.List.{drop-map}
-use Rattle.ent_handle.specs.Handle.{Handle}
 use Rattle.ent_alloc.specs.declared.slot_record.SlotRecord.{SlotRecord}
 use Rattle.ent_alloc.specs.Sequential.{fresh}
 use Rattle.ent_alloc.specs.Roster.{Roster}

@@ -1,4 +1,4 @@
-use Rattle.std.proofs.Common.{◌≡◌, ◌<◌, drop, length, Option, sym, ap, subst, ◌∙◌}
+use Rattle.std.proofs.Common.{◌<◌, drop, length, Option, sym, ap, subst, ◌∙◌}
 use Rattle.std.specs.Option.{OnSome}
 use Rattle.std.specs.FinSet as sets
 use Rattle.std.specs.FinMap as maps

@@ -1,12 +1,11 @@
-use Rattle.std.proofs.Common.{◌≡◌, ◌+◌, ◌-◌, ◌<◌, ℕ, List, [], ◌∷◌, ◌++◌, length, set, slice_get}
-use Rattle.std.proofs.Common.{take, Some, sym, ap, ◌∙◌, arith}
+use Rattle.std.proofs.Common.{◌≡◌, ◌-◌, [], ◌∷◌, length, set, slice_get}
+use Rattle.std.proofs.Common.{take, Some, sym, ap, ◌∙◌}
 use Rattle.std.specs.FinSet as sets
 use Rattle.std.proofs.lemmas.List.{get_or_read}
-use Rattle.ent_handle.specs.Handle.{Handle}
 use Rattle.ent_alloc.specs.declared.slot_record.SlotRecord.{SlotRecord}
 use Rattle.ent_alloc.specs.declared.slot_record.Occupancy.TheVariants.{Alive}
 use Rattle.ent_alloc.specs.Roster.{Roster}
-use Rattle.ent_alloc.specs.Slots.{roster_of, record_at, handle_at, blank, reuse}
+use Rattle.ent_alloc.specs.Slots.{roster_of, record_at, handle_at, blank}
 use Rattle.ent_alloc.proofs.Linked.{last_made, last_handle, reuse_last_keeps_links}
 use Rattle.ent_alloc.proofs.Linked.{roster_of-reuse_last}
 use Rattle.ent_alloc.proofs.slots.Slots.reuse_last.Goals as goal

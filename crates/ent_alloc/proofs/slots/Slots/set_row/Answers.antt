@@ -1,4 +1,4 @@
-use Rattle.std.proofs.Common.{◌≡◌, set, true, Some, sym, ap, ◌∙◌, arith}
+use Rattle.std.proofs.Common.{◌≡◌, set, true, sym, ap, ◌∙◌, arith}
 use Rattle.std.specs.FinSet as sets
 use Rattle.std.specs.FinMap as maps
 use Rattle.std.proofs.lemmas.List.{get_or_read}

@@ -12,7 +12,7 @@ use Rattle.ent_shared.proofs.Seating.{seated_reservation, of_reserved, given_now
 use Rattle.ent_shared.proofs.Answering.{served_floor, refused_floor}
 use Rattle.std.proofs.Common.{◌≡◌, ap, refl, ◌∙◌, [], Ok}
 use Rattle.ent_alloc.specs.Sequential.{Allocator, pool_at, top, cursor}
-use Rattle.ent_shared.proofs.Answering.{reply-none, no_space, low_of, length-served}
+use Rattle.ent_shared.proofs.Answering.{reply-none, no_space, low_of, length-served, on_err}
 use Rattle.ent_shared.proofs.shared.Shared.reserve_many.Goals as goal
 
 pub unreachable-requires : goal.unreachable-requires
@@ -35,8 +35,8 @@ reply-requires-2 c =
     let passed : to_z w64 (of_z w64 c.reserve.result) ≤ℤ pos (top c.self.inside.entities) = omega (arith, ints) in
     c.new-span.ensures.valid c.self.inside.entities passed
 
-pub invariant_of-reserver : goal.invariant_of-reserver
-invariant_of-reserver c =
+pub invariant_of-reserver-2 : goal.invariant_of-reserver-2
+invariant_of-reserver-2 c =
     let fits = c.reserve.type_inv in
     let least = c.reserve.ensures.least in
     let few = c.ranges.n in
@@ -48,10 +48,10 @@ invariant_of-reserver c =
     subst (λ (k : ℕ). IsSeated c.reserve.new.badge.views c.reserver.inside.number (c.reserver.inside.left - k) (to_z w64 (of_z w64 c.new-span.result.low))) (sym c.from-2.ensures)
     (seated_reservation c.reserver.inside.badge.views c.reserve.new.badge.views c.reserver.inside.number c.reserver.inside.left c.args.n c.reserver.inside.floor c.reserve.result (to_z w64 (of_z w64 c.new-span.result.low))
     c.reserver.invariant c.reserve.ensures.gains c.reserve.ensures.mark (omega arith)
-    (low_word ∙ served_floor (own_of c.reserver.inside.badge.views) c.self.inside.entities c.reserve.result c.args.n c.new-span.result _ c.reply-2.result start span c.reply-2.ensures c.in-Ok-reply.is))
+    (low_word ∙ served_floor (own_of c.reserver.inside.badge.views) c.self.inside.entities c.reserve.result c.args.n c.new-span.result _ c.reply-2.result start span c.reply-2.ensures c.in_ok-handles.was))
 
-pub invariant_of-reserver-in-Err : goal.invariant_of-reserver-in-Err
-invariant_of-reserver-in-Err c =
+pub invariant_of-reserver : goal.invariant_of-reserver
+invariant_of-reserver c =
     let fits = c.reserve.type_inv in
     let word : to_z w64 (of_z w64 c.reserve.result) ≡ c.reserve.result = omega (arith, ints) in
     let span : c.new-span.result ≡ record { high = c.reserve.result; low = c.reserve.result -ℤ pos c.args.n } = c.new-span.ensures.value ∙ (λ i. record { high = word i; low = word i -ℤ pos c.args.n }) in
@@ -59,24 +59,24 @@ invariant_of-reserver-in-Err c =
     subst (λ (k : ℕ). IsSeated c.reserve.new.badge.views c.reserver.inside.number (c.reserver.inside.left - k) c.reserver.inside.floor) (sym c.from-2.ensures)
     (seated_reservation c.reserver.inside.badge.views c.reserve.new.badge.views c.reserver.inside.number c.reserver.inside.left c.args.n c.reserver.inside.floor c.reserve.result c.reserver.inside.floor
     c.reserver.invariant c.reserve.ensures.gains c.reserve.ensures.mark (omega arith)
-    (c.reserver.invariant.floor_is ∙ refused_floor (own_of c.reserver.inside.badge.views) c.self.inside.entities c.reserve.result c.args.n c.new-span.result _ c.reply-2.result start span c.reply-2.ensures c.in-Err.is))
+    (c.reserver.invariant.floor_is ∙ refused_floor (own_of c.reserver.inside.badge.views) c.self.inside.entities c.reserve.result c.args.n c.new-span.result _ c.reply-2.result start span c.reply-2.ensures c.in_err-handles.was))
 
 pub returns-then-n-eq0-clause-length : goal.returns-then-n-eq0-clause-length
 returns-then-n-eq0-clause-length c =
     length-served c.self.inside.entities.made (pool_at c.self.inside.entities c.new.result.high) c.in-Ok.nothing 0 (sym (c.reply.ensures 0 (low_of c.new.result _ 0 c.new.ensures.value)) ∙ c.in-Ok.is) ∙ sym c.if-n-eq0.true
 
-pub returns-in-Ok-reply-clause-stays : goal.returns-in-Ok-reply-clause-stays
-returns-in-Ok-reply-clause-stays c =
+pub returns-clause-stays : goal.returns-clause-stays
+returns-clause-stays c =
     let left : c.reserver.inside.left ≡ c.args.reserver.now.own.left = c.reserver.invariant.left_is ∙ ap (λ (r : Reserver). r.own.left) c.reserver.view_is in
     of_reserved c.args.self.now c.args.reserver.now _ c.reserve.result c.args.n c.requires (omega arith)
     (λ i. record { word = (c.reserve.ensures.same ∙ ap (λ (r : Reserver). r.word) c.reserver.view_is) i; own = (ap own_of c.reserve.ensures.gains ∙ ap (λ (r : Reserver). after_reservation r.own c.reserve.result c.args.n) c.reserver.view_is) i })
 
-pub returns-in-Ok-reply-clause-length : goal.returns-in-Ok-reply-clause-length
-returns-in-Ok-reply-clause-length c =
-    length-served _ _ c.in-Ok-reply.handles c.args.n (sym (c.reply-2.ensures c.args.n (low_of c.new-span.result _ c.args.n c.new-span.ensures.value)) ∙ c.in-Ok-reply.is)
+pub returns-clause-length : goal.returns-clause-length
+returns-clause-length c =
+    length-served _ _ c.in_ok-handles.handles c.args.n (sym (c.reply-2.ensures c.args.n (low_of c.new-span.result _ c.args.n c.new-span.ensures.value)) ∙ c.in_ok-handles.was)
 
-pub returns-in-Err-clause-stays : goal.returns-in-Err-clause-stays
-returns-in-Err-clause-stays c =
+pub returns-in_err-handles-clause-stays : goal.returns-in_err-handles-clause-stays
+returns-in_err-handles-clause-stays c =
     let left : c.reserver.inside.left ≡ c.args.reserver.now.own.left = c.reserver.invariant.left_is ∙ ap (λ (r : Reserver). r.own.left) c.reserver.view_is in
     of_reserved c.args.self.now c.args.reserver.now _ c.reserve.result c.args.n c.requires (omega arith)
     (λ i. record { word = (c.reserve.ensures.same ∙ ap (λ (r : Reserver). r.word) c.reserver.view_is) i; own = (ap own_of c.reserve.ensures.gains ∙ ap (λ (r : Reserver). after_reservation r.own c.reserve.result c.args.n) c.reserver.view_is) i })
@@ -88,20 +88,20 @@ returns-then-n-eq0-clause-given c =
     let none : c.in-Ok.nothing ≡ [] = cc in
     sym (append-nil (handles_given c.args.reserver.now.own)) ∙ ap (λ (handles : List Handle). handles_given c.args.reserver.now.own ++ handles) (sym none)
 
-pub returns-in-Ok-reply-clause-given : goal.returns-in-Ok-reply-clause-given
-returns-in-Ok-reply-clause-given c =
+pub returns-clause-given : goal.returns-clause-given
+returns-clause-given c =
     let fits = c.reserve.type_inv in
     let word : to_z w64 (of_z w64 c.reserve.result) ≡ c.reserve.result = omega (arith, ints) in
     let span : c.new-span.result ≡ record { high = c.reserve.result; low = c.reserve.result -ℤ pos c.args.n } = c.new-span.ensures.value ∙ (λ i. record { high = word i; low = word i -ℤ pos c.args.n }) in
     let start : c.args.reserver.now.own.start ≡ c.self.inside.entities = c.requires.start ∙ sym (ap (λ (s : Shared). s.start) c.self.view_is) in
     given_now c.reserver.inside.badge.views c.reserve.new.badge.views c.args.reserver.now _ c.self.inside.entities c.reserve.result c.args.n c.new-span.result c.reply-2.result c.reserver.view_is c.reserve.ensures.gains start span c.reply-2.ensures
-    ∙ ap (λ (reply : Result (List Handle) Space). handles_given c.args.reserver.now.own ++ handles_in reply) c.in-Ok-reply.is
+    ∙ ap (λ (reply : Result (List Handle) Space). handles_given c.args.reserver.now.own ++ handles_in reply) c.in_ok-handles.was
 
-pub returns-in-Err-clause-refused : goal.returns-in-Err-clause-refused
-returns-in-Err-clause-refused c =
+pub returns-in_err-handles-clause-refused : goal.returns-in_err-handles-clause-refused
+returns-in_err-handles-clause-refused c =
     let fits = c.reserve.type_inv in
     let word : to_z w64 (of_z w64 c.reserve.result) ≡ c.reserve.result = omega (arith, ints) in
     let span : c.new-span.result ≡ record { high = c.reserve.result; low = c.reserve.result -ℤ pos c.args.n } = c.new-span.ensures.value ∙ (λ i. record { high = word i; low = word i -ℤ pos c.args.n }) in
     let start : c.args.reserver.now.own.start ≡ c.self.inside.entities = c.requires.start ∙ sym (ap (λ (s : Shared). s.start) c.self.view_is) in
-    given_now c.reserver.inside.badge.views c.reserve.new.badge.views c.args.reserver.now _ c.self.inside.entities c.reserve.result c.args.n c.new-span.result c.reply-2.result c.reserver.view_is c.reserve.ensures.gains start span c.reply-2.ensures
-    ∙ (ap (λ (reply : Result (List Handle) Space). handles_given c.args.reserver.now.own ++ handles_in reply) c.in-Err.is ∙ append-nil (handles_given c.args.reserver.now.own))
+    on_err c.from_residual.result (given_now c.reserver.inside.badge.views c.reserve.new.badge.views c.args.reserver.now _ c.self.inside.entities c.reserve.result c.args.n c.new-span.result c.reply-2.result c.reserver.view_is c.reserve.ensures.gains start span c.reply-2.ensures
+    ∙ (ap (λ (reply : Result (List Handle) Space). handles_given c.args.reserver.now.own ++ handles_in reply) c.in_err-handles.was ∙ append-nil (handles_given c.args.reserver.now.own)))
