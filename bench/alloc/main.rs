@@ -1,13 +1,24 @@
 //! Times the work of `crates/bench_alloc` beside the same work over the plain allocator.
 //!
-//! Without words it prints a table of times. With `HANDLES ROUNDS` it does each work on that many
-//! handles in that many rounds and times nothing, for a tool that counts instructions.
+//! Without words it prints a line of times for each case. With `HANDLES ROUNDS` it does each work on
+//! that many handles in that many rounds and times nothing, for a tool that counts instructions.
+//!
+//! Where a loop begins in a cache line changes its time by up to a half. So `run.sh` builds the
+//! program in several layouts, which `PADDING` sets, in bytes.
 
 mod plain;
 mod work;
 
+use std::arch::global_asm;
 use std::hint::black_box;
 use std::time::Instant;
+
+// It stands before all code of the program and of the library, and the linker keeps it.
+global_asm!(
+    ".section .text.hot.padding, \"axR\", @progbits",
+    concat!(".skip ", env!("PADDING")),
+    ".text"
+);
 
 /// Verified work, as `crates/bench_alloc` exports it.
 mod verified {
@@ -57,11 +68,11 @@ const CASES: [Case; 5] = [
 const HANDLES: [u32; 3] = [1_000, 100_000, 1_000_000];
 
 /// How many handles a timed run goes through at least, and how many rounds it has at least.
-const STEPS: u32 = 2_000_000;
-const ROUNDS: u32 = 10;
+const STEPS: u32 = 1_000_000;
+const ROUNDS: u32 = 5;
 
 /// How often each run is timed.
-const RUNS: usize = 31;
+const RUNS: usize = 7;
 
 fn main() {
     let words: Vec<u32> = std::env::args()
@@ -83,63 +94,53 @@ fn count(handles: u32, rounds: u32) {
 }
 
 fn print_times() {
-    println!("| Work | Handles | Verified | Plain | Ratio | Middle half of the ratios |");
-    println!("|---|---|---|---|---|---|");
     for case in &CASES {
         for handles in HANDLES {
-            print_row(case, handles);
+            print_line(case, handles);
         }
     }
 }
 
-/// The medians of the times of a handle in nanoseconds, and of their ratios.
-fn print_row(case: &Case, handles: u32) {
-    let mut verified = Vec::new();
-    let mut plain = Vec::new();
-    let mut ratios = Vec::new();
-    for run in 0..RUNS {
-        let (ours, theirs) = if run % 2 == 0 {
-            let ours = nanoseconds(handles, |h, r| case.verified(h, r));
-            (ours, nanoseconds(handles, case.plain))
-        } else {
-            let theirs = nanoseconds(handles, case.plain);
-            (nanoseconds(handles, |h, r| case.verified(h, r)), theirs)
-        };
-        assert_eq!(ours.0, theirs.0, "{}: other handles", case.name);
-        verified.push(ours.1);
-        plain.push(theirs.1);
-        ratios.push(ours.1 / theirs.1);
+/// The times of a handle in nanoseconds. The runs of the two take turns, and the shortest count.
+fn print_line(case: &Case, handles: u32) {
+    let rounds = ROUNDS.max(STEPS / handles);
+    let (mut verified, mut plain) = (Shortest::NONE, Shortest::NONE);
+    for _ in 0..RUNS {
+        let ours = verified.time(handles, rounds, |h, r| case.verified(h, r));
+        let theirs = plain.time(handles, rounds, case.plain);
+        assert_eq!(ours, theirs, "{}: other handles", case.name);
     }
-    let name = case.name;
-    let ours = median(&mut verified);
-    let theirs = median(&mut plain);
-    let ratio = median(&mut ratios);
-    let (low, high) = (ratios[RUNS / 4], ratios[RUNS - 1 - RUNS / 4]);
-    println!(
-        "| {name} | {handles} | {ours:.1} | {theirs:.1} | {ratio:.2} | {low:.2} to {high:.2} |"
-    );
+    let steps = f64::from(handles) * f64::from(rounds);
+    let [verified, plain] = [verified, plain].map(|it| (it.whole - it.before) * 1e9 / steps);
+    println!("{}|{handles}|{verified:.2}|{plain:.2}", case.name);
 }
 
-/// What the work answers, and the time of a handle in a round: what the rounds take beyond the
-/// work without a round.
-fn nanoseconds(handles: u32, work: impl Fn(u32, u32) -> u64) -> (u64, f64) {
-    let rounds = ROUNDS.max(STEPS / handles);
-    let (_, before) = seconds(|| work(black_box(handles), black_box(0)));
-    let (answer, whole) = seconds(|| work(black_box(handles), black_box(rounds)));
-    let steps = f64::from(handles) * f64::from(rounds);
-    (answer, (whole - before) * 1e9 / steps)
+/// The shortest seconds of a work: without a round, and with all of them.
+struct Shortest {
+    before: f64,
+    whole: f64,
+}
+
+impl Shortest {
+    const NONE: Shortest = Shortest {
+        before: f64::INFINITY,
+        whole: f64::INFINITY,
+    };
+
+    /// Times the work once more. Returns what it answers.
+    fn time(&mut self, handles: u32, rounds: u32, work: impl Fn(u32, u32) -> u64) -> u64 {
+        let (_, before) = seconds(|| work(black_box(handles), black_box(0)));
+        let (answer, whole) = seconds(|| work(black_box(handles), black_box(rounds)));
+        self.before = self.before.min(before);
+        self.whole = self.whole.min(whole);
+        answer
+    }
 }
 
 fn seconds(work: impl Fn() -> u64) -> (u64, f64) {
     let start = Instant::now();
     let answer = work();
     (answer, start.elapsed().as_secs_f64())
-}
-
-/// The median; afterwards they are in order.
-fn median(of: &mut [f64]) -> f64 {
-    of.sort_by(f64::total_cmp);
-    of[of.len() / 2]
 }
 
 impl Case {

@@ -12,7 +12,7 @@ trap 'rm -rf "$out"' EXIT
 # The instructions of each work and of all that it calls, on 10,000 handles in that many rounds.
 count() {
     valgrind --tool=callgrind --callgrind-out-file="$out/calls" \
-        "$out/alloc" 10000 "$1" >"$out/log" 2>&1 || { tail -5 "$out/log"; exit 1; }
+        "$out/alloc0" 10000 "$1" >"$out/log" 2>&1 || { tail -5 "$out/log"; exit 1; }
     callgrind_annotate --inclusive=yes --threshold=100 "$out/calls" | awk '
         NF < 2 { next }
         { name = $(NF - 1) }
@@ -26,9 +26,11 @@ count() {
 
 # rt builds for x86-64-v2, so the plain allocator is built for it too.
 (cd "$crate" && rt lib >"$out/log" 2>&1) || { tail -5 "$out/log"; exit 1; }
-rustc -O -C target-cpu=x86-64-v2 --edition 2021 -o "$out/alloc" "$here/main.rs" \
-    -L "native=$crate/out" -l static=bench_alloc \
-    -L "native=$kit/c" -l static=libc_c
+for padding in 0 16 32 48; do
+    PADDING=$padding rustc -O -C target-cpu=x86-64-v2 --edition 2021 -o "$out/alloc$padding" "$here/main.rs" \
+        -L "native=$crate/out" -l static=bench_alloc \
+        -L "native=$kit/c" -l static=libc_c
+done
 
 if [ "${1-}" = instructions ]; then
     { count 0; count 10; } | awk '
@@ -46,5 +48,19 @@ if [ "${1-}" = instructions ]; then
             }
         }'
 else
-    "$out/alloc"
+    for round in 1 2; do
+        for padding in 0 16 32 48; do "$out/alloc$padding"; done
+    done | awk -F'|' '
+        { key = "| " $1 " | " $2 " |" }
+        !(key in ours) { order[++count] = key; ours[key] = $3; theirs[key] = $4; next }
+        $3 + 0 < ours[key] + 0 { ours[key] = $3 }
+        $4 + 0 < theirs[key] + 0 { theirs[key] = $4 }
+        END {
+            print "| Work | Handles | Verified | Plain | Ratio |"
+            print "|---|---|---|---|---|"
+            for (i = 1; i <= count; i++) {
+                key = order[i]
+                printf "%s %.1f | %.1f | %.2f |\n", key, ours[key], theirs[key], ours[key] / theirs[key]
+            }
+        }'
 fi

@@ -327,7 +327,7 @@ alloc_fresh_is r h none room first =
 
 -- ---- lower
 
-length_left : (r : Roster) (asked : ℕ) → length (drop asked (idle r)) ≡ length r.pending + (r.limits.slots - r.made) - asked
+pub length_left : (r : Roster) (asked : ℕ) → length (drop asked (idle r)) ≡ length r.pending + (r.limits.slots - r.made) - asked
 length_left r asked = length-drop asked (idle r) ∙ ap (λ n. n - asked) (length-idle r)
 
 -- a request that there is enough for

@@ -14,6 +14,6 @@ handles_of r position end index index_end =
 pub record IsInRange (r : Roster) (position end index index_end : ℕ) : Type 0 where
   pub positions : position ≤ end
   pub within : end ≤ length r.pending
-  pub few : end < 2 ^ 32
+  pub few : end < 2 ^ 63
   pub indexes : index ≤ index_end
   pub last : index_end < 2 ^ 32

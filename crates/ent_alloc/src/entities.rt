@@ -326,28 +326,27 @@ impl Entities {
         ensures { (n : ℕ) → span.low ≡ span.high -ℤ pos n
             → result ≡ reply_from self.now.made (pool_at self.now span.high) n }
     {
-        let available = self.available();
-        let waiting = self.slots.waiting();
-        let before = distance(waiting, span.high);
-        let after = distance(waiting, span.low);
-        if before == after {
+        let Span { high, low } = span;
+        if low == high {
             return Ok(Reserved::new(&self.slots, 0, 0, 0, 0));
         }
-        if available < after {
+        let made = self.slots.made();
+        if low >= 0 {
+            return Ok(Reserved::new(&self.slots, low as usize, high as usize, made, made));
+        }
+        let index_end = u64::from(made) + (-low) as u64;
+        if index_end > u64::from(self.slots.limits().slots()) {
             return Err(Space {
-                wanted: (after - before) as u32,
-                left: available.saturating_sub(before) as u32,
+                wanted: (high - low) as u32,
+                left: self.left_below(high),
             });
         }
-        let top = u64::from(waiting);
-        let made = u64::from(self.slots.made());
-        Ok(Reserved::new(
-            &self.slots,
-            top.saturating_sub(after) as usize,
-            top.saturating_sub(before) as usize,
-            (made + before.saturating_sub(top)) as u32,
-            (made + after.saturating_sub(top)) as u32,
-        ))
+        let index_end = index_end as u32;
+        if high > 0 {
+            return Ok(Reserved::new(&self.slots, 0, high as usize, made, index_end));
+        }
+        let index = made + (-high) as u32;
+        Ok(Reserved::new(&self.slots, 0, 0, index, index_end))
     }
 
     /// What the request for one handle was given that found the cursor at `high`: the handle that
@@ -372,6 +371,16 @@ impl Entities {
         } else {
             Err(Space { wanted: 1, left: 0 })
         }
+    }
+
+    /// How many handles a request finds that finds the cursor at `high`.
+    fn left_below(&self, high: i64) -> u32
+        requires least { neg_ℤ (pos (2 ^ 61)) ≤ℤ high }
+        requires passed { high ≤ℤ pos (top self.now) }
+        ensures { result ≡ length (pool_at self.now high) }
+    {
+        let before = distance(self.slots.waiting(), high);
+        self.available().saturating_sub(before) as u32
     }
 
     /// How many handles there were to give after the last flush.

@@ -1,180 +1,153 @@
-use Rattle.std.proofs.Common.{◌≡◌, ◌+◌, ◌-◌, ◌≤◌, pos, ◌≤ℤ◌, length, Ok, Err, sym, ap}
-use Rattle.std.proofs.Common.{◌∙◌, arith, to_z, of_z, w64}
+use Rattle.std.proofs.Common.{◌≡◌, ◌+◌, pos, ◌-ℤ◌, ◌≤ℤ◌, nat_abs, length, sym, ap, ◌∙◌, Ok, arith, to_z, of_z, w64}
 use Rattle.std.proofs.lemmas.Int.{ints}
-use Rattle.ent_alloc.specs.Sequential.{Allocator, asked_at, top}
+use Rattle.ent_alloc.specs.Limits.{Limits}
+use Rattle.ent_alloc.specs.Sequential.{top, pool_at}
 use Rattle.ent_alloc.specs.Entities.{beneath}
-use Rattle.ent_alloc.specs.Reserved.{handles_of}
 use Rattle.ent_alloc.proofs.FreshHandles.{fresh-none}
-use Rattle.ent_alloc.proofs.Meaning.{top_is, asked_at-is, asked_at-lower, length_available}
-use Rattle.ent_alloc.proofs.Meaning.{pending_below, reply_none, reply_refused}
-use Rattle.ent_alloc.proofs.Meaning.{reply_served}
-use Rattle.ent_alloc.proofs.OneReply.{replied}
+use Rattle.ent_alloc.proofs.Meaning.{top_is, asked_at-is, reply_none}
+use Rattle.ent_alloc.proofs.OneReply.{replied, several, short_of, left_is}
 use Rattle.ent_alloc.proofs.entities.Entities.reply.Goals as goal
 
-pub returns-then-before-after : goal.returns-then-before-after
-returns-then-before-after c =
+pub returns-then-low-high : goal.returns-then-low-high
+returns-then-low-high c =
     let e = c.self.inside in
     let r = e.slots in
     let s = c.args.self.now in
     let inv = c.self.invariant in
     let high = c.args.span.high in
     let low = c.args.span.low in
-    let waits = c.waiting-waiting.ensures.value in
-    let tops : top s ≡ length r.pending = ap top (sym c.self.view_is) ∙ top_is r (beneath r e.requests.cursor) (beneath r e.requests.floor) inv.given_least inv.sound in
     let least = c.requires.least in
-    let passed = c.requires.passed in
     let short = c.requires.short in
     let ordered = c.requires.ordered in
-    let high_in : high ≤ℤ pos (length r.pending) = omega (arith, ints) in
-    let low_in : low ≤ℤ pos (length r.pending) = omega (arith, ints) in
-    let high_word : to_z w64 (of_z w64 high) ≡ high = omega (arith, ints) in
-    let low_word : to_z w64 (of_z w64 low) ≡ low = omega (arith, ints) in
-    let before_is : c.distance-before.result ≡ beneath r high = c.distance-before.ensures ∙ (λ i. asked_at (waits i) (high_word i)) in
-    let after_is : c.distance-after.result ≡ beneath r low = c.distance-after.ensures ∙ (λ i. asked_at (waits i) (low_word i)) in
-    let all = length_available r e.requests.cursor e.requests.floor s inv c.self.view_is in
-    let has = c.available-available.ensures.value in
-    let made : r.made ≡ s.made = ap (λ (t : Allocator). t.made) c.self.view_is in
-    let slots : r.limits.slots ≡ s.limits.slots = ap (λ (t : Allocator). t.limits.slots) c.self.view_is in
+    let passed = c.requires.passed in
+    let tops : top s ≡ length r.pending = ap top (sym c.self.view_is) ∙ top_is r (beneath r e.requests.cursor) (beneath r e.requests.floor) inv.given_least inv.sound in
+    let within : high ≤ℤ pos (length r.pending) = omega (arith, ints) in
+    let distance = asked_at-is (length r.pending) high within in
     λ n requested.
-    let requested : beneath r low ≡ beneath r high + n = ap (beneath r) requested ∙ asked_at-lower (length r.pending) high n high_in in
-    ap Ok (c.new.ensures ∙ fresh-none 0) ∙ reply_none r (beneath r high) n (omega arith) ∙ replied r e.requests.cursor e.requests.floor high s inv c.self.view_is n
+    let none : n ≡ 0 = (let same = c.if-low-high.true in omega (arith, ints)) in
+    ap Ok (c.new.ensures ∙ fresh-none 0) ∙ reply_none r (beneath r high) n none ∙ replied r e.requests.cursor e.requests.floor high s inv c.self.view_is n
 
-pub returns-then-available-after : goal.returns-then-available-after
-returns-then-available-after c =
+pub new-requires-then-low-ge0 : goal.new-requires-then-low-ge0
+new-requires-then-low-ge0 c =
     let e = c.self.inside in
     let r = e.slots in
     let s = c.args.self.now in
     let inv = c.self.invariant in
     let high = c.args.span.high in
     let low = c.args.span.low in
-    let waits = c.waiting-waiting.ensures.value in
-    let tops : top s ≡ length r.pending = ap top (sym c.self.view_is) ∙ top_is r (beneath r e.requests.cursor) (beneath r e.requests.floor) inv.given_least inv.sound in
     let least = c.requires.least in
-    let passed = c.requires.passed in
     let short = c.requires.short in
     let ordered = c.requires.ordered in
-    let high_in : high ≤ℤ pos (length r.pending) = omega (arith, ints) in
-    let low_in : low ≤ℤ pos (length r.pending) = omega (arith, ints) in
-    let high_word : to_z w64 (of_z w64 high) ≡ high = omega (arith, ints) in
-    let low_word : to_z w64 (of_z w64 low) ≡ low = omega (arith, ints) in
-    let before_is : c.distance-before.result ≡ beneath r high = c.distance-before.ensures ∙ (λ i. asked_at (waits i) (high_word i)) in
-    let after_is : c.distance-after.result ≡ beneath r low = c.distance-after.ensures ∙ (λ i. asked_at (waits i) (low_word i)) in
-    let all = length_available r e.requests.cursor e.requests.floor s inv c.self.view_is in
-    let has = c.available-available.ensures.value in
-    let made : r.made ≡ s.made = ap (λ (t : Allocator). t.made) c.self.view_is in
-    let slots : r.limits.slots ≡ s.limits.slots = ap (λ (t : Allocator). t.limits.slots) c.self.view_is in
-    λ n requested.
-    let requested : beneath r low ≡ beneath r high + n = ap (beneath r) requested ∙ asked_at-lower (length r.pending) high n high_in in
-    let differ = c.if-before-after.false in
-    let past = c.if-available-after.true in
-    let wanted : c.distance-after.result - c.distance-before.result ≡ n = omega arith in
-    let left : c.saturating_sub.result ≡ length r.pending + (r.limits.slots - r.made) - beneath r high = omega arith in
-    (λ i. Err (record { wanted = wanted i; left = left i })) ∙ reply_refused r (beneath r high) n (omega arith) (omega arith) ∙ replied r e.requests.cursor e.requests.floor high s inv c.self.view_is n
-
-pub overflow_cast-made : goal.overflow_cast-made
-overflow_cast-made c =
-    let e = c.self.inside in
-    let r = e.slots in
-    let s = c.args.self.now in
-    let inv = c.self.invariant in
-    let high = c.args.span.high in
-    let low = c.args.span.low in
-    let waits = c.waiting-waiting.ensures.value in
-    let tops : top s ≡ length r.pending = ap top (sym c.self.view_is) ∙ top_is r (beneath r e.requests.cursor) (beneath r e.requests.floor) inv.given_least inv.sound in
-    let least = c.requires.least in
     let passed = c.requires.passed in
-    let short = c.requires.short in
-    let ordered = c.requires.ordered in
-    let high_in : high ≤ℤ pos (length r.pending) = omega (arith, ints) in
-    let low_in : low ≤ℤ pos (length r.pending) = omega (arith, ints) in
-    let high_word : to_z w64 (of_z w64 high) ≡ high = omega (arith, ints) in
-    let low_word : to_z w64 (of_z w64 low) ≡ low = omega (arith, ints) in
-    let before_is : c.distance-before.result ≡ beneath r high = c.distance-before.ensures ∙ (λ i. asked_at (waits i) (high_word i)) in
-    let after_is : c.distance-after.result ≡ beneath r low = c.distance-after.ensures ∙ (λ i. asked_at (waits i) (low_word i)) in
-    let all = length_available r e.requests.cursor e.requests.floor s inv c.self.view_is in
-    let has = c.available-available.ensures.value in
-    let made : r.made ≡ s.made = ap (λ (t : Allocator). t.made) c.self.view_is in
-    let slots : r.limits.slots ≡ s.limits.slots = ap (λ (t : Allocator). t.limits.slots) c.self.view_is in
-    let rises : c.distance-before.result ≤ c.distance-after.result = omega (arith, ints, asked_at-is (length r.pending) high high_in, asked_at-is (length r.pending) low low_in) in
-    let top_word = c.from-top.ensures in
-    let made_word = c.from-made.ensures in
-    let made_is = c.made.ensures.value in
-    let few = c.made.ensures.within in
-    let fits = c.made.ensures.fits in
-    let enough = c.if-available-after.false in
-    omega arith
-
-pub overflow_cast-made-2 : goal.overflow_cast-made-2
-overflow_cast-made-2 c =
-    let e = c.self.inside in
-    let r = e.slots in
-    let s = c.args.self.now in
-    let inv = c.self.invariant in
-    let high = c.args.span.high in
-    let low = c.args.span.low in
-    let waits = c.waiting-waiting.ensures.value in
     let tops : top s ≡ length r.pending = ap top (sym c.self.view_is) ∙ top_is r (beneath r e.requests.cursor) (beneath r e.requests.floor) inv.given_least inv.sound in
-    let least = c.requires.least in
-    let passed = c.requires.passed in
-    let short = c.requires.short in
-    let ordered = c.requires.ordered in
-    let high_in : high ≤ℤ pos (length r.pending) = omega (arith, ints) in
-    let low_in : low ≤ℤ pos (length r.pending) = omega (arith, ints) in
-    let high_word : to_z w64 (of_z w64 high) ≡ high = omega (arith, ints) in
-    let low_word : to_z w64 (of_z w64 low) ≡ low = omega (arith, ints) in
-    let before_is : c.distance-before.result ≡ beneath r high = c.distance-before.ensures ∙ (λ i. asked_at (waits i) (high_word i)) in
-    let after_is : c.distance-after.result ≡ beneath r low = c.distance-after.ensures ∙ (λ i. asked_at (waits i) (low_word i)) in
-    let all = length_available r e.requests.cursor e.requests.floor s inv c.self.view_is in
-    let has = c.available-available.ensures.value in
-    let made : r.made ≡ s.made = ap (λ (t : Allocator). t.made) c.self.view_is in
-    let slots : r.limits.slots ≡ s.limits.slots = ap (λ (t : Allocator). t.limits.slots) c.self.view_is in
-    let rises : c.distance-before.result ≤ c.distance-after.result = omega (arith, ints, asked_at-is (length r.pending) high high_in, asked_at-is (length r.pending) low low_in) in
-    let top_word = c.from-top.ensures in
-    let made_word = c.from-made.ensures in
-    let made_is = c.made.ensures.value in
-    let few = c.made.ensures.within in
-    let fits = c.made.ensures.fits in
-    let enough = c.if-available-after.false in
-    omega arith
-
-pub new-requires-2 : goal.new-requires-2
-new-requires-2 c =
-    let e = c.self.inside in
-    let r = e.slots in
-    let s = c.args.self.now in
-    let inv = c.self.invariant in
-    let high = c.args.span.high in
-    let low = c.args.span.low in
-    let waits = c.waiting-waiting.ensures.value in
-    let tops : top s ≡ length r.pending = ap top (sym c.self.view_is) ∙ top_is r (beneath r e.requests.cursor) (beneath r e.requests.floor) inv.given_least inv.sound in
-    let least = c.requires.least in
-    let passed = c.requires.passed in
-    let short = c.requires.short in
-    let ordered = c.requires.ordered in
-    let high_in : high ≤ℤ pos (length r.pending) = omega (arith, ints) in
-    let low_in : low ≤ℤ pos (length r.pending) = omega (arith, ints) in
-    let high_word : to_z w64 (of_z w64 high) ≡ high = omega (arith, ints) in
-    let low_word : to_z w64 (of_z w64 low) ≡ low = omega (arith, ints) in
-    let before_is : c.distance-before.result ≡ beneath r high = c.distance-before.ensures ∙ (λ i. asked_at (waits i) (high_word i)) in
-    let after_is : c.distance-after.result ≡ beneath r low = c.distance-after.ensures ∙ (λ i. asked_at (waits i) (low_word i)) in
-    let all = length_available r e.requests.cursor e.requests.floor s inv c.self.view_is in
-    let has = c.available-available.ensures.value in
-    let made : r.made ≡ s.made = ap (λ (t : Allocator). t.made) c.self.view_is in
-    let slots : r.limits.slots ≡ s.limits.slots = ap (λ (t : Allocator). t.limits.slots) c.self.view_is in
-    let rises : c.distance-before.result ≤ c.distance-after.result = omega (arith, ints, asked_at-is (length r.pending) high high_in, asked_at-is (length r.pending) low low_in) in
-    let top_word = c.from-top.ensures in
-    let made_word = c.from-made.ensures in
-    let made_is = c.made.ensures.value in
-    let few = c.made.ensures.within in
-    let fits = c.made.ensures.fits in
-    let enough = c.if-available-after.false in
+    let within : high ≤ℤ pos (length r.pending) = omega (arith, ints) in
+    let distance = asked_at-is (length r.pending) high within in
+    let made = c.made-made.ensures.value in
+    let few = c.made-made.ensures.within in
+    let fits = c.made-made.ensures.fits in
     record {
-      positions = omega arith;
-      within = omega arith;
-      few = omega arith;
-      indexes = omega arith;
-      last = omega arith;
+      positions = omega (arith, ints);
+      within = omega (arith, ints);
+      few = omega (arith, ints);
+      indexes = omega (arith, ints);
+      last = omega (arith, ints);
     }
+
+pub returns-then-low-ge0 : goal.returns-then-low-ge0
+returns-then-low-ge0 c =
+    let e = c.self.inside in
+    let r = e.slots in
+    let s = c.args.self.now in
+    let inv = c.self.invariant in
+    let high = c.args.span.high in
+    let low = c.args.span.low in
+    let least = c.requires.least in
+    let short = c.requires.short in
+    let ordered = c.requires.ordered in
+    let passed = c.requires.passed in
+    let tops : top s ≡ length r.pending = ap top (sym c.self.view_is) ∙ top_is r (beneath r e.requests.cursor) (beneath r e.requests.floor) inv.given_least inv.sound in
+    let within : high ≤ℤ pos (length r.pending) = omega (arith, ints) in
+    let distance = asked_at-is (length r.pending) high within in
+    let made = c.made-made.ensures.value in
+    let few = c.made-made.ensures.within in
+    let fits = c.made-made.ensures.fits in
+    λ n requested.
+    ap Ok c.new-then-low-ge0.ensures
+    ∙ several r e.requests.cursor e.requests.floor high s inv c.self.view_is n _ _ _ _ (omega (arith, ints)) (omega (arith, ints)) (omega (arith, ints)) (omega (arith, ints)) (omega (arith, ints))
+
+pub returns-then-index_end-from : goal.returns-then-index_end-from
+returns-then-index_end-from c =
+    let e = c.self.inside in
+    let r = e.slots in
+    let s = c.args.self.now in
+    let inv = c.self.invariant in
+    let high = c.args.span.high in
+    let low = c.args.span.low in
+    let least = c.requires.least in
+    let short = c.requires.short in
+    let ordered = c.requires.ordered in
+    let passed = c.requires.passed in
+    let tops : top s ≡ length r.pending = ap top (sym c.self.view_is) ∙ top_is r (beneath r e.requests.cursor) (beneath r e.requests.floor) inv.given_least inv.sound in
+    let within : high ≤ℤ pos (length r.pending) = omega (arith, ints) in
+    let distance = asked_at-is (length r.pending) high within in
+    let made = c.made-made.ensures.value in
+    let few = c.made-made.ensures.within in
+    let fits = c.made-made.ensures.fits in
+    let slots : c.slots.result ≡ r.limits.slots = c.slots.ensures ∙ ap (λ (l : Limits). l.slots) c.limits.ensures in
+    let word : to_z w64 (of_z w64 high) ≡ high = omega (arith, ints) in
+    λ n requested.
+    short_of r e.requests.cursor e.requests.floor high s inv c.self.view_is n _ _ (omega (arith, ints)) (omega (arith, ints)) (omega (arith, ints))
+    (c.left_below.ensures ∙ (λ i. length (pool_at s (word i))) ∙ left_is r e.requests.cursor e.requests.floor high s inv c.self.view_is)
+
+pub new-requires-then-high-gt0 : goal.new-requires-then-high-gt0
+new-requires-then-high-gt0 c =
+    let e = c.self.inside in
+    let r = e.slots in
+    let s = c.args.self.now in
+    let inv = c.self.invariant in
+    let high = c.args.span.high in
+    let low = c.args.span.low in
+    let least = c.requires.least in
+    let short = c.requires.short in
+    let ordered = c.requires.ordered in
+    let passed = c.requires.passed in
+    let tops : top s ≡ length r.pending = ap top (sym c.self.view_is) ∙ top_is r (beneath r e.requests.cursor) (beneath r e.requests.floor) inv.given_least inv.sound in
+    let within : high ≤ℤ pos (length r.pending) = omega (arith, ints) in
+    let distance = asked_at-is (length r.pending) high within in
+    let made = c.made-made.ensures.value in
+    let few = c.made-made.ensures.within in
+    let fits = c.made-made.ensures.fits in
+    let slots : c.slots.result ≡ r.limits.slots = c.slots.ensures ∙ ap (λ (l : Limits). l.slots) c.limits.ensures in
+    record {
+      positions = omega (arith, ints);
+      within = omega (arith, ints);
+      few = omega (arith, ints);
+      indexes = omega (arith, ints);
+      last = omega (arith, ints);
+    }
+
+pub returns-then-high-gt0 : goal.returns-then-high-gt0
+returns-then-high-gt0 c =
+    let e = c.self.inside in
+    let r = e.slots in
+    let s = c.args.self.now in
+    let inv = c.self.invariant in
+    let high = c.args.span.high in
+    let low = c.args.span.low in
+    let least = c.requires.least in
+    let short = c.requires.short in
+    let ordered = c.requires.ordered in
+    let passed = c.requires.passed in
+    let tops : top s ≡ length r.pending = ap top (sym c.self.view_is) ∙ top_is r (beneath r e.requests.cursor) (beneath r e.requests.floor) inv.given_least inv.sound in
+    let within : high ≤ℤ pos (length r.pending) = omega (arith, ints) in
+    let distance = asked_at-is (length r.pending) high within in
+    let made = c.made-made.ensures.value in
+    let few = c.made-made.ensures.within in
+    let fits = c.made-made.ensures.fits in
+    let slots : c.slots.result ≡ r.limits.slots = c.slots.ensures ∙ ap (λ (l : Limits). l.slots) c.limits.ensures in
+    λ n requested.
+    ap Ok c.new-then-high-gt0.ensures
+    ∙ several r e.requests.cursor e.requests.floor high s inv c.self.view_is n _ _ _ _ (omega (arith, ints)) (omega (arith, ints)) (omega (arith, ints)) (omega (arith, ints)) (omega (arith, ints))
 
 pub returns : goal.returns
 returns c =
@@ -184,35 +157,17 @@ returns c =
     let inv = c.self.invariant in
     let high = c.args.span.high in
     let low = c.args.span.low in
-    let waits = c.waiting-waiting.ensures.value in
-    let tops : top s ≡ length r.pending = ap top (sym c.self.view_is) ∙ top_is r (beneath r e.requests.cursor) (beneath r e.requests.floor) inv.given_least inv.sound in
     let least = c.requires.least in
-    let passed = c.requires.passed in
     let short = c.requires.short in
     let ordered = c.requires.ordered in
-    let high_in : high ≤ℤ pos (length r.pending) = omega (arith, ints) in
-    let low_in : low ≤ℤ pos (length r.pending) = omega (arith, ints) in
-    let high_word : to_z w64 (of_z w64 high) ≡ high = omega (arith, ints) in
-    let low_word : to_z w64 (of_z w64 low) ≡ low = omega (arith, ints) in
-    let before_is : c.distance-before.result ≡ beneath r high = c.distance-before.ensures ∙ (λ i. asked_at (waits i) (high_word i)) in
-    let after_is : c.distance-after.result ≡ beneath r low = c.distance-after.ensures ∙ (λ i. asked_at (waits i) (low_word i)) in
-    let all = length_available r e.requests.cursor e.requests.floor s inv c.self.view_is in
-    let has = c.available-available.ensures.value in
-    let made : r.made ≡ s.made = ap (λ (t : Allocator). t.made) c.self.view_is in
-    let slots : r.limits.slots ≡ s.limits.slots = ap (λ (t : Allocator). t.limits.slots) c.self.view_is in
-    let rises : c.distance-before.result ≤ c.distance-after.result = omega (arith, ints, asked_at-is (length r.pending) high high_in, asked_at-is (length r.pending) low low_in) in
-    let top_word = c.from-top.ensures in
-    let made_word = c.from-made.ensures in
-    let made_is = c.made.ensures.value in
-    let few = c.made.ensures.within in
-    let fits = c.made.ensures.fits in
-    let enough = c.if-available-after.false in
+    let passed = c.requires.passed in
+    let tops : top s ≡ length r.pending = ap top (sym c.self.view_is) ∙ top_is r (beneath r e.requests.cursor) (beneath r e.requests.floor) inv.given_least inv.sound in
+    let within : high ≤ℤ pos (length r.pending) = omega (arith, ints) in
+    let distance = asked_at-is (length r.pending) high within in
+    let made = c.made-made.ensures.value in
+    let few = c.made-made.ensures.within in
+    let fits = c.made-made.ensures.fits in
+    let slots : c.slots.result ≡ r.limits.slots = c.slots.ensures ∙ ap (λ (l : Limits). l.slots) c.limits.ensures in
     λ n requested.
-    let requested : beneath r low ≡ beneath r high + n = ap (beneath r) requested ∙ asked_at-lower (length r.pending) high n high_in in
-    let position_is : c.saturating_sub-2.result ≡ length r.pending - (beneath r high + n) = omega arith in
-    let end_is : c.saturating_sub-3.result ≡ length r.pending - beneath r high = omega arith in
-    let index_is : c.from-made.result + c.saturating_sub-4.result ≡ r.made + (beneath r high - length r.pending) = omega arith in
-    let index_end_is : c.from-made.result + c.saturating_sub-5.result ≡ r.made + (beneath r high + n - length r.pending) = omega arith in
-    ap Ok (c.new-2.ensures ∙ (λ i. handles_of r (position_is i) (end_is i) (index_is i) (index_end_is i)))
-    ∙ reply_served r (beneath r high) n (pending_below r (beneath r e.requests.cursor) (beneath r e.requests.floor) inv.given_least inv.sound) (omega arith)
-    ∙ replied r e.requests.cursor e.requests.floor high s inv c.self.view_is n
+    ap Ok c.new-2.ensures
+    ∙ several r e.requests.cursor e.requests.floor high s inv c.self.view_is n 0 0 (c.made-made.result + nat_abs (to_z w64 (of_z w64 (pos 0 -ℤ to_z w64 (of_z w64 high))))) (c.from.result + nat_abs (to_z w64 (of_z w64 (pos 0 -ℤ to_z w64 (of_z w64 low))))) (omega (arith, ints)) (omega (arith, ints)) (omega (arith, ints)) (omega (arith, ints)) (omega (arith, ints))
