@@ -1,9 +1,9 @@
 -- What an `Entities` stands for, and what its calls make of that.
-use Rattle.std.proofs.Common.{◌≡◌, ℕ, ℤ, pos, negsuc, ◌+ℤ◌, ◌-ℤ◌, ◌≤ℤ◌, neg_ℤ, ◌+◌, ◌-◌, ◌<◌, ◌≤◌}
+use Rattle.std.proofs.Common.{◌≡◌, ℕ, ℤ, pos, negsuc, ◌-ℤ◌, ◌≤ℤ◌, ◌+◌, ◌-◌, ◌<◌, ◌≤◌}
 use Rattle.std.proofs.Common.{◌^◌, Bool, true, false, cond, ◌||◌, List, [], ◌∷◌, ◌++◌, length, take}
 use Rattle.std.proofs.Common.{drop, reverse, filter, refl, sym, ap, ◌∙◌, arith, inl, inr, suc, zero}
-use Rattle.std.proofs.Common.{slice_get, Some, subst, All, nat_le, Ok, Err, IsTrue, ◌↔◌, to_z, of_z}
-use Rattle.std.proofs.Common.{w64, Option, ◌⊎◌}
+use Rattle.std.proofs.Common.{slice_get, Some, subst, All, nat_le, Ok, Err, IsTrue, ◌↔◌}
+use Rattle.std.proofs.Common.{Option, ◌⊎◌}
 use Rattle.std.specs.List.{list_any}
 use Rattle.std.specs.Option.{is_some}
 use Rattle.std.specs.Ordering.{eq_by_cmp}
@@ -26,7 +26,7 @@ use Rattle.ent_alloc.specs.Limits.{Limits}
 use Rattle.ent_alloc.specs.declared.requests.Requests.{Requests}
 use Rattle.ent_alloc.specs.Roster.{Roster}
 use Rattle.ent_alloc.specs.Sequential.{Allocator, opening, fresh, is_old, is_fresh, available, top}
-use Rattle.ent_alloc.specs.Sequential.{cursor, after_take, made_at_flush, after_flush, after_alloc}
+use Rattle.ent_alloc.specs.Sequential.{after_take, made_at_flush, after_flush, after_alloc}
 use Rattle.ent_alloc.specs.Sequential.{after_free, next, born, listed, asked_at, pool_at}
 use Rattle.ent_alloc.specs.Sequential.{reply_from, stands_in, settled, after_set_row}
 use Rattle.ent_alloc.specs.Sound.{IsSound, IsLive}
@@ -96,18 +96,14 @@ flushed r asked given none within =
     λ i. allocator_of r (none i) (no_given i)
 
 -- where nothing is reserved, both cursors stand at the top
-pub AreReserved-flushed : (r : Roster) → IsSound (allocator_of r 0 0) → AreReserved r (pos (length r.pending)) (pos (length r.pending))
-AreReserved-flushed r sound =
-    let none : beneath r (pos (length r.pending)) ≡ 0 = asked_at-top (length r.pending) in
-    record {
-      sound = rw none sound;
-      cursor_in = omega (arith, ints);
-      floor_in = omega (arith, ints);
-      asked_in = omega arith;
-      given_in = omega arith;
-      given_least = omega arith;
-      given_all = λ _. refl;
-    }
+pub AreReserved-flushed : (r : Roster) → IsSound (allocator_of r 0 0) → AreReserved r 0 0
+AreReserved-flushed r sound = record {
+  sound = sound;
+  asked_in = omega arith;
+  given_in = omega arith;
+  given_least = omega arith;
+  given_all = λ _. refl;
+}
 
 pub opening_is : (limits : Limits) → allocator_of (record { limits = limits; live = sets.empty; rows = maps.empty; pending = []; made = 0 }) 0 0 ≡ opening limits
 opening_is limits =
@@ -448,33 +444,28 @@ pending_below r asked given within sound =
 -- ---- where a call begins and ends
 
 -- an allocator that nothing is reserved of
-pub rest_is : (r : Roster) (cursor floor : ℤ) (s : Allocator) → AreReserved r cursor floor → allocator_of r (beneath r cursor) (beneath r floor) ≡ s → s.asked ≡ 0 → allocator_of r 0 0 ≡ s
-rest_is r cursor floor s reserved view none =
-    sym (flushed r (beneath r cursor) (beneath r floor) (ap (λ (t : Allocator). t.asked) view ∙ none) reserved.given_least) ∙ view
+pub rest_is : (r : Roster) (asked given : ℕ) (s : Allocator) → AreReserved r asked given → allocator_of r asked given ≡ s → s.asked ≡ 0 → allocator_of r 0 0 ≡ s
+rest_is r asked given s reserved view none =
+    sym (flushed r asked given (ap (λ (t : Allocator). t.asked) view ∙ none) reserved.given_least) ∙ view
 
--- no request: both positions are at the top
-abbrev pub none_at : Roster → Requests
-none_at r = record { cursor = pos (length r.pending); floor = pos (length r.pending) }
+-- no request
+abbrev pub none : Requests
+none = record { asked = 0; served = 0 }
 
-pub closed_is : (r r' : Roster) (requests : Requests) (s : Allocator) → r ≡ r' → requests ≡ none_at r → allocator_of r' 0 0 ≡ s → allocator_of r (beneath r requests.cursor) (beneath r requests.floor) ≡ s
-closed_is r r' requests s same at_top is =
-    (λ i. allocator_of r (asked_at (length r.pending) (at_top i).cursor) (asked_at (length r.pending) (at_top i).floor))
-    ∙ (λ i. allocator_of r (asked_at-top (length r.pending) i) (asked_at-top (length r.pending) i))
-    ∙ ap (λ (x : Roster). allocator_of x 0 0) same
-    ∙ is
+-- what was requested of an allocator that nothing is reserved of
+pub none_is : (r : Roster) (requests : Requests) (s : Allocator) → AreReserved r requests.asked requests.served → allocator_of r requests.asked requests.served ≡ s → s.asked ≡ 0 → requests ≡ none
+none_is r requests s reserved view rest =
+    let asked : requests.asked ≡ 0 = ap (λ (t : Allocator). t.asked) view ∙ rest in
+    let given : requests.served ≡ 0 = (let least = reserved.given_least in omega arith) in
+    λ i. record { asked = asked i; served = given i }
 
-pub closed : (r r' : Roster) (requests : Requests) (s : Allocator) → r ≡ r' → requests ≡ none_at r → allocator_of r' 0 0 ≡ s → IsSound s → AreReserved r requests.cursor requests.floor
-closed r r' requests s same at_top is sound =
-    subst (λ (q : Requests). AreReserved r q.cursor q.floor) (sym at_top) (AreReserved-flushed r (subst IsSound (sym (ap (λ (x : Roster). allocator_of x 0 0) same ∙ is)) sound))
+pub closed_is : (r r' : Roster) (requests : Requests) (s : Allocator) → r ≡ r' → requests ≡ none → allocator_of r' 0 0 ≡ s → allocator_of r requests.asked requests.served ≡ s
+closed_is r r' requests s same rest is =
+    (λ i. allocator_of (same i) (rest i).asked (rest i).served) ∙ is
 
--- how many pending slots are not reserved, and how many fresh ones are
-pub kept_is : (n : ℕ) (floor : ℤ) (k : ℕ) → floor ≤ℤ pos n → (pos 0 ≤ℤ floor → pos k ≡ floor) → (floor ≤ℤ pos 0 → k ≡ 0) → k ≡ n - asked_at n floor
-kept_is n (pos c) k within some none = let same : pos k ≡ pos c = some (omega (arith, ints)) in omega (arith, ints)
-kept_is n (negsuc c) k within some none = let same : k ≡ 0 = none (omega (arith, ints)) in omega (arith, ints)
-
-pub fresh_is : (n : ℕ) (floor : ℤ) (k : ℕ) → (pos 0 ≤ℤ floor → k ≡ 0) → (floor ≤ℤ pos 0 → floor ≡ neg_ℤ (pos k)) → k ≡ asked_at n floor - n
-fresh_is n (pos c) k none some = let same : k ≡ 0 = none (omega (arith, ints)) in omega (arith, ints)
-fresh_is n (negsuc c) k none some = let same : negsuc c ≡ neg_ℤ (pos k) = some (omega (arith, ints)) in omega (arith, ints)
+pub closed : (r r' : Roster) (requests : Requests) (s : Allocator) → r ≡ r' → requests ≡ none → allocator_of r' 0 0 ≡ s → IsSound s → AreReserved r requests.asked requests.served
+closed r r' requests s same rest is sound =
+    subst (λ (q : Requests). AreReserved r q.asked q.served) (sym rest) (AreReserved-flushed r (subst IsSound (sym (ap (λ (x : Roster). allocator_of x 0 0) same ∙ is)) sound))
 
 -- a test that no request was made
 pub none_asked : (b : Bool) (n : ℕ) → (IsTrue b ↔ (0 < n)) → b ≡ false → n ≡ 0
@@ -484,70 +475,43 @@ none_asked b n tells is =
       | inr none ↦ omega arith
     ]
 
--- a position that lies between the top and what a handle can reach is the same as a machine's
--- number
-pub as_word : (r : Roster) (z : ℤ) → z ≤ℤ pos (length r.pending) → beneath r z ≤ 2 ^ 60 → length r.pending < 2 ^ 32 → to_z w64 (of_z w64 z) ≡ z
-as_word r z within small few = omega (arith, ints, asked_at-is (length r.pending) z within)
-
 -- ---- what lower leaves
 
-module _ (r : Roster) (cursor floor low : ℤ) (n : ℕ) (s : Allocator) (reserved : AreReserved r cursor floor) (view : allocator_of r (beneath r cursor) (beneath r floor) ≡ s) (lowered : low ≡ cursor -ℤ pos n) where
-  pub beneath_low : beneath r low ≡ beneath r cursor + n
-  beneath_low = ap (beneath r) lowered ∙ asked_at-lower (length r.pending) cursor n reserved.cursor_in
-
-  low_in : low ≤ℤ pos (length r.pending)
-  low_in = let within = reserved.cursor_in in omega (arith, ints)
-
-  pub served_view : beneath r cursor + n ≤ length r.pending + (r.limits.slots - r.made) → allocator_of r (beneath r low) (beneath r low) ≡ after_take s n
+module _ (r : Roster) (asked given n : ℕ) (s : Allocator) (reserved : AreReserved r asked given) (view : allocator_of r asked given ≡ s) where
+  pub served_view : asked + n ≤ length r.pending + (r.limits.slots - r.made) → allocator_of r (asked + n) (asked + n) ≡ after_take s n
   served_view enough =
-      (λ i. allocator_of r (beneath_low i) (beneath_low i))
-      ∙ lower_served r (beneath r cursor) (beneath r floor) n (reserved.given_all (omega arith)) enough
+      lower_served r asked given n (reserved.given_all (omega arith)) enough
       ∙ ap (λ t. after_take t n) view
 
-  pub served_reserved : beneath r cursor + n ≤ length r.pending + (r.limits.slots - r.made) → beneath r cursor + n ≤ 2 ^ 50 → AreReserved r low low
-  served_reserved enough small =
-      let at = beneath_low in
-      record {
-        sound = subst IsSound (sym (served_view enough)) (after_take-sound s n (subst IsSound view reserved.sound));
-        cursor_in = low_in;
-        floor_in = low_in;
-        asked_in = omega arith;
-        given_in = omega arith;
-        given_least = omega arith;
-        given_all = λ _. refl;
-      }
+  pub served_reserved : asked + n ≤ length r.pending + (r.limits.slots - r.made) → asked + n ≤ 2 ^ 50 → AreReserved r (asked + n) (asked + n)
+  served_reserved enough small = record {
+    sound = subst IsSound (sym (served_view enough)) (after_take-sound s n (subst IsSound view reserved.sound));
+    asked_in = small;
+    given_in = enough;
+    given_least = omega arith;
+    given_all = λ _. refl;
+  }
 
-  pub refused_view : length r.pending + (r.limits.slots - r.made) < beneath r cursor + n → allocator_of r (beneath r low) (beneath r floor) ≡ after_take s n
+  pub refused_view : length r.pending + (r.limits.slots - r.made) < asked + n → allocator_of r (asked + n) given ≡ after_take s n
   refused_view past =
-      (λ i. allocator_of r (beneath_low i) (beneath r floor))
-      ∙ lower_refused r (beneath r cursor) (beneath r floor) n reserved.given_least past
+      lower_refused r asked given n reserved.given_least past
       ∙ ap (λ t. after_take t n) view
 
-  pub refused_reserved : length r.pending + (r.limits.slots - r.made) < beneath r cursor + n → beneath r cursor + n ≤ 2 ^ 50 → AreReserved r low floor
+  pub refused_reserved : length r.pending + (r.limits.slots - r.made) < asked + n → asked + n ≤ 2 ^ 50 → AreReserved r (asked + n) given
   refused_reserved past small =
-      let at = beneath_low in
       let least = reserved.given_least in
       record {
         sound = subst IsSound (sym (refused_view past)) (after_take-sound s n (subst IsSound view reserved.sound));
-        cursor_in = low_in;
-        floor_in = reserved.floor_in;
-        asked_in = omega arith;
+        asked_in = small;
         given_in = reserved.given_in;
         given_least = omega arith;
         given_all = λ within. absurd (omega arith);
       }
 
--- the cursor that is kept is the allocator's
-pub cursor_is : (r : Roster) (at floor : ℤ) (s : Allocator) → AreReserved r at floor → allocator_of r (beneath r at) (beneath r floor) ≡ s → at ≡ cursor s
-cursor_is r at floor s reserved view =
-    let tops : length r.pending ≡ top s = sym (top_is r (beneath r at) (beneath r floor) reserved.given_least reserved.sound) ∙ ap top view in
-    let asks : beneath r at ≡ s.asked = ap (λ (t : Allocator). t.asked) view in
-    omega (arith, ints, asked_at-is (length r.pending) at reserved.cursor_in)
-
 -- how many there are to give, by the vectors
-pub length_available : (r : Roster) (at floor : ℤ) (s : Allocator) → AreReserved r at floor → allocator_of r (beneath r at) (beneath r floor) ≡ s → length (available s) ≡ length r.pending + (r.limits.slots - r.made)
-length_available r at floor s reserved view =
-    ap (λ (t : Allocator). length (available t)) (sym view) ∙ ap length (available_is r (beneath r at) (beneath r floor) reserved.given_least) ∙ length-idle r
+pub length_available : (r : Roster) (asked given : ℕ) (s : Allocator) → AreReserved r asked given → allocator_of r asked given ≡ s → length (available s) ≡ length r.pending + (r.limits.slots - r.made)
+length_available r asked given s reserved view =
+    ap (λ (t : Allocator). length (available t)) (sym view) ∙ ap length (available_is r asked given reserved.given_least) ∙ length-idle r
 
 -- ---- settle
 
@@ -557,36 +521,24 @@ settled_is r asked given =
     let same : asked ≡ 0 + asked = omega arith in
     λ i. record (allocator_of r asked given) { asked = same i }
 
-pub settled_view : (r : Roster) (at floor cursor' floor' : ℤ) (s : Allocator) → AreReserved r at floor → allocator_of r (beneath r at) (beneath r floor) ≡ s → s.asked ≡ 0 → allocator_of r (beneath r cursor') (beneath r floor') ≡ settled s (asked_at (top s) floor') (asked_at (top s) cursor')
-settled_view r at floor cursor' floor' s reserved view none =
-    let tops : length r.pending ≡ top s = sym (top_is r (beneath r at) (beneath r floor) reserved.given_least reserved.sound) ∙ ap top view in
-    settled_is r (beneath r cursor') (beneath r floor')
-    ∙ (λ i. settled (rest_is r at floor s reserved view none i) (asked_at (tops i) floor') (asked_at (tops i) cursor'))
+module _ (r : Roster) (was_asked was_given : ℕ) (s : Allocator) (reserved : AreReserved r was_asked was_given) (view : allocator_of r was_asked was_given ≡ s) (idle : s.asked ≡ 0) where
+  pub settled_view : (asked given : ℕ) → allocator_of r asked given ≡ settled s given asked
+  settled_view asked given =
+      settled_is r asked given ∙ ap (λ (t : Allocator). settled t given asked) (rest_is r was_asked was_given s reserved view idle)
 
-pub settled_reserved : (r : Roster) (at floor cursor' floor' : ℤ) (s : Allocator) → AreReserved r at floor → allocator_of r (beneath r at) (beneath r floor) ≡ s → s.asked ≡ 0
-    → pos (length r.pending) ≤ℤ (cursor' +ℤ pos (2 ^ 50)) → floor' ≤ℤ pos (length r.pending) → cursor' ≤ℤ floor' → pos 0 ≤ℤ (floor' +ℤ pos (r.limits.slots - r.made))
-    → (pos 0 ≤ℤ (cursor' +ℤ pos (r.limits.slots - r.made)) → floor' ≡ cursor') → AreReserved r cursor' floor'
-settled_reserved r at floor cursor' floor' s reserved view none least greatest ordered reachable all =
-    let cursor_in : cursor' ≤ℤ pos (length r.pending) = omega (arith, ints) in
-    let asks = asked_at-is (length r.pending) cursor' cursor_in in
-    let gives = asked_at-is (length r.pending) floor' greatest in
-    let le : beneath r floor' ≤ beneath r cursor' = omega (arith, ints) in
-    let equal : beneath r cursor' ≤ length r.pending + (r.limits.slots - r.made) → beneath r floor' ≡ beneath r cursor' =
-    λ within. ap (beneath r) (all (omega (arith, ints))) in
-    let tops : length r.pending ≡ top s = sym (top_is r (beneath r at) (beneath r floor) reserved.given_least reserved.sound) ∙ ap top view in
-    let long : length s.pool ≡ length r.pending + (r.limits.slots - r.made) =
-    sym (ap (λ (t : Allocator). length t.pool) (rest_is r at floor s reserved view none)) ∙ length-idle r in
-    record {
-      sound = subst IsSound (sym (settled_view r at floor cursor' floor' s reserved view none))
-          (subst (λ n. IsSound (settled s (asked_at n floor') (asked_at n cursor'))) tops
-          (settled-sound s (subst IsSound view reserved.sound) none (beneath r floor') (beneath r cursor') le (λ within. equal (omega arith))));
-      cursor_in = cursor_in;
-      floor_in = greatest;
-      asked_in = omega (arith, ints);
-      given_in = omega (arith, ints);
-      given_least = le;
-      given_all = equal;
-    }
+  pub settled_reserved : (asked given : ℕ) → asked ≤ 2 ^ 50 → given ≤ asked → given ≤ length r.pending + (r.limits.slots - r.made)
+      → (asked ≤ length r.pending + (r.limits.slots - r.made) → given ≡ asked) → AreReserved r asked given
+  settled_reserved asked given small ordered reachable all =
+      let long : length s.pool ≡ length r.pending + (r.limits.slots - r.made) =
+      sym (ap (λ (t : Allocator). length t.pool) (rest_is r was_asked was_given s reserved view idle)) ∙ length-idle r in
+      record {
+        sound = subst IsSound (sym (settled_view asked given))
+            (settled-sound s (subst IsSound view reserved.sound) idle given asked ordered (λ within. all (omega arith)));
+        asked_in = small;
+        given_in = reachable;
+        given_least = ordered;
+        given_all = all;
+      }
 
 -- ---- rows
 

@@ -11,11 +11,11 @@ use Rattle.ent_alloc.proofs.Listing.{handles_of-pending, handles_of-fresh, handl
 use Rattle.ent_alloc.proofs.Meaning.{asked_at-is, pool_at_is, pending_below, reply_served}
 use Rattle.ent_alloc.proofs.Meaning.{reply_refused, length_left}
 
-module _ (r : Roster) (at floor high : ℤ) (s : Allocator) (reserved : AreReserved r at floor) (view : allocator_of r (beneath r at) (beneath r floor) ≡ s) where
+module _ (r : Roster) (asked given : ℕ) (high : ℤ) (s : Allocator) (reserved : AreReserved r asked given) (view : allocator_of r asked given ≡ s) where
   -- the reply in the words of what the vectors stand for
   pub replied : (n : ℕ) → reply_from r.made (drop (beneath r high) (idle r)) n ≡ reply_from s.made (pool_at s high) n
   replied n =
-      (λ i. reply_from r.made (pool_at_is r (beneath r at) (beneath r floor) high reserved.given_least reserved.sound i) n)
+      (λ i. reply_from r.made (pool_at_is r asked given high reserved.given_least reserved.sound i) n)
       ∙ ap (λ (t : Allocator). reply_from t.made (pool_at t high) n) view
 
   -- what a served reply lists
@@ -25,13 +25,13 @@ module _ (r : Roster) (at floor high : ℤ) (s : Allocator) (reserved : AreReser
       → Ok (handles_of r position end index index_end) ≡ reply_from s.made (pool_at s high) n
   several n position end index index_end enough position_is end_is index_is index_end_is =
       (λ i. Ok (handles_of r (position_is i) (end_is i) (index_is i) (index_end_is i)))
-      ∙ reply_served r (beneath r high) n (pending_below r (beneath r at) (beneath r floor) reserved.given_least reserved.sound) enough
+      ∙ reply_served r (beneath r high) n (pending_below r asked given reserved.given_least reserved.sound) enough
       ∙ replied n
 
   -- how many are left there
   pub left_is : length (pool_at s high) ≡ length r.pending + (r.limits.slots - r.made) - beneath r high
   left_is =
-      ap length (sym (pool_at_is r (beneath r at) (beneath r floor) high reserved.given_least reserved.sound ∙ ap (λ (t : Allocator). pool_at t high) view))
+      ap length (sym (pool_at_is r asked given high reserved.given_least reserved.sound ∙ ap (λ (t : Allocator). pool_at t high) view))
       ∙ length_left r (beneath r high)
 
   -- and a refused one

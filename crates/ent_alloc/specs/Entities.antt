@@ -1,5 +1,5 @@
 -- What the slots and the two cursors of an `Entities` stand for.
-use Rattle.std.specs.Prelude.{◌≡◌, ℕ, ℤ, pos, ◌+◌, ◌-◌, ◌^◌, ◌≤◌, ◌≤ℤ◌, List, ◌++◌, length, take}
+use Rattle.std.specs.Prelude.{◌≡◌, ℕ, ℤ, ◌+◌, ◌-◌, ◌^◌, ◌≤◌, List, ◌++◌, length, take}
 use Rattle.std.specs.Prelude.{drop, reverse}
 use Rattle.ent_handle.specs.Handle.{Handle}
 use Rattle.ent_alloc.specs.Roster.{Roster}
@@ -24,18 +24,14 @@ allocator_of r asked given = record {
   asked = asked;
 }
 
--- how much the cursor, or the floor, is below the top
+-- how much a position is below the top
 abbrev pub beneath : Roster → ℤ → ℕ
 beneath r z = asked_at (length r.pending) z
 
--- The cursor and the floor lie where reservations leave them: what is reserved is all that was
--- asked, as long as there is enough.
-pub record AreReserved (r : Roster) (cursor floor : ℤ) : Type 0 where
-  pub sound : IsSound (allocator_of r (beneath r cursor) (beneath r floor))
-  pub cursor_in : cursor ≤ℤ pos (length r.pending)
-  pub floor_in : floor ≤ℤ pos (length r.pending)
-  pub asked_in : beneath r cursor ≤ 2 ^ 50
-  pub given_in : beneath r floor ≤ length r.pending + (r.limits.slots - r.made)
-  pub given_least : beneath r floor ≤ beneath r cursor
-  pub given_all : beneath r cursor ≤ length r.pending + (r.limits.slots - r.made)
-      → beneath r floor ≡ beneath r cursor
+-- What is reserved is all that was asked for, as long as there is enough.
+pub record AreReserved (r : Roster) (asked given : ℕ) : Type 0 where
+  pub sound : IsSound (allocator_of r asked given)
+  pub asked_in : asked ≤ 2 ^ 50
+  pub given_in : given ≤ length r.pending + (r.limits.slots - r.made)
+  pub given_least : given ≤ asked
+  pub given_all : asked ≤ length r.pending + (r.limits.slots - r.made) → given ≡ asked

@@ -43,13 +43,11 @@ impl Model for Entities {
 
     ghost coded = { allocator_code };
 
-    ghost use Rattle.ent_alloc.specs.Entities.{allocator_of, beneath, AreReserved};
+    ghost use Rattle.ent_alloc.specs.Entities.{allocator_of, AreReserved};
 
-    ghost view = { λ e. allocator_of e.slots
-        (beneath e.slots e.requests.cursor)
-        (beneath e.slots e.requests.floor) };
+    ghost view = { λ e. allocator_of e.slots e.requests.asked e.requests.served };
 
-    ghost invariant = { λ e. AreReserved e.slots e.requests.cursor e.requests.floor };
+    ghost invariant = { λ e. AreReserved e.slots e.requests.asked e.requests.served };
 }
 
 impl Entities {
@@ -59,7 +57,7 @@ impl Entities {
     {
         Entities {
             slots: Slots::new(alloc, limits),
-            requests: Requests::none(0),
+            requests: Requests::none(),
         }
     }
 
@@ -108,7 +106,7 @@ impl Entities {
         // be given.
         ensures sound { IsSound self.now }
     {
-        self.requests.cursor
+        self.slots.top() - self.asked() as i64
     }
 
     /// How many handles were requested since the last flush, at most 2^50.
@@ -116,21 +114,21 @@ impl Entities {
         ensures value { result ≡ self.now.asked }
         ensures within { result ≤ 2 ^ 50 }
     {
-        distance(self.slots.waiting(), self.requests.cursor)
+        self.requests.asked
     }
 
     /// Whether any handle was requested since the last flush.
     pub fn needs_flush(&self) -> bool
         ensures { IsTrue result ↔ (0 < self.now.asked) }
     {
-        self.requests.cursor != self.slots.top()
+        self.asked() > 0
     }
 
     /// How many handles the next flush brings to life.
     pub fn reserved(&self) -> u32
         ensures { result ≡ length self.now.taken }
     {
-        distance(self.slots.waiting(), self.requests.floor) as u32
+        self.requests.served
     }
 
     /// Gives a handle that is alive at once: the next one of the slot that was freed last, or the
@@ -151,17 +149,14 @@ impl Entities {
         ensures err { OnErr result (self.new ≡ self.old) }
     {
         if self.needs_flush() {
-            return Err(AllocFault::NeedsFlush);
-        }
-        let handle = if let Some(handle) = self.slots.reuse_last() {
-            handle
+            Err(AllocFault::NeedsFlush)
+        } else if let Some(handle) = self.slots.reuse_last() {
+            Ok(handle)
         } else if self.room() > 0 {
-            self.slots.make_one()?
+            Ok(self.slots.make_one()?)
         } else {
-            return Err(AllocFault::Space);
-        };
-        self.requests = Requests::none(self.slots.top());
-        Ok(handle)
+            Err(AllocFault::Space)
+        }
     }
 
     /// Takes a living entity out. Its slot is the first to be given again, with the next
@@ -192,7 +187,6 @@ impl Entities {
             return Err(FreeFault::NotAlive);
         }
         let next = self.slots.release(handle)?;
-        self.requests = Requests::none(self.slots.top());
         Ok(Freed {
             next,
             wrapped: handle.generation() == self.slots.limits().generations(),
@@ -219,10 +213,11 @@ impl Entities {
         ensures memory { OnErr result ((0 < made_at_flush self.old)
             ⊎ (vec_capacity out.old < vec_len out.old + length self.old.taken)) }
     {
-        let kept = self.requests.kept();
-        let fresh = self.requests.fresh();
+        let waiting = self.slots.waiting();
+        let kept = self.requests.kept(waiting);
+        let fresh = self.requests.fresh(waiting);
         self.slots.bring_to_life(kept, fresh, out)?;
-        self.requests = Requests::none(self.slots.top());
+        self.requests = Requests::none();
         Ok(())
     }
 
@@ -230,11 +225,14 @@ impl Entities {
     pub fn state(&self, handle: Handle) -> State
         ensures { result ≡ state_of self.now handle }
     {
+        let waiting = self.slots.waiting();
         let reserved = match self.slots.occupancy_of(handle) {
             Some(Occupancy::Alive | Occupancy::AliveWithRow { .. }) => return State::Alive,
-            Some(Occupancy::Pending { position }) => self.requests.kept() <= position as usize,
+            Some(Occupancy::Pending { position }) => {
+                self.requests.kept(waiting) <= position as usize
+            }
             None if self.slots.is_made(handle) => false,
-            None => self.slots.is_next(handle, self.requests.fresh()),
+            None => self.slots.is_next(handle, self.requests.fresh(waiting)),
         };
         if reserved {
             State::Reserved
@@ -282,7 +280,11 @@ impl Entities {
             let asked = asked_at (top self.old) cursor in
             self.new ≡ after_take (after_take self.old given) (asked - given) }
     {
-        self.requests = Requests { cursor, floor };
+        let waiting = self.slots.waiting();
+        self.requests = Requests {
+            asked: distance(waiting, cursor),
+            served: distance(waiting, floor) as u32,
+        };
     }
 
     /// Requests `n` handles: lowers the cursor by `n`, and answers the positions that it passed.
@@ -302,12 +304,8 @@ impl Entities {
         ensures valid { IsSpanOf self.new result }
     {
         let available = self.available();
-        let asked = self.asked() + u64::from(n);
-        let span = Span::new(self.requests.cursor, n);
-        self.requests.cursor = span.low;
-        if asked <= available {
-            self.requests.floor = span.low;
-        }
+        let span = Span::new(self.cursor(), n);
+        self.requests = self.requests.and(n, available);
         span
     }
 

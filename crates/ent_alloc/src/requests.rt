@@ -1,40 +1,53 @@
-ghost use Rattle.std.specs.Prelude.{◌≡◌, ◌-◌, ◌^◌, pos, ◌≤ℤ◌, neg_ℤ};
+ghost use Rattle.std.specs.Prelude.{◌≡◌, ◌+◌, ◌-◌, ◌^◌, ◌<◌, ◌≤◌};
 
-/// The requests since the last flush, as two positions of the pending list. Below 0 they count
-/// fresh slots.
+/// The requests since the last flush.
 #[derive(Clone, Copy)]
 pub(crate) struct Requests {
-    /// Where the requests end, served or not.
-    pub(crate) cursor: i64,
-    /// Where the served ones end.
-    pub(crate) floor: i64,
+    /// How many handles were requested, served or not.
+    pub(crate) asked: u64,
+    /// How many are reserved. They are the first ones that there were to give.
+    pub(crate) served: u32,
 }
 
 impl Requests {
-    /// No request: both are at the top.
-    pub(crate) fn none(top: i64) -> Self
-        ensures { result ≡ record { cursor = top; floor = top } }
+    pub(crate) fn none() -> Self
+        ensures { result ≡ record { asked = 0; served = 0 } }
     {
         Requests {
-            cursor: top,
-            floor: top,
+            asked: 0,
+            served: 0,
         }
     }
 
-    /// How many of the pending slots are not reserved.
-    pub(crate) fn kept(self) -> usize
-        ensures some { pos 0 ≤ℤ self.floor → pos result ≡ self.floor }
-        ensures none { self.floor ≤ℤ pos 0 → result ≡ 0 }
+    /// These and one more, if there were `available` handles to give at the last flush.
+    pub(crate) fn and(self, n: u32, available: u64) -> Self
+        requires few { self.asked + n ≤ 2 ^ 50 }
+        requires fits { available < 2 ^ 32 }
+        ensures served { self.asked + n ≤ available
+            → result ≡ record { asked = self.asked + n; served = self.asked + n } }
+        ensures refused { available < self.asked + n
+            → result ≡ record { asked = self.asked + n; served = self.served } }
     {
-        self.floor.max(0) as usize
+        let asked = self.asked + u64::from(n);
+        let served = if asked <= available {
+            asked as u32
+        } else {
+            self.served
+        };
+        Requests { asked, served }
+    }
+
+    /// How many of the slots that wait are not reserved.
+    pub(crate) fn kept(self, waiting: u32) -> usize
+        ensures { result ≡ waiting - self.served }
+    {
+        waiting.saturating_sub(self.served) as usize
     }
 
     /// How many fresh slots are reserved.
-    pub(crate) fn fresh(self) -> u32
-        requires { neg_ℤ (pos (2 ^ 32 - 1)) ≤ℤ self.floor }
-        ensures none { pos 0 ≤ℤ self.floor → result ≡ 0 }
-        ensures some { self.floor ≤ℤ pos 0 → self.floor ≡ neg_ℤ (pos result) }
+    pub(crate) fn fresh(self, waiting: u32) -> u32
+        ensures { result ≡ self.served - waiting }
     {
-        (-self.floor.min(0)) as u32
+        self.served.saturating_sub(waiting)
     }
 }

@@ -1,8 +1,7 @@
-use Rattle.std.proofs.Common.{◌≡◌, ℕ, ◌+◌, ◌-◌, ◌<◌, ◌≤◌, pos, List, [], ◌∷◌, length, slice_get}
+use Rattle.std.proofs.Common.{◌≡◌, ℕ, ◌+◌, ◌-◌, ◌<◌, ◌≤◌, List, [], ◌∷◌, length, slice_get}
 use Rattle.std.proofs.Common.{Some, Result, Ok, Err, take, reverse, ◌++◌, refl, sym, ap, subst, ◌∙◌}
-use Rattle.std.proofs.Common.{arith, to_z, of_z, w64}
+use Rattle.std.proofs.Common.{arith}
 use Rattle.std.specs.FinSet as sets
-use Rattle.std.proofs.lemmas.Int.{ints}
 use Rattle.std.proofs.lemmas.List.{nil_from_length}
 use Rattle.std.proofs.lemmas.Option.{slice_get_within}
 use Rattle.ent_handle.specs.Handle.{Handle}
@@ -12,14 +11,12 @@ use Rattle.ent_alloc.specs.declared.fault.AllocFault.TheVariants.{Memory, Space}
 use Rattle.ent_alloc.specs.Sequential.{Allocator, after_alloc, fresh, top}
 use Rattle.ent_alloc.specs.Roster.{Roster}
 use Rattle.ent_alloc.specs.Sound.{IsSound}
-use Rattle.ent_alloc.specs.Entities.{allocator_of, beneath}
+use Rattle.ent_alloc.specs.Entities.{allocator_of}
 use Rattle.ent_alloc.proofs.Soundness.{after_alloc-sound}
-use Rattle.ent_alloc.proofs.Meaning.{none_at, rest_is, closed, closed_is, none_asked}
+use Rattle.ent_alloc.proofs.Meaning.{none_is, rest_is, closed, closed_is, none_asked}
 use Rattle.ent_alloc.proofs.Meaning.{alloc_old_front, alloc_old_is, alloc_fresh_front}
 use Rattle.ent_alloc.proofs.Meaning.{alloc_fresh_is, length-idle, top_is}
 use Rattle.ent_alloc.proofs.entities.Entities.alloc.Goals as goal
-use Rattle.ent_alloc.proofs.entities.Entities.alloc.Goals.{in-Some}
-use Rattle.ent_alloc.proofs.entities.Entities.alloc.Goals.{in_default+then-room-gt0+in_ok-handle}
 
 -- the length of the pool if nothing is reserved
 length_pool : (r : Roster) (s : Allocator) → allocator_of r 0 0 ≡ s → length s.pool ≡ length r.pending + (r.limits.slots - r.made)
@@ -46,131 +43,148 @@ not_space : (result : Result Handle AllocFault) → IsErrAnd result (λ e. e ≡
 not_space (Ok h) is same = is
 not_space (Err e) is same = cc
 
-pub returns-in_err-handle-clause-space : goal.returns-in_err-handle-clause-space
-returns-in_err-handle-clause-space c =
+pub invariant_of-self : goal.invariant_of-self
+invariant_of-self c =
     let r = c.self.inside.slots in
+    let requests = c.self.inside.requests in
     let s = c.args.self.now in
     let none = none_asked c.needs_flush.result s.asked c.needs_flush.ensures c.if-needs_flush.false in
-    let rest = rest_is r c.self.inside.requests.cursor c.self.inside.requests.floor s c.self.invariant c.self.view_is none in
+    let rest = rest_is r requests.asked requests.served s c.self.invariant c.self.view_is none in
+    let sound = subst IsSound c.self.view_is c.self.invariant.sound in
+    let pool = ap (λ (s : Allocator). s.pool) rest in
+    let idle = none_is r requests s c.self.invariant c.self.view_is none in
+    let h = c.in-Some.handle in
+    let last = c.in-Some.ensures.last in
+    let waits : 0 < length r.pending = (let within = slice_get_within r.pending (length r.pending - 1) h last in omega arith) in
+    closed c.reuse_last.new.self (record r { live = sets.union r.live (sets.from_list (h ∷ [])); pending = take (length r.pending - 1) r.pending })
+    requests (after_alloc s h) c.in-Some.ensures.some idle
+    (alloc_old_is r h (subst IsSound (sym rest) sound) waits last ∙ ap (λ s. after_alloc s h) rest)
+    (after_alloc-sound s h (reverse (take (length r.pending - 1) r.pending) ++ fresh r.made (r.limits.slots - r.made)) sound none (sym pool ∙ alloc_old_front r h waits last))
+
+pub returns-in_err-make_one-clause-space : goal.returns-in_err-make_one-clause-space
+returns-in_err-make_one-clause-space c =
+    let r = c.self.inside.slots in
+    let requests = c.self.inside.requests in
+    let s = c.args.self.now in
+    let none = none_asked c.needs_flush.result s.asked c.needs_flush.ensures c.if-needs_flush.false in
+    let rest = rest_is r requests.asked requests.served s c.self.invariant c.self.view_is none in
+    let sound = subst IsSound c.self.view_is c.self.invariant.sound in
+    let pool = ap (λ (s : Allocator). s.pool) rest in
     let some = some_room r c.reuse_last.new.self c.room.result c.in_default.ensures.unchanged c.room.ensures c.if-room-gt0.true in
     (λ is. absurd (not_space c.from_residual.result c.from_residual.ensures.1 is), λ both. absurd (omega (arith, length_pool r s rest, ap length both.1)))
 
-pub returns-in_err-handle-clause-memory : goal.returns-in_err-handle-clause-memory
-returns-in_err-handle-clause-memory c =
+pub returns-in_err-make_one-clause-memory : goal.returns-in_err-make_one-clause-memory
+returns-in_err-make_one-clause-memory c =
     let r = c.self.inside.slots in
     let inv = c.self.invariant in
-    λ _. sym (ap top c.self.view_is) ∙ top_is r (beneath r c.self.inside.requests.cursor) (beneath r c.self.inside.requests.floor) inv.given_least inv.sound ∙ ap length c.in_default.ensures.none
+    λ _. sym (ap top c.self.view_is) ∙ top_is r c.self.inside.requests.asked c.self.inside.requests.served inv.given_least inv.sound ∙ ap length c.in_default.ensures.none
+
+pub invariant_of-self-then-room-gt0 : goal.invariant_of-self-then-room-gt0
+invariant_of-self-then-room-gt0 c =
+    let r = c.self.inside.slots in
+    let requests = c.self.inside.requests in
+    let s = c.args.self.now in
+    let none = none_asked c.needs_flush.result s.asked c.needs_flush.ensures c.if-needs_flush.false in
+    let rest = rest_is r requests.asked requests.served s c.self.invariant c.self.view_is none in
+    let sound = subst IsSound c.self.view_is c.self.invariant.sound in
+    let pool = ap (λ (s : Allocator). s.pool) rest in
+    let idle = none_is r requests s c.self.invariant c.self.view_is none in
+    let h = c.in_ok-make_one.field-0 in
+    let some = some_room r c.reuse_last.new.self c.room.result c.in_default.ensures.unchanged c.room.ensures c.if-room-gt0.true in
+    let first : h ≡ record { index = r.made; generation = 1 } = c.in_ok-make_one.ensures.first ∙ ap (λ (x : Roster). record { index = x.made; generation = 1 }) c.in_default.ensures.unchanged in
+    closed c.make_one.new.self (record r { live = sets.union r.live (sets.from_list (h ∷ [])); made = r.made + 1 })
+    requests (after_alloc s h)
+    (made_one r c.reuse_last.new.self c.make_one.new.self h c.in_default.ensures.unchanged c.in_ok-make_one.ensures.ok) idle
+    (alloc_fresh_is r h (ap length c.in_default.ensures.none) some first ∙ ap (λ s. after_alloc s h) rest)
+    (after_alloc-sound s h (fresh (r.made + 1) (r.limits.slots - (r.made + 1))) sound none
+    (sym pool ∙ alloc_fresh_front r (ap length c.in_default.ensures.none) some ∙ ap (λ (x : Handle). x ∷ fresh (r.made + 1) (r.limits.slots - (r.made + 1))) (sym first)))
+
+pub returns-in-Some-clause-front : goal.returns-in-Some-clause-front
+returns-in-Some-clause-front c =
+    let r = c.self.inside.slots in
+    let requests = c.self.inside.requests in
+    let s = c.args.self.now in
+    let none = none_asked c.needs_flush.result s.asked c.needs_flush.ensures c.if-needs_flush.false in
+    let rest = rest_is r requests.asked requests.served s c.self.invariant c.self.view_is none in
+    let sound = subst IsSound c.self.view_is c.self.invariant.sound in
+    let pool = ap (λ (s : Allocator). s.pool) rest in
+    let h = c.in-Some.handle in
+    let last = c.in-Some.ensures.last in
+    let waits : 0 < length r.pending = (let within = slice_get_within r.pending (length r.pending - 1) h last in omega arith) in
+    front_of s.pool (reverse (take (length r.pending - 1) r.pending) ++ fresh r.made (r.limits.slots - r.made)) h (sym pool ∙ alloc_old_front r h waits last)
+
+pub returns-in-Some-clause-ok : goal.returns-in-Some-clause-ok
+returns-in-Some-clause-ok c =
+    let r = c.self.inside.slots in
+    let requests = c.self.inside.requests in
+    let s = c.args.self.now in
+    let none = none_asked c.needs_flush.result s.asked c.needs_flush.ensures c.if-needs_flush.false in
+    let rest = rest_is r requests.asked requests.served s c.self.invariant c.self.view_is none in
+    let sound = subst IsSound c.self.view_is c.self.invariant.sound in
+    let pool = ap (λ (s : Allocator). s.pool) rest in
+    let idle = none_is r requests s c.self.invariant c.self.view_is none in
+    let h = c.in-Some.handle in
+    let last = c.in-Some.ensures.last in
+    let waits : 0 < length r.pending = (let within = slice_get_within r.pending (length r.pending - 1) h last in omega arith) in
+    closed_is c.reuse_last.new.self (record r { live = sets.union r.live (sets.from_list (h ∷ [])); pending = take (length r.pending - 1) r.pending })
+    requests (after_alloc s h) c.in-Some.ensures.some idle
+    (alloc_old_is r h (subst IsSound (sym rest) sound) waits last ∙ ap (λ s. after_alloc s h) rest)
+
+pub returns-in_ok-make_one-clause-front : goal.returns-in_ok-make_one-clause-front
+returns-in_ok-make_one-clause-front c =
+    let r = c.self.inside.slots in
+    let requests = c.self.inside.requests in
+    let s = c.args.self.now in
+    let none = none_asked c.needs_flush.result s.asked c.needs_flush.ensures c.if-needs_flush.false in
+    let rest = rest_is r requests.asked requests.served s c.self.invariant c.self.view_is none in
+    let sound = subst IsSound c.self.view_is c.self.invariant.sound in
+    let pool = ap (λ (s : Allocator). s.pool) rest in
+    let h = c.in_ok-make_one.field-0 in
+    let some = some_room r c.reuse_last.new.self c.room.result c.in_default.ensures.unchanged c.room.ensures c.if-room-gt0.true in
+    let first : h ≡ record { index = r.made; generation = 1 } = c.in_ok-make_one.ensures.first ∙ ap (λ (x : Roster). record { index = x.made; generation = 1 }) c.in_default.ensures.unchanged in
+    front_of s.pool (fresh (r.made + 1) (r.limits.slots - (r.made + 1))) h
+    (sym pool ∙ alloc_fresh_front r (ap length c.in_default.ensures.none) some ∙ ap (λ (x : Handle). x ∷ fresh (r.made + 1) (r.limits.slots - (r.made + 1))) (sym first))
+
+pub returns-in_ok-make_one-clause-ok : goal.returns-in_ok-make_one-clause-ok
+returns-in_ok-make_one-clause-ok c =
+    let r = c.self.inside.slots in
+    let requests = c.self.inside.requests in
+    let s = c.args.self.now in
+    let none = none_asked c.needs_flush.result s.asked c.needs_flush.ensures c.if-needs_flush.false in
+    let rest = rest_is r requests.asked requests.served s c.self.invariant c.self.view_is none in
+    let sound = subst IsSound c.self.view_is c.self.invariant.sound in
+    let pool = ap (λ (s : Allocator). s.pool) rest in
+    let idle = none_is r requests s c.self.invariant c.self.view_is none in
+    let h = c.in_ok-make_one.field-0 in
+    let some = some_room r c.reuse_last.new.self c.room.result c.in_default.ensures.unchanged c.room.ensures c.if-room-gt0.true in
+    let first : h ≡ record { index = r.made; generation = 1 } = c.in_ok-make_one.ensures.first ∙ ap (λ (x : Roster). record { index = x.made; generation = 1 }) c.in_default.ensures.unchanged in
+    closed_is c.make_one.new.self (record r { live = sets.union r.live (sets.from_list (h ∷ [])); made = r.made + 1 })
+    requests (after_alloc s h)
+    (made_one r c.reuse_last.new.self c.make_one.new.self h c.in_default.ensures.unchanged c.in_ok-make_one.ensures.ok) idle
+    (alloc_fresh_is r h (ap length c.in_default.ensures.none) some first ∙ ap (λ s. after_alloc s h) rest)
+
+pub returns-in_ok-make_one-clause-space : goal.returns-in_ok-make_one-clause-space
+returns-in_ok-make_one-clause-space c =
+    let r = c.self.inside.slots in
+    let requests = c.self.inside.requests in
+    let s = c.args.self.now in
+    let none = none_asked c.needs_flush.result s.asked c.needs_flush.ensures c.if-needs_flush.false in
+    let rest = rest_is r requests.asked requests.served s c.self.invariant c.self.view_is none in
+    let sound = subst IsSound c.self.view_is c.self.invariant.sound in
+    let pool = ap (λ (s : Allocator). s.pool) rest in
+    let some = some_room r c.reuse_last.new.self c.room.result c.in_default.ensures.unchanged c.room.ensures c.if-room-gt0.true in
+    (λ is. absurd cc, λ both. absurd (omega (arith, length_pool r s rest, ap length both.1)))
 
 pub returns-else-room-gt0-clause-space : goal.returns-else-room-gt0-clause-space
 returns-else-room-gt0-clause-space c =
     let r = c.self.inside.slots in
+    let requests = c.self.inside.requests in
     let s = c.args.self.now in
     let none = none_asked c.needs_flush.result s.asked c.needs_flush.ensures c.if-needs_flush.false in
-    let rest = rest_is r c.self.inside.requests.cursor c.self.inside.requests.floor s c.self.invariant c.self.view_is none in
+    let rest = rest_is r requests.asked requests.served s c.self.invariant c.self.view_is none in
+    let sound = subst IsSound c.self.view_is c.self.invariant.sound in
+    let pool = ap (λ (s : Allocator). s.pool) rest in
     let full = no_room r c.reuse_last.new.self c.room.result c.in_default.ensures.unchanged c.room.ensures c.if-room-gt0.false in
     let waits : length r.pending ≡ 0 = ap length c.in_default.ensures.none in
     let empty = nil_from_length s.pool (omega (arith, length_pool r s rest)) in
     (λ _. (none, empty), λ _. refl)
-
-pub returns-clause-front : goal.returns-clause-front
-returns-clause-front c =
-    let r = c.self.inside.slots in
-    let s = c.args.self.now in
-    let none = none_asked c.needs_flush.result s.asked c.needs_flush.ensures c.if-needs_flush.false in
-    let rest = rest_is r c.self.inside.requests.cursor c.self.inside.requests.floor s c.self.invariant c.self.view_is none in
-    let pool = ap (λ (s : Allocator). s.pool) rest in
-    elim c.match-reuse_last.branch [
-      | in-Some w ↦
-          (let h = w.in-Some.handle in
-          let last = w.in-Some.ensures.last in
-          front_of s.pool (reverse (take (length r.pending - 1) r.pending) ++ fresh r.made (r.limits.slots - r.made)) h (sym pool ∙ alloc_old_front r h (let within = slice_get_within r.pending (length r.pending - 1) h last in omega arith) last)
-          ∙ ap Some (sym w.handle-is))
-      | in_default+then-room-gt0+in_ok-handle w ↦
-          (let h = w.in_ok-handle.handle in
-          let some = some_room r c.reuse_last.new.self w.room.result w.in_default.ensures.unchanged w.room.ensures w.if-room-gt0.true in
-          let first : h ≡ record { index = r.made; generation = 1 } = w.in_ok-handle.ensures.first ∙ ap (λ (x : Roster). record { index = x.made; generation = 1 }) w.in_default.ensures.unchanged in
-          front_of s.pool (fresh (r.made + 1) (r.limits.slots - (r.made + 1))) h
-          (sym pool ∙ alloc_fresh_front r (ap length w.in_default.ensures.none) some ∙ ap (λ (x : Handle). x ∷ fresh (r.made + 1) (r.limits.slots - (r.made + 1))) (sym first))
-          ∙ ap Some (sym w.handle-is))
-    ]
-
-pub invariant_of-self-2 : goal.invariant_of-self-2
-invariant_of-self-2 c =
-    let r = c.self.inside.slots in
-    let s = c.args.self.now in
-    let none = none_asked c.needs_flush.result s.asked c.needs_flush.ensures c.if-needs_flush.false in
-    let rest = rest_is r c.self.inside.requests.cursor c.self.inside.requests.floor s c.self.invariant c.self.view_is none in
-    let sound = subst IsSound c.self.view_is c.self.invariant.sound in
-    let pool = ap (λ (s : Allocator). s.pool) rest in
-    let new = c.match-reuse_last.self-inside.slots in
-    let tops = c.top.ensures.value in
-    let top : to_z w64 (of_z w64 c.top.result) ≡ pos (length new.pending) = omega (arith, ints) in
-    let at_top : c.none-self-inside.result ≡ none_at new = c.none-self-inside.ensures ∙ (λ i. record { cursor = top i; floor = top i }) in
-    elim c.match-reuse_last.branch [
-      | in-Some w ↦
-          (let h = w.in-Some.handle in
-          let last = w.in-Some.ensures.last in
-          let waits : 0 < length r.pending = (let within = slice_get_within r.pending (length r.pending - 1) h last in omega arith) in
-          closed new (record r { live = sets.union r.live (sets.from_list (h ∷ [])); pending = take (length r.pending - 1) r.pending })
-          c.none-self-inside.result (after_alloc s h)
-          (ap (λ x. x.slots) w.self-inside-is ∙ w.in-Some.ensures.some) at_top
-          (alloc_old_is r h (subst IsSound (sym rest) sound) waits last ∙ ap (λ s. after_alloc s h) rest)
-          (after_alloc-sound s h (reverse (take (length r.pending - 1) r.pending) ++ fresh r.made (r.limits.slots - r.made)) sound none (sym pool ∙ alloc_old_front r h waits last)))
-      | in_default+then-room-gt0+in_ok-handle w ↦
-          (let h = w.in_ok-handle.handle in
-          let some = some_room r c.reuse_last.new.self w.room.result w.in_default.ensures.unchanged w.room.ensures w.if-room-gt0.true in
-          let first : h ≡ record { index = r.made; generation = 1 } = w.in_ok-handle.ensures.first ∙ ap (λ (x : Roster). record { index = x.made; generation = 1 }) w.in_default.ensures.unchanged in
-          closed new (record r { live = sets.union r.live (sets.from_list (h ∷ [])); made = r.made + 1 })
-          c.none-self-inside.result (after_alloc s h)
-          (ap (λ x. x.slots) w.self-inside-is ∙ made_one r c.reuse_last.new.self w.make_one.new.self h w.in_default.ensures.unchanged w.in_ok-handle.ensures.ok) at_top
-          (alloc_fresh_is r h (ap length w.in_default.ensures.none) some first ∙ ap (λ s. after_alloc s h) rest)
-          (after_alloc-sound s h (fresh (r.made + 1) (r.limits.slots - (r.made + 1))) sound none
-          (sym pool ∙ alloc_fresh_front r (ap length w.in_default.ensures.none) some ∙ ap (λ (x : Handle). x ∷ fresh (r.made + 1) (r.limits.slots - (r.made + 1))) (sym first))))
-    ]
-
-pub returns-clause-ok : goal.returns-clause-ok
-returns-clause-ok c =
-    let r = c.self.inside.slots in
-    let s = c.args.self.now in
-    let none = none_asked c.needs_flush.result s.asked c.needs_flush.ensures c.if-needs_flush.false in
-    let rest = rest_is r c.self.inside.requests.cursor c.self.inside.requests.floor s c.self.invariant c.self.view_is none in
-    let sound = subst IsSound c.self.view_is c.self.invariant.sound in
-    let new = c.match-reuse_last.self-inside.slots in
-    let tops = c.top.ensures.value in
-    let top : to_z w64 (of_z w64 c.top.result) ≡ pos (length new.pending) = omega (arith, ints) in
-    let at_top : c.none-self-inside.result ≡ none_at new = c.none-self-inside.ensures ∙ (λ i. record { cursor = top i; floor = top i }) in
-    elim c.match-reuse_last.branch [
-      | in-Some w ↦
-          (let h = w.in-Some.handle in
-          let last = w.in-Some.ensures.last in
-          let waits : 0 < length r.pending = (let within = slice_get_within r.pending (length r.pending - 1) h last in omega arith) in
-          closed_is new (record r { live = sets.union r.live (sets.from_list (h ∷ [])); pending = take (length r.pending - 1) r.pending })
-          c.none-self-inside.result (after_alloc s h)
-          (ap (λ x. x.slots) w.self-inside-is ∙ w.in-Some.ensures.some) at_top
-          (alloc_old_is r h (subst IsSound (sym rest) sound) waits last ∙ ap (λ s. after_alloc s h) rest)
-          ∙ ap (λ (x : Handle). after_alloc s x) (sym w.handle-is))
-      | in_default+then-room-gt0+in_ok-handle w ↦
-          (let h = w.in_ok-handle.handle in
-          let some = some_room r c.reuse_last.new.self w.room.result w.in_default.ensures.unchanged w.room.ensures w.if-room-gt0.true in
-          let first : h ≡ record { index = r.made; generation = 1 } = w.in_ok-handle.ensures.first ∙ ap (λ (x : Roster). record { index = x.made; generation = 1 }) w.in_default.ensures.unchanged in
-          closed_is new (record r { live = sets.union r.live (sets.from_list (h ∷ [])); made = r.made + 1 })
-          c.none-self-inside.result (after_alloc s h)
-          (ap (λ x. x.slots) w.self-inside-is ∙ made_one r c.reuse_last.new.self w.make_one.new.self h w.in_default.ensures.unchanged w.in_ok-handle.ensures.ok) at_top
-          (alloc_fresh_is r h (ap length w.in_default.ensures.none) some first ∙ ap (λ s. after_alloc s h) rest)
-          ∙ ap (λ (x : Handle). after_alloc s x) (sym w.handle-is))
-    ]
-
-pub returns-clause-space : goal.returns-clause-space
-returns-clause-space c =
-    let r = c.self.inside.slots in
-    let s = c.args.self.now in
-    let none = none_asked c.needs_flush.result s.asked c.needs_flush.ensures c.if-needs_flush.false in
-    let rest = rest_is r c.self.inside.requests.cursor c.self.inside.requests.floor s c.self.invariant c.self.view_is none in
-    elim c.match-reuse_last.branch [
-      | in-Some w ↦
-          (let within = slice_get_within r.pending (length r.pending - 1) w.in-Some.handle w.in-Some.ensures.last in
-          (λ is. absurd cc, λ both. absurd (omega (arith, length_pool r s rest, ap length both.1))))
-      | in_default+then-room-gt0+in_ok-handle w ↦
-          (let some = some_room r c.reuse_last.new.self w.room.result w.in_default.ensures.unchanged w.room.ensures w.if-room-gt0.true in
-          (λ is. absurd cc, λ both. absurd (omega (arith, length_pool r s rest, ap length both.1))))
-    ]

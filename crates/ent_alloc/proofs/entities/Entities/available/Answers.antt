@@ -1,6 +1,5 @@
 use Rattle.std.proofs.Common.{◌≡◌, ◌+◌, ◌-◌, length, sym, ap, ◌∙◌, arith}
 use Rattle.ent_alloc.specs.Sequential.{Allocator, available}
-use Rattle.ent_alloc.specs.Entities.{beneath}
 use Rattle.ent_alloc.proofs.Meaning.{available_is, length-idle}
 use Rattle.ent_alloc.proofs.entities.Entities.available.Goals as goal
 
@@ -11,7 +10,7 @@ returns-clause-value c =
     let made : e.slots.made ≡ c.args.self.now.made = ap (λ (s : Allocator). s.made) c.self.view_is in
     let slots : e.slots.limits.slots ≡ c.args.self.now.limits.slots = ap (λ (s : Allocator). s.limits.slots) c.self.view_is in
     let all : length (available c.args.self.now) ≡ length e.slots.pending + (e.slots.limits.slots - e.slots.made) =
-    ap (λ (s : Allocator). length (available s)) (sym c.self.view_is) ∙ ap length (available_is e.slots (beneath e.slots e.requests.cursor) (beneath e.slots e.requests.floor) inv.given_least) ∙ length-idle e.slots in
+    ap (λ (s : Allocator). length (available s)) (sym c.self.view_is) ∙ ap length (available_is e.slots e.requests.asked e.requests.served inv.given_least) ∙ length-idle e.slots in
     omega arith
 
 pub returns-clause-fits : goal.returns-clause-fits

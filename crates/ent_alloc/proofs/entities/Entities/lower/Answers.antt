@@ -1,28 +1,27 @@
-use Rattle.std.proofs.Common.{◌≡◌, pos, ◌-ℤ◌, ap, subst, ◌∙◌, arith}
+use Rattle.std.proofs.Common.{◌≡◌, ◌+◌, pos, ◌-ℤ◌, ap, subst, sym, ◌∙◌, arith, to_z, of_z, w64, length, inl, inr}
 use Rattle.std.proofs.lemmas.Int.{ints}
-use Rattle.ent_alloc.specs.declared.span.Span.{Span}
-use Rattle.ent_alloc.specs.Sequential.{Allocator}
-use Rattle.ent_alloc.specs.Entities.{allocator_of, beneath}
+use Rattle.std.proofs.lemmas.Bool.{cases_lt}
+use Rattle.ent_alloc.specs.declared.requests.Requests.{Requests}
+use Rattle.ent_alloc.specs.Sequential.{Allocator, top}
+use Rattle.ent_alloc.specs.Entities.{allocator_of, AreReserved}
 use Rattle.ent_alloc.specs.Sound.{IsSound}
 use Rattle.ent_alloc.proofs.Spans.{IsSpanOf-after_take}
-use Rattle.ent_alloc.proofs.Meaning.{as_word, cursor_is, length_available, beneath_low, served_view}
-use Rattle.ent_alloc.proofs.Meaning.{served_reserved, refused_view, refused_reserved}
+use Rattle.ent_alloc.proofs.Meaning.{top_is, length_available, served_view, served_reserved, refused_view}
+use Rattle.ent_alloc.proofs.Meaning.{refused_reserved}
 use Rattle.ent_alloc.proofs.entities.Entities.lower.Goals as goal
 
-pub returns-then-asked-available-clause-span : goal.returns-then-asked-available-clause-span
-returns-then-asked-available-clause-span c =
+pub new-span-requires-clause-greatest : goal.new-span-requires-clause-greatest
+new-span-requires-clause-greatest c =
     let e = c.self.inside in
     let r = e.slots in
-    let n = c.args.n in
     let s = c.args.self.now in
     let inv = c.self.invariant in
-    let all = length_available r e.requests.cursor e.requests.floor s inv c.self.view_is in
-    let asks : beneath r e.requests.cursor ≡ s.asked = ap (λ (t : Allocator). t.asked) c.self.view_is in
+    let tops : top s ≡ length r.pending = ap top (sym c.self.view_is) ∙ top_is r e.requests.asked e.requests.served inv.given_least inv.sound in
+    let all = length_available r e.requests.asked e.requests.served s inv c.self.view_is in
     let has = c.available-available.ensures.value in
     let fits = c.available-available.ensures.fits in
-    let asked = c.asked.ensures.value in
-    let word = as_word r e.requests.cursor inv.cursor_in (omega arith) (omega arith) in
-    c.new-span.ensures.value ∙ (λ i. let high = (word ∙ cursor_is r e.requests.cursor e.requests.floor s inv c.self.view_is) i in record { high = high; low = high -ℤ pos n })
+    let at = c.cursor.ensures.value in
+    omega (arith, ints)
 
 pub invariant_of-self : goal.invariant_of-self
 invariant_of-self c =
@@ -31,100 +30,39 @@ invariant_of-self c =
     let n = c.args.n in
     let s = c.args.self.now in
     let inv = c.self.invariant in
-    let all = length_available r e.requests.cursor e.requests.floor s inv c.self.view_is in
-    let asks : beneath r e.requests.cursor ≡ s.asked = ap (λ (t : Allocator). t.asked) c.self.view_is in
+    let all = length_available r e.requests.asked e.requests.served s inv c.self.view_is in
+    let asks : e.requests.asked ≡ s.asked = ap (λ (t : Allocator). t.asked) c.self.view_is in
     let has = c.available-available.ensures.value in
-    let fits = c.available-available.ensures.fits in
-    let asked = c.asked.ensures.value in
-    let word = as_word r e.requests.cursor inv.cursor_in (omega arith) (omega arith) in
-    let low_is : c.new-span.result.low ≡ e.requests.cursor -ℤ pos n = ap (λ (x : Span). x.low) c.new-span.ensures.value ∙ ap (λ z. z -ℤ pos n) word in
-    let at = beneath_low r e.requests.cursor e.requests.floor c.new-span.result.low n s inv c.self.view_is low_is in
-    let within = inv.cursor_in in
-    let low_word = as_word r c.new-span.result.low (omega (arith, ints)) (omega arith) (omega arith) in
-    rw low_word (served_reserved r e.requests.cursor e.requests.floor c.new-span.result.low n s inv c.self.view_is low_is (omega arith) (omega arith))
+    let few = c.requires in
+    let keeps : Requests → Type 0 = λ q. AreReserved r q.asked q.served in
+    elim (cases_lt c.available-available.result (e.requests.asked + n)) [
+      | inl short ↦ subst keeps (sym (c.and-self-inside.ensures.refused short)) (refused_reserved r e.requests.asked e.requests.served n s inv c.self.view_is (omega arith) (omega arith))
+      | inr enough ↦ subst keeps (sym (c.and-self-inside.ensures.served enough)) (served_reserved r e.requests.asked e.requests.served n s inv c.self.view_is (omega arith) (omega arith))
+    ]
 
-pub returns-then-asked-available-clause-step : goal.returns-then-asked-available-clause-step
-returns-then-asked-available-clause-step c =
+pub returns-clause-step : goal.returns-clause-step
+returns-clause-step c =
     let e = c.self.inside in
     let r = e.slots in
     let n = c.args.n in
     let s = c.args.self.now in
     let inv = c.self.invariant in
-    let all = length_available r e.requests.cursor e.requests.floor s inv c.self.view_is in
-    let asks : beneath r e.requests.cursor ≡ s.asked = ap (λ (t : Allocator). t.asked) c.self.view_is in
+    let all = length_available r e.requests.asked e.requests.served s inv c.self.view_is in
+    let asks : e.requests.asked ≡ s.asked = ap (λ (t : Allocator). t.asked) c.self.view_is in
     let has = c.available-available.ensures.value in
-    let fits = c.available-available.ensures.fits in
-    let asked = c.asked.ensures.value in
-    let word = as_word r e.requests.cursor inv.cursor_in (omega arith) (omega arith) in
-    let low_is : c.new-span.result.low ≡ e.requests.cursor -ℤ pos n = ap (λ (x : Span). x.low) c.new-span.ensures.value ∙ ap (λ z. z -ℤ pos n) word in
-    let at = beneath_low r e.requests.cursor e.requests.floor c.new-span.result.low n s inv c.self.view_is low_is in
-    let within = inv.cursor_in in
-    let low_word = as_word r c.new-span.result.low (omega (arith, ints)) (omega arith) (omega arith) in
-    (λ i. allocator_of r (beneath r (low_word i)) (beneath r (low_word i)))
-    ∙ served_view r e.requests.cursor e.requests.floor c.new-span.result.low n s inv c.self.view_is low_is (omega arith)
+    let few = c.requires in
+    elim (cases_lt c.available-available.result (e.requests.asked + n)) [
+      | inl short ↦ ap (λ (q : Requests). allocator_of r q.asked q.served) (c.and-self-inside.ensures.refused short) ∙ refused_view r e.requests.asked e.requests.served n s inv c.self.view_is (omega arith)
+      | inr enough ↦ ap (λ (q : Requests). allocator_of r q.asked q.served) (c.and-self-inside.ensures.served enough) ∙ served_view r e.requests.asked e.requests.served n s inv c.self.view_is (omega arith)
+    ]
 
-pub returns-else-asked-available-clause-span : goal.returns-else-asked-available-clause-span
-returns-else-asked-available-clause-span c =
-    let e = c.self.inside in
-    let r = e.slots in
-    let n = c.args.n in
+pub returns-clause-valid : goal.returns-clause-valid
+returns-clause-valid c =
+    let inv = c.self.invariant in
     let s = c.args.self.now in
-    let inv = c.self.invariant in
-    let all = length_available r e.requests.cursor e.requests.floor s inv c.self.view_is in
-    let asks : beneath r e.requests.cursor ≡ s.asked = ap (λ (t : Allocator). t.asked) c.self.view_is in
-    let has = c.available-available.ensures.value in
-    let fits = c.available-available.ensures.fits in
-    let asked = c.asked.ensures.value in
-    let word = as_word r e.requests.cursor inv.cursor_in (omega arith) (omega arith) in
-    c.new-span.ensures.value ∙ (λ i. let high = (word ∙ cursor_is r e.requests.cursor e.requests.floor s inv c.self.view_is) i in record { high = high; low = high -ℤ pos n })
-
-pub invariant_of-self-else-asked-available : goal.invariant_of-self-else-asked-available
-invariant_of-self-else-asked-available c =
-    let e = c.self.inside in
-    let r = e.slots in
-    let n = c.args.n in
-    let s = c.args.self.now in
-    let inv = c.self.invariant in
-    let all = length_available r e.requests.cursor e.requests.floor s inv c.self.view_is in
-    let asks : beneath r e.requests.cursor ≡ s.asked = ap (λ (t : Allocator). t.asked) c.self.view_is in
-    let has = c.available-available.ensures.value in
-    let fits = c.available-available.ensures.fits in
-    let asked = c.asked.ensures.value in
-    let word = as_word r e.requests.cursor inv.cursor_in (omega arith) (omega arith) in
-    let low_is : c.new-span.result.low ≡ e.requests.cursor -ℤ pos n = ap (λ (x : Span). x.low) c.new-span.ensures.value ∙ ap (λ z. z -ℤ pos n) word in
-    let at = beneath_low r e.requests.cursor e.requests.floor c.new-span.result.low n s inv c.self.view_is low_is in
-    let within = inv.cursor_in in
-    let low_word = as_word r c.new-span.result.low (omega (arith, ints)) (omega arith) (omega arith) in
-    rw low_word (refused_reserved r e.requests.cursor e.requests.floor c.new-span.result.low n s inv c.self.view_is low_is (omega arith) (omega arith))
-
-pub returns-else-asked-available-clause-step : goal.returns-else-asked-available-clause-step
-returns-else-asked-available-clause-step c =
-    let e = c.self.inside in
-    let r = e.slots in
-    let n = c.args.n in
-    let s = c.args.self.now in
-    let inv = c.self.invariant in
-    let all = length_available r e.requests.cursor e.requests.floor s inv c.self.view_is in
-    let asks : beneath r e.requests.cursor ≡ s.asked = ap (λ (t : Allocator). t.asked) c.self.view_is in
-    let has = c.available-available.ensures.value in
-    let fits = c.available-available.ensures.fits in
-    let asked = c.asked.ensures.value in
-    let word = as_word r e.requests.cursor inv.cursor_in (omega arith) (omega arith) in
-    let low_is : c.new-span.result.low ≡ e.requests.cursor -ℤ pos n = ap (λ (x : Span). x.low) c.new-span.ensures.value ∙ ap (λ z. z -ℤ pos n) word in
-    let at = beneath_low r e.requests.cursor e.requests.floor c.new-span.result.low n s inv c.self.view_is low_is in
-    let within = inv.cursor_in in
-    let low_word = as_word r c.new-span.result.low (omega (arith, ints)) (omega arith) (omega arith) in
-    (λ i. allocator_of r (beneath r (low_word i)) (beneath r e.requests.floor))
-    ∙ refused_view r e.requests.cursor e.requests.floor c.new-span.result.low n s inv c.self.view_is low_is (omega arith)
-
-pub returns-then-asked-available-clause-valid : goal.returns-then-asked-available-clause-valid
-returns-then-asked-available-clause-valid c =
-    let inv = c.self.invariant in
-    let small = c.asked.ensures.within in
-    IsSpanOf-after_take c.args.self.now _ c.new-span.result c.args.n (subst IsSound c.self.view_is inv.sound) (omega arith) (omega arith) (returns-then-asked-available-clause-step c) (returns-then-asked-available-clause-span c)
-
-pub returns-else-asked-available-clause-valid : goal.returns-else-asked-available-clause-valid
-returns-else-asked-available-clause-valid c =
-    let inv = c.self.invariant in
-    let small = c.asked.ensures.within in
-    IsSpanOf-after_take c.args.self.now _ c.new-span.result c.args.n (subst IsSound c.self.view_is inv.sound) (omega arith) (omega arith) (returns-else-asked-available-clause-step c) (returns-else-asked-available-clause-span c)
+    let asks : c.self.inside.requests.asked ≡ s.asked = ap (λ (t : Allocator). t.asked) c.self.view_is in
+    let small = inv.asked_in in
+    let fits = c.cursor.type_inv in
+    let word : to_z w64 (of_z w64 c.cursor.result) ≡ c.cursor.result = omega (arith, ints) in
+    IsSpanOf-after_take s _ c.new-span.result c.args.n (subst IsSound c.self.view_is inv.sound) (omega arith) (omega arith) (returns-clause-step c)
+    (c.new-span.ensures.value ∙ (λ i. let high = (word ∙ c.cursor.ensures.value) i in record { high = high; low = high -ℤ pos c.args.n }))

@@ -1,20 +1,18 @@
-use Rattle.std.proofs.Common.{ℕ, ℤ, sym, ap, subst, ◌∙◌}
+use Rattle.std.proofs.Common.{ℕ, sym, ap, subst, ◌∙◌}
 use Rattle.std.specs.FinSet as sets
 use Rattle.ent_handle.specs.Handle.{Handle}
 use Rattle.std.specs.FinMap as maps
 use Rattle.ent_alloc.specs.Sequential.{Allocator}
 use Rattle.ent_alloc.specs.Roster.{Roster}
 use Rattle.ent_alloc.specs.Sound.{IsLive}
-use Rattle.ent_alloc.specs.Entities.{allocator_of, beneath, AreReserved}
+use Rattle.ent_alloc.specs.Entities.{allocator_of, AreReserved}
 use Rattle.ent_alloc.proofs.Meaning.{rows-sound}
 use Rattle.ent_alloc.proofs.entities.Entities.set_row.Goals as goal
 
--- a row changes nothing that the two cursors speak of
-with_row : (r : Roster) (at floor : ℤ) (h : Handle) (row : ℕ) → AreReserved r at floor → IsLive (allocator_of r (beneath r at) (beneath r floor)) h → AreReserved (record r { rows = maps.insert r.rows h row }) at floor
-with_row r at floor h row reserved lives = record {
-  sound = rows-sound (allocator_of r (beneath r at) (beneath r floor)) h row reserved.sound lives;
-  cursor_in = reserved.cursor_in;
-  floor_in = reserved.floor_in;
+-- a row changes nothing that the requests speak of
+with_row : (r : Roster) (asked given : ℕ) (h : Handle) (row : ℕ) → AreReserved r asked given → IsLive (allocator_of r asked given) h → AreReserved (record r { rows = maps.insert r.rows h row }) asked given
+with_row r asked given h row reserved lives = record {
+  sound = rows-sound (allocator_of r asked given) h row reserved.sound lives;
   asked_in = reserved.asked_in;
   given_in = reserved.given_in;
   given_least = reserved.given_least;
@@ -24,5 +22,5 @@ with_row r at floor h row reserved lives = record {
 pub invariant_of-self : goal.invariant_of-self
 invariant_of-self c =
     let e = c.self.inside in
-    let P : Roster → Type 0 = λ r. AreReserved r e.requests.cursor e.requests.floor in
-    subst P (sym c.set_row.ensures) (with_row e.slots e.requests.cursor e.requests.floor c.args.handle c.args.row c.self.invariant (ap (λ (s : Allocator). sets.contains s.live c.args.handle) c.self.view_is ∙ c.requires))
+    let P : Roster → Type 0 = λ r. AreReserved r e.requests.asked e.requests.served in
+    subst P (sym c.set_row.ensures) (with_row e.slots e.requests.asked e.requests.served c.args.handle c.args.row c.self.invariant (ap (λ (s : Allocator). sets.contains s.live c.args.handle) c.self.view_is ∙ c.requires))

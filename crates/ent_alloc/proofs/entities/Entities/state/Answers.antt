@@ -1,4 +1,4 @@
-use Rattle.std.proofs.Common.{◌≡◌, refl, ℤ, ◌-◌, ◌<◌, ◌||◌, Bool, true, false, cond}
+use Rattle.std.proofs.Common.{◌≡◌, refl, ℕ, ◌-◌, ◌<◌, ◌||◌, Bool, true, false, cond}
 use Rattle.std.proofs.Common.{length, drop, leb, sym, ap, ◌∙◌, arith}
 use Rattle.std.specs.FinSet as sets
 use Rattle.ent_handle.specs.Handle.{Handle}
@@ -6,9 +6,9 @@ use Rattle.ent_alloc.specs.declared.state.State.TheVariants.{Alive, Reserved, Go
 use Rattle.ent_alloc.specs.Sequential.{Allocator, fresh, stands_in, state_of}
 use Rattle.ent_alloc.specs.Roster.{Roster}
 use Rattle.ent_alloc.specs.Slots.{is_alive, is_pending_from}
-use Rattle.ent_alloc.specs.Entities.{allocator_of, beneath, AreReserved}
+use Rattle.ent_alloc.specs.Entities.{allocator_of, AreReserved}
 use Rattle.ent_alloc.proofs.Looked.{fresh_no}
-use Rattle.ent_alloc.proofs.Meaning.{kept_is, fresh_is, stands_in_taken}
+use Rattle.ent_alloc.proofs.Meaning.{stands_in_taken}
 use Rattle.ent_alloc.proofs.entities.Entities.state.Goals as goal
 use Rattle.ent_alloc.proofs.entities.Entities.state.Goals.{in-Some-Pending, in-None, in-None-2}
 
@@ -17,12 +17,12 @@ or-false true = refl
 or-false false = refl
 
 -- the state of a handle that isn't alive, by the test whether it is reserved
-told : (s : Allocator) (r : Roster) (at floor : ℤ) (h : Handle) → AreReserved r at floor → allocator_of r (beneath r at) (beneath r floor) ≡ s → (reserved : Bool) → sets.contains r.live h ≡ false
-    → reserved ≡ (stands_in (drop (length r.pending - beneath r floor) r.pending) h || stands_in (fresh r.made (beneath r floor - length r.pending)) h)
+told : (s : Allocator) (r : Roster) (asked given : ℕ) (h : Handle) → AreReserved r asked given → allocator_of r asked given ≡ s → (reserved : Bool) → sets.contains r.live h ≡ false
+    → reserved ≡ (stands_in (drop (length r.pending - given) r.pending) h || stands_in (fresh r.made (given - length r.pending)) h)
     → {b : Bool} → reserved ≡ b → cond b Reserved Gone ≡ state_of s h
-told s r at floor h inv view reserved dead is test =
+told s r asked given h inv view reserved dead is test =
     let taken : stands_in s.taken h ≡ reserved =
-    sym (ap (λ (s : Allocator). stands_in s.taken h) view) ∙ sym (stands_in_taken r (beneath r at) (beneath r floor) inv.given_least inv.given_in inv.sound h) ∙ sym is in
+    sym (ap (λ (s : Allocator). stands_in s.taken h) view) ∙ sym (stands_in_taken r asked given inv.given_least inv.given_in inv.sound h) ∙ sym is in
     let gone : sets.contains s.live h ≡ false = sym (ap (λ (s : Allocator). sets.contains s.live h) view) ∙ dead in
     λ i. cond (sym gone i) Alive (cond (sym (taken ∙ test) i) Reserved Gone)
 
@@ -35,28 +35,28 @@ returns-then-reserved c =
     elim c.match-occupancy_of.branch [
       | in-Some-Pending w ↦
           (let field = w.in-Some-Pending.field-0 in
-          let waits = kept_is (length r.pending) e.requests.floor w.kept.result inv.floor_in w.kept.ensures.some w.kept.ensures.none in
+          let waits = (w.kept.ensures ∙ ap (λ n. n - e.requests.served) c.waiting-waiting.ensures.value) in
           let made = w.in-Some-Pending.ensures.made in
-          told s r e.requests.cursor e.requests.floor c.args.handle inv c.self.view_is c.match-occupancy_of.reserved
+          told s r e.requests.asked e.requests.served c.args.handle inv c.self.view_is c.match-occupancy_of.reserved
           (w.in-Some-Pending.ensures.lives ∙ ap is_alive w.in-Some-Pending.field-0-is)
-          (sym ((λ i. stands_in (drop (sym waits i) r.pending) c.args.handle || stands_in (fresh r.made (beneath r e.requests.floor - length r.pending)) c.args.handle)
+          (sym ((λ i. stands_in (drop (sym waits i) r.pending) c.args.handle || stands_in (fresh r.made (e.requests.served - length r.pending)) c.args.handle)
           ∙ (λ i. (w.in-Some-Pending.ensures.waits w.kept.result ∙ ap (λ o. is_pending_from o w.kept.result) w.in-Some-Pending.field-0-is) i
-          || fresh_no c.args.handle r.made (beneath r e.requests.floor - length r.pending) (λ _ after _. absurd (omega arith)) i)
+          || fresh_no c.args.handle r.made (e.requests.served - length r.pending) (λ _ after _. absurd (omega arith)) i)
           ∙ or-false (leb w.kept.result w.in-Some-Pending.position)
           ∙ sym (w.reserved-is ∙ ap (leb w.kept.result) w.in-Some-Pending.position-is)))
           c.if-reserved.true)
       | in-None w ↦
-          (let news = beneath r e.requests.floor - length r.pending in
+          (let news = e.requests.served - length r.pending in
           let made : c.args.handle.index < r.made = w.is_made.ensures.0 w.if-is_made.true in
-          told s r e.requests.cursor e.requests.floor c.args.handle inv c.self.view_is c.match-occupancy_of.reserved
+          told s r e.requests.asked e.requests.served c.args.handle inv c.self.view_is c.match-occupancy_of.reserved
           w.in-None.ensures.lives
-          (w.reserved-is ∙ (λ i. sym (w.in-None.ensures.waits (length r.pending - beneath r e.requests.floor)) i || sym (fresh_no c.args.handle r.made news (λ _ after _. absurd (omega arith))) i))
+          (w.reserved-is ∙ (λ i. sym (w.in-None.ensures.waits (length r.pending - e.requests.served)) i || sym (fresh_no c.args.handle r.made news (λ _ after _. absurd (omega arith))) i))
           c.if-reserved.true)
       | in-None-2 w ↦
-          (let news = fresh_is (length r.pending) e.requests.floor w.fresh.result w.fresh.ensures.none w.fresh.ensures.some in
-          told s r e.requests.cursor e.requests.floor c.args.handle inv c.self.view_is c.match-occupancy_of.reserved
+          (let news = (w.fresh.ensures ∙ ap (λ n. e.requests.served - n) c.waiting-waiting.ensures.value) in
+          told s r e.requests.asked e.requests.served c.args.handle inv c.self.view_is c.match-occupancy_of.reserved
           w.in-None.ensures.lives
-          (w.reserved-is ∙ w.is_next-reserved.ensures ∙ (λ i. sym (w.in-None.ensures.waits (length r.pending - beneath r e.requests.floor)) i || stands_in (fresh r.made (news i)) c.args.handle))
+          (w.reserved-is ∙ w.is_next-reserved.ensures ∙ (λ i. sym (w.in-None.ensures.waits (length r.pending - e.requests.served)) i || stands_in (fresh r.made (news i)) c.args.handle))
           c.if-reserved.true)
     ]
 
@@ -69,27 +69,27 @@ returns-else-reserved c =
     elim c.match-occupancy_of.branch [
       | in-Some-Pending w ↦
           (let field = w.in-Some-Pending.field-0 in
-          let waits = kept_is (length r.pending) e.requests.floor w.kept.result inv.floor_in w.kept.ensures.some w.kept.ensures.none in
+          let waits = (w.kept.ensures ∙ ap (λ n. n - e.requests.served) c.waiting-waiting.ensures.value) in
           let made = w.in-Some-Pending.ensures.made in
-          told s r e.requests.cursor e.requests.floor c.args.handle inv c.self.view_is c.match-occupancy_of.reserved
+          told s r e.requests.asked e.requests.served c.args.handle inv c.self.view_is c.match-occupancy_of.reserved
           (w.in-Some-Pending.ensures.lives ∙ ap is_alive w.in-Some-Pending.field-0-is)
-          (sym ((λ i. stands_in (drop (sym waits i) r.pending) c.args.handle || stands_in (fresh r.made (beneath r e.requests.floor - length r.pending)) c.args.handle)
+          (sym ((λ i. stands_in (drop (sym waits i) r.pending) c.args.handle || stands_in (fresh r.made (e.requests.served - length r.pending)) c.args.handle)
           ∙ (λ i. (w.in-Some-Pending.ensures.waits w.kept.result ∙ ap (λ o. is_pending_from o w.kept.result) w.in-Some-Pending.field-0-is) i
-          || fresh_no c.args.handle r.made (beneath r e.requests.floor - length r.pending) (λ _ after _. absurd (omega arith)) i)
+          || fresh_no c.args.handle r.made (e.requests.served - length r.pending) (λ _ after _. absurd (omega arith)) i)
           ∙ or-false (leb w.kept.result w.in-Some-Pending.position)
           ∙ sym (w.reserved-is ∙ ap (leb w.kept.result) w.in-Some-Pending.position-is)))
           c.if-reserved.false)
       | in-None w ↦
-          (let news = beneath r e.requests.floor - length r.pending in
+          (let news = e.requests.served - length r.pending in
           let made : c.args.handle.index < r.made = w.is_made.ensures.0 w.if-is_made.true in
-          told s r e.requests.cursor e.requests.floor c.args.handle inv c.self.view_is c.match-occupancy_of.reserved
+          told s r e.requests.asked e.requests.served c.args.handle inv c.self.view_is c.match-occupancy_of.reserved
           w.in-None.ensures.lives
-          (w.reserved-is ∙ (λ i. sym (w.in-None.ensures.waits (length r.pending - beneath r e.requests.floor)) i || sym (fresh_no c.args.handle r.made news (λ _ after _. absurd (omega arith))) i))
+          (w.reserved-is ∙ (λ i. sym (w.in-None.ensures.waits (length r.pending - e.requests.served)) i || sym (fresh_no c.args.handle r.made news (λ _ after _. absurd (omega arith))) i))
           c.if-reserved.false)
       | in-None-2 w ↦
-          (let news = fresh_is (length r.pending) e.requests.floor w.fresh.result w.fresh.ensures.none w.fresh.ensures.some in
-          told s r e.requests.cursor e.requests.floor c.args.handle inv c.self.view_is c.match-occupancy_of.reserved
+          (let news = (w.fresh.ensures ∙ ap (λ n. e.requests.served - n) c.waiting-waiting.ensures.value) in
+          told s r e.requests.asked e.requests.served c.args.handle inv c.self.view_is c.match-occupancy_of.reserved
           w.in-None.ensures.lives
-          (w.reserved-is ∙ w.is_next-reserved.ensures ∙ (λ i. sym (w.in-None.ensures.waits (length r.pending - beneath r e.requests.floor)) i || stands_in (fresh r.made (news i)) c.args.handle))
+          (w.reserved-is ∙ w.is_next-reserved.ensures ∙ (λ i. sym (w.in-None.ensures.waits (length r.pending - e.requests.served)) i || stands_in (fresh r.made (news i)) c.args.handle))
           c.if-reserved.false)
     ]
