@@ -93,7 +93,12 @@ fn shortest(spawns: u32) -> [Times; 3] {
         for (case, least) in CASES.iter().zip(&mut least) {
             let (count, made) = nanoseconds(spawns, || (case.read)(black_box(spawns), 0));
             let (sum, with_rounds) = nanoseconds(spawns, || (case.read)(black_box(spawns), ROUNDS));
-            assert_eq!(count, u64::from(spawns), "{}: a spawn is missing", case.name);
+            assert_eq!(
+                count,
+                u64::from(spawns),
+                "{}: a spawn is missing",
+                case.name
+            );
             least.made = least.made.min(made);
             least.with_rounds = least.with_rounds.min(with_rounds);
             sums.push(sum);

@@ -33,9 +33,7 @@ impl Queue {
         self.count += 1;
         match shared.reserve(reserver) {
             Ok(handle) => {
-                self.bytes.push(0);
-                self.write_u64(handle.to_bits());
-                self.write_items(items);
+                self.write_spawn(handle, items);
                 Ok(handle)
             }
             Err(why) => {
@@ -57,28 +55,28 @@ impl Queue {
         Entries { bytes: &self.bytes }
     }
 
-    fn write_u64(&mut self, number: u64) {
-        self.bytes.extend_from_slice(&number.to_le_bytes());
-    }
-
-    fn write_items(&mut self, items: &[Item]) {
-        let count = items.len() as u16;
-        self.bytes.extend_from_slice(&count.to_le_bytes());
+    fn write_spawn(&mut self, handle: Handle, items: &[Item]) {
+        let mut head = [0; 11];
+        head[1..9].copy_from_slice(&handle.to_bits().to_le_bytes());
+        head[9..].copy_from_slice(&(items.len() as u16).to_le_bytes());
+        self.bytes.extend_from_slice(&head);
         for (id, value) in items {
-            self.bytes.push(*id);
-            self.write_u64(*value as u64);
+            let mut item = [*id; 9];
+            item[1..].copy_from_slice(&value.to_le_bytes());
+            self.bytes.extend_from_slice(&item);
         }
     }
 
     fn write_refused(&mut self, wanted: u32, why: Refused) {
-        self.bytes.push(5);
-        self.bytes.extend_from_slice(&wanted.to_le_bytes());
         let (kind, left) = match why {
             Refused::Space { left, .. } => (1, u64::from(left)),
             Refused::Quota { left } => (2, left),
         };
-        self.bytes.push(kind);
-        self.write_u64(left);
+        let mut refusal = [5; REFUSAL];
+        refusal[1..5].copy_from_slice(&wanted.to_le_bytes());
+        refusal[5] = kind;
+        refusal[6..].copy_from_slice(&left.to_le_bytes());
+        self.bytes.extend_from_slice(&refusal);
     }
 }
 

@@ -106,6 +106,7 @@ impl Bundle {
         }
     }
 
+    #[inline]
     pub fn put(&mut self, id: u8, value: i64) {
         let items = self.items();
         let place = items
@@ -117,7 +118,9 @@ impl Bundle {
             Bundle::Inline { items, .. } if is_there => items[place].1 = value,
             Bundle::Heap(items) if is_there => items[place].1 = value,
             Bundle::Inline { len, items } if *len < 4 => {
-                items.copy_within(place..usize::from(*len), place + 1);
+                for later in (place..usize::from(*len)).rev() {
+                    items[later + 1] = items[later];
+                }
                 items[place] = (id, value);
                 *len += 1;
             }
