@@ -5,29 +5,38 @@ use ent_queue::Bundle;
 // The numbers fall and rise, and the last value under a number counts.
 #[test]
 fn a_bundle_rises(rt: HostRuntime) {
-    let alloc = rt.alloc();
     let put = [(9, 10), (3, 20), (7, 30), (1, 40), (5, 50), (3, -60)];
-    let want = [(1, 40), (3, -60), (5, 50), (7, 30), (9, 10)];
-    let bundle = bundle(&rt, alloc, &put);
-    assert!(rt;
-        bundle.items()
-            == want
-                .map(|(number, value)| (ComponentId(number), value))
-                .as_slice()
-    );
+    let bundle = bundle(&rt, rt.alloc(), &put);
+    let want = [
+        (ComponentId(1), 40),
+        (ComponentId(3), -60),
+        (ComponentId(5), 50),
+        (ComponentId(7), 30),
+        (ComponentId(9), 10),
+    ];
+    assert!(rt; bundle.items() == want.as_slice());
 }
 
-// Passes whichever single allocation is refused.
+// Passes whichever single allocation is refused: the component is then not there, and is put again.
 #[test]
 fn refused_memory_leaves_the_bundle(rt: HostRuntime) {
+    let want = [
+        (ComponentId(0), 9),
+        (ComponentId(1), 8),
+        (ComponentId(2), 7),
+        (ComponentId(3), 6),
+        (ComponentId(4), 5),
+        (ComponentId(5), 4),
+        (ComponentId(6), 3),
+        (ComponentId(7), 2),
+        (ComponentId(8), 1),
+    ];
     let mut bundle = Bundle::new(rt.alloc());
-    for number in 0..20 {
-        let id = ComponentId(number);
-        if bundle.put(id, -1).is_err() {
-            assert_eq!(rt; bundle.items().len(), usize::from(number));
-            bundle.put(id, -1).expect(&rt, "memory for a bundle");
+    for (count, (id, value)) in want.iter().enumerate() {
+        if bundle.put(*id, *value).is_err() {
+            assert!(rt; bundle.items() == &want[..count]);
+            bundle.put(*id, *value).expect(&rt, "memory for a bundle");
         }
     }
-    let want = (0..20).map(|number| (ComponentId(number), -1));
-    assert!(rt; bundle.items().iter().copied().eq(want));
+    assert!(rt; bundle.items() == want.as_slice());
 }

@@ -43,9 +43,9 @@ fn a_queue_as_bytes(rt: HostRuntime) {
     let calls = [Call::Spawn(&[(0, 5)]), Call::Despawn((1, 1))];
     let mut answers = text(&rt, alloc);
     let queue = issued(&rt, alloc, &shared, &mut reserver, &calls, &mut answers);
-    let spawn = [0, 0, 0, 0, 0, 1, 0, 0, 0, 1, 0, 0, 5, 0, 0, 0, 0, 0, 0, 0];
-    let despawn = [4, 1, 0, 0, 0, 1, 0, 0, 0];
-    assert!(rt; queue.bytes().iter().eq(spawn.iter().chain(despawn.iter())));
+    let want = b"\x00\0\0\0\0\x01\0\0\0\x01\0\x00\x05\0\0\0\0\0\0\0\
+                 \x04\x01\0\0\0\x01\0\0\0";
+    assert!(rt; queue.bytes() == want.as_slice());
 }
 
 /// Uses up the reserver's credit, but for 256 handles.
