@@ -9,3 +9,4 @@ pub mod Fronts
 pub mod Pushes
 pub mod Gaining
 pub mod Issuing
+pub mod Rows

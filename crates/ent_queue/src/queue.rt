@@ -56,11 +56,10 @@ impl CommandQueue {
     }
 
     /// How many commands there are.
-    #[tactic(auto, using(crate::proofs::Queues::length_of_commands))]
     pub fn len(&self) -> usize
         ensures { result ≡ length self.now }
     {
-        self.count
+        self.entries().len()
     }
 
     /// Whether there is none.

@@ -1,0 +1,15 @@
+//! Tests of `ent_queue`, over its public calls.
+#![tactic(auto)]
+
+#[cfg(test)]
+mod bundles;
+#[cfg(test)]
+mod call;
+#[cfg(test)]
+mod memory;
+#[cfg(test)]
+mod phase;
+#[cfg(test)]
+mod queues;
+#[cfg(test)]
+mod shown;

@@ -1,0 +1,67 @@
+//! Memory that is refused.
+use crate::call::Call;
+use crate::phase::{issued, opened};
+use crate::shown::{text, write_queue};
+
+/// How much credit the first commands cost, from none to all of them.
+const COST: [u64; 7] = [0, 1, 1, 1, 1, 9, 10];
+
+// Passes whichever single allocation is refused: `rt try --test --fail-alloc N -- refused_memory`
+// refuses the Nth. Each call needs more room than twice the queue before it, so each grows the
+// queue.
+//
+// A refused call ends the first queue early. That queue and the reserver are then as they were
+// before it, so the second queue goes on with what is left, and both together have what one queue
+// has if nothing is refused.
+#[test]
+fn refused_memory_leaves_queue_and_reserver(rt: HostRuntime) {
+    let alloc = rt.alloc();
+    let (shared, mut reserver) = opened(&rt, alloc, 100);
+    let calls = [
+        Call::Spawn(&[]),
+        Call::Despawn((7, 1)),
+        Call::Remove((7, 1), 3),
+        Call::Insert((7, 1), &[(4, 4), (3, 3), (2, 2), (1, 1), (0, 0)]),
+        Call::SpawnMany(8, &[]),
+        Call::Spawn(&[
+            (7, 7),
+            (6, 6),
+            (5, 5),
+            (4, 4),
+            (3, 3),
+            (2, 2),
+            (1, 1),
+            (0, 0),
+        ]),
+    ];
+    let (mut answers, mut entries) = (text(&rt, alloc), text(&rt, alloc));
+    let mut count = 0;
+    for _ in 0..2 {
+        assert!(rt; count < COST.len());
+        let queue = issued(
+            &rt,
+            alloc,
+            &shared,
+            &mut reserver,
+            &calls[count..],
+            &mut answers,
+        );
+        write_queue(&mut entries, &queue).expect(&rt, "room for the entries");
+        count = count.saturating_add(queue.len());
+        assert!(rt; count < COST.len());
+        assert_eq!(rt; reserver.left(), (1 << 40) - COST[count]);
+    }
+    assert_eq!(rt;
+        answers.as_str(),
+        "0v1\ndone\ndone\ndone\n8: 1v1 2v1 3v1 4v1 5v1 6v1 7v1 8v1\n9v1\n"
+    );
+    assert_eq!(rt;
+        entries.as_str(),
+        "spawn 0v1 with 0:\n\
+         despawn 7v1\n\
+         remove 7v1 3\n\
+         insert 7v1 with 5: 0=0 1=1 2=2 3=3 4=4\n\
+         spawn 8: 1v1 2v1 3v1 4v1 5v1 6v1 7v1 8v1 with 0:\n\
+         spawn 9v1 with 8: 0=0 1=1 2=2 3=3 4=4 5=5 6=6 7=7\n"
+    );
+}
