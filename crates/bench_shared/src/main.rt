@@ -1,6 +1,6 @@
 //! Reservations by threads beside a bare atomic subtraction, for `bench/shared` to time.
 //!
-//! `bench_shared STEPS` makes so many steps in each thread of each case and prints a table of times. Without a word it makes a few
+//! `bench_shared STEPS` makes that many steps in each thread of each case and prints a table of times. Without a word it makes a few
 //! steps and prints what they gave, which is the same on every machine.
 #![tactic(auto)]
 
@@ -14,13 +14,13 @@ use std::thread::{Threads, map_indices, map_vec};
 use std::time::Instant;
 use std::{env, io};
 
-/// Steps of each thread where nothing is timed.
+/// Steps of each thread if nothing is timed.
 const FEW: u32 = 1_000;
 
 /// Runs of each case, of which the shortest counts.
 const RUNS: u32 = 5;
 
-/// So many threads, each of which requests so many handles in each step.
+/// How many threads there are, and how many handles each of them requests in a step.
 #[derive(Clone, Copy)]
 struct Case {
     threads: usize,

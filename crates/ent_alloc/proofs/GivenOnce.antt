@@ -10,8 +10,7 @@ use Rattle.std.proofs.lemmas.List.Elements.{All-weaker, All-take, All-drop, Cont
 use Rattle.std.proofs.lemmas.List.Quantifiers.{all_pairs_push}
 use Rattle.std.proofs.lemmas.List.Sorted.{All-permutation}
 use Rattle.ent_handle.specs.Handle.{Handle}
-use Rattle.ent_alloc.specs.Limits.{Limits}
-use Rattle.ent_alloc.specs.Sequential.{Allocator, opening, available, after_take, after_flush}
+use Rattle.ent_alloc.specs.Sequential.{Allocator, available, after_take, after_flush}
 use Rattle.ent_alloc.specs.Sequential.{after_alloc, after_free, next, reply_to}
 use Rattle.ent_alloc.specs.Sound.{IsSound, AreApart, IsLive}
 use Rattle.ent_alloc.specs.Given.{IsSpent, AreSpent}
@@ -127,10 +126,6 @@ free-stays_spent s x h alive before spent =
 
 -- ---- each step
 
--- at the start nothing was given
-pub opening-given : (limits : Limits) → AreSpent (opening limits) []
-opening-given limits = record { distinct = λ i j d lt within. absurd (omega arith); spent = All-nil (IsSpent (opening limits)) }
-
 -- a served request gives what was never given
 pub take-given : (s : Allocator) (n : ℕ) (given more : List Handle) → IsSound s → reply_to s n ≡ Ok more → AreSpent s given → AreSpent (after_take s n) (given ++ more)
 take-given s n given more sound served once = record {
@@ -173,7 +168,3 @@ given-IsPermutation s given same moved once = record {
   distinct = AllPairs-IsPermutation (λ g h. g ≢ h) (λ g h apart is. apart (sym is)) given same moved once.distinct;
   spent = All-permutation (IsSpent s) given same moved once.spent;
 }
-
--- fewer of them
-pub given-left : (s : Allocator) (given more : List Handle) → AreSpent s (given ++ more) → AreSpent s given
-given-left s given more once = record { distinct = AllPairs-left (λ g h. g ≢ h) given more once.distinct; spent = All-left (IsSpent s) given more once.spent }

@@ -1,9 +1,8 @@
 -- What a reply that borrows the slots lists, one handle after the other.
 use Rattle.std.proofs.Common.{◌≡◌, ℕ, ◌+◌, ◌-◌, ◌<◌, ◌≤◌, List, [], ◌∷◌, ◌++◌, length, take, drop}
-use Rattle.std.proofs.Common.{replicate, get_or, slice_get, Some, refl, sym, ap, ◌∙◌, arith, suc}
+use Rattle.std.proofs.Common.{replicate, slice_get, Some, refl, sym, ap, ◌∙◌, arith, suc}
 use Rattle.std.proofs.Common.{zero, add-zero}
-use Rattle.std.proofs.lemmas.List.{length-append, length-take-le, length-drop, drop_more, take_more}
-use Rattle.std.proofs.lemmas.List.{get_or-drop}
+use Rattle.std.proofs.lemmas.List.{length-append, length-take-le, length-drop, drop_more}
 use Rattle.std.proofs.lemmas.Option.{get_or_from_slice_get}
 use Rattle.ent_handle.specs.Handle.{Handle}
 use Rattle.ent_alloc.specs.Roster.{Roster}
@@ -54,16 +53,6 @@ fresh-push index (suc count) =
     let more : suc (count + 1) ≡ suc count + 1 = omega arith in
     ap (λ rest. record { index = index; generation = 1 } ∷ rest) (ap (λ n. fresh (index + 1) count ++ record { index = n; generation = 1 } ∷ []) at ∙ fresh-push (index + 1) count)
     ∙ ap (fresh index) more
-
--- what was listed so far, and the handle at the next position
-pub take-push : (hs : List Handle) (from position : ℕ) (h : Handle) → from ≤ position → position < length hs → slice_get hs position ≡ Some h → take (position - from) (drop from hs) ++ h ∷ [] ≡ take (position + 1 - from) (drop from hs)
-take-push hs from position h after below at =
-    let there : from + (position - from) ≡ position = omega arith in
-    let item : h ≡ get_or (drop from hs) (position - from) h = sym (get_or-drop from hs (position - from) h ∙ ap (λ n. get_or hs n h) there ∙ get_or_from_slice_get hs position h h at) in
-    let more : position - from + 1 ≡ position + 1 - from = omega arith in
-    (λ i. take (position - from) (drop from hs) ++ item i ∷ [])
-    ∙ sym (take_more (drop from hs) (position - from) h (omega (arith, length-drop from hs)))
-    ∙ ap (λ n. take n (drop from hs)) more
 
 pub replicate-push : {X : Type 0} (count : ℕ) (x : X) → replicate count x ++ x ∷ [] ≡ replicate (count + 1) x
 replicate-push zero x = refl

@@ -148,7 +148,7 @@ module _ (limits : Limits) (records : List SlotRecord) (pending : List ℕ) (liv
         at_position from (position.0 - from) h below ∙ (λ i. record { index = index i; generation = ((ap (λ n. (record_at records n).generation) index) ∙ generation) i }),
       )
 
-  -- who waits behind a position is told by the record
+  -- who waits after a position is told by the record
   pub stands_in-pending : (h : Handle) (from : ℕ) → waits_at records h from ≡ stands_in (drop from (map (handle_at records) pending)) h
   stands_in-pending h from =
       same_test _ _

@@ -278,7 +278,7 @@ rows_from-set from (x ∷ records) zero r new old =
 rows_from-set from (x ∷ records) (suc index) r new old =
     ap (λ rest. with_row (record { index = from; generation = x.generation }) (row_of x.occupancy) rest) (rows_from-set (from + 1) records index r new old)
 
--- ---- records put behind
+-- ---- records put at the end
 
 list_any-append : (p : Handle → Bool) (xs ys : List Handle) → list_any p (xs ++ ys) ≡ (list_any p xs || list_any p ys)
 list_any-append p [] ys = refl

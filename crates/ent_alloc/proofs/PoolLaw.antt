@@ -167,7 +167,7 @@ length-taken s h enough =
 pub taken_is : (s : Allocator) → s.taken ≡ take (length s.taken) (available s)
 taken_is s = sym (take-append_seam s.taken (s.aside ++ s.pool))
 
--- what was passed over stands behind it
+-- what was passed over stands after it
 pub aside_is : (s : Allocator) → IsSound s → s.aside ≡ drop (length s.taken) (take s.asked (available s))
 aside_is s h = elim (cases_lt (length (available s)) s.asked) [
   | inl beyond ↦

@@ -16,7 +16,6 @@ use Rattle.ent_alloc.proofs.ListLaws.{All-left, All-right, AllPairs-left, AllPai
 use Rattle.ent_alloc.proofs.ListLaws.{AllPairs-IsPermutation}
 use Rattle.ent_alloc.proofs.LaidOut.{flushed-laid_out}
 use Rattle.ent_alloc.proofs.PoolLaw.{after_takes, live-after_takes, after_takes-sound}
-use Rattle.ent_alloc.proofs.Soundness.{after_take-sound}
 use Rattle.ent_alloc.proofs.Replies.{taken-IsPermutation, taken-after_refused, apart_both}
 use Rattle.ent_alloc.proofs.Replies.{not_apart}
 use Rattle.ent_alloc.proofs.Flushes.{live-after_flush, live-stays, taken-lives, born-IsPermutation}
@@ -99,12 +98,3 @@ requested-given s n given h once = elim (reply_to s n) as (λ r. reply_to s n �
   | Ok more ↦ λ is. take-given s n given more h is once
   | Err space ↦ λ is. rw (append-nil given) (refused-given s n given once)
 ] refl
-
--- all requests in turn
-pub requests-given : (s : Allocator) (requests : List ℕ) (given : List Handle) → IsSound s → AreSpent s given → AreSpent (after_takes s requests) (given ++ given_by s requests)
-requests-given s [] given h once = rw (append-nil given) once
-requests-given s (n ∷ requests) given h once =
-    let t = after_take s n in
-    rw (← append_assoc given (handles_in (reply_to s n)) (given_by t requests)) (
-    requests-given t requests (given ++ handles_in (reply_to s n)) (after_take-sound s n h) (requested-given s n given h once)
-    )

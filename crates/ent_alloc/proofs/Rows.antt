@@ -44,7 +44,7 @@ Goes s (flushes list ∷ lines) = (born s ≡ list) × Goes (after_flush s) line
 -- who lives after inserts and removes
 ruleset living = (set.contains-empty, set.contains-insert, set.contains-remove, handle_cmp_total)
 
--- the allocator of so many slots and generations that has given nothing
+-- the allocator of these limits that has given nothing
 abbrev start : ℕ → ℕ → Allocator
 start slots generations = opening (record { slots = slots; generations = generations })
 

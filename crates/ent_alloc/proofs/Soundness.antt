@@ -10,7 +10,7 @@ use Rattle.std.proofs.lemmas.List.{drop-drop, drop_all}
 use Rattle.std.proofs.lemmas.List.Elements.{All-drop, All-head, All-tail, All-nil, All-cons}
 use Rattle.std.proofs.lemmas.List.Elements.{All-weaker, All-filter}
 use Rattle.std.proofs.lemmas.List.Kept.{AllPairs-filter, AllPairs-cons}
-use Rattle.ent_handle.specs.Handle.{Handle, IsHandle, handle_cmp}
+use Rattle.ent_handle.specs.Handle.{Handle, handle_cmp}
 use Rattle.ent_alloc.specs.Limits.{Limits, AreLimits}
 use Rattle.ent_alloc.specs.Sequential.{Allocator, opening, available, after_take, after_flush}
 use Rattle.ent_alloc.specs.Sequential.{after_alloc, after_free, next, fresh, is_old}
@@ -84,10 +84,6 @@ after_take-sound s n h = elim (cases_lt (length s.pool) n) [
       (λ enough. h.aside (omega arith))
       )
 ]
-
--- what the limits allow is in a handle's ranges
-pub IsHandle-within : (limits : Limits) (h : Handle) → AreLimits limits → IsWithin limits h → IsHandle h
-IsHandle-within limits h ok within = record { index = omega (arith, ok.slots, within.index); least = within.least; greatest = omega (arith, ok.generations, within.greatest) }
 
 -- after the last generation comes the first
 pub next-last : (limits : Limits) (h : Handle) → h.generation ≡ limits.generations → (next limits h).generation ≡ 1

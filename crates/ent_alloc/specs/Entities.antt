@@ -6,7 +6,7 @@ use Rattle.ent_alloc.specs.Roster.{Roster}
 use Rattle.ent_alloc.specs.Sequential.{Allocator, fresh, asked_at}
 use Rattle.ent_alloc.specs.Sound.{IsSound}
 
--- what there is to give where nothing is reserved: the pending handles from the last on, then the
+-- what there is to give if nothing is reserved: the pending handles from the last on, then the
 -- fresh ones
 abbrev pub idle : Roster → List Handle
 idle r = reverse r.pending ++ fresh r.made (r.limits.slots - r.made)

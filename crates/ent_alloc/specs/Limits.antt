@@ -21,4 +21,5 @@ credit = 2 ^ 40
 -- limits are stored as the pair of their numbers
 abbrev pub limits_code : Coded Limits
 limits_code =
-    code_by (ℕ × ℕ) (coded× coded_ℕ coded_ℕ) (λ l. (l.slots, l.generations)) (λ p. record { slots = p.0; generations = p.1 }) (λ _. refl)
+    code_by (ℕ × ℕ) (coded× coded_ℕ coded_ℕ) (λ l. (l.slots, l.generations))
+    (λ p. record { slots = p.0; generations = p.1 }) (λ _. refl)

@@ -20,7 +20,14 @@ abbrev pub roster_code : Coded Roster
 roster_code =
     code_by
     (Limits × (set.FinSet handle_cmp × (map.FinMap handle_cmp ℕ × (List Handle × ℕ))))
-    (coded× limits_code (coded× (set.code handle_code) (coded× (map.code handle_code coded_ℕ) (coded× (coded_list handle_code) coded_ℕ))))
+    (coded× limits_code (coded× (set.code handle_code)
+    (coded× (map.code handle_code coded_ℕ) (coded× (coded_list handle_code) coded_ℕ))))
     (λ r. (r.limits, (r.live, (r.rows, (r.pending, r.made)))))
-    (λ p. record { limits = p.0; live = p.1.0; rows = p.1.1.0; pending = p.1.1.1.0; made = p.1.1.1.1 })
+    (λ p. record {
+      limits = p.0;
+      live = p.1.0;
+      rows = p.1.1.0;
+      pending = p.1.1.1.0;
+      made = p.1.1.1.1;
+    })
     (λ _. refl)

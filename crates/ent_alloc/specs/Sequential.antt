@@ -28,7 +28,7 @@ pub record Allocator : Type 0 where
   pub made : ℕ
   pub asked : ℕ
 
--- the first occupants of so many slots, from an index on
+-- the first occupants of that many slots, from an index on
 unfoldable pub fresh : ℕ → ℕ → List Handle
 fresh index zero = []
 fresh index (suc slots) = record { index = index; generation = 1 } ∷ fresh (index + 1) slots
@@ -65,7 +65,7 @@ top s = length (filter (is_old s.made) (available s))
 abbrev pub cursor : Allocator → ℤ
 cursor s = pos (top s) -ℤ pos s.asked
 
--- A request takes the front of the pool where there is enough; else the whole pool is passed over.
+-- A request takes the front of the pool if there is enough; else the whole pool is passed over.
 abbrev pub after_take : Allocator → ℕ → Allocator
 after_take s n =
     if nat_le n (length s.pool)
@@ -76,7 +76,7 @@ after_take s n =
 abbrev pub listed : ℕ → List Handle → List Handle
 listed made given = reverse (filter (is_old made) given) ++ filter (is_fresh made) given
 
--- the reply to a request for n where this is the pool
+-- the reply to a request for n if this is the pool
 abbrev pub reply_from : ℕ → List Handle → ℕ → Result (List Handle) Space
 reply_from made pool n =
     if nat_le n (length pool)
@@ -138,7 +138,7 @@ after_free s h = record s {
 abbrev pub after_set_row : Allocator → Handle → ℕ → Allocator
 after_set_row s h row = record s { rows = map.insert s.rows h row }
 
--- the allocator after requests so many handles in all, of which the first given were served
+-- the allocator after `asked` handles were requested in all, of which the first `given` were served
 abbrev pub settled : Allocator → ℕ → ℕ → Allocator
 settled s given asked = record s {
   taken = s.taken ++ take given s.pool;
@@ -147,7 +147,7 @@ settled s given asked = record s {
   asked = s.asked + asked;
 }
 
--- how much had been asked where the cursor is high
+-- how much had been asked if the cursor is high
 abbrev pub asked_at : ℕ → ℤ → ℕ
 asked_at top (pos high) = top - high
 asked_at top (negsuc below) = top + suc below
@@ -168,8 +168,20 @@ state_of s h =
 abbrev pub allocator_code : Coded Allocator
 allocator_code =
     code_by
-    (Limits × (set.FinSet handle_cmp × (map.FinMap handle_cmp ℕ × (List Handle × (List Handle × (List Handle × (ℕ × ℕ)))))))
-    (coded× limits_code (coded× (set.code handle_code) (coded× (map.code handle_code coded_ℕ) (coded× (coded_list handle_code) (coded× (coded_list handle_code) (coded× (coded_list handle_code) (coded× coded_ℕ coded_ℕ)))))))
+    (Limits × (set.FinSet handle_cmp × (map.FinMap handle_cmp ℕ
+    × (List Handle × (List Handle × (List Handle × (ℕ × ℕ)))))))
+    (coded× limits_code (coded× (set.code handle_code) (coded× (map.code handle_code coded_ℕ)
+    (coded× (coded_list handle_code) (coded× (coded_list handle_code)
+    (coded× (coded_list handle_code) (coded× coded_ℕ coded_ℕ)))))))
     (λ s. (s.limits, (s.live, (s.rows, (s.pool, (s.taken, (s.aside, (s.made, s.asked))))))))
-    (λ p. record { limits = p.0; live = p.1.0; rows = p.1.1.0; pool = p.1.1.1.0; taken = p.1.1.1.1.0; aside = p.1.1.1.1.1.0; made = p.1.1.1.1.1.1.0; asked = p.1.1.1.1.1.1.1 })
+    (λ p. record {
+      limits = p.0;
+      live = p.1.0;
+      rows = p.1.1.0;
+      pool = p.1.1.1.0;
+      taken = p.1.1.1.1.0;
+      aside = p.1.1.1.1.1.0;
+      made = p.1.1.1.1.1.1.0;
+      asked = p.1.1.1.1.1.1.1;
+    })
     (λ _. refl)

@@ -123,4 +123,5 @@ pub record AreLinked
   pub listed : (index position : ℕ) → index < length records
       → (record_at records index).occupancy ≡ Pending position → position < length pending
   pub back : (index position : ℕ) → index < length records
-      → (record_at records index).occupancy ≡ Pending position → slice_index pending position ≡ index
+      → (record_at records index).occupancy ≡ Pending position
+      → slice_index pending position ≡ index

@@ -102,8 +102,8 @@ impl Entities {
     pub fn cursor(&self) -> i64
         ensures value { result ≡ cursor self.now }
 
-        // What is true of every state, as that no slot has two handles among the living and those to
-        // be given.
+        // What is true of every state, as that no slot has two handles among the living and those
+        // to be given.
         ensures sound { IsSound self.now }
     {
         self.slots.top() - self.asked() as i64

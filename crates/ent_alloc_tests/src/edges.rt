@@ -78,6 +78,25 @@ fn a_flush_after_a_refused_request_alone_brings_nothing_to_life(
     Ok(())
 }
 
+// For how many slots there is room stands in no contract, so only a test sees that a flush which finds
+// room for all of them isn't refused.
+#[test]
+fn a_flush_with_room_for_its_slots_is_not_refused(rt: HostRuntime) -> Result<(), Fail> {
+    let alloc = rt.alloc();
+    for room in [0, 64] {
+        let mut entities = Entities::new(alloc, Limits::default_limits());
+        let mut out = Vec::with_capacity(alloc, room)?;
+        // Room is made for more than one slot at a time, so most of these flushes find some.
+        for index in 0..20 {
+            let given = reserve(&rt, alloc, &mut entities, 1)?;
+            assert!(rt; given.as_slice() == [handle(index, 1)?].as_slice());
+            entities.flush(&mut out)?;
+        }
+        assert_eq!(rt; (out.len(), entities.len()), (20, 20));
+    }
+    Ok(())
+}
+
 fn set_row(rt: &impl Abort, entities: &mut Entities, living: Handle, row: u32) {
     assert!(rt; entities.state(living) == State::Alive);
     entities.set_row(living, row);
@@ -162,13 +181,14 @@ fn refused_memory_changes_nothing(rt: HostRuntime) -> Result<(), Fail> {
     assert_eq!(rt; (entities.len(), entities.top()), (0, 20));
 
     assert!(rt; entities.asked() <= 1 << 49);
-    let span = entities.lower(30);
-    assert_eq!(rt; (span.high, span.low), (20, -10));
+    // Enough fresh slots that the flush has to make room for them, and for its list.
+    let span = entities.lower(60);
+    assert_eq!(rt; (span.high, span.low), (20, -40));
     let other = handle(99, 9)?;
     let mut out = Vec::new(alloc);
     out.push(other).or_else(|_| out.push(other))?;
     flush_at_last(&rt, &mut entities, &mut out)?;
-    assert_eq!(rt; (out.len(), entities.len(), entities.total()), (31, 30, 30));
+    assert_eq!(rt; (out.len(), entities.len(), entities.total()), (61, 60, 60));
     assert!(rt; out.first().copied() == Some(other));
     Ok(())
 }

@@ -1,30 +1,38 @@
 -- No handle is given twice in a run in which no free wrapped.
-use Rattle.std.proofs.Common.{◌≡◌, ◌≢◌, refl, sym, ap, subst, ◌∙◌, ℕ, zero, suc, ◌<◌, false, List, [], ◌∷◌, ◌++◌, append-nil, append_assoc, Some, None, Result, Ok, Err, AllPairs, IsPermutation, inl, inr, arith}
+use Rattle.std.proofs.Common.{◌≡◌, ◌≢◌, refl, sym, ap, subst, ◌∙◌, ℕ, zero, suc, ◌<◌, false, List}
+use Rattle.std.proofs.Common.{[], ◌∷◌, ◌++◌, append-nil, append_assoc, Some, None, Result, Ok, Err}
+use Rattle.std.proofs.Common.{AllPairs, IsPermutation, inl, inr, arith}
 use Rattle.std.specs.Ordering.{nat_cmp}
 use Rattle.std.specs.FinMap as finite
 use Rattle.std.specs.FinMap.{FinMap, get-empty}
 use Rattle.std.proofs.lemmas.Bool.{cases_lt}
 use Rattle.std.proofs.lemmas.Bool.Decides.{nat_tests}
 use Rattle.std.proofs.lemmas.List.Elements.{All-nil}
-use Rattle.std.proofs.lemmas.List.Sorted.{IsPermutation-refl, IsPermutation-sym, IsPermutation-trans, IsPermutation-append_left, IsPermutation-append_right, IsPermutation-append_comm}
+use Rattle.std.proofs.lemmas.List.Sorted.{IsPermutation-refl, IsPermutation-sym}
+use Rattle.std.proofs.lemmas.List.Sorted.{IsPermutation-trans, IsPermutation-append_left}
+use Rattle.std.proofs.lemmas.List.Sorted.{IsPermutation-append_right, IsPermutation-append_comm}
 use Rattle.ent_handle.specs.Handle.{Handle}
-use Rattle.ent_alloc.specs.Sequential.{Allocator, after_take, after_alloc, after_free, after_flush, reply_to}
+use Rattle.ent_alloc.specs.Sequential.{Allocator, after_take, after_alloc, after_free, after_flush}
+use Rattle.ent_alloc.specs.Sequential.{reply_to}
 use Rattle.ent_alloc.specs.Sound.{IsSound}
 use Rattle.ent_alloc.specs.Given as spent
 use Rattle.ent_alloc.specs.History.{handles_in}
 use Rattle.ent_alloc.proofs.ListLaws.{All-right, AllPairs-left, AllPairs-right}
 use Rattle.ent_alloc.proofs.RequestLaws.{requested-given}
 use Rattle.ent_alloc.proofs.GivenOnce.{alloc-given, free-given, flush-given, given-IsPermutation}
-use Rattle.ent_alloc.proofs.Soundness.{after_take-sound, after_alloc-sound, after_free-sound, after_flush-sound}
+use Rattle.ent_alloc.proofs.Soundness.{after_take-sound, after_alloc-sound, after_free-sound}
+use Rattle.ent_alloc.proofs.Soundness.{after_flush-sound}
 use Rattle.ent_replay.specs.declared.event.Event.{Event}
 use Rattle.ent_replay.specs.declared.outcome.Outcome.{Outcome}
 use Rattle.ent_replay.specs.declared.outcome.Outcome.TheVariants as outcome
 use Rattle.ent_replay.specs.declared.fault.ReplayFault.{ReplayFault}
-use Rattle.ent_replay.specs.Schedule.{MachineState, OpenCall, Reply, Answered, on_event, outcome_of, after_event, outcomes_of, reported, callers, wraps}
+use Rattle.ent_replay.specs.Schedule.{MachineState, OpenCall, Reply, Answered, on_event, outcome_of}
+use Rattle.ent_replay.specs.Schedule.{after_event, outcomes_of, reported, callers, wraps}
 use Rattle.ent_replay.specs.Held.{joined, held_by, held, all_held}
 use Rattle.ent_replay.specs.Histories.{given_by, given_in, has_wrapped, NoneWrapped, AreGivenOnce}
 use Rattle.ent_replay.proofs.Maps.{get-inserted, get-insert_other, get-removed, get-remove_other}
-use Rattle.ent_replay.proofs.Moves.{Move, move, stays, allocates, frees, flushes, begins, steps, answers}
+use Rattle.ent_replay.proofs.Moves.{Move, move, stays, allocates, frees, flushes, begins, steps}
+use Rattle.ent_replay.proofs.Moves.{answers}
 
 -- ---- lists of all callers, one after the other
 

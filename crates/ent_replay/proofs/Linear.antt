@@ -1,5 +1,7 @@
 -- The reservations of a run, in the order of their steps, are a legal history, and each answer tells a reply of it.
-use Rattle.std.proofs.Common.{◌≡◌, ◌≢◌, refl, sym, ap, subst, ◌∙◌, ℕ, zero, suc, ◌+◌, Bool, true, false, cond, List, [], ◌∷◌, ◌++◌, append-nil, Some, None, Result, Ok, Err, ◌⊎◌, inl, inr, arith}
+use Rattle.std.proofs.Common.{◌≡◌, ◌≢◌, refl, sym, ap, subst, ◌∙◌, ℕ, zero, suc, ◌+◌, Bool, true}
+use Rattle.std.proofs.Common.{false, cond, List, [], ◌∷◌, ◌++◌, append-nil, Some, None, Result, Ok}
+use Rattle.std.proofs.Common.{Err, ◌⊎◌, inl, inr, arith}
 use Rattle.std.specs.Prelude.{◌==◌}
 use Rattle.std.specs.Option.{option_or}
 use Rattle.std.specs.Ordering.{nat_cmp}
@@ -15,11 +17,14 @@ use Rattle.ent_replay.specs.declared.event.Event.{Event}
 use Rattle.ent_replay.specs.declared.event.Event.TheVariants as event
 use Rattle.ent_replay.specs.declared.outcome.Outcome.{Outcome}
 use Rattle.ent_replay.specs.declared.fault.ReplayFault.{ReplayFault}
-use Rattle.ent_replay.specs.Schedule.{MachineState, OpenCall, Reply, outcome_of, after_event, outcomes_of, reported}
-use Rattle.ent_replay.specs.Histories.{reserved, reservations, Phase, next_phase, last_of, TellsOf, Tells, StandInHistory, IsAtRest, new_phase}
+use Rattle.ent_replay.specs.Schedule.{MachineState, OpenCall, Reply, outcome_of, after_event}
+use Rattle.ent_replay.specs.Schedule.{outcomes_of, reported}
+use Rattle.ent_replay.specs.Histories.{reserved, reservations, Phase, next_phase, last_of, TellsOf}
+use Rattle.ent_replay.specs.Histories.{Tells, StandInHistory, IsAtRest, new_phase}
 use Rattle.ent_replay.proofs.Maps.{get-inserted, get-insert_other, get-removed, get-remove_other}
 use Rattle.ent_replay.proofs.Conditions.{when, unless}
-use Rattle.ent_replay.proofs.Moves.{Move, move, stays, allocates, frees, flushes, begins, steps, answers}
+use Rattle.ent_replay.proofs.Moves.{Move, move, stays, allocates, frees, flushes, begins, steps}
+use Rattle.ent_replay.proofs.Moves.{answers}
 
 -- ---- histories
 
@@ -201,10 +206,6 @@ module _ (p : Phase) (s : MachineState) (e : Event) (h : IsFollowed p s) where
           (goes_on (move s e) (grind (arith, nat_tests)))
 
 -- ---- what an answer tells
-
-caller_of : Event → ℕ
-caller_of (event.Answer caller) = caller
-caller_of other = 0
 
 told_by : (p : Phase) (s : MachineState) (caller : ℕ) → IsFollowed p s → (r : Result Outcome ReplayFault) → outcome_of s (event.Answer caller) ≡ r → Tells s p.calls (event.Answer caller) r
 told_by p s caller h (Err why) result = tt

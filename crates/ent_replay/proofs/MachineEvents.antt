@@ -1,5 +1,8 @@
 -- What each event does to the fields of a `Machine`, and that it keeps them in order.
-use Rattle.std.proofs.Common.{◌≡◌, refl, sym, ap, subst, ◌∙◌, ℕ, ◌+◌, ◌*◌, ◌^◌, ◌<◌, ◌≤◌, pos, ◌-ℤ◌, ◌≤ℤ◌, suc, Bool, true, false, IsTrue, not, nat_lt, List, [], ◌∷◌, length, drop, filter, slice_get, Option, Some, None, Result, Ok, Err, arith, inl, inr}
+use Rattle.std.proofs.Common.{◌≡◌, refl, sym, ap, subst, ◌∙◌, ℕ, ◌+◌, ◌*◌, ◌^◌, ◌<◌, ◌≤◌, pos, ◌-ℤ◌}
+use Rattle.std.proofs.Common.{◌≤ℤ◌, suc, Bool, true, false, IsTrue, not, nat_lt, List, [], ◌∷◌}
+use Rattle.std.proofs.Common.{length, drop, filter, slice_get, Option, Some, None, Result, Ok, Err}
+use Rattle.std.proofs.Common.{arith, inl, inr}
 use Rattle.std.proofs.lemmas.Int.{ints}
 use Rattle.std.specs.Prelude.{◌==◌}
 use Rattle.std.specs.Option.{option_map, unwrap_or, is_some}
@@ -15,28 +18,37 @@ use native.Mathlib.Decide.{ℕ_discrete}
 use Rattle.ent_handle.specs.Handle.{Handle}
 use Rattle.ent_alloc.specs.declared.span.Span.{Span}
 use Rattle.ent_alloc.specs.Limits.{Limits, credit}
-use Rattle.ent_alloc.specs.Sequential.{Allocator, top, cursor, opening, available, next, born, reply_from, reply_to, pool_at, asked_at, is_old, is_fresh}
+use Rattle.ent_alloc.specs.Sequential.{Allocator, top, cursor, opening, available, next, born}
+use Rattle.ent_alloc.specs.Sequential.{reply_from, reply_to, pool_at, asked_at, is_old, is_fresh}
 use Rattle.ent_alloc.specs.Sequential.{after_take, after_alloc, after_free, after_flush}
 use Rattle.ent_alloc.specs.Sound.{IsSound}
 use Rattle.ent_alloc.specs.Given as given
 use Rattle.ent_alloc.proofs.Flushes.{born-IsPermutation}
 use Rattle.ent_alloc.proofs.Taken.{available-after_take}
-use Rattle.ent_alloc.proofs.Soundness.{after_take-sound, after_alloc-sound, after_free-sound, after_flush-sound}
-use Rattle.ent_alloc.proofs.PoolLaw.{made-after_take, asked-after_take, top-after_take, cursor-after_take, reply-cursor}
+use Rattle.ent_alloc.proofs.Soundness.{after_take-sound, after_alloc-sound, after_free-sound}
+use Rattle.ent_alloc.proofs.Soundness.{after_flush-sound}
+use Rattle.ent_alloc.proofs.PoolLaw.{made-after_take, asked-after_take, top-after_take}
+use Rattle.ent_alloc.proofs.PoolLaw.{cursor-after_take, reply-cursor}
 use Rattle.ent_replay.specs.declared.stored_call.StoredCall.{StoredCall}
 use Rattle.ent_replay.specs.declared.event.Event.TheVariants as event
 use Rattle.ent_replay.specs.declared.outcome.Outcome.{Outcome}
 use Rattle.ent_replay.specs.declared.outcome.Outcome.TheVariants as outcome
 use Rattle.ent_replay.specs.declared.fault.ReplayFault.{ReplayFault}
 use Rattle.ent_replay.specs.declared.fault.ReplayFault.TheVariants as fault
-use Rattle.ent_replay.specs.Schedule.{MachineState, OpenCall, Answered, starting, is_busy, on_alloc, on_free, on_flush, on_begin, on_step, on_answer, alloc_front, begin_with, step_with, step_open, answer_with, answer_open, takes_memory, left_of, callers, reported, wraps}
+use Rattle.ent_replay.specs.Schedule.{MachineState, OpenCall, Answered, starting, is_busy, on_alloc}
+use Rattle.ent_replay.specs.Schedule.{on_free, on_flush, on_begin, on_step, on_answer, alloc_front}
+use Rattle.ent_replay.specs.Schedule.{begin_with, step_with, step_open, answer_with, answer_open}
+use Rattle.ent_replay.specs.Schedule.{takes_memory, left_of, callers, reported, wraps}
 use Rattle.ent_replay.specs.Totals.{total}
 use Rattle.ent_replay.specs.Held.{all_held}
-use Rattle.ent_replay.specs.Machine.{map_values, open_call_of, machine_state, unasked, awaited, AreConsistent, Makes}
+use Rattle.ent_replay.specs.Machine.{map_values, open_call_of, machine_state, unasked, awaited}
+use Rattle.ent_replay.specs.Machine.{AreConsistent, Makes}
 use Rattle.ent_replay.proofs.Conditions.{when, unless}
 use Rattle.ent_replay.proofs.Giving.{all_held-none, all_held-next, given-none, not_wrapped-reported}
 use Rattle.ent_replay.proofs.Totals.{total-changed, total-bound, total-part, total-none}
-use Rattle.ent_replay.proofs.Maps.{no_test, maps_alike, get-inserted, get-insert_other, get-removed, get-remove_other, get-map_values, map_values-insert, map_values-remove, map_values-empty}
+use Rattle.ent_replay.proofs.Maps.{no_test, maps_alike, get-inserted, get-insert_other, get-removed}
+use Rattle.ent_replay.proofs.Maps.{get-remove_other, get-map_values, map_values-insert}
+use Rattle.ent_replay.proofs.Maps.{map_values-remove, map_values-empty}
 
 -- ---- answers
 

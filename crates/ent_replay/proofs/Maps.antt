@@ -1,5 +1,6 @@
 -- Maps of callers: what a tree's entries stand for, and the values of a map under a function.
-use Rattle.std.proofs.Common.{◌≡◌, ◌≢◌, refl, sym, ap, subst, ◌∙◌, ℕ, Bool, true, false, cond, List, [], ◌∷◌, map, Option, Some, None, arith, eq-eqb, ne_eqb}
+use Rattle.std.proofs.Common.{◌≡◌, ◌≢◌, refl, sym, ap, subst, ◌∙◌, ℕ, Bool, true, false, cond, List}
+use Rattle.std.proofs.Common.{[], ◌∷◌, map, Option, Some, None, arith, eq-eqb, ne_eqb}
 use Rattle.std.specs.Option.{option_map}
 use Rattle.std.specs.Ordering.{nat_cmp, eq_by_cmp}
 use Rattle.std.specs.Cmp.{nat_cmp_total, eq_by_cmp_equiv, unsigned_tied}
@@ -11,7 +12,8 @@ use Rattle.std.proofs.lemmas.Map.{lookup-set_value}
 use Rattle.std.specs.BTreeMap as tree
 use Rattle.std.specs.BTreeMap.{BTreeMap, is_at}
 use Rattle.std.specs.FinMap as finite
-use Rattle.std.specs.FinMap.{FinMap, find, same_map, nat_cmp-IsAntisymmetric, get-from_entries, get-entries, get-insert, get-remove, get-empty}
+use Rattle.std.specs.FinMap.{FinMap, find, same_map, nat_cmp-IsAntisymmetric, get-from_entries}
+use Rattle.std.specs.FinMap.{get-entries, get-insert, get-remove, get-empty}
 use Rattle.ent_replay.specs.Machine.{map_values}
 
 -- ---- keys

@@ -1,12 +1,14 @@
 -- The kinds of event, by what they do to a machine.
-use Rattle.std.proofs.Common.{◌≡◌, ◌≢◌, refl, sym, ap, ◌∙◌, ℕ, ◌+◌, ◌<◌, Bool, true, false, nat_lt, List, [], ◌∷◌, Option, Some, None, Result, Ok, Err, All, arith}
+use Rattle.std.proofs.Common.{◌≡◌, ◌≢◌, refl, sym, ap, ◌∙◌, ℕ, ◌+◌, ◌<◌, Bool, true, false, nat_lt}
+use Rattle.std.proofs.Common.{List, [], ◌∷◌, Option, Some, None, Result, Ok, Err, All, arith}
 use Rattle.std.specs.Ordering.{nat_cmp}
 use Rattle.std.specs.FinSet as set
 use Rattle.std.specs.FinMap as finite
 use Rattle.std.specs.FinMap.{FinMap, empty_of_len}
 use Rattle.std.proofs.lemmas.Bool.Decides.{nat_tests}
 use Rattle.ent_handle.specs.Handle.{Handle}
-use Rattle.ent_alloc.specs.Sequential.{cursor, after_take, after_alloc, after_free, after_flush, next, born, reply_to}
+use Rattle.ent_alloc.specs.Sequential.{cursor, after_take, after_alloc, after_free, after_flush}
+use Rattle.ent_alloc.specs.Sequential.{next, born, reply_to}
 use Rattle.ent_alloc.specs.Sound.{IsLive}
 use Rattle.ent_replay.specs.declared.event.Event.{Event}
 use Rattle.ent_replay.specs.declared.event.Event.TheVariants as event
@@ -14,7 +16,10 @@ use Rattle.ent_replay.specs.declared.outcome.Outcome.{Outcome}
 use Rattle.ent_replay.specs.declared.outcome.Outcome.TheVariants as outcome
 use Rattle.ent_replay.specs.declared.fault.ReplayFault.{ReplayFault}
 use Rattle.ent_replay.specs.declared.fault.ReplayFault.TheVariants as fault
-use Rattle.ent_replay.specs.Schedule.{MachineState, OpenCall, Reply, is_busy, on_event, outcome_of, after_event, outcomes_of, alloc_front, begin_with, step_with, step_open, answer_with, answer_open, spent_by, left_of, callers, reported, wraps}
+use Rattle.ent_replay.specs.Schedule.{MachineState, OpenCall, Reply, is_busy, on_event, outcome_of}
+use Rattle.ent_replay.specs.Schedule.{after_event, outcomes_of, alloc_front, begin_with, step_with}
+use Rattle.ent_replay.specs.Schedule.{step_open, answer_with, answer_open, spent_by, left_of}
+use Rattle.ent_replay.specs.Schedule.{callers, reported, wraps}
 use Rattle.ent_replay.specs.Histories.{reserved, reserved_by, reservations, given_by}
 use Rattle.std.proofs.lemmas.List.Elements.{All-nil, All-cons}
 use Rattle.ent_replay.proofs.Maps.{no_test}

@@ -1,5 +1,6 @@
--- Handles behind one another, each with its space.
-use Rattle.std.proofs.Common.{◌≡◌, ℕ, ◌+◌, ◌<◌, ◌≤◌, List, [], ◌∷◌, ◌++◌, length, get_or, drop, max, refl, sym, ap, ◌∙◌, arith, length-append}
+-- Handles following one another, each with its space.
+use Rattle.std.proofs.Common.{◌≡◌, ℕ, ◌+◌, ◌<◌, ◌≤◌, List, [], ◌∷◌, ◌++◌, length, get_or, drop, max}
+use Rattle.std.proofs.Common.{refl, sym, ap, ◌∙◌, arith, length-append}
 use Rattle.std.proofs.lemmas.List.{append-nil, at_drop_more}
 use Rattle.ent_handle.specs.Handle.{Handle}
 use Rattle.ent_handle.specs.Text.{handle_text}

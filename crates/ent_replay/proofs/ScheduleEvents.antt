@@ -1,12 +1,15 @@
 -- An event is read from its own text and from no other.
-use Rattle.std.proofs.Common.{◌≡◌, ◌≢◌, ℕ, ◌^◌, ◌<◌, ◌⊎◌, Bool, true, false, not, cond, ltb, eqb, List, [], ◌∷◌, ◌++◌, All, Result, Ok, Err, refl, sym, ap, subst, ◌∙◌, inl, inr, append_assoc, arith}
+use Rattle.std.proofs.Common.{◌≡◌, ◌≢◌, ℕ, ◌^◌, ◌<◌, ◌⊎◌, Bool, true, false, not, cond, ltb, eqb}
+use Rattle.std.proofs.Common.{List, [], ◌∷◌, ◌++◌, All, Result, Ok, Err, refl, sym, ap, subst, ◌∙◌}
+use Rattle.std.proofs.Common.{inl, inr, append_assoc, arith}
 use Rattle.std.specs.Prelude.{codes}
 use Rattle.std.specs.Char.{is_ascii_digit}
 use Rattle.std.specs.Fmt.{decimal}
 use Rattle.std.specs.List.{join_with_byte, list_all, slice_split}
 use Rattle.std.specs.Str.{bytes_eq}
 use Rattle.std.specs.Str.Parse.{digits_value}
-use Rattle.std.proofs.lemmas.Bool.{cases_Bool, and_parts, and_from, ltb-true, eqb-true, true≢false, false≢true}
+use Rattle.std.proofs.lemmas.Bool.{cases_Bool, and_parts, and_from, ltb-true, eqb-true, true≢false}
+use Rattle.std.proofs.lemmas.Bool.{false≢true}
 use Rattle.std.proofs.lemmas.List.Folds.{list_all-append}
 use Rattle.std.proofs.lemmas.List.Splits.{slice_split_none, slice_split_at}
 use Rattle.std.proofs.lemmas.List.Sums.{AllPass-from_list_all}
@@ -15,13 +18,16 @@ use Rattle.ent_handle.specs.Handle.{Handle, IsHandle}
 use Rattle.ent_handle.specs.Text.{is_decimal, number_of, handle_of, handle_text}
 use Rattle.ent_handle.specs.declared.text.TextFault.{TextFault}
 use Rattle.ent_handle.specs.declared.text.TextFault.TheVariants.{Shape, Range}
-use Rattle.ent_handle.proofs.Decimals.{plain_from_decimal, decimal_is_decimal, number_found, number_of-decimal}
+use Rattle.ent_handle.proofs.Decimals.{plain_from_decimal, decimal_is_decimal, number_found}
+use Rattle.ent_handle.proofs.Decimals.{number_of-decimal}
 use Rattle.ent_handle.proofs.HandleTexts.{handle_found, handle_of_text}
 use Rattle.ent_replay.specs.declared.event.Event.{Event}
-use Rattle.ent_replay.specs.declared.event.Event.TheVariants.{Alloc, Free, Flush, Begin, Step, Answer}
+use Rattle.ent_replay.specs.declared.event.Event.TheVariants.{Alloc, Free, Flush, Begin, Step}
+use Rattle.ent_replay.specs.declared.event.Event.TheVariants.{Answer}
 use Rattle.ent_replay.specs.declared.read_fault.Cause.{Cause}
 use Rattle.ent_replay.specs.declared.read_fault.Cause.TheVariants as cause
-use Rattle.ent_replay.specs.ScheduleText.{◌>>=◌, event_text, IsEvent, words_of, or_cause, number, handle, none, one, two, begin_of, event_with, event_of}
+use Rattle.ent_replay.specs.ScheduleText.{◌>>=◌, event_text, IsEvent, words_of, or_cause, number}
+use Rattle.ent_replay.specs.ScheduleText.{handle, none, one, two, begin_of, event_with, event_of}
 
 -- ---- steps that did not fail
 
@@ -166,7 +172,7 @@ free_found word others e is h =
     subst (λ (x : Event). IsRead (word ∷ others) x) (ok_is (Free b.0) e b.2)
     (p.0, ap (λ (ws : List (List ℕ)). joined (word ∷ ws)) (one_ok others a.0 a.1) ∙ ap (λ (w : List ℕ). w ++ 32 ∷ a.0) is ∙ ap (λ (w : List ℕ). codes "free " ++ w) p.1)
 
--- a keyword with one number behind it
+-- a keyword with one number after it
 caller_found : (make : ℕ → Event) (keyword : List ℕ) → ((n : ℕ) → n < 2 ^ 32 → IsEvent (make n)) → ((n : ℕ) → event_text (make n) ≡ keyword ++ 32 ∷ decimal n)
     → (word : List ℕ) (others : List (List ℕ)) (e : Event) → word ≡ keyword → (one others >>= number >>= λ caller. Ok (make caller)) ≡ Ok e → IsRead (word ∷ others) e
 caller_found make keyword fits text word others e is h =

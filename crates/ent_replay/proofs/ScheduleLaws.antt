@@ -1,17 +1,23 @@
 -- What is read is spelled so, what is spelled so is read, and a refused text has events up to the line that is named.
-use Rattle.std.proofs.Common.{◌≡◌, ℕ, ◌+◌, ◌<◌, ◌⊎◌, Bool, eqb, List, [], ◌∷◌, ◌++◌, length, map, Result, Ok, Err, refl, sym, ap, subst, ◌∙◌, inl, inr, append_assoc, arith}
+use Rattle.std.proofs.Common.{◌≡◌, ℕ, ◌+◌, ◌<◌, ◌⊎◌, Bool, eqb, List, [], ◌∷◌, ◌++◌, length, map}
+use Rattle.std.proofs.Common.{Result, Ok, Err, refl, sym, ap, subst, ◌∙◌, inl, inr, append_assoc}
+use Rattle.std.proofs.Common.{arith}
 use Rattle.std.specs.List.{flat_map, join_with_byte, slice_split, onto_first}
 use Rattle.std.proofs.lemmas.Bool.{cases_Bool, eqb-true, ne_eqb, cond-true, cond-false}
 use Rattle.std.proofs.lemmas.List.{append-nil, nil_from_length}
 use Rattle.std.proofs.lemmas.List.Folds.{flat_map-map}
 use Rattle.std.proofs.lemmas.List.Splits.{join_with_byte-slice_split}
 use Rattle.ent_replay.specs.declared.event.Event.{Event}
-use Rattle.ent_replay.specs.declared.event.Event.TheVariants.{Alloc, Free, Flush, Begin, Step, Answer}
+use Rattle.ent_replay.specs.declared.event.Event.TheVariants.{Alloc, Free, Flush, Begin, Step}
+use Rattle.ent_replay.specs.declared.event.Event.TheVariants.{Answer}
 use Rattle.ent_replay.specs.declared.read_fault.Cause.{Cause}
 use Rattle.ent_replay.specs.declared.read_fault.ReadFault.{ReadFault}
 use Rattle.ent_replay.specs.declared.read_fault.ReadFault.TheVariants.{Line}
-use Rattle.ent_replay.specs.ScheduleText.{event_text, AreEvents, schedule_text, Spells, without_empty_end, lines_of, words_of, event_of, goes_on, events_of, schedule_of, ExplainsFault}
-use Rattle.ent_replay.proofs.ScheduleEvents.{split_at_lacking, event_lacks, event_found, event_again, event_refused}
+use Rattle.ent_replay.specs.ScheduleText.{event_text, AreEvents, schedule_text, Spells}
+use Rattle.ent_replay.specs.ScheduleText.{without_empty_end, lines_of, words_of, event_of, goes_on}
+use Rattle.ent_replay.specs.ScheduleText.{events_of, schedule_of, ExplainsFault}
+use Rattle.ent_replay.proofs.ScheduleEvents.{split_at_lacking, event_lacks, event_found}
+use Rattle.ent_replay.proofs.ScheduleEvents.{event_again, event_refused}
 use Rattle.ent_replay.proofs.ScheduleWords.{parts_nonempty, without_empty_end-cons}
 
 -- ---- lines of events
@@ -49,22 +55,22 @@ events_again number (event ∷ events) fits = rw (event_again event fits.0, even
 record FaultAt (number : ℕ) (lines : List (List ℕ)) (fault : ReadFault) : Type 0 where
   before : List Event
   refused : List ℕ
-  behind : List (List ℕ)
+  following : List (List ℕ)
   c : Cause
-  parts : lines ≡ map event_text before ++ refused ∷ behind
+  parts : lines ≡ map event_text before ++ refused ∷ following
   place : fault ≡ Line (length before + number) c
   fits : AreEvents before
   why : event_of (words_of refused) ≡ Err c
 
-fault_behind : (number : ℕ) (line : List ℕ) (event : Event) (lines : List (List ℕ)) (fault : ReadFault) → event_of (words_of line) ≡ Ok event → FaultAt (number + 1) lines fault → FaultAt number (line ∷ lines) fault
-fault_behind number line event lines fault named f =
+fault_after : (number : ℕ) (line : List ℕ) (event : Event) (lines : List (List ℕ)) (fault : ReadFault) → event_of (words_of line) ≡ Ok event → FaultAt (number + 1) lines fault → FaultAt number (line ∷ lines) fault
+fault_after number line event lines fault named f =
     let first = event_found (words_of line) event named in
     let text : line ≡ event_text event = sym (join_with_byte-slice_split 32 line) ∙ first.1 in
     let place : length f.before + (number + 1) ≡ length (event ∷ f.before) + number = omega arith in
     record {
       before = event ∷ f.before;
       refused = f.refused;
-      behind = f.behind;
+      following = f.following;
       c = f.c;
       parts = ap (λ (l : List ℕ). l ∷ lines) text ∙ ap (λ (ls : List (List ℕ)). event_text event ∷ ls) f.parts;
       place = f.place ∙ ap (λ (n : ℕ). Line n f.c) place;
@@ -78,9 +84,9 @@ by_line number line lines fault (Err k) others named later e =
     let is : read_fault (Line number k) ≡ read_fault fault = e in
     let zero_more : number ≡ length {A = Event} [] + number = omega arith in
     let place : Line number k ≡ fault = cc in
-    record { before = []; refused = line; behind = lines; c = k; parts = refl; place = sym place ∙ ap (λ (n : ℕ). Line n k) zero_more; fits = tt; why = named }
+    record { before = []; refused = line; following = lines; c = k; parts = refl; place = sym place ∙ ap (λ (n : ℕ). Line n k) zero_more; fits = tt; why = named }
 by_line number line lines fault (Ok event) (Ok events) named later e = absurd cc
-by_line number line lines fault (Ok event) (Err other) named later e = fault_behind number line event lines fault named (later e)
+by_line number line lines fault (Ok event) (Err other) named later e = fault_after number line event lines fault named (later e)
 
 events_refused : (number : ℕ) (lines : List (List ℕ)) (fault : ReadFault) → events_of number lines ≡ Err fault → FaultAt number lines fault
 events_refused number [] fault e = absurd cc
@@ -143,7 +149,7 @@ onto_first-append : (x : ℕ) (parts more : List (List ℕ)) → 0 < length part
 onto_first-append x [] more long = absurd (omega arith)
 onto_first-append x (part ∷ parts) more long = refl
 
--- a line feed behind a text makes one more part, which is empty
+-- a line feed after a text makes one more part, which is empty
 split_ended : (text : List ℕ) → slice_split is_end (text ++ 10 ∷ []) ≡ slice_split is_end text ++ [] ∷ []
 split_ended [] = refl
 split_ended (x ∷ xs) =
@@ -192,7 +198,7 @@ first_fault text fault f =
     subst (ExplainsFault text) (sym f.place) (record {
       before = f.before;
       refused = f.refused;
-      behind = f.behind;
+      following = f.following;
       lines = f.parts;
       position = refl;
       events = f.fits;

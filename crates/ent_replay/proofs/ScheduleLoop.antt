@@ -1,5 +1,6 @@
 -- Reading line after line, as a loop does.
-use Rattle.std.proofs.Common.{◌≡◌, ℕ, ◌+◌, List, [], ◌∷◌, ◌++◌, length, Result, Ok, Err, refl, sym, ap, ◌∙◌, append_assoc}
+use Rattle.std.proofs.Common.{◌≡◌, ℕ, ◌+◌, List, ◌∷◌, ◌++◌, length, Result, Ok, Err, sym}
+use Rattle.std.proofs.Common.{ap, ◌∙◌}
 use Rattle.std.proofs.lemmas.List.{append-nil, nil_from_length}
 use Rattle.ent_replay.specs.declared.event.Event.{Event}
 use Rattle.ent_replay.specs.declared.read_fault.Cause.{Cause}
@@ -7,34 +8,21 @@ use Rattle.ent_replay.specs.declared.read_fault.ReadFault.{ReadFault}
 use Rattle.ent_replay.specs.declared.read_fault.ReadFault.TheVariants.{Line}
 use Rattle.ent_replay.specs.ScheduleText.{lines_of, words_of, event_of, goes_on, events_of}
 
--- the events so far, and what is read behind them
+-- the events so far, and what is read after them
 abbrev pub with_front : List Event → Result (List Event) ReadFault → Result (List Event) ReadFault
 with_front front (Ok events) = Ok (front ++ events)
 with_front front (Err fault) = Err fault
 
--- what is read from a rest of the text, after so many lines
+-- what is read from a rest of the text, after this many lines
 abbrev pub read_from : ℕ → List ℕ → Result (List Event) ReadFault
 read_from so_far rest = events_of (so_far + 1) (lines_of rest)
 
-regroup : (front : List Event) (line : ℕ) (event : Event) (read : Result (List Event) ReadFault) → with_front front (goes_on line (Ok event) read) ≡ with_front (front ++ event ∷ []) read
-regroup front line event (Ok events) = ap (λ (es : List Event). Ok es) (sym (append_assoc front (event ∷ []) events))
-regroup front line event (Err fault) = refl
-
-pub reads_on : (front : List Event) (so_far : ℕ) (rest line behind : List ℕ) (event : Event) (total : Result (List Event) ReadFault)
-    → lines_of rest ≡ line ∷ lines_of behind → event_of (words_of line) ≡ Ok event → with_front front (read_from so_far rest) ≡ total
-    → with_front (front ++ event ∷ []) (read_from (so_far + 1) behind) ≡ total
-reads_on front so_far rest line behind event total split named invariant =
-    sym (regroup front (so_far + 1) event (read_from (so_far + 1) behind))
-    ∙ ap (λ (r : Result Event Cause). with_front front (goes_on (so_far + 1) r (read_from (so_far + 1) behind))) (sym named)
-    ∙ ap (λ (ls : List (List ℕ)). with_front front (events_of (so_far + 1) ls)) (sym split)
-    ∙ invariant
-
-pub stops : (front : List Event) (so_far : ℕ) (rest line behind : List ℕ) (c : Cause) (total : Result (List Event) ReadFault)
-    → lines_of rest ≡ line ∷ lines_of behind → event_of (words_of line) ≡ Err c → with_front front (read_from so_far rest) ≡ total → total ≡ Err (Line (so_far + 1) c)
-stops front so_far rest line behind c total split named invariant =
+pub stops : (front : List Event) (so_far : ℕ) (rest line following : List ℕ) (c : Cause) (total : Result (List Event) ReadFault)
+    → lines_of rest ≡ line ∷ lines_of following → event_of (words_of line) ≡ Err c → with_front front (read_from so_far rest) ≡ total → total ≡ Err (Line (so_far + 1) c)
+stops front so_far rest line following c total split named invariant =
     sym invariant
     ∙ ap (λ (ls : List (List ℕ)). with_front front (events_of (so_far + 1) ls)) split
-    ∙ ap (λ (r : Result Event Cause). with_front front (goes_on (so_far + 1) r (read_from (so_far + 1) behind))) named
+    ∙ ap (λ (r : Result Event Cause). with_front front (goes_on (so_far + 1) r (read_from (so_far + 1) following))) named
 
 pub ends : (front : List Event) (so_far : ℕ) (rest : List ℕ) (total : Result (List Event) ReadFault)
     → length rest ≡ 0 → with_front front (read_from so_far rest) ≡ total → total ≡ Ok front
@@ -42,7 +30,3 @@ ends front so_far rest total empty invariant =
     sym invariant
     ∙ ap (λ (bs : List ℕ). with_front front (read_from so_far bs)) (nil_from_length rest empty)
     ∙ ap (λ (es : List Event). Ok es) (append-nil front)
-
-pub starts : (read : Result (List Event) ReadFault) → with_front [] read ≡ read
-starts (Ok events) = refl
-starts (Err fault) = refl

@@ -1,5 +1,6 @@
--- Lines and words: what stands before the first separator, and then the parts of what stands behind it.
-use Rattle.std.proofs.Common.{◌≡◌, ◌≢◌, ℕ, ◌<◌, false, eqb, List, [], ◌∷◌, ◌++◌, length, All, Err, refl, ap, ◌∙◌, arith}
+-- Lines and words: what stands before the first separator, and then the parts of what stands after it.
+use Rattle.std.proofs.Common.{◌≡◌, ◌≢◌, ℕ, ◌<◌, false, eqb, List, [], ◌∷◌, ◌++◌, length, All, Err}
+use Rattle.std.proofs.Common.{refl, ap, ◌∙◌, arith}
 use Rattle.std.specs.List.{slice_split}
 use Rattle.std.proofs.lemmas.Bool.{eq-eqb, ne_eqb, cond-false}
 use Rattle.std.proofs.lemmas.List.Splits.{slice_split_none, slice_split_at, length-slice_split}
@@ -46,12 +47,12 @@ none_of_words : {A : Type 0} (x : A) (words : List (List ℕ)) → 0 < length wo
 none_of_words x [] long = absurd (omega arith)
 none_of_words x (word ∷ more) long = refl
 
-pub none_behind : {A : Type 0} (x : A) (line : List ℕ) → none x (words_of line) ≡ Err cause.Count
-none_behind x line = none_of_words x (words_of line) (parts_nonempty 32 line)
+pub none_after : {A : Type 0} (x : A) (line : List ℕ) → none x (words_of line) ≡ Err cause.Count
+none_after x line = none_of_words x (words_of line) (parts_nonempty 32 line)
 
 one_of_more : (word : List ℕ) (words : List (List ℕ)) → 0 < length words → one (word ∷ words) ≡ Err cause.Count
 one_of_more word [] long = absurd (omega arith)
 one_of_more word (next ∷ more) long = refl
 
-pub one_behind : (word line : List ℕ) → one (word ∷ words_of line) ≡ Err cause.Count
-one_behind word line = one_of_more word (words_of line) (parts_nonempty 32 line)
+pub one_after : (word line : List ℕ) → one (word ∷ words_of line) ≡ Err cause.Count
+one_after word line = one_of_more word (words_of line) (parts_nonempty 32 line)

@@ -1,7 +1,8 @@
 -- Whole schedules: one event more, and one part after the other.
 use Rattle.std.proofs.Common.{◌≡◌, refl, ap, suc, List, [], ◌∷◌, ◌++◌, length}
 use Rattle.ent_replay.specs.declared.event.Event.{Event}
-use Rattle.ent_replay.specs.Schedule.{MachineState, outcome_of, after_event, outcomes_of, after_events}
+use Rattle.ent_replay.specs.Schedule.{MachineState, outcome_of, after_event, outcomes_of}
+use Rattle.ent_replay.specs.Schedule.{after_events}
 
 pub after_events-append : (s : MachineState) (xs ys : List Event) → after_events s (xs ++ ys) ≡ after_events (after_events s xs) ys
 after_events-append s [] ys = refl

@@ -6,7 +6,7 @@ use Rattle.ent_handle.specs.Handle.{Handle}
 use Rattle.ent_alloc.specs.History.{handles_in}
 use Rattle.ent_replay.specs.Schedule.{OpenCall, Reply, callers}
 
--- f of the first so many numbers, one list after the other
+-- f of the numbers below the given one, one list after the other
 unfoldable pub joined : (ℕ → List Handle) → ℕ → List Handle
 joined f zero = []
 joined f (suc n) = joined f n ++ f n

@@ -1,5 +1,7 @@
--- Runs of a schedule as histories: the calls between two flushes in the order of their steps, and the handles that are given.
-use Rattle.std.specs.Prelude.{◌≡◌, ◌≢◌, ℕ, zero, suc, Bool, false, nat_lt, ◌==◌, if◌then◌else◌, List, [], ◌∷◌, ◌++◌, Option, Some, None, Result, Ok, ◌⊎◌}
+-- Runs of a schedule as histories: the calls between two flushes in the order of their steps, and
+-- the handles that are given.
+use Rattle.std.specs.Prelude.{◌≡◌, ◌≢◌, ℕ, zero, suc, Bool, false, nat_lt, ◌==◌, if◌then◌else◌}
+use Rattle.std.specs.Prelude.{List, [], ◌∷◌, ◌++◌, Option, Some, None, Result, Ok, ◌⊎◌}
 use Rattle.std.specs.List.{AllPairs, AllByRecursion, flat_map}
 use Rattle.std.specs.Option.{option_or}
 use Rattle.std.specs.FinMap as map
@@ -19,7 +21,8 @@ use Rattle.ent_replay.specs.Schedule.{MachineState, OpenCall, Reply, after_event
 abbrev pub reserved : MachineState → ℕ → ℕ → Option Reply → List Call
 reserved s caller n (Some reply) = []
 reserved s caller zero None = []
-reserved s caller (suc n) None = record { caller = caller; requested = suc n; reply = reply_to s.allocator (suc n) } ∷ []
+reserved s caller (suc n) None =
+    record { caller = caller; requested = suc n; reply = reply_to s.allocator (suc n) } ∷ []
 
 abbrev pub reserved_by : MachineState → ℕ → Option OpenCall → List Call
 reserved_by s caller None = []
@@ -27,7 +30,8 @@ reserved_by s caller (Some call) = reserved s caller call.requested call.reply
 
 -- the reservation that the event makes, if it makes one
 abbrev pub reservations : MachineState → Event → List Call
-reservations s (event.Step caller) = if nat_lt caller callers then reserved_by s caller (map.get s.calls caller) else []
+reservations s (event.Step caller) =
+    if nat_lt caller callers then reserved_by s caller (map.get s.calls caller) else []
 reservations s other = []
 
 -- the allocator as it was when last nothing was asked for, and the reservations since then
@@ -38,34 +42,43 @@ pub record Phase : Type 0 where
 -- the phase after an event: a new one begins wherever nothing is asked for
 abbrev pub next_phase : Phase → MachineState → Event → Phase
 next_phase p s e =
-    if (after_event s e).allocator.asked == 0 then record { start = (after_event s e).allocator; calls = [] }
+    if (after_event s e).allocator.asked == 0
+    then record { start = (after_event s e).allocator; calls = [] }
     else record { start = p.start; calls = p.calls ++ reservations s e }
 
 -- the caller's last reservation
 abbrev pub last_of : ℕ → List Call → Option Call
 last_of caller [] = None
-last_of caller (call ∷ calls) = option_or (last_of caller calls) (if call.caller == caller then Some call else None)
+last_of caller (call ∷ calls) =
+    option_or (last_of caller calls) (if call.caller == caller then Some call else None)
 
--- what may be told of the caller's request: that a request for none gave none; of another the reply to the caller's last
--- reservation, which was for as many
+-- what may be told of the caller's request: that a request for none gave none; of another the reply
+-- to the caller's last reservation, which was for as many
 abbrev pub TellsOf : List Call → ℕ → ℕ → Outcome → Type 0
 TellsOf calls caller requested told =
-    ((requested ≡ 0) × (told ≡ outcome.Handles [])) ⊎ ((call : Call) × (last_of caller calls ≡ Some call) × (call.requested ≡ requested) × (told ≡ reported call.reply))
+    ((requested ≡ 0) × (told ≡ outcome.Handles []))
+    ⊎ ((call : Call) × (last_of caller calls ≡ Some call) × (call.requested ≡ requested)
+    × (told ≡ reported call.reply))
 
 -- An answer tells of the request of the caller's open call.
 abbrev pub Tells : MachineState → List Call → Event → Result Outcome ReplayFault → Type 0
-Tells s calls (event.Answer caller) (Ok told) = (call : OpenCall) × (map.get s.calls caller ≡ Some call) × TellsOf calls caller call.requested told
+Tells s calls (event.Answer caller) (Ok told) =
+    (call : OpenCall) × (map.get s.calls caller ≡ Some call)
+    × TellsOf calls caller call.requested told
 Tells s calls e result = Unit {0}
 
--- After each event the reservations of the phase, in the order of their steps, are a legal history that leads from its
--- start to the allocator, and each answer tells a reply of that history: so it doesn't matter when a call is answered.
-abbrev pub StandInHistory : Phase → MachineState → List Event → List (Result Outcome ReplayFault) → Type 0
+-- After each event the reservations of the phase, in the order of their steps, are a legal history
+-- that leads from its start to the allocator, and each answer tells a reply of that history: so it
+-- doesn't matter when a call is answered.
+abbrev pub StandInHistory : Phase → MachineState → List Event
+    → List (Result Outcome ReplayFault) → Type 0
 StandInHistory p s [] results = Unit {0}
 StandInHistory p s (e ∷ events) [] = ⊥
 StandInHistory p s (e ∷ events) (result ∷ results) =
     Tells s p.calls e result
     × IsLegal (next_phase p s e).start (next_phase p s e).calls
-    × (after_history (next_phase p s e).start (next_phase p s e).calls ≡ (after_event s e).allocator)
+    × (after_history (next_phase p s e).start (next_phase p s e).calls
+    ≡ (after_event s e).allocator)
     × StandInHistory (next_phase p s e) (after_event s e) events results
 
 -- no call is open, and nothing is asked for

@@ -1,5 +1,6 @@
 -- What the fields of a `Machine` stand for, and when they stand for something.
-use Rattle.std.specs.Prelude.{◌≡◌, ℕ, ◌+◌, ◌^◌, ◌<◌, ◌≤◌, pos, ◌-ℤ◌, ◌≤ℤ◌, neg_ℤ, true, map, Option, Some, None, Result, Err, ◌⊎◌}
+use Rattle.std.specs.Prelude.{◌≡◌, ℕ, ◌+◌, ◌^◌, ◌<◌, ◌≤◌, pos, ◌-ℤ◌, ◌≤ℤ◌, neg_ℤ, true, map, Option}
+use Rattle.std.specs.Prelude.{Some, None, Result, Err, ◌⊎◌}
 use Rattle.std.specs.Option.{unwrap_or, option_map}
 use Rattle.std.specs.Ordering.{nat_cmp}
 use Rattle.std.specs.FinMap as finite
@@ -22,10 +23,15 @@ map_values f m = finite.from_entries (map (λ e. (e.0, f e.1)) (finite.entries m
 
 -- The places that a call's step passed tell its reply, whatever was taken since.
 abbrev pub open_call_of : Allocator → StoredCall → OpenCall
-open_call_of s call = record { requested = call.requested; reply = option_map (λ span. reply_from s.made (pool_at s span.high) call.requested) call.span }
+open_call_of s call = record {
+  requested = call.requested;
+  reply = option_map (λ span. reply_from s.made (pool_at s span.high) call.requested) call.span;
+}
 
-abbrev pub machine_state : Allocator → finite.FinMap nat_cmp ℕ → finite.FinMap nat_cmp StoredCall → MachineState
-machine_state s spent calls = record { allocator = s; spent = spent; calls = map_values (open_call_of s) calls }
+abbrev pub machine_state : Allocator → finite.FinMap nat_cmp ℕ
+    → finite.FinMap nat_cmp StoredCall → MachineState
+machine_state s spent calls =
+    record { allocator = s; spent = spent; calls = map_values (open_call_of s) calls }
 
 -- what a call will ask for at its step
 abbrev pub unasked : ℕ → Option Span → ℕ
@@ -42,17 +48,23 @@ pub record HasPassed (s : Allocator) (n : ℕ) (span : Span) : Type 0 where
   pub high : span.high ≤ℤ pos (top s)
   pub low : span.low ≡ span.high -ℤ pos n
 
--- What was asked for, and what the open calls will ask for, is within what the callers have spent of their credit. What
--- is kept for the open calls was given once.
-pub record AreConsistent (s : Allocator) (spent : finite.FinMap nat_cmp ℕ) (calls : finite.FinMap nat_cmp StoredCall) : Type 0 where
+-- What was asked for, and what the open calls will ask for, is within what the callers have spent
+-- of their credit. What is kept for the open calls was given once.
+pub record AreConsistent (s : Allocator) (spent : finite.FinMap nat_cmp ℕ)
+    (calls : finite.FinMap nat_cmp StoredCall) : Type 0 where
   pub sound : IsSound s
   pub credit : (q : ℕ) → unwrap_or (finite.get spent q) 0 ≤ credit
-  pub asked : s.asked + total (λ q. awaited (finite.get calls q)) callers ≤ total (λ q. unwrap_or (finite.get spent q) 0) callers
-  pub requests : (q : ℕ) (call : StoredCall) → finite.get calls q ≡ Some call → call.requested < 2 ^ 32
-  pub spans : (q : ℕ) (call : StoredCall) (span : Span) → finite.get calls q ≡ Some call → call.span ≡ Some span → HasPassed s call.requested span
+  pub asked : s.asked + total (λ q. awaited (finite.get calls q)) callers
+      ≤ total (λ q. unwrap_or (finite.get spent q) 0) callers
+  pub requests : (q : ℕ) (call : StoredCall) → finite.get calls q ≡ Some call
+      → call.requested < 2 ^ 32
+  pub spans : (q : ℕ) (call : StoredCall) (span : Span) → finite.get calls q ≡ Some call
+      → call.span ≡ Some span → HasPassed s call.requested span
   pub once : given.AreSpent s (all_held (map_values (open_call_of s) calls))
 
--- The machine did this step; or it was one that takes memory, memory ran out, and nothing has changed.
+-- The machine did this step; or it was one that takes memory, memory ran out, and nothing has
+-- changed.
 abbrev pub Makes : Answered → MachineState → Result Outcome ReplayFault → MachineState → Type 0
 Makes step before result after =
-    ((result ≡ step.0) × (after ≡ step.1)) ⊎ ((result ≡ Err fault.Memory) × (after ≡ before) × (takes_memory before step.0 ≡ true))
+    ((result ≡ step.0) × (after ≡ step.1))
+    ⊎ ((result ≡ Err fault.Memory) × (after ≡ before) × (takes_memory before step.0 ≡ true))

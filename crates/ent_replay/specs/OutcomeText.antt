@@ -1,5 +1,6 @@
 -- The line of each outcome and of each fault.
-use Rattle.std.specs.Prelude.{ℕ, Bool, true, false, List, [], ◌∷◌, ◌++◌, map, if◌then◌else◌, codes, Result, Ok, Err}
+use Rattle.std.specs.Prelude.{ℕ, Bool, true, false, List, [], ◌∷◌, ◌++◌, map, if◌then◌else◌, codes}
+use Rattle.std.specs.Prelude.{Result, Ok, Err}
 use Rattle.std.specs.Fmt.{decimal, signed_decimal}
 use Rattle.std.specs.List.{flat_map, join_with_byte}
 use Rattle.ent_handle.specs.Handle.{Handle}
@@ -21,7 +22,9 @@ abbrev pub born_text : List Handle → List ℕ
 born_text handles = codes "born" ++ spaced handles
 
 abbrev pub freed_text : Handle → Handle → Bool → List ℕ
-freed_text handle next wrapped = codes "freed " ++ handle_text handle ++ codes " next " ++ handle_text next ++ (if wrapped then codes " wrapped" else [])
+freed_text handle next wrapped =
+    codes "freed " ++ handle_text handle ++ codes " next " ++ handle_text next
+    ++ (if wrapped then codes " wrapped" else [])
 
 abbrev pub space_text : ℕ → ℕ → List ℕ
 space_text wanted left = codes "space wanted " ++ decimal wanted ++ codes " left " ++ decimal left

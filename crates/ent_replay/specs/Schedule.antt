@@ -1,6 +1,9 @@
--- Schedules: what each event answers, and what it does to the state. The reply to a call is fixed at its step.
-use Rattle.std.specs.Prelude.{◌≡◌, ℕ, ◌+◌, ◌-◌, Bool, true, false, not, nat_lt, ◌==◌, if◌then◌else◌, ◌⊎◌, refl}
-use Rattle.std.specs.Prelude.{List, [], ◌∷◌, length, take, slice_get, Option, Some, None, IsSomeAnd, Result, Ok, Err}
+-- Schedules: what each event answers, and what it does to the state. The reply to a call is fixed
+-- at its step.
+use Rattle.std.specs.Prelude.{◌≡◌, ℕ, ◌+◌, ◌-◌, Bool, true, false, not, nat_lt, ◌==◌, if◌then◌else◌}
+use Rattle.std.specs.Prelude.{◌⊎◌, refl}
+use Rattle.std.specs.Prelude.{List, [], ◌∷◌, length, take, slice_get, Option, Some, None, IsSomeAnd}
+use Rattle.std.specs.Prelude.{Result, Ok, Err}
 use Rattle.std.specs.Option.{unwrap_or}
 use Rattle.std.specs.Ordering.{nat_cmp}
 use Rattle.std.specs.Coded.{Coded, code_by, coded×, coded_ℕ, coded_list, coded_option, coded_result}
@@ -9,7 +12,8 @@ use Rattle.std.specs.FinSet as set
 use Rattle.ent_handle.specs.Handle.{Handle, handle_code}
 use Rattle.ent_alloc.specs.Limits.{Limits, credit}
 use Rattle.ent_alloc.specs.Sequential.{Allocator, allocator_code, opening, cursor, is_fresh, next}
-use Rattle.ent_alloc.specs.Sequential.{after_take, reply_to, born, after_flush, after_alloc, after_free}
+use Rattle.ent_alloc.specs.Sequential.{after_take, reply_to, born, after_flush, after_alloc}
+use Rattle.ent_alloc.specs.Sequential.{after_free}
 use Rattle.ent_alloc.specs.declared.space.Space.{Space}
 use Rattle.ent_replay.specs.declared.event.Event.{Event}
 use Rattle.ent_replay.specs.declared.event.Event.TheVariants as event
@@ -27,8 +31,8 @@ pub record OpenCall : Type 0 where
   pub requested : ℕ
   pub reply : Option Reply
 
--- The allocator, what each caller has requested since the last flush, and the calls that are open. A caller that
--- stands in neither map has requested nothing and has no call open.
+-- The allocator, what each caller has requested since the last flush, and the calls that are open.
+-- A caller that stands in neither map has requested nothing and has no call open.
 pub record MachineState : Type 0 where
   pub allocator : Allocator
   pub spent : map.FinMap nat_cmp ℕ
@@ -50,8 +54,9 @@ refuse s why = (Err why, s)
 abbrev pub say : MachineState → Outcome → Answered
 say s what = (Ok what, s)
 
--- An event with this outcome may take memory: it makes a slot, frees one, brings handles to life, opens a call, or
--- lists what a call was given. No other event takes any: no fault, no handle of an old slot, no empty list.
+-- An event with this outcome may take memory: it makes a slot, frees one, brings handles to life,
+-- opens a call, or lists what a call was given. No other event takes any: no fault, no handle of an
+-- old slot, no empty list.
 abbrev pub takes_memory : MachineState → Result Outcome ReplayFault → Bool
 takes_memory s (Ok (outcome.Handle h)) = is_fresh s.allocator.made h
 takes_memory s (Ok (outcome.Freed h after wrapped)) = true
@@ -72,7 +77,8 @@ needs_flush s = nat_lt 0 s.allocator.asked
 
 abbrev pub alloc_front : MachineState → List Handle → Answered
 alloc_front s [] = say s (outcome.Space 1 0)
-alloc_front s (h ∷ rest) = (Ok (outcome.Handle h), record s { allocator = after_alloc s.allocator h })
+alloc_front s (h ∷ rest) =
+    (Ok (outcome.Handle h), record s { allocator = after_alloc s.allocator h })
 
 abbrev pub on_alloc : MachineState → Answered
 on_alloc s =
@@ -88,14 +94,19 @@ on_free s h =
     if is_busy s then refuse s fault.Busy else
     (if needs_flush s then say s outcome.NeedsFlush else
     (if set.contains s.allocator.live h
-    then (Ok (outcome.Freed h (next s.allocator.limits h) (wraps s.allocator.limits h)), record s { allocator = after_free s.allocator h })
+    then (
+      Ok (outcome.Freed h (next s.allocator.limits h) (wraps s.allocator.limits h)),
+      record s { allocator = after_free s.allocator h },
+    )
     else say s outcome.NotAlive))
 
 -- it also renews the credit of every caller
 abbrev pub on_flush : MachineState → Answered
 on_flush s =
-    if is_busy s then refuse s fault.Busy else
-    (Ok (outcome.Born (born s.allocator)), record s { allocator = after_flush s.allocator; spent = map.empty })
+    if is_busy s then refuse s fault.Busy else (
+      Ok (outcome.Born (born s.allocator)),
+      record s { allocator = after_flush s.allocator; spent = map.empty },
+    )
 
 -- ---- the three events of a call
 
@@ -123,7 +134,9 @@ begin_with s caller n None =
     )
 
 abbrev pub on_begin : MachineState → ℕ → ℕ → Answered
-on_begin s caller n = if nat_lt caller callers then begin_with s caller n (map.get s.calls caller) else refuse s fault.Caller
+on_begin s caller n =
+    if nat_lt caller callers then begin_with s caller n (map.get s.calls caller)
+    else refuse s fault.Caller
 
 -- the request takes from the pool, and the reply is fixed
 abbrev pub step_with : MachineState → ℕ → ℕ → Option Reply → Answered
@@ -132,7 +145,8 @@ step_with s caller n None = (
   Ok (outcome.Cursor (cursor (after_take s.allocator n))),
   record s {
     allocator = after_take s.allocator n;
-    calls = map.insert s.calls caller (record { requested = n; reply = Some (reply_to s.allocator n) });
+    calls = map.insert s.calls caller
+        (record { requested = n; reply = Some (reply_to s.allocator n) });
   },
 )
 
@@ -141,7 +155,9 @@ step_open s caller None = refuse s fault.NotOpen
 step_open s caller (Some call) = step_with s caller call.requested call.reply
 
 abbrev pub on_step : MachineState → ℕ → Answered
-on_step s caller = if nat_lt caller callers then step_open s caller (map.get s.calls caller) else refuse s fault.Caller
+on_step s caller =
+    if nat_lt caller callers then step_open s caller (map.get s.calls caller)
+    else refuse s fault.Caller
 
 -- the reply as it is reported
 abbrev pub reported : Reply → Outcome
@@ -150,14 +166,17 @@ reported (Err space) = outcome.Space space.wanted space.left
 
 abbrev pub answer_with : MachineState → ℕ → Option Reply → Answered
 answer_with s caller None = refuse s fault.NotStepped
-answer_with s caller (Some reply) = (Ok (reported reply), record s { calls = map.remove s.calls caller })
+answer_with s caller (Some reply) =
+    (Ok (reported reply), record s { calls = map.remove s.calls caller })
 
 abbrev pub answer_open : MachineState → ℕ → Option OpenCall → Answered
 answer_open s caller None = refuse s fault.NotOpen
 answer_open s caller (Some call) = answer_with s caller call.reply
 
 abbrev pub on_answer : MachineState → ℕ → Answered
-on_answer s caller = if nat_lt caller callers then answer_open s caller (map.get s.calls caller) else refuse s fault.Caller
+on_answer s caller =
+    if nat_lt caller callers then answer_open s caller (map.get s.calls caller)
+    else refuse s fault.Caller
 
 -- ---- whole schedules
 
@@ -187,11 +206,12 @@ abbrev pub after_events : MachineState → List Event → MachineState
 after_events s [] = s
 after_events s (e ∷ events) = after_events (after_event s e) events
 
--- Memory ran out after that many events: the next one would have taken some, or nothing was done and there was no room
--- to list the outcomes.
+-- Memory ran out after that many events: the next one would have taken some, or nothing was done
+-- and there was no room to list the outcomes.
 abbrev pub RunsOutAt : MachineState → List Event → ℕ → Type 0
 RunsOutAt s events done = (done ≡ 0) ⊎ IsSomeAnd (slice_get events done) (λ e.
-    takes_memory (after_events s (take done events)) (outcome_of (after_events s (take done events)) e) ≡ true)
+    takes_memory (after_events s (take done events))
+    (outcome_of (after_events s (take done events)) e) ≡ true)
 
 -- an open call is stored as the pair of its fields
 abbrev pub open_call_code : Coded OpenCall
@@ -204,7 +224,9 @@ open_call_code =
     (λ _. refl)
   where
     space_code : Coded Space
-    space_code = code_by (ℕ × ℕ) (coded× coded_ℕ coded_ℕ) (λ s. (s.wanted, s.left)) (λ p. record { wanted = p.0; left = p.1 }) (λ _. refl)
+    space_code =
+        code_by (ℕ × ℕ) (coded× coded_ℕ coded_ℕ) (λ s. (s.wanted, s.left))
+        (λ p. record { wanted = p.0; left = p.1 }) (λ _. refl)
 
 -- a state as the tuple of its fields
 abbrev pub machine_state_code : Coded MachineState

@@ -1,5 +1,6 @@
 -- Schedules as text: lines and words, the one spelling of each event, and what a text is read as.
-use Rattle.std.specs.Prelude.{◌≡◌, ◌≢◌, ℕ, ◌+◌, ◌^◌, ◌<◌, ◌⊎◌, List, [], ◌∷◌, ◌++◌, length, map, ◌==◌, if◌then◌else◌, codes, Option, Some, None, Result, Ok, Err}
+use Rattle.std.specs.Prelude.{◌≡◌, ◌≢◌, ℕ, ◌+◌, ◌^◌, ◌<◌, ◌⊎◌, List, [], ◌∷◌, ◌++◌, length, map}
+use Rattle.std.specs.Prelude.{◌==◌, if◌then◌else◌, codes, Option, Some, None, Result, Ok, Err}
 use Rattle.std.specs.Fmt.{decimal}
 use Rattle.std.specs.Global.{Vec}
 use Rattle.std.specs.List.{AllByRecursion, flat_map, slice_split}
@@ -8,7 +9,8 @@ use Rattle.ent_handle.specs.Handle.{Handle, IsHandle}
 use Rattle.ent_handle.specs.Text.{handle_of, handle_text, number_of}
 use Rattle.ent_handle.specs.declared.text.TextFault.{TextFault}
 use Rattle.ent_replay.specs.declared.event.Event.{Event}
-use Rattle.ent_replay.specs.declared.event.Event.TheVariants.{Alloc, Free, Flush, Begin, Step, Answer}
+use Rattle.ent_replay.specs.declared.event.Event.TheVariants.{Alloc, Free, Flush, Begin, Step}
+use Rattle.ent_replay.specs.declared.event.Event.TheVariants.{Answer}
 use Rattle.ent_replay.specs.declared.read_fault.Cause.{Cause}
 use Rattle.ent_replay.specs.declared.read_fault.Cause.TheVariants as cause
 use Rattle.ent_replay.specs.declared.read_fault.ReadFault.{ReadFault}
@@ -37,11 +39,11 @@ IsEvent (Answer caller) = caller < 2 ^ 32
 abbrev pub AreEvents : List Event → Type 0
 AreEvents events = AllByRecursion IsEvent events
 
--- a line for each event, and a line feed behind each
+-- a line for each event, and a line feed after each
 abbrev pub schedule_text : List Event → List ℕ
 schedule_text events = flat_map (λ event. event_text event ++ 10 ∷ []) events
 
--- the text has these lines; behind the last the line feed may be missing
+-- the text has these lines; the line feed after the last may be missing
 abbrev pub Spells : List Event → List ℕ → Type 0
 Spells events text = (text ≡ schedule_text events) ⊎ (text ++ 10 ∷ [] ≡ schedule_text events)
 
@@ -53,7 +55,7 @@ without_empty_end [] = []
 without_empty_end (part ∷ []) = if length part == 0 then [] else part ∷ []
 without_empty_end (part ∷ next ∷ more) = part ∷ without_empty_end (next ∷ more)
 
--- what stands between the line feeds, and behind the last of them if that is not empty
+-- what stands between the line feeds, and after the last of them if that is not empty
 abbrev pub lines_of : List ℕ → List (List ℕ)
 lines_of text = without_empty_end (slice_split (λ byte. byte == 10) text)
 
@@ -79,7 +81,7 @@ number word = or_cause cause.Number (number_of word)
 abbrev pub handle : List ℕ → Result Handle Cause
 handle word = or_cause cause.Handle (handle_of word)
 
--- as many words as an event has behind its first
+-- as many words as an event has after its first
 abbrev pub none : {A : Type 0} → A → List (List ℕ) → Result A Cause
 none x [] = Ok x
 none x (word ∷ more) = Err cause.Count
@@ -99,7 +101,7 @@ begin_of words = do
   n ← number pair.1
   Ok (Begin caller n)
 
--- the event of a first word and those behind it, or the first test that they fail:
+-- the event of a first word and those after it, or the first test that they fail:
 -- the first word, the count of words, the numbers from the left, the handle
 unfoldable pub event_with : List ℕ → List (List ℕ) → Result Event Cause
 event_with word others =
@@ -107,8 +109,10 @@ event_with word others =
     else (if bytes_eq word (codes "flush") then none Flush others
     else (if bytes_eq word (codes "free") then (one others >>= handle >>= λ h. Ok (Free h))
     else (if bytes_eq word (codes "begin") then begin_of others
-    else (if bytes_eq word (codes "step") then (one others >>= number >>= λ caller. Ok (Step caller))
-    else (if bytes_eq word (codes "answer") then (one others >>= number >>= λ caller. Ok (Answer caller))
+    else (if bytes_eq word (codes "step")
+    then (one others >>= number >>= λ caller. Ok (Step caller))
+    else (if bytes_eq word (codes "answer")
+    then (one others >>= number >>= λ caller. Ok (Answer caller))
     else Err cause.Word)))))
 
 -- the event of a line's words
@@ -116,8 +120,9 @@ abbrev pub event_of : List (List ℕ) → Result Event Cause
 event_of [] = Err cause.Word
 event_of (word ∷ others) = event_with word others
 
--- the event of a line before those of the lines behind it
-abbrev pub goes_on : ℕ → Result Event Cause → Result (List Event) ReadFault → Result (List Event) ReadFault
+-- the event of a line before those of the lines after it
+abbrev pub goes_on : ℕ → Result Event Cause → Result (List Event) ReadFault
+    → Result (List Event) ReadFault
 goes_on line (Err c) others = Err (Line line c)
 goes_on line (Ok event) (Ok events) = Ok (event ∷ events)
 goes_on line (Ok event) (Err fault) = Err fault
@@ -140,10 +145,10 @@ cause_text cause.Handle = codes "handle"
 
 -- ---- what the reader's parts give
 
--- the words behind a first one, where something stands behind it
-abbrev pub words_behind : Option (List ℕ) → List (List ℕ)
-words_behind None = []
-words_behind (Some others) = words_of others
+-- the words after a first one, if something stands after it
+abbrev pub words_after : Option (List ℕ) → List (List ℕ)
+words_after None = []
+words_after (Some others) = words_of others
 
 -- what was returned, seen by view, is this
 abbrev pub Gives : {X Y : Type 0} → (X → Y) → Result X Cause → Result Y Cause → Type 0
@@ -160,8 +165,8 @@ ReadsAs (Err Memory) read = Unit {0}
 pub record IsFirstFault (text : List ℕ) (line : ℕ) (c : Cause) : Type 0 where
   pub before : List Event
   pub refused : List ℕ
-  pub behind : List (List ℕ)
-  pub lines : lines_of text ≡ map event_text before ++ refused ∷ behind
+  pub following : List (List ℕ)
+  pub lines : lines_of text ≡ map event_text before ++ refused ∷ following
   pub position : line ≡ length before + 1
   pub events : AreEvents before
   pub why : event_of (words_of refused) ≡ Err c

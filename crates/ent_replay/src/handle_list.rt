@@ -61,7 +61,8 @@ impl HandleList {
 }
 
 impl PartialEq for HandleList {
-    ghost eq = { pointwise (eq_of_both (on (λ h. h.index) nat_eq) (on (λ h. h.generation) nat_eq)) };
+    ghost eq = { pointwise
+        (eq_of_both (on (λ h. h.index) nat_eq) (on (λ h. h.generation) nat_eq)) };
 
     ghost laws = { Prim.search (comparing, rules) };
 

@@ -1,4 +1,5 @@
-//! Schedules of allocator events: their text, the machine that applies them, and the lines that report their outcomes.
+//! Schedules of allocator events: their text, the machine that applies them, and the lines that
+//! report their outcomes.
 #![tactic(auto)]
 
 mod by_caller;

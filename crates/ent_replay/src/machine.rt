@@ -1,8 +1,10 @@
 ghost use Rattle.std.specs.Prelude.{◌≡◌, ◌<◌, ◌↔◌, true, IsTrue, length, take};
 ghost use Rattle.std.specs.Prelude.{IfOk, OnOk, IfErr, OnErr, Ok};
-ghost use Rattle.ent_replay.specs.Schedule.{starting, outcome_of, after_event, outcomes_of, after_events};
+ghost use Rattle.ent_replay.specs.Schedule.{starting, outcome_of, after_event, outcomes_of};
+ghost use Rattle.ent_replay.specs.Schedule.{after_events};
 ghost use Rattle.ent_replay.specs.Schedule.{takes_memory, RunsOutAt};
-ghost use Rattle.ent_replay.specs.Schedule.{on_alloc, on_free, on_flush, on_begin, on_step, on_answer};
+ghost use Rattle.ent_replay.specs.Schedule.{on_alloc, on_free, on_flush, on_begin, on_step};
+ghost use Rattle.ent_replay.specs.Schedule.{on_answer};
 ghost use Rattle.ent_replay.specs.Machine.{Makes};
 ghost use Rattle.ent_replay.specs.Histories.{IsAtRest, new_phase, StandInHistory};
 ghost use Rattle.ent_replay.specs.Histories.{NoneWrapped, AreGivenOnce};
@@ -56,8 +58,8 @@ pub struct RunMemory {
 }
 
 impl Machine {
-    /// Makes a machine over an allocator without entities. No call is open, and every caller has its full
-    /// credit of 2^40 handles.
+    /// Makes a machine over an allocator without entities. No call is open, and every caller has
+    /// its full credit of 2^40 handles.
     ///
     /// # Errors
     ///
@@ -82,16 +84,18 @@ impl Machine {
     /// A fault changes nothing.
     ///
     /// - `Busy`: `Alloc`, `Free` or `Flush` while a call is open.
-    /// - `Caller`: `Begin`, `Step` or `Answer` of a caller above 1,023. It is tested before the faults below.
+    /// - `Caller`: `Begin`, `Step` or `Answer` of a caller above 1,023. It is tested before the
+    ///   faults below.
     /// - `AlreadyOpen`, and then `Quota` if the request is above the caller's credit: `Begin`.
     /// - `NotOpen`, and then `AlreadyStepped`: `Step`.
     /// - `NotOpen`, and then `NotStepped`: `Answer`.
-    /// - `Memory`: tested last, and only if the event makes a slot, frees a handle, brings handles to life,
-    ///   opens a call or lists the handles of a reply. A reply and a flush ask for their whole list before
-    ///   they list a handle.
+    /// - `Memory`: tested last, and only if the event makes a slot, frees a handle, brings handles
+    ///   to life, opens a call or lists the handles of a reply. A reply and a flush ask for their
+    ///   whole list before they list a handle.
     pub fn step(&mut self, event: Event) -> Result<Outcome, ReplayFault>
         ensures outcome { ¬ (result ≡ Err ReplayFault.Memory) → result ≡ outcome_of self.old event }
-        ensures state { ¬ (result ≡ Err ReplayFault.Memory) → self.new ≡ after_event self.old event }
+        ensures state { ¬ (result ≡ Err ReplayFault.Memory)
+            → self.new ≡ after_event self.old event }
         ensures memory { result ≡ Err ReplayFault.Memory → self.new ≡ self.old }
         ensures grows { result ≡ Err ReplayFault.Memory
             → takes_memory self.old (outcome_of self.old event) ≡ true }
@@ -106,16 +110,17 @@ impl Machine {
         }
     }
 
-    /// Applies all events in order, and lists what each of them gave. A fault is listed like an outcome,
-    /// and the events after it are applied as usual.
+    /// Applies all events in order, and lists what each of them gave. A fault is listed like an
+    /// outcome, and the events after it are applied as usual.
     ///
-    /// From a machine at rest, the reservations of the run are a legal history in the order of their steps.
-    /// If no free of the run wrapped, no handle is given twice in it.
+    /// From a machine at rest, the reservations of the run are a legal history in the order of
+    /// their steps. If no free of the run wrapped, no handle is given twice in it.
     ///
     /// # Errors
     ///
-    /// `RunMemory` if memory ran out. The first `done` events stand, and no later one was applied. Either the
-    /// event at `done` would have taken memory, or `done` is 0 and there was no room to list the outcomes.
+    /// `RunMemory` if memory ran out. The first `done` events stand, and no later one was applied.
+    /// Either the event at `done` would have taken memory, or `done` is 0 and there was no room to
+    /// list the outcomes.
     pub fn run(&mut self, events: &[Event]) -> Result<Vec<Result<Outcome, ReplayFault>>, RunMemory>
         ensures outcomes { IfOk result (λ outcomes.
             outcomes.items ≡ outcomes_of self.old events.now) }

@@ -1,5 +1,8 @@
 ghost use Rattle.std.specs.Prelude.{◌≡◌, ◌<◌, ◌∷◌, List, length, option_copied, IfOk, IfErr, Ok};
-ghost use Rattle.ent_replay.specs.ScheduleText.{lines_of, words_of, words_behind, Gives, number, handle, none, one, two, begin_of, event_of, AreEvents, Spells, ReadsAs, ExplainsFault, schedule_of};
+ghost use Rattle.ent_replay.specs.ScheduleText.{lines_of, words_of, words_after, Gives, number};
+ghost use Rattle.ent_replay.specs.ScheduleText.{handle, none, one, two, begin_of, event_of};
+ghost use Rattle.ent_replay.specs.ScheduleText.{AreEvents, Spells, ReadsAs, ExplainsFault};
+ghost use Rattle.ent_replay.specs.ScheduleText.{schedule_of};
 ghost use Rattle.ent_replay.specs.declared.event.Event.{Event};
 
 use crate::event::Event;
@@ -7,7 +10,7 @@ use crate::read_fault::{Cause, ReadFault};
 use ent_handle::{Handle, read_decimal, split_once};
 use std::alloc::Global;
 
-/// The first line of a text, and the text behind its line feed.
+/// The first line of a text, and the text after its line feed.
 fn first_line(text: &[u8]) -> (&[u8], &[u8])
     requires { 0 < length text.now }
     ensures lines { lines_of text.now ≡ result.0.now ∷ lines_of result.1.now }
@@ -16,9 +19,9 @@ fn first_line(text: &[u8]) -> (&[u8], &[u8])
     split_once(text, b'\n').unwrap_or((text, &[]))
 }
 
-/// The first word of a line, and what stands behind the space after it, if there is one.
+/// The first word of a line, and what stands after the space that ends it, if there is one.
 fn first_word(line: &[u8]) -> (&[u8], Option<&[u8]>)
-    ensures { words_of line.now ≡ result.0.now ∷ words_behind (option_copied result.1) }
+    ensures { words_of line.now ≡ result.0.now ∷ words_after (option_copied result.1) }
 {
     match split_once(line, b' ') {
         Some((word, others)) => (word, Some(others)),
@@ -27,7 +30,7 @@ fn first_word(line: &[u8]) -> (&[u8], Option<&[u8]>)
 }
 
 fn no_word(event: Event, others: Option<&[u8]>) -> Result<Event, Cause>
-    ensures { result ≡ none event (words_behind (option_copied others.entry)) }
+    ensures { result ≡ none event (words_after (option_copied others.entry)) }
 {
     match others {
         None => Ok(event),
@@ -36,7 +39,7 @@ fn no_word(event: Event, others: Option<&[u8]>) -> Result<Event, Cause>
 }
 
 fn one_word(others: Option<&[u8]>) -> Result<&[u8], Cause>
-    ensures { Gives (λ word. word.now) result (one (words_behind (option_copied others.entry))) }
+    ensures { Gives (λ word. word.now) result (one (words_after (option_copied others.entry))) }
 {
     match first_word(others.ok_or(Cause::Count)?) {
         (word, None) => Ok(word),
@@ -45,7 +48,8 @@ fn one_word(others: Option<&[u8]>) -> Result<&[u8], Cause>
 }
 
 fn two_words(others: Option<&[u8]>) -> Result<(&[u8], &[u8]), Cause>
-    ensures { Gives (λ words. (words.0.now, words.1.now)) result (two (words_behind (option_copied others.entry))) }
+    ensures { Gives (λ words. (words.0.now, words.1.now)) result
+        (two (words_after (option_copied others.entry))) }
 {
     let (first, others) = first_word(others.ok_or(Cause::Count)?);
     Ok((first, one_word(others)?))
@@ -65,7 +69,7 @@ fn read_handle(word: &[u8]) -> Result<Handle, Cause>
 
 #[tactic(auto, unfolding(crate::specs::ScheduleText::begin_of))]
 fn read_begin(others: Option<&[u8]>) -> Result<Event, Cause>
-    ensures { result ≡ begin_of (words_behind (option_copied others.entry)) }
+    ensures { result ≡ begin_of (words_after (option_copied others.entry)) }
 {
     let (caller, n) = two_words(others)?;
     Ok(Event::Begin {
@@ -100,18 +104,19 @@ fn read_event(line: &[u8]) -> Result<Event, Cause>
 ///
 /// A line is `alloc`, `free H`, `flush`, `begin C N`, `step C` or `answer C`, where `H` is a
 /// handle's text and `C` and `N` are decimals below 2^32. The lines end with a line feed, which may
-/// be missing behind the last; any other byte is an ordinary one. It takes time and memory linear
+/// be missing after the last; any other byte is an ordinary one. It takes time and memory linear
 /// in the text.
 ///
 /// # Errors
 ///
 /// `Line` with the first line that is none of these, and the first of the causes that it has;
-/// `Memory` where memory ran out.
+/// `Memory` if memory ran out.
 pub fn read_schedule(alloc: Global, text: &[u8]) -> Result<Vec<Event>, ReadFault>
     // The events are spelled by the text.
     ensures found { IfOk result (λ events. AreEvents events.items × Spells events.items text.now) }
     // A spelled schedule is never refused but for memory.
-    ensures only { (events : List Event) → AreEvents events → Spells events text.now → ReadsAs result (Ok events) }
+    ensures only { (events : List Event)
+        → AreEvents events → Spells events text.now → ReadsAs result (Ok events) }
     // A refused text has events up to the line that is named.
     ensures refused { IfErr result (ExplainsFault text.now) }
 
@@ -121,7 +126,7 @@ pub fn read_schedule(alloc: Global, text: &[u8]) -> Result<Vec<Event>, ReadFault
     let mut events = Vec::new(alloc);
     let mut rest = text;
     while !rest.is_empty() {
-        let (line, behind) = first_line(rest);
+        let (line, following) = first_line(rest);
         match read_event(line) {
             Ok(event) => events.push(event)?,
             Err(cause) => {
@@ -131,7 +136,7 @@ pub fn read_schedule(alloc: Global, text: &[u8]) -> Result<Vec<Event>, ReadFault
                 });
             }
         }
-        rest = behind;
+        rest = following;
     }
     Ok(events)
 }

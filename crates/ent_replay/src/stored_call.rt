@@ -2,8 +2,8 @@ use ent_alloc::Span;
 
 /// What the machine stores of an open call.
 ///
-/// It stores no reply. The positions that the call's step passed determine the reply, however much is
-/// reserved after them, so `Answer` reads it from the allocator.
+/// It stores no reply. The positions that the call's step passed determine the reply, however much
+/// is reserved after them, so `Answer` reads it from the allocator.
 #[derive(Clone, Copy, Debug)]
 pub(crate) struct StoredCall {
     /// How many handles the call requests.

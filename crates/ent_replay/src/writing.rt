@@ -1,7 +1,9 @@
-ghost use Rattle.std.specs.Prelude.{◌≡◌, ◌≢◌, ◌+◌, ◌-◌, ◌^◌, ◌<◌, ◌≤◌, ◌++◌, true, length, take, min};
+ghost use Rattle.std.specs.Prelude.{◌≡◌, ◌≢◌, ◌+◌, ◌-◌, ◌^◌, ◌<◌, ◌≤◌, ◌++◌, true, length, take};
+ghost use Rattle.std.specs.Prelude.{min};
 ghost use Rattle.std.specs.Prelude.{Err, OnOk, OnErr, vec_len, vec_capacity};
 ghost use Rattle.ent_handle.specs.Text.{handle_text};
-ghost use Rattle.ent_replay.specs.OutcomeText.{spaced, handles_text, born_text, freed_text, space_text};
+ghost use Rattle.ent_replay.specs.OutcomeText.{spaced, handles_text, born_text, freed_text};
+ghost use Rattle.ent_replay.specs.OutcomeText.{space_text};
 ghost use Rattle.ent_replay.specs.OutcomeText.{outcome_text, fault_text, lists_handles, line_of};
 
 use crate::fault::ReplayFault;
@@ -38,7 +40,8 @@ fn text_len(handle: Handle) -> usize
     index + 1 + buffer.format(handle.generation()).len()
 }
 
-/// The length of the handles' texts with a space before each, or the greatest `usize` if that is less.
+/// The length of the handles' texts with a space before each, or the greatest `usize` if that is
+/// less.
 fn spaced_len(handles: &[Handle]) -> usize
     ensures { result ≡ min (length (spaced handles.now)) (2 ^ 64 - 1) }
 {
@@ -49,8 +52,8 @@ fn spaced_len(handles: &[Handle]) -> usize
     len
 }
 
-/// The length of the line of an outcome that lists handles, or the greatest `usize` if that is less; 0 for any
-/// other outcome.
+/// The length of the line of an outcome that lists handles, or the greatest `usize` if that is
+/// less; 0 for any other outcome.
 fn list_len(outcome: &Outcome) -> usize
     ensures within { result ≤ length (outcome_text outcome.now) + 1 }
     ensures exact { lists_handles outcome.now ≡ true
@@ -67,7 +70,8 @@ fn list_len(outcome: &Outcome) -> usize
 fn append_spaced(out: &mut Vec<u8>, handles: &[Handle]) -> Result<(), Memory>
     ensures ok { OnOk result (out.new.items ≡ out.old.items ++ spaced handles.now) }
     ensures kept { OnErr result (take (vec_len out.old) out.new.items ≡ out.old.items) }
-    ensures full { OnErr result (vec_capacity out.old < vec_len out.old + length (spaced handles.now)) }
+    ensures full { OnErr result (vec_capacity out.old
+        < vec_len out.old + length (spaced handles.now)) }
     ensures capacity { vec_capacity out.old ≤ vec_capacity out.new }
 {
     for handle in handles {
@@ -80,7 +84,8 @@ fn append_spaced(out: &mut Vec<u8>, handles: &[Handle]) -> Result<(), Memory>
 fn write_handles(out: &mut Vec<u8>, handles: &HandleList) -> Result<(), Memory>
     ensures ok { OnOk result (out.new.items ≡ out.old.items ++ handles_text handles.now) }
     ensures kept { OnErr result (take (vec_len out.old) out.new.items ≡ out.old.items) }
-    ensures full { OnErr result (vec_capacity out.old < vec_len out.old + length (handles_text handles.now)) }
+    ensures full { OnErr result (vec_capacity out.old
+        < vec_len out.old + length (handles_text handles.now)) }
     ensures capacity { vec_capacity out.old ≤ vec_capacity out.new }
 {
     let Some((first, others)) = handles.as_slice().split_first() else {
@@ -93,7 +98,8 @@ fn write_handles(out: &mut Vec<u8>, handles: &HandleList) -> Result<(), Memory>
 fn write_born(out: &mut Vec<u8>, handles: &HandleList) -> Result<(), Memory>
     ensures ok { OnOk result (out.new.items ≡ out.old.items ++ born_text handles.now) }
     ensures kept { OnErr result (take (vec_len out.old) out.new.items ≡ out.old.items) }
-    ensures full { OnErr result (vec_capacity out.old < vec_len out.old + length (born_text handles.now)) }
+    ensures full { OnErr result (vec_capacity out.old
+        < vec_len out.old + length (born_text handles.now)) }
     ensures capacity { vec_capacity out.old ≤ vec_capacity out.new }
 {
     append(out, b"born")?;
@@ -103,7 +109,8 @@ fn write_born(out: &mut Vec<u8>, handles: &HandleList) -> Result<(), Memory>
 fn write_freed(out: &mut Vec<u8>, handle: Handle, next: Handle, wrapped: bool) -> Result<(), Memory>
     ensures ok { OnOk result (out.new.items ≡ out.old.items ++ freed_text handle next wrapped) }
     ensures kept { OnErr result (take (vec_len out.old) out.new.items ≡ out.old.items) }
-    ensures full { OnErr result (vec_capacity out.old < vec_len out.old + length (freed_text handle next wrapped)) }
+    ensures full { OnErr result (vec_capacity out.old
+        < vec_len out.old + length (freed_text handle next wrapped)) }
     ensures capacity { vec_capacity out.old ≤ vec_capacity out.new }
 {
     append(out, b"freed ")?;
@@ -119,7 +126,8 @@ fn write_freed(out: &mut Vec<u8>, handle: Handle, next: Handle, wrapped: bool) -
 fn write_space(out: &mut Vec<u8>, wanted: u32, left: u32) -> Result<(), Memory>
     ensures ok { OnOk result (out.new.items ≡ out.old.items ++ space_text wanted left) }
     ensures kept { OnErr result (take (vec_len out.old) out.new.items ≡ out.old.items) }
-    ensures full { OnErr result (vec_capacity out.old < vec_len out.old + length (space_text wanted left)) }
+    ensures full { OnErr result (vec_capacity out.old
+        < vec_len out.old + length (space_text wanted left)) }
     ensures capacity { vec_capacity out.old ≤ vec_capacity out.new }
 {
     append(out, b"space wanted ")?;
@@ -131,7 +139,8 @@ fn write_space(out: &mut Vec<u8>, wanted: u32, left: u32) -> Result<(), Memory>
 fn write_text(outcome: &Outcome, out: &mut Vec<u8>) -> Result<(), Memory>
     ensures ok { OnOk result (out.new.items ≡ out.old.items ++ outcome_text outcome.now) }
     ensures kept { OnErr result (take (vec_len out.old) out.new.items ≡ out.old.items) }
-    ensures full { OnErr result (vec_capacity out.old < vec_len out.old + length (outcome_text outcome.now)) }
+    ensures full { OnErr result (vec_capacity out.old
+        < vec_len out.old + length (outcome_text outcome.now)) }
     ensures capacity { vec_capacity out.old ≤ vec_capacity out.new }
 {
     match outcome {
@@ -158,7 +167,8 @@ fn write_fault(fault: ReplayFault, out: &mut Vec<u8>) -> Result<(), Memory>
     requires { fault ≢ ReplayFault.Memory }
     ensures ok { OnOk result (out.new.items ≡ out.old.items ++ fault_text fault) }
     ensures kept { OnErr result (take (vec_len out.old) out.new.items ≡ out.old.items) }
-    ensures full { OnErr result (vec_capacity out.old < vec_len out.old + length (fault_text fault)) }
+    ensures full { OnErr result (vec_capacity out.old
+        < vec_len out.old + length (fault_text fault)) }
     ensures capacity { vec_capacity out.old ≤ vec_capacity out.new }
 {
     match fault {
@@ -180,7 +190,8 @@ fn write_line(outcome: &Result<Outcome, ReplayFault>, out: &mut Vec<u8>) -> Resu
     requires { outcome.now ≢ Err ReplayFault.Memory }
     ensures ok { OnOk result (out.new.items ≡ out.old.items ++ line_of outcome.now) }
     ensures kept { OnErr result (take (vec_len out.old) out.new.items ≡ out.old.items) }
-    ensures full { OnErr result (vec_capacity out.old < vec_len out.old + length (line_of outcome.now)) }
+    ensures full { OnErr result (vec_capacity out.old
+        < vec_len out.old + length (line_of outcome.now)) }
     ensures capacity { vec_capacity out.old ≤ vec_capacity out.new }
 {
     match outcome {
@@ -208,7 +219,8 @@ pub fn write_outcome(
     requires { outcome.now ≢ Err ReplayFault.Memory }
     ensures ok { OnOk result (out.new.items ≡ out.old.items ++ line_of outcome.now) }
     ensures err { OnErr result (out.new.items ≡ out.old.items) }
-    ensures full { OnErr result (vec_capacity out.old < vec_len out.old + length (line_of outcome.now)) }
+    ensures full { OnErr result (vec_capacity out.old
+        < vec_len out.old + length (line_of outcome.now)) }
     ensures capacity { vec_capacity out.old ≤ vec_capacity out.new }
 {
     let len = out.len();

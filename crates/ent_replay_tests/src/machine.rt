@@ -64,11 +64,11 @@ const SCHEDULES: [(u32, &[u8], &[u8]); 4] = [
         b"begin 0 2\nalloc\nfree 0v1\nflush\nstep 0\nanswer 0\nalloc\nfree 0v1\nflush\nfree 0v1\nfree 0v1\n",
         b"open\nbusy\nbusy\nbusy\ncursor -2\n0v1 1v1\nneeds flush\nneeds flush\nborn 0v1 1v1\nfreed 0v1 next 0v2\nnot alive\n",
     ),
-    // Too few slots, for a call and for `alloc`.
+    // Too few slots, for a call, for the same caller's next one and for `alloc`.
     (
         9,
-        b"begin 7 4\nstep 7\nanswer 7\nflush\nalloc\nalloc\nalloc\nalloc\n",
-        b"open\ncursor -4\nspace wanted 4 left 3\nborn\n0v1\n1v1\n2v1\nspace wanted 1 left 0\n",
+        b"begin 7 4\nstep 7\nanswer 7\nbegin 7 1\nstep 7\nanswer 7\nflush\nalloc\nalloc\nalloc\nalloc\n",
+        b"open\ncursor -4\nspace wanted 4 left 3\nopen\ncursor -5\nspace wanted 1 left 0\nborn\n0v1\n1v1\n2v1\nspace wanted 1 left 0\n",
     ),
     // With one generation a slot's next handle is the one that was freed.
     (

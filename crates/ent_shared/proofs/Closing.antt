@@ -1,5 +1,8 @@
 -- The end of a phase: the history of all records is legal, and the cursor and the least floor tell the allocator after it.
-use Rattle.std.proofs.Common.{◌≡◌, ◌≢◌, ℕ, ◌+◌, ◌-◌, ◌*◌, ◌^◌, ◌<◌, ◌≤◌, ℤ, pos, ◌+ℤ◌, ◌-ℤ◌, ◌≤ℤ◌, ◌<ℤ◌, List, [], ◌∷◌, ◌++◌, length, map, refl, sym, ap, subst, ◌∙◌, arith, sum, length-append, All, AllPairs, Contains, inl, inr, ◌↔◌, ◌⊎◌}
+use Rattle.std.proofs.Common.{◌≡◌, ◌≢◌, ℕ, ◌+◌, ◌-◌, ◌*◌, ◌^◌, ◌<◌, ◌≤◌, ℤ, pos, ◌+ℤ◌, ◌-ℤ◌, ◌≤ℤ◌}
+use Rattle.std.proofs.Common.{◌<ℤ◌, List, [], ◌∷◌, ◌++◌, length, map, refl, sym, ap, subst, ◌∙◌}
+use Rattle.std.proofs.Common.{arith, sum, length-append, All, AllPairs, Contains, inl, inr, ◌↔◌}
+use Rattle.std.proofs.Common.{◌⊎◌}
 use Rattle.std.specs.List.{sum_by}
 use Rattle.std.specs.Int.{int_min}
 use Rattle.std.proofs.lemmas.List.Kept.{AllPairs-cons}
@@ -8,14 +11,18 @@ use Rattle.std.proofs.lemmas.Bool.{cases_lt}
 use Rattle.std.proofs.lemmas.List.Sorted.{length_permutation}
 use Rattle.std.proofs.lemmas.Int.{ints}
 use Rattle.ent_handle.specs.Handle.{Handle}
-use Rattle.ent_alloc.specs.Sequential.{Allocator, available, cursor, top, asked_at, settled, after_flush}
+use Rattle.ent_alloc.specs.Sequential.{Allocator, available, cursor, top, asked_at, settled}
+use Rattle.ent_alloc.specs.Sequential.{after_flush}
 use Rattle.ent_alloc.specs.Sound.{IsSound, IsLive}
 use Rattle.ent_alloc.specs.History as history
-use Rattle.ent_alloc.proofs.PoolLaw.{after_takes-sound, available-after_takes, asked-after_takes, cursor-after_takes, length-taken}
+use Rattle.ent_alloc.proofs.PoolLaw.{after_takes-sound, available-after_takes, asked-after_takes}
+use Rattle.ent_alloc.proofs.PoolLaw.{cursor-after_takes, length-taken}
 use Rattle.ent_alloc.proofs.Taken.{length-available}
 use Rattle.ent_alloc.proofs.LaidOut.{flushed-laid_out}
 use Rattle.ent_alloc.proofs.Meaning.{asked_at-is}
-use Rattle.ent_alloc.proofs.Histories.{after_history-takes, given_in-distinct, given_in-not_live, given_in-taken, given_in-bring_to_life, after_history-settled}
+use Rattle.ent_alloc.proofs.Histories.{after_history-takes, given_in-distinct, given_in-not_live}
+use Rattle.ent_alloc.proofs.Histories.{given_in-taken, given_in-bring_to_life}
+use Rattle.ent_alloc.proofs.Histories.{after_history-settled}
 use Rattle.ent_shared.specs.declared.record.Reservation.{Reservation}
 use mir.Syntax.{w64}
 use mir.Val.{to_z, of_z}
@@ -27,7 +34,8 @@ use Rattle.ent_shared.specs.Order.{as_call, own_of_all, reservations_of, history
 use Rattle.ent_shared.proofs.Steps.{requested, follow_asked}
 use Rattle.ent_shared.proofs.Sorting.{FallsStrictly, follow_falls}
 use Rattle.ent_shared.proofs.Histories.{reservations_are, respects_all, numbers_differ}
-use Rattle.ent_shared.proofs.Settling.{IsLater, legal_from, min_right, floor_below, taken_floor, floor_sorted, floor_of_all}
+use Rattle.ent_shared.proofs.Settling.{IsLater, legal_from, min_right, floor_below, taken_floor}
+use Rattle.ent_shared.proofs.Settling.{floor_sorted, floor_of_all}
 
 pub sum_requests : (cs : List Reservation) → sum (history.requests_of (map as_call cs)) ≡ sum_by requested cs
 sum_requests [] = refl

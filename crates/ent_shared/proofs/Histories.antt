@@ -1,8 +1,12 @@
 -- What all records together tell once no thread steps any more: their own calls are the calls that lead from the top to the cursor.
-use Rattle.std.proofs.Common.{◌≡◌, ◌≢◌, ℕ, zero, suc, ◌+◌, ◌<◌, ◌≤◌, ⊎_elim, ℤ, ◌≤ℤ◌, ◌<ℤ◌, List, [], ◌∷◌, length, get_or, refl, sym, ap, subst, ◌∙◌, arith, eq-eqb, Some}
+use Rattle.std.proofs.Common.{◌≡◌, ◌≢◌, ℕ, zero, suc, ◌+◌, ◌<◌, ◌≤◌, ⊎_elim, ℤ, ◌≤ℤ◌, ◌<ℤ◌, List}
+use Rattle.std.proofs.Common.{[], ◌∷◌, length, get_or, refl, sym, ap, subst, ◌∙◌, arith, eq-eqb}
+use Rattle.std.proofs.Common.{Some}
 use Rattle.std.specs.Prelude.{Bool, true, false, cond, ◌==◌, count_by}
 use Rattle.std.specs.List.{sum_by, All, AllPairs, Contains}
-use Rattle.std.proofs.lemmas.List.Elements.{All-head, All-tail, All-nil, All-cons, All-append, All-weaker, All-contains, All-contains_itself, All-filter}
+use Rattle.std.proofs.lemmas.List.Elements.{All-head, All-tail, All-nil, All-cons, All-append}
+use Rattle.std.proofs.lemmas.List.Elements.{All-weaker, All-contains, All-contains_itself}
+use Rattle.std.proofs.lemmas.List.Elements.{All-filter}
 use Rattle.std.proofs.lemmas.List.Kept.{AllPairs-cons}
 use Rattle.std.proofs.lemmas.List.Sums.{sum_by-cons, sum_by-append}
 use Rattle.std.proofs.lemmas.Option.{slice_get-get_or}
@@ -16,9 +20,12 @@ use Rattle.ent_shared.specs.declared.record.RecordEntry.TheVariants.{Own, Met}
 use Rattle.ent_shared.specs.declared.record.Record.{Record}
 use Rattle.ent_shared.specs.Record.{low, reservations_in, own_reservations, known_reservations}
 use Rattle.ent_shared.specs.Rule.{weigh, InOrder, IsKept, IsClosed}
-use Rattle.ent_shared.specs.Order.{own_of_all, reservations_of, reservations_by, StandsBefore, FollowsEntries, Respects}
+use Rattle.ent_shared.specs.Order.{own_of_all, reservations_of, reservations_by, StandsBefore}
+use Rattle.ent_shared.specs.Order.{FollowsEntries, Respects}
 use Rattle.ent_shared.proofs.Records.{all_front, all_back, all_own}
-use Rattle.ent_shared.proofs.Sorting.{contains_cases, Falls, FallsStrictly, WeighSame, all_sorted, sum_sorted, falls_sorted, same_fall, follow_falls, follow_requests}
+use Rattle.ent_shared.proofs.Sorting.{contains_cases, Falls, FallsStrictly, WeighSame, all_sorted}
+use Rattle.ent_shared.proofs.Sorting.{sum_sorted, falls_sorted, same_fall, follow_falls}
+use Rattle.ent_shared.proofs.Sorting.{follow_requests}
 
 pub sum_flat : (f : Reservation → ℕ) (records : List Record) → sum_by f (own_of_all records) ≡ weigh f records
 sum_flat f [] = refl

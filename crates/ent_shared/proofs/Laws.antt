@@ -1,11 +1,18 @@
 -- What crates above need to know of records: how they make up the history, what they were given, and what they have left.
-use Rattle.std.proofs.Common.{◌≡◌, ◌≢◌, ℕ, ◌+◌, ◌≤◌, ℤ, ◌<ℤ◌, List, [], ◌∷◌, ◌++◌, length, map, refl, sym, ap, subst, ◌∙◌, arith, sum, append_assoc, append-nil, All, AllPairs, Contains, IsPermutation, Ok}
+use Rattle.std.proofs.Common.{◌≡◌, ◌≢◌, ℕ, ◌+◌, ◌≤◌, ℤ, ◌<ℤ◌, List, [], ◌∷◌, ◌++◌, length, map}
+use Rattle.std.proofs.Common.{refl, sym, ap, subst, ◌∙◌, arith, sum, append_assoc, append-nil, All}
+use Rattle.std.proofs.Common.{AllPairs, Contains, IsPermutation, Ok}
 use Rattle.std.proofs.lemmas.Bool.{eqb-true}
 use Rattle.std.specs.Prelude.{true, false, cond, int_lt, ◌==◌}
 use Rattle.std.specs.List.{sum_by, flat_map}
-use Rattle.std.proofs.lemmas.List.Elements.{All-nil, All-cons, All-filter, All-weaker, All-contains_itself, filter_passes}
+use Rattle.std.proofs.lemmas.List.Elements.{All-nil, All-cons, All-filter, All-weaker}
+use Rattle.std.proofs.lemmas.List.Elements.{All-contains_itself, filter_passes}
 use Rattle.std.proofs.lemmas.List.Kept.{AllPairs-filter}
-use Rattle.std.proofs.lemmas.List.Sorted.{IsPermutation-refl, IsPermutation-sym, IsPermutation-trans, IsPermutation-cons, IsPermutation-middle, IsPermutation-map, IsPermutation-append_left, IsPermutation-append_right, IsPermutation-append_comm}
+use Rattle.std.proofs.lemmas.List.Sorted.{IsPermutation-refl, IsPermutation-sym}
+use Rattle.std.proofs.lemmas.List.Sorted.{IsPermutation-trans, IsPermutation-cons}
+use Rattle.std.proofs.lemmas.List.Sorted.{IsPermutation-middle, IsPermutation-map}
+use Rattle.std.proofs.lemmas.List.Sorted.{IsPermutation-append_left, IsPermutation-append_right}
+use Rattle.std.proofs.lemmas.List.Sorted.{IsPermutation-append_comm}
 use Rattle.std.proofs.lemmas.List.Sums.{sum_by-cons, sum_by-append}
 use Rattle.ent_handle.specs.Handle.{Handle}
 use Rattle.ent_alloc.specs.Limits.{credit}
@@ -14,9 +21,12 @@ use Rattle.ent_alloc.specs.History as history
 use Rattle.ent_alloc.proofs.ListLaws.{AllPairs-IsPermutation}
 use Rattle.ent_shared.specs.declared.record.Reservation.{Reservation}
 use Rattle.ent_shared.specs.declared.record.Record.{Record}
-use Rattle.ent_shared.specs.Record.{own_reservations, known_reservations, requested_by, reservation_at, after_reservation}
+use Rattle.ent_shared.specs.Record.{own_reservations, known_reservations, requested_by}
+use Rattle.ent_shared.specs.Record.{reservation_at, after_reservation}
 use Rattle.ent_shared.specs.Moves.{after_meeting}
-use Rattle.ent_shared.specs.Order.{insert_reservation, by_falling_high, own_of_all, reservations_of, as_call, history_of, reservations_by, Respects, handles_of, handles_given}
+use Rattle.ent_shared.specs.Order.{insert_reservation, by_falling_high, own_of_all, reservations_of}
+use Rattle.ent_shared.specs.Order.{as_call, history_of, reservations_by, Respects, handles_of}
+use Rattle.ent_shared.specs.Order.{handles_given}
 pub use Rattle.ent_shared.proofs.Answering.{length-served}
 use Rattle.ent_shared.proofs.Records.{own-made, own-met}
 use Rattle.ent_shared.proofs.Histories.{sum_flat}

@@ -1,9 +1,14 @@
 -- The end of a phase where some reservers are lost: the front of the pool counts as reserved.
-use Rattle.std.proofs.Common.{◌≡◌, ℕ, ◌+◌, ◌-◌, ◌*◌, ◌^◌, ◌<◌, ◌≤◌, ℤ, pos, ◌+ℤ◌, ◌-ℤ◌, ◌≤ℤ◌, List, [], ◌∷◌, ◌++◌, length, take, drop, sym, ap, subst, ◌∙◌, arith, All, Contains, inl, inr, ⊎_elim, ◌⊎◌, neg_ℤ, zero-add, Ok, Err}
+use Rattle.std.proofs.Common.{◌≡◌, ℕ, ◌+◌, ◌-◌, ◌*◌, ◌^◌, ◌<◌, ◌≤◌, ℤ, pos, ◌+ℤ◌, ◌-ℤ◌, ◌≤ℤ◌, List}
+use Rattle.std.proofs.Common.{[], ◌∷◌, ◌++◌, length, take, drop, sym, ap, subst, ◌∙◌, arith, All}
+use Rattle.std.proofs.Common.{Contains, inl, inr, ⊎_elim, ◌⊎◌, neg_ℤ, zero-add, Ok, Err}
 use Rattle.std.specs.Prelude.{Result, Bool, true, false, cond, nat_le}
 use Rattle.std.specs.List.{sum_by, filter}
-use Rattle.std.proofs.lemmas.List.{drop-take, take-take, take_all, drop_all, length-take, take-append-drop}
-use Rattle.std.proofs.lemmas.List.Elements.{All-head, All-tail, All-nil, All-cons, All-append, All-weaker, All-take, All-drop, All-contains, All-contains_itself}
+use Rattle.std.proofs.lemmas.List.{drop-take, take-take, take_all, drop_all, length-take}
+use Rattle.std.proofs.lemmas.List.{take-append-drop}
+use Rattle.std.proofs.lemmas.List.Elements.{All-head, All-tail, All-nil, All-cons, All-append}
+use Rattle.std.proofs.lemmas.List.Elements.{All-weaker, All-take, All-drop, All-contains}
+use Rattle.std.proofs.lemmas.List.Elements.{All-contains_itself}
 use Rattle.std.proofs.lemmas.List.Sorted.{All-permutation}
 use Rattle.std.specs.Int.{int_max}
 use Rattle.std.proofs.lemmas.Int.{ints, by_lt_z}
@@ -12,7 +17,8 @@ use mir.Val.{to_z, of_z}
 use Rattle.ent_handle.specs.Handle.{Handle}
 use Rattle.ent_alloc.specs.declared.space.Space.{Space}
 use Rattle.ent_alloc.specs.Limits.{credit}
-use Rattle.ent_alloc.specs.Sequential.{Allocator, available, cursor, top, is_old, asked_at, pool_at, listed, settled}
+use Rattle.ent_alloc.specs.Sequential.{Allocator, available, cursor, top, is_old, asked_at, pool_at}
+use Rattle.ent_alloc.specs.Sequential.{listed, settled}
 use Rattle.ent_alloc.specs.Sound.{IsSound}
 use Rattle.ent_alloc.specs.History as history
 use Rattle.ent_alloc.proofs.Taken.{length-available}
@@ -28,7 +34,8 @@ use Rattle.ent_shared.specs.Rule.{Follow, IsAnswered, IsKept, IsStart, IsClosed}
 use Rattle.ent_shared.specs.Order.{history_of, handles_of}
 use Rattle.ent_shared.proofs.Steps.{requested}
 use Rattle.ent_shared.proofs.Records.{all_own}
-use Rattle.ent_shared.proofs.Closing.{asked_in_all, cursor_least, cursor_greatest, final_cursor, in_word}
+use Rattle.ent_shared.proofs.Closing.{asked_in_all, cursor_least, cursor_greatest, final_cursor}
+use Rattle.ent_shared.proofs.Closing.{in_word}
 
 -- what lies inside the front of a list is in it
 front_contains : (xs : List Handle) (k n asked : ℕ) → k + n ≤ asked → All (Contains (take asked xs)) (take n (drop k xs))

@@ -1,9 +1,11 @@
 -- What a reservation and a meeting add to a record.
-use Rattle.std.proofs.Common.{◌≡◌, ℕ, ◌+◌, ◌≤◌, ℤ, pos, ◌-ℤ◌, ◌≤ℤ◌, List, [], ◌∷◌, ◌++◌, length, sym, refl, ap, subst, ◌∙◌, arith, append_assoc, append-nil, add-zero}
+use Rattle.std.proofs.Common.{◌≡◌, ℕ, ◌+◌, ◌≤◌, ℤ, pos, ◌-ℤ◌, ◌≤ℤ◌, List, [], ◌∷◌, ◌++◌, length}
+use Rattle.std.proofs.Common.{sym, refl, ap, subst, ◌∙◌, arith, append_assoc, append-nil, add-zero}
 use Rattle.std.specs.Prelude.{nat_le, cond, Bool, true, false}
 use Rattle.std.specs.List.{sum_by, All, Contains}
 use Rattle.std.specs.Int.{int_min}
-use Rattle.std.proofs.lemmas.List.Elements.{All-head, All-tail, All-nil, All-cons, All-append, All-weaker, Contains-append_left, Contains-push}
+use Rattle.std.proofs.lemmas.List.Elements.{All-head, All-tail, All-nil, All-cons, All-append}
+use Rattle.std.proofs.lemmas.List.Elements.{All-weaker, Contains-append_left, Contains-push}
 use Rattle.std.proofs.lemmas.List.Sums.{sum_by-cons, sum_by-append}
 use Rattle.std.proofs.lemmas.Int.{ints, int_min_is}
 use Rattle.ent_alloc.specs.Sequential.{Allocator, cursor, pool_at}
@@ -12,7 +14,8 @@ use Rattle.ent_shared.specs.declared.record.RecordEntry.{RecordEntry}
 use Rattle.ent_shared.specs.declared.record.RecordEntry.TheVariants.{Own, Met}
 use Rattle.ent_shared.specs.declared.record.Record.{Record}
 use Rattle.ent_alloc.specs.Limits.{credit}
-use Rattle.ent_shared.specs.Record.{low, reservations_in, own_reservations, known_reservations, requested_by, reservation_at, after_reservation}
+use Rattle.ent_shared.specs.Record.{low, reservations_in, own_reservations, known_reservations}
+use Rattle.ent_shared.specs.Record.{requested_by, reservation_at, after_reservation}
 use Rattle.ent_shared.specs.Moves.{after_meeting}
 use Rattle.ent_shared.specs.Rule.{floor_after, floor_of, InOrder, IsKept}
 

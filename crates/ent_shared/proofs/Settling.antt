@@ -1,5 +1,7 @@
 -- Calls that lead from the top down to the cursor are a legal history, and two numbers tell the allocator after it.
-use Rattle.std.proofs.Common.{◌≡◌, ℕ, ◌+◌, ◌<◌, ◌≤◌, ⊎_elim, ℤ, pos, ◌-ℤ◌, ◌≤ℤ◌, List, [], ◌∷◌, ◌++◌, length, map, take, drop, refl, sym, ap, subst, ◌∙◌, arith, le-leb, length-append}
+use Rattle.std.proofs.Common.{◌≡◌, ℕ, ◌+◌, ◌<◌, ◌≤◌, ⊎_elim, ℤ, pos, ◌-ℤ◌, ◌≤ℤ◌, List, [], ◌∷◌}
+use Rattle.std.proofs.Common.{◌++◌, length, map, take, drop, refl, sym, ap, subst, ◌∙◌, arith}
+use Rattle.std.proofs.Common.{le-leb, length-append}
 use Rattle.std.specs.Prelude.{Bool, true, false, cond, nat_le, int_lt}
 use Rattle.std.specs.List.{All, filter, flat_map}
 use Rattle.std.specs.Int.{int_min}
@@ -8,12 +10,15 @@ use Rattle.std.proofs.lemmas.List.{length-take-le}
 use Rattle.std.proofs.lemmas.List.Elements.{All-head, All-tail}
 use Rattle.std.proofs.lemmas.Int.{ints}
 use Rattle.ent_handle.specs.Handle.{Handle}
-use Rattle.ent_alloc.specs.Sequential.{Allocator, available, cursor, top, is_old, asked_at, pool_at, reply_from, after_take}
+use Rattle.ent_alloc.specs.Sequential.{Allocator, available, cursor, top, is_old, asked_at, pool_at}
+use Rattle.ent_alloc.specs.Sequential.{reply_from, after_take}
 use Rattle.ent_alloc.specs.Sound.{IsSound}
 use Rattle.ent_alloc.specs.History as history
 use Rattle.ent_alloc.proofs.Soundness.{after_take-sound}
-use Rattle.ent_alloc.proofs.Taken.{available-after_take, after_take-served, after_take-refused, length-pool}
-use Rattle.ent_alloc.proofs.PoolLaw.{made-after_take, cursor-after_take, pool_at-cursor, length-taken}
+use Rattle.ent_alloc.proofs.Taken.{available-after_take, after_take-served, after_take-refused}
+use Rattle.ent_alloc.proofs.Taken.{length-pool}
+use Rattle.ent_alloc.proofs.PoolLaw.{made-after_take, cursor-after_take, pool_at-cursor}
+use Rattle.ent_alloc.proofs.PoolLaw.{length-taken}
 use Rattle.ent_shared.specs.declared.record.Reservation.{Reservation}
 use Rattle.ent_shared.specs.declared.record.Record.{Record}
 use Rattle.ent_shared.specs.Record.{low, own_reservations}

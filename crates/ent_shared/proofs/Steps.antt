@@ -1,10 +1,13 @@
 -- Each step keeps the rule over the cursor word and the records.
-use Rattle.std.proofs.Common.{◌≡◌, ℕ, zero, suc, ◌+◌, ◌*◌, ◌-◌, ◌%◌, ◌^◌, ◌<◌, ◌≤◌, ℤ, pos, ◌+ℤ◌, ◌-ℤ◌, ◌≤ℤ◌, List, [], ◌∷◌, ◌++◌, length, set, get_or, take, drop, sym, refl, ap, subst, ◌∙◌, arith, length-append, suc-mul, eq-eqb, ne_eqb}
+use Rattle.std.proofs.Common.{◌≡◌, ℕ, zero, suc, ◌+◌, ◌*◌, ◌-◌, ◌%◌, ◌^◌, ◌<◌, ◌≤◌, ℤ, pos, ◌+ℤ◌}
+use Rattle.std.proofs.Common.{◌-ℤ◌, ◌≤ℤ◌, List, [], ◌∷◌, ◌++◌, length, set, get_or, take, drop, sym}
+use Rattle.std.proofs.Common.{refl, ap, subst, ◌∙◌, arith, length-append, suc-mul, eq-eqb, ne_eqb}
 use Rattle.std.proofs.Math.Nat.{add-mod_right, mod-eq_of_lt}
 use Rattle.atomic_table.proofs.Lists.{set_else}
 use Rattle.std.specs.Prelude.{Bool, ◌==◌, cond, count_by}
 use Rattle.std.specs.List.{sum_by, All, Contains}
-use Rattle.std.proofs.lemmas.List.Elements.{All-head, All-tail, All-nil, All-cons, All-append, All-weaker, All-set, All-push}
+use Rattle.std.proofs.lemmas.List.Elements.{All-head, All-tail, All-nil, All-cons, All-append}
+use Rattle.std.proofs.lemmas.List.Elements.{All-weaker, All-set, All-push}
 use Rattle.std.proofs.lemmas.List.Sums.{sum_by-cons, sum_by-append}
 use Rattle.std.proofs.lemmas.Int.{ints}
 use Rattle.std.specs.Int.Signed.{≤ℤ_refl}
@@ -21,9 +24,11 @@ use Rattle.ent_shared.specs.declared.record.Reservation.{Reservation}
 use Rattle.ent_shared.specs.declared.record.RecordEntry.TheVariants.{Own}
 use Rattle.ent_shared.specs.declared.record.Record.{Record}
 use Rattle.ent_alloc.specs.Limits.{credit}
-use Rattle.ent_shared.specs.Record.{low, own_reservations, known_reservations, requested_by, opened, opened_records, reservation_at, after_reservation}
+use Rattle.ent_shared.specs.Record.{low, own_reservations, known_reservations, requested_by, opened}
+use Rattle.ent_shared.specs.Record.{opened_records, reservation_at, after_reservation}
 use Rattle.ent_shared.specs.Moves.{after_meeting, met_in}
-use Rattle.ent_shared.specs.Rule.{offset, cursor_of, Follow, weigh, IsAnswered, IsKept, IsStart, IsRuled, AfterReserve, ReserveTells, IsClosed}
+use Rattle.ent_shared.specs.Rule.{offset, cursor_of, Follow, weigh, IsAnswered, IsKept, IsStart}
+use Rattle.ent_shared.specs.Rule.{IsRuled, AfterReserve, ReserveTells, IsClosed}
 use Rattle.ent_shared.proofs.Weighing.{sum_at, all_at, sum_parts, only_at}
 use Rattle.ent_shared.proofs.Records.{all_one, own-made, own-met, kept_on, kept_reserved, kept_met}
 

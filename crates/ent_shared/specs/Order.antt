@@ -1,5 +1,6 @@
 -- The one history of all reservers' reservations, and what it respects.
-use Rattle.std.specs.Prelude.{◌≡◌, ℕ, ◌<◌, ◌==◌, List, [], ◌∷◌, map, filter, slice_get, Some, if◌then◌else◌, int_lt}
+use Rattle.std.specs.Prelude.{◌≡◌, ℕ, ◌<◌, ◌==◌, List, [], ◌∷◌, map, filter, slice_get, Some}
+use Rattle.std.specs.Prelude.{if◌then◌else◌, int_lt}
 use Rattle.std.specs.List.{All, flat_map}
 use Rattle.ent_handle.specs.Handle.{Handle}
 use Rattle.ent_alloc.specs.History as history
@@ -11,7 +12,8 @@ use Rattle.ent_shared.specs.Record.{reservations_in, own_reservations}
 -- a reservation among others that stand by falling cursor
 abbrev pub insert_reservation : Reservation → List Reservation → List Reservation
 insert_reservation c [] = c ∷ []
-insert_reservation c (d ∷ ds) = if int_lt d.high c.high then c ∷ d ∷ ds else d ∷ insert_reservation c ds
+insert_reservation c (d ∷ ds) =
+    if int_lt d.high c.high then c ∷ d ∷ ds else d ∷ insert_reservation c ds
 
 abbrev pub by_falling_high : List Reservation → List Reservation
 by_falling_high [] = []
@@ -35,19 +37,24 @@ history_of records = map as_call (reservations_of records)
 
 -- the one reservation stands before the other
 abbrev pub StandsBefore : List Reservation → Reservation → Reservation → Type 0
-StandsBefore reservations earlier later = (i : ℕ) × (j : ℕ) × (i < j) × (slice_get reservations i ≡ Some earlier) × (slice_get reservations j ≡ Some later)
+StandsBefore reservations earlier later = (i : ℕ) × (j : ℕ) × (i < j)
+    × (slice_get reservations i ≡ Some earlier) × (slice_get reservations j ≡ Some later)
 
 -- each own reservation of these entries stands after all of which an earlier entry speaks
 abbrev pub FollowsEntries : List Reservation → List RecordEntry → Type 0
 FollowsEntries reservations [] = Unit {0}
 FollowsEntries reservations (entry ∷ entries) =
-    All (λ (later : Reservation). All (λ (earlier : Reservation). StandsBefore reservations earlier later) (reservations_in entry)) (own_reservations entries) × FollowsEntries reservations entries
+    All (λ (later : Reservation).
+    All (λ (earlier : Reservation). StandsBefore reservations earlier later)
+    (reservations_in entry)) (own_reservations entries)
+    × FollowsEntries reservations entries
 
 -- the reservations of one caller, in order
 abbrev pub reservations_by : ℕ → List Reservation → List Reservation
 reservations_by caller reservations = filter (λ (c : Reservation). c.caller == caller) reservations
 
--- The order respects a reserver: its own reservations stand there in its order, each once, and each of them after all that it had made or learned of before.
+-- The order respects a reserver: its own reservations stand there in its order, each once, and each
+-- of them after all that it had made or learned of before.
 pub record Respects (reservations : List Reservation) (r : Record) : Type 0 where
   pub own : reservations_by r.number reservations ≡ own_reservations r.entries
   pub after : FollowsEntries reservations r.entries

@@ -1,5 +1,6 @@
 -- What contracts see of a shared allocator and of its reservers.
-use Rattle.std.specs.Prelude.{◌≡◌, ℕ, ◌+◌, ◌<◌, ◌≤◌, ℤ, pos, ◌≤ℤ◌, List, [], ◌∷◌, map, take, drop, refl}
+use Rattle.std.specs.Prelude.{◌≡◌, ℕ, ◌+◌, ◌<◌, ◌≤◌, ℤ, pos, ◌≤ℤ◌, List, [], ◌∷◌, map, take, drop}
+use Rattle.std.specs.Prelude.{refl}
 use Rattle.std.specs.List.{All}
 use Rattle.std.specs.Coded.{Coded, code_by, coded×, coded_ℕ}
 use Rattle.atomic_table.specs.Seated.{TableId, table_id_coded}
@@ -27,11 +28,14 @@ pub record Reserver : Type 0 where
 
 abbrev pub shared_code : Coded Shared
 shared_code =
-    code_by (TableId × (Allocator × ℕ)) (coded× table_id_coded (coded× allocator_code coded_ℕ)) (λ s. (s.word, (s.start, s.count)))
+    code_by (TableId × (Allocator × ℕ)) (coded× table_id_coded (coded× allocator_code coded_ℕ))
+    (λ s. (s.word, (s.start, s.count)))
     (λ p. record { word = p.0; start = p.1.0; count = p.1.1 }) (λ _. refl)
 
 abbrev pub reserver_code : Coded Reserver
-reserver_code = code_by (TableId × Record) (coded× table_id_coded recorded.the_row.coded) (λ r. (r.word, r.own)) (λ p. record { word = p.0; own = p.1 }) (λ _. refl)
+reserver_code =
+    code_by (TableId × Record) (coded× table_id_coded recorded.the_row.coded)
+    (λ r. (r.word, r.own)) (λ p. record { word = p.0; own = p.1 }) (λ _. refl)
 
 -- what these reservers have done
 abbrev pub records_of : List Reserver → List Record
@@ -47,7 +51,14 @@ pub record IsOf (shared : Shared) (r : Reserver) : Type 0 where
 
 -- no reserver's record
 abbrev pub blank : Record
-blank = record { start = opening (record { slots = 0; generations = 0 }); number = 0; entries = []; left = 0; mark = pos 0; floor = pos 0 }
+blank = record {
+  start = opening (record { slots = 0; generations = 0 });
+  number = 0;
+  entries = [];
+  left = 0;
+  mark = pos 0;
+  floor = pos 0;
+}
 
 -- the one record of what a badge knows
 abbrev pub own_of : List (List Record) → Record
@@ -58,7 +69,8 @@ own_of _ = blank
 abbrev pub IsBelow : ℤ → List RecordEntry → Type 0
 IsBelow mark entries = All (λ (c : Reservation). mark ≤ℤ low c) (known_reservations entries)
 
--- A reserver's fields say what its record says, and its next reservation comes after all that it knows.
+-- A reserver's fields say what its record says, and its next reservation comes after all that it
+-- knows.
 pub record IsSeated (views : List (List Record)) (number left : ℕ) (floor : ℤ) : Type 0 where
   pub views_is : views ≡ (own_of views ∷ []) ∷ []
   pub number_is : number ≡ (own_of views).number
@@ -76,6 +88,12 @@ pub record IsPhase (start : Allocator) (count : ℕ) (key : Opening) (word : Tab
   pub words : word.words ≡ 1
   pub slots : word.slots ≡ 0
 
--- the allocator if that much was asked of it and the front of the pool counts as reserved, as far as it goes
+-- the allocator if that much was asked of it and the front of the pool counts as reserved, as far
+-- as it goes
 abbrev pub after_loss : Allocator → ℕ → Allocator
-after_loss s asked = record s { taken = take asked s.pool; aside = []; pool = drop asked s.pool; asked = asked }
+after_loss s asked = record s {
+  taken = take asked s.pool;
+  aside = [];
+  pool = drop asked s.pool;
+  asked = asked;
+}

@@ -1,5 +1,6 @@
 -- What one reserver has done in a phase, and how a reservation adds to it.
-use Rattle.std.specs.Prelude.{ℕ, zero, suc, ◌+◌, ◌-◌, ℤ, pos, ◌-ℤ◌, nat_le, if◌then◌else◌, List, [], ◌∷◌, ◌++◌, length}
+use Rattle.std.specs.Prelude.{ℕ, zero, suc, ◌+◌, ◌-◌, ℤ, pos, ◌-ℤ◌, nat_le, if◌then◌else◌, List, []}
+use Rattle.std.specs.Prelude.{◌∷◌, ◌++◌, length}
 use Rattle.std.specs.List.{sum_by}
 use Rattle.ent_alloc.specs.Limits.{credit}
 use Rattle.ent_alloc.specs.Sequential.{Allocator, cursor, pool_at, reply_from}
@@ -34,16 +35,29 @@ requested_by r = sum_by (λ (c : Reservation). c.requested) (own_reservations r.
 
 -- a reserver that has done nothing yet
 abbrev pub opened : Allocator → ℕ → Record
-opened start number = record { start = start; number = number; entries = []; left = credit; mark = cursor start; floor = cursor start }
+opened start number = record {
+  start = start;
+  number = number;
+  entries = [];
+  left = credit;
+  mark = cursor start;
+  floor = cursor start;
+}
 
 -- that many of them, numbered from here on
 unfoldable pub opened_records : Allocator → ℕ → ℕ → List Record
 opened_records start number zero = []
-opened_records start number (suc count) = opened start number ∷ opened_records start (number + 1) count
+opened_records start number (suc count) =
+    opened start number ∷ opened_records start (number + 1) count
 
 -- this reserver's reservation of n handles if the cursor is high
 abbrev pub reservation_at : Record → ℤ → ℕ → Reservation
-reservation_at r high n = record { caller = r.number; high = high; requested = n; reply = reply_from r.start.made (pool_at r.start high) n }
+reservation_at r high n = record {
+  caller = r.number;
+  high = high;
+  requested = n;
+  reply = reply_from r.start.made (pool_at r.start high) n;
+}
 
 -- the record after it
 abbrev pub after_reservation : Record → ℤ → ℕ → Record

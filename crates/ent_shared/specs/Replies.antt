@@ -20,7 +20,8 @@ listed_alone (Ok handle) = Ok (handle ∷ [])
 listed_alone (Err refused) = Err refused
 
 -- A reserver has made one more reservation, of n handles.
-pub record Reserves (shared : Shared) (old new : Reserver) (n : ℕ) (answer : Result (List Handle) Refused) : Type 0 where
+pub record Reserves (shared : Shared) (old new : Reserver) (n : ℕ)
+    (answer : Result (List Handle) Refused) : Type 0 where
   -- the cursor that its step found, which is the mark or lower
   pub high : ℤ
   pub at_mark : high ≤ℤ old.own.mark
@@ -29,4 +30,5 @@ pub record Reserves (shared : Shared) (old new : Reserver) (n : ℕ) (answer : R
   -- the answer is the reply that is recorded
   pub recorded : Tells answer (reservation_at old.own high n).reply
   -- and that is the reply of an allocator whose cursor is there
-  pub reply : (reservation_at old.own high n).reply ≡ reply_from shared.start.made (pool_at shared.start high) n
+  pub reply : (reservation_at old.own high n).reply
+      ≡ reply_from shared.start.made (pool_at shared.start high) n

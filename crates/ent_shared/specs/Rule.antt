@@ -1,5 +1,6 @@
 -- The rule over the cursor word and the records of all reservers, before and after each step.
-use Rattle.std.specs.Prelude.{◌≡◌, ℕ, ◌+◌, ◌*◌, ◌^◌, ◌<◌, ◌≤◌, ℤ, pos, ◌-ℤ◌, ◌≤ℤ◌, List, [], ◌∷◌, All, Contains, length, nat_le, if◌then◌else◌, count_by, ◌==◌}
+use Rattle.std.specs.Prelude.{◌≡◌, ℕ, ◌+◌, ◌*◌, ◌^◌, ◌<◌, ◌≤◌, ℤ, pos, ◌-ℤ◌, ◌≤ℤ◌, List, [], ◌∷◌}
+use Rattle.std.specs.Prelude.{All, Contains, length, nat_le, if◌then◌else◌, count_by, ◌==◌}
 use Rattle.std.specs.List.{sum_by}
 use Rattle.std.specs.Int.{int_min}
 use Rattle.atomic_table.specs.Table.{State, Me}
@@ -8,7 +9,8 @@ use Rattle.ent_alloc.specs.Sequential.{Allocator, cursor, top, pool_at, reply_fr
 use Rattle.ent_shared.specs.declared.record.Reservation.{Reservation}
 use Rattle.ent_shared.specs.declared.record.RecordEntry.{RecordEntry}
 use Rattle.ent_shared.specs.declared.record.Record.{Record}
-use Rattle.ent_shared.specs.Record.{low, reservations_in, own_reservations, known_reservations, requested_by, after_reservation}
+use Rattle.ent_shared.specs.Record.{low, reservations_in, own_reservations, known_reservations}
+use Rattle.ent_shared.specs.Record.{requested_by, after_reservation}
 
 -- what is added to the cursor, so that the word is never negative
 unfoldable pub offset : ℕ
@@ -27,7 +29,8 @@ Follow high (c ∷ cs) end = (c.high ≡ high) × (0 < c.requested) × Follow (l
 abbrev pub weigh : (Reservation → ℕ) → List Record → ℕ
 weigh f records = sum_by (λ (r : Record). sum_by f (own_reservations r.entries)) records
 
--- The spans partition: the own reservations of all records, one after the other, lead from the top down to the cursor.
+-- The spans partition: the own reservations of all records, one after the other, lead from the top
+-- down to the cursor.
 pub record SpansPartition (start : Allocator) (word : ℕ) (views : List (List Record)) : Type 0 where
   pub log : List Reservation
   pub follow : Follow (cursor start) log (cursor_of word)
@@ -39,7 +42,8 @@ IsAnswered start c = c.reply ≡ reply_from start.made (pool_at start c.high) c.
 
 -- the cursor that a reservation leaves, if it was served, and else the top
 abbrev pub floor_after : Allocator → Reservation → ℤ
-floor_after start c = if nat_le c.requested (length (pool_at start c.high)) then low c else cursor start
+floor_after start c =
+    if nat_le c.requested (length (pool_at start c.high)) then low c else cursor start
 
 -- the least cursor that those of them left that were served, or the top
 abbrev pub floor_of : Allocator → List Reservation → ℤ
@@ -56,10 +60,15 @@ pub record CreditAddsUp (start : Allocator) (r : Record) : Type 0 where
   pub credit : r.left + requested_by r ≡ credit
   pub floor : r.floor ≡ floor_of start (own_reservations r.entries)
 
--- each own reservation begins at or below the end of every reservation of which an earlier entry speaks
+-- each own reservation begins at or below the end of every reservation of which an earlier entry
+-- speaks
 abbrev pub InOrder : List RecordEntry → Type 0
 InOrder [] = Unit {0}
-InOrder (entry ∷ entries) = All (λ (later : Reservation). All (λ (earlier : Reservation). later.high ≤ℤ low earlier) (reservations_in entry)) (own_reservations entries) × InOrder entries
+InOrder (entry ∷ entries) =
+    All (λ (later : Reservation).
+    All (λ (earlier : Reservation). later.high ≤ℤ low earlier) (reservations_in entry))
+    (own_reservations entries)
+    × InOrder entries
 
 -- The marks are in order.
 pub record MarksInOrder (at : ℤ) (log : List Reservation) (r : Record) : Type 0 where
@@ -80,7 +89,8 @@ pub record IsStart (start : Allocator) : Type 0 where
   pub top : top start < 2 ^ 32
 
 -- the three parts together, and each record stands in one seat at most
-pub record IsRuled (start : Allocator) (count : ℕ) (s : State (Unit {0}) (List Record)) : Type 0 where
+pub record IsRuled (start : Allocator) (count : ℕ) (s : State (Unit {0}) (List Record))
+    : Type 0 where
   pub begins : IsStart start
   pub few : count ≤ 1024
   pub word : ℕ
@@ -91,7 +101,8 @@ pub record IsRuled (start : Allocator) (count : ℕ) (s : State (Unit {0}) (List
   pub numbers : (k : ℕ) → sum_by (count_by (λ (r : Record). r.number == k)) s.views ≤ 1
   pub each : All (All (IsKept start (cursor_of word) spans.log)) s.views
 
--- After a reservation of n by the one reserver of a seat: the word is in its range, and the record has one reservation more.
+-- After a reservation of n by the one reserver of a seat: the word is in its range, and the record
+-- has one reservation more.
 pub record AfterReserve (n : ℕ) (r : Record) (found : ℕ) (others : List Record) : Type 0 where
   pub least : offset ≤ found + 2 ^ 50
   pub greatest : found < offset + 2 ^ 32
@@ -100,7 +111,8 @@ pub record AfterReserve (n : ℕ) (r : Record) (found : ℕ) (others : List Reco
   pub after : others ≡ after_reservation r (cursor_of found) n ∷ []
 
 abbrev pub ReserveTells : ℕ → Me (Unit {0}) (List Record) → ℕ → Me (Unit {0}) (List Record) → Type 0
-ReserveTells n before found after = (after.1 ≡ before.1) × ((r : Record) → before.0 ≡ r ∷ [] → AfterReserve n r found after.0)
+ReserveTells n before found after =
+    (after.1 ≡ before.1) × ((r : Record) → before.0 ≡ r ∷ [] → AfterReserve n r found after.0)
 
 -- What the rule says once no thread steps any more, and these records are known.
 pub record IsClosed (start : Allocator) (count : ℕ) (records : List Record) (at : ℤ) : Type 0 where
@@ -111,4 +123,5 @@ pub record IsClosed (start : Allocator) (count : ℕ) (records : List Record) (a
   pub numbers : (k : ℕ) → count_by (λ (r : Record). r.number == k) records ≤ 1
   pub some : (f : Reservation → ℕ) → weigh f records ≤ sum_by f log
   pub all : length records ≡ count → (f : Reservation → ℕ) → weigh f records ≡ sum_by f log
-  pub credit : sum_by (λ (r : Record). r.left) records + sum_by (λ (c : Reservation). c.requested) log ≤ count * credit
+  pub credit : sum_by (λ (r : Record). r.left) records
+      + sum_by (λ (c : Reservation). c.requested) log ≤ count * credit

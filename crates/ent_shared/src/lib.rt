@@ -1,4 +1,5 @@
-//! Reservation by many threads at once: one atomic word counts down, and each caller reserves from it through a shared reference.
+//! Reservation by many threads at once: one atomic word counts down, and each caller reserves from
+//! it through a shared reference.
 #![tactic(auto)]
 
 mod phase;

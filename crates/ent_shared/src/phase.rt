@@ -10,8 +10,8 @@ use ent_alloc::Entities;
 use ent_handle::Memory;
 use std::alloc::Global;
 
-/// Shares a flushed allocator among `n` reservers, 1 to 1,024, each of which may request [`CREDIT`](ent_alloc::CREDIT) handles.
-/// Bevy has no such limits; they are this project's own.
+/// Shares a flushed allocator among `n` reservers, 1 to 1,024, each of which may request
+/// [`CREDIT`](ent_alloc::CREDIT) handles. Bevy has no such limits; they are this project's own.
 ///
 /// # Errors
 ///
@@ -26,7 +26,8 @@ pub fn share(
     requires few { n ≤ 1024 }
     ensures shared { IfOk result (λ made. (made.0.start ≡ entities) × (made.0.count ≡ n)) }
     ensures count { IfOk result (λ made. length made.1.items ≡ n) }
-    ensures reservers { IfOk result (λ made. records_of made.1.items ≡ opened_records entities 0 n) }
+    ensures reservers { IfOk result (λ made.
+        records_of made.1.items ≡ opened_records entities 0 n) }
     ensures unused { IfOk result (λ made. All (λ r. r.own.entries ≡ []) made.1.items) }
     ensures own { IfOk result (λ made. All (IsOf made.0) made.1.items) }
     ensures err { IfErr result (λ refused. refused.0 ≡ entities) }

@@ -4,7 +4,8 @@ use ent_alloc::{Entities, Space};
 use ent_handle::Handle;
 use std::collections::LinkedList;
 
-/// One reservation. It covers the positions from `high` less `requested` up to, not including, `high`.
+/// One reservation. It covers the positions from `high` less `requested` up to, not including,
+/// `high`.
 pub struct Reservation {
     /// The number of its reserver.
     pub caller: u64,
@@ -20,7 +21,8 @@ pub struct Reservation {
 pub enum RecordEntry {
     /// It made a reservation.
     Own(Reservation),
-    /// It met another one. These are all the reservations that the other one had made or learned of by then.
+    /// It met another one. These are all the reservations that the other one had made or learned of
+    /// by then.
     Met(LinkedList<Reservation>),
 }
 

@@ -7,8 +7,8 @@ use thiserror::Error;
 /// Why a reservation gave no handle.
 #[derive(Clone, Copy, Debug, PartialEq, Eq, Error)]
 pub enum Refused {
-    /// The pool had fewer handles than were requested. The request is taken from the reserver's credit, and the pool
-    /// gives no more until the next flush.
+    /// The pool had fewer handles than were requested. The request is taken from the reserver's
+    /// credit, and the pool gives no more until the next flush.
     #[error("{wanted} wanted and {left} left")]
     Space {
         /// How many handles were requested.

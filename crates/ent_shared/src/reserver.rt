@@ -7,8 +7,8 @@ use std::marker::Model;
 
 /// The right of one caller to reserve from a shared allocator, and what is left of its credit.
 ///
-/// [`share`](crate::share) makes them, and [`Shared::close`](crate::Shared::close) takes them back. A caller that reserves in a
-/// thread of its own takes one along.
+/// [`share`](crate::share) makes them, and [`Shared::close`](crate::Shared::close) takes them back.
+/// A caller that reserves in a thread of its own takes one along.
 #[derive(Drop)]
 pub struct Reserver {
     pub(crate) badge: Badge<SeatRecords>,
@@ -54,7 +54,8 @@ impl Reserver {
         self.number
     }
 
-    /// How many handles it may still request in this phase: [`CREDIT`] less what it has requested, served or not.
+    /// How many handles it may still request in this phase: [`CREDIT`] less what it has requested,
+    /// served or not.
     pub fn left(&self) -> u64
         ensures left { result ≡ self.now.own.left }
         ensures credit { result + requested_by self.now.own ≡ credit }

@@ -73,7 +73,8 @@ impl Shared {
     /// # Errors
     ///
     /// - [`Refused::Quota`] if no credit is left. Nothing has changed.
-    /// - [`Refused::Space`] if the pool is empty. The request is taken from the credit all the same.
+    /// - [`Refused::Space`] if the pool is empty. The request is taken from the credit all the
+    ///   same.
     pub fn reserve(&self, reserver: &mut Reserver) -> Result<Handle, Refused>
         requires { IsOf self.now reserver.old }
         ensures stays { IsOf self.now reserver.new }
@@ -98,17 +99,17 @@ impl Shared {
         Ok(handle)
     }
 
-    /// Reserves `n` handles at once, by one atomic step. It takes no memory and waits for nobody. A request of 0 makes no step and
-    /// is always served.
+    /// Reserves `n` handles at once, by one atomic step. It takes no memory and waits for nobody. A
+    /// request of 0 makes no step and is always served.
     ///
-    /// The handles are what the allocator would have given to one caller at that moment, in the order of
-    /// [`Entities::reply`]. They borrow from the allocator.
+    /// The handles are what the allocator would have given to one caller at that moment, in the
+    /// order of [`Entities::reply`]. They borrow from the allocator.
     ///
     /// # Errors
     ///
     /// - [`Refused::Quota`] if `n` is above the credit that is left. Nothing has changed.
-    /// - [`Refused::Space`] if the pool has fewer than `n` handles. The request is taken from the credit all the same, and the
-    ///   pool gives no more until the next flush.
+    /// - [`Refused::Space`] if the pool has fewer than `n` handles. The request is taken from the
+    ///   credit all the same, and the pool gives no more until the next flush.
     pub fn reserve_many(&self, reserver: &mut Reserver, n: u32) -> Result<Reserved<'_>, Refused>
         requires { IsOf self.now reserver.old }
         ensures stays { IsOf self.now reserver.new }
@@ -144,8 +145,9 @@ impl Shared {
         Ok(handles)
     }
 
-    /// Orders two reservers: every later reservation by `a` comes after everything that `b` has reserved or learned of so far.
-    /// It makes two atomic steps, takes no memory and waits for nobody.
+    /// Orders two reservers: every later reservation by `a` comes after everything that `b` has
+    /// reserved or learned of so far. It makes two atomic steps, takes no memory and waits for
+    /// nobody.
     pub fn meet(&self, a: &mut Reserver, b: &mut Reserver)
         requires first { IsOf self.now a.old }
         requires second { IsOf self.now b.old }
@@ -161,15 +163,16 @@ impl Shared {
         word::meet(&self.word, &mut a.badge, &mut b.badge);
     }
 
-    /// Ends the phase with all its reservers. The allocator is as if their reservations had been made one by one, in the order
-    /// of their atomic steps. It takes no memory.
+    /// Ends the phase with all its reservers. The allocator is as if their reservations had been
+    /// made one by one, in the order of their atomic steps. It takes no memory.
     pub fn close(self, reservers: Vec<Reserver>) -> Entities
         requires all { length reservers.items ≡ self.count }
         requires own { All (IsOf self) reservers.items }
         ensures legal { IsLegal self.start (history_of (records_of reservers.items)) }
         ensures respects { let records = records_of reservers.items in
             All (Respects (reservations_of records)) records }
-        ensures after { result ≡ after_history self.start (history_of (records_of reservers.items)) }
+        ensures after { result
+            ≡ after_history self.start (history_of (records_of reservers.items)) }
 
         // Each reservation stands once, where its step came: the cursor falls with each.
         ensures falls { AllPairs (λ earlier later. later.high <ℤ earlier.high)
@@ -199,14 +202,16 @@ impl Shared {
         entities
     }
 
-    /// Ends the phase although some reservers may be lost. The cursor tells how many handles were requested in all, but not which
-    /// of the lost reservers' requests were refused. So the front of the pool counts as reserved, as far as it goes, also those
-    /// handles that nobody got. It takes no memory.
+    /// Ends the phase although some reservers may be lost. The cursor tells how many handles were
+    /// requested in all, but not which of the lost reservers' requests were refused. So the front
+    /// of the pool counts as reserved, as far as it goes, also those handles that nobody got. It
+    /// takes no memory.
     pub fn close_lost(self, reservers: Vec<Reserver>) -> Entities
         requires own { All (IsOf self) reservers.items }
         ensures after { result ≡ after_loss self.start result.asked }
 
-        // It counts what the reservers that are here have requested, and of the others no more than their credit.
+        // It counts what the reservers that are here have requested, and of the others no more than
+        // their credit.
         ensures least { sum_by (λ r. requested_by r.own) reservers.items ≤ result.asked }
         ensures most { sum_by (λ r. r.own.left) reservers.items + result.asked
             ≤ self.count * credit }
@@ -214,7 +219,8 @@ impl Shared {
 
         // If all are here, the cursor is where `close` leaves it.
         ensures whole { length reservers.items ≡ self.count
-            → cursor result ≡ cursor (after_history self.start (history_of (records_of reservers.items))) }
+            → cursor result
+            ≡ cursor (after_history self.start (history_of (records_of reservers.items))) }
 
         // What the reservers that are here were given is reserved.
         ensures given { All (λ r. All (Contains result.taken) (handles_given r.own))

@@ -70,7 +70,8 @@ pub(crate) fn reserve(word: &Word, badge: &mut Badge<SeatRecords>, n: u32) -> i6
 /// The meeting step: the first reserver's record lists what the second one has made and learned of.
 pub(crate) fn meet(word: &Word, a: &mut Badge<SeatRecords>, b: &mut Badge<SeatRecords>)
     requires word { (word.now.shared.table_id.words ≡ 1)
-        × (a.old.table_id ≡ word.now.shared.table_id) × (b.old.table_id ≡ word.now.shared.table_id) }
+        × (a.old.table_id ≡ word.now.shared.table_id)
+        × (b.old.table_id ≡ word.now.shared.table_id) }
     requires first { a.old.views ≡ (own_of a.old.views ∷ []) ∷ [] }
     requires second { b.old.views ≡ (own_of b.old.views ∷ []) ∷ [] }
     ensures same { (a.new.table_id ≡ a.old.table_id) × (b.new.table_id ≡ b.old.table_id) }
@@ -99,7 +100,8 @@ pub(crate) fn new_seat(word: &Word) -> CursorSeat
 /// Moves a reserver's record into a seat.
 pub(crate) fn merge(word: &Word, all: &mut CursorSeat, badge: Badge<SeatRecords>)
     requires word { (word.now.shared.table_id.words ≡ 1)
-        × (all.old.table_id ≡ word.now.shared.table_id) × (badge.table_id ≡ word.now.shared.table_id)
+        × (all.old.table_id ≡ word.now.shared.table_id)
+        × (badge.table_id ≡ word.now.shared.table_id)
         × (all.old.me.1 ≡ []) }
     requires one { (records : List Record) × (badge.views ≡ records ∷ []) }
     ensures kept { all.new.table_id ≡ all.old.table_id }

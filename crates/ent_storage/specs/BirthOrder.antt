@@ -17,7 +17,8 @@ use Rattle.ent_storage.specs.EntityMap.{Entity, EntityMap, birth_of}
 abbrev pub birth_order : EntityMap → Handle → Handle → Ordering
 birth_order m = then_cmp (on (birth_of m) (option_cmp birth_cmp)) handle_cmp
 
--- the list has the handles of the entities that pass and no others, each once, in the order of births
+-- the list has the handles of the entities that pass and no others, each once, in the order of
+-- births
 pub record ListsByBirth (passes : Entity → Bool) (m : EntityMap) (handles : List Handle)
     : Type 0 where
   pub rising : AllPairs (λ a b. birth_order m a b ≡ Less) handles

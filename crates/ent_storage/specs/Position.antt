@@ -10,7 +10,8 @@ module _ {K X : Type 0} (R : K → K → Ordering) where
     pub in_range : i < length pairs
     pub has_key : HoldsAt (λ pair. R pair.0 key ≡ Equal) pairs i
 
-  -- no pair has the key, which would go to position i: the keys before it are smaller, the others greater
+  -- no pair has the key, which would go to position i: the keys before it are smaller, the others
+  -- greater
   pub record IsGapFor (pairs : List (K × X)) (key : K) (i : ℕ) : Type 0 where
     pub in_range : i ≤ length pairs
     pub smaller_before : AllWithin (λ pair. R pair.0 key ≡ Less) pairs 0 i

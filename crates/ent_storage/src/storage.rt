@@ -20,8 +20,8 @@ use std::marker::Model;
 
 /// The living entities: a finite map from handles to births and components.
 ///
-/// It also has a number, `spare`: for how many more entities there is room. It takes logarithmic time
-/// to look an entity up by its handle.
+/// It also has a number, `spare`: for how many more entities there is room. It takes logarithmic
+/// time to look an entity up by its handle.
 #[derive(Drop)]
 pub struct Storage {
     living: Vec<LivingEntity>,
@@ -106,8 +106,8 @@ impl Storage {
 
     /// For how many more entities there is room.
     ///
-    /// `born` lowers it by 1, or makes more room if it is 0. `reserve` and `despawn` raise it. Nothing
-    /// else changes it.
+    /// `born` lowers it by 1, or makes more room if it is 0. `reserve` and `despawn` raise it.
+    /// Nothing else changes it.
     pub fn spare(&self) -> usize
         ensures { result ≡ self.now.spare }
     {
@@ -202,8 +202,8 @@ impl Storage {
         Ok(())
     }
 
-    /// Sets each of the components, and leaves the entity's others as they are. If a component stands
-    /// twice among the items, its last value counts.
+    /// Sets each of the components, and leaves the entity's others as they are. If a component
+    /// stands twice among the items, its last value counts.
     ///
     /// It takes memory only for components that the entity does not have yet.
     ///

@@ -1,9 +1,11 @@
 -- What clap makes of the program's words: a subcommand, with a number in range for each option.
-use Rattle.std.proofs.Common.{◌≡◌, ◌∙◌, ◌^◌, ◌<◌, ◌≤◌, ℕ, Bool, true, false, List, [], ◌∷◌, cond, refl, sym, ap, subst, inl, inr, codes, Option, Some, None, is_some}
+use Rattle.std.proofs.Common.{◌≡◌, ◌∙◌, ◌^◌, ◌<◌, ◌≤◌, ℕ, Bool, true, false, List, [], ◌∷◌, cond}
+use Rattle.std.proofs.Common.{refl, sym, ap, subst, inl, inr, codes, Option, Some, None, is_some}
 use Rattle.std.specs.Prelude.{Box, Result, Ok, Err, IfErr, IsErrAnd, pos, option_map}
 use Rattle.std.specs.Option.{option_map_or}
 use Rattle.std.specs.List.{AllByRecursion, slice_index_or}
-use Rattle.clap.specs.Words.{HasMatchesOf, kind_of, app_of, is_simple, Row, Rule, Shape, Text, built, fault_of, is_simple_and_free, subcommand_of}
+use Rattle.clap.specs.Words.{HasMatchesOf, kind_of, app_of, is_simple, Row, Rule, Shape, Text}
+use Rattle.clap.specs.Words.{built, fault_of, is_simple_and_free, subcommand_of}
 use Rattle.clap.specs.Matches.{ReadsOne, one_text, subcommand_name_of}
 use Rattle.clap.specs.Words.{without_minus, rows_of, subcommand_rows, subcommand_rows_of}
 use Rattle.clap.specs.declared.error.Error.{Error}
@@ -17,7 +19,8 @@ use Rattle.clap.specs.declared.parser.matches.SubCommand.{SubCommand}
 use Rattle.clap.specs.declared.parser.matches.Found.{Found}
 use Rattle.std.specs.declared.num.ParseIntError.{ParseIntError}
 use Rattle.std.specs.Box.{box_value}
-use Rattle.std.specs.Str.Parse.{ExplainsUnsignedError, HasUnsignedDigitsIfOk, ParsesUnsigned, digits_value, without_leading_plus}
+use Rattle.std.specs.Str.Parse.{ExplainsUnsignedError, HasUnsignedDigitsIfOk, ParsesUnsigned}
+use Rattle.std.specs.Str.Parse.{digits_value, without_leading_plus}
 use Rattle.clap.proofs.CallerReads.{signed_reads}
 use Rattle.clap.proofs.WalkLemmas.{one_text-rows}
 use Rattle.clap.specs.Kinds.{HasKind, IsAmong}
@@ -27,8 +30,10 @@ use Rattle.clap.specs.Faults.{check_fault, entered_fault, level_fault}
 use Rattle.clap.specs.declared.builder.value_parser.ValueParser.TheVariants.{Signed}
 use Rattle.clap.proofs.ValueTestLemmas.{accepts-Accepts}
 use Rattle.clap.proofs.OnLiterals.{clap_on_literals}
-use Rattle.spawnrun_lib.specs.CommandLine.{IsFaultIn, IsFaultOf, HasNumber, number_of, number_option, generations_option, program, slots_option}
-use Rattle.spawnrun_lib.proofs.ParsedOptions.{none_of, Fits, HasValue, IsOption, IsRequest, option-has_value}
+use Rattle.spawnrun_lib.specs.CommandLine.{IsFaultIn, IsFaultOf, HasNumber, number_of}
+use Rattle.spawnrun_lib.specs.CommandLine.{number_option, generations_option, program, slots_option}
+use Rattle.spawnrun_lib.proofs.ParsedOptions.{none_of, Fits, HasValue, IsOption, IsRequest}
+use Rattle.spawnrun_lib.proofs.ParsedOptions.{option-has_value}
 
 -- the options as building leaves them
 abbrev slots_rule : Rule

@@ -1,5 +1,7 @@
 -- Where clap's parse of a command of options doesn't fail, each option has one value, which it accepts.
-use Rattle.std.proofs.Common.{◌≡◌, ◌∙◌, ◌⊎◌, ◌==◌, ◌&&◌, ◌||◌, ℕ, Bool, true, false, List, [], ◌∷◌, ◌++◌, length, cond, zero, suc, refl, sym, ap, subst, inl, inr, ⊎_elim, arith, append-nil, Option, Some, None, IfSome, is_some}
+use Rattle.std.proofs.Common.{◌≡◌, ◌∙◌, ◌⊎◌, ◌==◌, ◌&&◌, ◌||◌, ℕ, Bool, true, false, List, [], ◌∷◌}
+use Rattle.std.proofs.Common.{◌++◌, length, cond, zero, suc, refl, sym, ap, subst, inl, inr, ⊎_elim}
+use Rattle.std.proofs.Common.{arith, append-nil, Option, Some, None, IfSome, is_some}
 use Rattle.std.specs.Prelude.{encode_utf8, slice_get, drop, fold, find, option_and_then, option_map}
 use Rattle.std.specs.List.{AllByRecursion}
 use Rattle.std.specs.Option.{option_map_or}
@@ -11,12 +13,26 @@ use Rattle.clap.specs.Kinds.{Kinds, or_else, range_kinds}
 use Rattle.clap.specs.Values.{is_request}
 use Rattle.clap.specs.Takes.{value_passes}
 use Rattle.clap.specs.Lexer.{long_of, short_of}
-use Rattle.clap.specs.Walk.{nothing_held, row_text, next, trailing, subcommand, value, attached_value, bundle, long_or_other, short_or_plain, idle, positional, option, done, waits, plain, refused, Held, Outcome, Step, Waiting, Walk, action_of, after_flag, after_step, arg_by_id, arg_by_long, arg_by_short, at_row, bundle_met, bundle_step, default_rows, flag_met, has_row, long_met, more_values, option_met, option_word, plain_word, reacted, reading_by, rows_after, settled, settled_rows, short_met, subcommand_met, subcommand_or_other, takes_values, to_positional, used, used_as, used_by_id, values_or_missing, walk, walk_from, walked, walked_from, with_default, with_values, without, word_met}
-use Rattle.clap.specs.Faults.{action_fault, step_fault, set_fault, bundle_fault, bundle_step_fault, flag_word_fault, flags_fault, level_fault, long_fault, option_fault, react_fault, settle_fault, short_fault, turn_fault, use_fault, walk_fault, word_fault}
+use Rattle.clap.specs.Walk.{nothing_held, row_text, next, trailing, subcommand, value}
+use Rattle.clap.specs.Walk.{attached_value, bundle, long_or_other, short_or_plain, idle, positional}
+use Rattle.clap.specs.Walk.{option, done, waits, plain, refused, Held, Outcome, Step, Waiting, Walk}
+use Rattle.clap.specs.Walk.{action_of, after_flag, after_step, arg_by_id, arg_by_long, arg_by_short}
+use Rattle.clap.specs.Walk.{at_row, bundle_met, bundle_step, default_rows, flag_met, has_row}
+use Rattle.clap.specs.Walk.{long_met, more_values, option_met, option_word, plain_word, reacted}
+use Rattle.clap.specs.Walk.{reading_by, rows_after, settled, settled_rows, short_met}
+use Rattle.clap.specs.Walk.{subcommand_met, subcommand_or_other, takes_values, to_positional, used}
+use Rattle.clap.specs.Walk.{used_as, used_by_id, values_or_missing, walk, walk_from, walked}
+use Rattle.clap.specs.Walk.{walked_from, with_default, with_values, without, word_met}
+use Rattle.clap.specs.Faults.{action_fault, step_fault, set_fault, bundle_fault, bundle_step_fault}
+use Rattle.clap.specs.Faults.{flag_word_fault, flags_fault, level_fault, long_fault, option_fault}
+use Rattle.clap.specs.Faults.{react_fault, settle_fault, short_fault, turn_fault, use_fault}
+use Rattle.clap.specs.Faults.{walk_fault, word_fault}
 use Rattle.clap.specs.declared.builder.ArgAction.{ArgAction}
-use Rattle.clap.specs.declared.builder.ArgAction.TheVariants.{Set, Append, SetTrue, SetFalse, Count, Help, HelpShort, HelpLong, Version}
+use Rattle.clap.specs.declared.builder.ArgAction.TheVariants.{Set, Append, SetTrue, SetFalse, Count}
+use Rattle.clap.specs.declared.builder.ArgAction.TheVariants.{Help, HelpShort, HelpLong, Version}
 use Rattle.clap.specs.declared.error.ErrorKind.{ErrorKind}
-use Rattle.clap.specs.declared.error.ErrorKind.TheVariants.{ArgumentConflict, InvalidValue, TooManyValues, WrongNumberOfValues}
+use Rattle.clap.specs.declared.error.ErrorKind.TheVariants.{ArgumentConflict, InvalidValue}
+use Rattle.clap.specs.declared.error.ErrorKind.TheVariants.{TooManyValues, WrongNumberOfValues}
 use Rattle.clap.specs.declared.parser.matches.ValueSource.{ValueSource}
 use Rattle.clap.specs.declared.parser.matches.ValueSource.TheVariants.{CommandLine, DefaultValue}
 

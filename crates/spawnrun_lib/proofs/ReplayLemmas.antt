@@ -1,5 +1,6 @@
 -- The text that is written of an input.
-use Rattle.std.proofs.Common.{◌≡◌, ◌≢◌, ◌∙◌, List, ℕ, Option, Some, None, length, ◌<◌, sym, subst, refl, IfSome, IfOk, OnErr}
+use Rattle.std.proofs.Common.{◌≡◌, ◌≢◌, ◌∙◌, List, ℕ, Option, Some, None, length, ◌<◌, sym, subst}
+use Rattle.std.proofs.Common.{refl, IfSome, IfOk, OnErr}
 use Rattle.std.specs.Prelude.{Result, Ok, Err}
 use Rattle.spawnrun_lib.specs.Replay.{HasWritten, Reports}
 use Rattle.spawnrun_lib.specs.declared.status.Status.{Status}

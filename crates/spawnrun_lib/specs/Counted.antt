@@ -2,7 +2,7 @@
 use Rattle.std.specs.Prelude.{ℕ}
 use Rattle.spawnrun_lib.specs.declared.device.counted.Counted.{Counted}
 
--- the reader or writer behind the adapter
+-- the reader or writer that the adapter counts for
 abbrev pub device_of : {T : Type 0} → Counted T → T
 device_of counted = counted.device
 

@@ -1,5 +1,6 @@
 -- What devices tell of their bytes and failures, beside the words of std's readers and writers.
-use Rattle.std.specs.Prelude.{◌≡◌, ℕ, ◌+◌, ◌-◌, ◌^◌, ◌≤◌, ◌⊎◌, ◌==◌, if◌then◌else◌, List, length, Option, None, IfSome}
+use Rattle.std.specs.Prelude.{◌≡◌, ℕ, ◌+◌, ◌-◌, ◌^◌, ◌≤◌, ◌⊎◌, ◌==◌, if◌then◌else◌, List, length}
+use Rattle.std.specs.Prelude.{Option, None, IfSome}
 use Rattle.std.specs.Io.KnownBytes.{Consumes}
 
 -- the bytes that a device tells before and after a failed call are the same

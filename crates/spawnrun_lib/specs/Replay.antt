@@ -1,5 +1,6 @@
 -- What the run of an input writes, and how it ends.
-use Rattle.std.specs.Prelude.{◌≡◌, ℕ, ◌<◌, ◌≤◌, List, ◌++◌, length, codes, Option, IfSome, Result, Ok, Err}
+use Rattle.std.specs.Prelude.{◌≡◌, ℕ, ◌<◌, ◌≤◌, List, ◌++◌, length, codes, Option, IfSome, Result}
+use Rattle.std.specs.Prelude.{Ok, Err}
 use Rattle.std.specs.Io.KnownBytes.{Appends}
 use Rattle.std.specs.Fmt.{decimal}
 use Rattle.std.specs.List.{flat_map}
@@ -41,9 +42,12 @@ pub data Reports (limits : Limits) (input : List ℕ) : Status → List ℕ → 
   is_too_long : input_limit < length input → Reports limits input Refused size_line
   -- the input spells no schedule
   spells_none : (line : ℕ) (cause : Cause) → length input ≤ input_limit
-      → schedule_of input ≡ Err (Line line cause) → Reports limits input Refused (refused_line line cause)
+      → schedule_of input ≡ Err (Line line cause)
+      → Reports limits input Refused (refused_line line cause)
 
--- a run that ends so has written what it reports of the input, where the devices tell
-abbrev pub HasWritten : Limits → Status → Option (List ℕ) → Option (List ℕ) → Option (List ℕ) → Type 0
+-- a run that ends so has written what it reports of the input, if the devices tell
+abbrev pub HasWritten : Limits → Status
+    → Option (List ℕ) → Option (List ℕ) → Option (List ℕ) → Type 0
 HasWritten limits status input old new =
-    IfSome input (λ bytes. (text : List ℕ) × Reports limits bytes status text × Appends old new text)
+    IfSome input (λ bytes.
+    (text : List ℕ) × Reports limits bytes status text × Appends old new text)

@@ -1,5 +1,6 @@
 //! The whole input of a program, within a limit.
-ghost use Rattle.std.specs.Prelude.{◌≡◌, ◌≢◌, ◌+◌, ◌<◌, ◌≤◌, length, vec_len, Err, IfOk, OnOk, IfSome};
+ghost use Rattle.std.specs.Prelude.{◌≡◌, ◌≢◌, ◌+◌, ◌<◌, ◌≤◌, length, vec_len, Err, IfOk, OnOk};
+ghost use Rattle.std.specs.Prelude.{IfSome};
 ghost use Rattle.std.specs.Io.KnownBytes.{Consumes, IsAtEnd};
 ghost use Rattle.spawnrun_lib.specs.Device.{Takes, TakesAtMost};
 ghost use Rattle.spawnrun_lib.specs.declared.input.InputFault.TheVariants.{TooLong, Memory, Device};
@@ -46,8 +47,8 @@ impl From<AllocError> for InputFault {
 ///
 /// What was read before the error is dropped.
 ///
-/// - `TooLong` as soon as more than `limit` bytes have come. Just one byte more than the limit is taken,
-///   so this returns for a source without end too.
+/// - `TooLong` as soon as more than `limit` bytes have come. Just one byte more than the limit is
+///   taken, so this returns for a source without end too.
 /// - `Memory` if there was no memory for the bytes.
 /// - `Device` if the source failed.
 pub fn read_all<S: Source>(

@@ -1,7 +1,8 @@
-//! The program `spawnrun` but for its `main`: devices, the whole input, the command line, and the run of a schedule.
+//! The program `spawnrun` but for its `main`: devices, the whole input, the command line, and the
+//! run of a schedule.
 //!
-//! `main` hands its arguments and the standard streams to `execute`. All that it does from then on has a contract,
-//! over any devices, so that tests can put devices in memory in their place.
+//! `main` hands its arguments and the standard streams to `execute`. All that it does from then on
+//! has a contract, over any devices, so that tests can put devices in memory in their place.
 #![tactic(auto)]
 
 mod device;

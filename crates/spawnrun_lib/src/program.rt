@@ -1,5 +1,7 @@
-//! The program: what its words ask for, done between two devices, and what it says on the error stream.
-ghost use Rattle.std.specs.Prelude.{◌≡◌, ◌≢◌, ◌≤◌, ◌+◌, ◌⊎◌, min, map, length, codes, true, OnErr, IfSome};
+//! The program: what its words ask for, done between two devices, and what it says on the error
+//! stream.
+ghost use Rattle.std.specs.Prelude.{◌≡◌, ◌≢◌, ◌≤◌, ◌+◌, ◌⊎◌, min, map, length, codes, true, OnErr};
+ghost use Rattle.std.specs.Prelude.{IfSome};
 ghost use Rattle.std.specs.IoError.{error_kind};
 ghost use Rattle.std.specs.Io.KnownBytes.{Appends};
 ghost use Rattle.clap.specs.Words.{takes};
@@ -42,9 +44,11 @@ pub fn execute<S: AsStr, I: Source, O: Sink, E: Sink>(
     ensures statuses { result ≤ 4 }
 
     // A replay was done, or its input refused.
-    ensures done { result ≡ 0 → AsksToReplay (map S.text words.now) (λ limits. HasWritten limits Status.Done
+    ensures done { result ≡ 0 → AsksToReplay (map S.text words.now) (λ limits.
+        HasWritten limits Status.Done
         (I.remaining input.old) (O.written output.old) (O.written output.new)) }
-    ensures refused { result ≡ 1 → AsksToReplay (map S.text words.now) (λ limits. HasWritten limits Status.Refused
+    ensures refused { result ≡ 1 → AsksToReplay (map S.text words.now) (λ limits.
+        HasWritten limits Status.Refused
         (I.remaining input.old) (O.written output.old) (O.written output.new)) }
 
     // The words are faulty, exactly then without want of memory.
@@ -55,7 +59,8 @@ pub fn execute<S: AsStr, I: Source, O: Sink, E: Sink>(
 
     ensures memory { result ≡ 3 → output.new ≡ output.old }
     ensures device { result ≡ 4 → OneFails
-        (I.failures input.old) (I.failures input.new) (O.failures output.old) (O.failures output.new) }
+        (I.failures input.old) (I.failures input.new)
+        (O.failures output.old) (O.failures output.new) }
     ensures input_unfailed { result ≢ 4 → I.failures input.new ≡ I.failures input.old }
     ensures output_unfailed { result ≢ 4 → O.failures output.new ≡ O.failures output.old }
     ensures unread { I.failures input.new ≢ I.failures input.old → output.new ≡ output.old }
@@ -63,7 +68,8 @@ pub fn execute<S: AsStr, I: Source, O: Sink, E: Sink>(
     // How much of the input is taken.
     ensures reads { I.failures input.new ≡ I.failures input.old → result ≢ 2 → result ≢ 3
         → IfSome (I.remaining input.old) (λ all.
-        Takes (I.remaining input.old) (I.remaining input.new) (min (length all) (input_limit + 1))) }
+        Takes (I.remaining input.old) (I.remaining input.new)
+        (min (length all) (input_limit + 1))) }
     ensures stops { I.failures input.new ≡ I.failures input.old
         → TakesAtMost (I.remaining input.old) (I.remaining input.new) (input_limit + 1) }
 
@@ -92,8 +98,8 @@ pub fn execute<S: AsStr, I: Source, O: Sink, E: Sink>(
     }
 }
 
-/// Ends the program if its words can't be read, and answers the exit status: 3 if memory ran out, 2 if a
-/// word is no UTF-8, else 4. It says on the error stream what `execute` says then.
+/// Ends the program if its words can't be read, and answers the exit status: 3 if memory ran out, 2
+/// if a word is no UTF-8, else 4. It says on the error stream what `execute` says then.
 pub fn refuse_words<E: Sink>(error: &io::Error, errors: &mut E) -> u8
     ensures status { result ≡ words_status (error_kind error.now) }
     ensures memory_said { result ≡ 3 → E.failures errors.new ≡ E.failures errors.old

@@ -4,7 +4,8 @@ ghost use Rattle.std.specs.Prelude.{Err, IfOk, IfSome, OnErr, OnOk};
 ghost use Rattle.std.specs.Io.KnownBytes.{Appends};
 ghost use Rattle.ent_replay.specs.Schedule.{outcomes_of, starting};
 ghost use Rattle.spawnrun_lib.specs.Device.{Takes, TakesAtMost, OneFails};
-ghost use Rattle.spawnrun_lib.specs.Replay.{HasWritten, input_limit, outcome_lines, refused_line, size_line};
+ghost use Rattle.spawnrun_lib.specs.Replay.{HasWritten, input_limit, outcome_lines, refused_line};
+ghost use Rattle.spawnrun_lib.specs.Replay.{size_line};
 
 use crate::device::{Failed, Sink, Source};
 use crate::input::{INPUT_LIMIT, InputFault, read_all};
@@ -16,15 +17,15 @@ use ent_replay::{
 };
 use std::alloc::Global;
 
-/// Runs the schedule that the input spells over an empty allocator of these limits, and writes a line for
-/// each event.
+/// Runs the schedule that the input spells over an empty allocator of these limits, and writes a
+/// line for each event.
 ///
-/// No event is applied before the whole input is read, and nothing is written before all of the output is
-/// made. An input of more than 67,108,864 bytes is refused by one line, and so is one that is no schedule.
-/// Of a longer input just one byte more than the limit is taken.
+/// No event is applied before the whole input is read, and nothing is written before all of the
+/// output is made. An input of more than 67,108,864 bytes is refused by one line, and so is one
+/// that is no schedule. Of a longer input just one byte more than the limit is taken.
 ///
-/// After `Memory`, or a failure of the input, the output is as it was. `Device` is one failed call of one
-/// of the two devices.
+/// After `Memory`, or a failure of the input, the output is as it was. `Device` is one failed call
+/// of one of the two devices.
 pub fn replay<I: Source, O: Sink>(
     alloc: Global,
     input: &mut I,
@@ -39,15 +40,18 @@ pub fn replay<I: Source, O: Sink>(
 
     // The failures of the two devices.
     ensures device { result ≡ Status.Device → OneFails
-        (I.failures input.old) (I.failures input.new) (O.failures output.old) (O.failures output.new) }
+        (I.failures input.old) (I.failures input.new)
+        (O.failures output.old) (O.failures output.new) }
     ensures input_unfailed { result ≢ Status.Device → I.failures input.new ≡ I.failures input.old }
-    ensures output_unfailed { result ≢ Status.Device → O.failures output.new ≡ O.failures output.old }
+    ensures output_unfailed { result ≢ Status.Device
+        → O.failures output.new ≡ O.failures output.old }
     ensures unread { I.failures input.new ≢ I.failures input.old → output.new ≡ output.old }
 
     // What is taken of an input that didn't fail: all of it, or one byte more than the limit.
     ensures reads { I.failures input.new ≡ I.failures input.old → result ≢ Status.Memory
         → IfSome (I.remaining input.old) (λ all.
-        Takes (I.remaining input.old) (I.remaining input.new) (min (length all) (input_limit + 1))) }
+        Takes (I.remaining input.old) (I.remaining input.new)
+        (min (length all) (input_limit + 1))) }
     ensures stops { I.failures input.new ≡ I.failures input.old
         → TakesAtMost (I.remaining input.old) (I.remaining input.new) (input_limit + 1) }
 {

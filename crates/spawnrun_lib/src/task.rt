@@ -22,7 +22,8 @@ pub enum Task {
 /// Why words ask for no task.
 #[derive(Debug, Drop)]
 pub enum LineFault {
-    /// They are no command line of the program, or they ask for help. The error's `Display` is the text to show.
+    /// They are no command line of the program, or they ask for help. The error's `Display` is the
+    /// text to show.
     Line(clap::Error),
     /// Memory ran out while they were read.
     Memory,
@@ -112,7 +113,8 @@ fn limits_of(options: &ArgMatches<'_>) -> Limits
     requires slots { HasNumber (codes "slots") 4294967295 (given options.now) }
     requires generations { HasNumber (codes "generations") 2147483647 (given options.now) }
     ensures slots { number_of (codes "slots") (given options.now) ≡ Some result.slots }
-    ensures generations { number_of (codes "generations") (given options.now) ≡ Some result.generations }
+    ensures generations { number_of (codes "generations") (given options.now)
+        ≡ Some result.generations }
     ensures within { AreLimits result }
 {
     let slots = options.get_one::<u32>("slots").unwrap();

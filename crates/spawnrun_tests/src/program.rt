@@ -12,6 +12,16 @@ struct Ending<'a> {
     errors: &'a str,
 }
 
+const HELP: Ending<'static> = Ending {
+    status: 2,
+    output: "",
+    errors: "Runs the schedule of allocator events on standard input\n\n\
+             Usage: spawnrun replay [OPTIONS]\n\nOptions:\n      \
+             --slots <N>        How many slots may be made [default: 4294967295]\n      \
+             --generations <N>  The last generation of a slot [default: 2147483647]\n  \
+             -h, --help             Print help\n",
+};
+
 // Runs the program on these words and this input, and compares how it ends. Its output fails after `puts`
 // calls that succeed.
 fn ends(rt: &(impl Abort + AllocGlobal), words: &[&str], input: &str, puts: u64, ending: Ending) {
@@ -70,16 +80,7 @@ fn faulty_words_use_no_device(rt: HostRuntime) {
                  For more information, try '--help'.\n",
     };
     ends(&rt, &[], "alloc\n", 0, none);
-    let help = Ending {
-        status: 2,
-        output: "",
-        errors: "Runs the schedule of allocator events on standard input\n\n\
-                 Usage: spawnrun replay [OPTIONS]\n\nOptions:\n      \
-                 --slots <N>        How many slots may be made [default: 4294967295]\n      \
-                 --generations <N>  The last generation of a slot [default: 2147483647]\n  \
-                 -h, --help             Print help\n",
-    };
-    ends(&rt, &["replay", "--help"], "alloc\n", 0, help);
+    ends(&rt, &["replay", "--help"], "alloc\n", 0, HELP);
 }
 
 #[test]
@@ -98,4 +99,24 @@ fn words_that_cannot_be_read(rt: HostRuntime) {
         assert_eq!(rt; refuse_words(&io::Error::from(kind), &mut errors), status);
         assert_eq!(rt; errors.bytes.as_slice(), text.as_bytes());
     }
+}
+
+/// Passes whichever single allocation is refused: what asks for help gets all of its text, or hears of the memory.
+#[test]
+fn refused_memory_is_told_in_place_of_help(rt: HostRuntime) {
+    let mut source = MemorySource::new(b"alloc\n", 7, NEVER);
+    let mut sink = MemorySink::new(rt.alloc(), NEVER);
+    let mut errors = MemorySink::new(rt.alloc(), NEVER);
+    // With this room the devices take no memory.
+    if errors.bytes.reserve(1_000).is_err() {
+        return;
+    }
+    let words = ["replay", "--help"];
+    let status = execute(rt.alloc(), &words, &mut source, &mut sink, &mut errors);
+    let said = errors.bytes.as_slice();
+    assert!(rt;
+        (status, said) == (HELP.status, HELP.errors.as_bytes())
+            || (status, said) == (3, b"memory\n")
+    );
+    assert!(rt; sink.bytes.is_empty());
 }

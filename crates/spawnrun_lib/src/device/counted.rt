@@ -11,9 +11,9 @@ use std::io::{ErrorKind, Read, Write};
 
 /// An `io::Read` or an `io::Write` as a device that counts its failures.
 ///
-/// A call that a signal interrupts is made again, and is no failure. The count is exact, so a device
-/// that has failed 2^64 - 1 times is no longer called: the source is at its end, the sink drops what it
-/// is given, and neither tells its bytes. No program runs long enough to see this.
+/// A call that a signal interrupts is made again, and is no failure. The count is exact, so a
+/// device that has failed 2^64 - 1 times is no longer called: the source is at its end, the sink
+/// drops what it is given, and neither tells its bytes. No program runs long enough to see this.
 #[derive(Drop)]
 pub struct Counted<T> {
     device: T,

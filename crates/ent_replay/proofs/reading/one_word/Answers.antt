@@ -1,8 +1,8 @@
 use Rattle.std.proofs.Common.{rules}
-use Rattle.ent_replay.proofs.ScheduleWords.{one_behind}
+use Rattle.ent_replay.proofs.ScheduleWords.{one_after}
 use Rattle.ent_replay.proofs.reading.one_word.Goals as goal
 
 pub returns-in_default-Some : goal.returns-in_default-Some
 returns-in_default-Some c =
-    let e = one_behind c.first_word.result.0.now c.in_default-Some.field-0-1.now in
+    let e = one_after c.first_word.result.0.now c.in_default-Some.field-0-1.now in
     search (rules, e)

@@ -2,7 +2,8 @@ use Rattle.std.proofs.Common.{rules, ◌≡◌, arith, subst, ◌∙◌, to_z, o
 use Rattle.std.proofs.lemmas.Int.{ints}
 use Rattle.ent_alloc.specs.Sequential.{cursor}
 use Rattle.ent_shared.specs.Phase.{own_of}
-use Rattle.ent_shared.proofs.Sharing.{AreShared, none_shared, next_seated, shared_more, all_shared, all_unused, all_own}
+use Rattle.ent_shared.proofs.Sharing.{AreShared, none_shared, next_seated, shared_more, all_shared}
+use Rattle.ent_shared.proofs.Sharing.{all_unused, all_own}
 use Rattle.ent_shared.proofs.phase.share.Goals as goal
 
 pub loop-number-init : goal.loop-number-init

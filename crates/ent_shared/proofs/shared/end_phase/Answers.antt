@@ -3,7 +3,8 @@ use Rattle.std.proofs.lemmas.Int.{ints, to_z-of_z}
 use Rattle.ent_shared.specs.declared.record.Record.{Record}
 use Rattle.ent_shared.specs.Phase.{Reserver, own_of, records_of}
 use Rattle.ent_shared.specs.Rule.{IsClosed, least_floor}
-use Rattle.ent_shared.proofs.Merging.{item_is, items_on, items_all, records_on, floor_on, nothing_left}
+use Rattle.ent_shared.proofs.Merging.{item_is, items_on, items_all, records_on, floor_on}
+use Rattle.ent_shared.proofs.Merging.{nothing_left}
 use Rattle.ent_shared.proofs.shared.end_phase.Goals as goal
 
 pub merge-requires-clause-word : goal.merge-requires-clause-word

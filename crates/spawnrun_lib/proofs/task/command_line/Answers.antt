@@ -3,7 +3,8 @@ use Rattle.std.proofs.lemmas.Bool.{false≢true}
 use Rattle.std.specs.Prelude.{option_map}
 use Rattle.clap.specs.Words.{HasKind, fault_of, is_simple_and_free, rows_of, found_of, takes}
 use Rattle.spawnrun_lib.specs.CommandLine.{HasNumber, program}
-use Rattle.spawnrun_lib.proofs.CommandLineLemmas.{MeetsReplay-parse, found_fault, only_memory, program-simple_and_free}
+use Rattle.spawnrun_lib.proofs.CommandLineLemmas.{MeetsReplay-parse, found_fault, only_memory}
+use Rattle.spawnrun_lib.proofs.CommandLineLemmas.{program-simple_and_free}
 use Rattle.spawnrun_lib.proofs.task.command_line.Goals as goal
 
 pub returns-in_err-matches-clause-refused : goal.returns-in_err-matches-clause-refused

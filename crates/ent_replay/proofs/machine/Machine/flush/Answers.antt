@@ -1,4 +1,5 @@
-use Rattle.std.proofs.Common.{◌≡◌, ◌<◌, ℕ, Bool, refl, sym, ap, subst, ◌∙◌, Ok, Err, List, [], ◌∷◌, ◌++◌, length, vec_len, inl, inr, arith}
+use Rattle.std.proofs.Common.{◌≡◌, ◌<◌, ℕ, Bool, refl, sym, ap, subst, ◌∙◌, Ok, Err, List, [], ◌∷◌}
+use Rattle.std.proofs.Common.{◌++◌, length, vec_len, inl, inr, arith}
 use Rattle.std.specs.List.{filter}
 use Rattle.std.specs.FinMap as finite
 use Rattle.ent_handle.specs.Handle.{Handle}
@@ -8,7 +9,8 @@ use Rattle.ent_replay.specs.Machine.{machine_state, AreConsistent}
 use Rattle.ent_replay.specs.declared.outcome.Outcome.TheVariants as outcome
 use Rattle.ent_replay.specs.declared.fault.ReplayFault.TheVariants as fault
 use Rattle.ent_replay.proofs.Maps.{no_test}
-use Rattle.ent_replay.proofs.MachineEvents.{done, refused, on_ok, on_err, busy-flush, flush-flushed, flush-takes_memory, flush-consistent}
+use Rattle.ent_replay.proofs.MachineEvents.{done, refused, on_ok, on_err, busy-flush, flush-flushed}
+use Rattle.ent_replay.proofs.MachineEvents.{flush-takes_memory, flush-consistent}
 use Rattle.ent_replay.proofs.machine.Machine.flush.Goals as goal
 
 pub returns-then-not-is_empty : goal.returns-then-not-is_empty

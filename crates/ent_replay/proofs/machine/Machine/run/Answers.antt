@@ -1,4 +1,5 @@
-use Rattle.std.proofs.Common.{ℕ, ◌≤◌, List, Result, ◌≡◌, ◌≢◌, ◌+◌, ◌++◌, ◌∷◌, [], sym, ap, subst, ◌∙◌, Err, length, take, arith}
+use Rattle.std.proofs.Common.{ℕ, ◌≤◌, List, Result, ◌≡◌, ◌≢◌, ◌+◌, ◌++◌, ◌∷◌, [], sym, ap, subst}
+use Rattle.std.proofs.Common.{◌∙◌, Err, length, take, arith}
 use Rattle.std.proofs.lemmas.List.{take_more, take_all}
 use Rattle.ent_replay.specs.declared.outcome.Outcome.{Outcome}
 use Rattle.ent_replay.specs.declared.fault.ReplayFault.{ReplayFault}
@@ -7,7 +8,8 @@ use Rattle.ent_replay.specs.Histories.{new_phase, StandInHistory, NoneWrapped, A
 use Rattle.ent_replay.proofs.Linear.{linear}
 use Rattle.ent_replay.proofs.Giving.{given_once}
 use Rattle.ent_replay.specs.declared.event.Event.{Event}
-use Rattle.ent_replay.specs.Schedule.{MachineState, outcome_of, after_event, outcomes_of, after_events}
+use Rattle.ent_replay.specs.Schedule.{MachineState, outcome_of, after_event, outcomes_of}
+use Rattle.ent_replay.specs.Schedule.{after_events}
 use Rattle.ent_replay.specs.declared.fault.ReplayFault.TheVariants as fault
 use Rattle.ent_replay.proofs.Maps.{no_test}
 use Rattle.ent_replay.proofs.Schedules.{after_events-append, outcomes_of-append}

@@ -1,4 +1,5 @@
-use Rattle.std.proofs.Common.{◌≡◌, pos, ◌-ℤ◌, refl, sym, ap, subst, ◌∙◌, Ok, Err, Some, arith, to_z, of_z, w64}
+use Rattle.std.proofs.Common.{◌≡◌, pos, ◌-ℤ◌, refl, sym, ap, subst, ◌∙◌, Ok, Err, Some, arith, to_z}
+use Rattle.std.proofs.Common.{of_z, w64}
 use Rattle.std.specs.FinMap as finite
 use Rattle.std.proofs.lemmas.Int.{ints}
 use Rattle.ent_alloc.specs.Sequential.{cursor, after_take}
@@ -7,7 +8,8 @@ use Rattle.ent_replay.specs.Schedule.{on_step}
 use Rattle.ent_replay.specs.Machine.{machine_state, unasked, AreConsistent}
 use Rattle.ent_replay.specs.declared.outcome.Outcome.TheVariants as outcome
 use Rattle.ent_replay.specs.declared.fault.ReplayFault.TheVariants as fault
-use Rattle.ent_replay.proofs.MachineEvents.{done, some_of, none_of, awaited-bound, step-not_open, step-stepped, step-taken, step-consistent}
+use Rattle.ent_replay.proofs.MachineEvents.{done, some_of, none_of, awaited-bound, step-not_open}
+use Rattle.ent_replay.proofs.MachineEvents.{step-stepped, step-taken, step-consistent}
 use Rattle.ent_replay.proofs.machine.Machine.take.Goals as goal
 
 pub returns-in_default : goal.returns-in_default

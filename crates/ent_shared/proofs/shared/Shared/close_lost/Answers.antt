@@ -1,4 +1,5 @@
-use Rattle.std.proofs.Common.{◌≡◌, ℕ, ◌+◌, ◌*◌, ◌≤◌, ◌≤ℤ◌, ap, ◌∙◌, to_z, of_z, w64, All, Contains, subst, sym}
+use Rattle.std.proofs.Common.{◌≡◌, ℕ, ◌+◌, ◌*◌, ◌≤◌, ◌≤ℤ◌, ap, ◌∙◌, to_z, of_z, w64, All, Contains}
+use Rattle.std.proofs.Common.{subst, sym}
 use Rattle.std.specs.List.{sum_by}
 use Rattle.ent_alloc.specs.Limits.{credit}
 use Rattle.ent_alloc.specs.Sequential.{Allocator, cursor}
