@@ -51,7 +51,7 @@ fn lines_by_step(alloc: Global, limits: Limits, schedule: &[u8]) -> Result<Vec<u
 
 // The generation limit, a schedule over 3 slots, and its lines. Each outcome and fault stands here once at least,
 // but for `Quota`: it takes hundreds of calls, and the tests of the program have it.
-const SCHEDULES: [(u32, &[u8], &[u8]); 4] = [
+const SCHEDULES: [(u32, &[u8], &[u8]); 6] = [
     // It begins with the events of a call that was never begun.
     (
         9,
@@ -76,6 +76,14 @@ const SCHEDULES: [(u32, &[u8], &[u8]); 4] = [
         b"alloc\nfree 0v1\nalloc\nfree 0v1\nbegin 1 1\nstep 1\nanswer 1\nflush\n",
         b"0v1\nfreed 0v1 next 0v1 wrapped\n0v1\nfreed 0v1 next 0v1 wrapped\nopen\ncursor 0\n0v1\nborn 0v1\n",
     ),
+    // The first caller and the last one; their answers come in another order than their steps.
+    (
+        9,
+        b"begin 0 1\nbegin 1023 1\nstep 1023\nfree 0v1\nstep 0\nanswer 0\nanswer 1023\nflush\n",
+        b"open\nopen\ncursor -1\nbusy\ncursor -2\n1v1\n0v1\nborn 0v1 1v1\n",
+    ),
+    // A call may stay open at the end.
+    (9, b"begin 1 1\nstep 1\n", b"open\ncursor -1\n"),
 ];
 
 #[test]
