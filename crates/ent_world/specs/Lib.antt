@@ -1,3 +1,4 @@
 pub mod World
 pub mod Command
 pub mod Sync
+pub mod Entering

@@ -2,6 +2,9 @@
 //! of all systems take effect.
 #![tactic(auto)]
 
+mod births;
 mod fault;
+mod world;
 
 pub use fault::{Fault, FaultKind, SyncFault, SyncReport};
+pub use world::World;

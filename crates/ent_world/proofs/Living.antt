@@ -1,0 +1,40 @@
+-- The entities of a world's map are those whose handle is alive, also after each change of the two.
+use Rattle.std.proofs.Common.{◌≡◌, refl, sym, ap, ◌∙◌, Bool, true, false, cond, not, ◌&&◌, ◌||◌}
+use Rattle.std.proofs.Common.{Option, Some, None, is_some}
+use Rattle.std.specs.Ordering.{eq_by_cmp}
+use Rattle.std.specs.FinSet as set
+use Rattle.std.specs.FinMap as map
+use Rattle.ent_handle.specs.Handle.{Handle, handle_cmp, handle_cmp_total}
+use Rattle.ent_storage.specs.EntityMap.{Entity, EntityMap}
+
+-- who lives in a set of handles and who has an entity in a map
+abbrev pub AreKeys : set.FinSet handle_cmp → EntityMap → Type 0
+AreKeys live m = (h : Handle) → map.contains_key m h ≡ set.contains live h
+
+pub some_more : {X : Type 0} (b : Bool) (v : X) (o : Option X) → is_some (cond b (Some v) o) ≡ (b || is_some o)
+some_more true v o = refl
+some_more false v o = refl
+
+pub one_less : {X : Type 0} (b : Bool) (o : Option X) → is_some (cond b None o) ≡ (not b && is_some o)
+one_less true o = refl
+one_less false o = refl
+
+-- nobody
+pub keys-empty : AreKeys set.empty map.empty
+keys-empty h = ap is_some (map.get-empty handle_cmp h) ∙ sym (set.contains-empty handle_cmp h)
+
+-- one entity more
+pub keys-insert : (live : set.FinSet handle_cmp) (m : EntityMap) (h : Handle) (e : Entity) → AreKeys live m → AreKeys (set.insert live h) (map.insert m h e)
+keys-insert live m h e same g =
+    ap is_some (map.get-insert handle_cmp_total m h e g)
+    ∙ some_more (eq_by_cmp handle_cmp g h) e (map.get m g)
+    ∙ ap (λ b. eq_by_cmp handle_cmp g h || b) (same g)
+    ∙ sym (set.contains-insert handle_cmp_total live h g)
+
+-- one less
+pub keys-remove : (live : set.FinSet handle_cmp) (m : EntityMap) (h : Handle) → AreKeys live m → AreKeys (set.remove live h) (map.remove m h)
+keys-remove live m h same g =
+    ap is_some (map.get-remove handle_cmp_total m h g)
+    ∙ one_less (eq_by_cmp handle_cmp g h) (map.get m g)
+    ∙ ap (λ b. not (eq_by_cmp handle_cmp g h) && b) (same g)
+    ∙ sym (set.contains-remove handle_cmp_total live h g)

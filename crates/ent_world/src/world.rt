@@ -1,0 +1,186 @@
+ghost use Rattle.std.specs.Prelude.{◌≡◌, ◌<◌, ◌≤◌, ◌^◌, ◌↔◌, [], length};
+ghost use Rattle.std.specs.Prelude.{IsTrue, IfOk, OnOk, OnErr, IsErrOf, true, false};
+ghost use Rattle.std.specs.Option.{option_map};
+ghost use Rattle.std.specs.FinSet as set;
+ghost use Rattle.std.specs.FinMap as map;
+ghost use Rattle.ent_alloc.specs.Sequential.{born, next};
+ghost use Rattle.ent_storage.specs.EntityMap.{birth_of, components_of, value_of};
+ghost use Rattle.ent_storage.specs.BirthOrder.{ListsAll};
+ghost use Rattle.ent_world.specs.World.{first_world, AreLiving, lives_in};
+ghost use Rattle.ent_world.specs.Command.{after_despawn};
+ghost use Rattle.ent_world.specs.Sync.{after_births};
+
+use crate::births::{enter_listed, enter_others};
+use ent_alloc::{Entities, FreeFault, Freed, Limits};
+use ent_handle::{Birth, ComponentId, Handle, Memory};
+use ent_queue::CommandQueue;
+use ent_storage::{Items, Storage};
+use std::alloc::Global;
+use std::marker::Model;
+
+/// Who is alive, and what each entity is made of.
+///
+/// Contracts see it as the state of its allocator, the number of its phase, and a finite map from
+/// the handles of the living entities to their births and components (`specs/World`).
+#[derive(Drop)]
+pub struct World {
+    entities: Entities,
+    storage: Storage,
+    phase: u64,
+    alloc: Global,
+}
+
+impl Model for World {
+    ghost use Rattle.ent_world.specs.World.{World, world_code, AreLiving};
+
+    ghost Value = { World };
+
+    ghost coded = { world_code };
+
+    ghost view = { λ w. record {
+      allocator = w.entities;
+      phase = w.phase;
+      entities = w.storage.entities;
+    } };
+
+    ghost invariant = { λ w. AreLiving w.entities w.storage.entities };
+}
+
+impl World {
+    /// A world without entities. It takes no memory, whatever the limits are.
+    pub fn new(alloc: Global, limits: Limits) -> Self
+        ensures { result ≡ first_world limits }
+    {
+        World {
+            entities: Entities::new(alloc, limits),
+            storage: Storage::new(alloc),
+            phase: 0,
+            alloc,
+        }
+    }
+
+    /// How many entities are alive.
+    pub fn len(&self) -> usize
+        ensures value { result ≡ map.len self.now.entities }
+
+        // What is true of every world: its map has exactly those that are alive.
+        ensures living { AreLiving self.now.allocator self.now.entities }
+    {
+        self.storage.len()
+    }
+
+    /// Whether no entity is alive.
+    pub fn is_empty(&self) -> bool
+        ensures { IsTrue result ↔ (self.now.entities ≡ map.empty) }
+    {
+        self.storage.is_empty()
+    }
+
+    /// Whether the entity is alive.
+    pub fn contains(&self, handle: Handle) -> bool
+        ensures { result ≡ lives_in self.now handle }
+    {
+        self.storage.contains(handle)
+    }
+
+    /// The value of the entity's component, if the entity is alive and has it.
+    pub fn get(&self, handle: Handle, id: ComponentId) -> Option<i64>
+        ensures { result ≡ value_of self.now.entities handle id }
+    {
+        self.storage.get(handle, id)
+    }
+
+    /// When and by whom the entity was brought to life, if it is alive.
+    pub fn birth(&self, handle: Handle) -> Option<Birth>
+        ensures { result ≡ birth_of self.now.entities handle }
+    {
+        self.storage.birth(handle)
+    }
+
+    /// The entity's components and their values, by rising number, if it is alive.
+    pub fn items(&self, handle: Handle) -> Option<Items<'_>>
+        ensures { result ≡ option_map map.entries (components_of self.now.entities handle) }
+    {
+        self.storage.items(handle)
+    }
+
+    /// The handles of all entities, by birth and then by handle.
+    ///
+    /// # Errors
+    ///
+    /// `Memory`: there is no memory for the list.
+    pub fn by_birth(&self) -> Result<Vec<Handle>, Memory>
+        ensures { IfOk result (λ handles. ListsAll self.now.entities handles.items) }
+    {
+        self.storage.by_birth()
+    }
+
+    /// How often the world was flushed. It stays at 2^64 - 1.
+    pub fn phase(&self) -> u64
+        ensures { result ≡ self.now.phase }
+    {
+        self.phase
+    }
+
+    /// Whether any handle was requested since the last flush.
+    pub fn needs_flush(&self) -> bool
+        ensures { IsTrue result ↔ (0 < self.now.allocator.asked) }
+    {
+        self.entities.needs_flush()
+    }
+
+    /// Brings to life what is reserved. Each entity has the birth of its place among those that are
+    /// born, by no system, and no components.
+    ///
+    /// # Errors
+    ///
+    /// `Memory`, and then nothing has changed.
+    pub fn flush(&mut self) -> Result<(), Memory>
+        ensures ok { OnOk result (self.new ≡ after_births [] self.old) }
+        ensures err { OnErr result (self.new ≡ self.old) }
+    {
+        let _ = self.bring_to_life(&[])?;
+        Ok(())
+    }
+
+    /// Takes a living entity out, with all its components.
+    ///
+    /// # Errors
+    ///
+    /// Nothing changes. `NeedsFlush` if handles were requested since the last flush, even if the
+    /// request was refused; then `NotAlive`; then `Memory`.
+    pub fn despawn(&mut self, handle: Handle) -> Result<Freed, FreeFault>
+        ensures ok { OnOk result (self.new ≡ after_despawn handle self.old) }
+        ensures next { IfOk result (λ freed. freed.next ≡ next self.old.allocator.limits handle) }
+        ensures wrapped { IfOk result (λ freed. IsTrue freed.wrapped
+            ↔ (handle.generation ≡ self.old.allocator.limits.generations)) }
+        ensures lived { OnOk result (lives_in self.old handle ≡ true) }
+        ensures needs_flush { IsErrOf result FreeFault.NeedsFlush ↔ (0 < self.old.allocator.asked) }
+        ensures not_alive { IsErrOf result FreeFault.NotAlive
+            ↔ ((self.old.allocator.asked ≡ 0) × (lives_in self.old handle ≡ false)) }
+        ensures err { OnErr result (self.new ≡ self.old) }
+    {
+        let freed = self.entities.free(handle)?;
+        let _ = self.storage.despawn(handle);
+        Ok(freed)
+    }
+
+    /// Brings to life what is reserved, each entity with its birth by these queues, and answers the
+    /// handles in the order of the flush.
+    fn bring_to_life(&mut self, queues: &[CommandQueue]) -> Result<Vec<Handle>, Memory>
+        requires { length queues.now ≤ 2 ^ 16 }
+        ensures ok { OnOk result (self.new ≡ after_births queues.now self.old) }
+        ensures born { IfOk result (λ handles. handles.items ≡ born self.old.allocator) }
+        ensures err { OnErr result (self.new ≡ self.old) }
+    {
+        // What is true of every allocator is promised with its cursor.
+        let _ = self.entities.cursor();
+        let mut handles = Vec::new(self.alloc);
+        self.storage.reserve(self.entities.reserved() as usize)?;
+        self.entities.flush(&mut handles)?;
+        enter_listed(&mut self.storage, &self.entities, self.phase, queues);
+        enter_others(&mut self.storage, &self.entities, self.phase, &handles);
+        self.phase = self.phase.saturating_add(1);
+        Ok(handles)
+    }
+}
