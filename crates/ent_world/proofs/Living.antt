@@ -1,11 +1,16 @@
 -- The entities of a world's map are those whose handle is alive, also after each change of the two.
 use Rattle.std.proofs.Common.{◌≡◌, refl, sym, ap, ◌∙◌, Bool, true, false, cond, not, ◌&&◌, ◌||◌}
-use Rattle.std.proofs.Common.{Option, Some, None, is_some}
+use Rattle.std.proofs.Common.{Option, Some, None, is_some, List}
 use Rattle.std.specs.Ordering.{eq_by_cmp}
 use Rattle.std.specs.FinSet as set
 use Rattle.std.specs.FinMap as map
 use Rattle.ent_handle.specs.Handle.{Handle, handle_cmp, handle_cmp_total}
+use Rattle.ent_alloc.specs.Sequential.{Allocator}
+use Rattle.ent_alloc.specs.History.{Call, after_history, requests_of}
+use Rattle.ent_alloc.proofs.Histories.{after_history-takes}
+use Rattle.ent_alloc.proofs.PoolLaw.{live-after_takes}
 use Rattle.ent_storage.specs.EntityMap.{Entity, EntityMap}
+use Rattle.ent_world.specs.World.{AreLiving}
 
 -- who lives in a set of handles and who has an entity in a map
 abbrev pub AreKeys : set.FinSet handle_cmp → EntityMap → Type 0
@@ -38,3 +43,8 @@ keys-remove live m h same g =
     ∙ one_less (eq_by_cmp handle_cmp g h) (map.get m g)
     ∙ ap (λ b. not (eq_by_cmp handle_cmp g h) && b) (same g)
     ∙ sym (set.contains-remove handle_cmp_total live h g)
+
+-- reservations bring nobody to life
+pub living-history : (s t : Allocator) (calls : List Call) (m : EntityMap) → AreLiving s m → t ≡ after_history s calls → AreLiving t m
+living-history s t calls m same after h =
+    same h ∙ ap (λ live. set.contains live h) (sym (ap (λ a. a.live) (after ∙ after_history-takes s calls) ∙ live-after_takes s (requests_of calls)))

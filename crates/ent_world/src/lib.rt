@@ -4,7 +4,11 @@
 
 mod births;
 mod fault;
+mod open_world;
+mod view;
 mod world;
 
 pub use fault::{Fault, FaultKind, SyncFault, SyncReport};
+pub use open_world::OpenWorld;
+pub use view::View;
 pub use world::World;

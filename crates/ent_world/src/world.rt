@@ -1,9 +1,11 @@
 ghost use Rattle.std.specs.Prelude.{◌≡◌, ◌<◌, ◌≤◌, ◌^◌, ◌↔◌, [], length};
-ghost use Rattle.std.specs.Prelude.{IsTrue, IfOk, OnOk, OnErr, IsErrOf, true, false};
+ghost use Rattle.std.specs.Prelude.{All, IsTrue, IfOk, IfErr, OnOk, OnErr, IsErrOf, true, false};
 ghost use Rattle.std.specs.Option.{option_map};
 ghost use Rattle.std.specs.FinSet as set;
 ghost use Rattle.std.specs.FinMap as map;
 ghost use Rattle.ent_alloc.specs.Sequential.{born, next};
+ghost use Rattle.ent_shared.specs.Record.{opened_records};
+ghost use Rattle.ent_shared.specs.Phase.{IsOf, records_of};
 ghost use Rattle.ent_storage.specs.EntityMap.{birth_of, components_of, value_of};
 ghost use Rattle.ent_storage.specs.BirthOrder.{ListsAll};
 ghost use Rattle.ent_world.specs.World.{first_world, AreLiving, lives_in};
@@ -11,9 +13,11 @@ ghost use Rattle.ent_world.specs.Command.{after_despawn};
 ghost use Rattle.ent_world.specs.Sync.{after_births};
 
 use crate::births::{enter_listed, enter_others};
+use crate::open_world::OpenWorld;
 use ent_alloc::{Entities, FreeFault, Freed, Limits};
 use ent_handle::{Birth, ComponentId, Handle, Memory};
 use ent_queue::CommandQueue;
+use ent_shared::{Reserver, share};
 use ent_storage::{Items, Storage};
 use std::alloc::Global;
 use std::marker::Model;
@@ -24,10 +28,10 @@ use std::marker::Model;
 /// the handles of the living entities to their births and components (`specs/World`).
 #[derive(Drop)]
 pub struct World {
-    entities: Entities,
-    storage: Storage,
-    phase: u64,
-    alloc: Global,
+    pub(crate) entities: Entities,
+    pub(crate) storage: Storage,
+    pub(crate) phase: u64,
+    pub(crate) alloc: Global,
 }
 
 impl Model for World {
@@ -163,6 +167,49 @@ impl World {
         let freed = self.entities.free(handle)?;
         let _ = self.storage.despawn(handle);
         Ok(freed)
+    }
+
+    /// Shares the world's allocator among `n` reservers, 1 to 1,024, as [`share`] does. Systems read
+    /// the rest of it by [`OpenWorld::view`].
+    ///
+    /// # Errors
+    ///
+    /// [`Memory`], with the world as it was.
+    pub fn open(self, n: usize) -> Result<(OpenWorld, Vec<Reserver>), (World, Memory)>
+        requires flushed { self.allocator.asked ≡ 0 }
+        requires some { 0 < n }
+        requires few { n ≤ 1024 }
+        ensures shared { IfOk result (λ made.
+            (made.0.shared.start ≡ self.allocator) × (made.0.shared.count ≡ n)) }
+        ensures phase { IfOk result (λ made. made.0.phase ≡ self.phase) }
+        ensures entities { IfOk result (λ made. made.0.entities ≡ self.entities) }
+        ensures count { IfOk result (λ made. length made.1.items ≡ n) }
+        ensures reservers { IfOk result (λ made.
+            records_of made.1.items ≡ opened_records self.allocator 0 n) }
+        ensures unused { IfOk result (λ made. All (λ r. r.own.entries ≡ []) made.1.items) }
+        ensures own { IfOk result (λ made. All (IsOf made.0.shared) made.1.items) }
+        ensures err { IfErr result (λ refused. refused.0 ≡ self) }
+    {
+        let World {
+            entities,
+            storage,
+            phase,
+            alloc,
+        } = self;
+        match share(alloc, entities, n) {
+            Ok((shared, reservers)) => {
+                Ok((OpenWorld::new(alloc, shared, storage, phase), reservers))
+            }
+            Err((entities, memory)) => Err((
+                World {
+                    entities,
+                    storage,
+                    phase,
+                    alloc,
+                },
+                memory,
+            )),
+        }
     }
 
     /// Brings to life what is reserved, each entity with its birth by these queues, and answers the
