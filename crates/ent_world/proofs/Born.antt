@@ -161,11 +161,11 @@ listed_anyhow (q ∷ queues) phase system other h =
       | None ↦ listed_anyhow queues phase (system + 1) (other + 1) h
     ]
 
-no_entity : (o : Option Entity) → is_some o ≡ false → o ≡ None
+pub no_entity : (o : Option Entity) → is_some o ≡ false → o ≡ None
 no_entity None _ = refl
 no_entity (Some e) none = absurd (true≢false none)
 
-an_entity : (o : Option Entity) → is_some o ≡ true → (e : Entity) × (o ≡ Some e)
+pub an_entity : (o : Option Entity) → is_some o ≡ true → (e : Entity) × (o ≡ Some e)
 an_entity None none = absurd (true≢false (sym none))
 an_entity (Some e) _ = (e, refl)
 

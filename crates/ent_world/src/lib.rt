@@ -5,6 +5,7 @@
 mod births;
 mod fault;
 mod open_world;
+mod spawning;
 mod view;
 mod world;
 

@@ -1,5 +1,5 @@
 ghost use Rattle.std.specs.Prelude.{◌≡◌, ◌<◌, ◌≤◌, ◌^◌, ◌↔◌, [], length};
-ghost use Rattle.std.specs.Prelude.{All, IsTrue, IfOk, IfErr, OnOk, OnErr, IsErrOf, true, false};
+ghost use Rattle.std.specs.Prelude.{All, IsTrue, IfOk, IfErr, OnOk, OnErr, IsErrOf, Some, true, false, slice_get};
 ghost use Rattle.std.specs.Option.{option_map};
 ghost use Rattle.std.specs.FinSet as set;
 ghost use Rattle.std.specs.FinMap as map;
@@ -9,14 +9,15 @@ ghost use Rattle.ent_shared.specs.Phase.{IsOf, records_of};
 ghost use Rattle.ent_storage.specs.EntityMap.{birth_of, components_of, value_of};
 ghost use Rattle.ent_storage.specs.BirthOrder.{ListsAll};
 ghost use Rattle.ent_world.specs.World.{first_world, AreLiving, lives_in};
-ghost use Rattle.ent_world.specs.Command.{after_despawn};
+ghost use Rattle.ent_world.specs.Command.{after_spawn, after_despawn};
 ghost use Rattle.ent_world.specs.Sync.{after_births};
 
 use crate::births::{enter_listed, enter_others};
 use crate::open_world::OpenWorld;
-use ent_alloc::{Entities, FreeFault, Freed, Limits};
+use crate::spawning::{make, next_handle};
+use ent_alloc::{AllocFault, Entities, FreeFault, Freed, Limits};
 use ent_handle::{Birth, ComponentId, Handle, Memory};
-use ent_queue::CommandQueue;
+use ent_queue::{Bundle, CommandQueue};
 use ent_shared::{Reserver, share};
 use ent_storage::{Items, Storage};
 use std::alloc::Global;
@@ -145,6 +146,33 @@ impl World {
     {
         let _ = self.bring_to_life(&[])?;
         Ok(())
+    }
+
+    /// Brings an entity to life at once, with this birth and these components. Its handle is the next
+    /// one of the slot that was freed last, or the first one of a new slot if none waits.
+    ///
+    /// # Errors
+    ///
+    /// Nothing changes. `NeedsFlush` if handles were requested since the last flush, even if the
+    /// request was refused. `Space` if every slot has a living occupant. `Memory`.
+    pub fn spawn(&mut self, birth: Birth, bundle: &Bundle) -> Result<Handle, AllocFault>
+        ensures front { IfOk result (λ handle.
+            slice_get self.old.allocator.pool 0 ≡ Some handle) }
+        ensures ok { IfOk result (λ handle.
+            self.new ≡ after_spawn birth bundle.now handle self.old) }
+        ensures needs_flush { IsErrOf result AllocFault.NeedsFlush
+            ↔ (0 < self.old.allocator.asked) }
+        ensures space { IsErrOf result AllocFault.Space
+            ↔ ((self.old.allocator.asked ≡ 0) × (self.old.allocator.pool ≡ [])) }
+        ensures err { OnErr result (self.new ≡ self.old) }
+    {
+        let handle = next_handle(&self.entities)?;
+        make(&mut self.storage, handle, birth, bundle.items())?;
+        if let Err(fault) = self.entities.alloc() {
+            let _ = self.storage.despawn(handle);
+            return Err(fault);
+        }
+        Ok(handle)
     }
 
     /// Takes a living entity out, with all its components.
