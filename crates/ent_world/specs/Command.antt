@@ -47,6 +47,9 @@ pub record Applied : Type 0 where
   pub world : World
   pub faults : List Fault
 
+abbrev pub applied : World → List Fault → Applied
+applied w faults = record { world = w; faults = faults }
+
 -- one fault more
 abbrev pub with_fault : ℕ → ℕ → FaultKind → Applied → Applied
 with_fault system command why a =

@@ -1,6 +1,7 @@
 -- The sync point: what is reserved is born, and then all commands take effect, queue by queue.
 use Rattle.std.specs.Prelude.{ℕ, ◌+◌, ◌-◌, ◌^◌, ◌<◌, min, max, List, [], ◌∷◌, ◌++◌, length}
 use Rattle.std.specs.Prelude.{take, drop, filter, Option, None, Some, is_none, unwrap_or}
+use Rattle.std.specs.Prelude.{Result, Ok, Err}
 use Rattle.std.specs.List.{flat_map, position_from}
 use Rattle.std.specs.Ordering.{eq_by_cmp}
 use Rattle.std.specs.FinMap as map
@@ -10,8 +11,11 @@ use Rattle.ent_alloc.specs.Sequential.{born, after_flush}
 use Rattle.ent_storage.specs.EntityMap.{EntityMap, newborn}
 use Rattle.ent_queue.specs.Command.{Command, Spawn, SpawnMany, Insert, Remove, Despawn}
 use Rattle.ent_queue.specs.Command.{Refused}
+use Rattle.ent_world.specs.declared.fault.SyncFault.{SyncFault}
+use Rattle.ent_world.specs.declared.fault.SyncFault.TheVariants.{FlushMemory, Memory}
+use Rattle.ent_world.specs.declared.fault.SyncReport.{SyncReport}
 use Rattle.ent_world.specs.World.{World}
-use Rattle.ent_world.specs.Command.{Applied, after_queues}
+use Rattle.ent_world.specs.Command.{Applied, applied, after_queues}
 
 -- the handles that were reserved for a command
 abbrev pub listed_by : Command → List Handle
@@ -81,7 +85,7 @@ after_births queues w = record {
 
 -- the sync of these queues, in the order of their systems: the world after it, and the faults
 abbrev pub sync : List (List Command) → World → Applied
-sync queues w = after_queues 0 queues (record { world = after_births queues w; faults = [] })
+sync queues w = after_queues 0 queues (applied (after_births queues w) [])
 
 -- A command as far as its first handles go; only a spawn of many has more than one place to stop.
 abbrev pub first_part : ℕ → List Command → List Command
@@ -93,10 +97,14 @@ first_part done (Remove h id ∷ cs) = []
 first_part done (Despawn h ∷ cs) = []
 first_part done (Refused wanted why ∷ cs) = []
 
+-- the commands of a queue before that handle of that command
+abbrev pub cut_commands : ℕ → ℕ → List Command → List Command
+cut_commands command done q = take command q ++ first_part done (drop command q)
+
 -- the queues before that handle of that command of that system
 abbrev pub cut_queue : ℕ → ℕ → List (List Command) → List (List Command)
 cut_queue command done [] = []
-cut_queue command done (q ∷ qs) = (take command q ++ first_part done (drop command q)) ∷ []
+cut_queue command done (q ∷ qs) = cut_commands command done q ∷ []
 
 abbrev pub cut : ℕ → ℕ → ℕ → List (List Command) → List (List Command)
 cut system command done queues = take system queues ++ cut_queue command done (drop system queues)
@@ -104,8 +112,7 @@ cut system command done queues = take system queues ++ cut_queue command done (d
 -- the sync that stopped there: all births stand, and of the commands just those before
 abbrev pub sync_until : ℕ → ℕ → ℕ → List (List Command) → World → Applied
 sync_until system command done queues w =
-    after_queues 0 (cut system command done queues)
-    (record { world = after_births queues w; faults = [] })
+    after_queues 0 (cut system command done queues) (applied (after_births queues w) [])
 
 -- at how many places the first of the commands can stop: before each of its handles
 abbrev pub stops : List Command → ℕ
@@ -124,3 +131,10 @@ stops_in command (q ∷ qs) = stops (drop command q)
 -- The queues have that command of that system, and it has that handle.
 abbrev pub IsStop : ℕ → ℕ → ℕ → List (List Command) → Type 0
 IsStop system command done queues = done < stops_in command (drop system queues)
+
+-- what holds of a sync that stopped at a command for want of memory
+abbrev pub IfStopped : {X : Type 0} → Result X SyncFault → (ℕ → ℕ → ℕ → SyncReport → Type 0)
+    → Type 0
+IfStopped (Ok x) P = Unit {0}
+IfStopped (Err FlushMemory) P = Unit {0}
+IfStopped (Err (Memory system command done so_far)) P = P system command done so_far

@@ -2,6 +2,7 @@
 //! of all systems take effect.
 #![tactic(auto)]
 
+mod applying;
 mod births;
 mod fault;
 mod open_world;

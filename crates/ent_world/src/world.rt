@@ -10,9 +10,10 @@ ghost use Rattle.ent_storage.specs.EntityMap.{birth_of, components_of, value_of}
 ghost use Rattle.ent_storage.specs.BirthOrder.{ListsAll};
 ghost use Rattle.ent_world.specs.World.{first_world, AreLiving, lives_in};
 ghost use Rattle.ent_world.specs.Command.{after_spawn, after_despawn};
-ghost use Rattle.ent_world.specs.Sync.{after_births};
+ghost use Rattle.ent_world.specs.Sync.{after_births, sync, sync_until, IsStop, IfStopped};
 
 use crate::births::{enter_listed, enter_others};
+use crate::fault::{SyncFault, SyncReport};
 use crate::open_world::OpenWorld;
 use crate::spawning::{make, next_handle};
 use ent_alloc::{AllocFault, Entities, FreeFault, Freed, Limits};
@@ -142,6 +143,7 @@ impl World {
     /// `Memory`, and then nothing has changed.
     pub fn flush(&mut self) -> Result<(), Memory>
         ensures ok { OnOk result (self.new ≡ after_births [] self.old) }
+        ensures flushed { OnOk result (self.new.allocator.asked ≡ 0) }
         ensures err { OnErr result (self.new ≡ self.old) }
     {
         let _ = self.bring_to_life(&[])?;
@@ -195,6 +197,55 @@ impl World {
         let freed = self.entities.free(handle)?;
         let _ = self.storage.despawn(handle);
         Ok(freed)
+    }
+
+    /// The sync point: brings to life what is reserved, each entity with its birth by these queues,
+    /// and then applies the queues in their order, which is that of the systems. At most 65,536
+    /// queues are applied at once.
+    ///
+    /// A command on an entity that is not alive at its turn has no effect and is a fault of the
+    /// report, and so is a refused spawn. A spawn of many acts handle by handle.
+    ///
+    /// # Errors
+    ///
+    /// - `FlushMemory`: nothing was done, and the call may be made again.
+    /// - `Memory`: it stopped before a command, or at a spawn of many before one of its handles. All
+    ///   births stand, and of the commands just those before.
+    pub fn apply(&mut self, queues: &[CommandQueue]) -> Result<SyncReport, SyncFault>
+        requires { length queues.now ≤ 2 ^ 16 }
+        ensures ok { OnOk result (self.new ≡ (sync queues.now self.old).world) }
+        ensures born { IfOk result (λ report. report.born.items ≡ born self.old.allocator) }
+        ensures faults { IfOk result (λ report.
+            report.faults.items ≡ (sync queues.now self.old).faults) }
+        ensures flushed { OnOk result (self.new.allocator.asked ≡ 0) }
+
+        ensures flush_memory { IsErrOf result SyncFault.FlushMemory → self.new ≡ self.old }
+
+        // What stands after it stopped at a command.
+        ensures stop { IfStopped result (λ system command done _.
+            IsStop system command done queues.now) }
+        ensures stopped_world { IfStopped result (λ system command done _.
+            self.new ≡ (sync_until system command done queues.now self.old).world) }
+        ensures stopped_flushed { IfStopped result (λ _ _ _ _. self.new.allocator.asked ≡ 0) }
+        ensures stopped_born { IfStopped result (λ _ _ _ so_far.
+            so_far.born.items ≡ born self.old.allocator) }
+        ensures stopped_faults { IfStopped result (λ system command done so_far.
+            so_far.faults.items ≡ (sync_until system command done queues.now self.old).faults) }
+    {
+        let Ok(born) = self.bring_to_life(queues) else {
+            return Err(SyncFault::FlushMemory);
+        };
+        let mut faults = Vec::new(self.alloc);
+        let mut items = Vec::new(self.alloc);
+        match self.apply_queues(queues, &mut items, &mut faults) {
+            Ok(()) => Ok(SyncReport { born, faults }),
+            Err(stop) => Err(SyncFault::Memory {
+                system: stop.system,
+                command: stop.command,
+                done: stop.done,
+                so_far: SyncReport { born, faults },
+            }),
+        }
     }
 
     /// Shares the world's allocator among `n` reservers, 1 to 1,024, as [`share`] does. Systems read
