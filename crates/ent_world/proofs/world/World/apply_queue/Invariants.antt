@@ -1,0 +1,11 @@
+use Rattle.std.proofs.Common.{◌≡◌, take, drop}
+use Rattle.ent_world.specs.Command.{applied, after_commands}
+use Rattle.ent_world.proofs.world.World.apply_queue.Given as goal
+
+-- the first ones are applied
+abbrev pub invariant-loop-command : goal.invariant-loop-command
+invariant-loop-command l = record {
+  flushed : l.self.allocator.asked ≡ 0;
+  left : l.entries ≡ drop l.command l.queue;
+  so_far : applied l.self l.faults.items ≡ after_commands l.system 0 (take l.command l.queue) (applied l.fn.self l.fn.faults.items);
+}

@@ -1,0 +1,5 @@
+pub mod World
+pub mod OpenWorld
+pub mod Command
+pub mod Sync
+pub mod Entering

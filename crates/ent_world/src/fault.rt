@@ -1,0 +1,61 @@
+use ent_handle::Handle;
+use thiserror::Error;
+
+/// Why a command had no effect.
+#[derive(Clone, Copy, Debug, PartialEq, Eq)]
+pub enum FaultKind {
+    /// The entity was not alive when the command's turn came.
+    NotAlive(Handle),
+    /// The pool had fewer handles than were requested.
+    Space {
+        /// How many handles were requested.
+        wanted: u32,
+        /// How many the pool still had.
+        left: u32,
+    },
+    /// More handles were requested than the reserver had credit.
+    Quota {
+        /// The credit that was left.
+        left: u64,
+    },
+}
+
+/// A command that had no effect, or one handle of it.
+#[derive(Clone, Copy, Debug, PartialEq, Eq)]
+pub struct Fault {
+    /// The place of the system's queue among those that were applied, from 0.
+    pub system: usize,
+    /// The place of the command in that queue, from 0.
+    pub command: usize,
+    /// Why it had no effect.
+    pub kind: FaultKind,
+}
+
+/// What a sync point has done.
+#[derive(Drop, Debug)]
+pub struct SyncReport {
+    /// The handles that came to life, in the order of the flush.
+    pub born: Vec<Handle>,
+    /// The commands without effect, in their order.
+    pub faults: Vec<Fault>,
+}
+
+/// Why a sync point stopped.
+#[derive(Drop, Debug, Error)]
+pub enum SyncFault {
+    /// Memory ran out before anything was done. The world is as it was.
+    #[error("out of memory for the flush")]
+    FlushMemory,
+    /// Memory ran out at a command. All births stand, and of the commands just those before.
+    #[error("out of memory at command {command} of system {system}")]
+    Memory {
+        /// The system at whose command it stopped.
+        system: usize,
+        /// The place of that command in its queue.
+        command: usize,
+        /// How many handles of that command are done. It is 0 except at a spawn of many.
+        done: usize,
+        /// What was done before.
+        so_far: SyncReport,
+    },
+}

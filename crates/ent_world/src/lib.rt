@@ -1,0 +1,16 @@
+//! Worlds: who is alive and what each entity is made of, and the sync point at which the commands
+//! of all systems take effect.
+#![tactic(auto)]
+
+mod applying;
+mod births;
+mod fault;
+mod open_world;
+mod spawning;
+mod view;
+mod world;
+
+pub use fault::{Fault, FaultKind, SyncFault, SyncReport};
+pub use open_world::OpenWorld;
+pub use view::View;
+pub use world::World;

@@ -1,0 +1,54 @@
+//! What one spawn needs: the handle that the allocator gives next, and an entity that is made whole
+//! or not at all.
+ghost use Rattle.std.specs.Prelude.{◌≡◌, ◌<◌, ◌↔◌, [], Some, None, slice_get};
+ghost use Rattle.std.specs.Prelude.{IfOk, OnOk, OnErr, IsErrOf, false};
+ghost use Rattle.std.specs.FinSet as set;
+ghost use Rattle.std.specs.FinMap as map;
+ghost use Rattle.ent_world.specs.Command.{spawned};
+
+use ent_alloc::{AllocFault, Entities, Span};
+use ent_handle::{Birth, ComponentId, Handle, Memory};
+use ent_storage::Storage;
+
+/// The handle that `alloc` gives next.
+pub(crate) fn next_handle(entities: &Entities) -> Result<Handle, AllocFault>
+    ensures front { IfOk result (λ handle. slice_get entities.now.pool 0 ≡ Some handle) }
+    ensures new { IfOk result (λ handle. set.contains entities.now.live handle ≡ false) }
+    ensures needs_flush { IsErrOf result AllocFault.NeedsFlush ↔ (0 < entities.now.asked) }
+    ensures space { IsErrOf result AllocFault.Space
+        ↔ ((entities.now.asked ≡ 0) × (entities.now.pool ≡ [])) }
+{
+    let top = i64::from(entities.top());
+    if entities.cursor() != top {
+        return Err(AllocFault::NeedsFlush);
+    }
+    let Ok(mut given) = entities.reply(Span::new(top, 1)) else {
+        return Err(AllocFault::Space);
+    };
+    let Some(handle) = given.next() else {
+        unreachable!()
+    };
+    Ok(handle)
+}
+
+/// Makes an entity that is not there, with all its components. After an `Err` it is not there.
+pub(crate) fn make(
+    storage: &mut Storage,
+    handle: Handle,
+    birth: Birth,
+    items: &[(ComponentId, i64)],
+) -> Result<(), Memory>
+    requires { map.get storage.old.entities handle ≡ None }
+    ensures ok { OnOk result (storage.new.entities
+        ≡ map.insert storage.old.entities handle (spawned birth items.now)) }
+    ensures err { OnErr result (storage.new.entities ≡ storage.old.entities) }
+{
+    if storage.born(handle, birth).is_err() {
+        return Err(Memory);
+    }
+    if storage.insert(handle, items).is_err() {
+        let _ = storage.despawn(handle);
+        return Err(Memory);
+    }
+    Ok(())
+}

@@ -1,0 +1,72 @@
+ghost use Rattle.std.specs.Prelude.{◌≡◌, IfOk};
+ghost use Rattle.std.specs.FinMap as map;
+ghost use Rattle.ent_storage.specs.EntityMap.{birth_of, value_of};
+ghost use Rattle.ent_storage.specs.BirthOrder.{ListsWith};
+
+use ent_handle::{Birth, ComponentId, Handle, Memory};
+use ent_storage::Storage;
+use std::marker::Model;
+
+/// What a system may read of a world while others reserve: the world as it was opened.
+#[derive(Drop)]
+pub struct View<'a> {
+    storage: &'a Storage,
+    phase: u64,
+}
+
+impl<'a> Model for View<'a> {
+    ghost use Rattle.ent_world.specs.OpenWorld.{View, view_code};
+
+    ghost Value = { View };
+
+    ghost coded = { view_code };
+
+    ghost view = { λ v. record { phase = v.phase; entities = v.storage.now.entities } };
+}
+
+impl<'a> View<'a> {
+    pub(crate) fn new(storage: &'a Storage, phase: u64) -> Self
+        ensures { result ≡ record { phase = phase; entities = storage.now.entities } }
+    {
+        View { storage, phase }
+    }
+
+    /// Whether the entity is alive.
+    pub fn contains(&self, handle: Handle) -> bool
+        ensures { result ≡ map.contains_key self.now.entities handle }
+    {
+        self.storage.contains(handle)
+    }
+
+    /// The value of the entity's component, if the entity is alive and has it.
+    pub fn get(&self, handle: Handle, id: ComponentId) -> Option<i64>
+        ensures { result ≡ value_of self.now.entities handle id }
+    {
+        self.storage.get(handle, id)
+    }
+
+    /// When and by whom the entity was brought to life, if it is alive.
+    pub fn birth(&self, handle: Handle) -> Option<Birth>
+        ensures { result ≡ birth_of self.now.entities handle }
+    {
+        self.storage.birth(handle)
+    }
+
+    /// The handles of the entities that have the component, by birth and then by handle.
+    ///
+    /// # Errors
+    ///
+    /// `Memory`: there is no memory for the list.
+    pub fn with(&self, id: ComponentId) -> Result<Vec<Handle>, Memory>
+        ensures { IfOk result (λ handles. ListsWith id self.now.entities handles.items) }
+    {
+        self.storage.with(id)
+    }
+
+    /// How often the world was flushed before it was opened.
+    pub fn phase(&self) -> u64
+        ensures { result ≡ self.now.phase }
+    {
+        self.phase
+    }
+}

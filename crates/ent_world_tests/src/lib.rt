@@ -1,0 +1,11 @@
+//! Tests of `ent_world`, over its public calls.
+#![tactic(auto)]
+
+#[cfg(test)]
+mod memory;
+#[cfg(test)]
+mod rows;
+#[cfg(test)]
+mod scene;
+#[cfg(test)]
+mod shown;
