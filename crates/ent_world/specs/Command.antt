@@ -76,7 +76,8 @@ refused (refusal.Quota left) = kind.Quota left
 -- a command of a system, by its place in the system's queue
 abbrev pub after_command : ℕ → ℕ → Command → Applied → Applied
 after_command system command (Spawn h items) a = on_entity system command (after_insert items) h a
-after_command system command (SpawnMany hs items) a = on_each system command (after_insert items) hs a
+after_command system command (SpawnMany hs items) a =
+    on_each system command (after_insert items) hs a
 after_command system command (Insert h items) a = on_entity system command (after_insert items) h a
 after_command system command (Remove h id) a = on_entity system command (after_remove id) h a
 after_command system command (Despawn h) a = on_entity system command after_despawn h a

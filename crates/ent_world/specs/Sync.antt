@@ -59,7 +59,11 @@ unlisted queues handles = filter (λ h. is_none (listed_birth 0 0 queues h)) han
 -- the birth of a handle that no queue lists: its place among such handles
 abbrev pub unlisted_birth : ℕ → List Handle → Handle → Birth
 unlisted_birth phase others h =
-    record { frame = phase; system = no_system; ordinal = ordinal (unwrap_or (place_of others h) 0) }
+    record {
+      frame = phase;
+      system = no_system;
+      ordinal = ordinal (unwrap_or (place_of others h) 0);
+    }
 
 -- the birth of a handle that is born with these
 abbrev pub birth_in : ℕ → List (List Command) → List Handle → Handle → Birth

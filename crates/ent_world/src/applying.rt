@@ -1,4 +1,5 @@
-//! The commands of a sync point take effect, one by one. Each changes the world whole or not at all.
+//! The commands of a sync point take effect, one by one. Each changes the world whole or not at
+//! all.
 ghost use Rattle.std.specs.Prelude.{◌≡◌, ◌<◌, ◌++◌, [], ◌∷◌, length, take, drop, max};
 ghost use Rattle.std.specs.Prelude.{OnOk, OnErr, IfErr};
 ghost use Rattle.ent_queue.specs.Entry.{command_of};
@@ -51,8 +52,8 @@ impl World {
         Ok(())
     }
 
-    /// Applies the commands of a queue in the order of issue. An `Err` says at which command memory ran
-    /// out, and how many handles of that command are done.
+    /// Applies the commands of a queue in the order of issue. An `Err` says at which command memory
+    /// ran out, and how many handles of that command are done.
     fn apply_queue(
         &mut self,
         system: usize,

@@ -72,8 +72,8 @@ impl OpenWorld {
         View::new(&self.storage, self.phase)
     }
 
-    /// Ends the phase with all its reservers, as [`Shared::close`] does. Nothing of the world but its
-    /// allocator changes. It takes no memory.
+    /// Ends the phase with all its reservers, as [`Shared::close`] does. Nothing of the world but
+    /// its allocator changes. It takes no memory.
     pub fn close(self, reservers: Vec<Reserver>) -> World
         requires all { length reservers.items ≡ self.shared.count }
         requires own { All (IsOf self.shared) reservers.items }
@@ -117,8 +117,8 @@ impl OpenWorld {
         }
     }
 
-    /// Ends the phase although some reservers may be lost, as [`Shared::close_lost`] does. Nothing of
-    /// the world but its allocator changes. It takes no memory.
+    /// Ends the phase although some reservers may be lost, as [`Shared::close_lost`] does. Nothing
+    /// of the world but its allocator changes. It takes no memory.
     pub fn close_lost(self, reservers: Vec<Reserver>) -> World
         requires { All (IsOf self.shared) reservers.items }
         ensures phase { result.phase ≡ self.phase }

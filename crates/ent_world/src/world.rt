@@ -1,5 +1,6 @@
 ghost use Rattle.std.specs.Prelude.{◌≡◌, ◌<◌, ◌≤◌, ◌^◌, ◌↔◌, [], length};
-ghost use Rattle.std.specs.Prelude.{All, IsTrue, IfOk, IfErr, OnOk, OnErr, IsErrOf, Some, true, false, slice_get};
+ghost use Rattle.std.specs.Prelude.{All, IsTrue, IfOk, IfErr, OnOk, OnErr, IsErrOf, Some};
+ghost use Rattle.std.specs.Prelude.{true, false, slice_get};
 ghost use Rattle.std.specs.Option.{option_map};
 ghost use Rattle.std.specs.FinSet as set;
 ghost use Rattle.std.specs.FinMap as map;
@@ -150,8 +151,8 @@ impl World {
         Ok(())
     }
 
-    /// Brings an entity to life at once, with this birth and these components. Its handle is the next
-    /// one of the slot that was freed last, or the first one of a new slot if none waits.
+    /// Brings an entity to life at once, with this birth and these components. Its handle is the
+    /// next one of the slot that was freed last, or the first one of a new slot if none waits.
     ///
     /// # Errors
     ///
@@ -209,8 +210,8 @@ impl World {
     /// # Errors
     ///
     /// - `FlushMemory`: nothing was done, and the call may be made again.
-    /// - `Memory`: it stopped before a command, or at a spawn of many before one of its handles. All
-    ///   births stand, and of the commands just those before.
+    /// - `Memory`: it stopped before a command, or at a spawn of many before one of its handles.
+    ///   All births stand, and of the commands just those before.
     pub fn apply(&mut self, queues: &[CommandQueue]) -> Result<SyncReport, SyncFault>
         requires { length queues.now ≤ 2 ^ 16 }
         ensures ok { OnOk result (self.new ≡ (sync queues.now self.old).world) }
@@ -248,8 +249,8 @@ impl World {
         }
     }
 
-    /// Shares the world's allocator among `n` reservers, 1 to 1,024, as [`share`] does. Systems read
-    /// the rest of it by [`OpenWorld::view`].
+    /// Shares the world's allocator among `n` reservers, 1 to 1,024, as [`share`] does. Systems
+    /// read the rest of it by [`OpenWorld::view`].
     ///
     /// # Errors
     ///
