@@ -63,7 +63,7 @@ fn a_handle_without_a_queue_is_born(rt: HostRuntime) -> Result<(), Fail> {
 #[test]
 fn spawns_and_despawns(rt: HostRuntime) -> Result<(), Fail> {
     let alloc = rt.alloc();
-    let mut world = with_slots(&rt, alloc, 1);
+    let mut world = World::new(alloc, Limits::default_limits());
     let birth = Birth {
         frame: 0,
         system: 0,
@@ -74,7 +74,6 @@ fn spawns_and_despawns(rt: HostRuntime) -> Result<(), Fail> {
     assert!(rt; world.is_empty());
     assert!(rt; world.spawn(birth, &items) == Ok(old));
     assert_eq!(rt; world.get(old, ComponentId(0)), Some(7));
-    assert!(rt; world.spawn(birth, &items) == Err(AllocFault::Space));
 
     let freed = world.despawn(old)?;
     assert!(rt; freed.next == next);
@@ -82,6 +81,23 @@ fn spawns_and_despawns(rt: HostRuntime) -> Result<(), Fail> {
     assert_eq!(rt; world.len(), 0);
     assert!(rt; world.despawn(old) == Err(FreeFault::NotAlive));
     assert!(rt; !world.contains(old));
+    Ok(())
+}
+
+// A world whose slots are all taken.
+#[test]
+fn a_full_world_refuses_a_spawn(rt: HostRuntime) -> Result<(), Fail> {
+    let alloc = rt.alloc();
+    let mut world = with_slots(&rt, alloc, 1);
+    let birth = Birth {
+        frame: 0,
+        system: 0,
+        ordinal: 0,
+    };
+    let items = bundle(&rt, alloc, &[]);
+    assert!(rt; world.spawn(birth, &items) == Ok(handle(&rt, (0, 1))));
+    assert!(rt; world.spawn(birth, &items) == Err(AllocFault::Space));
+    assert_eq!(rt; world.len(), 1);
     Ok(())
 }
 
