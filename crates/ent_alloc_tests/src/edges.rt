@@ -31,7 +31,13 @@ fn a_flush_of_reused_slots_goes_after_the_items_that_are_there(rt: HostRuntime) 
 fn a_shut_pool_still_serves_a_request_for_nothing(rt: HostRuntime) {
     let alloc = rt.alloc();
     let mut entities = limited(&rt, alloc, 1, 1);
-    assert_reserves(&rt, alloc, &mut entities, 2, Err(Space { wanted: 2, left: 1 }));
+    assert_reserves(
+        &rt,
+        alloc,
+        &mut entities,
+        2,
+        Err(Space { wanted: 2, left: 1 }),
+    );
     assert_reserves(&rt, alloc, &mut entities, 0, Ok(&[]));
     assert_eq!(rt; (entities.asked(), entities.reserved()), (2, 0));
     assert!(rt; entities.needs_flush());
@@ -41,7 +47,13 @@ fn a_shut_pool_still_serves_a_request_for_nothing(rt: HostRuntime) {
 fn a_flush_after_a_refused_request_alone_brings_nothing_to_life(rt: HostRuntime) {
     let alloc = rt.alloc();
     let mut entities = limited(&rt, alloc, 2, 9);
-    assert_reserves(&rt, alloc, &mut entities, 3, Err(Space { wanted: 3, left: 2 }));
+    assert_reserves(
+        &rt,
+        alloc,
+        &mut entities,
+        3,
+        Err(Space { wanted: 3, left: 2 }),
+    );
     assert_flushes(&rt, alloc, &mut entities, &[], &[]);
     assert_eq!(rt;
         (entities.len(), entities.asked(), entities.room()),

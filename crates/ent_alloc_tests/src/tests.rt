@@ -27,8 +27,20 @@ fn a_refused_request_shuts_the_pool(rt: HostRuntime) {
     let first = [handle(&rt, 0, 1), handle(&rt, 1, 1)];
     let mut entities = limited(&rt, alloc, 3, 9);
     assert_reserves(&rt, alloc, &mut entities, 2, Ok(&first));
-    assert_reserves(&rt, alloc, &mut entities, 2, Err(Space { wanted: 2, left: 1 }));
-    assert_reserves(&rt, alloc, &mut entities, 1, Err(Space { wanted: 1, left: 0 }));
+    assert_reserves(
+        &rt,
+        alloc,
+        &mut entities,
+        2,
+        Err(Space { wanted: 2, left: 1 }),
+    );
+    assert_reserves(
+        &rt,
+        alloc,
+        &mut entities,
+        1,
+        Err(Space { wanted: 1, left: 0 }),
+    );
     assert!(rt; allocate(&mut entities) == Err(AllocFault::NeedsFlush));
     assert_flushes(&rt, alloc, &mut entities, &[], &first);
     assert!(rt; allocate(&mut entities) == Ok(handle(&rt, 2, 1)));
