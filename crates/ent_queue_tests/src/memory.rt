@@ -14,6 +14,25 @@ const CREDIT: u64 = 1 << 40;
 /// How much credit the first commands cost, from none to all of them.
 const COST: [u64; 7] = [0, 1, 1, 1, 1, 9, 10];
 
+/// The calls that may be refused.
+const CALLS: [Call; 6] = [
+    Call::Spawn(&[]),
+    Call::Despawn((7, 1)),
+    Call::Remove((7, 1), 3),
+    Call::Insert((7, 1), &[(4, 4), (3, 3), (2, 2), (1, 1), (0, 0)]),
+    Call::SpawnMany(8, &[]),
+    Call::Spawn(&[
+        (7, 7),
+        (6, 6),
+        (5, 5),
+        (4, 4),
+        (3, 3),
+        (2, 2),
+        (1, 1),
+        (0, 0),
+    ]),
+];
+
 // Passes whichever single allocation is refused: `rt try --test --fail-alloc N -- refused_memory`
 // refuses the Nth. Each call needs more room than twice the queue before it, so each grows the
 // queue.
@@ -25,23 +44,6 @@ const COST: [u64; 7] = [0, 1, 1, 1, 1, 9, 10];
 fn refused_memory_leaves_queue_and_reserver(rt: HostRuntime) {
     let alloc = rt.alloc();
     let (shared, mut reserver) = opened(&rt, alloc, 100);
-    let calls = [
-        Call::Spawn(&[]),
-        Call::Despawn((7, 1)),
-        Call::Remove((7, 1), 3),
-        Call::Insert((7, 1), &[(4, 4), (3, 3), (2, 2), (1, 1), (0, 0)]),
-        Call::SpawnMany(8, &[]),
-        Call::Spawn(&[
-            (7, 7),
-            (6, 6),
-            (5, 5),
-            (4, 4),
-            (3, 3),
-            (2, 2),
-            (1, 1),
-            (0, 0),
-        ]),
-    ];
     let (mut answers, mut entries) = (text(&rt, alloc), text(&rt, alloc));
     let mut count = 0;
     for _ in 0..2 {
@@ -50,7 +52,7 @@ fn refused_memory_leaves_queue_and_reserver(rt: HostRuntime) {
             alloc,
             &shared,
             &mut reserver,
-            &calls,
+            &CALLS,
             count,
             &mut answers,
             &mut entries,
