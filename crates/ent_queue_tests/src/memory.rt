@@ -1,10 +1,37 @@
 //! Memory that is refused.
+ghost use Rattle.ent_shared.specs.Phase.{IsOf};
+
 use crate::call::Call;
 use crate::phase::{issued, opened};
 use crate::shown::{text, write_queue};
+use ent_shared::{Reserver, Shared};
+use std::alloc::Global;
+use std::process::Abort;
+
+/// The credit of a reserver at first.
+const CREDIT: u64 = 1 << 40;
 
 /// How much credit the first commands cost, from none to all of them.
 const COST: [u64; 7] = [0, 1, 1, 1, 1, 9, 10];
+
+/// The calls that may be refused.
+const CALLS: [Call; 6] = [
+    Call::Spawn(&[]),
+    Call::Despawn((7, 1)),
+    Call::Remove((7, 1), 3),
+    Call::Insert((7, 1), &[(4, 4), (3, 3), (2, 2), (1, 1), (0, 0)]),
+    Call::SpawnMany(8, &[]),
+    Call::Spawn(&[
+        (7, 7),
+        (6, 6),
+        (5, 5),
+        (4, 4),
+        (3, 3),
+        (2, 2),
+        (1, 1),
+        (0, 0),
+    ]),
+];
 
 // Passes whichever single allocation is refused: `rt try --test --fail-alloc N -- refused_memory`
 // refuses the Nth. Each call needs more room than twice the queue before it, so each grows the
@@ -17,39 +44,19 @@ const COST: [u64; 7] = [0, 1, 1, 1, 1, 9, 10];
 fn refused_memory_leaves_queue_and_reserver(rt: HostRuntime) {
     let alloc = rt.alloc();
     let (shared, mut reserver) = opened(&rt, alloc, 100);
-    let calls = [
-        Call::Spawn(&[]),
-        Call::Despawn((7, 1)),
-        Call::Remove((7, 1), 3),
-        Call::Insert((7, 1), &[(4, 4), (3, 3), (2, 2), (1, 1), (0, 0)]),
-        Call::SpawnMany(8, &[]),
-        Call::Spawn(&[
-            (7, 7),
-            (6, 6),
-            (5, 5),
-            (4, 4),
-            (3, 3),
-            (2, 2),
-            (1, 1),
-            (0, 0),
-        ]),
-    ];
     let (mut answers, mut entries) = (text(&rt, alloc), text(&rt, alloc));
     let mut count = 0;
     for _ in 0..2 {
-        assert!(rt; count < COST.len());
-        let queue = issued(
+        count = issued_from(
             &rt,
             alloc,
             &shared,
             &mut reserver,
-            &calls[count..],
+            &CALLS,
+            count,
             &mut answers,
+            &mut entries,
         );
-        write_queue(&mut entries, &queue).expect(&rt, "room for the entries");
-        count = count.saturating_add(queue.len());
-        assert!(rt; count < COST.len());
-        assert_eq!(rt; reserver.left(), (1 << 40) - COST[count]);
     }
     assert_eq!(rt;
         answers.as_str(),
@@ -64,4 +71,31 @@ fn refused_memory_leaves_queue_and_reserver(rt: HostRuntime) {
          spawn 8: 1v1 2v1 3v1 4v1 5v1 6v1 7v1 8v1 with 0:\n\
          spawn 9v1 with 8: 0=0 1=1 2=2 3=3 4=4 5=5 6=6 7=7\n"
     );
+}
+
+/// Issues the calls from `count` on, compares what they cost, and answers how many were made so far.
+fn issued_from(
+    rt: &impl Abort,
+    alloc: Global,
+    shared: &Shared,
+    reserver: &mut Reserver,
+    calls: &[Call],
+    count: usize,
+    answers: &mut String,
+    entries: &mut String,
+) -> usize
+    requires { IsOf shared.now reserver.old }
+    ensures { IsOf shared.now reserver.new }
+{
+    assert!(rt; count <= calls.len());
+    let queue = issued(rt, alloc, shared, reserver, &calls[count..], answers);
+    write_queue(entries, &queue).expect(rt, "room for the entries");
+    let made = count.saturating_add(queue.len());
+    assert_cost(rt, reserver, made);
+    made
+}
+
+fn assert_cost(rt: &impl Abort, reserver: &Reserver, made: usize) {
+    assert!(rt; made < COST.len());
+    assert!(rt; CREDIT.checked_sub(COST[made]) == Some(reserver.left()));
 }

@@ -3,7 +3,7 @@ ghost use Rattle.std.specs.Prelude.{◌≡◌, All, IfOk};
 ghost use Rattle.ent_shared.specs.Phase.{IsOf};
 
 use crate::call::{Call, issue};
-use crate::shown::write_answer;
+use crate::shown::{text, write_answer, write_queue};
 use ent_alloc::{Entities, Limits};
 use ent_handle::Memory;
 use ent_queue::{CommandQueue, Commands, QueueFault};
@@ -59,4 +59,29 @@ pub fn issued(
         write_answer(answers, &answer).expect(rt, "room for the answers");
     }
     commands.finish()
+}
+
+/// Issues the calls, and compares their answers and their entries with the texts.
+pub fn assert_issues(
+    rt: &impl Abort,
+    alloc: Global,
+    shared: &Shared,
+    reserver: &mut Reserver,
+    calls: &[Call],
+    answers: &str,
+    entries: &str,
+)
+    requires { IsOf shared.now reserver.old }
+{
+    let mut answered = text(rt, alloc);
+    let queue = issued(rt, alloc, shared, reserver, calls, &mut answered);
+    assert_eq!(rt; answered.as_str(), answers);
+    assert_eq!(rt; queue.len(), calls.len());
+    assert_entries(rt, alloc, &queue, entries);
+}
+
+fn assert_entries(rt: &impl Abort, alloc: Global, queue: &CommandQueue, want: &str) {
+    let mut entries = text(rt, alloc);
+    write_queue(&mut entries, queue).expect(rt, "room for the entries");
+    assert_eq!(rt; entries.as_str(), want);
 }

@@ -2,37 +2,35 @@
 ghost use Rattle.ent_shared.specs.Phase.{IsOf};
 
 use crate::call::Call;
-use crate::phase::{issued, opened};
-use crate::shown::{text, write_queue};
+use crate::phase::{assert_issues, issued, opened};
+use crate::shown::text;
 use ent_queue::Commands;
 use ent_shared::{Reserver, Shared};
+
+const WORKED: [Call; 5] = [
+    Call::Spawn(&[(0, 5)]),
+    Call::SpawnMany(2, &[]),
+    Call::Insert((0, 1), &[(0, 6), (1, -1)]),
+    Call::Remove((0, 1), 1),
+    Call::Despawn((9, 1)),
+];
 
 #[test]
 fn a_refusal_stays_in_the_queue(rt: HostRuntime) {
     let alloc = rt.alloc();
     let (shared, mut reserver) = opened(&rt, alloc, 2);
-    let calls = [
-        Call::Spawn(&[(0, 5)]),
-        Call::SpawnMany(2, &[]),
-        Call::Insert((0, 1), &[(0, 6), (1, -1)]),
-        Call::Remove((0, 1), 1),
-        Call::Despawn((9, 1)),
-    ];
-    let (mut answers, mut entries) = (text(&rt, alloc), text(&rt, alloc));
-    let queue = issued(&rt, alloc, &shared, &mut reserver, &calls, &mut answers);
-    write_queue(&mut entries, &queue).expect(&rt, "room for the entries");
-    assert_eq!(rt;
-        answers.as_str(),
-        "0v1\n2 wanted and 1 left\ndone\ndone\ndone\n"
-    );
-    assert_eq!(rt; queue.len(), 5);
-    assert_eq!(rt;
-        entries.as_str(),
+    assert_issues(
+        &rt,
+        alloc,
+        &shared,
+        &mut reserver,
+        &WORKED,
+        "0v1\n2 wanted and 1 left\ndone\ndone\ndone\n",
         "spawn 0v1 with 1: 0=5\n\
          refused 2: 2 wanted and 1 left\n\
          insert 0v1 with 2: 0=6 1=-1\n\
          remove 0v1 1\n\
-         despawn 9v1\n"
+         despawn 9v1\n",
     );
 }
 
@@ -58,6 +56,17 @@ fn drain(shared: &Shared, reserver: &mut Reserver)
     }
 }
 
+const BEYOND: [Call; 5] = [
+    Call::SpawnMany(257, &[(1, 1)]),
+    Call::SpawnMany(256, &[]),
+    Call::Spawn(&[(1, 1)]),
+    Call::SpawnMany(0, &[(9, 9)]),
+    Call::Insert(
+        (4_294_967_294, 2_147_483_647),
+        &[(255, i64::MAX), (5, 1), (4, 2), (3, 3), (0, i64::MIN)],
+    ),
+];
+
 // Both refusals and a spawn of nobody. Then the greatest numbers, in more components than lie in a
 // bundle itself.
 #[test]
@@ -65,31 +74,19 @@ fn a_reserver_without_credit(rt: HostRuntime) {
     let alloc = rt.alloc();
     let (shared, mut reserver) = opened(&rt, alloc, 1);
     drain(&shared, &mut reserver);
-    let calls = [
-        Call::SpawnMany(257, &[(1, 1)]),
-        Call::SpawnMany(256, &[]),
-        Call::Spawn(&[(1, 1)]),
-        Call::SpawnMany(0, &[(9, 9)]),
-        Call::Insert(
-            (4_294_967_294, 2_147_483_647),
-            &[(255, i64::MAX), (5, 1), (4, 2), (3, 3), (0, i64::MIN)],
-        ),
-    ];
-    let (mut answers, mut entries) = (text(&rt, alloc), text(&rt, alloc));
-    let queue = issued(&rt, alloc, &shared, &mut reserver, &calls, &mut answers);
-    write_queue(&mut entries, &queue).expect(&rt, "room for the entries");
-    assert_eq!(rt;
-        answers.as_str(),
-        "the credit left is 256\n256 wanted and 0 left\nthe credit left is 0\n0:\ndone\n"
-    );
-    assert_eq!(rt;
-        entries.as_str(),
+    assert_issues(
+        &rt,
+        alloc,
+        &shared,
+        &mut reserver,
+        &BEYOND,
+        "the credit left is 256\n256 wanted and 0 left\nthe credit left is 0\n0:\ndone\n",
         "refused 257: the credit left is 256\n\
          refused 256: 256 wanted and 0 left\n\
          refused 1: the credit left is 0\n\
          spawn 0: with 1: 9=9\n\
          insert 4294967294v2147483647 with 5: \
-         0=-9223372036854775808 3=3 4=2 5=1 255=9223372036854775807\n"
+         0=-9223372036854775808 3=3 4=2 5=1 255=9223372036854775807\n",
     );
     assert_eq!(rt; reserver.left(), 0);
 }

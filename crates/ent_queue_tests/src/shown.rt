@@ -1,6 +1,7 @@
 //! Answers and queues as text, so that a test compares a whole queue at once.
 use crate::call::Given;
-use ent_queue::{BundleRef, CommandQueue, Entry, QueueFault};
+use ent_handle::Handle;
+use ent_queue::{BundleRef, CommandQueue, Entry, HandlesRef, QueueFault};
 use std::alloc::{AllocError, Global};
 use std::process::Abort;
 
@@ -21,16 +22,18 @@ pub fn write_answer(
     match answer {
         Ok(Given::Nothing) => writeln!(text, "done"),
         Ok(Given::One(handle)) => writeln!(text, "{handle}"),
-        Ok(Given::Many(handles)) => {
-            let count = handles.len();
-            write!(text, "{count}:")?;
-            for handle in handles {
-                write!(text, " {handle}")?;
-            }
-            writeln!(text, "")
-        }
+        Ok(Given::Many(handles)) => write_many(text, handles),
         Err(fault) => writeln!(text, "{fault}"),
     }
+}
+
+fn write_many(text: &mut String, handles: &[Handle]) -> Result<(), AllocError> {
+    let count = handles.len();
+    write!(text, "{count}:")?;
+    for handle in handles {
+        write!(text, " {handle}")?;
+    }
+    writeln!(text, "")
 }
 
 /// The commands of a queue, a line each.
@@ -49,11 +52,7 @@ fn write_entry(text: &mut String, entry: &Entry<'_>) -> Result<(), AllocError> {
             write_bundle(text, bundle)
         }
         Entry::SpawnMany(handles, bundle) => {
-            let count = handles.len();
-            write!(text, "spawn {count}:")?;
-            for handle in handles.iter() {
-                write!(text, " {handle}")?;
-            }
+            write_spawned(text, handles)?;
             write_bundle(text, bundle)
         }
         Entry::Insert(handle, bundle) => {
@@ -67,6 +66,15 @@ fn write_entry(text: &mut String, entry: &Entry<'_>) -> Result<(), AllocError> {
         Entry::Despawn(handle) => write!(text, "despawn {handle}"),
         Entry::Refused { wanted, why } => write!(text, "refused {wanted}: {why}"),
     }
+}
+
+fn write_spawned(text: &mut String, handles: &HandlesRef<'_>) -> Result<(), AllocError> {
+    let count = handles.len();
+    write!(text, "spawn {count}:")?;
+    for handle in handles.iter() {
+        write!(text, " {handle}")?;
+    }
+    Ok(())
 }
 
 fn write_bundle(text: &mut String, bundle: &BundleRef<'_>) -> Result<(), AllocError> {

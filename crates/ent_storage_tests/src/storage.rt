@@ -26,27 +26,39 @@ fn birth(rank: u32) -> Birth {
 fn despawn_moves_the_last_entity(rt: HostRuntime) -> Result<(), Fail> {
     let (first, second, third) = (handle(0)?, handle(1)?, handle(2)?);
     let mut storage = Storage::new(rt.alloc());
-    assert_eq!(rt; storage.reserve(3), Ok(()));
-    assert!(rt; storage.spare() >= 3);
-    for (entity, ordinal) in [(first, 2), (second, 1), (third, 0)] {
-        assert_eq!(rt; storage.born(entity, birth(ordinal)), Ok(()));
-    }
-    for (entity, value) in [(first, 10), (second, 11), (third, 12)] {
-        assert_eq!(rt; storage.insert(entity, &[(HEALTH, value)]), Ok(()));
-    }
-    assert_eq!(rt; storage.despawn(first), Ok(()));
-
-    assert_eq!(rt; storage.get(third, HEALTH), Some(12));
-    assert_eq!(rt; storage.get(second, HEALTH), Some(11));
-    assert_eq!(rt; storage.by_birth()?.as_slice(), [third, second].as_slice());
-    assert_eq!(rt; storage.despawn(first), Err(StorageFault::Absent));
-    assert_eq!(rt; storage.born(third, birth(9)), Err(StorageFault::Present));
-    assert_eq!(rt; storage.remove(second, ComponentId(7)), Ok(None));
-    assert_eq!(rt;
-        storage.with(HEALTH)?.as_slice(),
-        [third, second].as_slice()
+    assert_reserves(&rt, &mut storage, 3);
+    assert_lives(
+        &rt,
+        &mut storage,
+        &[(first, 2, 10), (second, 1, 11), (third, 0, 12)],
     );
-    Ok(())
+    assert_eq!(rt; storage.despawn(first), Ok(()));
+    assert_left(&rt, &mut storage, first, second, third);
+    assert_lists(&rt, &storage, &[third, second], &[])
+}
+
+// Brings all entities to life, each with the rank of its birth, and then gives each its health.
+fn assert_lives(rt: &impl Abort, storage: &mut Storage, entities: &[(Handle, u32, i64)]) {
+    for (entity, rank, _) in entities {
+        assert!(rt; storage.born(*entity, birth(*rank)) == Ok(()));
+    }
+    for (entity, _, health) in entities {
+        assert!(rt; storage.insert(*entity, &[(HEALTH, *health)]) == Ok(()));
+    }
+}
+
+fn assert_left(
+    rt: &impl Abort,
+    storage: &mut Storage,
+    first: Handle,
+    second: Handle,
+    third: Handle,
+) {
+    let health = [storage.get(third, HEALTH), storage.get(second, HEALTH)];
+    assert!(rt; health == [Some(12), Some(11)]);
+    assert!(rt; storage.despawn(first) == Err(StorageFault::Absent));
+    assert!(rt; storage.born(third, birth(9)) == Err(StorageFault::Present));
+    assert!(rt; storage.remove(second, ComponentId(7)) == Ok(None));
 }
 
 // The handle of an entity. The entities are numbered from 0 in the order in which they are born. An
@@ -77,73 +89,98 @@ fn mana_at(number: u32) -> Option<i64> {
     }
 }
 
-// The entities of the numbers below `size` that belong, by birth.
-fn listed<F: Fn(u32) -> bool>(alloc: Global, size: u32, belongs: F) -> Result<Vec<Handle>, Fail>
-    requires { F.IsAlwaysCallable belongs }
-{
-    (0..size)
-        .rev()
-        .filter(|number| belongs(*number))
-        .map(entity)
-        .try_collect(alloc)
+// The entities of the numbers below `size`, by birth: those of the numbers that 3 divides, if `thirds`
+// says so, and the others, if `others` does.
+fn listed(alloc: Global, size: u32, thirds: bool, others: bool) -> Result<Vec<Handle>, Fail> {
+    let mut list = Vec::new(alloc);
+    for number in (0..size).rev() {
+        let belongs = if is_third(number) { thirds } else { others };
+        if belongs {
+            list.push(entity(number)?)?;
+        }
+    }
+    Ok(list)
 }
 
 // No entity, one alone, and enough that the vectors have grown many times.
 #[test]
 fn every_call_at_each_size(rt: HostRuntime) -> Result<(), Fail> {
     for size in [0, 1, 3000] {
-        let all = listed(rt.alloc(), size, |_| true)?;
-        let thirds = listed(rt.alloc(), size, is_third)?;
-        let others = listed(rt.alloc(), size, |number| !is_third(number))?;
-        let mut storage = Storage::new(rt.alloc());
-        assert_eq!(rt; storage.spare(), 0);
-        fill(&rt, &mut storage, size)?;
-        assert_reserves(&rt, &mut storage);
-        assert_lists(&rt, &storage, &all, &thirds)?;
-        assert_entities(&rt, &storage, size)?;
-        assert_strangers(&rt, &mut storage, size)?;
-        assert_removes(&rt, &mut storage, size)?;
-        assert_lists(&rt, &storage, &all, &[])?;
-        assert_despawns(&rt, &mut storage, size)?;
-        assert_lists(&rt, &storage, &others, &[])?;
-        assert_thinned(&rt, &mut storage, size)?;
+        assert_size(&rt, rt.alloc(), size)?;
+    }
+    Ok(())
+}
+
+fn assert_size(rt: &impl Abort, alloc: Global, size: u32) -> Result<(), Fail> {
+    let mut storage = Storage::new(alloc);
+    assert_eq!(rt; storage.spare(), 0);
+    fill(rt, &mut storage, size)?;
+    assert_reserves(rt, &mut storage, 5000);
+    assert_full(rt, alloc, &mut storage, size)?;
+    assert_taken(rt, alloc, &mut storage, size)
+}
+
+fn assert_full(
+    rt: &impl Abort,
+    alloc: Global,
+    storage: &mut Storage,
+    size: u32,
+) -> Result<(), Fail> {
+    let all = listed(alloc, size, true, true)?;
+    let thirds = listed(alloc, size, true, false)?;
+    assert_lists(rt, storage, &all, &thirds)?;
+    assert_entities(rt, storage, size)?;
+    assert_strangers(rt, storage, size)?;
+    assert_removes(rt, storage, size)?;
+    assert_lists(rt, storage, &all, &[])
+}
+
+// Takes every third entity out.
+fn assert_taken(
+    rt: &impl Abort,
+    alloc: Global,
+    storage: &mut Storage,
+    size: u32,
+) -> Result<(), Fail> {
+    let others = listed(alloc, size, false, true)?;
+    assert_despawns(rt, storage, size)?;
+    assert_lists(rt, storage, &others, &[])?;
+    assert_thinned(rt, storage, size)
+}
+
+fn fill(rt: &impl Abort, storage: &mut Storage, size: u32) -> Result<(), Fail> {
+    for number in 0..size {
+        assert_fills(rt, storage, number, entity(number)?);
     }
     Ok(())
 }
 
 // `MANA` comes before `HEALTH`, so that rising numbers are not the order of the calls.
-fn fill(rt: &impl Abort, storage: &mut Storage, size: u32) -> Result<(), Fail> {
-    for number in 0..size {
-        let entity = entity(number)?;
-        assert_eq!(rt;
-            storage.born(entity, birth_at(number)),
-            Ok(()),
-            "at {number}"
-        );
-        assert_eq!(rt;
-            storage.born(entity, birth(0)),
-            Err(StorageFault::Present),
-            "at {number}"
-        );
-        if let Some(mana) = mana_at(number) {
-            assert_eq!(rt;
-                storage.insert(entity, &[(MANA, mana)]),
-                Ok(()),
-                "at {number}"
-            );
-        }
-        assert_eq!(rt;
-            storage.insert(entity, &[(HEALTH, health_at(number))]),
-            Ok(()),
+fn assert_fills(rt: &impl Abort, storage: &mut Storage, number: u32, entity: Handle) {
+    assert!(rt;
+        storage.born(entity, birth_at(number)) == Ok(()),
+        "at {number}"
+    );
+    assert!(rt;
+        storage.born(entity, birth(0)) == Err(StorageFault::Present),
+        "at {number}"
+    );
+    if let Some(mana) = mana_at(number) {
+        assert!(rt;
+            storage.insert(entity, &[(MANA, mana)]) == Ok(()),
             "at {number}"
         );
     }
-    Ok(())
+    let health = health_at(number);
+    assert!(rt;
+        storage.insert(entity, &[(HEALTH, health)]) == Ok(()),
+        "at {number}"
+    );
 }
 
-fn assert_reserves(rt: &impl Abort, storage: &mut Storage) {
-    assert_eq!(rt; storage.reserve(5000), Ok(()));
-    assert!(rt; storage.spare() >= 5000);
+fn assert_reserves(rt: &impl Abort, storage: &mut Storage, additional: usize) {
+    assert!(rt; storage.reserve(additional) == Ok(()));
+    assert!(rt; storage.spare() >= additional);
 }
 
 fn assert_lists(
@@ -152,12 +189,16 @@ fn assert_lists(
     living: &[Handle],
     with_mana: &[Handle],
 ) -> Result<(), Fail> {
-    assert_eq!(rt; storage.len(), living.len());
-    assert_eq!(rt; storage.is_empty(), living.is_empty());
-    assert_eq!(rt; storage.by_birth()?.as_slice(), living);
-    assert_eq!(rt; storage.with(HEALTH)?.as_slice(), living);
-    assert_eq!(rt; storage.with(MANA)?.as_slice(), with_mana);
+    assert!(rt; storage.len() == living.len());
+    assert!(rt; storage.is_empty() == living.is_empty());
+    assert_listed(rt, storage.by_birth()?, living);
+    assert_listed(rt, storage.with(HEALTH)?, living);
+    assert_listed(rt, storage.with(MANA)?, with_mana);
     Ok(())
+}
+
+fn assert_listed(rt: &impl Abort, found: Vec<Handle>, want: &[Handle]) {
+    assert_eq!(rt; found.as_slice(), want);
 }
 
 fn assert_entities(rt: &impl Abort, storage: &Storage, size: u32) -> Result<(), Fail> {
@@ -175,18 +216,24 @@ fn assert_entity(
 ) -> Result<(), Fail> {
     let entity = entity(number)?;
     let health = health_at(number);
-    let found = (
-        storage.contains(entity),
-        storage.birth(entity),
-        storage.get(entity, HEALTH),
-        storage.get(entity, MANA),
+    assert!(rt;
+        seen(storage, entity) == (true, Some(birth_at(number)), Some(health), mana),
+        "at {number}"
     );
-    let want = (true, Some(birth_at(number)), Some(health), mana);
-    assert_eq!(rt; found, want, "at {number}");
     match mana {
         Some(mana) => assert_items(rt, storage, entity, &[(HEALTH, health), (MANA, mana)]),
         None => assert_items(rt, storage, entity, &[(HEALTH, health)]),
     }
+}
+
+// What a storage answers of an entity: whether it is there, its birth, its health and its mana.
+fn seen(storage: &Storage, entity: Handle) -> (bool, Option<Birth>, Option<i64>, Option<i64>) {
+    (
+        storage.contains(entity),
+        storage.birth(entity),
+        storage.get(entity, HEALTH),
+        storage.get(entity, MANA),
+    )
 }
 
 fn assert_items(
@@ -196,7 +243,7 @@ fn assert_items(
     want: &[(ComponentId, i64)],
 ) -> Result<(), Fail> {
     let items = storage.items(entity).ok_or("absent")?;
-    assert_eq!(rt; items.len(), want.len(), "of {entity:?}");
+    assert!(rt; items.len() == want.len(), "of {entity:?}");
     assert!(rt; items.eq(want.iter().copied()), "of {entity:?}");
     Ok(())
 }
@@ -209,33 +256,27 @@ fn assert_strangers(rt: &impl Abort, storage: &mut Storage, size: u32) -> Result
 }
 
 fn assert_absent(rt: &impl Abort, storage: &mut Storage, stranger: Handle) {
-    let found = (
-        storage.contains(stranger),
-        storage.birth(stranger),
-        storage.get(stranger, HEALTH),
-        storage.items(stranger).is_some(),
-    );
-    assert_eq!(rt; found, (false, None, None, false), "of {stranger:?}");
-    let refused = (
-        storage.insert(stranger, &[(HEALTH, 1)]),
-        storage.remove(stranger, HEALTH),
-        storage.despawn(stranger),
-    );
-    let absent = StorageFault::Absent;
-    assert_eq!(rt;
-        refused,
-        (Err(absent), Err(absent), Err(absent)),
+    assert!(rt;
+        seen(storage, stranger) == (false, None, None, None),
         "of {stranger:?}"
     );
+    assert!(rt; storage.items(stranger).is_none(), "of {stranger:?}");
+    let absent = StorageFault::Absent;
+    assert!(rt;
+        storage.insert(stranger, &[(HEALTH, 1)]) == Err(absent),
+        "of {stranger:?}"
+    );
+    assert!(rt;
+        storage.remove(stranger, HEALTH) == Err(absent),
+        "of {stranger:?}"
+    );
+    assert!(rt; storage.despawn(stranger) == Err(absent), "of {stranger:?}");
 }
 
 fn assert_removes(rt: &impl Abort, storage: &mut Storage, size: u32) -> Result<(), Fail> {
     for number in 0..size {
-        assert_eq!(rt;
-            storage.remove(entity(number)?, MANA),
-            Ok(mana_at(number)),
-            "at {number}"
-        );
+        let removed = storage.remove(entity(number)?, MANA);
+        assert!(rt; removed == Ok(mana_at(number)), "at {number}");
         assert_entity(rt, storage, number, None)?;
     }
     Ok(())
@@ -244,8 +285,11 @@ fn assert_removes(rt: &impl Abort, storage: &mut Storage, size: u32) -> Result<(
 fn assert_despawns(rt: &impl Abort, storage: &mut Storage, size: u32) -> Result<(), Fail> {
     for number in (0..size).step_by(3) {
         let spare = storage.spare();
-        assert_eq!(rt; storage.despawn(entity(number)?), Ok(()), "at {number}");
-        assert_eq!(rt; Some(storage.spare()), spare.checked_add(1), "at {number}");
+        assert!(rt; storage.despawn(entity(number)?) == Ok(()), "at {number}");
+        assert!(rt;
+            Some(storage.spare()) == spare.checked_add(1),
+            "at {number}"
+        );
     }
     Ok(())
 }
@@ -273,16 +317,10 @@ fn keeps_the_greatest_numbers(rt: HostRuntime) -> Result<(), Fail> {
     let mut storage = Storage::new(rt.alloc());
     storage.born(entity, latest)?;
     assert_eq!(rt; storage.birth(entity), Some(latest));
-    storage.insert(entity, &[(HEALTH, -1)])?;
-    storage.insert(entity, &[])?;
-    assert_items(&rt, &storage, entity, &[(HEALTH, -1)])?;
-    storage.insert(entity, &[(HEALTH, i64::MAX), (MANA, 4), (last, i64::MIN)])?;
-    assert_items(
-        &rt,
-        &storage,
-        entity,
-        &[(HEALTH, i64::MAX), (MANA, 4), (last, i64::MIN)],
-    )?;
+    assert_inserts(&rt, &mut storage, entity, &[(HEALTH, -1)], &[(HEALTH, -1)])?;
+    assert_inserts(&rt, &mut storage, entity, &[], &[(HEALTH, -1)])?;
+    let greatest = [(HEALTH, i64::MAX), (MANA, 4), (last, i64::MIN)];
+    assert_inserts(&rt, &mut storage, entity, &greatest, &greatest)?;
     assert_eq!(rt; storage.remove(entity, MANA), Ok(Some(4)));
     assert_items(
         &rt,
@@ -290,6 +328,17 @@ fn keeps_the_greatest_numbers(rt: HostRuntime) -> Result<(), Fail> {
         entity,
         &[(HEALTH, i64::MAX), (last, i64::MIN)],
     )
+}
+
+fn assert_inserts(
+    rt: &impl Abort,
+    storage: &mut Storage,
+    entity: Handle,
+    items: &[(ComponentId, i64)],
+    want: &[(ComponentId, i64)],
+) -> Result<(), Fail> {
+    storage.insert(entity, items)?;
+    assert_items(rt, storage, entity, want)
 }
 
 // What an entity is given at first, and then what replaces it and needs more room.
@@ -308,29 +357,31 @@ const MORE: [(ComponentId, i64); 5] = [
 #[test]
 fn refused_memory_changes_nothing(rt: HostRuntime) -> Result<(), Fail> {
     for size in [0, 1, 20] {
-        let mut storage = Storage::new(rt.alloc());
-        for index in (0..size).rev() {
-            let entity = handle(index)?;
-            born_at_last(&rt, &mut storage, entity)?;
-            insert_at_last(&rt, &mut storage, entity, &[], &FEW)?;
-            insert_at_last(&rt, &mut storage, entity, &FEW, &MORE)?;
-        }
-        reserve_at_last(&rt, &mut storage)?;
-        list_at_last(&rt, &storage, size)?;
-        take_apart(&rt, &mut storage, size)?;
+        assert_keeps(&rt, rt.alloc(), size)?;
     }
     Ok(())
+}
+
+fn assert_keeps(rt: &impl Abort, alloc: Global, size: u32) -> Result<(), Fail> {
+    let mut storage = Storage::new(alloc);
+    for index in (0..size).rev() {
+        let entity = handle(index)?;
+        born_at_last(rt, &mut storage, entity)?;
+        insert_at_last(rt, &mut storage, entity, &[], &FEW)?;
+        insert_at_last(rt, &mut storage, entity, &FEW, &MORE)?;
+    }
+    reserve_at_last(rt, &mut storage)?;
+    list_at_last(rt, &storage, size)?;
+    take_apart(rt, &mut storage, size)
 }
 
 fn born_at_last(rt: &impl Abort, storage: &mut Storage, entity: Handle) -> Result<(), Fail> {
     let len = storage.len();
     if storage.born(entity, birth(0)) == Err(StorageFault::Memory) {
-        assert_eq!(rt; storage.len(), len);
-        assert_eq!(rt; storage.spare(), 0);
-        assert!(rt; !storage.contains(entity));
+        assert!(rt; (storage.len(), storage.spare(), storage.contains(entity)) == (len, 0, false));
         storage.born(entity, birth(0))?;
     }
-    assert_eq!(rt; storage.birth(entity), Some(birth(0)));
+    assert!(rt; storage.birth(entity) == Some(birth(0)));
     Ok(())
 }
 
@@ -359,11 +410,22 @@ fn reserve_at_last(rt: &impl Abort, storage: &mut Storage) -> Result<(), Fail> {
 
 // All have one birth, so both lists are in the order of handles.
 fn list_at_last(rt: &impl Abort, storage: &Storage, size: u32) -> Result<(), Fail> {
-    let all = storage.by_birth().or_else(|_| storage.by_birth())?;
-    assert!(rt; all.iter().map(|entity| entity.index()).eq(0..size));
-    let with_mana = storage.with(MANA).or_else(|_| storage.with(MANA))?;
-    assert!(rt; with_mana.iter().map(|entity| entity.index()).eq(0..size));
+    match storage.by_birth() {
+        Ok(all) => assert_numbered(rt, &all, size),
+        Err(_) => assert_numbered(rt, &storage.by_birth()?, size),
+    }
+    match storage.with(MANA) {
+        Ok(with_mana) => assert_numbered(rt, &with_mana, size),
+        Err(_) => assert_numbered(rt, &storage.with(MANA)?, size),
+    }
     Ok(())
+}
+
+fn assert_numbered(rt: &impl Abort, entities: &[Handle], size: u32) {
+    assert!(rt; entities.len() == size as usize);
+    for (index, entity) in (0..size).zip(entities) {
+        assert!(rt; entity.index() == index);
+    }
 }
 
 // None of this takes memory, so no call is made twice.
@@ -371,11 +433,15 @@ fn take_apart(rt: &impl Abort, storage: &mut Storage, size: u32) -> Result<(), F
     for index in 0..size {
         let entity = handle(index)?;
         assert_items(rt, storage, entity, &MORE)?;
-        assert_eq!(rt; storage.remove(entity, HEALTH), Ok(Some(3)));
-        assert_eq!(rt; storage.get(entity, HEALTH), None);
-        assert_eq!(rt; storage.despawn(entity), Ok(()));
-        assert_absent(rt, storage, entity);
+        assert_taken_apart(rt, storage, entity);
     }
     assert!(rt; storage.is_empty());
     Ok(())
+}
+
+fn assert_taken_apart(rt: &impl Abort, storage: &mut Storage, entity: Handle) {
+    assert!(rt; storage.remove(entity, HEALTH) == Ok(Some(3)));
+    assert!(rt; storage.get(entity, HEALTH) == None);
+    assert!(rt; storage.despawn(entity) == Ok(()));
+    assert_absent(rt, storage, entity);
 }
