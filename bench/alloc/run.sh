@@ -17,7 +17,7 @@ count() {
         NF < 2 { next }
         { name = $(NF - 1) }
         name ~ /:(main::work::)?(alloc_(with_free|fresh)|state|reserve_(in_bulk|singly))$/ {
-            side = name ~ /work/ ? "plain" : "verified"
+            side = index(name, "work") ? "plain" : "verified"
             sub(/.*:/, "", name)
             gsub(/,/, "", $1)
             print name, side, $1
