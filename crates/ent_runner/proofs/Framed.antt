@@ -1,0 +1,187 @@
+-- What the workers did, their histories and the queues in their places are a frame.
+use Rattle.std.proofs.Common.{◌≡◌, ◌≢◌, ℕ, zero, suc, ◌+◌, ◌<◌, ◌≤◌, List, [], ◌∷◌, ◌++◌, length, map, get_or, refl, ap, sym, ◌∙◌, arith, subst, Option, Some, None, Bool, true, false, cond, inl, inr, Result, ne_eqb}
+use Rattle.std.specs.Prelude.{◌==◌, filter, slice_get, slice_set, replicate}
+use Rattle.std.specs.List.{All, AllPairs, sum_by, flat_map, range_with_len, Contains}
+use Rattle.std.specs.List.Sorted.{IsPermutation}
+use Rattle.std.proofs.lemmas.Bool.{cases_eq}
+use Rattle.std.proofs.lemmas.Option.{slice_get_within}
+use Rattle.std.proofs.lemmas.List.{length-replicate, get_or-map, length-map}
+use Rattle.std.proofs.lemmas.List.Folds.{flat_map-map}
+use Rattle.std.proofs.lemmas.List.Elements.{All-nil, All-cons, All-head, All-tail, All-append, All-map, All-weaker}
+use Rattle.std.proofs.lemmas.List.Sums.{sum_by-cons}
+use Rattle.std.proofs.lemmas.List.Sorted.{sum_by-IsPermutation, All-permutation, IsPermutation-sym}
+use Rattle.ent_handle.specs.Handle.{Handle}
+use Rattle.ent_alloc.specs.declared.space.Space.{Space}
+use Rattle.ent_alloc.specs.Limits.{credit}
+use Rattle.ent_alloc.specs.History.{Call, IsLegal}
+use Rattle.ent_shared.specs.declared.record.Reservation.{Reservation}
+use Rattle.ent_shared.specs.declared.record.RecordEntry.{RecordEntry}
+use Rattle.ent_shared.specs.declared.record.RecordEntry.TheVariants.{Own}
+use Rattle.ent_shared.specs.declared.record.Record.{Record}
+use Rattle.ent_shared.specs.Record.{opened, own_reservations}
+use Rattle.ent_shared.specs.Order.{own_of_all, reservations_of, reservations_by, history_of, as_call, Respects}
+use Rattle.ent_shared.proofs.Sorting.{all_sorted}
+use Rattle.ent_queue.specs.Command.{Command}
+use Rattle.ent_queue.specs.Reserving.{requests_of, AreWithin, Gains}
+use Rattle.ent_world.specs.World.{World}
+use Rattle.ent_world.specs.OpenWorld.{View}
+use Rattle.ent_runner.specs.declared.worker.Issued.{Issued}
+use Rattle.ent_runner.specs.Frame.{IsFrame, IsWork, view_of, queue_at, commands_of, requests_by}
+use Rattle.ent_runner.specs.Worker.{MayIssue, systems_of, commands_in}
+use Rattle.ent_runner.specs.Placing.{placed}
+use Rattle.ent_runner.proofs.Placed.{is_of, times, times_here, all_placed, length_placed}
+use Rattle.ent_runner.proofs.Lists.{all_from_each, each_of_all, all_flat, flat_all, same_flat, map_flat, filter_map_is, map_map_is, sum_map, mapped_at, at_within, is_number, once_in_range, some_in_range, all_below}
+
+own_mapped : (rs : List Reservation) → own_reservations (map Own rs) ≡ rs
+own_mapped [] = refl
+own_mapped (r ∷ rs) = ap (λ more. r ∷ more) (own_mapped rs)
+
+abbrev asked : Reservation → ℕ × Result (List Handle) Space
+asked r = (r.requested, r.reply)
+
+-- the calls of one caller in the history
+by_caller : (k : ℕ) (records : List Record) → requests_by k (history_of records) ≡ map asked (reservations_by k (reservations_of records))
+by_caller k records =
+    ap (map (λ (call : Call). (call.requested, call.reply))) (filter_map_is (λ (call : Call). call.caller == k) as_call (reservations_of records))
+    ∙ map_map_is (λ (call : Call). (call.requested, call.reply)) as_call (reservations_by k (reservations_of records))
+
+-- an element that is there so often is somewhere
+found : (n : ℕ) (issued : List Issued) → 0 < times n issued → (k : ℕ) × (i : Issued) × (slice_get issued k ≡ Some i) × (i.system ≡ n)
+found n [] some = absurd (omega arith)
+found n (i ∷ issued) some =
+    elim (cases_eq i.system n) [
+      | inl e ↦ (0, i, refl, e)
+      | inr ne ↦
+          let sums : times n (i ∷ issued) ≡ is_of n i + times n issued = sum_by-cons (is_of n) i issued in
+          let away : is_of n i ≡ 0 = ap (λ b. cond b 1 0) (ne_eqb i.system n ne) in
+          let rest = found n issued (omega arith) in
+          (suc rest.0, rest.1, rest.2, rest.3)
+    ]
+
+module _ {S : Type 0} (may : S → View → List Command → Type 0) (systems : List S) (before : World) where
+  -- what the worker of this number did
+  pub record Did (k : ℕ) (r : Record) (mine : List Issued) : Type 0 where
+    pub gains : Gains (opened before.allocator k) (commands_in mine) r
+    pub each : All (λ (i : Issued). MayIssue may systems (view_of before) i.system i.queue) mine
+    pub rising : AllPairs (λ m n. m < n) (systems_of mine)
+
+  module _ (workers : ℕ) (records : List Record) (work : List (List Issued)) (queues : List (List Command))
+    (count : length records ≡ workers) (teams : length work ≡ workers)
+    (each : (k : ℕ) (r : Record) (mine : List Issued) → slice_get records k ≡ Some r → slice_get work k ≡ Some mine → Did k r mine)
+    (once : IsPermutation (flat_map systems_of work) (range_with_len 0 (length systems)))
+    (legal : IsLegal before.allocator (history_of records))
+    (respects : All (Respects (reservations_of records)) records)
+    (places : map Some queues ≡ placed (flat_map (λ mine. mine) work) (replicate (length systems) None))
+    where
+
+    abbrev all : List Issued
+    all = flat_map (λ mine. mine) work
+
+    counts : (n : ℕ) → times n all ≡ sum_by (is_number n) (range_with_len 0 (length systems))
+    counts n =
+        sym (sum_map (is_number n) (λ (i : Issued). i.system) all)
+        ∙ (ap (sum_by (is_number n)) (map_flat (λ (i : Issued). i.system) (λ mine. mine) work)
+        ∙ sym (sum_by-IsPermutation (is_number n) (flat_map systems_of work) (range_with_len 0 (length systems)) once))
+
+    inside : All (λ (i : Issued). i.system < length systems) all
+    inside =
+        let numbers : All (λ n. n < length systems) (flat_map systems_of work) = All-permutation (λ n. n < length systems) (range_with_len 0 (length systems)) (flat_map systems_of work) (IsPermutation-sym (flat_map systems_of work) (range_with_len 0 (length systems)) once) (all_below (length systems)) in
+        unmapped all (subst (All (λ n. n < length systems)) (sym (map_flat (λ (i : Issued). i.system) (λ mine. mine) work)) numbers)
+      where
+        unmapped : (is : List Issued) → All (λ n. n < length systems) (systems_of is) → All (λ (i : Issued). i.system < length systems) is
+        unmapped [] ok = All-nil (λ (i : Issued). i.system < length systems)
+        unmapped (i ∷ is) ok = All-cons (λ (i : Issued). i.system < length systems) i is (All-head (λ n. n < length systems) i.system (systems_of is) ok) (unmapped is (All-tail (λ n. n < length systems) i.system (systems_of is) ok))
+
+    abbrev none : Option (List Command)
+    none = None
+
+    abbrev places0 : List (Option (List Command))
+    places0 = replicate (length systems) None
+
+    long : length queues ≡ length systems
+    long = sym (length-map queues Some) ∙ (ap length places ∙ (length_placed all (replicate (length systems) None) ∙ length-replicate (length systems) None))
+
+    queue_is : All (λ (i : Issued). queue_at queues i.system ≡ i.queue) all
+    queue_is =
+        let ok : All (λ (i : Issued). i.system < length places0) all = subst (λ m. All (λ (i : Issued). i.system < m) all) (sym (length-replicate (length systems) none)) inside in
+        let stand = all_placed (Some []) all places0 ok (λ n. let c = counts n in let o = once_in_range n 0 (length systems) in omega arith) in
+        both all inside stand
+      where
+        both : (is : List Issued) → All (λ (i : Issued). i.system < length systems) is → All (λ (i : Issued). get_or (placed all (replicate (length systems) None)) i.system (Some []) ≡ Some i.queue) is → All (λ (i : Issued). queue_at queues i.system ≡ i.queue) is
+        both [] within stand = All-nil (λ (i : Issued). queue_at queues i.system ≡ i.queue)
+        both (i ∷ is) within stand =
+            let here : i.system < length queues = let w = All-head (λ (i : Issued). i.system < length systems) i is within in rw long w in
+            let at : Some (queue_at queues i.system) ≡ Some i.queue = sym (get_or-map Some queues i.system [] (Some []) here) ∙ (ap (λ ps. get_or ps i.system (Some [])) places ∙ All-head (λ (i : Issued). get_or (placed all (replicate (length systems) None)) i.system (Some []) ≡ Some i.queue) i is stand) in
+            All-cons (λ (i : Issued). queue_at queues i.system ≡ i.queue) i is (let e = at in cc)
+            (both is (All-tail (λ (i : Issued). i.system < length systems) i is within) (All-tail (λ (i : Issued). get_or (placed all (replicate (length systems) None)) i.system (Some []) ≡ Some i.queue) i is stand))
+
+    -- the commands of a worker's systems are those that it kept
+    commands_are : (mine : List Issued) → All (λ (i : Issued). queue_at queues i.system ≡ i.queue) mine → commands_of queues (systems_of mine) ≡ commands_in mine
+    commands_are mine same = flat_map-map (queue_at queues) (λ (i : Issued). i.system) mine ∙ same_flat (λ (i : Issued). queue_at queues i.system) (λ (i : Issued). i.queue) mine same
+
+    own_are : (k : ℕ) (r : Record) (mine : List Issued) (did : Did k r mine) → own_reservations r.entries ≡ did.gains.reservations
+    own_are k r mine did = ap own_reservations did.gains.entries ∙ own_mapped did.gains.reservations
+
+    worked : (k : ℕ) (mine : List Issued) → slice_get work k ≡ Some mine → IsWork queues (history_of records) k (systems_of mine)
+    worked k mine at =
+        let within : k < length records = let w = slice_get_within work k mine at in omega (arith, count, teams) in
+        let there = at_within records k within in
+        let r : Record = there.0 in
+        let did = each k r mine there.1 at in
+        let respect = each_of_all (Respects (reservations_of records)) records k r respects there.1 in
+        let same : commands_of queues (systems_of mine) ≡ commands_in mine = commands_are mine (each_of_all (λ mine. All (λ (i : Issued). queue_at queues i.system ≡ i.queue) mine) work k mine (flat_all (λ (i : Issued). queue_at queues i.system ≡ i.queue) (λ mine. mine) work queue_is) at) in
+        let number : r.number ≡ k = did.gains.number in
+        record {
+          rising = did.rising;
+          calls =
+              by_caller k records
+              ∙ (ap (λ n. map asked (reservations_by n (reservations_of records))) (sym number)
+              ∙ (ap (map asked) (respect.own ∙ own_are k r mine did)
+              ∙ (did.gains.requests ∙ ap (flat_map requests_of) (sym same))));
+          within = subst (AreWithin credit) (sym same) did.gains.within;
+        }
+
+    -- the history has no calls of others
+    ours : All (λ (call : Call). call.caller < workers) (history_of records)
+    ours =
+        All-map (λ (call : Call). call.caller < workers) as_call (reservations_of records)
+        (all_sorted (λ (c : Reservation). c.caller < workers) (own_of_all records)
+        (all_flat (λ (c : Reservation). c.caller < workers) (λ (r : Record). own_reservations r.entries) records
+        (all_from_each (λ (r : Record). All (λ (c : Reservation). c.caller < workers) (own_reservations r.entries)) records
+        (λ k r at.
+            let within : k < length work = let w = slice_get_within records k r at in omega (arith, count, teams) in
+            let there = at_within work k within in
+            let did = each k r there.0 at there.1 in
+            let less : k < workers = omega (arith, teams) in
+            subst (All (λ (c : Reservation). c.caller < workers)) (sym (own_are k r there.0 did))
+            (All-weaker (λ (c : Reservation). c.caller ≡ k) (λ (c : Reservation). c.caller < workers) (λ c e. let same = e in omega arith) did.gains.reservations did.gains.callers)))))
+
+    each_system : (n : ℕ) (system : S) → slice_get systems n ≡ Some system → may system (view_of before) (queue_at queues n)
+    each_system n system at =
+        let less : n < length systems = slice_get_within systems n system at in
+        let some : 0 < times n all = let c = counts n in let o = some_in_range n 0 (length systems) (omega arith) (omega arith) in omega arith in
+        let there = found n all some in
+        let i : Issued = there.1 in
+        let issued : All (λ (i : Issued). MayIssue may systems (view_of before) i.system i.queue) all =
+          all_flat (λ (i : Issued). MayIssue may systems (view_of before) i.system i.queue) (λ mine. mine) work
+          (all_from_each (λ mine. All (λ (i : Issued). MayIssue may systems (view_of before) i.system i.queue) mine) work
+          (λ k mine here.
+              let within : k < length records = let w = slice_get_within work k mine here in omega (arith, count, teams) in
+              let r = at_within records k within in
+              (each k r.0 mine r.1 here).each)) in
+        let may_it : MayIssue may systems (view_of before) i.system i.queue = each_of_all (λ (i : Issued). MayIssue may systems (view_of before) i.system i.queue) all there.0 i issued there.2 in
+        let queue : queue_at queues i.system ≡ i.queue = each_of_all (λ (i : Issued). queue_at queues i.system ≡ i.queue) all there.0 i queue_is there.2 in
+        let number : i.system ≡ n = there.3 in
+        subst (λ q. may system (view_of before) q) (sym queue ∙ ap (queue_at queues) number) (may_it system (ap (slice_get systems) number ∙ at))
+
+    pub frame_is : IsFrame may systems workers before queues (history_of records)
+    frame_is = record {
+      legal = legal;
+      callers = ours;
+      ran = map systems_of work;
+      each_worker = length-map work systems_of ∙ teams;
+      once = subst (λ ns. IsPermutation ns (range_with_len 0 (length systems))) (sym (flat_map-map (λ mine. mine) systems_of work)) once;
+      work = λ k mine at. let there = mapped_at systems_of work k mine at in subst (IsWork queues (history_of records) k) there.2 (worked k there.0 there.1);
+      count = long;
+      each_system = each_system;
+    }

@@ -1,0 +1,108 @@
+-- A frame: systems run on workers over one shared world, each with a queue of its own, and the sync
+-- point applies the queues in the order of the systems.
+use Rattle.std.specs.Prelude.{◌≡◌, ℕ, ◌<◌, ◌==◌, List, [], length, map, filter, Result, Ok, Err}
+use Rattle.std.specs.Prelude.{slice_get, slice_index_or, Some}
+use Rattle.std.specs.List.{All, AllPairs, flat_map, range_with_len}
+use Rattle.std.specs.List.Sorted.{IsPermutation}
+use Rattle.ent_handle.specs.Handle.{Handle}
+use Rattle.ent_alloc.specs.declared.space.Space.{Space}
+use Rattle.ent_alloc.specs.Limits.{credit}
+use Rattle.ent_alloc.specs.Sequential.{born}
+use Rattle.ent_alloc.specs.History.{Call, IsLegal, after_history}
+use Rattle.ent_queue.specs.Command.{Command}
+use Rattle.ent_queue.specs.Reserving.{requests_of, AreWithin}
+use Rattle.ent_world.specs.World.{World}
+use Rattle.ent_world.specs.OpenWorld.{View}
+use Rattle.ent_world.specs.Sync.{sync, sync_until, IsStop}
+use Rattle.ent_world.specs.declared.fault.Fault.{Fault}
+use Rattle.ent_world.specs.declared.fault.SyncFault.{SyncFault}
+use Rattle.ent_world.specs.declared.fault.SyncFault.TheVariants as stop
+use Rattle.ent_world.specs.declared.fault.SyncReport.{SyncReport}
+use Rattle.ent_runner.specs.declared.report.FrameFault.{FrameFault}
+use Rattle.ent_runner.specs.declared.report.FrameFault.TheVariants as frame
+
+-- what systems see of a world
+abbrev pub view_of : World → View
+view_of w = record { phase = w.phase; entities = w.entities }
+
+-- the world after these calls have reserved from its allocator
+abbrev pub reserved_by : List Call → World → World
+reserved_by history w = record w { allocator = after_history w.allocator history }
+
+-- the queue of a system
+abbrev pub queue_at : List (List Command) → ℕ → List Command
+queue_at queues system = slice_index_or queues system []
+
+-- the commands of these systems, one queue after the other
+abbrev pub commands_of : List (List Command) → List ℕ → List Command
+commands_of queues systems = flat_map (queue_at queues) systems
+
+-- what one caller requested in a history, and the replies
+abbrev pub requests_by : ℕ → List Call → List (ℕ × Result (List Handle) Space)
+requests_by caller history =
+    map (λ (call : Call). (call.requested, call.reply))
+    (filter (λ (call : Call). call.caller == caller) history)
+
+-- What a worker has done that ran these systems, one after the other: its calls are the
+-- reservations of their queues, and each fitted the credit that the worker had left.
+pub record IsWork (queues : List (List Command)) (history : List Call) (worker : ℕ)
+    (systems : List ℕ) : Type 0 where
+  pub rising : AllPairs (λ m n. m < n) systems
+  pub calls : requests_by worker history ≡ flat_map requests_of (commands_of queues systems)
+  pub within : AreWithin credit (commands_of queues systems)
+
+-- The queues are what the systems may issue if that many workers run them, and the history has the
+-- calls of these workers and no others.
+pub record IsFrame {S : Type 0} (may : S → View → List Command → Type 0) (systems : List S)
+    (workers : ℕ) (before : World) (queues : List (List Command)) (history : List Call)
+    : Type 0 where
+  pub legal : IsLegal before.allocator history
+  pub callers : All (λ (call : Call). call.caller < workers) history
+  -- for each worker the systems that it ran: each system is run once
+  pub ran : List (List ℕ)
+  pub each_worker : length ran ≡ workers
+  pub once : IsPermutation (flat_map (λ mine. mine) ran) (range_with_len 0 (length systems))
+  pub work : (worker : ℕ) (mine : List ℕ) → slice_get ran worker ≡ Some mine
+      → IsWork queues history worker mine
+  -- each system has a queue, which it may issue
+  pub count : length queues ≡ length systems
+  pub each_system : (n : ℕ) (system : S) → slice_get systems n ≡ Some system
+      → may system (view_of before) (queue_at queues n)
+
+-- The sync of the queues stands up to that handle of that command of that system, and no further.
+pub record IsHalf (queues : List (List Command)) (before : World) (system command done : ℕ)
+    (so_far : SyncReport) (after : World) : Type 0 where
+  pub stop : IsStop system command done queues
+  pub world : after ≡ (sync_until system command done queues before).world
+  pub births_are : so_far.born.items ≡ born before.allocator
+  pub faults_are : so_far.faults.items ≡ (sync_until system command done queues before).faults
+
+-- The frame ends with this world and this report.
+pub record Ends {S : Type 0} (may : S → View → List Command → Type 0) (systems : List S)
+    (workers : ℕ) (before : World) (queues : List (List Command)) (after : World)
+    (births : List Handle) (faults : List Fault) : Type 0 where
+  -- all reservations of the workers, in one order
+  pub history : List Call
+  pub frame : IsFrame may systems workers before queues history
+  pub world : after ≡ (sync queues (reserved_by history before)).world
+  pub births_are : births ≡ born (after_history before.allocator history)
+  pub faults_are : faults ≡ (sync queues (reserved_by history before)).faults
+
+-- The systems ran, and the sync point stopped and left this world.
+pub record StopsAt {S : Type 0} (may : S → View → List Command → Type 0) (systems : List S)
+    (workers : ℕ) (before : World) (queues : List (List Command)) (after : World)
+    (fault : SyncFault) : Type 0 where
+  pub history : List Call
+  pub frame : IsFrame may systems workers before queues history
+  pub flush_memory : fault ≡ stop.FlushMemory → after ≡ reserved_by history before
+  pub memory : (system command done : ℕ) (so_far : SyncReport)
+      → fault ≡ stop.Memory system command done so_far
+      → IsHalf queues (reserved_by history before) system command done so_far after
+
+-- what holds of a frame whose sync point stopped
+abbrev pub IfSyncStopped : {X : Type 0} → Result X FrameFault
+    → (SyncFault → List (List Command) → Type 0) → Type 0
+IfSyncStopped (Ok x) P = Unit {0}
+IfSyncStopped (Err frame.Memory) P = Unit {0}
+IfSyncStopped (Err frame.Lost) P = Unit {0}
+IfSyncStopped (Err (frame.Sync fault queues)) P = P fault queues.items

@@ -1,0 +1,111 @@
+//! The workers of a frame are made before it and taken apart after it, in room that was asked for
+//! before the phase was opened.
+ghost use Rattle.std.specs.Prelude.{◌≡◌, ◌<◌, ◌≤◌, [], length, map, reverse, replicate, All, IfOk};
+ghost use Rattle.std.specs.Prelude.{None, false, flat_map, vec_capacity};
+ghost use Rattle.ent_runner.specs.Placing.{placed};
+ghost use Rattle.ent_runner.specs.Worker.{HasRoom};
+
+use crate::placing::place;
+use crate::worker::Worker;
+use ent_claims::Claimer;
+use ent_handle::Memory;
+use ent_queue::CommandQueue;
+use ent_shared::Reserver;
+use std::alloc::{AllocError, Global};
+
+/// Room for all that a frame keeps, whatever its systems do.
+#[derive(Drop)]
+pub(crate) struct Room {
+    pub(crate) workers: Vec<Worker>,
+    pub(crate) reservers: Vec<Reserver>,
+    pub(crate) claimers: Vec<Claimer>,
+    pub(crate) places: Vec<Option<CommandQueue>>,
+    pub(crate) queues: Vec<CommandQueue>,
+}
+
+impl Room {
+    /// Room for that many systems and workers.
+    pub(crate) fn new(alloc: Global, systems: usize, workers: usize) -> Result<Self, Memory>
+        ensures { IfOk result (HasRoom systems workers) }
+    {
+        Ok(Room {
+            workers: Vec::with_capacity(alloc, workers)?,
+            reservers: Vec::with_capacity(alloc, workers)?,
+            claimers: Vec::with_capacity(alloc, workers)?,
+            places: empty_places(alloc, systems)?,
+            queues: Vec::with_capacity(alloc, systems)?,
+        })
+    }
+}
+
+fn empty_places(alloc: Global, count: usize) -> Result<Vec<Option<CommandQueue>>, AllocError>
+    ensures { IfOk result (λ places. places.items ≡ replicate count None) }
+{
+    let mut places = Vec::with_capacity(alloc, count)?;
+    for _ in 0..count {
+        places.push_reserved(None);
+    }
+    Ok(places)
+}
+
+/// A worker for each reserver, in their order, each with one of the claimers.
+pub(crate) fn recruit(
+    alloc: Global,
+    reservers: Vec<Reserver>,
+    mut claimers: Vec<Claimer>,
+    workers: &mut Vec<Worker>,
+)
+    requires empty { workers.old.items ≡ [] }
+    requires room { length reservers.items ≤ vec_capacity workers.old }
+    requires same { length claimers.items ≡ length reservers.items }
+    ensures reservers { map (λ w. w.reserver) workers.new.items ≡ reservers.items }
+    ensures claimers { map (λ w. w.claimer) workers.new.items ≡ reverse claimers.items }
+    ensures fresh { All (λ w. w.issued.items ≡ []) workers.new.items }
+{
+    for reserver in reservers {
+        let Some(claimer) = claimers.pop() else {
+            unreachable!()
+        };
+        workers.push_reserved(Worker {
+            reserver,
+            claimer,
+            issued: Vec::new(alloc),
+            stopped: false,
+        });
+    }
+}
+
+/// Takes the workers apart, and puts the queues in the places of their systems. Answers whether a
+/// worker has stopped for want of memory.
+pub(crate) fn disband(
+    workers: Vec<Worker>,
+    reservers: &mut Vec<Reserver>,
+    claimers: &mut Vec<Claimer>,
+    places: &mut [Option<CommandQueue>],
+) -> bool
+    requires empty { (reservers.old.items ≡ []) × (claimers.old.items ≡ []) }
+    requires room { (length workers.items ≤ vec_capacity reservers.old)
+        × (length workers.items ≤ vec_capacity claimers.old) }
+    requires inside { All (λ w. All (λ i. i.system < length places.old) w.issued.items)
+        workers.items }
+    ensures reservers { reservers.new.items ≡ map (λ w. w.reserver) workers.items }
+    ensures claimers { claimers.new.items ≡ map (λ w. w.claimer) workers.items }
+    ensures places { places.new
+        ≡ placed (flat_map (λ w. w.issued.items) workers.items) places.old }
+    ensures result { result ≡ false → All (λ w. w.stopped ≡ false) workers.items }
+{
+    let mut some_stopped = false;
+    for worker in workers {
+        let Worker {
+            reserver,
+            claimer,
+            issued,
+            stopped,
+        } = worker;
+        reservers.push_reserved(reserver);
+        claimers.push_reserved(claimer);
+        place(issued, places);
+        some_stopped = some_stopped || stopped;
+    }
+    some_stopped
+}

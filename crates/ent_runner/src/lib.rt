@@ -1,0 +1,13 @@
+//! Frames: systems run on workers over one shared world, each with a queue of its own, and the
+//! sync point applies the queues in the order of the systems.
+#![tactic(auto)]
+
+mod gate;
+mod placing;
+mod report;
+mod system;
+mod worker;
+
+pub use gate::{Gate, NoGate};
+pub use report::{FrameFault, FrameReport};
+pub use system::System;

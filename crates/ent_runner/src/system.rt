@@ -1,0 +1,29 @@
+ghost use Rattle.std.specs.Prelude.{◌≡◌, [], List, OnOk};
+ghost use Rattle.ent_queue.specs.Command.{Command};
+ghost use Rattle.ent_queue.specs.Commands.{IsReady, Extends, queue_of};
+ghost use Rattle.ent_world.specs.OpenWorld.{View as Viewed};
+
+use ent_handle::Memory;
+use ent_queue::Commands;
+use ent_world::View;
+
+/// A system: it reads the world as the frame began, and issues commands that take effect at the
+/// frame's sync point.
+///
+/// One value of it may run on any worker, so what it knows of the world is what the view says.
+pub trait System {
+    /// What it may issue in a frame that begins with this world. A run without a fault, from an
+    /// empty queue on, leaves a queue of this kind.
+    ghost may_issue: { Self → Viewed → List Command → Type 0 };
+
+    /// Runs it once.
+    ///
+    /// # Errors
+    ///
+    /// `Memory`, if memory was refused to the system. The whole frame is then lost.
+    fn run(&self, view: &View<'_>, commands: &mut Commands<'_>) -> Result<(), Memory>
+        requires { IsReady commands.old }
+        ensures extends { Extends commands.old commands.new }
+        ensures may { queue_of commands.old ≡ []
+            → OnOk result (may_issue self.now view.now (queue_of commands.new)) };
+}

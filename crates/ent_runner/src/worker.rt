@@ -1,0 +1,130 @@
+//! Workers: each claims systems, one after the other, runs them, and keeps their queues.
+ghost use Rattle.std.specs.Prelude.{◌≡◌, ◌+◌, ◌<◌, ◌≤◌, ◌^◌, [], length, OnOk, IfOk, true};
+ghost use Rattle.std.specs.Prelude.{All, slice_index_or, false};
+ghost use Rattle.ent_shared.specs.Phase.{IsOf};
+ghost use Rattle.ent_queue.specs.Reserving.{Gains};
+ghost use Rattle.ent_claims.specs.Claims.{IsOf as IsClaimerOf};
+ghost use Rattle.ent_runner.specs.Worker.{MayIssue, HasRun, IsFresh, HasWorked};
+
+use crate::gate::Gate;
+use crate::system::System;
+use ent_claims::{Claimer, Claims};
+use ent_handle::Memory;
+use ent_queue::{CommandQueue, Commands};
+use ent_shared::{Reserver, Shared};
+use ent_world::View;
+use std::alloc::Global;
+use std::thread::{Threads, for_each_mut};
+
+/// The queue that a system has issued.
+#[derive(Drop)]
+pub(crate) struct Issued {
+    pub(crate) system: usize,
+    pub(crate) queue: CommandQueue,
+}
+
+/// What the workers of a frame have in common.
+pub(crate) struct Stage<'a, S, G> {
+    pub(crate) alloc: Global,
+    pub(crate) shared: &'a Shared,
+    pub(crate) view: View<'a>,
+    pub(crate) systems: &'a [S],
+    pub(crate) claims: &'a Claims,
+    pub(crate) gate: &'a G,
+}
+
+/// A worker, which reserves and claims for all systems that it runs.
+#[derive(Drop)]
+pub(crate) struct Worker {
+    pub(crate) reserver: Reserver,
+    pub(crate) claimer: Claimer,
+    /// The queues of the systems that it ran, in the order of the claims.
+    pub(crate) issued: Vec<Issued>,
+    /// Memory was refused, so it has stopped before all systems were claimed.
+    pub(crate) stopped: bool,
+}
+
+impl<S: System, G: Gate> Stage<'_, S, G> {
+    /// Runs the system of this number, and answers its queue.
+    fn issue(&self, system: usize, reserver: &mut Reserver) -> Result<CommandQueue, Memory>
+        requires system { system < length self.now.systems.now }
+        requires reserver { IsOf self.now.shared.now reserver.old }
+        ensures stays { IsOf self.now.shared.now reserver.new }
+        ensures gains { IfOk result (λ queue. Gains reserver.old.own queue reserver.new.own) }
+        ensures may { IfOk result (λ queue.
+            MayIssue S.may_issue self.now.systems.now self.now.view system queue) }
+    {
+        self.gate.entered(system);
+        let mut commands = Commands::new(self.alloc, self.shared, reserver);
+        let ran = self.systems[system].run(&self.view, &mut commands);
+        let queue = commands.finish();
+        ran?;
+        Ok(queue)
+    }
+}
+
+impl Worker {
+    /// Runs the systems that it claims, until none is left.
+    fn work<S: System, G: Gate>(&mut self, stage: &Stage<'_, S, G>) -> Result<(), Memory>
+        requires systems { stage.now.claims.now.numbers ≡ length stage.now.systems.now }
+        requires few { length stage.now.systems.now ≤ 2 ^ 16 }
+        requires reserver { IsOf stage.now.shared.now self.old.reserver }
+        requires claimer { IsClaimerOf stage.now.claims.now self.old.claimer }
+        requires fresh { IsFresh self.old }
+        ensures reserver { IsOf stage.now.shared.now self.new.reserver }
+        ensures claimer { IsClaimerOf stage.now.claims.now self.new.claimer }
+        ensures inside { All (λ i. i.system < length stage.now.systems.now) self.new.issued.items }
+        ensures ran { OnOk result (HasRun S.may_issue stage.now.systems.now stage.now.view
+            self.old.reserver.own self.new.reserver.own self.new.claimer.own.claims
+            self.new.issued.items) }
+        ensures ended { OnOk result (self.new.claimer.own.ended ≡ true) }
+        ensures stopped { self.new.stopped ≡ self.old.stopped }
+    {
+        for _ in 0..=stage.systems.len() {
+            let Some(system) = stage.claims.next(&mut self.claimer) else {
+                break;
+            };
+            let queue = stage.issue(system, &mut self.reserver)?;
+            self.issued.push(Issued { system, queue })?;
+        }
+        Ok(())
+    }
+
+    /// Works, and remembers if memory was refused.
+    fn run<S: System, G: Gate>(&mut self, stage: &Stage<'_, S, G>)
+        requires systems { stage.now.claims.now.numbers ≡ length stage.now.systems.now }
+        requires few { length stage.now.systems.now ≤ 2 ^ 16 }
+        requires reserver { IsOf stage.now.shared.now self.old.reserver }
+        requires claimer { IsClaimerOf stage.now.claims.now self.old.claimer }
+        requires fresh { IsFresh self.old }
+        ensures { HasWorked S.may_issue stage.now.shared.now stage.now.claims.now
+            stage.now.systems.now stage.now.view self.old self.new }
+    {
+        self.stopped = self.work(stage).is_err();
+    }
+}
+
+/// All workers work side by side, each in a thread of its own if one can be started.
+pub(crate) fn run_all<R, S, G>(rt: &R, stage: &Stage<'_, S, G>, workers: &mut [Worker])
+where
+    R: Threads + Sync,
+    S: System + Sync,
+    G: Gate + Sync,
+    requires systems { stage.now.claims.now.numbers ≡ length stage.now.systems.now }
+    requires few { length stage.now.systems.now ≤ 2 ^ 16 }
+    requires some { 0 < length workers.old }
+    requires ready { All (λ w. IsOf stage.now.shared.now w.reserver
+        × IsClaimerOf stage.now.claims.now w.claimer × IsFresh w) workers.old }
+    ensures count { length workers.new ≡ length workers.old }
+    ensures each { (k : ℕ) (d : _) → k < length workers.old
+        → HasWorked S.may_issue stage.now.shared.now stage.now.claims.now stage.now.systems.now
+        stage.now.view (slice_index_or workers.old k d) (slice_index_or workers.new k d) }
+{
+    let threads = workers.len();
+    for_each_mut(
+        rt,
+        workers,
+        threads,
+        &|_, worker: &mut Worker| { worker.run(stage) },
+    );
+}
