@@ -57,6 +57,7 @@ pub record IsSeated (views : List (List Record)) (ended : Bool) : Type 0 where
 -- the numbers lie beside the word
 pub record IsOpen (numbers workers : ℕ) (key : Opening) (word : TableId) : Type 0 where
   pub few_numbers : numbers ≤ 2 ^ 16
+  pub some_workers : 0 < workers
   pub few_workers : workers ≤ 64
   pub key_is : key ≡ record { numbers = numbers; workers = workers }
   pub words : word.words ≡ 1

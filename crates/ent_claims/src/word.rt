@@ -18,7 +18,8 @@ pub(crate) type WordSeat = Seat<(), SeatRecords>;
 /// A word that begins at 0, and a seat that has all records.
 pub(crate) fn open(alloc: Global, opening: &Opening) -> Result<(Word, WordSeat), AllocError>
     requires numbers { opening.now.numbers ≤ 2 ^ 16 }
-    requires workers { opening.now.workers ≤ 64 }
+    requires some { 0 < opening.now.workers }
+    requires few { opening.now.workers ≤ 64 }
     ensures word { IfOk result (λ made. IsOpen opening.now.numbers opening.now.workers
         made.0.shared.key made.0.shared.table_id) }
     ensures seat { IfOk result (λ made. (made.1.table_id ≡ made.0.shared.table_id)
