@@ -1,2 +1,4 @@
 pub mod Weighing
 pub mod Steps
+pub mod Claiming
+pub mod Opening
