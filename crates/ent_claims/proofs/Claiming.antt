@@ -3,7 +3,7 @@ use Rattle.std.proofs.Common.{◌≡◌, ℕ, suc, ◌+◌, ◌<◌, ◌≤◌, 
 use Rattle.std.proofs.Common.{◌∙◌, arith, lt-ltb}
 use Rattle.std.specs.Prelude.{Bool, if◌then◌else◌, true}
 use Rattle.std.specs.List.{All, AllPairs}
-use Rattle.std.proofs.lemmas.List.Elements.{All-head, All-tail, All-push, All-weaker}
+use Rattle.std.proofs.lemmas.List.Elements.{All-head, All-tail, All-push}
 use Rattle.std.proofs.lemmas.List.Quantifiers.{all_pairs_push}
 use Rattle.atomic_table.specs.Seated.{TableId}
 use Rattle.ent_claims.specs.declared.record.Record.{Record}
@@ -43,7 +43,7 @@ pub claimed_on : (claims : Claims) (views after : List (List Record)) (was now :
 claimed_on claims views after was now old n view of same is within above =
     let limit : old.own.numbers ≡ claims.numbers = of.numbers in
     let step : after_claim old.own n ≡ record old.own { claims = old.own.claims ++ n ∷ [] } =
-        ap (λ (b : Bool). if b then record old.own { claims = old.own.claims ++ n ∷ [] } else record old.own { ended = true }) (lt-ltb n old.own.numbers (omega arith)) in
+    ap (λ (b : Bool). if b then record old.own { claims = old.own.claims ++ n ∷ [] } else record old.own { ended = true }) (lt-ltb n old.own.numbers (omega arith)) in
     let own : own_of after ≡ record old.own { claims = old.own.claims ++ n ∷ [] } = ap own_of is ∙ (ap (λ (c : Claimer). after_claim c.own n) view ∙ step) in
     let word : now ≡ old.word = same ∙ ap (λ (c : Claimer). c.word) view in
     let above_old : All (λ m. m < n) old.own.claims = subst (λ (c : Claimer). All (λ m. m < n) c.own.claims) view above in

@@ -2,3 +2,5 @@ pub mod Weighing
 pub mod Steps
 pub mod Claiming
 pub mod Opening
+pub mod Counting
+pub mod Closing

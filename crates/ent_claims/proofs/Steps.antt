@@ -5,7 +5,7 @@ use Rattle.std.proofs.Common.{length-append, lt-ltb, le-ltb, true≢false}
 use Rattle.std.proofs.Math.Nat.{mod-eq_of_lt}
 use Rattle.atomic_table.proofs.Lists.{set_else}
 use Rattle.std.specs.Prelude.{Bool, true, false, cond, if◌then◌else◌}
-use Rattle.std.specs.List.{sum_by, All, AllPairs, range_with_len}
+use Rattle.std.specs.List.{sum_by, All, range_with_len}
 use Rattle.std.proofs.lemmas.Bool.{cases_lt}
 use Rattle.std.proofs.lemmas.List.Elements.{All-head, All-tail, All-nil, All-cons, All-append}
 use Rattle.std.proofs.lemmas.List.Elements.{All-weaker, All-set, All-push}

@@ -1,6 +1,6 @@
 -- The rule over the claim word and the records of all claimers, before and after each step.
 use Rattle.std.specs.Prelude.{◌≡◌, ℕ, ◌+◌, ◌^◌, ◌<◌, ◌≤◌, List, [], ◌∷◌, All, AllPairs, length}
-use Rattle.std.specs.Prelude.{Bool, true, false, cond, sum_by}
+use Rattle.std.specs.Prelude.{true, false, cond, sum_by}
 use Rattle.std.specs.List.{range_with_len}
 use Rattle.atomic_table.specs.Table.{State, Me}
 use Rattle.ent_claims.specs.declared.record.Record.{Record}
