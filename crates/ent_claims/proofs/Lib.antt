@@ -1,0 +1,6 @@
+pub mod Weighing
+pub mod Steps
+pub mod Claiming
+pub mod Opening
+pub mod Counting
+pub mod Closing

@@ -1,0 +1,43 @@
+ghost use Rattle.std.specs.Prelude.{◌≡◌, false};
+
+use crate::rule::SeatRecords;
+use atomic_table::Badge;
+use std::marker::Model;
+
+/// The right of one worker to claim numbers.
+///
+/// [`Claims::open`](crate::Claims::open) makes them, and [`Claims::close`](crate::Claims::close)
+/// takes them back. A worker that claims in a thread of its own takes one along.
+#[derive(Drop)]
+pub struct Claimer {
+    pub(crate) badge: Badge<SeatRecords>,
+    pub(crate) ended: bool,
+}
+
+impl Model for Claimer {
+    ghost use Rattle.ent_claims.specs.Record.{own_of};
+    ghost use Rattle.ent_claims.specs.Claims.{Claimer, claimer_code, IsSeated};
+
+    ghost Value = { Claimer };
+
+    ghost coded = { claimer_code };
+
+    ghost view = { λ c. record { word = c.badge.table_id; own = own_of c.badge.views } };
+
+    ghost invariant = { λ c. IsSeated c.badge.views c.ended };
+}
+
+impl Claimer {
+    ghost use Rattle.ent_claims.specs.Record.{own_of};
+    ghost use Rattle.ent_claims.specs.Claims.{IsSeated};
+
+    pub(crate) fn new(badge: Badge<SeatRecords>) -> Self
+        requires { IsSeated badge.views false }
+        ensures { result ≡ record { word = badge.table_id; own = own_of badge.views } }
+    {
+        Claimer {
+            badge,
+            ended: false,
+        }
+    }
+}

@@ -1,0 +1,89 @@
+//! The claim word: what each kind of step does to the word and to the records.
+ghost use Rattle.std.specs.Prelude.{◌≡◌, ◌<◌, ◌≤◌, ◌^◌, List, [], ◌∷◌, ◌++◌, take, drop, All};
+ghost use Rattle.std.specs.Prelude.{IfOk, false};
+ghost use Rattle.ent_claims.specs.Record.{opened_records, after_claim, own_of};
+ghost use Rattle.ent_claims.specs.Rule.{IsClosed};
+ghost use Rattle.ent_claims.specs.Claims.{IsOpen};
+ghost use Rattle.ent_claims.specs.declared.record.Record.{Record};
+
+use crate::rule::{Claim, Merge, NewSeat, Numbers, Opening, SeatRecords, SplitFirst};
+use atomic_table::{Badge, Seat, Table};
+use std::alloc::{AllocError, Global};
+use std::mem;
+
+pub(crate) type Word = Table<(), SeatRecords, Opening, Numbers, Global>;
+
+pub(crate) type WordSeat = Seat<(), SeatRecords>;
+
+/// A word that begins at 0, and a seat that has all records.
+pub(crate) fn open(alloc: Global, opening: &Opening) -> Result<(Word, WordSeat), AllocError>
+    requires numbers { opening.now.numbers ≤ 2 ^ 16 }
+    requires some { 0 < opening.now.workers }
+    requires few { opening.now.workers ≤ 64 }
+    ensures word { IfOk result (λ made. IsOpen opening.now.numbers opening.now.workers
+        made.0.shared.key made.0.shared.table_id) }
+    ensures seat { IfOk result (λ made. (made.1.table_id ≡ made.0.shared.table_id)
+        × (made.1.me ≡ (opened_records opening.now.numbers opening.now.workers, []))) }
+{
+    Table::of_words(alloc, &[0], opening)
+}
+
+/// Takes the first record out of a seat, into a seat of its own.
+pub(crate) fn split_first(word: &Word, all: &mut WordSeat) -> Badge<SeatRecords>
+    requires word { (word.now.shared.table_id.words ≡ 1)
+        × (all.old.table_id ≡ word.now.shared.table_id) × (all.old.me.1 ≡ []) }
+    ensures kept { (all.new.table_id ≡ all.old.table_id)
+        × (all.new.me ≡ (drop 1 all.old.me.0, [])) }
+    ensures first { (result.table_id ≡ all.old.table_id)
+        × (result.views ≡ take 1 all.old.me.0 ∷ []) }
+{
+    word.shared.split_seat::<SplitFirst>(all).into_badge()
+}
+
+/// The claiming step: adds 1 to the word. Answers the number that it found.
+pub(crate) fn claim(word: &Word, badge: &mut Badge<SeatRecords>) -> u64
+    requires word { (word.now.shared.table_id.words ≡ 1)
+        × (badge.old.table_id ≡ word.now.shared.table_id) }
+    requires alone { badge.old.views ≡ (own_of badge.old.views ∷ []) ∷ [] }
+    requires goes_on { (own_of badge.old.views).ended ≡ false }
+    ensures same { badge.new.table_id ≡ badge.old.table_id }
+    ensures claims { badge.new.views
+        ≡ (after_claim (own_of badge.old.views) result ∷ []) ∷ [] }
+    ensures above { All (λ n. n < result) (own_of badge.old.views).claims }
+{
+    let mut seat = mem::replace(badge, Badge::blank()).into_seat();
+    let found = word.shared.fetch_add::<Claim>(&mut seat, 0, 1);
+    *badge = seat.into_badge();
+    found
+}
+
+/// A seat without records, for those of the claimers that are handed in.
+pub(crate) fn new_seat(word: &Word) -> WordSeat
+    requires { word.now.shared.table_id.words ≡ 1 }
+    ensures { (result.table_id ≡ word.now.shared.table_id) × (result.me ≡ ([], [])) }
+{
+    word.shared.load_new_seat::<NewSeat>(0).1
+}
+
+/// Moves a claimer's record into a seat.
+pub(crate) fn merge(word: &Word, all: &mut WordSeat, badge: Badge<SeatRecords>)
+    requires word { (word.now.shared.table_id.words ≡ 1)
+        × (all.old.table_id ≡ word.now.shared.table_id)
+        × (badge.table_id ≡ word.now.shared.table_id)
+        × (all.old.me.1 ≡ []) }
+    requires one { (records : List Record) × (badge.views ≡ records ∷ []) }
+    ensures kept { all.new.table_id ≡ all.old.table_id }
+    ensures merges { (all.new.me.1 ≡ []) × ((records : List Record) → badge.views ≡ records ∷ []
+        → all.new.me.0 ≡ all.old.me.0 ++ records) }
+{
+    word.shared.join_seat::<Merge>(all, badge.into_seat());
+}
+
+/// Ends the claiming, of which a seat knows these records.
+pub(crate) fn close(word: Word, all: WordSeat)
+    requires word { (word.shared.table_id.words ≡ 1) × (word.shared.table_id.slots ≡ 0)
+        × (all.table_id ≡ word.shared.table_id) }
+    ensures { IsClosed word.shared.key.numbers word.shared.key.workers all.me.0 }
+{
+    word.close_with(all).free();
+}
