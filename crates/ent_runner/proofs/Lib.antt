@@ -1,3 +1,5 @@
 pub mod Placed
 pub mod Lists
 pub mod Framed
+pub mod Running
+pub mod Disbanding

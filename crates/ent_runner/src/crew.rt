@@ -75,14 +75,20 @@ pub(crate) fn recruit(
     }
 }
 
-/// Takes the workers apart, and puts the queues in the places of their systems. Answers whether a
-/// worker has stopped for want of memory.
+/// Whether a worker has stopped for want of memory.
+pub(crate) fn some_stopped(workers: &[Worker]) -> bool
+    ensures { result ≡ false → All (λ w. w.stopped ≡ false) workers.now }
+{
+    workers.iter().any(|worker| worker.stopped)
+}
+
+/// Takes the workers apart, and puts the queues in the places of their systems.
 pub(crate) fn disband(
     workers: Vec<Worker>,
     reservers: &mut Vec<Reserver>,
     claimers: &mut Vec<Claimer>,
     places: &mut [Option<CommandQueue>],
-) -> bool
+)
     requires empty { (reservers.old.items ≡ []) × (claimers.old.items ≡ []) }
     requires room { (length workers.items ≤ vec_capacity reservers.old)
         × (length workers.items ≤ vec_capacity claimers.old) }
@@ -92,20 +98,10 @@ pub(crate) fn disband(
     ensures claimers { claimers.new.items ≡ map (λ w. w.claimer) workers.items }
     ensures places { places.new
         ≡ placed (flat_map (λ w. w.issued.items) workers.items) places.old }
-    ensures result { result ≡ false → All (λ w. w.stopped ≡ false) workers.items }
 {
-    let mut some_stopped = false;
     for worker in workers {
-        let Worker {
-            reserver,
-            claimer,
-            issued,
-            stopped,
-        } = worker;
-        reservers.push_reserved(reserver);
-        claimers.push_reserved(claimer);
-        place(issued, places);
-        some_stopped = some_stopped || stopped;
+        reservers.push_reserved(worker.reserver);
+        claimers.push_reserved(worker.claimer);
+        place(worker.issued, places);
     }
-    some_stopped
 }

@@ -2,6 +2,7 @@
 //! sync point applies the queues in the order of the systems.
 #![tactic(auto)]
 
+mod crew;
 mod gate;
 mod placing;
 mod report;

@@ -1,6 +1,6 @@
 //! Workers: each claims systems, one after the other, runs them, and keeps their queues.
 ghost use Rattle.std.specs.Prelude.{◌≡◌, ◌+◌, ◌<◌, ◌≤◌, ◌^◌, [], length, OnOk, IfOk, true};
-ghost use Rattle.std.specs.Prelude.{All, slice_index_or, false};
+ghost use Rattle.std.specs.Prelude.{All, ℕ, slice_index_or, false};
 ghost use Rattle.ent_shared.specs.Phase.{IsOf};
 ghost use Rattle.ent_queue.specs.Reserving.{Gains};
 ghost use Rattle.ent_claims.specs.Claims.{IsOf as IsClaimerOf};
@@ -67,7 +67,6 @@ impl Worker {
     /// Runs the systems that it claims, until none is left.
     fn work<S: System, G: Gate>(&mut self, stage: &Stage<'_, S, G>) -> Result<(), Memory>
         requires systems { stage.now.claims.now.numbers ≡ length stage.now.systems.now }
-        requires few { length stage.now.systems.now ≤ 2 ^ 16 }
         requires reserver { IsOf stage.now.shared.now self.old.reserver }
         requires claimer { IsClaimerOf stage.now.claims.now self.old.claimer }
         requires fresh { IsFresh self.old }
@@ -80,10 +79,7 @@ impl Worker {
         ensures ended { OnOk result (self.new.claimer.own.ended ≡ true) }
         ensures stopped { self.new.stopped ≡ self.old.stopped }
     {
-        for _ in 0..=stage.systems.len() {
-            let Some(system) = stage.claims.next(&mut self.claimer) else {
-                break;
-            };
+        while let Some(system) = stage.claims.next(&mut self.claimer) {
             let queue = stage.issue(system, &mut self.reserver)?;
             self.issued.push(Issued { system, queue })?;
         }
@@ -93,7 +89,6 @@ impl Worker {
     /// Works, and remembers if memory was refused.
     fn run<S: System, G: Gate>(&mut self, stage: &Stage<'_, S, G>)
         requires systems { stage.now.claims.now.numbers ≡ length stage.now.systems.now }
-        requires few { length stage.now.systems.now ≤ 2 ^ 16 }
         requires reserver { IsOf stage.now.shared.now self.old.reserver }
         requires claimer { IsClaimerOf stage.now.claims.now self.old.claimer }
         requires fresh { IsFresh self.old }
@@ -111,7 +106,6 @@ where
     S: System + Sync,
     G: Gate + Sync,
     requires systems { stage.now.claims.now.numbers ≡ length stage.now.systems.now }
-    requires few { length stage.now.systems.now ≤ 2 ^ 16 }
     requires some { 0 < length workers.old }
     requires ready { All (λ w. IsOf stage.now.shared.now w.reserver
         × IsClaimerOf stage.now.claims.now w.claimer × IsFresh w) workers.old }
