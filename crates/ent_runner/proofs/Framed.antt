@@ -1,6 +1,6 @@
 -- What the workers did, their histories and the queues in their places are a frame.
 use Rattle.std.proofs.Common.{◌≡◌, ◌≢◌, ℕ, zero, suc, ◌+◌, ◌<◌, ◌≤◌, List, [], ◌∷◌, ◌++◌, length, map, get_or, refl, ap, sym, ◌∙◌, arith, subst, Option, Some, None, Bool, true, false, cond, inl, inr, Result, ne_eqb}
-use Rattle.std.specs.Prelude.{◌==◌, filter, slice_get, slice_set, replicate}
+use Rattle.std.specs.Prelude.{◌==◌, filter, slice_get, replicate, IsSome, is_some}
 use Rattle.std.specs.List.{All, AllPairs, sum_by, flat_map, range_with_len, Contains}
 use Rattle.std.specs.List.Sorted.{IsPermutation}
 use Rattle.std.proofs.lemmas.Bool.{cases_eq}
@@ -58,6 +58,46 @@ found n (i ∷ issued) some =
           (suc rest.0, rest.1, rest.2, rest.3)
     ]
 
+abbrev none : Option (List Command)
+none = None
+
+module _ (count : ℕ) (work : List (List Issued)) (once : IsPermutation (flat_map systems_of work) (range_with_len 0 count)) where
+  abbrev all : List Issued
+  all = flat_map (λ mine. mine) work
+
+  pub counts : (n : ℕ) → times n (flat_map (λ mine. mine) work) ≡ sum_by (is_number n) (range_with_len 0 count)
+  counts n =
+      sym (sum_map (is_number n) (λ (i : Issued). i.system) all)
+      ∙ (ap (sum_by (is_number n)) (map_flat (λ (i : Issued). i.system) (λ mine. mine) work)
+      ∙ sym (sum_by-IsPermutation (is_number n) (flat_map systems_of work) (range_with_len 0 count) once))
+
+  pub inside : All (λ (i : Issued). i.system < count) (flat_map (λ mine. mine) work)
+  inside =
+      let numbers : All (λ n. n < count) (flat_map systems_of work) = All-permutation (λ n. n < count) (range_with_len 0 count) (flat_map systems_of work) (IsPermutation-sym (flat_map systems_of work) (range_with_len 0 count) once) (all_below count) in
+      unmapped all (subst (All (λ n. n < count)) (sym (map_flat (λ (i : Issued). i.system) (λ mine. mine) work)) numbers)
+    where
+      unmapped : (is : List Issued) → All (λ n. n < count) (systems_of is) → All (λ (i : Issued). i.system < count) is
+      unmapped [] ok = All-nil (λ (i : Issued). i.system < count)
+      unmapped (i ∷ is) ok = All-cons (λ (i : Issued). i.system < count) i is (All-head (λ n. n < count) i.system (systems_of is) ok) (unmapped is (All-tail (λ n. n < count) i.system (systems_of is) ok))
+
+  -- each queue stands in its place
+  pub stand : (d : Option (List Command)) → All (λ (i : Issued). get_or (placed (flat_map (λ mine. mine) work) (replicate count None)) i.system d ≡ Some i.queue) (flat_map (λ mine. mine) work)
+  stand d =
+      let fits : All (λ (i : Issued). i.system < length (replicate count none)) all = subst (λ m. All (λ (i : Issued). i.system < m) all) (sym (length-replicate count none)) inside in
+      all_placed d all (replicate count none) fits (λ n. let c = counts n in let o = once_in_range n 0 count in omega arith)
+
+  -- and each place has one
+  pub found_at : (n : ℕ) → n < count → (k : ℕ) × (i : Issued) × (slice_get (flat_map (λ mine. mine) work) k ≡ Some i) × (i.system ≡ n)
+  found_at n less = found n all (let c = counts n in let o = some_in_range n 0 count (omega arith) (omega arith) in omega arith)
+
+  pub full : All IsSome (placed (flat_map (λ mine. mine) work) (replicate count None))
+  full n d within =
+      let less : n < count = let l = length_placed all (replicate count none) in let m = length-replicate count none in omega arith in
+      let there = found_at n less in
+      let i : Issued = there.1 in
+      let here : get_or (placed all (replicate count none)) i.system d ≡ Some i.queue = each_of_all (λ (i : Issued). get_or (placed all (replicate count none)) i.system d ≡ Some i.queue) all there.0 i (stand d) there.2 in
+      ap is_some (ap (λ k. get_or (placed all (replicate count none)) k d) (sym there.3) ∙ here)
+
 module _ {S : Type 0} (may : S → View → List Command → Type 0) (systems : List S) (before : World) where
   -- what the worker of this number did
   pub record Did (k : ℕ) (r : Record) (mine : List Issued) : Type 0 where
@@ -74,46 +114,25 @@ module _ {S : Type 0} (may : S → View → List Command → Type 0) (systems : 
     (places : map Some queues ≡ placed (flat_map (λ mine. mine) work) (replicate (length systems) None))
     where
 
-    abbrev all : List Issued
-    all = flat_map (λ mine. mine) work
-
-    counts : (n : ℕ) → times n all ≡ sum_by (is_number n) (range_with_len 0 (length systems))
-    counts n =
-        sym (sum_map (is_number n) (λ (i : Issued). i.system) all)
-        ∙ (ap (sum_by (is_number n)) (map_flat (λ (i : Issued). i.system) (λ mine. mine) work)
-        ∙ sym (sum_by-IsPermutation (is_number n) (flat_map systems_of work) (range_with_len 0 (length systems)) once))
-
-    inside : All (λ (i : Issued). i.system < length systems) all
-    inside =
-        let numbers : All (λ n. n < length systems) (flat_map systems_of work) = All-permutation (λ n. n < length systems) (range_with_len 0 (length systems)) (flat_map systems_of work) (IsPermutation-sym (flat_map systems_of work) (range_with_len 0 (length systems)) once) (all_below (length systems)) in
-        unmapped all (subst (All (λ n. n < length systems)) (sym (map_flat (λ (i : Issued). i.system) (λ mine. mine) work)) numbers)
-      where
-        unmapped : (is : List Issued) → All (λ n. n < length systems) (systems_of is) → All (λ (i : Issued). i.system < length systems) is
-        unmapped [] ok = All-nil (λ (i : Issued). i.system < length systems)
-        unmapped (i ∷ is) ok = All-cons (λ (i : Issued). i.system < length systems) i is (All-head (λ n. n < length systems) i.system (systems_of is) ok) (unmapped is (All-tail (λ n. n < length systems) i.system (systems_of is) ok))
-
-    abbrev none : Option (List Command)
-    none = None
+    abbrev mine_all : List Issued
+    mine_all = flat_map (λ mine. mine) work
 
     abbrev places0 : List (Option (List Command))
     places0 = replicate (length systems) None
 
     long : length queues ≡ length systems
-    long = sym (length-map queues Some) ∙ (ap length places ∙ (length_placed all (replicate (length systems) None) ∙ length-replicate (length systems) None))
+    long = sym (length-map queues Some) ∙ (ap length places ∙ (length_placed mine_all (replicate (length systems) None) ∙ length-replicate (length systems) None))
 
-    queue_is : All (λ (i : Issued). queue_at queues i.system ≡ i.queue) all
-    queue_is =
-        let ok : All (λ (i : Issued). i.system < length places0) all = subst (λ m. All (λ (i : Issued). i.system < m) all) (sym (length-replicate (length systems) none)) inside in
-        let stand = all_placed (Some []) all places0 ok (λ n. let c = counts n in let o = once_in_range n 0 (length systems) in omega arith) in
-        both all inside stand
+    queue_is : All (λ (i : Issued). queue_at queues i.system ≡ i.queue) mine_all
+    queue_is = both mine_all (inside (length systems) work once) (stand (length systems) work once (Some []))
       where
-        both : (is : List Issued) → All (λ (i : Issued). i.system < length systems) is → All (λ (i : Issued). get_or (placed all (replicate (length systems) None)) i.system (Some []) ≡ Some i.queue) is → All (λ (i : Issued). queue_at queues i.system ≡ i.queue) is
+        both : (is : List Issued) → All (λ (i : Issued). i.system < length systems) is → All (λ (i : Issued). get_or (placed mine_all (replicate (length systems) None)) i.system (Some []) ≡ Some i.queue) is → All (λ (i : Issued). queue_at queues i.system ≡ i.queue) is
         both [] within stand = All-nil (λ (i : Issued). queue_at queues i.system ≡ i.queue)
         both (i ∷ is) within stand =
             let here : i.system < length queues = let w = All-head (λ (i : Issued). i.system < length systems) i is within in rw long w in
-            let at : Some (queue_at queues i.system) ≡ Some i.queue = sym (get_or-map Some queues i.system [] (Some []) here) ∙ (ap (λ ps. get_or ps i.system (Some [])) places ∙ All-head (λ (i : Issued). get_or (placed all (replicate (length systems) None)) i.system (Some []) ≡ Some i.queue) i is stand) in
+            let at : Some (queue_at queues i.system) ≡ Some i.queue = sym (get_or-map Some queues i.system [] (Some []) here) ∙ (ap (λ ps. get_or ps i.system (Some [])) places ∙ All-head (λ (i : Issued). get_or (placed mine_all (replicate (length systems) None)) i.system (Some []) ≡ Some i.queue) i is stand) in
             All-cons (λ (i : Issued). queue_at queues i.system ≡ i.queue) i is (let e = at in cc)
-            (both is (All-tail (λ (i : Issued). i.system < length systems) i is within) (All-tail (λ (i : Issued). get_or (placed all (replicate (length systems) None)) i.system (Some []) ≡ Some i.queue) i is stand))
+            (both is (All-tail (λ (i : Issued). i.system < length systems) i is within) (All-tail (λ (i : Issued). get_or (placed mine_all (replicate (length systems) None)) i.system (Some []) ≡ Some i.queue) i is stand))
 
     -- the commands of a worker's systems are those that it kept
     commands_are : (mine : List Issued) → All (λ (i : Issued). queue_at queues i.system ≡ i.queue) mine → commands_of queues (systems_of mine) ≡ commands_in mine
@@ -158,21 +177,19 @@ module _ {S : Type 0} (may : S → View → List Command → Type 0) (systems : 
 
     each_system : (n : ℕ) (system : S) → slice_get systems n ≡ Some system → may system (view_of before) (queue_at queues n)
     each_system n system at =
-        let less : n < length systems = slice_get_within systems n system at in
-        let some : 0 < times n all = let c = counts n in let o = some_in_range n 0 (length systems) (omega arith) (omega arith) in omega arith in
-        let there = found n all some in
+        let there = found_at (length systems) work once n (slice_get_within systems n system at) in
         let i : Issued = there.1 in
-        let issued : All (λ (i : Issued). MayIssue may systems (view_of before) i.system i.queue) all =
-          all_flat (λ (i : Issued). MayIssue may systems (view_of before) i.system i.queue) (λ mine. mine) work
-          (all_from_each (λ mine. All (λ (i : Issued). MayIssue may systems (view_of before) i.system i.queue) mine) work
+        let P : Issued → Type 0 = λ (i : Issued). MayIssue may systems (view_of before) i.system i.queue in
+        let issued : All P mine_all =
+          all_flat P (λ mine. mine) work
+          (all_from_each (All P) work
           (λ k mine here.
               let within : k < length records = let w = slice_get_within work k mine here in omega (arith, count, teams) in
               let r = at_within records k within in
               (each k r.0 mine r.1 here).each)) in
-        let may_it : MayIssue may systems (view_of before) i.system i.queue = each_of_all (λ (i : Issued). MayIssue may systems (view_of before) i.system i.queue) all there.0 i issued there.2 in
-        let queue : queue_at queues i.system ≡ i.queue = each_of_all (λ (i : Issued). queue_at queues i.system ≡ i.queue) all there.0 i queue_is there.2 in
-        let number : i.system ≡ n = there.3 in
-        subst (λ q. may system (view_of before) q) (sym queue ∙ ap (queue_at queues) number) (may_it system (ap (slice_get systems) number ∙ at))
+        let may_it : P i = each_of_all P mine_all there.0 i issued there.2 in
+        let queue : queue_at queues i.system ≡ i.queue = each_of_all (λ (i : Issued). queue_at queues i.system ≡ i.queue) mine_all there.0 i queue_is there.2 in
+        subst (λ q. may system (view_of before) q) (sym queue ∙ ap (queue_at queues) there.3) (may_it system (ap (slice_get systems) there.3 ∙ at))
 
     pub frame_is : IsFrame may systems workers before queues (history_of records)
     frame_is = record {

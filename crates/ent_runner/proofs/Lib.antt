@@ -1,5 +1,6 @@
 pub mod Placed
 pub mod Lists
 pub mod Framed
+pub mod Conducting
 pub mod Running
 pub mod Disbanding

@@ -12,7 +12,7 @@ use Rattle.ent_alloc.specs.History.{Call, IsLegal, after_history}
 use Rattle.ent_queue.specs.Command.{Command}
 use Rattle.ent_queue.specs.Reserving.{requests_of, AreWithin}
 use Rattle.ent_world.specs.World.{World}
-use Rattle.ent_world.specs.OpenWorld.{View}
+use Rattle.ent_world.specs.OpenWorld.{OpenWorld, View}
 use Rattle.ent_world.specs.Sync.{sync, sync_until, IsStop}
 use Rattle.ent_world.specs.declared.fault.Fault.{Fault}
 use Rattle.ent_world.specs.declared.fault.SyncFault.{SyncFault}
@@ -28,6 +28,10 @@ view_of w = record { phase = w.phase; entities = w.entities }
 -- the world after these calls have reserved from its allocator
 abbrev pub reserved_by : List Call → World → World
 reserved_by history w = record w { allocator = after_history w.allocator history }
+
+-- a world that is open, as it was closed before
+abbrev pub world_of : OpenWorld → World
+world_of w = record { allocator = w.shared.start; phase = w.phase; entities = w.entities }
 
 -- the queue of a system
 abbrev pub queue_at : List (List Command) → ℕ → List Command

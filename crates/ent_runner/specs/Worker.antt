@@ -5,11 +5,14 @@ use Rattle.ent_shared.specs.declared.record.Record.{Record}
 use Rattle.ent_shared.specs.Phase.{Shared, IsOf}
 use Rattle.ent_queue.specs.Command.{Command}
 use Rattle.ent_queue.specs.Reserving.{Gains}
-use Rattle.ent_world.specs.OpenWorld.{View}
-use Rattle.ent_claims.specs.Claims.{Claims, IsOf as IsClaimerOf}
+use Rattle.ent_shared.specs.Record.{opened}
+use Rattle.ent_world.specs.OpenWorld.{OpenWorld, View}
+use Rattle.ent_claims.specs.Claims.{Claims, Claimer, IsOf as IsClaimerOf}
 use Rattle.ent_runner.specs.declared.worker.Issued.{Issued}
 use Rattle.ent_runner.specs.declared.worker.Worker.{Worker}
 use Rattle.ent_runner.specs.declared.crew.Room.{Room}
+use Rattle.ent_runner.specs.declared.crew.Returned.{Returned}
+use Rattle.ent_runner.specs.Frame.{view_of, world_of}
 
 -- the system of this number may issue the commands
 abbrev pub MayIssue : {S : Type 0} → (S → View → List Command → Type 0) → List S → View → ℕ
@@ -24,6 +27,10 @@ systems_of issued = map (λ (i : Issued). i.system) issued
 abbrev pub commands_in : List Issued → List Command
 commands_in issued = flat_map (λ (i : Issued). i.queue) issued
 
+-- what their reservers have done
+abbrev pub all_records : List Worker → List Record
+all_records workers = map (λ (w : Worker). w.reserver.own) workers
+
 -- It ran the systems that it claimed and no others, in the order of the claims, and its reserver
 -- has gained their reservations and no others.
 pub record HasRun {S : Type 0} (may : S → View → List Command → Type 0) (systems : List S)
@@ -32,27 +39,45 @@ pub record HasRun {S : Type 0} (may : S → View → List Command → Type 0) (s
   pub gains : Gains before (commands_in issued) after
   pub each : All (λ (i : Issued). MayIssue may systems view i.system i.queue) issued
 
+-- It has claimed nothing yet.
+abbrev pub IsUnused : Claimer → Type 0
+IsUnused c = (c.own.claims ≡ []) × (c.own.ended ≡ false)
+
 -- It has claimed and issued nothing yet.
 pub record IsFresh (w : Worker) : Type 0 where
-  pub claims : w.claimer.own.claims ≡ []
-  pub ended : w.claimer.own.ended ≡ false
+  pub unused : IsUnused w.claimer
   pub issued : w.issued.items ≡ []
 
--- It has run all that it claimed, until none was left, or it has stopped.
+-- It has run all that it claimed, until none was left, or it has stopped. Its reserver began with
+-- this record.
 pub record HasWorked {S : Type 0} (may : S → View → List Command → Type 0) (shared : Shared)
-    (claims : Claims) (systems : List S) (view : View) (before after : Worker) : Type 0 where
-  pub reserver : IsOf shared after.reserver
-  pub claimer : IsClaimerOf claims after.claimer
-  pub inside : All (λ (i : Issued). i.system < length systems) after.issued.items
-  pub ran : after.stopped ≡ false
-      → HasRun may systems view before.reserver.own after.reserver.own
-      after.claimer.own.claims after.issued.items
-  pub ended : after.stopped ≡ false → after.claimer.own.ended ≡ true
+    (claims : Claims) (systems : List S) (view : View) (before : Record) (w : Worker)
+    : Type 0 where
+  pub reserver : IsOf shared w.reserver
+  pub claimer : IsClaimerOf claims w.claimer
+  pub inside : All (λ (i : Issued). i.system < length systems) w.issued.items
+  pub ran : w.stopped ≡ false → HasRun may systems view before w.reserver.own
+      w.claimer.own.claims w.issued.items
+  pub ended : w.stopped ≡ false → w.claimer.own.ended ≡ true
 
--- There is room for that many systems and workers.
-pub record HasRoom (systems workers : ℕ) (room : Room) : Type 0 where
-  pub workers_empty : room.workers.items ≡ []
-  pub workers_fit : workers ≤ vec_capacity room.workers
+-- the same without what its systems may issue
+pub record HasClaimed (shared : Shared) (claims : Claims) (w : Worker) : Type 0 where
+  pub reserver : IsOf shared w.reserver
+  pub claimer : IsClaimerOf claims w.claimer
+  pub inside : All (λ (i : Issued). i.system < claims.numbers) w.issued.items
+  pub ran : w.stopped ≡ false → systems_of w.issued.items ≡ w.claimer.own.claims
+  pub ended : w.stopped ≡ false → w.claimer.own.ended ≡ true
+
+-- Each of these workers has worked; the reserver of each began as it was opened.
+pub record HaveWorked {S : Type 0} (may : S → View → List Command → Type 0) (systems : List S)
+    (world : OpenWorld) (claims : Claims) (team : List Worker) : Type 0 where
+  pub count : length team ≡ world.shared.count
+  pub each : (k : ℕ) (w : Worker) → slice_get team k ≡ Some w
+      → HasWorked may world.shared claims systems (view_of (world_of world))
+      (opened world.shared.start k) w
+
+-- There is room for what that many workers hand back of that many systems.
+pub record HasReturns (systems workers : ℕ) (room : Returned) : Type 0 where
   pub reservers_empty : room.reservers.items ≡ []
   pub reservers_fit : workers ≤ vec_capacity room.reservers
   pub claimers_empty : room.claimers.items ≡ []
@@ -60,3 +85,14 @@ pub record HasRoom (systems workers : ℕ) (room : Room) : Type 0 where
   pub places_empty : room.places.items ≡ replicate systems None
   pub queues_empty : room.queues.items ≡ []
   pub queues_fit : systems ≤ vec_capacity room.queues
+
+-- There is room for that many systems and workers, and a claimer for each worker.
+pub record HasRoom (systems workers : ℕ) (room : Room) : Type 0 where
+  pub numbers : room.claims.numbers ≡ systems
+  pub claimed_by : room.claims.workers ≡ workers
+  pub unused_count : length room.unused.items ≡ workers
+  pub unused_of : All (IsClaimerOf room.claims) room.unused.items
+  pub unused_are : All IsUnused room.unused.items
+  pub workers_empty : room.workers.items ≡ []
+  pub workers_fit : workers ≤ vec_capacity room.workers
+  pub returned : HasReturns systems workers room.returned

@@ -1,35 +1,59 @@
 //! The workers of a frame are made before it and taken apart after it, in room that was asked for
 //! before the phase was opened.
-ghost use Rattle.std.specs.Prelude.{◌≡◌, ◌<◌, ◌≤◌, [], length, map, reverse, replicate, All, IfOk};
+ghost use Rattle.std.specs.Prelude.{◌≡◌, ◌<◌, ◌≤◌, ◌^◌, [], length, map, reverse, replicate, All, IfOk};
 ghost use Rattle.std.specs.Prelude.{None, false, flat_map, vec_capacity};
 ghost use Rattle.ent_runner.specs.Placing.{placed};
-ghost use Rattle.ent_runner.specs.Worker.{HasRoom};
+ghost use Rattle.ent_runner.specs.Worker.{HasRoom, HasReturns};
 
 use crate::placing::place;
 use crate::worker::Worker;
-use ent_claims::Claimer;
+use ent_claims::{Claimer, Claims};
 use ent_handle::Memory;
 use ent_queue::CommandQueue;
 use ent_shared::Reserver;
 use std::alloc::{AllocError, Global};
 
-/// Room for all that a frame keeps, whatever its systems do.
+/// Room for what the workers hand back.
 #[derive(Drop)]
-pub(crate) struct Room {
-    pub(crate) workers: Vec<Worker>,
+pub(crate) struct Returned {
     pub(crate) reservers: Vec<Reserver>,
     pub(crate) claimers: Vec<Claimer>,
     pub(crate) places: Vec<Option<CommandQueue>>,
     pub(crate) queues: Vec<CommandQueue>,
 }
 
+/// What a frame asks memory for before it opens its phase.
+#[derive(Drop)]
+pub(crate) struct Room {
+    pub(crate) claims: Claims,
+    pub(crate) unused: Vec<Claimer>,
+    pub(crate) workers: Vec<Worker>,
+    pub(crate) returned: Returned,
+}
+
 impl Room {
     /// Room for that many systems and workers.
     pub(crate) fn new(alloc: Global, systems: usize, workers: usize) -> Result<Self, Memory>
+        requires systems { systems ≤ 2 ^ 16 }
+        requires some { 0 < workers }
+        requires few { workers ≤ 64 }
         ensures { IfOk result (HasRoom systems workers) }
     {
+        let (claims, unused) = Claims::open(alloc, systems, workers)?;
         Ok(Room {
+            claims,
+            unused,
             workers: Vec::with_capacity(alloc, workers)?,
+            returned: Returned::new(alloc, systems, workers)?,
+        })
+    }
+}
+
+impl Returned {
+    fn new(alloc: Global, systems: usize, workers: usize) -> Result<Self, AllocError>
+        ensures { IfOk result (HasReturns systems workers) }
+    {
+        Ok(Returned {
             reservers: Vec::with_capacity(alloc, workers)?,
             claimers: Vec::with_capacity(alloc, workers)?,
             places: empty_places(alloc, systems)?,

@@ -3,12 +3,14 @@
 #![tactic(auto)]
 
 mod crew;
+mod frame;
 mod gate;
 mod placing;
 mod report;
 mod system;
 mod worker;
 
+pub use frame::run_frame;
 pub use gate::{Gate, NoGate};
 pub use report::{FrameFault, FrameReport};
 pub use system::System;

@@ -24,6 +24,7 @@ pub(crate) struct Issued {
 }
 
 /// What the workers of a frame have in common.
+#[derive(Drop)]
 pub(crate) struct Stage<'a, S, G> {
     pub(crate) alloc: Global,
     pub(crate) shared: &'a Shared,
@@ -93,7 +94,7 @@ impl Worker {
         requires claimer { IsClaimerOf stage.now.claims.now self.old.claimer }
         requires fresh { IsFresh self.old }
         ensures { HasWorked S.may_issue stage.now.shared.now stage.now.claims.now
-            stage.now.systems.now stage.now.view self.old self.new }
+            stage.now.systems.now stage.now.view self.old.reserver.own self.new }
     {
         self.stopped = self.work(stage).is_err();
     }
@@ -112,7 +113,8 @@ where
     ensures count { length workers.new ≡ length workers.old }
     ensures each { (k : ℕ) (d : _) → k < length workers.old
         → HasWorked S.may_issue stage.now.shared.now stage.now.claims.now stage.now.systems.now
-        stage.now.view (slice_index_or workers.old k d) (slice_index_or workers.new k d) }
+        stage.now.view (slice_index_or workers.old k d).reserver.own
+        (slice_index_or workers.new k d) }
 {
     let threads = workers.len();
     for_each_mut(

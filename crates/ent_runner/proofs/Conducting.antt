@@ -1,0 +1,188 @@
+-- What the workers have done together, once all of them are back.
+use Rattle.std.proofs.Common.{◌≡◌, ℕ, zero, suc, ◌+◌, ◌<◌, ◌≤◌, List, [], ◌∷◌, ◌++◌, length, map, get_or, refl, ap, sym, ◌∙◌, arith, subst, Option, Some, None, true, false, take, drop, reverse}
+use Rattle.std.specs.Prelude.{slice_get, replicate, IsSome, IfSome}
+use Rattle.std.proofs.Common.{Vec, Global}
+use Rattle.std.specs.List.{All, AllPairs, flat_map, range_with_len}
+use Rattle.std.specs.List.Sorted.{IsPermutation}
+use Rattle.std.proofs.lemmas.Option.{slice_get_within, get_or_from_slice_get}
+use Rattle.std.proofs.lemmas.List.{length-map, get_or-map}
+use Rattle.std.proofs.lemmas.List.Folds.{flat_map-map}
+use Rattle.std.proofs.lemmas.List.Sorted.{All-permutation, IsPermutation-reverse}
+use Rattle.std.proofs.lemmas.List.Elements.{All-nil, All-cons, All-head, All-tail, All-map, All-weaker}
+use Rattle.ent_alloc.specs.History.{Call, IsLegal, after_history}
+use Rattle.ent_alloc.specs.Sequential.{Allocator}
+use Rattle.ent_shared.specs.declared.record.Record.{Record}
+use Rattle.ent_shared.specs.Record.{opened, opened_records}
+use Rattle.ent_shared.specs.Phase.{Shared, Reserver, IsOf, records_of}
+use Rattle.ent_shared.specs.Order.{reservations_of, history_of, Respects}
+use Rattle.ent_queue.specs.Command.{Command}
+use Rattle.ent_world.specs.World.{World}
+use Rattle.ent_world.specs.OpenWorld.{OpenWorld, View}
+use Rattle.ent_claims.specs.Claims.{Claims, Claimer, HaveEnded, IsOf as IsClaimerOf}
+use Rattle.ent_runner.specs.declared.worker.Issued.{Issued}
+use Rattle.ent_runner.specs.declared.worker.Worker.{Worker}
+use Rattle.ent_runner.specs.Frame.{IsFrame, view_of, world_of, reserved_by}
+use Rattle.ent_runner.specs.Worker.{HasWorked, HaveWorked, HasClaimed, IsUnused, IsFresh, systems_of, all_records}
+use Rattle.ent_runner.specs.Placing.{placed}
+use Rattle.ent_runner.proofs.Lists.{all_from_each, each_of_all, mapped_at, same_flat}
+use Rattle.ent_runner.proofs.Placed.{length_placed}
+use Rattle.ent_runner.proofs.Framed.{Did, frame_is, full}
+
+-- a slice of the same length that was written back
+pub written_back : {X : Type 0} (n : ℕ) (old new : List X) → n ≡ length old → length new ≡ length old → take n (new ++ drop (length new) old) ≡ new
+written_back zero old [] n same = refl
+written_back zero [] (x ∷ new) n same = absurd (omega arith)
+written_back zero (y ∷ old) (x ∷ new) n same = absurd (omega arith)
+written_back (suc n) [] [] n_is same = absurd (omega arith)
+written_back (suc n) [] (x ∷ new) n_is same = absurd (omega arith)
+written_back (suc n) (y ∷ old) [] n_is same = absurd (omega arith)
+written_back (suc n) (y ∷ old) (x ∷ new) n_is same = ap (λ xs. x ∷ xs) (written_back n old new (omega arith) (omega arith))
+
+opened_at : (start : Allocator) (number count k : ℕ) (d : Record) → k < count → get_or (opened_records start number count) k d ≡ opened start (number + k)
+unfolding opened_records
+opened_at start number zero k d less = absurd (omega arith)
+opened_at start number (suc count) zero d less = ap (opened start) (omega arith)
+opened_at start number (suc count) (suc k) d less = opened_at start (number + 1) count k d (omega arith) ∙ ap (opened start) (omega arith)
+
+abbrev issued_by : Worker → List Issued
+issued_by w = w.issued.items
+
+pub records_are : (ws : List Worker) → records_of (map (λ (w : Worker). w.reserver) ws) ≡ all_records ws
+records_are [] = refl
+records_are (w ∷ ws) = ap (λ rs. w.reserver.own ∷ rs) (records_are ws)
+
+module _ {S : Type 0} (may : S → View → List Command → Type 0) (systems : List S) (world : OpenWorld) (claims : Claims) where
+  -- each began as it was opened
+  pub have_worked : (view : View) (old team : List Worker) → view ≡ view_of (world_of world) → all_records old ≡ opened_records world.shared.start 0 world.shared.count → length old ≡ world.shared.count → length team ≡ length old
+      → ((k : ℕ) (d : Worker) → k < length old → HasWorked may world.shared claims systems view (get_or old k d).reserver.own (get_or team k d))
+      → HaveWorked may systems world claims team
+  have_worked view old team seen unused many back each = record {
+    count = back ∙ many;
+    each = λ k w at.
+        let within : k < length old = let l = slice_get_within team k w at in omega (arith, back) in
+        let less : k < world.shared.count = omega (arith, many) in
+        let f : Worker → Record = λ (w : Worker). w.reserver.own in
+        let began : (get_or old k w).reserver.own ≡ opened world.shared.start k =
+          sym (get_or-map f old k w (f w) within) ∙ (ap (λ rs. get_or rs k (f w)) unused ∙ (opened_at world.shared.start 0 world.shared.count k (f w) less ∙ ap (opened world.shared.start) (omega arith))) in
+        subst (λ v. HasWorked may world.shared claims systems v (opened world.shared.start k) w) seen
+        (subst (λ b. HasWorked may world.shared claims systems view b w) began
+        (subst (HasWorked may world.shared claims systems view (get_or old k w).reserver.own) (get_or_from_slice_get team k w w at) (each k w within)));
+  }
+
+  module _ (team : List Worker) (done : HaveWorked may systems world claims team) (numbers : claims.numbers ≡ length systems) where
+    pub all_claimed : All (HasClaimed world.shared claims) team
+    all_claimed = all_from_each (HasClaimed world.shared claims) team (λ k w at.
+        let d = done.each k w at in record {
+          reserver = d.reserver;
+          claimer = d.claimer;
+          inside = subst (λ n. All (λ (i : Issued). i.system < n) w.issued.items) (sym numbers) d.inside;
+          ran = λ goes. (d.ran goes).claims;
+          ended = d.ended;
+        })
+
+    module _ (going : All (λ (w : Worker). w.stopped ≡ false) team)
+      (once : IsPermutation (flat_map (λ (w : Worker). systems_of w.issued.items) team) (range_with_len 0 claims.numbers))
+      where
+
+      goes : (k : ℕ) (w : Worker) → slice_get team k ≡ Some w → w.stopped ≡ false
+      goes k w at = each_of_all (λ (w : Worker). w.stopped ≡ false) team k w going at
+
+      each_once : IsPermutation (flat_map systems_of (map issued_by team)) (range_with_len 0 (length systems))
+      each_once = subst (λ ns. IsPermutation ns (range_with_len 0 (length systems))) (sym (flat_map-map systems_of issued_by team)) (subst (λ m. IsPermutation (flat_map (λ (w : Worker). systems_of w.issued.items) team) (range_with_len 0 m)) numbers once)
+
+      did : (k : ℕ) (r : Record) (mine : List Issued) → slice_get (all_records team) k ≡ Some r → slice_get (map issued_by team) k ≡ Some mine → Did may systems (world_of world) k r mine
+      did k r mine at_r at_mine =
+          let two = mapped_at (λ (w : Worker). w.reserver.own) team k r at_r in
+          let w : Worker = two.0 in
+          let three = mapped_at issued_by team k mine at_mine in
+          let same_w : three.0 ≡ w = let e = three.1 in let f = two.1 in cc in
+          let is_mine : w.issued.items ≡ mine = ap issued_by (sym same_w) ∙ three.2 in
+          let d = done.each k w two.1 in
+          let ran = d.ran (goes k w two.1) in
+          subst (λ is. Did may systems (world_of world) k r is) is_mine
+          (subst (λ r. Did may systems (world_of world) k r w.issued.items) two.2
+          (record { gains = ran.gains; each = ran.each; rising = subst (AllPairs (λ m n. m < n)) (sym ran.claims) d.claimer.rises }))
+
+      pub is_frame : (queues : List (List Command)) → IsLegal world.shared.start (history_of (all_records team)) → All (Respects (reservations_of (all_records team))) (all_records team)
+          → map Some queues ≡ placed (flat_map (λ (w : Worker). w.issued.items) team) (replicate claims.numbers None)
+          → IsFrame may systems world.shared.count (world_of world) queues (history_of (all_records team))
+      is_frame queues legal respects places =
+          frame_is may systems (world_of world) world.shared.count (all_records team) (map issued_by team) queues
+          (length-map team (λ (w : Worker). w.reserver.own) ∙ done.count)
+          (length-map team issued_by ∙ done.count)
+          did each_once legal respects
+          (places ∙ (ap (λ n. placed (flat_map issued_by team) (replicate n None)) numbers ∙ ap (λ is. placed is (replicate (length systems) None)) (sym (flat_map-map (λ mine. mine) issued_by team))))
+
+-- What is known once all claims are closed.
+module _ (shared : Shared) (claims : Claims) (team : List Worker) (each : All (HasClaimed shared claims) team) where
+  pub reservers_own : All (IsOf shared) (map (λ (w : Worker). w.reserver) team)
+  reservers_own = All-map (IsOf shared) (λ (w : Worker). w.reserver) team (All-weaker (HasClaimed shared claims) (λ (w : Worker). IsOf shared w.reserver) (λ w d. d.reserver) team each)
+
+  pub claimers_own : All (IsClaimerOf claims) (map (λ (w : Worker). w.claimer) team)
+  claimers_own = All-map (IsClaimerOf claims) (λ (w : Worker). w.claimer) team (All-weaker (HasClaimed shared claims) (λ (w : Worker). IsClaimerOf claims w.claimer) (λ w d. d.claimer) team each)
+
+  pub all_inside : All (λ (w : Worker). All (λ (i : Issued). i.system < claims.numbers) w.issued.items) team
+  all_inside = All-weaker (HasClaimed shared claims) (λ (w : Worker). All (λ (i : Issued). i.system < claims.numbers) w.issued.items) (λ w d. d.inside) team each
+
+  module _ (going : All (λ (w : Worker). w.stopped ≡ false) team)
+    (once : HaveEnded (map (λ (w : Worker). w.claimer) team) → IsPermutation (flat_map (λ (c : Claimer). c.own.claims) (map (λ (w : Worker). w.claimer) team)) (range_with_len 0 claims.numbers))
+    where
+
+    ended : HaveEnded (map (λ (w : Worker). w.claimer) team)
+    ended = All-map (λ (c : Claimer). c.own.ended ≡ true) (λ (w : Worker). w.claimer) team (λ k d within. (each k d within).ended (going k d within))
+
+    ran_claims : All (λ (w : Worker). systems_of w.issued.items ≡ w.claimer.own.claims) team
+    ran_claims k d within = (each k d within).ran (going k d within)
+
+    pub once_each : IsPermutation (flat_map (λ (w : Worker). systems_of w.issued.items) team) (range_with_len 0 claims.numbers)
+    once_each =
+        let same : flat_map (λ (w : Worker). systems_of w.issued.items) team ≡ flat_map (λ (c : Claimer). c.own.claims) (map (λ (w : Worker). w.claimer) team) =
+          same_flat (λ (w : Worker). systems_of w.issued.items) (λ (w : Worker). w.claimer.own.claims) team ran_claims
+          ∙ sym (flat_map-map (λ (c : Claimer). c.own.claims) (λ (w : Worker). w.claimer) team) in
+        subst (λ ns. IsPermutation ns (range_with_len 0 claims.numbers)) (sym same) (once ended)
+
+    pub all_full : All IsSome (placed (flat_map (λ (w : Worker). w.issued.items) team) (replicate claims.numbers None))
+    all_full =
+        subst (λ is. All IsSome (placed is (replicate claims.numbers None))) (flat_map-map (λ mine. mine) issued_by team)
+        (full claims.numbers (map issued_by team) (subst (λ ns. IsPermutation ns (range_with_len 0 claims.numbers)) (sym (flat_map-map systems_of issued_by team)) once_each))
+
+-- the places after all queues were put in, as they are written back
+pub places_back : (count n : ℕ) (issued : List Issued) (start new : List (Option (List Command))) → start ≡ replicate count None → n ≡ length start → new ≡ placed issued start → take n (new ++ drop (length new) start) ≡ placed issued (replicate count None)
+places_back count n issued start new empty n_is put =
+    let same : length new ≡ length start = ap length put ∙ length_placed issued start in
+    written_back n start new n_is same ∙ (put ∙ ap (placed issued) empty)
+
+unmapped : {X Y : Type 0} (P : Y → Type 0) (f : X → Y) (xs : List X) → All P (map f xs) → All (λ x. P (f x)) xs
+unmapped P f [] all = All-nil (λ x. P (f x))
+unmapped P f (x ∷ xs) all = All-cons (λ x. P (f x)) x xs (All-head P (f x) (map f xs) all) (unmapped P f xs (All-tail P (f x) (map f xs) all))
+
+-- the workers are ready to begin
+pub all_ready : (shared : Shared) (claims : Claims) (old : List Worker) (given : List Reserver) (fresh : List Claimer)
+    → map (λ (w : Worker). w.reserver) old ≡ given → All (IsOf shared) given
+    → map (λ (w : Worker). w.claimer) old ≡ reverse fresh → All (IsClaimerOf claims) fresh → All IsUnused fresh
+    → All (λ (w : Worker). w.issued.items ≡ []) old
+    → All (λ (w : Worker). IsOf shared w.reserver × IsClaimerOf claims w.claimer × IsFresh w) old
+all_ready shared claims old given fresh reservers own claimers theirs unused empty =
+    let one : All (λ (w : Worker). IsOf shared w.reserver) old = unmapped (IsOf shared) (λ (w : Worker). w.reserver) old (subst (All (IsOf shared)) (sym reservers) own) in
+    let two : All (λ (w : Worker). IsClaimerOf claims w.claimer) old = unmapped (IsClaimerOf claims) (λ (w : Worker). w.claimer) old (subst (All (IsClaimerOf claims)) (sym claimers) (All-permutation (IsClaimerOf claims) fresh (reverse fresh) (IsPermutation-reverse fresh) theirs)) in
+    let three : All (λ (w : Worker). IsUnused w.claimer) old = unmapped IsUnused (λ (w : Worker). w.claimer) old (subst (All IsUnused) (sym claimers) (All-permutation IsUnused fresh (reverse fresh) (IsPermutation-reverse fresh) unused)) in
+    λ k d within. (one k d within, two k d within, record { unused = three k d within; issued = empty k d within })
+
+-- the queues, if there are any, are those of a frame
+pub framed : {S : Type 0} (may : S → View → List Command → Type 0) (systems : List S) (world : OpenWorld) (claims : Claims) (team : List Worker) → HaveWorked may systems world claims team → claims.numbers ≡ length systems → (queues : Option (Vec (List Command) Global))
+    → IsLegal world.shared.start (history_of (all_records team)) → All (Respects (reservations_of (all_records team))) (all_records team)
+    → IfSome queues (λ q. All (λ (w : Worker). w.stopped ≡ false) team)
+    → IfSome queues (λ q. IsPermutation (flat_map (λ (w : Worker). systems_of w.issued.items) team) (range_with_len 0 claims.numbers))
+    → IfSome queues (λ q. map Some q.items ≡ placed (flat_map (λ (w : Worker). w.issued.items) team) (replicate claims.numbers None))
+    → IfSome queues (λ q. IsFrame may systems world.shared.count (world_of world) q.items (history_of (all_records team)))
+framed may systems world claims team done numbers None legal respects going once places = tt
+framed may systems world claims team done numbers (Some q) legal respects going once places = is_frame may systems world claims team done numbers going once q.items legal respects places
+
+-- the world that is closed has changed by the history alone
+pub closed_by : (world : OpenWorld) (after : World) (records same : List Record) → records ≡ same → after.phase ≡ world.phase → after.entities ≡ world.entities → after.allocator ≡ after_history world.shared.start (history_of records) → after ≡ reserved_by (history_of same) (world_of world)
+closed_by world after records same is phase entities allocator =
+    let changed : after.allocator ≡ after_history world.shared.start (history_of same) = allocator ∙ ap (λ rs. after_history world.shared.start (history_of rs)) is in
+    (λ i. record { allocator = changed i; phase = phase i; entities = entities i })
+
+pub view_is : (world : OpenWorld) (view : View) → view.phase ≡ world.phase → view.entities ≡ world.entities → view ≡ view_of (world_of world)
+view_is world view phase entities = (λ i. record { phase = phase i; entities = entities i })

@@ -1,0 +1,204 @@
+//! A frame: workers run the systems while the world is open, and the sync point applies their
+//! queues.
+ghost use Rattle.std.specs.Prelude.{◌≡◌, ◌<◌, ◌≤◌, ◌^◌, length, map, All, List, IfOk, IfSome};
+ghost use Rattle.std.specs.Prelude.{IsErrOf, OnOk, IsPermutation, Some, None, false, flat_map};
+ghost use Rattle.std.specs.Prelude.{replicate};
+ghost use Rattle.std.specs.List.{range_with_len};
+ghost use Rattle.ent_alloc.specs.History.{Call, IsLegal};
+ghost use Rattle.ent_shared.specs.Order.{history_of, reservations_of, Respects};
+ghost use Rattle.ent_shared.specs.Phase.{IsOf, records_of};
+ghost use Rattle.ent_claims.specs.Claims.{IsOf as IsClaimerOf};
+ghost use Rattle.ent_shared.specs.Record.{opened_records};
+ghost use Rattle.ent_runner.specs.Frame.{IsFrame, Ends, StopsAt, IfSyncStopped};
+ghost use Rattle.ent_runner.specs.Frame.{reserved_by, world_of};
+ghost use Rattle.ent_runner.specs.Placing.{placed};
+ghost use Rattle.ent_runner.specs.Worker.{HasRoom, HasReturns, HasClaimed, HaveWorked, IsFresh};
+ghost use Rattle.ent_runner.specs.Worker.{systems_of, all_records};
+
+use crate::crew::{Returned, Room, disband, recruit, some_stopped};
+use crate::gate::Gate;
+use crate::placing::collect;
+use crate::report::{FrameFault, FrameReport};
+use crate::system::System;
+use crate::worker::{Stage, Worker, run_all};
+use ent_alloc::Limits;
+use ent_claims::Claims;
+use ent_queue::CommandQueue;
+use ent_shared::Reserver;
+use ent_world::{OpenWorld, World};
+use std::alloc::Global;
+use std::mem;
+use std::thread::Threads;
+
+/// Runs each system once, on that many workers side by side, and then the sync point.
+///
+/// A worker has one reserver, and takes the next system that nobody has taken yet until none is
+/// left. Each system fills a queue of its own. The queues are applied in the order of the systems,
+/// whatever the order in which they ended. There are 1 to 64 workers and at most 65,536 systems,
+/// and the world is flushed. If a thread can't be started, its work is done by another one.
+///
+/// # Errors
+///
+/// - [`FrameFault::Memory`] if memory was refused before any system ran. The world is as it was.
+/// - [`FrameFault::Lost`] if memory was refused later, or a system answered so. No command was
+///   applied. What was reserved stays so: [`World::flush`] brings it to life.
+/// - [`FrameFault::Sync`] if all systems ran and the sync point stopped.
+pub fn run_frame<R, S, G>(
+    rt: &R,
+    alloc: Global,
+    world: &mut World,
+    systems: &[S],
+    workers: usize,
+    gate: &G,
+) -> Result<FrameReport, FrameFault>
+where
+    R: Threads + Sync,
+    S: System + Sync,
+    G: Gate + Sync,
+    requires flushed { world.old.allocator.asked ≡ 0 }
+    requires systems { length systems.now ≤ 2 ^ 16 }
+    requires some { 0 < workers }
+    requires few { workers ≤ 64 }
+    ensures ok { IfOk result (λ report. Ends S.may_issue systems.now workers world.old
+        report.queues.items world.new report.sync.born.items report.sync.faults.items) }
+    ensures flushed { OnOk result (world.new.allocator.asked ≡ 0) }
+    ensures memory { IsErrOf result FrameFault.Memory → world.new ≡ world.old }
+    ensures lost { IsErrOf result FrameFault.Lost → (history : List Call)
+        × IsLegal world.old.allocator history
+        × (world.new ≡ reserved_by history world.old) }
+    ensures stopped { IfSyncStopped result (λ fault queues.
+        StopsAt S.may_issue systems.now workers world.old queues world.new fault) }
+{
+    let Ok(room) = Room::new(alloc, systems.len(), workers) else {
+        return Err(FrameFault::Memory);
+    };
+    let closed = mem::replace(world, World::new(alloc, Limits::default_limits()));
+    let (opened, reservers) = match closed.open(workers) {
+        Ok(made) => made,
+        Err((closed, _)) => {
+            *world = closed;
+            return Err(FrameFault::Memory);
+        }
+    };
+    let (closed, queues) = run_open(rt, alloc, room, opened, reservers, systems, gate);
+    *world = closed;
+    let Some(queues) = queues else {
+        return Err(FrameFault::Lost);
+    };
+    match world.apply(&queues) {
+        Ok(sync) => Ok(FrameReport { queues, sync }),
+        Err(fault) => Err(FrameFault::Sync { fault, queues }),
+    }
+}
+
+/// Runs the systems on the open world and closes it. There are no queues if a worker has stopped
+/// for want of memory.
+fn run_open<R, S, G>(
+    rt: &R,
+    alloc: Global,
+    room: Room,
+    opened: OpenWorld,
+    reservers: Vec<Reserver>,
+    systems: &[S],
+    gate: &G,
+) -> (World, Option<Vec<CommandQueue>>)
+where
+    R: Threads + Sync,
+    S: System + Sync,
+    G: Gate + Sync,
+    requires room { HasRoom (length systems.now) opened.shared.count room }
+    requires some { 0 < opened.shared.count }
+    requires count { length reservers.items ≡ opened.shared.count }
+    requires own { All (IsOf opened.shared) reservers.items }
+    requires unused { records_of reservers.items
+        ≡ opened_records opened.shared.start 0 opened.shared.count }
+    ensures { (history : List Call) × IsLegal opened.shared.start history
+        × (result.0 ≡ reserved_by history (world_of opened))
+        × IfSome result.1 (λ queues. IsFrame S.may_issue systems.now opened.shared.count
+        (world_of opened) queues.items history) }
+{
+    let Room {
+        claims,
+        unused,
+        mut workers,
+        returned,
+    } = room;
+    recruit(alloc, reservers, unused, &mut workers);
+    work(rt, alloc, &opened, &claims, systems, gate, &mut workers);
+    finish(opened, claims, workers, returned)
+}
+
+/// All workers work.
+fn work<R, S, G>(
+    rt: &R,
+    alloc: Global,
+    opened: &OpenWorld,
+    claims: &Claims,
+    systems: &[S],
+    gate: &G,
+    workers: &mut Vec<Worker>,
+)
+where
+    R: Threads + Sync,
+    S: System + Sync,
+    G: Gate + Sync,
+    requires systems { claims.now.numbers ≡ length systems.now }
+    requires some { 0 < opened.now.shared.count }
+    requires count { length workers.old.items ≡ opened.now.shared.count }
+    requires ready { All (λ w. IsOf opened.now.shared w.reserver
+        × IsClaimerOf claims.now w.claimer × IsFresh w) workers.old.items }
+    requires unused { map (λ w. w.reserver.own) workers.old.items
+        ≡ opened_records opened.now.shared.start 0 opened.now.shared.count }
+    ensures { HaveWorked S.may_issue systems.now opened.now claims.now workers.new.items }
+{
+    let stage = Stage {
+        alloc,
+        shared: opened.shared(),
+        view: opened.view(),
+        systems,
+        claims,
+        gate,
+    };
+    run_all(rt, &stage, workers);
+}
+
+/// Closes the world, and collects the queues unless a worker has stopped for want of memory.
+fn finish(
+    opened: OpenWorld,
+    claims: Claims,
+    workers: Vec<Worker>,
+    returned: Returned,
+) -> (World, Option<Vec<CommandQueue>>)
+    requires each { All (HasClaimed opened.shared claims) workers.items }
+    requires count { length workers.items ≡ opened.shared.count }
+    requires claims { claims.workers ≡ opened.shared.count }
+    requires room { HasReturns claims.numbers opened.shared.count returned }
+    ensures world { result.0
+        ≡ reserved_by (history_of (all_records workers.items)) (world_of opened) }
+    ensures legal { IsLegal opened.shared.start (history_of (all_records workers.items)) }
+    ensures respects { let records = all_records workers.items in
+        All (Respects (reservations_of records)) records }
+    ensures going { IfSome result.1 (λ _. All (λ w. w.stopped ≡ false) workers.items) }
+    ensures once { IfSome result.1 (λ _. IsPermutation
+        (flat_map (λ w. systems_of w.issued.items) workers.items)
+        (range_with_len 0 claims.numbers)) }
+    ensures queues { IfSome result.1 (λ queues. map Some queues.items
+        ≡ placed (flat_map (λ w. w.issued.items) workers.items)
+        (replicate claims.numbers None)) }
+{
+    let stopped = some_stopped(&workers);
+    let Returned {
+        mut reservers,
+        mut claimers,
+        mut places,
+        mut queues,
+    } = returned;
+    disband(workers, &mut reservers, &mut claimers, &mut places);
+    claims.close(claimers);
+    let world = opened.close(reservers);
+    if stopped {
+        return (world, None);
+    }
+    collect(places, &mut queues);
+    (world, Some(queues))
+}
