@@ -1,5 +1,6 @@
 -- Each step keeps the rule over the claim word and the records.
-use Rattle.std.proofs.Common.{◌≡◌, ℕ, zero, suc, ◌+◌, ◌%◌, ◌^◌, ◌<◌, ◌≤◌, List, [], ◌∷◌, ◌++◌, length}
+use Rattle.std.proofs.Common.{◌≡◌, ℕ, zero, suc, ◌+◌, ◌%◌, ◌^◌, ◌<◌, ◌≤◌, List, [], ◌∷◌, ◌++◌}
+use Rattle.std.proofs.Common.{length}
 use Rattle.std.proofs.Common.{set, get_or, take, drop, sym, refl, ap, subst, ◌∙◌, arith, ⊎_elim}
 use Rattle.std.proofs.Common.{length-append, lt-ltb, le-ltb, true≢false}
 use Rattle.std.proofs.Math.Nat.{mod-eq_of_lt}
@@ -20,7 +21,8 @@ use lib.ListN.{get_elem?}
 use Rattle.atomic_table.specs.Table.{State, Me, keeps, Allows, Splits, Joins, Enters, opening}
 use Rattle.ent_claims.specs.declared.record.Record.{Record}
 use Rattle.ent_claims.specs.Record.{opened, after_claim}
-use Rattle.ent_claims.specs.Rule.{weigh, ended_in, IsKept, IsRuled, AfterClaim, ClaimTells, IsClosed}
+use Rattle.ent_claims.specs.Rule.{weigh, ended_in, IsKept, IsRuled, AfterClaim, ClaimTells}
+use Rattle.ent_claims.specs.Rule.{IsClosed}
 use Rattle.ent_claims.proofs.Weighing.{all_one, sum_at, all_at, only_at}
 
 abbrev first_or : Record → List Record → Record
