@@ -1,5 +1,6 @@
 -- A claimer after a claim: it stays of its claims.
-use Rattle.std.proofs.Common.{◌≡◌, ℕ, suc, ◌+◌, ◌<◌, ◌≤◌, List, [], ◌∷◌, ◌++◌, length, sym, ap, subst}
+use Rattle.std.proofs.Common.{◌≡◌, ℕ, suc, ◌+◌, ◌<◌, ◌≤◌, List, [], ◌∷◌, ◌++◌, length, sym, ap}
+use Rattle.std.proofs.Common.{subst}
 use Rattle.std.proofs.Common.{◌∙◌, arith, lt-ltb}
 use Rattle.std.specs.Prelude.{Bool, if◌then◌else◌, true}
 use Rattle.std.specs.List.{All, AllPairs}

@@ -1,6 +1,8 @@
 -- What all claimers together have claimed.
-use Rattle.std.proofs.Common.{◌≡◌, ℕ, zero, suc, ◌+◌, ◌<◌, ◌≤◌, List, [], ◌∷◌, ◌++◌, length, map, flat_map}
-use Rattle.std.proofs.Common.{sym, refl, ap, subst, ◌∙◌, arith, IsPermutation, unwrap_or, append-nil}
+use Rattle.std.proofs.Common.{◌≡◌, ℕ, zero, suc, ◌+◌, ◌<◌, ◌≤◌, List, [], ◌∷◌, ◌++◌, length, map}
+use Rattle.std.proofs.Common.{flat_map}
+use Rattle.std.proofs.Common.{sym, refl, ap, subst, ◌∙◌, arith, IsPermutation, unwrap_or}
+use Rattle.std.proofs.Common.{append-nil}
 use Rattle.std.proofs.Common.{⊎_elim, Option}
 use Rattle.std.proofs.lemmas.Option.{none-some}
 use Rattle.std.proofs.lemmas.Bool.{cases_lt}

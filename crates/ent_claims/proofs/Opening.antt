@@ -1,13 +1,13 @@
 -- The claimers of a number of workers, as they are made one by one.
 use Rattle.std.proofs.Common.{◌≡◌, ℕ, suc, ◌+◌, ◌-◌, ◌<◌, List, [], ◌∷◌, ◌++◌, take, drop}
-use Rattle.std.proofs.Common.{refl, sym, ap, subst, ◌∙◌, arith}
+use Rattle.std.proofs.Common.{refl, sym, ap, subst, ◌∙◌, arith, replicate}
 use Rattle.std.specs.Prelude.{false}
 use Rattle.std.specs.List.{All}
 use Rattle.std.proofs.lemmas.List.Elements.{All-nil, All-push}
 use Rattle.atomic_table.specs.Seated.{TableId}
 use Rattle.atomic_table.specs.Table.{Me}
 use Rattle.ent_claims.specs.declared.record.Record.{Record}
-use Rattle.ent_claims.specs.Record.{opened, opened_records, own_of}
+use Rattle.ent_claims.specs.Record.{opened, own_of}
 use Rattle.ent_claims.specs.Claims.{Claims, Claimer, IsOf, IsSeated}
 
 abbrev pub IsUnused : Claimer → Type 0
@@ -16,7 +16,7 @@ IsUnused c = (c.own.claims ≡ []) × (c.own.ended ≡ false)
 -- the first claimers are made, and the seat has the other records
 pub record AreOpened (numbers workers many : ℕ) (word : TableId) (made : List Claimer) (seat : TableId) (me : Me (Unit {0}) (List Record)) : Type 0 where
   pub seat_is : seat ≡ word
-  pub left : me ≡ (opened_records numbers (workers - many), [])
+  pub left : me ≡ (replicate (workers - many) (opened numbers), [])
   pub own : All (IsOf (record { word = word; numbers = numbers; workers = workers })) made
   pub unused : All IsUnused made
 
@@ -29,23 +29,22 @@ of_opened claims = record {
   fits = omega arith;
 }
 
-pub none_opened : (numbers workers : ℕ) (word seat : TableId) (made : List Claimer) (me : Me (Unit {0}) (List Record)) → made ≡ [] → seat ≡ word → me ≡ (opened_records numbers workers, [])
+pub none_opened : (numbers workers : ℕ) (word seat : TableId) (made : List Claimer) (me : Me (Unit {0}) (List Record)) → made ≡ [] → seat ≡ word → me ≡ (replicate workers (opened numbers), [])
     → AreOpened numbers workers 0 word made seat me
 none_opened numbers workers word seat made me bare same left = record {
   seat_is = same;
-  left = left ∙ ap (λ (k : ℕ). (opened_records numbers k, [])) (omega arith);
+  left = left ∙ ap (λ (k : ℕ). (replicate k (opened numbers), [])) (omega arith);
   own = subst (All (IsOf (record { word = word; numbers = numbers; workers = workers }))) (sym bare) (All-nil (IsOf (record { word = word; numbers = numbers; workers = workers })));
   unused = subst (All IsUnused) (sym bare) (All-nil IsUnused);
 }
 
-opened-first : (numbers workers many : ℕ) → many < workers → opened_records numbers (workers - many) ≡ opened numbers ∷ opened_records numbers (workers - (many + 1))
-unfolding opened_records
+opened-first : (numbers workers many : ℕ) → many < workers → replicate (workers - many) (opened numbers) ≡ opened numbers ∷ replicate (workers - (many + 1)) (opened numbers)
 opened-first numbers workers many below =
     let more : workers - many ≡ suc (workers - (many + 1)) = omega arith in
-    ap (opened_records numbers) more
+    ap (λ (k : ℕ). replicate k (opened numbers)) more
 
 module _ (numbers workers many : ℕ) (word seat : TableId) (made : List Claimer) (me : Me (Unit {0}) (List Record)) (below : many < workers) (d : AreOpened numbers workers many word made seat me) where
-  next_is : me.0 ≡ opened numbers ∷ opened_records numbers (workers - (many + 1))
+  next_is : me.0 ≡ opened numbers ∷ replicate (workers - (many + 1)) (opened numbers)
   next_is = ap (λ (m : Me (Unit {0}) (List Record)). m.0) d.left ∙ opened-first numbers workers many below
 
   one_is : (views : List (List Record)) → views ≡ take 1 me.0 ∷ [] → views ≡ (opened numbers ∷ []) ∷ []

@@ -1,5 +1,6 @@
 -- Each step keeps the rule over the claim word and the records.
-use Rattle.std.proofs.Common.{◌≡◌, ℕ, zero, suc, ◌+◌, ◌%◌, ◌^◌, ◌<◌, ◌≤◌, List, [], ◌∷◌, ◌++◌, length}
+use Rattle.std.proofs.Common.{◌≡◌, ℕ, zero, suc, ◌+◌, ◌%◌, ◌^◌, ◌<◌, ◌≤◌, List, [], ◌∷◌, ◌++◌}
+use Rattle.std.proofs.Common.{length}
 use Rattle.std.proofs.Common.{set, get_or, take, drop, sym, refl, ap, subst, ◌∙◌, arith, ⊎_elim}
 use Rattle.std.proofs.Common.{length-append, lt-ltb, le-ltb, true≢false}
 use Rattle.std.proofs.Math.Nat.{mod-eq_of_lt}
@@ -7,16 +8,21 @@ use Rattle.atomic_table.proofs.Lists.{set_else}
 use Rattle.std.specs.Prelude.{Bool, true, false, cond, if◌then◌else◌}
 use Rattle.std.specs.List.{sum_by, All, range_with_len}
 use Rattle.std.proofs.lemmas.Bool.{cases_lt}
-use Rattle.std.proofs.lemmas.List.Elements.{All-head, All-tail, All-nil, All-cons, All-append}
+use Rattle.std.proofs.lemmas.List.Elements.{All-head, All-tail, All-nil, All-append}
 use Rattle.std.proofs.lemmas.List.Elements.{All-weaker, All-set, All-push}
 use Rattle.std.proofs.lemmas.List.Quantifiers.{all_pairs_push}
 use Rattle.std.proofs.lemmas.List.Sums.{sum_by-cons, sum_by-append, sum_by_push, sum_by-le-sum_by}
+use Rattle.std.proofs.Common.{replicate, ◌*◌}
+use Rattle.std.proofs.lemmas.List.{length-replicate}
+use Rattle.std.proofs.lemmas.List.Elements.{All-replicate}
+use Rattle.std.proofs.lemmas.List.Folds.{sum_by-replicate}
 use mathlib.Core.Option.{some}
 use lib.ListN.{get_elem?}
 use Rattle.atomic_table.specs.Table.{State, Me, keeps, Allows, Splits, Joins, Enters, opening}
 use Rattle.ent_claims.specs.declared.record.Record.{Record}
-use Rattle.ent_claims.specs.Record.{opened, opened_records, after_claim}
-use Rattle.ent_claims.specs.Rule.{weigh, ended_in, IsKept, IsRuled, AfterClaim, ClaimTells, IsClosed}
+use Rattle.ent_claims.specs.Record.{opened, after_claim}
+use Rattle.ent_claims.specs.Rule.{weigh, ended_in, IsKept, IsRuled, AfterClaim, ClaimTells}
+use Rattle.ent_claims.specs.Rule.{IsClosed}
 use Rattle.ent_claims.proofs.Weighing.{all_one, sum_at, all_at, only_at}
 
 abbrev first_or : Record → List Record → Record
@@ -298,27 +304,6 @@ module _ (numbers workers : ℕ) where
       )
 
   -- before the first step
-  weigh-opened : (f : ℕ → ℕ) (many : ℕ) → weigh f (opened_records numbers many) ≡ 0
-  unfolding opened_records
-  weigh-opened f zero = refl
-  weigh-opened f (suc many) =
-      let rest = weigh-opened f many in
-      let here : weigh f (opened numbers ∷ opened_records numbers many) ≡ 0 + weigh f (opened_records numbers many) = sum_by-cons (λ (r : Record). sum_by f r.claims) (opened numbers) (opened_records numbers many) in
-      here ∙ omega arith
-
-  ended-opened : (many : ℕ) → ended_in (opened_records numbers many) ≡ 0
-  unfolding opened_records
-  ended-opened zero = refl
-  ended-opened (suc many) =
-      let rest = ended-opened many in
-      let here : ended_in (opened numbers ∷ opened_records numbers many) ≡ 0 + ended_in (opened_records numbers many) = sum_by-cons (λ (r : Record). cond {A = ℕ} r.ended 1 0) (opened numbers) (opened_records numbers many) in
-      here ∙ omega arith
-
-  length-opened : (many : ℕ) → length (opened_records numbers many) ≡ many
-  unfolding opened_records
-  length-opened zero = refl
-  length-opened (suc many) = ap suc (length-opened many)
-
   kept-opened : IsKept numbers 0 (opened numbers)
   kept-opened = record {
     numbers_is = refl;
@@ -327,16 +312,11 @@ module _ (numbers workers : ℕ) where
     ends = λ ended. absurd (true≢false (sym ended));
   }
 
-  all_kept-opened : (many : ℕ) → All (IsKept numbers 0) (opened_records numbers many)
-  unfolding opened_records
-  all_kept-opened zero = All-nil (IsKept numbers 0)
-  all_kept-opened (suc many) = All-cons (IsKept numbers 0) (opened numbers) (opened_records numbers many) kept-opened (all_kept-opened many)
-
-  pub begins : numbers ≤ 2 ^ 16 → workers ≤ 64 → Rule (opening (0 ∷ []) [] (opened_records numbers workers))
+  pub begins : numbers ≤ 2 ^ 16 → workers ≤ 64 → Rule (opening (0 ∷ []) [] (replicate workers (opened numbers)))
   begins few_numbers few_workers =
-      let v : List Record = opened_records numbers workers in
+      let v : List Record = replicate workers (opened numbers) in
       let sum_of = λ (g : List Record → ℕ). sum_by-cons g v [] in
-      let ended : sum_by ended_in (v ∷ []) ≡ 0 = (let sums = sum_of ended_in in let none = ended-opened workers in omega arith) in
+      let ended : sum_by ended_in (v ∷ []) ≡ 0 = (let sums = sum_of ended_in in let none : ended_in v ≡ workers * 0 = sum_by-replicate (λ (r : Record). cond {A = ℕ} r.ended 1 0) workers (opened numbers) in omega arith) in
       record {
         few_numbers = few_numbers;
         few_workers = few_workers;
@@ -346,9 +326,9 @@ module _ (numbers workers : ℕ) where
         within = omega arith;
         counts = omega arith;
         none_early = λ _. ended;
-        partition = λ f. (let sums = sum_of (weigh f) in let none = weigh-opened f workers in omega arith);
-        records = (let sums = sum_of length in let n = length-opened workers in omega arith);
-        each = all_one (All (IsKept numbers 0)) v (all_kept-opened workers);
+        partition = λ f. (let sums = sum_of (weigh f) in let none : weigh f v ≡ workers * 0 = sum_by-replicate (λ (r : Record). sum_by f r.claims) workers (opened numbers) in omega arith);
+        records = (let sums = sum_of length in let n = length-replicate workers (opened numbers) in omega arith);
+        each = all_one (All (IsKept numbers 0)) v (All-replicate (IsKept numbers 0) workers (opened numbers) kept-opened);
       }
 
   -- after the last step

@@ -1,15 +1,10 @@
 -- What one claimer has claimed, and how a step adds to it.
-use Rattle.std.specs.Prelude.{ℕ, zero, suc, nat_lt, if◌then◌else◌, true, false, List, [], ◌∷◌, ◌++◌}
+use Rattle.std.specs.Prelude.{ℕ, nat_lt, if◌then◌else◌, true, false, List, [], ◌∷◌, ◌++◌}
 use Rattle.ent_claims.specs.declared.record.Record.{Record}
 
 -- a claimer that has done nothing yet
 abbrev pub opened : ℕ → Record
 opened numbers = record { numbers = numbers; claims = []; ended = false }
-
--- that many of them
-unfoldable pub opened_records : ℕ → ℕ → List Record
-opened_records numbers zero = []
-opened_records numbers (suc many) = opened numbers ∷ opened_records numbers many
 
 -- the record after a step that found this number
 abbrev pub after_claim : Record → ℕ → Record

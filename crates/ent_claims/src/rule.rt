@@ -1,7 +1,7 @@
 //! The rule over the claim word and the records of all claimers, and what its steps tell.
 ghost use Rattle.ent_claims.specs.Rule.{IsRuled, ClaimTells};
-ghost use Rattle.ent_claims.specs.Record.{opened_records};
-ghost use Rattle.std.specs.Prelude.{◌≡◌, List, [], ◌∷◌, ◌++◌, take, drop};
+ghost use Rattle.ent_claims.specs.Record.{opened};
+ghost use Rattle.std.specs.Prelude.{◌≡◌, List, [], ◌∷◌, ◌++◌, take, drop, replicate};
 
 use crate::record::Record;
 use atomic_table::{Join, Play, Split, TableRule};
@@ -22,7 +22,7 @@ pub(crate) struct Numbers;
 impl TableRule<(), SeatRecords, Opening> for Numbers {
     ghost holds = { λ opening. IsRuled opening.numbers opening.workers };
 
-    ghost first = { λ opening. opened_records opening.numbers opening.workers };
+    ghost first = { λ opening. replicate opening.workers (opened opening.numbers) };
 }
 
 /// A claim.

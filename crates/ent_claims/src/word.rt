@@ -1,7 +1,7 @@
 //! The claim word: what each kind of step does to the word and to the records.
 ghost use Rattle.std.specs.Prelude.{◌≡◌, ◌<◌, ◌≤◌, ◌^◌, List, [], ◌∷◌, ◌++◌, take, drop, All};
-ghost use Rattle.std.specs.Prelude.{IfOk, false};
-ghost use Rattle.ent_claims.specs.Record.{opened_records, after_claim, own_of};
+ghost use Rattle.std.specs.Prelude.{IfOk, false, replicate};
+ghost use Rattle.ent_claims.specs.Record.{opened, after_claim, own_of};
 ghost use Rattle.ent_claims.specs.Rule.{IsClosed};
 ghost use Rattle.ent_claims.specs.Claims.{IsOpen};
 ghost use Rattle.ent_claims.specs.declared.record.Record.{Record};
@@ -23,7 +23,7 @@ pub(crate) fn open(alloc: Global, opening: &Opening) -> Result<(Word, WordSeat),
     ensures word { IfOk result (λ made. IsOpen opening.now.numbers opening.now.workers
         made.0.shared.key made.0.shared.table_id) }
     ensures seat { IfOk result (λ made. (made.1.table_id ≡ made.0.shared.table_id)
-        × (made.1.me ≡ (opened_records opening.now.numbers opening.now.workers, []))) }
+        × (made.1.me ≡ (replicate opening.now.workers (opened opening.now.numbers), []))) }
 {
     Table::of_words(alloc, &[0], opening)
 }

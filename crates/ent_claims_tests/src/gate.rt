@@ -1,0 +1,26 @@
+use std::sync::atomic::{AtomicU32, Ordering};
+
+/// How often a thread looks for the others before it goes on without them.
+const TURNS: u32 = 200_000_000;
+
+/// Where threads look for one another before they claim, so that they do overlap.
+#[derive(Drop)]
+pub struct Gate {
+    entered: AtomicU32,
+    threads: u32,
+}
+
+impl Gate {
+    pub fn new(threads: u32) -> Self {
+        Gate {
+            entered: AtomicU32::new(0),
+            threads,
+        }
+    }
+
+    /// Enters, and waits until all have entered, though not for ever. Answers whether it saw them.
+    pub fn enter(&self) -> bool {
+        self.entered.fetch_add(1, Ordering::SeqCst);
+        (0..TURNS).any(|_| self.entered.load(Ordering::SeqCst) == self.threads)
+    }
+}

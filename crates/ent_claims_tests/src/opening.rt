@@ -1,0 +1,92 @@
+//! The beginning and the end of the claiming.
+ghost use Rattle.std.specs.Prelude.{◌≡◌, ◌<◌, ◌≤◌, ◌^◌, All, length};
+ghost use Rattle.ent_claims.specs.Claims.{IsOf};
+
+use crate::worker::Worker;
+use ent_claims::{Claimer, Claims};
+use std::alloc::Global;
+use std::process::Abort;
+
+/// The numbers below `numbers`, for that many workers.
+pub fn opened(
+    rt: &impl Abort,
+    alloc: Global,
+    numbers: usize,
+    workers: usize,
+) -> (Claims, Vec<Claimer>)
+    requires numbers { numbers ≤ 2 ^ 16 }
+    requires some { 0 < workers }
+    requires few { workers ≤ 64 }
+    ensures numbers { result.0.numbers ≡ numbers }
+    ensures workers { result.0.workers ≡ workers }
+    ensures count { length result.1.items ≡ workers }
+    ensures own { All (IsOf result.0) result.1.items }
+{
+    Claims::open(alloc, numbers, workers).expect(rt, "memory for the claimers")
+}
+
+/// The last claimer of a list.
+pub fn last(rt: &impl Abort, claims: &Claims, claimers: &mut Vec<Claimer>) -> Claimer
+    requires { All (IsOf claims.now) claimers.old.items }
+    ensures rest { All (IsOf claims.now) claimers.new.items }
+    ensures last { IsOf claims.now result }
+{
+    let _claims = claims;
+    claimers.pop().expect(rt, "a claimer for each")
+}
+
+/// A worker for each claimer.
+pub fn workers(
+    rt: &impl Abort,
+    alloc: Global,
+    claims: &Claims,
+    mut claimers: Vec<Claimer>,
+) -> Vec<Worker>
+    requires { All (IsOf claims.now) claimers.items }
+    ensures count { length result.items ≡ length claimers.items }
+    ensures own { All (λ w. IsOf claims.now w.claimer) result.items }
+{
+    let mut workers = Vec::new(alloc);
+    for _ in 0..claimers.len() {
+        let claimer = last(rt, claims, &mut claimers);
+        workers
+            .push(Worker::new(alloc, claimer))
+            .expect(rt, "memory for the workers");
+    }
+    workers
+}
+
+/// The last worker of a list.
+fn last_worker(rt: &impl Abort, claims: &Claims, workers: &mut Vec<Worker>) -> Worker
+    requires { All (λ w. IsOf claims.now w.claimer) workers.old.items }
+    ensures rest { All (λ w. IsOf claims.now w.claimer) workers.new.items }
+    ensures last { IsOf claims.now result.claimer }
+{
+    let _claims = claims;
+    workers.pop().expect(rt, "a worker for each")
+}
+
+/// Gives all claimers back. Answers what they have claimed, one worker's after the other's.
+pub fn closed(
+    rt: &impl Abort,
+    alloc: Global,
+    claims: Claims,
+    mut workers: Vec<Worker>,
+) -> Vec<usize>
+    requires all { length workers.items ≡ claims.workers }
+    requires own { All (λ w. IsOf claims w.claimer) workers.items }
+{
+    let mut claimers = Vec::new(alloc);
+    let mut claimed = Vec::new(alloc);
+    for _ in 0..workers.len() {
+        let worker = last_worker(rt, &claims, &mut workers);
+        claimed
+            .extend_from_slice(&worker.claimed)
+            .expect(rt, "memory for a list");
+        claimers
+            .push(worker.claimer)
+            .expect(rt, "memory for the claimers");
+    }
+    claims.close(claimers);
+    claimed
+}
