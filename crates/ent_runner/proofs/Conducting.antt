@@ -1,5 +1,5 @@
 -- What the workers have done together, once all of them are back.
-use Rattle.std.proofs.Common.{◌≡◌, ℕ, zero, suc, ◌+◌, ◌<◌, ◌≤◌, List, [], ◌∷◌, ◌++◌, length, map, get_or, refl, ap, sym, ◌∙◌, arith, subst, Option, Some, None, true, false, take, drop, reverse}
+use Rattle.std.proofs.Common.{◌≡◌, ℕ, zero, suc, ◌+◌, ◌<◌, List, [], ◌∷◌, ◌++◌, length, map, get_or, refl, ap, sym, ◌∙◌, arith, subst, Option, Some, None, true, false, take, drop, reverse}
 use Rattle.std.specs.Prelude.{slice_get, replicate, IsSome, IfSome}
 use Rattle.std.proofs.Common.{Vec, Global}
 use Rattle.std.specs.List.{All, AllPairs, flat_map, range_with_len}
@@ -9,7 +9,7 @@ use Rattle.std.proofs.lemmas.List.{length-map, get_or-map}
 use Rattle.std.proofs.lemmas.List.Folds.{flat_map-map}
 use Rattle.std.proofs.lemmas.List.Sorted.{All-permutation, IsPermutation-reverse}
 use Rattle.std.proofs.lemmas.List.Elements.{All-nil, All-cons, All-head, All-tail, All-map, All-weaker}
-use Rattle.ent_alloc.specs.History.{Call, IsLegal, after_history}
+use Rattle.ent_alloc.specs.History.{IsLegal, after_history}
 use Rattle.ent_alloc.specs.Sequential.{Allocator}
 use Rattle.ent_shared.specs.declared.record.Record.{Record}
 use Rattle.ent_shared.specs.Record.{opened, opened_records}
@@ -134,17 +134,26 @@ module _ (shared : Shared) (claims : Claims) (team : List Worker) (each : All (H
     ran_claims : All (λ (w : Worker). systems_of w.issued.items ≡ w.claimer.own.claims) team
     ran_claims k d within = (each k d within).ran (going k d within)
 
-    pub once_each : IsPermutation (flat_map (λ (w : Worker). systems_of w.issued.items) team) (range_with_len 0 claims.numbers)
+    once_each : IsPermutation (flat_map (λ (w : Worker). systems_of w.issued.items) team) (range_with_len 0 claims.numbers)
     once_each =
         let same : flat_map (λ (w : Worker). systems_of w.issued.items) team ≡ flat_map (λ (c : Claimer). c.own.claims) (map (λ (w : Worker). w.claimer) team) =
           same_flat (λ (w : Worker). systems_of w.issued.items) (λ (w : Worker). w.claimer.own.claims) team ran_claims
           ∙ sym (flat_map-map (λ (c : Claimer). c.own.claims) (λ (w : Worker). w.claimer) team) in
         subst (λ ns. IsPermutation ns (range_with_len 0 claims.numbers)) (sym same) (once ended)
 
-    pub all_full : All IsSome (placed (flat_map (λ (w : Worker). w.issued.items) team) (replicate claims.numbers None))
-    all_full =
-        subst (λ is. All IsSome (placed is (replicate claims.numbers None))) (flat_map-map (λ mine. mine) issued_by team)
-        (full claims.numbers (map issued_by team) (subst (λ ns. IsPermutation ns (range_with_len 0 claims.numbers)) (sym (flat_map-map systems_of issued_by team)) once_each))
+-- the same of what was seen and handed in
+pub once_closed : (shared : Shared) (claims : Claims) (team : List Worker) → All (HasClaimed shared claims) team → (seen : List Worker) → seen ≡ team → All (λ (w : Worker). w.stopped ≡ false) seen → (claimers : List Claimer) → claimers ≡ map (λ (w : Worker). w.claimer) team
+    → (HaveEnded claimers → IsPermutation (flat_map (λ (c : Claimer). c.own.claims) claimers) (range_with_len 0 claims.numbers))
+    → IsPermutation (flat_map (λ (w : Worker). systems_of w.issued.items) team) (range_with_len 0 claims.numbers)
+once_closed shared claims team each seen same going claimers theirs once =
+    once_each shared claims team each (subst (All (λ (w : Worker). w.stopped ≡ false)) same going)
+    (λ ended. subst (λ (cs : List Claimer). IsPermutation (flat_map (λ (c : Claimer). c.own.claims) cs) (range_with_len 0 claims.numbers)) theirs (once (subst HaveEnded (sym theirs) ended)))
+
+-- each place has a queue
+pub all_full : (claims : Claims) (team : List Worker) → IsPermutation (flat_map (λ (w : Worker). systems_of w.issued.items) team) (range_with_len 0 claims.numbers) → All IsSome (placed (flat_map (λ (w : Worker). w.issued.items) team) (replicate claims.numbers None))
+all_full claims team once =
+    subst (λ is. All IsSome (placed is (replicate claims.numbers None))) (flat_map-map (λ mine. mine) issued_by team)
+    (full claims.numbers (map issued_by team) (subst (λ ns. IsPermutation ns (range_with_len 0 claims.numbers)) (sym (flat_map-map systems_of issued_by team)) once))
 
 -- the places after all queues were put in, as they are written back
 pub places_back : (count n : ℕ) (issued : List Issued) (start new : List (Option (List Command))) → start ≡ replicate count None → n ≡ length start → new ≡ placed issued start → take n (new ++ drop (length new) start) ≡ placed issued (replicate count None)

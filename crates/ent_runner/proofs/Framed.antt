@@ -1,13 +1,13 @@
 -- What the workers did, their histories and the queues in their places are a frame.
-use Rattle.std.proofs.Common.{◌≡◌, ◌≢◌, ℕ, zero, suc, ◌+◌, ◌<◌, ◌≤◌, List, [], ◌∷◌, ◌++◌, length, map, get_or, refl, ap, sym, ◌∙◌, arith, subst, Option, Some, None, Bool, true, false, cond, inl, inr, Result, ne_eqb}
-use Rattle.std.specs.Prelude.{◌==◌, filter, slice_get, replicate, IsSome, is_some}
-use Rattle.std.specs.List.{All, AllPairs, sum_by, flat_map, range_with_len, Contains}
+use Rattle.std.proofs.Common.{◌≡◌, ℕ, suc, ◌+◌, ◌<◌, List, [], ◌∷◌, length, map, get_or, refl, ap, sym, ◌∙◌, arith, subst, Option, Some, None, cond, inl, inr, Result, ne_eqb}
+use Rattle.std.specs.Prelude.{◌==◌, slice_get, replicate, IsSome, is_some}
+use Rattle.std.specs.List.{All, AllPairs, sum_by, flat_map, range_with_len}
 use Rattle.std.specs.List.Sorted.{IsPermutation}
 use Rattle.std.proofs.lemmas.Bool.{cases_eq}
 use Rattle.std.proofs.lemmas.Option.{slice_get_within}
 use Rattle.std.proofs.lemmas.List.{length-replicate, get_or-map, length-map}
 use Rattle.std.proofs.lemmas.List.Folds.{flat_map-map}
-use Rattle.std.proofs.lemmas.List.Elements.{All-nil, All-cons, All-head, All-tail, All-append, All-map, All-weaker}
+use Rattle.std.proofs.lemmas.List.Elements.{All-nil, All-cons, All-head, All-tail, All-map, All-weaker}
 use Rattle.std.proofs.lemmas.List.Sums.{sum_by-cons}
 use Rattle.std.proofs.lemmas.List.Sorted.{sum_by-IsPermutation, All-permutation, IsPermutation-sym}
 use Rattle.ent_handle.specs.Handle.{Handle}
@@ -15,7 +15,6 @@ use Rattle.ent_alloc.specs.declared.space.Space.{Space}
 use Rattle.ent_alloc.specs.Limits.{credit}
 use Rattle.ent_alloc.specs.History.{Call, IsLegal}
 use Rattle.ent_shared.specs.declared.record.Reservation.{Reservation}
-use Rattle.ent_shared.specs.declared.record.RecordEntry.{RecordEntry}
 use Rattle.ent_shared.specs.declared.record.RecordEntry.TheVariants.{Own}
 use Rattle.ent_shared.specs.declared.record.Record.{Record}
 use Rattle.ent_shared.specs.Record.{opened, own_reservations}
@@ -29,7 +28,7 @@ use Rattle.ent_runner.specs.declared.worker.Issued.{Issued}
 use Rattle.ent_runner.specs.Frame.{IsFrame, IsWork, view_of, queue_at, commands_of, requests_by}
 use Rattle.ent_runner.specs.Worker.{MayIssue, systems_of, commands_in}
 use Rattle.ent_runner.specs.Placing.{placed}
-use Rattle.ent_runner.proofs.Placed.{is_of, times, times_here, all_placed, length_placed}
+use Rattle.ent_runner.proofs.Placed.{is_of, times, all_placed, length_placed}
 use Rattle.ent_runner.proofs.Lists.{all_from_each, each_of_all, all_flat, flat_all, same_flat, map_flat, filter_map_is, map_map_is, sum_map, mapped_at, at_within, is_number, once_in_range, some_in_range, all_below}
 
 own_mapped : (rs : List Reservation) → own_reservations (map Own rs) ≡ rs

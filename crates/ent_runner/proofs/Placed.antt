@@ -1,10 +1,9 @@
 -- Queues put in the places of their systems: each stands in its place if no system has two.
-use Rattle.std.proofs.Common.{subst, append_assoc, ◌≡◌, ◌≢◌, ℕ, ◌+◌, ◌<◌, ◌≤◌, List, [], ◌∷◌, ◌++◌, length, map, get_or, refl, ap, sym, ◌∙◌, arith, Option, Some, Bool, true, false, cond, inl, inr, eq-eqb, ne_eqb}
+use Rattle.std.proofs.Common.{subst, append_assoc, ◌≡◌, ◌≢◌, ℕ, ◌+◌, ◌<◌, ◌≤◌, List, [], ◌∷◌, ◌++◌, length, map, get_or, refl, ap, sym, ◌∙◌, arith, Option, Some, cond, eq-eqb}
 use Rattle.std.specs.Prelude.{slice_set, ◌==◌, IsSome}
-use Rattle.std.specs.List.{All, sum_by, flat_map, Contains}
-use Rattle.std.proofs.lemmas.Bool.{cases_eq}
+use Rattle.std.specs.List.{All, sum_by}
 use Rattle.std.proofs.lemmas.List.Elements.{All-nil, All-cons, All-head, All-tail}
-use Rattle.std.proofs.lemmas.List.Sums.{sum_by-cons, sum_by-append}
+use Rattle.std.proofs.lemmas.List.Sums.{sum_by-cons}
 use Rattle.std.proofs.lemmas.List.{get_or-set_same, get_or-set_other, length-set, map-append}
 use Rattle.ent_queue.specs.Command.{Command}
 use Rattle.ent_runner.specs.declared.worker.Issued.{Issued}

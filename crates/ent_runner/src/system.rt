@@ -6,6 +6,7 @@ ghost use Rattle.ent_world.specs.OpenWorld.{View as Viewed};
 use ent_handle::Memory;
 use ent_queue::Commands;
 use ent_world::View;
+use std::alloc::Global;
 
 /// A system: it reads the world as the frame began, and issues commands that take effect at the
 /// frame's sync point.
@@ -21,7 +22,12 @@ pub trait System {
     /// # Errors
     ///
     /// `Memory`, if memory was refused to the system. The whole frame is then lost.
-    fn run(&self, view: &View<'_>, commands: &mut Commands<'_>) -> Result<(), Memory>
+    fn run(
+        &self,
+        alloc: Global,
+        view: &View<'_>,
+        commands: &mut Commands<'_>,
+    ) -> Result<(), Memory>
         requires { IsReady commands.old }
         ensures extends { Extends commands.old commands.new }
         ensures may { queue_of commands.old ≡ []

@@ -57,7 +57,7 @@ impl<S: System, G: Gate> Stage<'_, S, G> {
     {
         self.gate.entered(system);
         let mut commands = Commands::new(self.alloc, self.shared, reserver);
-        let ran = self.systems[system].run(&self.view, &mut commands);
+        let ran = self.systems[system].run(self.alloc, &self.view, &mut commands);
         let queue = commands.finish();
         ran?;
         Ok(queue)

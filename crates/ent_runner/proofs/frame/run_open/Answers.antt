@@ -1,4 +1,4 @@
-use Rattle.std.proofs.Common.{◌≡◌, ◌∙◌, ap, sym, subst, length, List, map, None, Some}
+use Rattle.std.proofs.Common.{◌∙◌, ap, sym}
 use Rattle.ent_shared.specs.Phase.{records_of}
 use Rattle.ent_shared.specs.Order.{history_of}
 use Rattle.ent_runner.specs.Worker.{all_records}

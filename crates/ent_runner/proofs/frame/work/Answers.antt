@@ -1,6 +1,5 @@
-use Rattle.std.proofs.Common.{◌≡◌, ◌∙◌, ap, sym, subst, length, ℕ, ◌<◌, get_or}
+use Rattle.std.proofs.Common.{◌≡◌, ◌∙◌, ap, sym, subst, length, get_or}
 use Rattle.ent_shared.specs.Phase.{Shared}
-use Rattle.ent_runner.specs.declared.worker.Worker.{Worker}
 use Rattle.ent_runner.specs.Worker.{HaveWorked, HasWorked}
 use Rattle.ent_runner.proofs.Conducting.{have_worked, written_back, view_is}
 use Rattle.ent_runner.proofs.frame.work.Goals as goal

@@ -1,4 +1,4 @@
-use Rattle.std.proofs.Common.{◌≡◌, ◌∙◌, ◌∷◌, ap, Some, arith}
+use Rattle.std.proofs.Common.{◌∙◌, ◌∷◌, ap, arith}
 use Rattle.ent_runner.proofs.Placed.{collected_on}
 use Rattle.ent_runner.proofs.placing.collect.Goals as goal
 

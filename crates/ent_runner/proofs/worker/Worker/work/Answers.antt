@@ -1,4 +1,4 @@
-use Rattle.std.proofs.Common.{◌≡◌, ◌∙◌, ap, sym, subst, length, ◌<◌}
+use Rattle.std.proofs.Common.{ap, subst, length, ◌<◌}
 use Rattle.ent_runner.proofs.Running.{ran_more, inside_more}
 use Rattle.ent_runner.proofs.worker.Worker.work.Goals as goal
 
