@@ -15,6 +15,7 @@ pub struct Spawn(pub &'static [i64]);
 impl System for Spawn {
     ghost may_issue = { λ system view queue. Unit {0} };
 
+    #[tactic(auto, using(ent_runner::proofs::Issuing::extends_then))]
     fn run(
         &self,
         alloc: Global,
@@ -38,6 +39,7 @@ pub struct One;
 impl System for One {
     ghost may_issue = { λ system view queue. Unit {0} };
 
+    #[tactic(auto, using(ent_runner::proofs::Issuing::extends_then))]
     fn run(
         &self,
         alloc: Global,
