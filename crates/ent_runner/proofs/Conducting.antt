@@ -63,7 +63,7 @@ module _ {S : Type 0} (may : S → View → List Command → Type 0) (systems : 
         let less : k < world.shared.count = omega (arith, many) in
         let f : Worker → Record = λ (w : Worker). w.reserver.own in
         let began : (get_or old k w).reserver.own ≡ opened world.shared.start k =
-          sym (get_or-map f old k w (f w) within) ∙ (ap (λ rs. get_or rs k (f w)) unused ∙ (opened_at world.shared.start 0 world.shared.count k (f w) less ∙ ap (opened world.shared.start) (omega arith))) in
+        sym (get_or-map f old k w (f w) within) ∙ (ap (λ rs. get_or rs k (f w)) unused ∙ (opened_at world.shared.start 0 world.shared.count k (f w) less ∙ ap (opened world.shared.start) (omega arith))) in
         subst (λ v. HasWorked may world.shared claims systems v (opened world.shared.start k) w) seen
         (subst (λ b. HasWorked may world.shared claims systems view b w) began
         (subst (HasWorked may world.shared claims systems view (get_or old k w).reserver.own) (get_or_from_slice_get team k w w at) (each k w within)));
@@ -81,37 +81,36 @@ module _ {S : Type 0} (may : S → View → List Command → Type 0) (systems : 
         })
 
     module _ (going : All (λ (w : Worker). w.stopped ≡ false) team)
-      (once : IsPermutation (flat_map (λ (w : Worker). systems_of w.issued.items) team) (range_with_len 0 claims.numbers))
+        (once : IsPermutation (flat_map (λ (w : Worker). systems_of w.issued.items) team) (range_with_len 0 claims.numbers))
       where
+        goes : (k : ℕ) (w : Worker) → slice_get team k ≡ Some w → w.stopped ≡ false
+        goes k w at = each_of_all (λ (w : Worker). w.stopped ≡ false) team k w going at
 
-      goes : (k : ℕ) (w : Worker) → slice_get team k ≡ Some w → w.stopped ≡ false
-      goes k w at = each_of_all (λ (w : Worker). w.stopped ≡ false) team k w going at
+        each_once : IsPermutation (flat_map systems_of (map issued_by team)) (range_with_len 0 (length systems))
+        each_once = subst (λ ns. IsPermutation ns (range_with_len 0 (length systems))) (sym (flat_map-map systems_of issued_by team)) (subst (λ m. IsPermutation (flat_map (λ (w : Worker). systems_of w.issued.items) team) (range_with_len 0 m)) numbers once)
 
-      each_once : IsPermutation (flat_map systems_of (map issued_by team)) (range_with_len 0 (length systems))
-      each_once = subst (λ ns. IsPermutation ns (range_with_len 0 (length systems))) (sym (flat_map-map systems_of issued_by team)) (subst (λ m. IsPermutation (flat_map (λ (w : Worker). systems_of w.issued.items) team) (range_with_len 0 m)) numbers once)
+        did : (k : ℕ) (r : Record) (mine : List Issued) → slice_get (all_records team) k ≡ Some r → slice_get (map issued_by team) k ≡ Some mine → Did may systems (world_of world) k r mine
+        did k r mine at_r at_mine =
+            let two = mapped_at (λ (w : Worker). w.reserver.own) team k r at_r in
+            let w : Worker = two.0 in
+            let three = mapped_at issued_by team k mine at_mine in
+            let same_w : three.0 ≡ w = let e = three.1 in let f = two.1 in cc in
+            let is_mine : w.issued.items ≡ mine = ap issued_by (sym same_w) ∙ three.2 in
+            let d = done.each k w two.1 in
+            let ran = d.ran (goes k w two.1) in
+            subst (λ is. Did may systems (world_of world) k r is) is_mine
+            (subst (λ r. Did may systems (world_of world) k r w.issued.items) two.2
+            (record { gains = ran.gains; each = ran.each; rising = subst (AllPairs (λ m n. m < n)) (sym ran.claims) d.claimer.rises }))
 
-      did : (k : ℕ) (r : Record) (mine : List Issued) → slice_get (all_records team) k ≡ Some r → slice_get (map issued_by team) k ≡ Some mine → Did may systems (world_of world) k r mine
-      did k r mine at_r at_mine =
-          let two = mapped_at (λ (w : Worker). w.reserver.own) team k r at_r in
-          let w : Worker = two.0 in
-          let three = mapped_at issued_by team k mine at_mine in
-          let same_w : three.0 ≡ w = let e = three.1 in let f = two.1 in cc in
-          let is_mine : w.issued.items ≡ mine = ap issued_by (sym same_w) ∙ three.2 in
-          let d = done.each k w two.1 in
-          let ran = d.ran (goes k w two.1) in
-          subst (λ is. Did may systems (world_of world) k r is) is_mine
-          (subst (λ r. Did may systems (world_of world) k r w.issued.items) two.2
-          (record { gains = ran.gains; each = ran.each; rising = subst (AllPairs (λ m n. m < n)) (sym ran.claims) d.claimer.rises }))
-
-      pub is_frame : (queues : List (List Command)) → IsLegal world.shared.start (history_of (all_records team)) → All (Respects (reservations_of (all_records team))) (all_records team)
-          → map Some queues ≡ placed (flat_map (λ (w : Worker). w.issued.items) team) (replicate claims.numbers None)
-          → IsFrame may systems world.shared.count (world_of world) queues (history_of (all_records team))
-      is_frame queues legal respects places =
-          frame_is may systems (world_of world) world.shared.count (all_records team) (map issued_by team) queues
-          (length-map team (λ (w : Worker). w.reserver.own) ∙ done.count)
-          (length-map team issued_by ∙ done.count)
-          did each_once legal respects
-          (places ∙ (ap (λ n. placed (flat_map issued_by team) (replicate n None)) numbers ∙ ap (λ is. placed is (replicate (length systems) None)) (sym (flat_map-map (λ mine. mine) issued_by team))))
+        pub is_frame : (queues : List (List Command)) → IsLegal world.shared.start (history_of (all_records team)) → All (Respects (reservations_of (all_records team))) (all_records team)
+            → map Some queues ≡ placed (flat_map (λ (w : Worker). w.issued.items) team) (replicate claims.numbers None)
+            → IsFrame may systems world.shared.count (world_of world) queues (history_of (all_records team))
+        is_frame queues legal respects places =
+            frame_is may systems (world_of world) world.shared.count (all_records team) (map issued_by team) queues
+            (length-map team (λ (w : Worker). w.reserver.own) ∙ done.count)
+            (length-map team issued_by ∙ done.count)
+            did each_once legal respects
+            (places ∙ (ap (λ n. placed (flat_map issued_by team) (replicate n None)) numbers ∙ ap (λ is. placed is (replicate (length systems) None)) (sym (flat_map-map (λ mine. mine) issued_by team))))
 
 -- What is known once all claims are closed.
 module _ (shared : Shared) (claims : Claims) (team : List Worker) (each : All (HasClaimed shared claims) team) where
@@ -125,21 +124,20 @@ module _ (shared : Shared) (claims : Claims) (team : List Worker) (each : All (H
   all_inside = All-weaker (HasClaimed shared claims) (λ (w : Worker). All (λ (i : Issued). i.system < claims.numbers) w.issued.items) (λ w d. d.inside) team each
 
   module _ (going : All (λ (w : Worker). w.stopped ≡ false) team)
-    (once : HaveEnded (map (λ (w : Worker). w.claimer) team) → IsPermutation (flat_map (λ (c : Claimer). c.own.claims) (map (λ (w : Worker). w.claimer) team)) (range_with_len 0 claims.numbers))
+      (once : HaveEnded (map (λ (w : Worker). w.claimer) team) → IsPermutation (flat_map (λ (c : Claimer). c.own.claims) (map (λ (w : Worker). w.claimer) team)) (range_with_len 0 claims.numbers))
     where
+      ended : HaveEnded (map (λ (w : Worker). w.claimer) team)
+      ended = All-map (λ (c : Claimer). c.own.ended ≡ true) (λ (w : Worker). w.claimer) team (λ k d within. (each k d within).ended (going k d within))
 
-    ended : HaveEnded (map (λ (w : Worker). w.claimer) team)
-    ended = All-map (λ (c : Claimer). c.own.ended ≡ true) (λ (w : Worker). w.claimer) team (λ k d within. (each k d within).ended (going k d within))
+      ran_claims : All (λ (w : Worker). systems_of w.issued.items ≡ w.claimer.own.claims) team
+      ran_claims k d within = (each k d within).ran (going k d within)
 
-    ran_claims : All (λ (w : Worker). systems_of w.issued.items ≡ w.claimer.own.claims) team
-    ran_claims k d within = (each k d within).ran (going k d within)
-
-    once_each : IsPermutation (flat_map (λ (w : Worker). systems_of w.issued.items) team) (range_with_len 0 claims.numbers)
-    once_each =
-        let same : flat_map (λ (w : Worker). systems_of w.issued.items) team ≡ flat_map (λ (c : Claimer). c.own.claims) (map (λ (w : Worker). w.claimer) team) =
+      once_each : IsPermutation (flat_map (λ (w : Worker). systems_of w.issued.items) team) (range_with_len 0 claims.numbers)
+      once_each =
+          let same : flat_map (λ (w : Worker). systems_of w.issued.items) team ≡ flat_map (λ (c : Claimer). c.own.claims) (map (λ (w : Worker). w.claimer) team) =
           same_flat (λ (w : Worker). systems_of w.issued.items) (λ (w : Worker). w.claimer.own.claims) team ran_claims
           ∙ sym (flat_map-map (λ (c : Claimer). c.own.claims) (λ (w : Worker). w.claimer) team) in
-        subst (λ ns. IsPermutation ns (range_with_len 0 claims.numbers)) (sym same) (once ended)
+          subst (λ ns. IsPermutation ns (range_with_len 0 claims.numbers)) (sym same) (once ended)
 
 -- the same of what was seen and handed in
 pub once_closed : (shared : Shared) (claims : Claims) (team : List Worker) → All (HasClaimed shared claims) team → (seen : List Worker) → seen ≡ team → All (λ (w : Worker). w.stopped ≡ false) seen → (claimers : List Claimer) → claimers ≡ map (λ (w : Worker). w.claimer) team

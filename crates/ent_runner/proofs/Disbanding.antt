@@ -1,6 +1,7 @@
 -- Workers are taken apart, one after the other.
-use Rattle.std.proofs.Common.{◌≡◌, ◌<◌, List, [], ◌∷◌, ◌++◌, length, ap, sym, ◌∙◌, subst, Option, append_assoc}
+use Rattle.std.proofs.Common.{◌≡◌, ◌<◌, List, [], ◌∷◌, ◌++◌, length, map, ap, sym, ◌∙◌, subst, Option, append_assoc}
 use Rattle.std.specs.List.{All, flat_map}
+use Rattle.std.proofs.lemmas.List.{map-append}
 use Rattle.std.proofs.lemmas.List.Elements.{All-head, All-tail}
 use Rattle.ent_queue.specs.Command.{Command}
 use Rattle.ent_runner.specs.declared.worker.Issued.{Issued}
@@ -33,3 +34,7 @@ disbanded_on workers yielded old rest w places next front all put inside =
 -- its queues fit their places
 pub inside_first : (old rest : List Worker) (w : Worker) (places : List (Option (List Command))) → old ≡ w ∷ rest → All (λ (w : Worker). All (λ (i : Issued). i.system < length places) w.issued.items) old → All (λ (i : Issued). i.system < length places) w.issued.items
 inside_first old rest w places front inside = All-head (Inside places) w rest (subst (All (Inside places)) front inside)
+
+-- what was moved out of the workers, and out of one more
+pub moved_on : {X : Type 0} (f : Worker → X) (yielded : List Worker) (w : Worker) (before after : List X) → before ≡ map f yielded → after ≡ before ++ f w ∷ [] → after ≡ map f (yielded ++ w ∷ [])
+moved_on f yielded w before after moved push = push ∙ (ap (λ xs. xs ++ f w ∷ []) moved ∙ sym (map-append f yielded (w ∷ [])))

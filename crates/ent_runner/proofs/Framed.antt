@@ -105,99 +105,98 @@ module _ {S : Type 0} (may : S → View → List Command → Type 0) (systems : 
     pub rising : AllPairs (λ m n. m < n) (systems_of mine)
 
   module _ (workers : ℕ) (records : List Record) (work : List (List Issued)) (queues : List (List Command))
-    (count : length records ≡ workers) (teams : length work ≡ workers)
-    (each : (k : ℕ) (r : Record) (mine : List Issued) → slice_get records k ≡ Some r → slice_get work k ≡ Some mine → Did k r mine)
-    (once : IsPermutation (flat_map systems_of work) (range_with_len 0 (length systems)))
-    (legal : IsLegal before.allocator (history_of records))
-    (respects : All (Respects (reservations_of records)) records)
-    (places : map Some queues ≡ placed (flat_map (λ mine. mine) work) (replicate (length systems) None))
+      (count : length records ≡ workers) (teams : length work ≡ workers)
+      (each : (k : ℕ) (r : Record) (mine : List Issued) → slice_get records k ≡ Some r → slice_get work k ≡ Some mine → Did k r mine)
+      (once : IsPermutation (flat_map systems_of work) (range_with_len 0 (length systems)))
+      (legal : IsLegal before.allocator (history_of records))
+      (respects : All (Respects (reservations_of records)) records)
+      (places : map Some queues ≡ placed (flat_map (λ mine. mine) work) (replicate (length systems) None))
     where
+      abbrev mine_all : List Issued
+      mine_all = flat_map (λ mine. mine) work
 
-    abbrev mine_all : List Issued
-    mine_all = flat_map (λ mine. mine) work
+      abbrev places0 : List (Option (List Command))
+      places0 = replicate (length systems) None
 
-    abbrev places0 : List (Option (List Command))
-    places0 = replicate (length systems) None
+      long : length queues ≡ length systems
+      long = sym (length-map queues Some) ∙ (ap length places ∙ (length_placed mine_all (replicate (length systems) None) ∙ length-replicate (length systems) None))
 
-    long : length queues ≡ length systems
-    long = sym (length-map queues Some) ∙ (ap length places ∙ (length_placed mine_all (replicate (length systems) None) ∙ length-replicate (length systems) None))
+      queue_is : All (λ (i : Issued). queue_at queues i.system ≡ i.queue) mine_all
+      queue_is = both mine_all (inside (length systems) work once) (stand (length systems) work once (Some []))
+        where
+          both : (is : List Issued) → All (λ (i : Issued). i.system < length systems) is → All (λ (i : Issued). get_or (placed mine_all (replicate (length systems) None)) i.system (Some []) ≡ Some i.queue) is → All (λ (i : Issued). queue_at queues i.system ≡ i.queue) is
+          both [] within stand = All-nil (λ (i : Issued). queue_at queues i.system ≡ i.queue)
+          both (i ∷ is) within stand =
+              let here : i.system < length queues = let w = All-head (λ (i : Issued). i.system < length systems) i is within in rw long w in
+              let at : Some (queue_at queues i.system) ≡ Some i.queue = sym (get_or-map Some queues i.system [] (Some []) here) ∙ (ap (λ ps. get_or ps i.system (Some [])) places ∙ All-head (λ (i : Issued). get_or (placed mine_all (replicate (length systems) None)) i.system (Some []) ≡ Some i.queue) i is stand) in
+              All-cons (λ (i : Issued). queue_at queues i.system ≡ i.queue) i is (let e = at in cc)
+              (both is (All-tail (λ (i : Issued). i.system < length systems) i is within) (All-tail (λ (i : Issued). get_or (placed mine_all (replicate (length systems) None)) i.system (Some []) ≡ Some i.queue) i is stand))
 
-    queue_is : All (λ (i : Issued). queue_at queues i.system ≡ i.queue) mine_all
-    queue_is = both mine_all (inside (length systems) work once) (stand (length systems) work once (Some []))
-      where
-        both : (is : List Issued) → All (λ (i : Issued). i.system < length systems) is → All (λ (i : Issued). get_or (placed mine_all (replicate (length systems) None)) i.system (Some []) ≡ Some i.queue) is → All (λ (i : Issued). queue_at queues i.system ≡ i.queue) is
-        both [] within stand = All-nil (λ (i : Issued). queue_at queues i.system ≡ i.queue)
-        both (i ∷ is) within stand =
-            let here : i.system < length queues = let w = All-head (λ (i : Issued). i.system < length systems) i is within in rw long w in
-            let at : Some (queue_at queues i.system) ≡ Some i.queue = sym (get_or-map Some queues i.system [] (Some []) here) ∙ (ap (λ ps. get_or ps i.system (Some [])) places ∙ All-head (λ (i : Issued). get_or (placed mine_all (replicate (length systems) None)) i.system (Some []) ≡ Some i.queue) i is stand) in
-            All-cons (λ (i : Issued). queue_at queues i.system ≡ i.queue) i is (let e = at in cc)
-            (both is (All-tail (λ (i : Issued). i.system < length systems) i is within) (All-tail (λ (i : Issued). get_or (placed mine_all (replicate (length systems) None)) i.system (Some []) ≡ Some i.queue) i is stand))
+      -- the commands of a worker's systems are those that it kept
+      commands_are : (mine : List Issued) → All (λ (i : Issued). queue_at queues i.system ≡ i.queue) mine → commands_of queues (systems_of mine) ≡ commands_in mine
+      commands_are mine same = flat_map-map (queue_at queues) (λ (i : Issued). i.system) mine ∙ same_flat (λ (i : Issued). queue_at queues i.system) (λ (i : Issued). i.queue) mine same
 
-    -- the commands of a worker's systems are those that it kept
-    commands_are : (mine : List Issued) → All (λ (i : Issued). queue_at queues i.system ≡ i.queue) mine → commands_of queues (systems_of mine) ≡ commands_in mine
-    commands_are mine same = flat_map-map (queue_at queues) (λ (i : Issued). i.system) mine ∙ same_flat (λ (i : Issued). queue_at queues i.system) (λ (i : Issued). i.queue) mine same
+      own_are : (k : ℕ) (r : Record) (mine : List Issued) (did : Did k r mine) → own_reservations r.entries ≡ did.gains.reservations
+      own_are k r mine did = ap own_reservations did.gains.entries ∙ own_mapped did.gains.reservations
 
-    own_are : (k : ℕ) (r : Record) (mine : List Issued) (did : Did k r mine) → own_reservations r.entries ≡ did.gains.reservations
-    own_are k r mine did = ap own_reservations did.gains.entries ∙ own_mapped did.gains.reservations
+      worked : (k : ℕ) (mine : List Issued) → slice_get work k ≡ Some mine → IsWork queues (history_of records) k (systems_of mine)
+      worked k mine at =
+          let within : k < length records = let w = slice_get_within work k mine at in omega (arith, count, teams) in
+          let there = at_within records k within in
+          let r : Record = there.0 in
+          let did = each k r mine there.1 at in
+          let respect = each_of_all (Respects (reservations_of records)) records k r respects there.1 in
+          let same : commands_of queues (systems_of mine) ≡ commands_in mine = commands_are mine (each_of_all (λ mine. All (λ (i : Issued). queue_at queues i.system ≡ i.queue) mine) work k mine (flat_all (λ (i : Issued). queue_at queues i.system ≡ i.queue) (λ mine. mine) work queue_is) at) in
+          let number : r.number ≡ k = did.gains.number in
+          record {
+            rising = did.rising;
+            calls =
+                by_caller k records
+                ∙ (ap (λ n. map asked (reservations_by n (reservations_of records))) (sym number)
+                ∙ (ap (map asked) (respect.own ∙ own_are k r mine did)
+                ∙ (did.gains.requests ∙ ap (flat_map requests_of) (sym same))));
+            within = subst (AreWithin credit) (sym same) did.gains.within;
+          }
 
-    worked : (k : ℕ) (mine : List Issued) → slice_get work k ≡ Some mine → IsWork queues (history_of records) k (systems_of mine)
-    worked k mine at =
-        let within : k < length records = let w = slice_get_within work k mine at in omega (arith, count, teams) in
-        let there = at_within records k within in
-        let r : Record = there.0 in
-        let did = each k r mine there.1 at in
-        let respect = each_of_all (Respects (reservations_of records)) records k r respects there.1 in
-        let same : commands_of queues (systems_of mine) ≡ commands_in mine = commands_are mine (each_of_all (λ mine. All (λ (i : Issued). queue_at queues i.system ≡ i.queue) mine) work k mine (flat_all (λ (i : Issued). queue_at queues i.system ≡ i.queue) (λ mine. mine) work queue_is) at) in
-        let number : r.number ≡ k = did.gains.number in
-        record {
-          rising = did.rising;
-          calls =
-              by_caller k records
-              ∙ (ap (λ n. map asked (reservations_by n (reservations_of records))) (sym number)
-              ∙ (ap (map asked) (respect.own ∙ own_are k r mine did)
-              ∙ (did.gains.requests ∙ ap (flat_map requests_of) (sym same))));
-          within = subst (AreWithin credit) (sym same) did.gains.within;
-        }
+      -- the history has no calls of others
+      ours : All (λ (call : Call). call.caller < workers) (history_of records)
+      ours =
+          All-map (λ (call : Call). call.caller < workers) as_call (reservations_of records)
+          (all_sorted (λ (c : Reservation). c.caller < workers) (own_of_all records)
+          (all_flat (λ (c : Reservation). c.caller < workers) (λ (r : Record). own_reservations r.entries) records
+          (all_from_each (λ (r : Record). All (λ (c : Reservation). c.caller < workers) (own_reservations r.entries)) records
+          (λ k r at.
+          let within : k < length work = let w = slice_get_within records k r at in omega (arith, count, teams) in
+          let there = at_within work k within in
+          let did = each k r there.0 at there.1 in
+          let less : k < workers = omega (arith, teams) in
+          subst (All (λ (c : Reservation). c.caller < workers)) (sym (own_are k r there.0 did))
+          (All-weaker (λ (c : Reservation). c.caller ≡ k) (λ (c : Reservation). c.caller < workers) (λ c e. let same = e in omega arith) did.gains.reservations did.gains.callers)))))
 
-    -- the history has no calls of others
-    ours : All (λ (call : Call). call.caller < workers) (history_of records)
-    ours =
-        All-map (λ (call : Call). call.caller < workers) as_call (reservations_of records)
-        (all_sorted (λ (c : Reservation). c.caller < workers) (own_of_all records)
-        (all_flat (λ (c : Reservation). c.caller < workers) (λ (r : Record). own_reservations r.entries) records
-        (all_from_each (λ (r : Record). All (λ (c : Reservation). c.caller < workers) (own_reservations r.entries)) records
-        (λ k r at.
-            let within : k < length work = let w = slice_get_within records k r at in omega (arith, count, teams) in
-            let there = at_within work k within in
-            let did = each k r there.0 at there.1 in
-            let less : k < workers = omega (arith, teams) in
-            subst (All (λ (c : Reservation). c.caller < workers)) (sym (own_are k r there.0 did))
-            (All-weaker (λ (c : Reservation). c.caller ≡ k) (λ (c : Reservation). c.caller < workers) (λ c e. let same = e in omega arith) did.gains.reservations did.gains.callers)))))
-
-    each_system : (n : ℕ) (system : S) → slice_get systems n ≡ Some system → may system (view_of before) (queue_at queues n)
-    each_system n system at =
-        let there = found_at (length systems) work once n (slice_get_within systems n system at) in
-        let i : Issued = there.1 in
-        let P : Issued → Type 0 = λ (i : Issued). MayIssue may systems (view_of before) i.system i.queue in
-        let issued : All P mine_all =
+      each_system : (n : ℕ) (system : S) → slice_get systems n ≡ Some system → may system (view_of before) (queue_at queues n)
+      each_system n system at =
+          let there = found_at (length systems) work once n (slice_get_within systems n system at) in
+          let i : Issued = there.1 in
+          let P : Issued → Type 0 = λ (i : Issued). MayIssue may systems (view_of before) i.system i.queue in
+          let issued : All P mine_all =
           all_flat P (λ mine. mine) work
           (all_from_each (All P) work
           (λ k mine here.
-              let within : k < length records = let w = slice_get_within work k mine here in omega (arith, count, teams) in
-              let r = at_within records k within in
-              (each k r.0 mine r.1 here).each)) in
-        let may_it : P i = each_of_all P mine_all there.0 i issued there.2 in
-        let queue : queue_at queues i.system ≡ i.queue = each_of_all (λ (i : Issued). queue_at queues i.system ≡ i.queue) mine_all there.0 i queue_is there.2 in
-        subst (λ q. may system (view_of before) q) (sym queue ∙ ap (queue_at queues) there.3) (may_it system (ap (slice_get systems) there.3 ∙ at))
+          let within : k < length records = let w = slice_get_within work k mine here in omega (arith, count, teams) in
+          let r = at_within records k within in
+          (each k r.0 mine r.1 here).each)) in
+          let may_it : P i = each_of_all P mine_all there.0 i issued there.2 in
+          let queue : queue_at queues i.system ≡ i.queue = each_of_all (λ (i : Issued). queue_at queues i.system ≡ i.queue) mine_all there.0 i queue_is there.2 in
+          subst (λ q. may system (view_of before) q) (sym queue ∙ ap (queue_at queues) there.3) (may_it system (ap (slice_get systems) there.3 ∙ at))
 
-    pub frame_is : IsFrame may systems workers before queues (history_of records)
-    frame_is = record {
-      legal = legal;
-      callers = ours;
-      ran = map systems_of work;
-      each_worker = length-map work systems_of ∙ teams;
-      once = subst (λ ns. IsPermutation ns (range_with_len 0 (length systems))) (sym (flat_map-map (λ mine. mine) systems_of work)) once;
-      work = λ k mine at. let there = mapped_at systems_of work k mine at in subst (IsWork queues (history_of records) k) there.2 (worked k there.0 there.1);
-      count = long;
-      each_system = each_system;
-    }
+      pub frame_is : IsFrame may systems workers before queues (history_of records)
+      frame_is = record {
+        legal = legal;
+        callers = ours;
+        ran = map systems_of work;
+        each_worker = length-map work systems_of ∙ teams;
+        once = subst (λ ns. IsPermutation ns (range_with_len 0 (length systems))) (sym (flat_map-map (λ mine. mine) systems_of work)) once;
+        work = λ k mine at. let there = mapped_at systems_of work k mine at in subst (IsWork queues (history_of records) k) there.2 (worked k there.0 there.1);
+        count = long;
+        each_system = each_system;
+      }

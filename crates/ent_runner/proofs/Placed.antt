@@ -47,9 +47,9 @@ all_placed d (i ∷ issued) places inside once =
     let here : i.system < length places = All-head P i issued inside in
     let sums : (n : ℕ) → times n (i ∷ issued) ≡ is_of n i + times n issued = λ n. sum_by-cons (is_of n) i issued in
     let alone : times i.system issued ≡ 0 =
-      let s = sums i.system in let o = once i.system in let one : is_of i.system i ≡ 1 = times_here i.system i refl in omega arith in
+    let s = sums i.system in let o = once i.system in let one : is_of i.system i ≡ 1 = times_here i.system i refl in omega arith in
     let longer : All (λ (j : Issued). j.system < length next) issued =
-      rw (length-set places i.system (Some i.queue)) (All-tail P i issued inside) in
+    rw (length-set places i.system (Some i.queue)) (All-tail P i issued inside) in
     All-cons (λ (j : Issued). get_or (placed (i ∷ issued) places) j.system d ≡ Some j.queue) i issued
     (placed_other i.system d issued next alone ∙ get_or-set_same places i.system (Some i.queue) d here)
     (all_placed d issued next longer (λ n. let s = sums n in let o = once n in omega arith))
@@ -67,7 +67,7 @@ placed_on rest new i places next all front set inside same =
 pub collected_on : (rest new : List (Option (List Command))) (q : List Command) (before after : List (List Command)) (all : List (Option (List Command))) → rest ≡ Some q ∷ new → after ≡ before ++ q ∷ [] → map Some before ++ rest ≡ all → All IsSome rest
     → (map Some after ++ new ≡ all) × All IsSome new × (length rest ≡ length new + 1)
 collected_on rest new q before after all front push same full = (
-      ap (λ qs. map Some qs ++ new) push ∙ (ap (λ ps. ps ++ new) (map-append Some before (q ∷ [])) ∙ (append_assoc (map Some before) (Some q ∷ []) new ∙ (ap (λ ps. map Some before ++ ps) (sym front) ∙ same))),
-      All-tail IsSome (Some q) new (subst (All IsSome) front full),
-      ap length front ∙ omega arith,
-    )
+  ap (λ qs. map Some qs ++ new) push ∙ (ap (λ ps. ps ++ new) (map-append Some before (q ∷ [])) ∙ (append_assoc (map Some before) (Some q ∷ []) new ∙ (ap (λ ps. map Some before ++ ps) (sym front) ∙ same))),
+  All-tail IsSome (Some q) new (subst (All IsSome) front full),
+  ap length front ∙ omega arith,
+)

@@ -92,6 +92,23 @@ pub record Ends {S : Type 0} (may : S → View → List Command → Type 0) (sys
   pub births_are : births ≡ born (after_history before.allocator history)
   pub faults_are : faults ≡ (sync queues (reserved_by history before)).faults
 
+-- a reservation of the first worker
+abbrev pub first_call : ℕ × Result (List Handle) Space → Call
+first_call request = record { caller = 0; requested = request.0; reply = request.1 }
+
+-- the reservations of all queues, one queue after the other
+abbrev pub calls_in_order : List (List Command) → List Call
+calls_in_order queues = map first_call (flat_map requests_of (flat_map (λ queue. queue) queues))
+
+-- With one worker the reservations stand in the order of the systems. So what the frame ends with
+-- follows from the queues.
+pub record EndsInOrder (before : World) (queues : List (List Command)) (after : World)
+    (births : List Handle) (faults : List Fault) : Type 0 where
+  pub legal : IsLegal before.allocator (calls_in_order queues)
+  pub world : after ≡ (sync queues (reserved_by (calls_in_order queues) before)).world
+  pub births_are : births ≡ born (after_history before.allocator (calls_in_order queues))
+  pub faults_are : faults ≡ (sync queues (reserved_by (calls_in_order queues) before)).faults
+
 -- The systems ran, and the sync point stopped and left this world.
 pub record StopsAt {S : Type 0} (may : S → View → List Command → Type 0) (systems : List S)
     (workers : ℕ) (before : World) (queues : List (List Command)) (after : World)

@@ -9,7 +9,7 @@ ghost use Rattle.ent_shared.specs.Order.{history_of, reservations_of, Respects};
 ghost use Rattle.ent_shared.specs.Phase.{IsOf, records_of};
 ghost use Rattle.ent_claims.specs.Claims.{IsOf as IsClaimerOf};
 ghost use Rattle.ent_shared.specs.Record.{opened_records};
-ghost use Rattle.ent_runner.specs.Frame.{IsFrame, Ends, StopsAt, IfSyncStopped};
+ghost use Rattle.ent_runner.specs.Frame.{IsFrame, Ends, EndsInOrder, StopsAt, IfSyncStopped};
 ghost use Rattle.ent_runner.specs.Frame.{reserved_by, world_of};
 ghost use Rattle.ent_runner.specs.Placing.{placed};
 ghost use Rattle.ent_runner.specs.Worker.{HasRoom, HasReturns, HasClaimed, HaveWorked, IsFresh};
@@ -60,6 +60,8 @@ where
     requires some { 0 < workers }
     requires few { workers ≤ 64 }
     ensures ok { IfOk result (λ report. Ends S.may_issue systems.now workers world.old
+        report.queues.items world.new report.sync.born.items report.sync.faults.items) }
+    ensures alone { workers ≡ 1 → IfOk result (λ report. EndsInOrder world.old
         report.queues.items world.new report.sync.born.items report.sync.faults.items) }
     ensures flushed { OnOk result (world.new.allocator.asked ≡ 0) }
     ensures memory { IsErrOf result FrameFault.Memory → world.new ≡ world.old }

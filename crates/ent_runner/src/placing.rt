@@ -33,9 +33,7 @@ pub(crate) fn collect(places: Vec<Option<CommandQueue>>, queues: &mut Vec<Comman
     ensures { map Some queues.new.items ≡ places.items }
 {
     for place in places {
-        let Some(queue) = place else {
-            unreachable!()
-        };
+        let Some(queue) = place else { unreachable!() };
         queues.push_reserved(queue);
     }
 }

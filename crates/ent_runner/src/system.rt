@@ -22,12 +22,7 @@ pub trait System {
     /// # Errors
     ///
     /// `Memory`, if memory was refused to the system. The whole frame is then lost.
-    fn run(
-        &self,
-        alloc: Global,
-        view: &View<'_>,
-        commands: &mut Commands<'_>,
-    ) -> Result<(), Memory>
+    fn run(&self, alloc: Global, view: &View<'_>, commands: &mut Commands<'_>) -> Result<(), Memory>
         requires { IsReady commands.old }
         ensures extends { Extends commands.old commands.new }
         ensures may { queue_of commands.old ≡ []

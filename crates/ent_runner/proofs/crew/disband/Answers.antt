@@ -1,9 +1,8 @@
-use Rattle.std.proofs.Common.{◌≡◌, ◌∙◌, ◌∷◌, ◌++◌, ◌+◌, [], ap, sym, length, arith}
+use Rattle.std.proofs.Common.{◌≡◌, ◌∙◌, ◌+◌, ap, sym, length, arith}
 use Rattle.std.specs.List.{flat_map}
 use Rattle.ent_runner.specs.Placing.{placed}
-use Rattle.std.proofs.lemmas.List.{map-append}
 use Rattle.ent_runner.specs.declared.worker.Worker.{Worker}
-use Rattle.ent_runner.proofs.Disbanding.{disbanded_on, inside_first}
+use Rattle.ent_runner.proofs.Disbanding.{disbanded_on, inside_first, moved_on}
 use Rattle.ent_runner.proofs.crew.disband.Goals as goal
 
 pub place-requires : goal.place-requires
@@ -19,8 +18,8 @@ loop-worker-preserved c =
     let less : length c.loop-worker.worker-iterator.rest.items ≡ length c.next.new.self.rest.items + 1 = ap length front ∙ omega arith in
     record {
       all = next.all;
-      reservers = p.items ∙ (ap (λ rs. rs ++ c.in-Some.worker.reserver ∷ []) i.reservers ∙ sym (map-append (λ (w : Worker). w.reserver) c.loop-worker.yielded (c.in-Some.worker ∷ [])));
-      claimers = q.items ∙ (ap (λ rs. rs ++ c.in-Some.worker.claimer ∷ []) i.claimers ∙ sym (map-append (λ (w : Worker). w.claimer) c.loop-worker.yielded (c.in-Some.worker ∷ [])));
+      reservers = moved_on (λ (w : Worker). w.reserver) c.loop-worker.yielded c.in-Some.worker c.loop-worker.reservers.items c.push_reserved.new.self.items i.reservers p.items;
+      claimers = moved_on (λ (w : Worker). w.claimer) c.loop-worker.yielded c.in-Some.worker c.loop-worker.claimers.items c.push_reserved-in-loop-worker.new.self.items i.claimers q.items;
       places = next.places_are _ (ap (λ ws. placed (flat_map (λ (w : Worker). w.issued.items) ws) c.loop-worker.places) (sym front) ∙ i.places);
       inside = next.inside;
       reservers_fit = omega (arith, less, p.len, p.capacity, i.reservers_fit);
