@@ -1,6 +1,7 @@
 pub mod Placed
 pub mod Lists
 pub mod Framed
+pub mod Lost
 pub mod Alone
 pub mod Issuing
 pub mod Conducting

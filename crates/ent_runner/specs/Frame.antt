@@ -1,13 +1,13 @@
 -- A frame: systems run on workers over one shared world, each with a queue of its own, and the sync
 -- point applies the queues in the order of the systems.
-use Rattle.std.specs.Prelude.{◌≡◌, ℕ, ◌<◌, ◌==◌, List, [], length, map, filter, Result, Ok, Err}
+use Rattle.std.specs.Prelude.{◌≡◌, ℕ, ◌<◌, ◌≤◌, ◌==◌, List, [], length, map, filter, Result, Ok, Err}
 use Rattle.std.specs.Prelude.{slice_get, slice_index_or, Some}
 use Rattle.std.specs.List.{All, AllPairs, flat_map, range_with_len}
 use Rattle.std.specs.List.Sorted.{IsPermutation}
 use Rattle.ent_handle.specs.Handle.{Handle}
 use Rattle.ent_alloc.specs.declared.space.Space.{Space}
 use Rattle.ent_alloc.specs.Limits.{credit}
-use Rattle.ent_alloc.specs.Sequential.{born}
+use Rattle.ent_alloc.specs.Sequential.{available, born}
 use Rattle.ent_alloc.specs.History.{Call, IsLegal, after_history}
 use Rattle.ent_queue.specs.Command.{Command}
 use Rattle.ent_queue.specs.Reserving.{requests_of, AreWithin}
@@ -108,6 +108,19 @@ pub record EndsInOrder (before : World) (queues : List (List Command)) (after : 
   pub world : after ≡ (sync queues (reserved_by (calls_in_order queues) before)).world
   pub births_are : births ≡ born (after_history before.allocator (calls_in_order queues))
   pub faults_are : faults ≡ (sync queues (reserved_by (calls_in_order queues) before)).faults
+
+-- The world as it was, but that handles were requested from its allocator. All that there was to
+-- give is reserved, passed over or left, in its order: what was asked for is reserved as long as
+-- there was enough, else nothing is left.
+pub record IsLost (before after : World) : Type 0 where
+  pub phase : after.phase ≡ before.phase
+  pub entities : after.entities ≡ before.entities
+  pub live : after.allocator.live ≡ before.allocator.live
+  pub made : after.allocator.made ≡ before.allocator.made
+  pub available : available after.allocator ≡ before.allocator.pool
+  pub enough : after.allocator.asked ≤ length before.allocator.pool
+      → (length after.allocator.taken ≡ after.allocator.asked) × (after.allocator.aside ≡ [])
+  pub short : length before.allocator.pool < after.allocator.asked → after.allocator.pool ≡ []
 
 -- The systems ran, and the sync point stopped and left this world.
 pub record StopsAt {S : Type 0} (may : S → View → List Command → Type 0) (systems : List S)

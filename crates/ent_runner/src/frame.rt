@@ -9,7 +9,7 @@ ghost use Rattle.ent_shared.specs.Order.{history_of, reservations_of, Respects};
 ghost use Rattle.ent_shared.specs.Phase.{IsOf, records_of};
 ghost use Rattle.ent_claims.specs.Claims.{IsOf as IsClaimerOf};
 ghost use Rattle.ent_shared.specs.Record.{opened_records};
-ghost use Rattle.ent_runner.specs.Frame.{IsFrame, Ends, EndsInOrder, StopsAt, IfSyncStopped};
+ghost use Rattle.ent_runner.specs.Frame.{IsFrame, Ends, EndsInOrder, IsLost, StopsAt, IfSyncStopped};
 ghost use Rattle.ent_runner.specs.Frame.{reserved_by, world_of};
 ghost use Rattle.ent_runner.specs.Placing.{placed};
 ghost use Rattle.ent_runner.specs.Worker.{HasRoom, HasReturns, HasClaimed, HaveWorked, IsFresh};
@@ -68,6 +68,7 @@ where
     ensures lost { IsErrOf result FrameFault.Lost → (history : List Call)
         × IsLegal world.old.allocator history
         × (world.new ≡ reserved_by history world.old) }
+    ensures still { IsErrOf result FrameFault.Lost → IsLost world.old world.new }
     ensures stopped { IfSyncStopped result (λ fault queues.
         StopsAt S.may_issue systems.now workers world.old queues world.new fault) }
 {

@@ -1,4 +1,5 @@
 ghost use Rattle.std.specs.Prelude.{◌≡◌, ◌<◌, ◌≤◌, [], length, All, IfOk, IfErr};
+ghost use Rattle.ent_alloc.specs.Sound.{IsSound};
 ghost use Rattle.ent_shared.specs.Record.{opened_records};
 ghost use Rattle.ent_shared.specs.Phase.{IsOf, records_of};
 
@@ -25,6 +26,8 @@ pub fn share(
     requires some { 0 < n }
     requires few { n ≤ 1024 }
     ensures shared { IfOk result (λ made. (made.0.start ≡ entities) × (made.0.count ≡ n)) }
+    // What is shared is in a state that steps lead to.
+    ensures sound { IfOk result (λ made. IsSound made.0.start) }
     ensures count { IfOk result (λ made. length made.1.items ≡ n) }
     ensures reservers { IfOk result (λ made.
         records_of made.1.items ≡ opened_records entities 0 n) }

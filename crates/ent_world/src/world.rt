@@ -5,6 +5,7 @@ ghost use Rattle.std.specs.Option.{option_map};
 ghost use Rattle.std.specs.FinSet as set;
 ghost use Rattle.std.specs.FinMap as map;
 ghost use Rattle.ent_alloc.specs.Sequential.{born, next};
+ghost use Rattle.ent_alloc.specs.Sound.{IsSound};
 ghost use Rattle.ent_shared.specs.Record.{opened_records};
 ghost use Rattle.ent_shared.specs.Phase.{IsOf, records_of};
 ghost use Rattle.ent_storage.specs.EntityMap.{birth_of, components_of, value_of};
@@ -261,6 +262,7 @@ impl World {
         requires few { n ≤ 1024 }
         ensures shared { IfOk result (λ made.
             (made.0.shared.start ≡ self.allocator) × (made.0.shared.count ≡ n)) }
+        ensures sound { IfOk result (λ made. IsSound made.0.shared.start) }
         ensures phase { IfOk result (λ made. made.0.phase ≡ self.phase) }
         ensures entities { IfOk result (λ made. made.0.entities ≡ self.entities) }
         ensures count { IfOk result (λ made. length made.1.items ≡ n) }
