@@ -4,7 +4,7 @@ use crate::shown::{shown, shown_faults};
 use ent_alloc::{AllocFault, FreeFault, Freed};
 use ent_handle::{Birth, ComponentId, Handle};
 use ent_queue::{Bundle, CommandQueue};
-use ent_world::{Fault, SyncReport, World};
+use ent_world::{Fault, SyncFault, SyncReport, World};
 use std::alloc::Global;
 use std::process::Abort;
 
@@ -25,9 +25,18 @@ pub fn despawn(world: &mut World, handle: Handle) -> Result<Freed, FreeFault> {
     world.despawn(handle)
 }
 
+pub fn apply(
+    rt: &impl Abort,
+    world: &mut World,
+    queues: &[CommandQueue],
+) -> Result<SyncReport, SyncFault> {
+    assert!(rt; queues.len() <= 65_536);
+    world.apply(queues)
+}
+
 /// Applies queues for which there is memory.
 pub fn applied(rt: &impl Abort, world: &mut World, queues: &[CommandQueue]) -> SyncReport {
-    world.apply(queues).expect(rt, "memory for the commands")
+    apply(rt, world, queues).expect(rt, "memory for the commands")
 }
 
 pub fn assert_born(rt: &impl Abort, born: &[Handle], wanted: &[Entity]) {
@@ -57,7 +66,7 @@ pub fn assert_value(rt: &impl Abort, world: &World, handle: Handle, id: Componen
     assert!(rt; world.get(handle, id) == Some(value));
 }
 
-/// What needs a flush, and what does not.
+/// Something was reserved since the last flush.
 pub fn assert_needs_flush(rt: &impl Abort, world: &World) {
     assert!(rt; world.needs_flush());
 }

@@ -1,6 +1,7 @@
 //! Memory that is refused.
 use crate::checks::{
-    assert_born, assert_faults, assert_len, assert_needs_flush, assert_phase, assert_shown, spawn,
+    apply, assert_born, assert_faults, assert_len, assert_needs_flush, assert_phase, assert_shown,
+    spawn,
 };
 use crate::scene::{Call, bundle, handle, opened, pair, queue};
 use ent_alloc::{AllocFault, Limits};
@@ -108,10 +109,10 @@ fn assert_unchanged(rt: &impl Abort, alloc: Global, world: &World) {
 fn refused_memory_stops_between_commands(rt: HostRuntime) {
     let alloc = rt.alloc();
     let (mut world, queues) = with_queues(&rt, alloc);
-    let answer = match world.apply(&queues) {
+    let answer = match apply(&rt, &mut world, &queues) {
         Err(SyncFault::FlushMemory) => {
             assert_unchanged(&rt, alloc, &world);
-            world.apply(&queues)
+            apply(&rt, &mut world, &queues)
         }
         answer => answer,
     };
