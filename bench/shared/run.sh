@@ -18,7 +18,7 @@ for padding in 0 16 32 48; do
     "$kit/toolchain/bin/clang" -c "$out/padding.s" -o "$out/padding.o"
     "$kit/bin/rattle-link" --target x86_64-unknown-linux-gnu --toolchain "$kit/toolchain" \
         -o "$out/shared$padding" "$out/padding.o" "$crate/out/bench_shared.o" \
-        "$kit/c/libos_c.a" "$kit/c/liblibc_c.a" >"$out/log"
+        "$kit/c/libos_c.a" "$kit/c/liblibc_c.a" >"$out/log" 2>&1
 done
 
 for round in 1 2 3 4 5 6 7; do
