@@ -1,7 +1,7 @@
 //! Reservations by threads beside a bare atomic subtraction, for `bench/shared` to time.
 //!
-//! `bench_shared STEPS` makes that many steps in each thread of each case and prints a table of times. Without a word it makes a few
-//! steps and prints what they gave, which is the same on every machine.
+//! `bench_shared STEPS PAIRS` makes that many steps in each thread of each case, in that many pairs of runs, and prints the times of
+//! each pair. Without words it makes a few steps and prints what they gave, which is the same on every machine.
 #![tactic(auto)]
 
 ghost use Rattle.ent_shared.specs.Phase.{IsOf};
@@ -16,9 +16,6 @@ use std::{env, io};
 
 /// Steps of each thread if nothing is timed.
 const FEW: u32 = 1_000;
-
-/// Runs of each case, of which the shortest counts.
-const RUNS: u32 = 5;
 
 /// How many threads there are, and how many handles each of them requests in a step.
 #[derive(Clone, Copy)]
@@ -54,19 +51,37 @@ const CASES: [Case; 6] = [
     },
 ];
 
-/// What some threads gave together, and after how many seconds.
+/// What one thread gave, and from when to when, in seconds after the start of its run.
+#[derive(Clone, Copy)]
+struct Lap {
+    given: u64,
+    from: f64,
+    to: f64,
+}
+
+/// What some threads gave together, the seconds from the first start to the last end, and the
+/// seconds in which all of them ran.
 #[derive(Clone, Copy)]
 struct Run {
     given: u64,
     seconds: f64,
+    together: f64,
 }
 
 fn main(rt: HostRuntime) -> io::Result<()> {
     let mut words = env::args(&rt)?;
     let _ = words.next();
-    match words.next() {
-        Some(steps) => print_times(&rt, steps.parse().unwrap_or(FEW)),
-        None => print_counts(&rt),
+    let steps = words.next();
+    let pairs = words.next();
+    match (steps, pairs) {
+        (Some(steps), Some(pairs)) => {
+            print_times(
+                &rt,
+                steps.parse().unwrap_or(FEW),
+                pairs.parse().unwrap_or(1),
+            )
+        }
+        _ => print_counts(&rt),
     }
 }
 
@@ -82,37 +97,30 @@ fn print_counts<R: Clock + Print + Threads + Sync + AllocGlobal>(rt: &R) -> io::
     Ok(())
 }
 
-fn print_times<R>(rt: &R, steps: u32) -> io::Result<()>
+/// A line for each pair: the case, the steps of all threads, and of each kind the seconds and those in which all threads ran.
+fn print_times<R>(rt: &R, steps: u32, pairs: u32) -> io::Result<()>
 where
     R: Clock + Print + Threads + Sync + AllocGlobal,
 {
-    println!(rt; "| Threads | Request | Reservations a second | Subtractions a second | Ratio |")?;
-    println!(rt; "|---|---|---|---|---|")?;
-    for case in &CASES {
-        let Case { threads, requested } = *case;
-        let (reserving, subtracting) = shortest(rt, *case, steps)?;
-        let millions = f64::from(steps) * threads as f64 / 1e6;
-        let reservations = millions / reserving;
-        let subtractions = millions / subtracting;
-        let ratio = reserving / subtracting;
-        println!(rt;
-            "| {threads} | {requested} | {reservations:.1} million | {subtractions:.1} million | {ratio:.2} |"
-        )?;
+    for _ in 0..pairs {
+        for case in &CASES {
+            print_pair(rt, *case, steps)?;
+        }
     }
     Ok(())
 }
 
-/// The seconds of the shortest run of each kind, which take turns.
-fn shortest<R>(rt: &R, case: Case, steps: u32) -> io::Result<(f64, f64)>
+fn print_pair<R>(rt: &R, case: Case, steps: u32) -> io::Result<()>
 where
-    R: Clock + Threads + Sync + AllocGlobal,
+    R: Clock + Print + Threads + Sync + AllocGlobal,
 {
-    let (mut reserving, mut subtracting) = (f64::MAX, f64::MAX);
-    for _ in 0..RUNS {
-        reserving = reserving.min(reserve(rt, case, steps)?.seconds);
-        subtracting = subtracting.min(subtract(rt, case, steps)?.seconds);
-    }
-    Ok((reserving, subtracting))
+    let Case { threads, requested } = case;
+    let ours = reserve(rt, case, steps)?;
+    let theirs = subtract(rt, case, steps)?;
+    println!(rt;
+        "{threads} {requested} {:.9} {:.9} {:.9} {:.9}",
+        ours.seconds, ours.together, theirs.seconds, theirs.together
+    )
 }
 
 /// Threads that reserve from one allocator.
@@ -126,15 +134,12 @@ where
         return Err(io::ErrorKind::OutOfMemory.into());
     };
     let start = Instant::now(rt)?;
-    let given = map_vec(
+    let laps = map_vec(
         rt,
         reservers,
-        &|reserver| { reserve_all(&shared, reserver, case.requested, steps) },
+        &|reserver| { reserve_lap(rt, &start, &shared, reserver, case.requested, steps) },
     )?;
-    Ok(Run {
-        given: sum(&given),
-        seconds: start.elapsed(rt)?.as_secs_f64(),
-    })
+    run_of(&laps)
 }
 
 /// Threads that subtract from one word.
@@ -144,22 +149,73 @@ where
 {
     let word = AtomicU64::new(u64::MAX);
     let start = Instant::now(rt)?;
-    let given = map_indices(
+    let laps = map_indices(
         rt,
         rt.alloc(),
         case.threads,
-        &|_| { subtract_all(&word, case.requested, steps) },
+        &|_| { subtract_lap(rt, &start, &word, case.requested, steps) },
     )?;
+    run_of(&laps)
+}
+
+/// The laps of all threads in one.
+fn run_of(laps: &[Option<Lap>]) -> io::Result<Run> {
+    let mut given: u64 = 0;
+    let (mut first, mut last) = (f64::MAX, f64::MIN);
+    let (mut all_from, mut all_to) = (f64::MIN, f64::MAX);
+    for lap in laps {
+        let Some(lap) = lap else {
+            return Err(io::ErrorKind::Unsupported.into());
+        };
+        given = given.wrapping_add(lap.given);
+        first = first.min(lap.from);
+        last = last.max(lap.to);
+        all_from = all_from.max(lap.from);
+        all_to = all_to.min(lap.to);
+    }
     Ok(Run {
-        given: sum(&given),
-        seconds: start.elapsed(rt)?.as_secs_f64(),
+        given,
+        seconds: last - first,
+        together: all_to - all_from,
     })
 }
 
-fn sum(numbers: &[u64]) -> u64 {
-    numbers
-        .iter()
-        .fold(0, |sum: u64, number| sum.wrapping_add(*number))
+/// The lap of a thread that reserves, or nothing if the clock fails.
+fn reserve_lap<R: Clock>(
+    rt: &R,
+    start: &Instant,
+    shared: &Shared,
+    reserver: Reserver,
+    requested: u32,
+    steps: u32,
+) -> Option<Lap>
+    requires { IsOf shared.now reserver }
+{
+    let from = seconds_since(rt, start)?;
+    let given = reserve_all(shared, reserver, requested, steps);
+    let to = seconds_since(rt, start)?;
+    Some(Lap { given, from, to })
+}
+
+/// The lap of a thread that subtracts, or nothing if the clock fails.
+fn subtract_lap<R: Clock>(
+    rt: &R,
+    start: &Instant,
+    word: &AtomicU64,
+    requested: u32,
+    steps: u32,
+) -> Option<Lap> {
+    let from = seconds_since(rt, start)?;
+    let given = subtract_all(word, requested, steps);
+    let to = seconds_since(rt, start)?;
+    Some(Lap { given, from, to })
+}
+
+fn seconds_since<R: Clock>(rt: &R, start: &Instant) -> Option<f64> {
+    match start.elapsed(rt) {
+        Ok(time) => Some(time.as_secs_f64()),
+        Err(_) => None,
+    }
 }
 
 /// How many handles the steps of one thread gave.

@@ -10,12 +10,13 @@ use Rattle.ent_alloc.specs.Sequential.{fresh}
 use Rattle.ent_alloc.specs.Reserved.{handles_of, IsInRange}
 use Rattle.ent_alloc.proofs.FreshHandles.{length-fresh, fresh-next, fresh-none}
 
-pub length-handles_of : (r : Roster) (position end index index_end : ℕ) → IsInRange r position end index index_end → length (handles_of r position end index index_end) ≡ (end - position) + (index_end - index)
-length-handles_of r position end index index_end range =
+pub length-handles_of : (r : Roster) (position end index index_end left : ℕ) → IsInRange r position end index index_end left → length (handles_of r position end index index_end) ≡ left
+length-handles_of r position end index index_end left range =
     let positions = range.positions in
     let within = range.within in
     length-append (take (end - position) (drop position r.pending)) (fresh index (index_end - index))
     ∙ (λ i. length-take-le (end - position) (drop position r.pending) (omega (arith, length-drop position r.pending)) i + length-fresh index (index_end - index) i)
+    ∙ sym range.count
 
 -- a list from where it has an item
 pub drop_at : (hs : List Handle) (k : ℕ) (h : Handle) → k < length hs → slice_get hs k ≡ Some h → drop k hs ≡ h ∷ drop (k + 1) hs

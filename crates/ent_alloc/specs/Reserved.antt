@@ -1,5 +1,5 @@
 -- What a reply that borrows the slots lists.
-use Rattle.std.specs.Prelude.{ℕ, ◌-◌, ◌^◌, ◌<◌, ◌≤◌, List, ◌++◌, length, take, drop}
+use Rattle.std.specs.Prelude.{◌≡◌, ℕ, ◌+◌, ◌-◌, ◌^◌, ◌<◌, ◌≤◌, List, ◌++◌, length, take, drop}
 use Rattle.ent_handle.specs.Handle.{Handle}
 use Rattle.ent_alloc.specs.Roster.{Roster}
 use Rattle.ent_alloc.specs.Sequential.{fresh}
@@ -10,10 +10,11 @@ abbrev pub handles_of : Roster → ℕ → ℕ → ℕ → ℕ → List Handle
 handles_of r position end index index_end =
     take (end - position) (drop position r.pending) ++ fresh index (index_end - index)
 
--- the positions are pending, and the indexes are those of handles
-pub record IsInRange (r : Roster) (position end index index_end : ℕ) : Type 0 where
+-- the positions are pending, the indexes are those of handles, and so many of both are left
+pub record IsInRange (r : Roster) (position end index index_end left : ℕ) : Type 0 where
   pub positions : position ≤ end
   pub within : end ≤ length r.pending
   pub few : end < 2 ^ 63
   pub indexes : index ≤ index_end
   pub last : index_end < 2 ^ 32
+  pub count : left ≡ (end - position) + (index_end - index)

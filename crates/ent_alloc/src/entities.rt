@@ -326,11 +326,12 @@ impl Entities {
     {
         let Span { high, low } = span;
         if low == high {
-            return Ok(Reserved::new(&self.slots, 0, 0, 0, 0));
+            return Ok(Reserved::new(&self.slots, 0, 0, 0, 0, 0));
         }
+        let count = (high - low) as usize;
         let made = self.slots.made();
         if low >= 0 {
-            return Ok(Reserved::new(&self.slots, low as usize, high as usize, made, made));
+            return Ok(Reserved::new(&self.slots, low as usize, high as usize, made, made, count));
         }
         let index_end = u64::from(made) + (-low) as u64;
         if index_end > u64::from(self.slots.limits().slots()) {
@@ -341,10 +342,10 @@ impl Entities {
         }
         let index_end = index_end as u32;
         if high > 0 {
-            return Ok(Reserved::new(&self.slots, 0, high as usize, made, index_end));
+            return Ok(Reserved::new(&self.slots, 0, high as usize, made, index_end, count));
         }
         let index = made + (-high) as u32;
-        Ok(Reserved::new(&self.slots, 0, 0, index, index_end))
+        Ok(Reserved::new(&self.slots, 0, 0, index, index_end, count))
     }
 
     /// What the request for one handle was given that found the cursor at `high`: the handle that

@@ -19,6 +19,7 @@ pub struct Reserved<'a> {
     end: usize,
     index: u32,
     index_end: u32,
+    left: usize,
 }
 
 impl<'a> Model for Reserved<'a> {
@@ -34,22 +35,25 @@ impl<'a> Model for Reserved<'a> {
 
     ghost view = { λ r. handles_of r.slots.now r.position r.end r.index r.index_end };
 
-    ghost invariant = { λ r. IsInRange r.slots.now r.position r.end r.index r.index_end };
+    ghost invariant = { λ r.
+        IsInRange r.slots.now r.position r.end r.index r.index_end r.left };
 }
 
 impl<'a> Reserved<'a> {
     ghost use Rattle.ent_alloc.specs.Reserved.{handles_of, IsInRange};
 
     /// The handles that wait from `position` up to, not including, `end`, and the first occupants
-    /// of the slots from `index` up to, not including, `index_end`.
+    /// of the slots from `index` up to, not including, `index_end`: `left` in all. Who asks for the
+    /// number alone then waits for none of the ends.
     pub(crate) fn new(
         slots: &'a Slots,
         position: usize,
         end: usize,
         index: u32,
         index_end: u32,
+        left: usize,
     ) -> Self
-        requires { IsInRange slots.now position end index index_end }
+        requires { IsInRange slots.now position end index index_end left }
         ensures { result ≡ handles_of slots.now position end index index_end }
     {
         Reserved {
@@ -58,6 +62,7 @@ impl<'a> Reserved<'a> {
             end,
             index,
             index_end,
+            left,
         }
     }
 }
@@ -73,11 +78,13 @@ impl Iterator for Reserved<'_> {
         if self.position < self.end {
             let handle = self.slots.pending_at(self.position);
             self.position += 1;
+            self.left -= 1;
             return Some(handle);
         }
         if self.index < self.index_end {
             let handle = first_occupant(self.index);
             self.index += 1;
+            self.left -= 1;
             return Some(handle);
         }
         None
@@ -95,6 +102,6 @@ impl Iterator for Reserved<'_> {
 
 impl ExactSizeIterator for Reserved<'_> {
     fn len(&self) -> usize {
-        (self.end - self.position) + (self.index_end - self.index) as usize
+        self.left
     }
 }

@@ -1,5 +1,5 @@
 -- Two comparisons, one after the other, tie only if both tie.
-use Rattle.std.specs.Prelude.{◌≡◌, true, false, refl}
+use Rattle.std.specs.Prelude.{◌≡◌, refl}
 use Rattle.std.specs.declared.cmp.Ordering.{Ordering}
 use Rattle.std.specs.declared.cmp.Ordering.TheVariants.{Less, Equal, Greater}
 use Rattle.std.specs.Ordering.{ordering_then}

@@ -1,5 +1,6 @@
 -- A list in chunks of one length.
-use Rattle.std.proofs.Common.{◌≡◌, refl, ℕ, zero, suc, ◌+◌, ◌*◌, List, [], ◌∷◌, take, drop, arith, ap, ◌∙◌, suc-add}
+use Rattle.std.proofs.Common.{◌≡◌, refl, ℕ, zero, suc, ◌+◌, ◌*◌, List, [], ◌∷◌, take, drop, arith}
+use Rattle.std.proofs.Common.{ap, ◌∙◌, suc-add}
 use Rattle.std.proofs.lemmas.List.{drop-take}
 use Rattle.std.specs.Simd.{first_chunks}
 

@@ -1,5 +1,6 @@
 -- A bundle has no more items than there are components.
-use Rattle.std.proofs.Common.{◌≡◌, refl, sym, ℕ, ◌+◌, ◌<◌, ◌≤◌, ℤ, [], ◌∷◌, length, arith, T, Bool, true, false, ◌&&◌, Ordering}
+use Rattle.std.proofs.Common.{◌≡◌, refl, sym, ℕ, ◌+◌, ◌<◌, ◌≤◌, ℤ, [], ◌∷◌, length, arith, T, Bool}
+use Rattle.std.proofs.Common.{true, false, ◌&&◌, Ordering}
 use Rattle.std.specs.List.{All}
 use Rattle.std.proofs.lemmas.List.Elements.{All-head, All-tail}
 use Rattle.std.specs.Ordering.{is_lt, nat_cmp}

@@ -1,12 +1,17 @@
 -- What bytes that begin with a command let be read, kind by kind.
-use Rattle.std.proofs.Common.{◌≡◌, refl, ℕ, ◌+◌, ◌*◌, ◌<◌, ◌≤◌, List, [], ◌∷◌, ◌++◌, length, drop, arith, ap, sym, ◌∙◌, subst, length-drop, slice_index}
+use Rattle.std.proofs.Common.{◌≡◌, refl, ℕ, ◌+◌, ◌*◌, ◌<◌, ◌≤◌, List, [], ◌∷◌, ◌++◌, length, drop}
+use Rattle.std.proofs.Common.{arith, ap, sym, ◌∙◌, subst, length-drop, slice_index}
 use Rattle.std.specs.List.{All, flat_map}
 use Rattle.ent_handle.specs.Handle.{Handle, IsHandle}
-use Rattle.ent_queue.specs.Command.{Bundle, Command, Spawn, SpawnMany, Insert, Remove, Despawn, Refused, IsBundle, IsRefusal, IsCommand}
-use Rattle.ent_queue.specs.Packing.{bytes_4, handle_bytes, bundle_bytes, refusal_bytes, command_bytes}
-use Rattle.ent_queue.specs.Unpacking.{number_2, number_4, handle_in, handles_in, bundle_in, refusal_in, after_command, BeginsWith}
+use Rattle.ent_queue.specs.Command.{Bundle, Command, Spawn, SpawnMany, Insert, Remove, Despawn}
+use Rattle.ent_queue.specs.Command.{Refused, IsBundle, IsRefusal, IsCommand}
+use Rattle.ent_queue.specs.Packing.{bytes_4, handle_bytes, bundle_bytes, refusal_bytes}
+use Rattle.ent_queue.specs.Packing.{command_bytes}
+use Rattle.ent_queue.specs.Unpacking.{number_2, number_4, handle_in, handles_in, bundle_in}
+use Rattle.ent_queue.specs.Unpacking.{refusal_in, after_command, BeginsWith}
 use Rattle.ent_queue.proofs.Parts.{BundleBegins}
-use Rattle.ent_queue.proofs.Queues.{WithBundle, with_bundle, with_handles, with_component, handle_alone, with_reason, after_command-bytes}
+use Rattle.ent_queue.proofs.Queues.{WithBundle, with_bundle, with_handles, with_component}
+use Rattle.ent_queue.proofs.Queues.{handle_alone, with_reason, after_command-bytes}
 
 -- some command stands at the front
 abbrev pub Begins : List ℕ → Type 0

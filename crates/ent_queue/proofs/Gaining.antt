@@ -1,5 +1,7 @@
 -- How a reserver's record gains what commands have asked of it.
-use Rattle.std.proofs.Common.{◌≡◌, refl, ℕ, ◌+◌, ◌-◌, ◌<◌, ◌≤◌, ℤ, List, [], ◌∷◌, ◌++◌, length, map, arith, ap, sym, ◌∙◌, subst, append_assoc, append-nil, Result, Ok, Err, inl, inr, take, Bool, true, false, cond, nat_le}
+use Rattle.std.proofs.Common.{◌≡◌, refl, ℕ, ◌+◌, ◌-◌, ◌<◌, ◌≤◌, ℤ, List, [], ◌∷◌, ◌++◌, length, map}
+use Rattle.std.proofs.Common.{arith, ap, sym, ◌∙◌, subst, append_assoc, append-nil, Result, Ok, Err}
+use Rattle.std.proofs.Common.{inl, inr, take, Bool, true, false, cond, nat_le}
 use Rattle.std.specs.List.{All, flat_map, sum_by}
 use Rattle.std.proofs.lemmas.List.Elements.{All-nil, All-cons, All-append}
 use Rattle.std.proofs.lemmas.Bool.{cases_lt}
@@ -16,7 +18,8 @@ use Rattle.ent_shared.specs.Phase.{Shared, Reserver}
 use Rattle.ent_shared.specs.Record.{after_reservation, reservation_at}
 use Rattle.ent_shared.specs.Replies.{Reserves, listed_alone}
 use Rattle.ent_queue.specs.Command.{Command, Refused, HasRange, IsRefusal}
-use Rattle.ent_queue.specs.Reserving.{requests_of, cost, IsWithin, AreWithin, Gains, Answers, as_fault, refused_by}
+use Rattle.ent_queue.specs.Reserving.{requests_of, cost, IsWithin, AreWithin, Gains, Answers}
+use Rattle.ent_queue.specs.Reserving.{as_fault, refused_by}
 
 pub gains_nothing : (r : Record) → Gains r [] r
 gains_nothing r = record {

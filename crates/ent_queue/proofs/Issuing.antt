@@ -1,5 +1,7 @@
 -- What a call of `Commands` adds.
-use Rattle.std.proofs.Common.{◌≡◌, refl, ℕ, List, [], ◌∷◌, ◌++◌, length, ap, sym, ◌∙◌, subst, append-nil, Result, Ok, Err, IfOk, IfErr, OnOk, OnErr, IsErrOf, Vec, Global, ◌≤◌, ◌<◌, arith}
+use Rattle.std.proofs.Common.{◌≡◌, refl, ℕ, List, [], ◌∷◌, ◌++◌, length, ap, sym, ◌∙◌, subst}
+use Rattle.std.proofs.Common.{append-nil, Result, Ok, Err, IfOk, IfErr, OnOk, OnErr, IsErrOf, Vec}
+use Rattle.std.proofs.Common.{Global, ◌≤◌, ◌<◌, arith}
 use Rattle.ent_handle.specs.Handle.{Handle}
 use Rattle.ent_handle.specs.declared.memory.Memory.{Memory}
 use Rattle.ent_shared.specs.declared.record.Record.{Record}
@@ -10,7 +12,8 @@ use Rattle.ent_shared.specs.Replies.{listed_alone}
 use Rattle.ent_queue.specs.declared.fault.QueueFault.{QueueFault}
 use Rattle.ent_queue.specs.declared.fault.QueueFault.TheVariants as fault
 use Rattle.ent_queue.specs.Command.{Command, Bundle, Spawn, SpawnMany, Refused}
-use Rattle.ent_queue.specs.Reserving.{requests_of, IsWithin, Gains, Answers, queued, listed, refused_by, as_fault}
+use Rattle.ent_queue.specs.Reserving.{requests_of, IsWithin, Gains, Answers, queued, listed}
+use Rattle.ent_queue.specs.Reserving.{refused_by, as_fault}
 use Rattle.ent_queue.proofs.Gaining.{gains_nothing, gains_none, served_gains, refused_gains}
 
 -- the commands that a call added, and that the record has gained them

@@ -1,6 +1,8 @@
 -- Numbers as bytes, and back.
-use Rattle.std.proofs.Common.{◌≡◌, refl, ℕ, ◌^◌, ◌<◌, List, ◌++◌, length, take, drop, arith, ap, sym, ◌∙◌}
-use Rattle.std.proofs.lemmas.Nat.{from_le_bytes-to_le_bytes_2, from_le_bytes-to_le_bytes_4, from_le_bytes-to_le_bytes_8, div-add-mod', shr_high, mod_low}
+use Rattle.std.proofs.Common.{◌≡◌, refl, ℕ, ◌^◌, ◌<◌, List, ◌++◌, length, take, drop, arith, ap}
+use Rattle.std.proofs.Common.{◌∙◌}
+use Rattle.std.proofs.lemmas.Nat.{from_le_bytes-to_le_bytes_2, from_le_bytes-to_le_bytes_4}
+use Rattle.std.proofs.lemmas.Nat.{from_le_bytes-to_le_bytes_8, shr_high, mod_low}
 use Rattle.ent_handle.specs.Handle.{Handle, IsHandle, bits}
 use Rattle.ent_queue.specs.Packing.{bytes_2, bytes_4, bytes_8, handle_bytes}
 use Rattle.ent_queue.specs.Unpacking.{number_2, number_4, number_8, handle_of, handle_in}
@@ -52,9 +54,6 @@ number_8-alone n h = from_le_bytes-to_le_bytes_8 n h
 pub bits_below : (h : Handle) → IsHandle h → bits h < 2 ^ 64
 bits_below h is = omega (arith, is.index, is.greatest)
 
-pub bits-handle_of : (n : ℕ) → bits (handle_of n) ≡ n
-bits-handle_of n = div-add-mod' n (2 ^ 32)
-
 pub handle_of-bits : (h : Handle) → IsHandle h → handle_of (bits h) ≡ h
 handle_of-bits h is =
     let below : h.index < 2 ^ 32 = omega (arith, is.index) in
@@ -67,7 +66,3 @@ handle_in-bytes h rest is = ap handle_of (number_8-bytes (bits h) rest (bits_bel
 
 pub handle_in-alone : (h : Handle) → IsHandle h → handle_in (handle_bytes h) ≡ h
 handle_in-alone h is = ap handle_of (number_8-alone (bits h) (bits_below h is)) ∙ handle_of-bits h is
-
--- the handle whose bits these are
-pub handle_from_bits : (h : Handle) (n : ℕ) → IsHandle h → bits h ≡ n → h ≡ handle_of n
-handle_from_bits h n is e = sym (handle_of-bits h is) ∙ ap handle_of e

@@ -1,5 +1,6 @@
 -- Handles, items and bundles as bytes, and back.
-use Rattle.std.proofs.Common.{◌≡◌, refl, ℕ, suc, ◌+◌, ◌*◌, ◌^◌, ◌<◌, ℤ, List, [], ◌∷◌, ◌++◌, length, take, drop, map, arith, ap, sym, ◌∙◌, append_assoc, length-append}
+use Rattle.std.proofs.Common.{◌≡◌, refl, ℕ, suc, ◌+◌, ◌*◌, ◌^◌, ◌<◌, ℤ, List, [], ◌∷◌, ◌++◌, length}
+use Rattle.std.proofs.Common.{take, drop, map, arith, ap, sym, ◌∙◌, append_assoc, length-append}
 use Rattle.std.specs.List.{All, flat_map}
 use Rattle.std.proofs.lemmas.List.Elements.{All-head, All-tail}
 use Rattle.std.proofs.Math.Seq.{drop-append_seam}
@@ -13,7 +14,8 @@ use Rattle.ent_handle.specs.Handle.{Handle, IsHandle, bits}
 use Rattle.ent_queue.specs.Command.{Bundle, IsItem}
 use Rattle.ent_queue.specs.Packing.{bytes_2, handle_bytes, item_bytes, bundle_bytes}
 use Rattle.ent_queue.specs.Unpacking.{number_2, handles_in, item_in, bundle_in}
-use Rattle.ent_queue.proofs.Numbers.{length-bytes_2, length-bytes_8, number_2-bytes, number_8-alone, drop-bytes_2, drop-bytes_8, take-bytes_8, handle_in-alone}
+use Rattle.ent_queue.proofs.Numbers.{length-bytes_2, length-bytes_8, number_2-bytes, number_8-alone}
+use Rattle.ent_queue.proofs.Numbers.{drop-bytes_2, drop-bytes_8, take-bytes_8, handle_in-alone}
 
 pub length-handles : (hs : List Handle) → length (flat_map handle_bytes hs) ≡ 8 * length hs
 length-handles [] = refl

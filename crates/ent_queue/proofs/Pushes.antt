@@ -1,9 +1,11 @@
 -- A command at the end of a queue.
-use Rattle.std.proofs.Common.{◌≡◌, ℕ, ◌+◌, ◌≤◌, List, [], ◌∷◌, ◌++◌, length, arith, ap, sym, ◌∙◌, subst, append_assoc, append-nil, length-append}
+use Rattle.std.proofs.Common.{◌≡◌, ℕ, ◌+◌, ◌≤◌, List, [], ◌∷◌, ◌++◌, length, arith, ap, sym, ◌∙◌}
+use Rattle.std.proofs.Common.{subst, append_assoc, append-nil, length-append}
 use Rattle.std.specs.List.{All, flat_map}
 use Rattle.std.proofs.lemmas.List.Elements.{All-nil, All-push}
 use Rattle.ent_handle.specs.Handle.{Handle}
-use Rattle.ent_queue.specs.Command.{Command, Bundle, Spawn, SpawnMany, Insert, Remove, Despawn, Refused, IsCommand}
+use Rattle.ent_queue.specs.Command.{Command, Bundle, Spawn, SpawnMany, Insert, Remove, Despawn}
+use Rattle.ent_queue.specs.Command.{Refused, IsCommand}
 use Rattle.ent_queue.specs.Packing.{command_bytes, queue_bytes, bytes_4, handle_bytes, bundle_bytes}
 use Rattle.ent_queue.specs.Unpacking.{commands_in, ArePacked}
 use Rattle.ent_queue.proofs.Queues.{commands_in-bytes, are_packed, length_of_commands}

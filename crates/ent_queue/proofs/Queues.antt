@@ -1,16 +1,24 @@
 -- Commands as bytes, and back.
-use Rattle.std.proofs.Common.{◌≡◌, refl, ℕ, zero, suc, ◌+◌, ◌*◌, ◌^◌, ◌<◌, List, [], ◌∷◌, ◌++◌, length, drop, arith, ap, sym, ◌∙◌, subst, append_assoc, length-append, slice_index, IsTrue, nat_eq, rules}
+use Rattle.std.proofs.Common.{◌≡◌, refl, ℕ, zero, suc, ◌+◌, ◌*◌, ◌^◌, ◌<◌, List, [], ◌∷◌, ◌++◌}
+use Rattle.std.proofs.Common.{length, drop, arith, ap, sym, ◌∙◌, subst, append_assoc, length-append}
+use Rattle.std.proofs.Common.{slice_index, IsTrue, nat_eq, rules}
 use Rattle.std.specs.List.{All, flat_map}
 use Rattle.std.proofs.lemmas.List.Elements.{All-head, All-tail}
 use Rattle.std.proofs.Math.Seq.{drop-append_seam}
 use Rattle.ent_handle.specs.Handle.{Handle, IsHandle, bits}
 use Rattle.ent_shared.specs.declared.refused.Refused.{Refused as Refusal}
 use Rattle.ent_shared.specs.declared.refused.Refused.TheVariants.{Space, Quota}
-use Rattle.ent_queue.specs.Command.{Bundle, Command, Spawn, SpawnMany, Insert, Remove, Despawn, Refused, IsBundle, IsRefusal, IsCommand}
-use Rattle.ent_queue.specs.Packing.{bytes_4, bytes_8, handle_bytes, bundle_bytes, refusal_bytes, command_bytes, queue_bytes}
-use Rattle.ent_queue.specs.Unpacking.{number_4, number_8, handle_in, handles_in, bundle_in, refusal_in, command_in, after_command, commands_in, ArePacked, BeginsWith}
-use Rattle.ent_queue.proofs.Numbers.{number_4-bytes, number_8-bytes, drop-bytes_4, drop-bytes_8, handle_in-bytes, length-bytes_4, length-bytes_8}
-use Rattle.ent_queue.proofs.Parts.{length-handles, handles_in-bytes, drop-handles, BundleBegins, bundle_begins}
+use Rattle.ent_queue.specs.Command.{Bundle, Command, Spawn, SpawnMany, Insert, Remove, Despawn}
+use Rattle.ent_queue.specs.Command.{Refused, IsBundle, IsRefusal, IsCommand}
+use Rattle.ent_queue.specs.Packing.{bytes_4, bytes_8, handle_bytes, bundle_bytes, refusal_bytes}
+use Rattle.ent_queue.specs.Packing.{command_bytes, queue_bytes}
+use Rattle.ent_queue.specs.Unpacking.{number_4, number_8, handle_in, handles_in, bundle_in}
+use Rattle.ent_queue.specs.Unpacking.{refusal_in, command_in, after_command, commands_in, ArePacked}
+use Rattle.ent_queue.specs.Unpacking.{BeginsWith}
+use Rattle.ent_queue.proofs.Numbers.{number_4-bytes, number_8-bytes, drop-bytes_4, drop-bytes_8}
+use Rattle.ent_queue.proofs.Numbers.{handle_in-bytes, length-bytes_4, length-bytes_8}
+use Rattle.ent_queue.proofs.Parts.{length-handles, handles_in-bytes, drop-handles, BundleBegins}
+use Rattle.ent_queue.proofs.Parts.{bundle_begins}
 use Rattle.ent_queue.proofs.Few.{few_items}
 
 -- What the parts after the byte for a kind say: a handle and a bundle, many handles and a bundle, and a refusal.

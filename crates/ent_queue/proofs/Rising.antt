@@ -1,5 +1,7 @@
 -- A component that is put among others whose numbers rise.
-use Rattle.std.proofs.Common.{◌≡◌, refl, sym, ap, ◌∙◌, ℕ, zero, suc, ◌^◌, ◌<◌, ◌≤◌, ℤ, [], ◌∷◌, length, get_or, set, arith, T, Bool, true, false, ◌&&◌, cond, take, drop, ◌++◌, Some, None, Ordering}
+use Rattle.std.proofs.Common.{◌≡◌, refl, sym, ap, ◌∙◌, ℕ, zero, suc, ◌^◌, ◌<◌, ◌≤◌, ℤ, [], ◌∷◌}
+use Rattle.std.proofs.Common.{length, get_or, set, arith, T, Bool, true, false, ◌&&◌, cond, take}
+use Rattle.std.proofs.Common.{drop, ◌++◌, Some, None, Ordering}
 use Rattle.std.specs.List.{All, AllWithin, HoldsAt, insert, refill}
 use Rattle.std.proofs.lemmas.List.Elements.{All-nil, All-head, All-tail, All-cons}
 use Rattle.std.proofs.Math.Seq.{take-append_seam}
@@ -30,9 +32,6 @@ second false b h = absurd h
 abbrev putting : ComponentId → ℤ → ComponentId × ℤ → Bundle → Ordering → Bundle
 putting id value item items r =
     by_order r ((id, value) ∷ item ∷ items) ((item.0, value) ∷ items) (item ∷ put component_cmp id value items)
-
-abbrev finding : ComponentId → ComponentId × ℤ → Bundle → Ordering → Type 0
-finding id item items r = cond (is_eq r) (Some item.1) (find component_cmp id items) ≡ None
 
 -- Where all lower ones stand before a place: a component that is not there goes there.
 module _ (id : ComponentId) (value : ℤ) where

@@ -6,7 +6,8 @@ use Rattle.ent_handle.specs.declared.component.ComponentId.{ComponentId}
 use Rattle.ent_handle.specs.Component.{component_cmp}
 use Rattle.ent_handle.specs.Handle.{Handle}
 use Rattle.ent_shared.specs.declared.refused.Refused.TheVariants.{Space, Quota}
-use Rattle.ent_queue.specs.Command.{Bundle, Command, Spawn, SpawnMany, Insert, Remove, Despawn, Refused}
+use Rattle.ent_queue.specs.Command.{Bundle, Command, Spawn, SpawnMany, Insert, Remove, Despawn}
+use Rattle.ent_queue.specs.Command.{Refused}
 use Rattle.ent_queue.specs.Packing.{bytes_2, bytes_4, bytes_8, queue_bytes}
 use Rattle.ent_queue.specs.Unpacking.{commands_in, number_2, number_4, number_8}
 use Rattle.ent_queue.specs.Reserving.{requests_of, cost, AreWithin}

@@ -1,4 +1,4 @@
--- Where a component stands among others whose numbers rise, or where it would go.
+-- The place of a component among others whose numbers rise, or the place that it would get.
 use Rattle.std.specs.Prelude.{◌≡◌, ℕ, ◌<◌, ◌≤◌, length}
 use Rattle.std.specs.List.{AllWithin, HoldsAt}
 use Rattle.ent_queue.specs.Command.{Bundle}

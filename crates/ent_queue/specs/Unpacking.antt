@@ -1,5 +1,6 @@
 -- What the bytes of a queue are read back as.
-use Rattle.std.specs.Prelude.{◌≡◌, ℕ, zero, suc, ◌*◌, ◌/◌, ◌%◌, ◌^◌, ◌==◌, ℤ, if◌then◌else◌, List, [], ◌∷◌, ◌++◌, length, take, drop, map, slice_index}
+use Rattle.std.specs.Prelude.{◌≡◌, ℕ, zero, suc, ◌*◌, ◌/◌, ◌%◌, ◌^◌, ◌==◌, ℤ, if◌then◌else◌, List}
+use Rattle.std.specs.Prelude.{[], ◌∷◌, ◌++◌, length, take, drop, map, slice_index}
 use Rattle.std.specs.List.{All}
 use Rattle.std.specs.Int.{w16, w32, w64, cast_signed, from_le_bytes}
 use Rattle.std.specs.Simd.{first_chunks}
@@ -7,7 +8,8 @@ use Rattle.ent_handle.specs.declared.component.ComponentId.{ComponentId}
 use Rattle.ent_handle.specs.Handle.{Handle}
 use Rattle.ent_shared.specs.declared.refused.Refused.{Refused as Refusal}
 use Rattle.ent_shared.specs.declared.refused.Refused.TheVariants.{Space, Quota}
-use Rattle.ent_queue.specs.Command.{Bundle, Command, Spawn, SpawnMany, Insert, Remove, Despawn, Refused, IsCommand}
+use Rattle.ent_queue.specs.Command.{Bundle, Command, Spawn, SpawnMany, Insert, Remove, Despawn}
+use Rattle.ent_queue.specs.Command.{Refused, IsCommand}
 use Rattle.ent_queue.specs.Packing.{command_bytes, queue_bytes}
 
 -- the number in the first 2, 4 or 8 bytes
@@ -58,12 +60,12 @@ command_in bytes = command_of_kind (slice_index bytes 0) (drop 1 bytes)
 abbrev pub after_command : List ℕ → List ℕ
 after_command bytes = drop (length (command_bytes (command_in bytes))) bytes
 
--- so many commands
+-- that many commands, one after the other
 unfoldable pub commands_in : ℕ → List ℕ → List Command
 commands_in zero bytes = []
 commands_in (suc count) bytes = command_in bytes ∷ commands_in count (after_command bytes)
 
--- The bytes are the packing of so many commands.
+-- The bytes are the packing of that many commands.
 pub record ArePacked (count : ℕ) (bytes : List ℕ) : Type 0 where
   pub bytes_are : bytes ≡ queue_bytes (commands_in count bytes)
   pub each : All IsCommand (commands_in count bytes)

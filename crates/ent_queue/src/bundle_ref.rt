@@ -1,4 +1,5 @@
-ghost use Rattle.std.specs.Prelude.{◌≡◌, ◌+◌, ◌*◌, ◌≤◌, ◌↔◌, T, IsTrue, [], drop, length, map, IfSome};
+ghost use Rattle.std.specs.Prelude.{◌≡◌, ◌+◌, ◌*◌, ◌≤◌, ◌↔◌, T, IsTrue, [], drop, length, map};
+ghost use Rattle.std.specs.Prelude.{IfSome};
 ghost use Rattle.std.specs.FinMap.{is_sorted};
 ghost use Rattle.std.specs.Simd.{first_chunks};
 ghost use Rattle.std.specs.Iterator.{YieldsFirst, UpTo, item_count};

@@ -3,7 +3,8 @@ ghost use Rattle.std.specs.Iterator.{YieldsFirstBy, UpTo, item_count};
 ghost use Rattle.std.specs.Iterator.SizeHint.{IsWithinCount};
 ghost use Rattle.ent_queue.specs.Command.{Command, IsRefusal};
 ghost use Rattle.ent_queue.specs.Entry.{command_of};
-ghost use Rattle.ent_queue.specs.Unpacking.{command_in, after_command, BeginsWith, ArePacked, commands_in, refusal_in};
+ghost use Rattle.ent_queue.specs.Unpacking.{command_in, after_command, BeginsWith, ArePacked};
+ghost use Rattle.ent_queue.specs.Unpacking.{commands_in, refusal_in};
 ghost use Rattle.std.specs.Prelude.{List, ℕ};
 
 use crate::bundle_ref::BundleRef;

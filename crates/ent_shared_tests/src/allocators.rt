@@ -47,6 +47,26 @@ pub fn flushed(rt: &impl Abort, alloc: Global, entities: &mut Entities) -> Vec<H
     born
 }
 
+/// Compares how many are alive, and how many slots there are.
+pub fn assert_counts(rt: &impl Abort, entities: &Entities, len: u32, total: u32) {
+    assert!(rt; entities.len() == len);
+    assert!(rt; entities.total() == total);
+}
+
+/// Compares the cursor.
+pub fn assert_cursor(rt: &impl Abort, entities: &Entities, cursor: i64) {
+    assert!(rt; entities.cursor() == cursor);
+}
+
+/// Compares handles with indexes and generations.
+pub fn assert_handles(rt: &impl Abort, given: &[Handle], wanted: &[(u32, u32)]) {
+    assert!(rt; given.len() == wanted.len());
+    for (handle, (index, generation)) in given.iter().zip(wanted) {
+        assert!(rt; handle.index() == *index);
+        assert!(rt; handle.generation() == *generation);
+    }
+}
+
 /// The next handle, also if one growth is refused.
 pub fn next(rt: &impl Abort, entities: &mut Entities) -> Handle {
     let given = match entities.alloc() {

@@ -5,6 +5,7 @@ use crate::gate::Gate;
 use ent_handle::Handle;
 use ent_shared::{Refused, Reserver, Shared};
 use std::alloc::Global;
+use std::process::Abort;
 
 /// A reserver, the handles that it was given, and whether its thread saw all others.
 #[derive(Drop)]
@@ -75,6 +76,34 @@ impl Caller {
                 let _ = self.given.push(handle);
             }
         }
+    }
+
+    /// Reserves one handle, which the caller's list does not get.
+    pub fn reserve(&mut self, shared: &Shared) -> Result<Handle, Refused>
+        requires { IsOf shared.now self.old.reserver }
+        ensures { IsOf shared.now self.new.reserver }
+    {
+        shared.reserve(&mut self.reserver)
+    }
+
+    /// From now on the caller reserves after all that the other one has reserved.
+    pub fn meet(&mut self, shared: &Shared, other: &mut Caller)
+        requires first { IsOf shared.now self.old.reserver }
+        requires second { IsOf shared.now other.old.reserver }
+        ensures first { IsOf shared.now self.new.reserver }
+        ensures second { IsOf shared.now other.new.reserver }
+    {
+        shared.meet(&mut self.reserver, &mut other.reserver);
+    }
+
+    /// Compares what it was given.
+    pub fn assert_given(&self, rt: &impl Abort, wanted: &[Handle]) {
+        assert!(rt; self.given.as_slice() == wanted);
+    }
+
+    /// Compares the credit that it has left.
+    pub fn assert_left(&self, rt: &impl Abort, left: u64) {
+        assert!(rt; self.reserver.left() == left);
     }
 
     /// How a request for `n` handles at once is refused, if it is.

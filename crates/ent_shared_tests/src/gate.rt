@@ -21,6 +21,11 @@ impl Gate {
     /// Enters, and waits until all have entered, though not for ever. Answers whether it saw them.
     pub fn enter(&self) -> bool {
         self.entered.fetch_add(1, Ordering::SeqCst);
-        (0..TURNS).any(|_| self.entered.load(Ordering::SeqCst) == self.threads)
+        for _ in 0..TURNS {
+            if self.entered.load(Ordering::SeqCst) == self.threads {
+                return true;
+            }
+        }
+        false
     }
 }

@@ -1,10 +1,9 @@
 //! Phases that end although reservers may be lost.
 ghost use Rattle.std.specs.Prelude.{◌≡◌};
 
-use crate::allocators::{first, flushed, with_freed, with_slots};
+use crate::allocators::{assert_cursor, assert_handles, flushed, with_freed, with_slots};
 use crate::phase::{closed, give_back, last, opened};
 use ent_alloc::Entities;
-use ent_handle::Handle;
 use ent_shared::Refused;
 use std::alloc::Global;
 use std::process::Abort;
@@ -53,12 +52,8 @@ fn what_lost_reservers_were_given_counts(rt: HostRuntime) {
     for (freed, requested, cursor, alive) in cases {
         let entities = with_freed(&rt, alloc, freed);
         let mut entities = after(&rt, alloc, entities, &[requested], End::AllLost);
-        assert_eq!(rt; entities.cursor(), cursor, "for {freed} freed");
-        let born = flushed(&rt, alloc, &mut entities);
-        let found = born
-            .iter()
-            .map(|handle| (handle.index(), handle.generation()));
-        assert!(rt; found.eq(alive.iter().copied()), "for {freed} freed");
+        assert_cursor(&rt, &entities, cursor);
+        assert_handles(&rt, &flushed(&rt, alloc, &mut entities), alive);
     }
 }
 
@@ -81,11 +76,8 @@ fn close_lost_beside_close(rt: HostRuntime) {
         for end in [End::NoneLost, End::AllLost] {
             let entities = with_freed(&rt, alloc, freed);
             let mut entities = after(&rt, alloc, entities, requests, end);
-            assert_eq!(rt; entities.cursor(), cursor, "for {freed} freed");
-            assert!(rt;
-                flushed(&rt, alloc, &mut entities).as_slice() == born.as_slice(),
-                "for {freed} freed"
-            );
+            assert_cursor(&rt, &entities, cursor);
+            assert!(rt; flushed(&rt, alloc, &mut entities).as_slice() == born.as_slice());
         }
     }
 }
@@ -93,12 +85,15 @@ fn close_lost_beside_close(rt: HostRuntime) {
 #[test]
 fn a_refused_request_counts_where_reservers_are_lost(rt: HostRuntime) {
     let alloc = rt.alloc();
-    let handles: &[Handle] = &[0, 1, 2].map(|index| first(&rt, index));
-    for (is_lost, alive) in [(false, 2), (true, 3)] {
+    let cases: [(bool, &[(u32, u32)]); 2] = [
+        (false, &[(0, 1), (1, 1)]),
+        (true, &[(0, 1), (1, 1), (2, 1)]),
+    ];
+    for (is_lost, alive) in cases {
         let (shared, mut reservers) = opened(&rt, alloc, with_slots(&rt, alloc, 3), 1);
         let mut only = last(&rt, alloc, &shared, &mut reservers);
         only.at_once(&shared, 2);
-        assert!(rt; only.given.as_slice() == &handles[..2]);
+        assert_handles(&rt, &only.given, &[(0, 1), (1, 1)]);
         let short = Refused::Space { wanted: 2, left: 1 };
         assert!(rt; only.refusal(&shared, 2) == Some(short));
         give_back(&rt, &shared, &mut reservers, only.reserver);
@@ -107,9 +102,8 @@ fn a_refused_request_counts_where_reservers_are_lost(rt: HostRuntime) {
         } else {
             closed(&rt, shared, reservers)
         };
-        assert_eq!(rt; entities.cursor(), -4);
-        let born = flushed(&rt, alloc, &mut entities);
-        assert!(rt; born.len() == alive && handles.starts_with(&born));
+        assert_cursor(&rt, &entities, -4);
+        assert_handles(&rt, &flushed(&rt, alloc, &mut entities), alive);
     }
 }
 
@@ -131,8 +125,7 @@ fn a_lost_reserver_counts(rt: HostRuntime) {
             }
             give_back(&rt, &shared, &mut reservers, kept.reserver);
             let mut entities = shared.close_lost(reservers);
-            let born = flushed(&rt, alloc, &mut entities);
-            assert_eq!(rt; born.len(), alive, "for {requested} each");
+            assert!(rt; flushed(&rt, alloc, &mut entities).len() == alive);
         }
     }
 }

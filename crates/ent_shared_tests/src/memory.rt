@@ -1,5 +1,5 @@
 //! Memory that is refused.
-use crate::allocators::{first, next};
+use crate::allocators::{assert_counts, assert_cursor, first, next};
 use ent_alloc::{Entities, Limits};
 use ent_handle::Memory;
 use ent_shared::share;
@@ -15,9 +15,7 @@ fn a_refused_share_hands_the_allocator_back(rt: HostRuntime) {
         Ok((shared, reservers)) => shared.close_lost(reservers),
         Err((entities, Memory)) => entities,
     };
-    assert_eq!(rt;
-        (entities.len(), entities.total(), entities.cursor()),
-        (2, 2, 0)
-    );
+    assert_counts(&rt, &entities, 2, 2);
+    assert_cursor(&rt, &entities, 0);
     assert!(rt; next(&rt, &mut entities) == first(&rt, 2));
 }

@@ -2,7 +2,7 @@
 ghost use Rattle.std.specs.Prelude.{◌≡◌};
 ghost use Rattle.ent_shared.specs.Phase.{IsOf};
 
-use crate::allocators::{flushed, with_freed};
+use crate::allocators::{assert_counts, assert_cursor, flushed, with_freed};
 use crate::caller::Caller;
 use crate::gate::Gate;
 use crate::phase::{closed, give_back, last, opened};
@@ -67,9 +67,53 @@ fn sorted(rt: &impl Abort, mut handles: Vec<Handle>) -> Vec<Handle> {
 }
 
 /// Each handle is above the one before it, so none stands twice.
-fn rises(handles: &[Handle]) -> bool {
-    let next = handles.iter().skip(1);
-    handles.iter().zip(next).all(|(a, b)| a < b)
+fn assert_rises(rt: &impl Abort, handles: &[Handle]) {
+    let mut before = None;
+    for handle in handles {
+        assert!(rt; before < Some(*handle));
+        before = Some(*handle);
+    }
+}
+
+/// How many of them are the second of their slot.
+fn count_seconds(handles: &[Handle]) -> u32 {
+    let mut count: u32 = 0;
+    for handle in handles {
+        if handle.generation() == 2 {
+            count = count.wrapping_add(1);
+        }
+    }
+    count
+}
+
+/// All of them are alive.
+fn assert_alive(rt: &impl Abort, entities: &Entities, handles: &[Handle]) {
+    for handle in handles {
+        assert!(rt; entities.state(*handle) == State::Alive);
+    }
+}
+
+/// The greatest index among them, if there is one.
+fn greatest_index(handles: &[Handle]) -> Option<u32> {
+    let mut greatest = None;
+    for handle in handles {
+        greatest = greatest.max(Some(handle.index()));
+    }
+    greatest
+}
+
+/// Each of their indexes is above that one.
+fn assert_above(rt: &impl Abort, handles: &[Handle], index: Option<u32>) {
+    for handle in handles {
+        assert!(rt; Some(handle.index()) > index);
+    }
+}
+
+/// What two callers were given.
+fn given_to(rt: &impl Abort, mut some: Vec<Handle>, others: &[Handle]) -> Vec<Handle> {
+    some.extend_from_slice(others)
+        .expect(rt, "memory for a list");
+    some
 }
 
 #[test]
@@ -87,34 +131,24 @@ fn four_threads_side_by_side(rt: HostRuntime) {
         &mut || both_beside(&rt, &shared, &gate, &mut c, &mut d, 1_000),
     );
     assert!(rt; a.saw_all && b.saw_all && c.saw_all && d.saw_all);
-    let mut given = Vec::new(alloc);
-    for caller in [&a, &b, &c, &d] {
-        given
-            .extend_from_slice(&caller.given)
-            .expect(&rt, "memory for a list");
-    }
-    let given = sorted(&rt, given);
-    assert!(rt; given.len() == 4_000 && rises(&given));
-    assert_eq!(rt;
-        given
-            .iter()
-            .filter(|handle| handle.generation() == 2)
-            .count(),
-        100
+    let given = given_to(
+        &rt,
+        given_to(&rt, a.given, &b.given),
+        &given_to(&rt, c.given, &d.given),
     );
+    let given = sorted(&rt, given);
+    assert!(rt; given.len() == 4_000);
+    assert_rises(&rt, &given);
+    assert!(rt; count_seconds(&given) == 100);
     give_back(&rt, &shared, &mut reservers, a.reserver);
     give_back(&rt, &shared, &mut reservers, b.reserver);
     give_back(&rt, &shared, &mut reservers, c.reserver);
     give_back(&rt, &shared, &mut reservers, d.reserver);
     let mut entities = closed(&rt, shared, reservers);
-    assert_eq!(rt; entities.cursor(), -3_900);
+    assert_cursor(&rt, &entities, -3_900);
     let _ = flushed(&rt, alloc, &mut entities);
-    assert_eq!(rt; (entities.len(), entities.total()), (4_000, 4_000));
-    assert!(rt;
-        given
-            .iter()
-            .all(|handle| entities.state(*handle) == State::Alive)
-    );
+    assert_counts(&rt, &entities, 4_000, 4_000);
+    assert_alive(&rt, &entities, &given);
 }
 
 #[test]
@@ -130,17 +164,15 @@ fn flush_brings_to_life_what_was_given(rt: HostRuntime) {
         &mut || b.in_bulks_beside(&shared, &gate, 10, 64),
     );
     assert!(rt; a.saw_all && b.saw_all);
-    shared.meet(&mut a.reserver, &mut b.reserver);
+    a.meet(&shared, &mut b);
     a.at_once(&shared, 64);
     give_back(&rt, &shared, &mut reservers, a.reserver);
     give_back(&rt, &shared, &mut reservers, b.reserver);
     let mut entities = closed(&rt, shared, reservers);
     let born = sorted(&rt, flushed(&rt, alloc, &mut entities));
-    let mut given = a.given;
-    given
-        .extend_from_slice(&b.given)
-        .expect(&rt, "memory for a list");
-    assert!(rt; born.len() == 1_344 && born.as_slice() == sorted(&rt, given).as_slice());
+    let given = sorted(&rt, given_to(&rt, a.given, &b.given));
+    assert!(rt; born.len() == 1_344);
+    assert!(rt; born.as_slice() == given.as_slice());
 }
 
 #[test]
@@ -152,17 +184,16 @@ fn what_comes_after_a_meeting_is_above(rt: HostRuntime) {
     let mut b = last(&rt, alloc, &shared, &mut reservers);
     let mut a = last(&rt, alloc, &shared, &mut reservers);
     three_beside(&rt, &shared, &mut a, &mut b, &mut c);
-    let met = b.given.iter().map(|handle| handle.index()).max();
+    let met = greatest_index(&b.given);
     assert!(rt; met.is_some());
-    shared.meet(&mut a.reserver, &mut b.reserver);
+    a.meet(&shared, &mut b);
     three_beside(&rt, &shared, &mut a, &mut b, &mut c);
     assert!(rt; a.given.len() == 1_000);
-    let mut since = a.given.iter().skip(500);
-    assert!(rt; since.all(|handle| Some(handle.index()) > met));
+    assert_above(&rt, &a.given[500..], met);
     give_back(&rt, &shared, &mut reservers, a.reserver);
     give_back(&rt, &shared, &mut reservers, b.reserver);
     give_back(&rt, &shared, &mut reservers, c.reserver);
     let mut entities = closed(&rt, shared, reservers);
     let _ = flushed(&rt, alloc, &mut entities);
-    assert_eq!(rt; entities.len(), 3_000);
+    assert_counts(&rt, &entities, 3_000, 3_000);
 }

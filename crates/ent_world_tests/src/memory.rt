@@ -1,8 +1,11 @@
 //! Memory that is refused.
+use crate::checks::{
+    apply, assert_born, assert_faults, assert_len, assert_needs_flush, assert_phase, assert_shown,
+    spawn,
+};
 use crate::scene::{Call, bundle, handle, opened, pair, queue};
-use crate::shown::{shown, shown_faults};
 use ent_alloc::{AllocFault, Limits};
-use ent_handle::{Birth, Handle, Memory};
+use ent_handle::{Handle, Memory};
 use ent_queue::{Bundle, CommandQueue};
 use ent_world::{SyncFault, World};
 use std::alloc::Global;
@@ -47,35 +50,33 @@ fn before_stop(system: usize, command: usize, done: usize) -> (&'static str, &'s
     }
 }
 
-fn birth(ordinal: u32) -> Birth {
-    Birth {
-        frame: 0,
-        system: 0,
-        ordinal,
-    }
-}
-
 /// The next handle, also if one growth is refused. The refusal leaves the world as it was.
 fn spawned(rt: &impl Abort, world: &mut World, ordinal: u32, items: &Bundle) -> Handle {
     let before = world.len();
-    let given = match world.spawn(birth(ordinal), items) {
+    let given = match spawn(world, ordinal, items) {
         Err(AllocFault::Memory) => {
-            assert!(rt; world.len() == before);
-            world.spawn(birth(ordinal), items)
+            assert_len(rt, world, before);
+            spawn(world, ordinal, items)
         }
         given => given,
     };
     given.expect(rt, "memory for an entity")
 }
 
-/// A world after a phase in which two systems wrote their commands.
-fn with_queues(rt: &impl Abort, alloc: Global) -> (World, CommandQueue, CommandQueue) {
+/// The world before the phase.
+fn with_two(rt: &impl Abort, alloc: Global) -> World {
     let mut world = World::new(alloc, Limits::default_limits());
     let first = spawned(rt, &mut world, 0, &bundle(rt, alloc, &[(0, 10)]));
     let second = spawned(rt, &mut world, 1, &bundle(rt, alloc, &[(0, 20)]));
     assert!(rt; first == handle(rt, (0, 1)));
     assert!(rt; second == handle(rt, (1, 1)));
-    assert!(rt; shown(rt, alloc, &world).as_str() == BEFORE);
+    assert_shown(rt, alloc, &world, BEFORE);
+    world
+}
+
+/// A world after a phase in which two systems wrote their commands.
+fn with_queues(rt: &impl Abort, alloc: Global) -> (World, Vec<CommandQueue>) {
+    let world = with_two(rt, alloc);
     assert!(rt; !world.needs_flush());
     let (open, mut one, mut other) = opened(rt, world);
     let calls = [
@@ -88,7 +89,17 @@ fn with_queues(rt: &impl Abort, alloc: Global) -> (World, CommandQueue, CommandQ
     let first = queue(rt, alloc, open.shared(), &mut one, &calls);
     let calls = [Call::Spawn(&[(3, 3)]), Call::Despawn((9, 1))];
     let second = queue(rt, alloc, open.shared(), &mut other, &calls);
-    (open.close(pair(rt, alloc, one, other)), first, second)
+    (
+        open.close(pair(rt, alloc, one, other)),
+        pair(rt, alloc, first, second),
+    )
+}
+
+/// The flush is still to come, and the world is as it was before.
+fn assert_unchanged(rt: &impl Abort, alloc: Global, world: &World) {
+    assert_needs_flush(rt, world);
+    assert_phase(rt, world, 0);
+    assert_shown(rt, alloc, world, BEFORE);
 }
 
 // Passes whichever single allocation is refused: `rt try --test --fail-alloc N -- refused_memory`
@@ -97,14 +108,11 @@ fn with_queues(rt: &impl Abort, alloc: Global) -> (World, CommandQueue, CommandQ
 #[test]
 fn refused_memory_stops_between_commands(rt: HostRuntime) {
     let alloc = rt.alloc();
-    let (mut world, first, second) = with_queues(&rt, alloc);
-    let queues = pair(&rt, alloc, first, second);
-    let answer = match world.apply(&queues) {
+    let (mut world, queues) = with_queues(&rt, alloc);
+    let answer = match apply(&rt, &mut world, &queues) {
         Err(SyncFault::FlushMemory) => {
-            assert!(rt; world.needs_flush());
-            assert_eq!(rt; world.phase(), 0);
-            assert_eq!(rt; shown(&rt, alloc, &world).as_str(), BEFORE);
-            world.apply(&queues)
+            assert_unchanged(&rt, alloc, &world);
+            apply(&rt, &mut world, &queues)
         }
         answer => answer,
     };
@@ -123,31 +131,27 @@ fn refused_memory_stops_between_commands(rt: HostRuntime) {
         }
         Err(SyncFault::FlushMemory) => panic!(rt; "memory for the flush"),
     };
-    let born = [(2, 1), (3, 1), (4, 1)];
-    assert_eq!(rt; report.born.len(), born.len());
-    for (given, want) in report.born.iter().zip(born) {
-        assert!(rt; *given == handle(&rt, want));
-    }
-    assert_eq!(rt; shown(&rt, alloc, &world).as_str(), after);
-    assert_eq!(rt; shown_faults(&rt, alloc, &report.faults).as_str(), faults);
-    assert_eq!(rt; world.phase(), 1);
+    assert_born(&rt, &report.born, &[(2, 1), (3, 1), (4, 1)]);
+    assert_shown(&rt, alloc, &world, after);
+    assert_faults(&rt, alloc, &report.faults, faults);
+    assert_phase(&rt, &world, 1);
 }
 
 // The same of a flush alone, and of a view's list.
 #[test]
 fn refused_memory_of_a_flush_changes_nothing(rt: HostRuntime) {
     let alloc = rt.alloc();
-    let (mut world, _first, _second) = with_queues(&rt, alloc);
+    let (mut world, _queues) = with_queues(&rt, alloc);
     if let Err(Memory) = world.flush() {
-        assert!(rt; world.needs_flush());
-        assert_eq!(rt; world.phase(), 0);
-        assert_eq!(rt; shown(&rt, alloc, &world).as_str(), BEFORE);
+        assert_unchanged(&rt, alloc, &world);
         world.flush().expect(&rt, "memory for the flush");
     }
     assert!(rt; !world.needs_flush());
-    assert_eq!(rt;
-        shown(&rt, alloc, &world).as_str(),
+    assert_shown(
+        &rt,
+        alloc,
+        &world,
         "0.0.0 0v1 0=10\n0.0.1 1v1 0=20\n\
-         0.4294967295.0 2v1\n0.4294967295.1 3v1\n0.4294967295.2 4v1\n"
+         0.4294967295.0 2v1\n0.4294967295.1 3v1\n0.4294967295.2 4v1\n",
     );
 }

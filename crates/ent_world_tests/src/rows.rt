@@ -1,120 +1,123 @@
 //! Worked sync points.
+ghost use Rattle.std.specs.Prelude.{◌≡◌};
+
+use crate::checks::{
+    applied, assert_born, assert_faults, assert_len, assert_needs_flush, assert_phase,
+    assert_shown, assert_value, despawn, spawn,
+};
 use crate::scene::{Call, bundle, handle, opened, pair, queue, with_slots};
-use crate::shown::{shown, shown_faults};
-use ent_alloc::{AllocFault, FreeFault, Limits};
-use ent_handle::{Birth, ComponentId};
+use ent_alloc::{AllocFault, FreeFault, Freed, Limits};
+use ent_handle::{ComponentId, Handle};
+use ent_queue::CommandQueue;
 use ent_world::World;
-use std::test::Fail;
+use std::alloc::Global;
+use std::process::Abort;
 
 // The second system reserves first, and its entity is born first; births go by the systems.
 #[test]
-fn births_go_by_system(rt: HostRuntime) -> Result<(), Fail> {
+fn births_go_by_system(rt: HostRuntime) {
     let alloc = rt.alloc();
-    let world = World::new(alloc, Limits::default_limits());
-    let (open, mut first, mut second) = opened(&rt, world);
-    let later = queue(
-        &rt,
-        alloc,
-        open.shared(),
-        &mut second,
-        &[Call::Spawn(&[(0, 7)])],
-    );
-    let earlier = queue(
-        &rt,
-        alloc,
-        open.shared(),
-        &mut first,
-        &[Call::Spawn(&[(0, 5)])],
-    );
-    let mut world = open.close(pair(&rt, alloc, first, second));
-    assert!(rt; world.needs_flush());
-    let report = world.apply(&pair(&rt, alloc, earlier, later))?;
-
-    assert_eq!(rt;
-        report.born.as_slice(),
-        [handle(&rt, (0, 1)), handle(&rt, (1, 1))].as_slice()
-    );
+    let (mut world, queues) = after_second_and_first(&rt, alloc);
+    assert_needs_flush(&rt, &world);
+    let report = applied(&rt, &mut world, &queues);
+    assert_born(&rt, &report.born, &[(0, 1), (1, 1)]);
     assert!(rt; report.faults.is_empty());
-    assert_eq!(rt;
-        shown(&rt, alloc, &world).as_str(),
-        "0.0.0 1v1 0=5\n0.1.0 0v1 0=7\n"
-    );
-    assert_eq!(rt; world.phase(), 1);
-    Ok(())
+    assert_shown(&rt, alloc, &world, "0.0.0 1v1 0=5\n0.1.0 0v1 0=7\n");
+    assert_phase(&rt, &world, 1);
+}
+
+/// A new world after a phase in which each of two systems spawned, the second one first.
+fn after_second_and_first(rt: &impl Abort, alloc: Global) -> (World, Vec<CommandQueue>) {
+    let world = World::new(alloc, Limits::default_limits());
+    let (open, mut first, mut second) = opened(rt, world);
+    let calls = [Call::Spawn(&[(0, 7)])];
+    let later = queue(rt, alloc, open.shared(), &mut second, &calls);
+    let calls = [Call::Spawn(&[(0, 5)])];
+    let earlier = queue(rt, alloc, open.shared(), &mut first, &calls);
+    let world = open.close(pair(rt, alloc, first, second));
+    (world, pair(rt, alloc, earlier, later))
 }
 
 // What was reserved by no queue is born all the same, without components.
 #[test]
-fn a_handle_without_a_queue_is_born(rt: HostRuntime) -> Result<(), Fail> {
+fn a_handle_without_a_queue_is_born(rt: HostRuntime) {
     let alloc = rt.alloc();
     let world = World::new(alloc, Limits::default_limits());
     let (open, mut first, second) = opened(&rt, world);
     assert!(rt; open.shared().reserve(&mut first) == Ok(handle(&rt, (0, 1))));
     let mut world = open.close(pair(&rt, alloc, first, second));
-    let report = world.apply(&[])?;
-
-    assert_eq!(rt; report.born.as_slice(), [handle(&rt, (0, 1))].as_slice());
+    let report = applied(&rt, &mut world, &[]);
+    assert_born(&rt, &report.born, &[(0, 1)]);
     assert!(rt; report.faults.is_empty());
-    assert_eq!(rt; shown(&rt, alloc, &world).as_str(), "0.4294967295.0 0v1\n");
-    Ok(())
+    assert_shown(&rt, alloc, &world, "0.4294967295.0 0v1\n");
 }
 
 // One entity comes and goes, and what names it then changes nothing.
 #[test]
-fn spawns_and_despawns(rt: HostRuntime) -> Result<(), Fail> {
+fn spawns_and_despawns(rt: HostRuntime) {
     let alloc = rt.alloc();
     let mut world = World::new(alloc, Limits::default_limits());
-    let birth = Birth {
-        frame: 0,
-        system: 0,
-        ordinal: 0,
-    };
     let items = bundle(&rt, alloc, &[(0, 7)]);
     let (old, next) = (handle(&rt, (0, 1)), handle(&rt, (0, 2)));
     assert!(rt; world.is_empty());
-    assert!(rt; world.spawn(birth, &items) == Ok(old));
-    assert_eq!(rt; world.get(old, ComponentId(0)), Some(7));
-
-    let freed = world.despawn(old)?;
-    assert!(rt; freed.next == next);
-    assert!(rt; !freed.wrapped);
-    assert_eq!(rt; world.len(), 0);
-    assert!(rt; world.despawn(old) == Err(FreeFault::NotAlive));
+    assert!(rt; spawn(&mut world, 0, &items) == Ok(old));
+    assert_value(&rt, &world, old, ComponentId(0), 7);
+    let wrapped = false;
+    assert!(rt; despawn(&mut world, old) == Ok(Freed { next, wrapped }));
+    assert_len(&rt, &world, 0);
+    assert!(rt; despawn(&mut world, old) == Err(FreeFault::NotAlive));
     assert!(rt; !world.contains(old));
-    Ok(())
 }
 
 // A world whose slots are all taken.
 #[test]
-fn a_full_world_refuses_a_spawn(rt: HostRuntime) -> Result<(), Fail> {
+fn a_full_world_refuses_a_spawn(rt: HostRuntime) {
     let alloc = rt.alloc();
     let mut world = with_slots(&rt, alloc, 1);
-    let birth = Birth {
-        frame: 0,
-        system: 0,
-        ordinal: 0,
-    };
     let items = bundle(&rt, alloc, &[]);
-    assert!(rt; world.spawn(birth, &items) == Ok(handle(&rt, (0, 1))));
-    assert!(rt; world.spawn(birth, &items) == Err(AllocFault::Space));
-    assert_eq!(rt; world.len(), 1);
-    Ok(())
+    assert!(rt; spawn(&mut world, 0, &items) == Ok(handle(&rt, (0, 1))));
+    assert!(rt; spawn(&mut world, 0, &items) == Err(AllocFault::Space));
+    assert_len(&rt, &world, 1);
 }
 
 // A queue with a refusal, with commands on an entity that went before, and on the next occupant of its slot.
 #[test]
-fn faults_stand_in_order(rt: HostRuntime) -> Result<(), Fail> {
+fn faults_stand_in_order(rt: HostRuntime) {
     let alloc = rt.alloc();
-    let mut world = with_slots(&rt, alloc, 2);
-    let birth = Birth {
-        frame: 0,
-        system: 0,
-        ordinal: 0,
-    };
-    let old = world.spawn(birth, &bundle(&rt, alloc, &[(0, 1)]))?;
-    let _ = world.despawn(old)?;
+    let (world, old) = with_freed_slot(&rt, alloc);
     assert!(rt; !world.needs_flush());
-    let (open, mut first, mut second) = opened(&rt, world);
+    let (mut world, queues) = after_faulty_commands(&rt, alloc, world, old);
+    let report = applied(&rt, &mut world, &queues);
+    assert_born(&rt, &report.born, &[(1, 1), (0, 2)]);
+    assert_faults(
+        &rt,
+        alloc,
+        &report.faults,
+        "0 1 1 wanted and 0 left\n0 2 not alive 0v1\n0 4 not alive 1v1\n",
+    );
+    assert_shown(&rt, alloc, &world, "0.0.0 0v2 0=-4\n");
+    world.flush().expect(&rt, "memory for the flush");
+    assert_phase(&rt, &world, 2);
+}
+
+/// A world of two slots, and the handle of an entity that came and went.
+fn with_freed_slot(rt: &impl Abort, alloc: Global) -> (World, Handle) {
+    let mut world = with_slots(rt, alloc, 2);
+    let old = spawn(&mut world, 0, &bundle(rt, alloc, &[(0, 1)])).expect(rt, "a slot");
+    let _ = despawn(&mut world, old).expect(rt, "a living entity");
+    (world, old)
+}
+
+/// The world after a phase in which the first system names entities that are gone.
+fn after_faulty_commands(
+    rt: &impl Abort,
+    alloc: Global,
+    world: World,
+    old: Handle,
+) -> (World, Vec<CommandQueue>)
+    requires { world.allocator.asked ≡ 0 }
+{
+    let (open, mut first, mut second) = opened(rt, world);
     assert!(rt; open.view().phase() == 0);
     assert!(rt; !open.view().contains(old));
     let calls = [
@@ -125,27 +128,9 @@ fn faults_stand_in_order(rt: HostRuntime) -> Result<(), Fail> {
         Call::Insert((1, 1), &[(0, 3)]),
         Call::Insert((0, 2), &[(0, -4)]),
     ];
-    let one = queue(&rt, alloc, open.shared(), &mut first, &calls);
-    let other = queue(
-        &rt,
-        alloc,
-        open.shared(),
-        &mut second,
-        &[Call::Remove((0, 2), 1)],
-    );
-    let mut world = open.close_lost(pair(&rt, alloc, first, second));
-    let report = world.apply(&pair(&rt, alloc, one, other))?;
-
-    assert_eq!(rt;
-        report.born.as_slice(),
-        [handle(&rt, (1, 1)), handle(&rt, (0, 2))].as_slice()
-    );
-    assert_eq!(rt;
-        shown_faults(&rt, alloc, &report.faults).as_str(),
-        "0 1 1 wanted and 0 left\n0 2 not alive 0v1\n0 4 not alive 1v1\n"
-    );
-    assert_eq!(rt; shown(&rt, alloc, &world).as_str(), "0.0.0 0v2 0=-4\n");
-    world.flush()?;
-    assert_eq!(rt; world.phase(), 2);
-    Ok(())
+    let one = queue(rt, alloc, open.shared(), &mut first, &calls);
+    let calls = [Call::Remove((0, 2), 1)];
+    let other = queue(rt, alloc, open.shared(), &mut second, &calls);
+    let world = open.close_lost(pair(rt, alloc, first, second));
+    (world, pair(rt, alloc, one, other))
 }

@@ -44,6 +44,13 @@ fn main(rt: HostRuntime) -> Result<()> {
         entities: Entities::new(rt.alloc(), Limits::default_limits()),
         storage: Storage::new(rt.alloc()),
     };
+    let (rat, raven) = take_the_slot(&rt, &mut game)?;
+    print_both(&rt, &game, rat, raven)?;
+    print_healths(&rt, &game)
+}
+
+/// Spawns a knight and a rat, and a raven in the slot of the rat, which is gone then. Returns the handles of these two.
+fn take_the_slot<R: Print + AllocGlobal>(rt: &R, game: &mut Game) -> Result<(Handle, Handle)> {
     let knight = game.spawn(0, &[(HEALTH, 20), (ARMOUR, 3)])?;
     let rat = game.spawn(1, &[(HEALTH, 4)])?;
     println!(rt; "spawned {knight} and {rat}")?;
@@ -51,13 +58,17 @@ fn main(rt: HostRuntime) -> Result<()> {
     game.despawn(rat)?;
     let raven = game.spawn(2, &[(HEALTH, 9)])?;
     println!(rt; "the slot of {rat} went to {raven}")?;
+    Ok((rat, raven))
+}
 
-    let (old, new) = (
-        game.storage.get(rat, HEALTH),
-        game.storage.get(raven, HEALTH),
-    );
+/// What stands under the handle of an entity that is gone, and under that of the next in its slot.
+fn print_both<R: Print + AllocGlobal>(rt: &R, game: &Game, old: Handle, new: Handle) -> Result<()> {
+    let (old, new) = (game.storage.get(old, HEALTH), game.storage.get(new, HEALTH));
     println!(rt; "the old handle finds {old:?}, the new one {new:?}")?;
+    Ok(())
+}
 
+fn print_healths<R: Print + AllocGlobal>(rt: &R, game: &Game) -> Result<()> {
     for handle in game.storage.with(HEALTH)? {
         let health = game.storage.get(handle, HEALTH).unwrap_or(0);
         println!(rt; "{handle} has health {health}")?;

@@ -56,7 +56,17 @@ where
     a.meet(&shared, &mut b);
     a.at_once(&shared, 24)?;
 
-    // The phase ends with all its reservers.
+    end(rt, shared, a, b)
+}
+
+/// The phase ends with all its reservers, and a flush brings to life what they were given. Returns all these handles.
+fn end<R: Print + AllocGlobal>(rt: &R, shared: Shared, a: Worker, b: Worker) -> Result<Vec<Handle>>
+    requires two { shared.count ≡ 2 }
+    requires first { IsOf shared a.reserver }
+    requires second { IsOf shared b.reserver }
+    ensures count { IfOk result (λ given. vec_len given ≡ vec_len a.given + vec_len b.given) }
+    ensures distinct { IfOk result (λ given. AllPairs (λ g h. g ≢ h) given.items) }
+{
     let Worker {
         reserver: first,
         given: mut given,
@@ -68,11 +78,17 @@ where
         ..
     } = b;
     given.append(&mut others)?;
-    let mut entities = shared.close(Vec::from_array(rt.alloc(), [first, second])?);
+    let entities = shared.close(Vec::from_array(rt.alloc(), [first, second])?);
+    flush(rt, entities)?;
+    Ok(given)
+}
+
+/// Brings to life what was reserved, and prints how many handles that were.
+fn flush<R: Print + AllocGlobal>(rt: &R, mut entities: Entities) -> Result<()> {
     let mut born = Vec::new(rt.alloc());
     entities.flush(&mut born)?;
     println!(rt; "{} born", born.len())?;
-    Ok(given)
+    Ok(())
 }
 
 /// One thread reserves one by one, the other at once.

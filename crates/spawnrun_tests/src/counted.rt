@@ -55,36 +55,38 @@ impl Write for Choppy {
     }
 }
 
-#[test]
-fn interruptions_are_no_failures(rt: HostRuntime) -> Result<(), Fail> {
-    let choppy = Choppy {
-        bytes: Vec::new(rt.alloc()),
+/// A device of these bytes, that fails after `calls` calls.
+fn device_of(bytes: Vec<u8>, calls: u64) -> Counted<Choppy> {
+    Counted::new(Choppy {
+        bytes,
         is_interrupted: false,
-        calls: NEVER,
-    };
-    let mut counted = Counted::new(choppy);
-    counted.put(b"flush\n").map_err(|_| "a put failed")?;
+        calls,
+    })
+}
+
+/// What the next call of the device brings: how many bytes, and the first one.
+fn taken(counted: &mut Counted<Choppy>) -> Result<(usize, u8), Failed> {
     let mut buffer = [0; 8];
+    let count = counted.take(&mut buffer)?;
+    Ok((count, buffer[0]))
+}
+
+#[test]
+fn interruptions_are_no_failures(rt: HostRuntime) {
+    let mut counted = device_of(Vec::new(rt.alloc()), NEVER);
+    assert!(rt; counted.put(b"flush\n") == Ok(()));
     for byte in b"flush\n" {
-        let count = counted.take(&mut buffer).map_err(|_| "a take failed")?;
-        assert_eq!(rt; (count, buffer[0]), (1, *byte));
+        assert!(rt; taken(&mut counted) == Ok((1, *byte)));
     }
-    assert_eq!(rt; counted.take(&mut buffer), Ok(0));
-    Ok(())
+    assert!(rt; taken(&mut counted) == Ok((0, 0)));
 }
 
 #[test]
 fn a_failure_comes_once(rt: HostRuntime) -> Result<(), Fail> {
-    let choppy = Choppy {
-        bytes: vec![in rt.alloc(); b'a', b'b']?,
-        is_interrupted: false,
-        calls: 1,
-    };
-    let mut counted = Counted::new(choppy);
-    let mut buffer = [0; 8];
-    assert_eq!(rt; counted.take(&mut buffer), Ok(1));
-    assert_eq!(rt; counted.take(&mut buffer), Err(Failed));
-    assert_eq!(rt; counted.put(b"c"), Err(Failed));
+    let mut counted = device_of(vec![in rt.alloc(); b'a', b'b']?, 1);
+    assert!(rt; taken(&mut counted) == Ok((1, b'a')));
+    assert!(rt; taken(&mut counted) == Err(Failed));
+    assert!(rt; counted.put(b"c") == Err(Failed));
     Ok(())
 }
 
@@ -104,5 +106,5 @@ impl Write for Clogged {
 
 #[test]
 fn a_flush_that_fails_is_a_failure(rt: HostRuntime) {
-    assert_eq!(rt; Counted::new(Clogged).put(b"born\n"), Err(Failed));
+    assert!(rt; Counted::new(Clogged).put(b"born\n") == Err(Failed));
 }

@@ -29,17 +29,9 @@ fn ends(rt: &(impl Abort + AllocGlobal), words: &[&str], input: &str, puts: u64,
     let mut sink = MemorySink::new(rt.alloc(), puts);
     let mut errors = MemorySink::new(rt.alloc(), NEVER);
     let status = execute(rt.alloc(), words, &mut source, &mut sink, &mut errors);
-    assert_eq!(rt; status, ending.status, "at {words:?}");
-    assert_eq!(rt;
-        sink.bytes.as_slice(),
-        ending.output.as_bytes(),
-        "at {words:?}"
-    );
-    assert_eq!(rt;
-        errors.bytes.as_slice(),
-        ending.errors.as_bytes(),
-        "at {words:?}"
-    );
+    assert!(rt; status == ending.status);
+    assert!(rt; sink.bytes.as_slice() == ending.output.as_bytes());
+    assert!(rt; errors.bytes.as_slice() == ending.errors.as_bytes());
 }
 
 #[test]
@@ -96,8 +88,8 @@ fn words_that_cannot_be_read(rt: HostRuntime) {
     ];
     for (kind, status, text) in cases {
         let mut errors = MemorySink::new(rt.alloc(), NEVER);
-        assert_eq!(rt; refuse_words(&io::Error::from(kind), &mut errors), status);
-        assert_eq!(rt; errors.bytes.as_slice(), text.as_bytes());
+        assert!(rt; refuse_words(&io::Error::from(kind), &mut errors) == status);
+        assert!(rt; errors.bytes.as_slice() == text.as_bytes());
     }
 }
 

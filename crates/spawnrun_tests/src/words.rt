@@ -20,11 +20,8 @@ fn options_have_ranges_and_defaults(rt: HostRuntime) -> Result<(), Fail> {
     ];
     for (words, slots, generations) in cases {
         let Task::Replay(limits) = command_line(rt.alloc(), words)?;
-        assert_eq!(rt;
-            (limits.slots(), limits.generations()),
-            (slots, generations),
-            "at {words:?}"
-        );
+        assert!(rt; limits.slots() == slots);
+        assert!(rt; limits.generations() == generations);
     }
     Ok(())
 }
@@ -70,7 +67,7 @@ fn faults_are_shown_by_clap(rt: HostRuntime) -> Result<(), Fail> {
         ),
     ];
     for (words, text) in cases {
-        assert!(rt; shows(rt.alloc(), words, text)?, "at {words:?}");
+        assert!(rt; shows(rt.alloc(), words, text)?);
     }
     Ok(())
 }

@@ -51,6 +51,7 @@ new-requires-then-low-ge0 c =
       few = omega (arith, ints);
       indexes = omega (arith, ints);
       last = omega (arith, ints);
+      count = omega (arith, ints);
     }
 
 pub returns-then-low-ge0 : goal.returns-then-low-ge0
@@ -124,6 +125,7 @@ new-requires-then-high-gt0 c =
       few = omega (arith, ints);
       indexes = omega (arith, ints);
       last = omega (arith, ints);
+      count = omega (arith, ints);
     }
 
 pub returns-then-high-gt0 : goal.returns-then-high-gt0
@@ -148,6 +150,34 @@ returns-then-high-gt0 c =
     λ n requested.
     ap Ok c.new-then-high-gt0.ensures
     ∙ several r e.requests.asked e.requests.served high s inv c.self.view_is n _ _ _ _ (omega (arith, ints)) (omega (arith, ints)) (omega (arith, ints)) (omega (arith, ints)) (omega (arith, ints))
+
+pub new-requires-2 : goal.new-requires-2
+new-requires-2 c =
+    let e = c.self.inside in
+    let r = e.slots in
+    let s = c.args.self.now in
+    let inv = c.self.invariant in
+    let high = c.args.span.high in
+    let low = c.args.span.low in
+    let least = c.requires.least in
+    let short = c.requires.short in
+    let ordered = c.requires.ordered in
+    let passed = c.requires.passed in
+    let tops : top s ≡ length r.pending = ap top (sym c.self.view_is) ∙ top_is r e.requests.asked e.requests.served inv.given_least inv.sound in
+    let within : high ≤ℤ pos (length r.pending) = omega (arith, ints) in
+    let distance = asked_at-is (length r.pending) high within in
+    let made = c.made-made.ensures.value in
+    let few = c.made-made.ensures.within in
+    let fits = c.made-made.ensures.fits in
+    let slots : c.slots.result ≡ r.limits.slots = c.slots.ensures ∙ ap (λ (l : Limits). l.slots) c.limits.ensures in
+    record {
+      positions = omega (arith, ints);
+      within = omega (arith, ints);
+      few = omega (arith, ints);
+      indexes = omega (arith, ints);
+      last = omega (arith, ints);
+      count = omega (arith, ints);
+    }
 
 pub returns : goal.returns
 returns c =

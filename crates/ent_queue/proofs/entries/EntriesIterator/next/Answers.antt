@@ -1,7 +1,8 @@
 use Rattle.std.proofs.Common.{◌≡◌, suc, ◌-◌, ◌∷◌, ap, sym, ◌∙◌, arith, length, subst}
 use Rattle.ent_queue.specs.Entry.{command_of}
 use Rattle.ent_queue.specs.Unpacking.{ArePacked, commands_in}
-use Rattle.ent_queue.proofs.Queues.{no_commands, first_of_commands, some_command_begins, others_are_packed}
+use Rattle.ent_queue.proofs.Queues.{no_commands, first_of_commands, some_command_begins}
+use Rattle.ent_queue.proofs.Queues.{others_are_packed}
 use Rattle.ent_queue.proofs.entries.EntriesIterator.next.Goals as goal
 
 pub returns-then-self-eq0-clause-steps : goal.returns-then-self-eq0-clause-steps

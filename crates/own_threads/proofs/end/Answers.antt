@@ -3,13 +3,13 @@ use Rattle.ent_alloc.specs.History.{given_in}
 use Rattle.ent_shared.specs.Order.{history_of, handles_given}
 use Rattle.ent_shared.specs.Phase.{Reserver}
 use Rattle.ent_shared.proofs.Laws.{given-distinct}
-use Rattle.own_threads.proofs.phase.Goals as goal
+use Rattle.own_threads.proofs.end.Goals as goal
 
 -- The workers have all that their reservers were given, one after the other, and no handle stands there twice.
 pub returns-clause-distinct : goal.returns-clause-distinct
 returns-clause-distinct g c =
-    let a = c.at_once.new.self in
-    let b = c.meet.new.other in
+    let a = c.args.a in
+    let b = c.args.b in
     let handed_in : c.in_ok-from_array.field-0.items ≡ a.reserver ∷ b.reserver ∷ [] = c.in_ok-from_array.ensures.items in
     let distinct = given-distinct (a.reserver.own ∷ b.reserver.own ∷ [])
     (subst (λ (rs : List Reserver). AllPairs (λ g h. g ≢ h) (given_in (history_of (map (λ (r : Reserver). r.own) rs)))) handed_in c.close-entities.ensures.distinct) in
