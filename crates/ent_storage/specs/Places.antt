@@ -4,7 +4,7 @@ use Rattle.std.specs.Coded.{Coded, code_by, coded×, coded_ℕ}
 use Rattle.std.specs.FinMap as map
 use Rattle.ent_handle.specs.Handle.{handle_cmp, handle_code}
 
--- the place of each handle, and for how many more there is room
+-- the place of each handle, and for how many handles there is room in all
 pub record Places : Type 0 where
   pub by_handle : map.FinMap handle_cmp ℕ
   pub room : ℕ

@@ -37,14 +37,14 @@ impl Model for Storage {
 
     ghost coded = { store_code };
 
-    ghost use Rattle.ent_storage.specs.Indexed.{entities_of, IsIndexed};
+    ghost use Rattle.ent_storage.specs.Indexed.{entities_of, IsKept};
 
     ghost view = { λ a. record {
       entities = entities_of a.living.items;
-      spare = min (vec_capacity a.living - vec_len a.living) a.index.room;
+      spare = min (vec_capacity a.living) a.index.room - vec_len a.living;
     } };
 
-    ghost invariant = { λ a. IsIndexed a.living.items a.index.by_handle };
+    ghost invariant = { λ a. IsKept a.living.items a.index.by_handle a.index.room };
 }
 
 impl Storage {
@@ -111,8 +111,8 @@ impl Storage {
     pub fn spare(&self) -> usize
         ensures { result ≡ self.now.spare }
     {
-        let room = self.living.capacity() - self.living.len();
-        room.min(self.index.room())
+        let room = self.living.capacity().min(self.index.room());
+        room - self.living.len()
     }
 
     /// Makes room for `additional` more entities, so that `born` takes no memory for them. If there
@@ -136,14 +136,19 @@ impl Storage {
             return Ok(());
         }
         self.living.reserve(additional)?;
-        self.index.reserve(additional)?;
+        // With twice the room, the index drops handles that are gone half of its length at a time.
+        let twice = self.living.capacity().saturating_mul(2);
+        if self.index.reserve(twice).is_err() {
+            self.index.reserve(self.living.len() + additional)?;
+        }
         Ok(())
     }
 
     /// Adds an entity without components. With `spare` above 0 it takes no memory, and `spare` is
     /// then less by 1.
     ///
-    /// The time is that of a look-up, and of moving the later handles of the index up by one.
+    /// The time is that of a look-up, if the handle comes after all others, or if an entity of the
+    /// same slot has lived before. Else the later handles of the index move up by one.
     ///
     /// # Errors
     ///
@@ -166,7 +171,7 @@ impl Storage {
             return Err(StorageFault::Present);
         }
         self.reserve(1)?;
-        self.index.insert(handle, self.living.len());
+        self.index.put(&self.living, handle, self.living.len());
         let components = Components::new(self.alloc);
         self.living.push_reserved(LivingEntity {
             handle,
@@ -178,7 +183,7 @@ impl Storage {
 
     /// Takes the entity out. It takes no memory, and `spare` is then greater by 1.
     ///
-    /// The time is that of a look-up, and of moving the later handles of the index down by one.
+    /// The time is that of two look-ups. The index stays as it is, but for the entity that moves.
     ///
     /// # Errors
     ///
@@ -192,7 +197,7 @@ impl Storage {
         ensures only_absent { IfErr result (λ fault. fault ≡ StorageFault.Absent) }
         ensures err { OnErr result (self.new ≡ self.old) }
     {
-        let Some(place) = self.index.remove(handle) else {
+        let Some(place) = self.index.place(&self.living, handle) else {
             return Err(StorageFault::Absent);
         };
         let _ = self.living.swap_remove(place);
@@ -230,7 +235,7 @@ impl Storage {
         ensures never_present { ¬ (IsErrOf result StorageFault.Present) }
         ensures err { OnErr result (self.new ≡ self.old) }
     {
-        let Some(place) = self.index.place(handle) else {
+        let Some(place) = self.index.place(&self.living, handle) else {
             return Err(StorageFault::Absent);
         };
         let entity = &mut self.living[place];
@@ -255,7 +260,7 @@ impl Storage {
         ensures only_absent { IfErr result (λ fault. fault ≡ StorageFault.Absent) }
         ensures err { OnErr result (self.new ≡ self.old) }
     {
-        let Some(place) = self.index.place(handle) else {
+        let Some(place) = self.index.place(&self.living, handle) else {
             return Err(StorageFault::Absent);
         };
         let entity = &mut self.living[place];
@@ -292,7 +297,7 @@ impl Storage {
         ensures { option_map (λ entity. entity_of entity.now) result
             ≡ map.get self.now.entities handle }
     {
-        let place = self.index.place(handle)?;
+        let place = self.index.place(&self.living, handle)?;
         Some(&self.living[place])
     }
 }
