@@ -12,4 +12,4 @@ trap 'rm -rf "$out"' EXIT
 rustc -O --edition 2021 -o "$out/storage" "$here/main.rs" \
     -L "native=$crate/out" -l static=bench_storage \
     -L "native=$kit/c" -l static=libc_c
-"$out/storage"
+"$out/storage" "$@"
