@@ -7,6 +7,8 @@ pub type Handle = (u32, u32);
 
 /// An entity without its handle: the birth, and the components by number.
 pub struct Entity {
+    // Nothing reads it. It is here because an entity of `ent_storage` has one too.
+    #[allow(dead_code)]
     pub birth: (u64, u32, u32),
     pub components: Vec<(u8, i64)>,
 }
