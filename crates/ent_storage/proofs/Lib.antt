@@ -4,5 +4,6 @@ pub mod Indexed
 pub mod Keys
 pub mod Missing
 pub mod Overwritten
+pub mod Placed
 pub mod PlacesLemmas
 pub mod Rising

@@ -17,6 +17,10 @@ entity_of entity = record { birth = entity.birth; components = entity.components
 abbrev pub entities_of : List LivingEntity → EntityMap
 entities_of living = finite.from_entries (map (λ entity. (entity.handle, entity_of entity)) living)
 
+-- their handles, place by place
+abbrev pub handles_of : List LivingEntity → List Handle
+handles_of living = map (λ entity. entity.handle) living
+
 -- the index has the place of each entity of the list, and no other place
 pub record IsIndexed (living : List LivingEntity) (index : finite.FinMap handle_cmp ℕ)
     : Type 0 where

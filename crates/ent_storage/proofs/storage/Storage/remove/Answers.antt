@@ -4,6 +4,7 @@ use Rattle.ent_storage.specs.EntityMap.{Entity, Store, with_components}
 use Rattle.ent_storage.proofs.Indexed.{some_not_none, get_unplaced, get_read, entities_changed}
 use Rattle.ent_storage.specs.Indexed.{counted}
 use Rattle.ent_storage.proofs.Counted.{kept_changed}
+use Rattle.ent_storage.proofs.Placed.{handles_changed}
 use Rattle.ent_storage.proofs.storage.Storage.remove.Goals as goal
 
 -- the index has no place of the handle
@@ -33,3 +34,9 @@ returns-clause-absent c =
 pub invariant_of-self : goal.invariant_of-self
 invariant_of-self c =
     kept_changed c.self.inside.living.items c.self.inside.index.by_handle c.self.inside.index.room c.self.invariant c.args.handle c.in-Some.place (sym (rw c.deref.ensures.value at c.in-Some.ensures)) c.index_mut-entity.result.now c.index_mut-entity.ensures.value c.remove.new.self
+
+-- no handle is changed
+pub returns-clause-places : goal.returns-clause-places
+returns-clause-places c =
+    handles_changed c.self.inside.living.items c.in-Some.place c.index_mut-entity.result.now c.index_mut-entity.ensures.value c.remove.new.self
+    ∙ ap (λ (s : Store). s.places) c.self.view_is
