@@ -514,3 +514,41 @@ fn a_handle_comes_back(rt: HostRuntime) -> Result<(), Fail> {
     assert!(rt; storage.get(second, HEALTH) == Some(11));
     Ok(())
 }
+
+// The worked example again, by places: the last entity moves into the place of the first one.
+#[test]
+fn despawn_at_answers_who_has_moved(rt: HostRuntime) -> Result<(), Fail> {
+    let (first, second, third) = (handle(0)?, handle(1)?, handle(2)?);
+    let mut storage = Storage::new(rt.alloc());
+    let entities = [(first, 2, 10), (second, 1, 11), (third, 0, 12)];
+    assert_lives(&rt, &mut storage, &entities);
+    assert_places(&rt, &storage, &[(first, 0, 10), (second, 1, 11), (third, 2, 12)]);
+    assert_eq!(rt; despawn_at(&mut storage, first), Some((0, Some(third))));
+    assert_places(&rt, &storage, &[(third, 0, 12), (second, 1, 11)]);
+    assert_eq!(rt; storage.place(first), None);
+    assert_left(&rt, &mut storage, first, second, third);
+    assert_lists(&rt, &storage, &[third, second], &[])?;
+    assert_eq!(rt; despawn_at(&mut storage, second), Some((1, None)));
+    assert_places(&rt, &storage, &[(third, 0, 12)]);
+    Ok(())
+}
+
+// The place, and who has moved into it.
+fn despawn_at(storage: &mut Storage, entity: Handle) -> Option<(usize, Option<Handle>)> {
+    let place = storage.place(entity)?;
+    Some((place, storage.despawn_at(place, entity)))
+}
+
+fn get_at(storage: &Storage, entity: Handle, id: ComponentId) -> Option<i64> {
+    let place = storage.place(entity)?;
+    storage.get_at(place, entity, id)
+}
+
+fn assert_places(rt: &impl Abort, storage: &Storage, entities: &[(Handle, usize, i64)]) {
+    assert!(rt; storage.len() == entities.len());
+    for (entity, place, health) in entities {
+        assert!(rt; storage.place(*entity) == Some(*place));
+        assert!(rt; get_at(storage, *entity, HEALTH) == Some(*health));
+        assert!(rt; get_at(storage, *entity, MANA) == None);
+    }
+}
