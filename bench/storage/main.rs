@@ -94,10 +94,13 @@ fn main() {
     ];
     println!("| Storage | Order | Entities | `born` | again | `insert` | `get` | `despawn` | replaced |");
     println!("|---|---|---|---|---|---|---|---|---|");
-    let sizes: Vec<u32> = match std::env::args().nth(1) {
-        Some(size) => vec![size.parse().expect("a number of entities")],
-        None => vec![1_000, 10_000, 100_000, 1_000_000],
-    };
+    let mut sizes: Vec<u32> = std::env::args()
+        .skip(1)
+        .map(|size| size.parse().expect("a number of entities"))
+        .collect();
+    if sizes.is_empty() {
+        sizes = vec![1_000, 10_000, 100_000, 1_000_000];
+    }
     for work in &all {
         for (order, stride) in [("rising", 1), ("scattered", 7919)] {
             for entities in &sizes {
