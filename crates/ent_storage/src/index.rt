@@ -6,13 +6,14 @@ ghost use Rattle.ent_storage.specs.Indexed.{counted, HasAll, Keeps, has_handle_a
 ghost use Rattle.ent_storage.specs.Position.{IsGapFor};
 
 use super::living::{LivingEntity, has_handle_at};
-use super::sorted::search;
+use super::slot::search_slot;
 use ent_handle::Handle;
 use std::alloc::{AllocError, Global};
 use std::marker::Model;
 
 /// The place of each entity, and places of entities that are gone. The pairs are in the order of
-/// handles, so that a look-up is a binary search.
+/// handles, so that a look-up is a binary search at most. If each slot has one pair, as with an
+/// allocator's handles, the pair stands at the slot's number, where it is looked for first.
 ///
 /// A pair counts only if its place has the pair's handle. So to take an entity out, nothing is moved
 /// here. The pair of the slot's next occupant takes over the one before it, because it comes next
@@ -54,7 +55,7 @@ impl Index {
     pub fn place(&self, living: &[LivingEntity], handle: Handle) -> Option<usize>
         ensures { result ≡ map.get (counted living.now self.now.by_handle) handle }
     {
-        let Ok(position) = search(&self.pairs, handle) else {
+        let Ok(position) = search_slot(&self.pairs, handle) else {
             return None;
         };
         let place = self.pairs[position].1;
@@ -73,7 +74,7 @@ impl Index {
         ensures room { self.new.room ≡ self.old.room }
     {
         make_room(&mut self.pairs, living);
-        match search(&self.pairs, handle) {
+        match search_slot(&self.pairs, handle) {
             Ok(position) => self.pairs[position] = (handle, place),
             Err(position) => put_in_gap(&mut self.pairs, living, position, (handle, place)),
         }
@@ -85,7 +86,7 @@ impl Index {
         ensures { self.new
             ≡ record self.old { by_handle = map.insert self.old.by_handle handle place } }
     {
-        if let Ok(position) = search(&self.pairs, handle) {
+        if let Ok(position) = search_slot(&self.pairs, handle) {
             self.pairs[position] = (handle, place);
         }
     }
