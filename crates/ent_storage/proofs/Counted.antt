@@ -1,6 +1,6 @@
 -- The places of an index that count.
 use Rattle.std.proofs.Common.{◌≡◌, ◌≢◌, ℕ, zero, suc, ◌<◌, ◌≤◌, Bool, true, false, cond, T, ◌⊎◌, inl, inr}
-use Rattle.std.proofs.Common.{List, [], ◌∷◌, ◌+◌, map, ◌++◌, length, get_or, set, not, filter, Option, Some, None, is_some, Contains}
+use Rattle.std.proofs.Common.{List, [], ◌∷◌, ◌+◌, map, ◌++◌, length, get_or, set, filter, Option, Some, None, is_some, Contains}
 use Rattle.std.proofs.Common.{refl, sym, ap, subst, ◌∙◌, arith, eqb, eqb-true}
 use Rattle.std.specs.declared.cmp.Ordering.TheVariants.{Less, Equal, Greater}
 use Rattle.std.specs.Ordering.{is_eq}
@@ -207,10 +207,6 @@ module _ (living : List LivingEntity) (pairs : List (Handle × ℕ)) (rising : T
 
 -- ---- a pair is put over one that does not count, or into its gap
 
-turned : (b : Bool) → not b ≡ true → b ≡ false
-turned true e = sym e
-turned false e = refl
-
 module _ (living : List LivingEntity) (pairs : List (Handle × ℕ)) (rising : T (is_sorted handle_cmp pairs)) (k : Handle) (v : ℕ) (p : ℕ) where
   module _ (inside : p < length pairs) (below : AllWithin (λ e. handle_cmp e.0 k ≡ Less) pairs 0 p) (above : AllWithin (λ e. handle_cmp e.0 k ≡ Greater) pairs (p + 1) (length pairs)) where
     pub over_sorted : T (is_sorted handle_cmp (set pairs p (k, v)))
@@ -219,7 +215,7 @@ module _ (living : List LivingEntity) (pairs : List (Handle × ℕ)) (rising : T
     pub over_placed : finite.get (finite.from_sorted {R = handle_cmp} (set pairs p (k, v))) k ≡ Some v
     over_placed = finite.get-from_sorted handle_cmp _ k over_sorted ∙ find-set_same total same k v pairs p inside below
 
-    module _ (d : Handle × ℕ) (is_gone : not (counts living (get_or pairs p d)) ≡ true) where
+    module _ (d : Handle × ℕ) (is_gone : counts living (get_or pairs p d) ≡ false) where
       -- a handle that counts is not the one put over
       other_key : (q : Handle) (i : ℕ) → finite.get (finite.from_sorted {R = handle_cmp} pairs) q ≡ Some i → has_handle_at living q (Some i) ≡ true → (f : Handle × ℕ) → (get_or pairs p f).0 ≢ q
       other_key q i at is f e =
@@ -227,7 +223,7 @@ module _ (living : List LivingEntity) (pairs : List (Handle × ℕ)) (rising : T
           let found = get_at total same pairs rising q p f (record { in_range = inside; has_key = λ g. ap (λ (x : Handle × ℕ). handle_cmp x.0 q) (here g) ∙ ap (λ h. handle_cmp h q) e ∙ tied_itself total q }) in
           let places : Some i ≡ Some (get_or pairs p f).1 = sym at ∙ found in
           let counted_too : counts living (get_or pairs p f) ≡ true = ap (λ h. has_handle_at living h (Some (get_or pairs p f).1)) e ∙ ap (has_handle_at living q) (sym places) ∙ is in
-          false≢true (sym (turned (counts living (get_or pairs p d)) is_gone) ∙ ap (counts living) (here d) ∙ counted_too)
+          false≢true (sym is_gone ∙ ap (counts living) (here d) ∙ counted_too)
 
       pub over_kept : Keeps k (counted living (finite.from_sorted pairs)) (finite.from_sorted (set pairs p (k, v)))
       over_kept q i n at =

@@ -40,6 +40,12 @@ abbrev pub counted : List LivingEntity → finite.FinMap handle_cmp ℕ → fini
 counted living index =
     finite.retain_keys index (λ h. has_handle_at living h (finite.get index h))
 
+-- a pair stands at that position of an index, and it does not count
+pub record IsFree (living : List LivingEntity) (pairs : List (Handle × ℕ)) (position : ℕ)
+    : Type 0 where
+  pub inside : position < length pairs
+  pub gone : HoldsAt (λ pair. has_handle_at living pair.0 (Some pair.1) ≡ false) pairs position
+
 -- one index has each place that the other has
 abbrev pub HasAll : finite.FinMap handle_cmp ℕ → finite.FinMap handle_cmp ℕ → Type 0
 HasAll old new = (q : Handle) (i : ℕ) → finite.get old q ≡ Some i → finite.get new q ≡ Some i

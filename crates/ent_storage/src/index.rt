@@ -1,8 +1,8 @@
 ghost use Rattle.std.specs.Prelude.{◌≡◌, ◌<◌, ◌≤◌, T, OnOk, OnErr, IsOk, Some, IsSome, length};
-ghost use Rattle.std.specs.Prelude.{vec_len, vec_capacity, not};
+ghost use Rattle.std.specs.Prelude.{vec_len, vec_capacity, ◌+◌, IfSome, IsTrue};
 ghost use Rattle.std.specs.FinMap as map;
 ghost use Rattle.ent_handle.specs.Handle.{handle_cmp};
-ghost use Rattle.ent_storage.specs.Indexed.{counted, HasAll, Keeps, has_handle_at};
+ghost use Rattle.ent_storage.specs.Indexed.{counted, HasAll, Keeps, IsFree};
 ghost use Rattle.ent_storage.specs.Position.{IsGapFor};
 
 use super::living::{LivingEntity, has_handle_at};
@@ -137,8 +137,7 @@ fn sweep(pairs: &mut Vec<(Handle, usize)>, living: &[LivingEntity])
     pairs.retain(|pair| has_handle_at(living, pair.0, pair.1));
 }
 
-/// Puts a pair into the gap for it: over a pair beside the gap if that one doesn't count, else
-/// between the two.
+/// Puts a pair into the gap for it: over a pair beside the gap that doesn't count, or between the two.
 fn put_in_gap(
     pairs: &mut Vec<(Handle, usize)>,
     living: &[LivingEntity],
@@ -155,18 +154,49 @@ fn put_in_gap(
         (map.from_sorted pairs.new.items) }
     ensures capacity { vec_capacity pairs.new ≡ vec_capacity pairs.old }
 {
-    if position < pairs.len() && is_gone(living, pairs[position]) {
-        pairs[position] = pair;
-    } else if 0 < position && is_gone(living, pairs[position - 1]) {
-        pairs[position - 1] = pair;
-    } else {
-        let _ = pairs.insert(position, pair);
+    match taken_over(pairs, living, position, pair.0) {
+        Some(other) => pairs[other] = pair,
+        None => {
+            let _ = pairs.insert(position, pair);
+        }
     }
 }
 
-/// Whether the pair's entity is not at the pair's place.
-fn is_gone(living: &[LivingEntity], pair: (Handle, usize)) -> bool
-    ensures { result ≡ not (has_handle_at living.now pair.0 (Some pair.1)) }
+/// Where the pair stands that a new one takes over: beside the gap at the position, and it doesn't
+/// count.
+///
+/// The pair of the same slot comes first, so that the slots' pairs stay at their numbers. At the end
+/// a new pair moves nothing, so it takes over no other slot's.
+fn taken_over(
+    pairs: &[(Handle, usize)],
+    living: &[LivingEntity],
+    position: usize,
+    handle: Handle,
+) -> Option<usize>
+    ensures beside { IfSome result (λ other. (other ≤ position) × (position ≤ other + 1)) }
+    ensures free { IfSome result (λ other. IsFree living.now pairs.now other) }
 {
-    !has_handle_at(living, pair.0, pair.1)
+    let before = position.saturating_sub(1);
+    let free_before = is_free(pairs, living, before);
+    let free_after = is_free(pairs, living, position);
+    if free_before && pairs[before].0.index() == handle.index() {
+        return Some(before);
+    }
+    if free_after && pairs[position].0.index() == handle.index() {
+        return Some(position);
+    }
+    if position == pairs.len() {
+        return None;
+    }
+    if free_before {
+        return Some(before);
+    }
+    if free_after { Some(position) } else { None }
+}
+
+/// Whether a pair stands there that doesn't count.
+fn is_free(pairs: &[(Handle, usize)], living: &[LivingEntity], position: usize) -> bool
+    ensures { IsTrue result → IsFree living.now pairs.now position }
+{
+    position < pairs.len() && !has_handle_at(living, pairs[position].0, pairs[position].1)
 }
