@@ -80,10 +80,11 @@ fn row(work: &Work, order: &str, entities: u32, stride: u32) {
     let despawn = nanoseconds(entities, |n| (work.despawn)(n, stride)) - filled;
     let replaced = nanoseconds(entities, |n| (work.replace)(n, stride, ROUNDS));
     let replace = (replaced - filled) / f64::from(ROUNDS);
-    let name = work.name;
-    println!(
-        "| {name} | {order} | {entities} | {filled:.0} | {reborn:.0} | {insert:.0} | {get:.0} | {despawn:.0} | {replace:.0} |"
-    );
+    print!("| {} | {order} | {entities} |", work.name);
+    for time in [filled, reborn, insert, get, despawn, replace] {
+        print!(" {time:.0} |");
+    }
+    println!();
 }
 
 fn main() {
@@ -92,7 +93,9 @@ fn main() {
         of_plain::<Tree>("`BTreeMap`"),
         of_plain::<SparseSet>("sparse set"),
     ];
-    println!("| Storage | Order | Entities | `born` | again | `insert` | `get` | `despawn` | replaced |");
+    println!(
+        "| Storage | Order | Entities | `born` | again | `insert` | `get` | `despawn` | replaced |"
+    );
     println!("|---|---|---|---|---|---|---|---|---|");
     let mut sizes: Vec<u32> = std::env::args()
         .skip(1)

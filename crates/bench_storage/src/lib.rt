@@ -59,8 +59,8 @@ pub extern "C" fn storage_despawn(alloc: Global, entities: u32, stride: u32) -> 
     despawn_all(&mut storage, entities, stride)
 }
 
-/// Brings the entities to life in order, takes all out, and brings the next occupants of the slots to
-/// life.
+/// Brings the entities to life in order, takes all out, and brings the next occupants of the slots
+/// to life.
 #[unsafe(no_mangle)]
 pub extern "C" fn storage_reborn(alloc: Global, entities: u32, stride: u32) -> u32
     ensures { result ≤ entities }

@@ -1,6 +1,8 @@
 -- The places of an index that count.
-use Rattle.std.proofs.Common.{◌≡◌, ◌≢◌, ℕ, zero, suc, ◌<◌, ◌≤◌, Bool, true, false, cond, T, ◌⊎◌, inl, inr}
-use Rattle.std.proofs.Common.{List, [], ◌∷◌, ◌+◌, map, ◌++◌, length, get_or, set, filter, Option, Some, None, is_some, Contains}
+use Rattle.std.proofs.Common.{◌≡◌, ◌≢◌, ℕ, zero, suc, ◌<◌, ◌≤◌, Bool, true, false, cond, T, ◌⊎◌}
+use Rattle.std.proofs.Common.{inl, inr}
+use Rattle.std.proofs.Common.{List, [], ◌∷◌, ◌+◌, map, ◌++◌, length, get_or, set, filter, Option}
+use Rattle.std.proofs.Common.{Some, None, is_some, Contains}
 use Rattle.std.proofs.Common.{refl, sym, ap, subst, ◌∙◌, arith, eqb, eqb-true}
 use Rattle.std.specs.declared.cmp.Ordering.TheVariants.{Less, Equal, Greater}
 use Rattle.std.specs.Ordering.{is_eq}

@@ -1,6 +1,7 @@
 -- Pairs whose keys strictly rise, after one of them was overwritten or after a test dropped some.
 use Rattle.std.proofs.Common.{◌≡◌, ◌≢◌, ℕ, zero, suc, ◌<◌, Bool, true, false, cond, ◌&&◌, T}
-use Rattle.std.proofs.Common.{List, [], ◌∷◌, length, get_or, set, filter, ◌+◌, Option, Some, None, Ordering}
+use Rattle.std.proofs.Common.{List, [], ◌∷◌, length, get_or, set, filter, ◌+◌, Option, Some, None}
+use Rattle.std.proofs.Common.{Ordering}
 use Rattle.std.proofs.Common.{refl, sym, ap, subst, ◌∙◌, arith}
 use Rattle.std.specs.declared.cmp.Ordering.TheVariants.{Less, Equal, Greater}
 use Rattle.std.specs.Ordering.{is_lt, is_eq, eq_by_cmp}

@@ -52,7 +52,8 @@ HasAll old new = (q : Handle) (i : ℕ) → finite.get old q ≡ Some i → fini
 
 -- an index keeps the places of all handles but one
 abbrev pub Keeps : Handle → finite.FinMap handle_cmp ℕ → finite.FinMap handle_cmp ℕ → Type 0
-Keeps h old new = (q : Handle) (i : ℕ) → q ≢ h → finite.get old q ≡ Some i → finite.get new q ≡ Some i
+Keeps h old new =
+    (q : Handle) (i : ℕ) → q ≢ h → finite.get old q ≡ Some i → finite.get new q ≡ Some i
 
 -- the rows and their index: the places that count are those of the rows, and there is room for them
 pub record IsKept (living : List LivingEntity) (index : finite.FinMap handle_cmp ℕ) (room : ℕ)

@@ -15,9 +15,9 @@ use std::marker::Model;
 /// handles, so that a look-up is a binary search at most. If each slot has one pair, as with an
 /// allocator's handles, the pair stands at the slot's number, where it is looked for first.
 ///
-/// A pair counts only if its place has the pair's handle. So to take an entity out, nothing is moved
-/// here. The pair of the slot's next occupant takes over the one before it, because it comes next
-/// in the order.
+/// A pair counts only if its place has the pair's handle. So to take an entity out, nothing is
+/// moved here. The pair of the slot's next occupant takes over the one before it, because it comes
+/// next in the order.
 #[derive(Drop)]
 pub struct Index {
     pairs: Vec<(Handle, usize)>,
@@ -137,7 +137,8 @@ fn sweep(pairs: &mut Vec<(Handle, usize)>, living: &[LivingEntity])
     pairs.retain(|pair| has_handle_at(living, pair.0, pair.1));
 }
 
-/// Puts a pair into the gap for it: over a pair beside the gap that doesn't count, or between the two.
+/// Puts a pair into the gap for it: over a pair beside the gap that doesn't count, or between the
+/// two.
 fn put_in_gap(
     pairs: &mut Vec<(Handle, usize)>,
     living: &[LivingEntity],
@@ -165,8 +166,8 @@ fn put_in_gap(
 /// Where the pair stands that a new one takes over: beside the gap at the position, and it doesn't
 /// count.
 ///
-/// The pair of the same slot comes first, so that the slots' pairs stay at their numbers. At the end
-/// a new pair moves nothing, so it takes over no other slot's.
+/// The pair of the same slot comes first, so that the slots' pairs stay at their numbers. At the
+/// end a new pair moves nothing, so it takes over no other slot's.
 fn taken_over(
     pairs: &[(Handle, usize)],
     living: &[LivingEntity],

@@ -22,8 +22,9 @@ use std::marker::Model;
 
 /// The living entities: a finite map from handles to births and components.
 ///
-/// It also has a number, `spare`: for how many more entities there is room. It takes logarithmic
-/// time to look an entity up by its handle.
+/// It also has the handle at each place, and a number, `spare`: for how many more entities there is
+/// room. It takes constant time to look an entity up by its handle if the handles are those of an
+/// allocator, and else logarithmic time.
 #[derive(Drop)]
 pub struct Storage {
     living: Vec<LivingEntity>,

@@ -481,8 +481,8 @@ fn assert_occupied(rt: &impl Abort, storage: &Storage, generation: u32) -> Resul
     Ok(())
 }
 
-// Eight entities live at a time, each under a handle that was never there, in a scattered order. The
-// index is full of gone ones again and again. There is room, so nothing grows.
+// Eight entities live at a time, each under a handle that was never there, in a scattered order.
+// The index is full of gone ones again and again. There is room, so nothing grows.
 #[test]
 fn handles_of_other_making_need_no_more_room(rt: HostRuntime) -> Result<(), Fail> {
     let mut storage = Storage::new(rt.alloc());
