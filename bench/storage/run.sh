@@ -1,5 +1,6 @@
 #!/bin/sh
 # Builds the static library of crates/bench_storage and the driver, and prints the table of times.
+# Arguments are numbers of entities; without any it takes 1,000 to 1,000,000.
 # It needs `rt` and `rustc` on the path.
 set -eu
 here=$(cd "$(dirname "$0")" && pwd)
@@ -12,4 +13,4 @@ trap 'rm -rf "$out"' EXIT
 rustc -O --edition 2021 -o "$out/storage" "$here/main.rs" \
     -L "native=$crate/out" -l static=bench_storage \
     -L "native=$kit/c" -l static=libc_c
-"$out/storage"
+"$out/storage" "$@"

@@ -29,7 +29,7 @@ fn seconds(entities: u32, work: impl Fn(u32) -> u64) -> f64 {
 fn main() {
     println!("| Entities | Nanoseconds a command |");
     println!("|---|---|");
-    for entities in [1_000, 10_000, 100_000] {
+    for entities in [1_000, 10_000, 100_000, 1_000_000] {
         let without = seconds(entities, |n| unsafe { world_commands(n, ROUNDS) });
         let with = seconds(entities, |n| unsafe { world_apply(n, ROUNDS) });
         let nanoseconds = (with - without) * 1e9 / COMMANDS as f64;

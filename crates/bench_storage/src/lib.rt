@@ -13,6 +13,9 @@ use std::alloc::Global;
 
 const VALUE: ComponentId = ComponentId(0);
 
+/// After so many rounds of replacing, the generations begin again.
+const LAST_ROUND: u32 = 1024;
+
 /// Brings the entities to life.
 #[unsafe(no_mangle)]
 pub extern "C" fn storage_born(alloc: Global, entities: u32, stride: u32) -> u32
@@ -54,6 +57,70 @@ pub extern "C" fn storage_despawn(alloc: Global, entities: u32, stride: u32) -> 
     let mut storage = Storage::new(alloc);
     let _ = born_all(&mut storage, entities, 1);
     despawn_all(&mut storage, entities, stride)
+}
+
+/// Brings the entities to life in order, takes all out, and brings the next occupants of the slots
+/// to life.
+#[unsafe(no_mangle)]
+pub extern "C" fn storage_reborn(alloc: Global, entities: u32, stride: u32) -> u32
+    ensures { result ≤ entities }
+{
+    let mut storage = Storage::new(alloc);
+    let _ = born_all(&mut storage, entities, 1);
+    let _ = despawn_all(&mut storage, entities, 1);
+    reborn_all(&mut storage, entities, stride)
+}
+
+fn reborn_all(storage: &mut Storage, entities: u32, stride: u32) -> u32
+    ensures { result ≤ entities }
+{
+    let mut done = 0;
+    for i in 0..entities {
+        let birth = Birth {
+            frame: 0,
+            system: 0,
+            ordinal: i,
+        };
+        if storage.born(occupant(i, entities, stride, 2), birth).is_ok() {
+            done += 1;
+        }
+    }
+    done
+}
+
+/// Brings the entities to life in order. In every round it takes out the entities one by one, each
+/// followed at once by the next occupant of its slot.
+#[unsafe(no_mangle)]
+pub extern "C" fn storage_replace(alloc: Global, entities: u32, stride: u32, rounds: u32) -> u32
+    ensures { result ≤ entities }
+{
+    let mut storage = Storage::new(alloc);
+    let mut done = born_all(&mut storage, entities, 1);
+    for round in 0..rounds {
+        done = replace_all(&mut storage, entities, stride, round % LAST_ROUND + 1);
+    }
+    done
+}
+
+fn replace_all(storage: &mut Storage, entities: u32, stride: u32, generation: u32) -> u32
+    requires some { 0 < generation }
+    requires few { generation ≤ 1024 }
+    ensures { result ≤ entities }
+{
+    let mut done = 0;
+    for i in 0..entities {
+        let old = occupant(i, entities, stride, generation);
+        let new = occupant(i, entities, stride, generation + 1);
+        let birth = Birth {
+            frame: 0,
+            system: 0,
+            ordinal: i,
+        };
+        if storage.despawn(old).is_ok() && storage.born(new, birth).is_ok() {
+            done += 1;
+        }
+    }
+    done
 }
 
 fn born_all(storage: &mut Storage, entities: u32, stride: u32) -> u32
@@ -114,6 +181,15 @@ fn despawn_all(storage: &mut Storage, entities: u32, stride: u32) -> u32
 fn handle(i: u32, entities: u32, stride: u32) -> Handle
     requires { i < entities }
 {
+    occupant(i, entities, stride, 1)
+}
+
+/// The handle of that occupant of the i-th call's slot.
+fn occupant(i: u32, entities: u32, stride: u32, generation: u32) -> Handle
+    requires below { i < entities }
+    requires some { 0 < generation }
+    requires few { generation ≤ 1025 }
+{
     let index = u64::from(i) * u64::from(stride) % u64::from(entities);
-    Handle::new(index as u32, 1).unwrap()
+    Handle::new(index as u32, generation).unwrap()
 }

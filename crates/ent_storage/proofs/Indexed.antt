@@ -174,7 +174,7 @@ module _ (living : List LivingEntity) (index : FinMap handle_cmp ℕ) (indexed :
 
 -- ---- the components of one entity are replaced
 module _ (living : List LivingEntity) (index : FinMap handle_cmp ℕ) (indexed : IsIndexed living index) (h : Handle) (i : ℕ) (placed : finite.get index h ≡ Some i) (entity : LivingEntity) (read : entity ≡ get_or living i entity) where
-  read_handle : entity.handle ≡ h
+  pub read_handle : entity.handle ≡ h
   read_handle = ap (λ (r : LivingEntity). r.handle) read ∙ (indexed.each_place h i placed).1 entity
 
   pub get_read : finite.get (entities_of living) h ≡ Some (entity_of entity)

@@ -1,6 +1,9 @@
 pub mod ByBirth
+pub mod Counted
 pub mod Indexed
 pub mod Keys
 pub mod Missing
+pub mod Overwritten
+pub mod Placed
 pub mod PlacesLemmas
 pub mod Rising

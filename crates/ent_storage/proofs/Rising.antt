@@ -1,33 +1,35 @@
 -- Lists of pairs whose keys strictly rise: what a search finds, and what an edit at its position leaves.
-use Rattle.std.proofs.Common.{◌≡◌, ℕ, zero, suc, ◌+◌, ◌<◌, ◌≤◌, Bool, true, false, cond, not, ◌&&◌}
+use Rattle.std.proofs.Common.{◌≡◌, ℕ, zero, suc, ◌+◌, ◌-◌, ◌<◌, ◌≤◌, ◌⊎◌, inl, inr, Bool, true}
+use Rattle.std.proofs.Common.{false, cond, not, ◌&&◌}
 use Rattle.std.proofs.Common.{T, List, [], ◌∷◌, length, get_or, set, Some, None, Result, Ok, Err}
 use Rattle.std.proofs.Common.{IfOk, IfErr, Ordering, refl, sym, ap, subst, ◌∙◌, arith}
 use Rattle.std.specs.declared.cmp.Ordering.TheVariants.{Less, Equal, Greater}
 use Rattle.std.specs.Ordering.{is_lt, is_eq, eq_by_cmp, ordering_reverse, ordering_index}
 use Rattle.std.specs.Cmp.{IsTotalOrder, alike_right, eq_by_cmp_equiv}
-use Rattle.std.specs.List.{insert, remove, AllWithin}
+use Rattle.std.specs.List.{insert, remove, AllWithin, HoldsAt}
 use Rattle.std.specs.List.Sorted.{IsNonDecreasingBy, IsSearchInRange, IsBinarySearchResult}
 use Rattle.std.proofs.lemmas.List.Sorted.{searchable_from_sorted}
+use Rattle.std.proofs.lemmas.Bool.{cases_lt}
 use Rattle.std.specs.FinMap as map
 use Rattle.ent_storage.specs.Position.{IsAt, IsGapFor}
 use Rattle.std.specs.FinMap.{IsAntisymmetric, find, put, is_sorted}
 use Rattle.std.specs.FinMap.Entries.{below_all, where_key, by_order, is_sorted-put}
 use Rattle.std.specs.FinMap.Entries.{is_sorted-where_key, find-where_key}
 
-first : (a b : Bool) → T (a && b) → T a
+pub first : (a b : Bool) → T (a && b) → T a
 first true b h = tt
 first false b h = absurd h
 
-second : (a b : Bool) → T (a && b) → T b
+pub second : (a b : Bool) → T (a && b) → T b
 second true b h = h
 second false b h = absurd h
 
-less : (r : Ordering) → T (is_lt r) → r ≡ Less
+pub less : (r : Ordering) → T (is_lt r) → r ≡ Less
 less Less h = refl
 less Equal h = absurd h
 less Greater h = absurd h
 
-equal : (r : Ordering) → T (is_eq r) → r ≡ Equal
+pub equal : (r : Ordering) → T (is_eq r) → r ≡ Equal
 equal Less h = absurd h
 equal Equal h = refl
 equal Greater h = absurd h
@@ -36,7 +38,7 @@ turned : {A : Type 0} (b : Bool) (x y : A) → cond (not b) x y ≡ cond b y x
 turned true x y = refl
 turned false x y = refl
 
-turn : {K : Type 0} {R : K → K → Ordering} (o : IsTotalOrder R) (a b : K) (r : Ordering) → R a b ≡ r → R b a ≡ ordering_reverse r
+pub turn : {K : Type 0} {R : K → K → Ordering} (o : IsTotalOrder R) (a b : K) (r : Ordering) → R a b ≡ r → R b a ≡ ordering_reverse r
 turn o a b r e = o.antisymm b a ∙ ap ordering_reverse e
 
 module _ {K X : Type 0} {R : K → K → Ordering} (o : IsTotalOrder R) where
@@ -134,6 +136,25 @@ module _ {K X : Type 0} {R : K → K → Ordering} (o : IsTotalOrder R) where
   searched es k h (Err i) l parted =
       let parts = parted (searchable es k h) in
       record { found = tt; absent = record { in_range = l; smaller_before = parts.0; greater_after = parts.1 } }
+
+-- a key between two neighbours is between all pairs before and all after
+pub gap_from_neighbours : {K X : Type 0} {R : K → K → Ordering} (o : IsTotalOrder R) (es : List (K × X)) (k : K) (p : ℕ) → T (is_sorted R es) → p ≤ length es → ((j : ℕ) → j + 1 ≡ p → HoldsAt (λ e. R e.0 k ≡ Less) es j) → (p < length es → HoldsAt (λ e. R e.0 k ≡ Greater) es p) → IsGapFor R es k p
+gap_from_neighbours {K = K} {X = X} {R = R} o es k p rising l before after = record {
+  in_range = l;
+  smaller_before = λ j d low high. smaller j d high (cases_lt (j + 1) p);
+  greater_after = λ j d low high. greater j d low high (cases_lt p j);
+}
+  where
+    smaller : (j : ℕ) (d : K × X) → j < p → (j + 1 < p) ⊎ (p ≤ j + 1) → R (get_or es j d).0 k ≡ Less
+    smaller j d h (inl far) =
+        o.trans _ _ _ (rising_at o es j (p - 1) d rising (omega arith) (omega arith)) (before (p - 1) (omega arith) d)
+    smaller j d h (inr near) = before j (omega arith) d
+    greater : (j : ℕ) (d : K × X) → p ≤ j → j < length es → (p < j) ⊎ (j ≤ p) → R (get_or es j d).0 k ≡ Greater
+    greater j d h i (inl far) =
+        turn o k (get_or es j d).0 Less (o.trans _ _ _ (turn o (get_or es p d).0 k Greater (after (omega arith) d)) (rising_at o es p j d rising far i))
+    greater j d h i (inr near) =
+        let same : p ≡ j = omega arith in
+        ap (λ n. R (get_or es n d).0 k) (sym same) ∙ after (omega arith) d
 
 pub from_sorted-nil : {K X : Type 0} (R : K → K → Ordering) → map.from_sorted {X = X} {R = R} [] ≡ map.empty
 from_sorted-nil R = map.empty_of_len _ (map.len-entries _ ∙ ap length (map.entries-from_sorted R [] tt))

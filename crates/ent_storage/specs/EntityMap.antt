@@ -1,6 +1,6 @@
 -- The living entities: a finite map from handles to births and components.
-use Rattle.std.specs.Prelude.{ℕ, ℤ, Option, refl, option_and_then}
-use Rattle.std.specs.Coded.{Coded, code_by, coded×, coded_ℕ}
+use Rattle.std.specs.Prelude.{ℕ, ℤ, List, Option, refl, option_and_then}
+use Rattle.std.specs.Coded.{Coded, code_by, coded×, coded_list, coded_ℕ}
 use Rattle.std.specs.Option.{option_map, option_map_or}
 use Rattle.std.specs.FinMap as map
 use Rattle.ent_handle.specs.declared.birth.Birth.{Birth}
@@ -40,12 +40,14 @@ with_components m h change =
     option_map_or (λ e. map.insert m h (record e { components = change e.components }))
     (map.get m h) m
 
--- what contracts see of a storage: its entities, and for how many more it has room
+-- what contracts see of a storage: its entities, the handle at each place, and for how many more
+-- it has room
 pub record Store : Type 0 where
   pub entities : EntityMap
+  pub places : List Handle
   pub spare : ℕ
 
--- an entity is stored as the pair of its parts, and so is a store
+-- an entity is stored as the pair of its parts, and a store as the tuple of its parts
 abbrev pub entity_code : Coded Entity
 entity_code =
     code_by (Birth × Components) (coded× birth_code components_code)
@@ -53,5 +55,7 @@ entity_code =
 
 abbrev pub store_code : Coded Store
 store_code =
-    code_by (EntityMap × ℕ) (coded× (map.code handle_code entity_code) coded_ℕ)
-    (λ s. (s.entities, s.spare)) (λ p. record { entities = p.0; spare = p.1 }) (λ _. refl)
+    code_by (EntityMap × (List Handle × ℕ))
+    (coded× (map.code handle_code entity_code) (coded× (coded_list handle_code) coded_ℕ))
+    (λ s. (s.entities, (s.places, s.spare)))
+    (λ p. record { entities = p.0; places = p.1.0; spare = p.1.1 }) (λ _. refl)

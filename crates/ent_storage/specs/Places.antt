@@ -1,10 +1,10 @@
 -- The places of entities: where each of them stands in the vectors of a storage.
-use Rattle.std.specs.Prelude.{ℕ, refl}
+use Rattle.std.specs.Prelude.{◌≡◌, ◌≢◌, ℕ, ◌+◌, ◌-◌, ◌<◌, List, length, slice_get, refl}
 use Rattle.std.specs.Coded.{Coded, code_by, coded×, coded_ℕ}
 use Rattle.std.specs.FinMap as map
-use Rattle.ent_handle.specs.Handle.{handle_cmp, handle_code}
+use Rattle.ent_handle.specs.Handle.{Handle, handle_cmp, handle_code}
 
--- the place of each handle, and for how many more there is room
+-- the place of each handle, and for how many handles there is room in all
 pub record Places : Type 0 where
   pub by_handle : map.FinMap handle_cmp ℕ
   pub room : ℕ
@@ -14,3 +14,9 @@ abbrev pub places_code : Coded Places
 places_code =
     code_by (map.FinMap handle_cmp ℕ × ℕ) (coded× (map.code handle_code coded_ℕ) coded_ℕ)
     (λ p. (p.by_handle, p.room)) (λ p. record { by_handle = p.0; room = p.1 }) (λ _. refl)
+
+-- the handles at the places after one was taken out: the last one has moved into its place
+pub record AreWithout (place : ℕ) (old new : List Handle) : Type 0 where
+  pub one_less : length new + 1 ≡ length old
+  pub moved : place + 1 < length old → slice_get new place ≡ slice_get old (length old - 1)
+  pub others : (k : ℕ) → k ≢ place → k + 1 < length old → slice_get new k ≡ slice_get old k

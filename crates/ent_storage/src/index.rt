@@ -1,21 +1,30 @@
-ghost use Rattle.std.specs.Prelude.{◌≡◌, ◌+◌, ◌<◌, ◌≤◌, None, OnOk, OnErr, OnSome, IfNone, IsSome};
-ghost use Rattle.std.specs.Prelude.{IsOk};
+ghost use Rattle.std.specs.Prelude.{◌≡◌, ◌<◌, ◌≤◌, T, OnOk, OnErr, IsOk, Some, IsSome, length};
+ghost use Rattle.std.specs.Prelude.{vec_len, vec_capacity, ◌+◌, IfSome, IsTrue};
 ghost use Rattle.std.specs.FinMap as map;
+ghost use Rattle.ent_handle.specs.Handle.{handle_cmp};
+ghost use Rattle.ent_storage.specs.Indexed.{counted, HasAll, Keeps, IsFree};
+ghost use Rattle.ent_storage.specs.Position.{IsGapFor};
 
-use super::sorted::search;
+use super::living::{LivingEntity, has_handle_at};
+use super::slot::search_slot;
 use ent_handle::Handle;
 use std::alloc::{AllocError, Global};
 use std::marker::Model;
 
-/// The place of each entity. The pairs are in the order of handles, so that a look-up is a binary
-/// search.
+/// The place of each entity, and places of entities that are gone. The pairs are in the order of
+/// handles, so that a look-up is a binary search at most. If each slot has one pair, as with an
+/// allocator's handles, the pair stands at the slot's number, where it is looked for first.
+///
+/// A pair counts only if its place has the pair's handle. So to take an entity out, nothing is
+/// moved here. The pair of the slot's next occupant takes over the one before it, because it comes
+/// next in the order.
 #[derive(Drop)]
 pub struct Index {
     pairs: Vec<(Handle, usize)>,
 }
 
 impl Model for Index {
-    ghost use Rattle.std.specs.Prelude.{◌-◌, vec_len, vec_capacity, T};
+    ghost use Rattle.std.specs.Prelude.{vec_capacity, T};
     ghost use Rattle.std.specs.FinMap as map;
     ghost use Rattle.ent_handle.specs.Handle.{handle_cmp};
     ghost use Rattle.ent_storage.specs.Places.{Places, places_code};
@@ -26,7 +35,7 @@ impl Model for Index {
 
     ghost view = { λ a. record {
       by_handle = map.from_sorted a.pairs.items;
-      room = vec_capacity a.pairs - vec_len a.pairs;
+      room = vec_capacity a.pairs;
     } };
 
     ghost invariant = { λ a. T (map.is_sorted handle_cmp a.pairs.items) };
@@ -42,25 +51,32 @@ impl Index {
         }
     }
 
-    /// The place of the entity, if it is there.
-    pub fn place(&self, handle: Handle) -> Option<usize>
-        ensures { result ≡ map.get self.now.by_handle handle }
+    /// The place of the entity, if it is among the living.
+    pub fn place(&self, living: &[LivingEntity], handle: Handle) -> Option<usize>
+        ensures { result ≡ map.get (counted living.now self.now.by_handle) handle }
     {
-        match search(&self.pairs, handle) {
-            Ok(position) => Some(self.pairs[position].1),
-            Err(_) => None,
+        let Ok(position) = search_slot(&self.pairs, handle) else {
+            return None;
+        };
+        let place = self.pairs[position].1;
+        if has_handle_at(living, handle, place) {
+            Some(place)
+        } else {
+            None
         }
     }
 
-    /// Adds an entity that is not there. It takes the room of one.
-    pub fn insert(&mut self, handle: Handle, place: usize)
-        requires absent { map.get self.old.by_handle handle ≡ None }
-        requires room { 0 < self.old.room }
-        ensures by_handle { self.new.by_handle ≡ map.insert self.old.by_handle handle place }
-        ensures room { self.new.room + 1 ≡ self.old.room }
+    /// Writes down the place of an entity that the living don't have yet. It takes no memory.
+    pub fn put(&mut self, living: &[LivingEntity], handle: Handle, place: usize)
+        requires room { length living.now < self.old.room }
+        ensures placed { map.get self.new.by_handle handle ≡ Some place }
+        ensures kept { Keeps handle (counted living.now self.old.by_handle) self.new.by_handle }
+        ensures room { self.new.room ≡ self.old.room }
     {
-        if let Err(position) = search(&self.pairs, handle) {
-            let _ = self.pairs.insert(position, (handle, place));
+        make_room(&mut self.pairs, living);
+        match search_slot(&self.pairs, handle) {
+            Ok(position) => self.pairs[position] = (handle, place),
+            Err(position) => put_in_gap(&mut self.pairs, living, position, (handle, place)),
         }
     }
 
@@ -70,41 +86,118 @@ impl Index {
         ensures { self.new
             ≡ record self.old { by_handle = map.insert self.old.by_handle handle place } }
     {
-        if let Ok(position) = search(&self.pairs, handle) {
+        if let Ok(position) = search_slot(&self.pairs, handle) {
             self.pairs[position] = (handle, place);
         }
     }
 
-    /// Takes the entity out, and answers the place that it had.
-    pub fn remove(&mut self, handle: Handle) -> Option<usize>
-        ensures value { result ≡ map.get self.old.by_handle handle }
-        ensures found { OnSome result (self.new ≡ record {
-          by_handle = map.remove self.old.by_handle handle;
-          room = self.old.room + 1;
-        }) }
-        ensures absent { IfNone result (self.new ≡ self.old) }
-    {
-        match search(&self.pairs, handle) {
-            Ok(position) => Some(self.pairs.remove(position).1),
-            Err(_) => None,
-        }
-    }
-
-    /// For how many more entities there is room.
+    /// For how many handles there is room in all.
     pub fn room(&self) -> usize
         ensures { result ≡ self.now.room }
     {
-        self.pairs.capacity() - self.pairs.len()
+        self.pairs.capacity()
     }
 
-    /// Makes room for `additional` more entities. After an `Err` nothing is changed.
-    pub fn reserve(&mut self, additional: usize) -> Result<(), AllocError>
+    /// Makes room for `count` handles in all. After an `Err` nothing is changed.
+    pub fn reserve(&mut self, count: usize) -> Result<(), AllocError>
         ensures by_handle { self.new.by_handle ≡ self.old.by_handle }
-        ensures ok { OnOk result (additional ≤ self.new.room) }
+        ensures ok { OnOk result (count ≤ self.new.room) }
         ensures err { OnErr result (self.new.room ≡ self.old.room) }
         ensures grows { self.old.room ≤ self.new.room }
-        ensures succeeds { additional ≤ self.old.room → IsOk result }
+        ensures succeeds { count ≤ self.old.room → IsOk result }
     {
-        self.pairs.reserve(additional)
+        self.pairs.reserve(count.saturating_sub(self.pairs.len()))
     }
+}
+
+/// Makes room for one pair more. It takes no memory: if there is no room, some pairs don't count.
+fn make_room(pairs: &mut Vec<(Handle, usize)>, living: &[LivingEntity])
+    requires sorted { T (map.is_sorted handle_cmp pairs.old.items) }
+    requires room { length living.now < vec_capacity pairs.old }
+    ensures sorted { T (map.is_sorted handle_cmp pairs.new.items) }
+    ensures kept { HasAll (counted living.now (map.from_sorted pairs.old.items))
+        (counted living.now (map.from_sorted pairs.new.items)) }
+    ensures room { vec_len pairs.new < vec_capacity pairs.new }
+    ensures capacity { vec_capacity pairs.new ≡ vec_capacity pairs.old }
+{
+    if pairs.len() == pairs.capacity() {
+        sweep(pairs, living);
+    }
+}
+
+/// Drops the pairs that don't count. It takes no memory.
+fn sweep(pairs: &mut Vec<(Handle, usize)>, living: &[LivingEntity])
+    requires { T (map.is_sorted handle_cmp pairs.old.items) }
+    ensures sorted { T (map.is_sorted handle_cmp pairs.new.items) }
+    ensures counted { map.from_sorted pairs.new.items
+        ≡ counted living.now (map.from_sorted pairs.old.items) }
+    ensures len { vec_len pairs.new ≤ length living.now }
+    ensures capacity { vec_capacity pairs.new ≡ vec_capacity pairs.old }
+{
+    pairs.retain(|pair| has_handle_at(living, pair.0, pair.1));
+}
+
+/// Puts a pair into the gap for it: over a pair beside the gap that doesn't count, or between the
+/// two.
+fn put_in_gap(
+    pairs: &mut Vec<(Handle, usize)>,
+    living: &[LivingEntity],
+    position: usize,
+    pair: (Handle, usize),
+)
+    requires sorted { T (map.is_sorted handle_cmp pairs.old.items) }
+    requires gap { IsGapFor handle_cmp pairs.old.items pair.0 position }
+    requires room { vec_len pairs.old < vec_capacity pairs.old }
+    ensures sorted { T (map.is_sorted handle_cmp pairs.new.items) }
+    ensures placed { map.get (map.from_sorted {R = handle_cmp} pairs.new.items) pair.0
+        ≡ Some pair.1 }
+    ensures kept { Keeps pair.0 (counted living.now (map.from_sorted pairs.old.items))
+        (map.from_sorted pairs.new.items) }
+    ensures capacity { vec_capacity pairs.new ≡ vec_capacity pairs.old }
+{
+    match taken_over(pairs, living, position, pair.0) {
+        Some(other) => pairs[other] = pair,
+        None => {
+            let _ = pairs.insert(position, pair);
+        }
+    }
+}
+
+/// Where the pair stands that a new one takes over: beside the gap at the position, and it doesn't
+/// count.
+///
+/// The pair of the same slot comes first, so that the slots' pairs stay at their numbers. At the
+/// end a new pair moves nothing, so it takes over no other slot's.
+fn taken_over(
+    pairs: &[(Handle, usize)],
+    living: &[LivingEntity],
+    position: usize,
+    handle: Handle,
+) -> Option<usize>
+    ensures beside { IfSome result (λ other. (other ≤ position) × (position ≤ other + 1)) }
+    ensures free { IfSome result (λ other. IsFree living.now pairs.now other) }
+{
+    let before = position.saturating_sub(1);
+    let free_before = is_free(pairs, living, before);
+    let free_after = is_free(pairs, living, position);
+    if free_before && pairs[before].0.index() == handle.index() {
+        return Some(before);
+    }
+    if free_after && pairs[position].0.index() == handle.index() {
+        return Some(position);
+    }
+    if position == pairs.len() {
+        return None;
+    }
+    if free_before {
+        return Some(before);
+    }
+    if free_after { Some(position) } else { None }
+}
+
+/// Whether a pair stands there that doesn't count.
+fn is_free(pairs: &[(Handle, usize)], living: &[LivingEntity], position: usize) -> bool
+    ensures { IsTrue result → IsFree living.now pairs.now position }
+{
+    position < pairs.len() && !has_handle_at(living, pairs[position].0, pairs[position].1)
 }

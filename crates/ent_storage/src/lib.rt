@@ -10,6 +10,7 @@ mod index;
 mod items;
 mod living;
 mod order;
+mod slot;
 mod sorted;
 mod storage;
 

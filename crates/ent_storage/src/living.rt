@@ -1,5 +1,6 @@
-ghost use Rattle.std.specs.Prelude.{◌≡◌, IfOk, map, filter};
+ghost use Rattle.std.specs.Prelude.{◌≡◌, IfOk, Some, map, filter};
 ghost use Rattle.std.specs.FinMap as finite;
+ghost use Rattle.ent_storage.specs.Indexed.{has_handle_at};
 
 use super::components::Components;
 use ent_handle::{Birth, ComponentId, Handle};
@@ -11,6 +12,16 @@ pub struct LivingEntity {
     pub handle: Handle,
     pub birth: Birth,
     pub components: Components,
+}
+
+/// Whether the entity at the place has that handle.
+pub fn has_handle_at(living: &[LivingEntity], handle: Handle, place: usize) -> bool
+    ensures { result ≡ has_handle_at living.now handle (Some place) }
+{
+    match living.get(place) {
+        Some(entity) => entity.handle == handle,
+        None => false,
+    }
 }
 
 /// The birth and the handle of each entity.

@@ -1,5 +1,6 @@
 ghost use Rattle.std.specs.Prelude.{◌≡◌, ◌+◌, ◌≤◌, ◌<◌, ◌↔◌, IsTrue, IsErrOf, IfOk, IfSome, IfErr};
-ghost use Rattle.std.specs.Prelude.{OnOk, OnErr, IsOk, None};
+ghost use Rattle.std.specs.Prelude.{OnOk, OnErr, IsOk, None, Some, ℕ, [], ◌∷◌, ◌++◌, is_some};
+ghost use Rattle.std.specs.Prelude.{slice_get, SomeIndex};
 ghost use Rattle.std.specs.Option.{option_map};
 ghost use Rattle.std.specs.FinMap as map;
 ghost use Rattle.ent_storage.specs.Components.{with_items, missing};
@@ -7,6 +8,7 @@ ghost use Rattle.ent_storage.specs.EntityMap.{newborn, birth_of, components_of, 
 ghost use Rattle.ent_storage.specs.EntityMap.{with_components};
 ghost use Rattle.ent_storage.specs.BirthOrder.{ListsAll, ListsWith};
 ghost use Rattle.ent_storage.specs.Indexed.{entity_of};
+ghost use Rattle.ent_storage.specs.Places.{AreWithout};
 
 use super::components::Components;
 use super::fault::StorageFault;
@@ -20,8 +22,9 @@ use std::marker::Model;
 
 /// The living entities: a finite map from handles to births and components.
 ///
-/// It also has a number, `spare`: for how many more entities there is room. It takes logarithmic
-/// time to look an entity up by its handle.
+/// It also has the handle at each place, and a number, `spare`: for how many more entities there is
+/// room. It takes constant time to look an entity up by its handle if the handles are those of an
+/// allocator, and else logarithmic time.
 #[derive(Drop)]
 pub struct Storage {
     living: Vec<LivingEntity>,
@@ -37,14 +40,15 @@ impl Model for Storage {
 
     ghost coded = { store_code };
 
-    ghost use Rattle.ent_storage.specs.Indexed.{entities_of, IsIndexed};
+    ghost use Rattle.ent_storage.specs.Indexed.{entities_of, handles_of, IsKept};
 
     ghost view = { λ a. record {
       entities = entities_of a.living.items;
-      spare = min (vec_capacity a.living - vec_len a.living) a.index.room;
+      places = handles_of a.living.items;
+      spare = min (vec_capacity a.living) a.index.room - vec_len a.living;
     } };
 
-    ghost invariant = { λ a. IsIndexed a.living.items a.index.by_handle };
+    ghost invariant = { λ a. IsKept a.living.items a.index.by_handle a.index.room };
 }
 
 impl Storage {
@@ -52,6 +56,7 @@ impl Storage {
     pub fn new(alloc: Global) -> Self
         ensures entities { result.entities ≡ map.empty }
         ensures spare { result.spare ≡ 0 }
+        ensures places { result.places ≡ [] }
     {
         Storage {
             living: Vec::new(alloc),
@@ -104,6 +109,23 @@ impl Storage {
         Some(Items::new(entity.components.items()))
     }
 
+    /// The place of the entity, if it is there. It stays until an entity is taken out.
+    pub fn place(&self, handle: Handle) -> Option<usize>
+        ensures at { (i : ℕ) → (result ≡ Some i) ↔ (slice_get self.now.places i ≡ Some handle) }
+        ensures there { is_some result ≡ map.contains_key self.now.entities handle }
+    {
+        self.index.place(&self.living, handle)
+    }
+
+    /// The value of a component of the entity at a place, whose handle has to be this one. It takes
+    /// constant time, but for the search among the entity's own components.
+    pub fn get_at(&self, place: usize, handle: Handle, id: ComponentId) -> Option<i64>
+        requires { slice_get self.now.places place ≡ Some handle }
+        ensures { result ≡ value_of self.now.entities handle id }
+    {
+        self.living[place].components.get(id)
+    }
+
     /// For how many more entities there is room.
     ///
     /// `born` lowers it by 1, or makes more room if it is 0. `reserve` and `despawn` raise it.
@@ -111,8 +133,8 @@ impl Storage {
     pub fn spare(&self) -> usize
         ensures { result ≡ self.now.spare }
     {
-        let room = self.living.capacity() - self.living.len();
-        room.min(self.index.room())
+        let room = self.living.capacity().min(self.index.room());
+        room - self.living.len()
     }
 
     /// Makes room for `additional` more entities, so that `born` takes no memory for them. If there
@@ -125,6 +147,7 @@ impl Storage {
         ensures entities { self.new.entities ≡ self.old.entities }
         ensures ok { OnOk result (additional ≤ self.new.spare) }
         ensures grows { self.old.spare ≤ self.new.spare }
+        ensures places { self.new.places ≡ self.old.places }
 
         // With room for that many, the call succeeds and changes nothing.
         ensures succeeds { additional ≤ self.old.spare → IsOk result }
@@ -136,14 +159,19 @@ impl Storage {
             return Ok(());
         }
         self.living.reserve(additional)?;
-        self.index.reserve(additional)?;
+        // With twice the room, the index drops handles that are gone half of its length at a time.
+        let twice = self.living.capacity().saturating_mul(2);
+        if self.index.reserve(twice).is_err() {
+            self.index.reserve(self.living.len() + additional)?;
+        }
         Ok(())
     }
 
     /// Adds an entity without components. With `spare` above 0 it takes no memory, and `spare` is
     /// then less by 1.
     ///
-    /// The time is that of a look-up, and of moving the later handles of the index up by one.
+    /// The time is that of a look-up, if the handle comes after all others, or if an entity of the
+    /// same slot has lived before. Else the later handles of the index move up by one.
     ///
     /// # Errors
     ///
@@ -155,6 +183,7 @@ impl Storage {
         ensures ok { OnOk result
             (self.new.entities ≡ map.insert self.old.entities handle (newborn birth)) }
         ensures spare { OnOk result (0 < self.old.spare → self.new.spare + 1 ≡ self.old.spare) }
+        ensures places { OnOk result (self.new.places ≡ self.old.places ++ handle ∷ []) }
 
         ensures present { IsErrOf result StorageFault.Present
             ↔ IsTrue (map.contains_key self.old.entities handle) }
@@ -166,7 +195,7 @@ impl Storage {
             return Err(StorageFault::Present);
         }
         self.reserve(1)?;
-        self.index.insert(handle, self.living.len());
+        self.index.put(&self.living, handle, self.living.len());
         let components = Components::new(self.alloc);
         self.living.push_reserved(LivingEntity {
             handle,
@@ -178,7 +207,7 @@ impl Storage {
 
     /// Takes the entity out. It takes no memory, and `spare` is then greater by 1.
     ///
-    /// The time is that of a look-up, and of moving the later handles of the index down by one.
+    /// The time is that of two look-ups. The index stays as it is, but for the entity that moves.
     ///
     /// # Errors
     ///
@@ -186,20 +215,42 @@ impl Storage {
     pub fn despawn(&mut self, handle: Handle) -> Result<(), StorageFault>
         ensures ok { OnOk result (self.new.entities ≡ map.remove self.old.entities handle) }
         ensures spare { OnOk result (self.new.spare ≡ self.old.spare + 1) }
+        ensures places { OnOk result (SomeIndex self.old.places (λ place.
+            (slice_get self.old.places place ≡ Some handle)
+            × AreWithout place self.old.places self.new.places)) }
 
         ensures absent { IsErrOf result StorageFault.Absent
             ↔ (map.get self.old.entities handle ≡ None) }
         ensures only_absent { IfErr result (λ fault. fault ≡ StorageFault.Absent) }
         ensures err { OnErr result (self.new ≡ self.old) }
     {
-        let Some(place) = self.index.remove(handle) else {
+        let Some(place) = self.place(handle) else {
             return Err(StorageFault::Absent);
         };
+        let _ = self.despawn_at(place, handle);
+        Ok(())
+    }
+
+    /// Takes out the entity at a place, whose handle has to be this one, and answers the handle of
+    /// the entity that has moved into the place: the last one, or nobody if it was the last itself.
+    /// It takes no memory, and `spare` is then greater by 1.
+    ///
+    /// The time is that of a look-up, for the entity that moves.
+    pub fn despawn_at(&mut self, place: usize, handle: Handle) -> Option<Handle>
+        requires { slice_get self.old.places place ≡ Some handle }
+        ensures entities { self.new.entities ≡ map.remove self.old.entities handle }
+        ensures spare { self.new.spare ≡ self.old.spare + 1 }
+        ensures places { AreWithout place self.old.places self.new.places }
+        ensures moved { result ≡ slice_get self.new.places place }
+    {
         let _ = self.living.swap_remove(place);
         if place < self.living.len() {
-            self.index.set_place(self.living[place].handle, place);
+            let moved = self.living[place].handle;
+            self.index.set_place(moved, place);
+            Some(moved)
+        } else {
+            None
         }
-        Ok(())
     }
 
     /// Sets each of the components, and leaves the entity's others as they are. If a component
@@ -221,6 +272,7 @@ impl Storage {
         ensures ok { OnOk result (self.new.entities
             ≡ with_components self.old.entities handle (λ held. with_items held items.now)) }
         ensures spare { self.new.spare ≡ self.old.spare }
+        ensures places { self.new.places ≡ self.old.places }
 
         ensures absent { IsErrOf result StorageFault.Absent
             ↔ (map.get self.old.entities handle ≡ None) }
@@ -230,7 +282,7 @@ impl Storage {
         ensures never_present { ¬ (IsErrOf result StorageFault.Present) }
         ensures err { OnErr result (self.new ≡ self.old) }
     {
-        let Some(place) = self.index.place(handle) else {
+        let Some(place) = self.index.place(&self.living, handle) else {
             return Err(StorageFault::Absent);
         };
         let entity = &mut self.living[place];
@@ -249,13 +301,14 @@ impl Storage {
         ensures ok { OnOk result (self.new.entities
             ≡ with_components self.old.entities handle (λ held. map.remove held id)) }
         ensures spare { self.new.spare ≡ self.old.spare }
+        ensures places { self.new.places ≡ self.old.places }
 
         ensures absent { IsErrOf result StorageFault.Absent
             ↔ (map.get self.old.entities handle ≡ None) }
         ensures only_absent { IfErr result (λ fault. fault ≡ StorageFault.Absent) }
         ensures err { OnErr result (self.new ≡ self.old) }
     {
-        let Some(place) = self.index.place(handle) else {
+        let Some(place) = self.index.place(&self.living, handle) else {
             return Err(StorageFault::Absent);
         };
         let entity = &mut self.living[place];
@@ -292,7 +345,7 @@ impl Storage {
         ensures { option_map (λ entity. entity_of entity.now) result
             ≡ map.get self.now.entities handle }
     {
-        let place = self.index.place(handle)?;
+        let place = self.index.place(&self.living, handle)?;
         Some(&self.living[place])
     }
 }

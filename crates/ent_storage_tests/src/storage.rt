@@ -445,3 +445,111 @@ fn assert_taken_apart(rt: &impl Abort, storage: &mut Storage, entity: Handle) {
     assert!(rt; storage.despawn(entity) == Ok(()));
     assert_absent(rt, storage, entity);
 }
+
+fn occupant(index: u32, generation: u32) -> Result<Handle, Fail> {
+    Ok(Handle::new(index, generation).ok_or("no handle")?)
+}
+
+// Slots with one occupant after the other, as an allocator reuses them. Only the last one counts.
+#[test]
+fn occupants_of_a_slot_follow_each_other(rt: HostRuntime) -> Result<(), Fail> {
+    let mut storage = Storage::new(rt.alloc());
+    for generation in 1..50 {
+        for index in 0..20 {
+            let entity = occupant(index, generation)?;
+            assert!(rt; storage.born(entity, birth(generation)) == Ok(()));
+            assert!(rt; storage.insert(entity, &[(HEALTH, i64::from(index))]) == Ok(()));
+        }
+        assert_occupied(&rt, &storage, generation)?;
+        for index in (0..20).rev() {
+            assert!(rt; storage.despawn(occupant(index, generation)?) == Ok(()));
+        }
+    }
+    assert!(rt; storage.is_empty());
+    Ok(())
+}
+
+fn assert_occupied(rt: &impl Abort, storage: &Storage, generation: u32) -> Result<(), Fail> {
+    assert!(rt; storage.len() == 20);
+    for index in 0..20 {
+        assert!(rt; storage.get(occupant(index, generation)?, HEALTH) == Some(i64::from(index)));
+        assert!(rt; !storage.contains(occupant(index, generation.saturating_add(1))?));
+        if generation > 1 {
+            assert!(rt; !storage.contains(occupant(index, generation - 1)?));
+        }
+    }
+    Ok(())
+}
+
+// Eight entities live at a time, each under a handle that was never there, in a scattered order.
+// The index is full of gone ones again and again. There is room, so nothing grows.
+#[test]
+fn handles_of_other_making_need_no_more_room(rt: HostRuntime) -> Result<(), Fail> {
+    let mut storage = Storage::new(rt.alloc());
+    assert_reserves(&rt, &mut storage, 9);
+    let spare = storage.spare();
+    for number in 0..2000 {
+        assert!(rt; storage.born(entity(number)?, birth(0)) == Ok(()));
+        if number >= 8 {
+            assert!(rt; storage.despawn(entity(number - 8)?) == Ok(()));
+        }
+    }
+    assert!(rt; storage.len() == 8);
+    assert!(rt; spare.checked_sub(storage.spare()) == Some(8));
+    for number in 0..2000 {
+        assert!(rt; storage.contains(entity(number)?) == (number >= 1992));
+    }
+    Ok(())
+}
+
+// The same handle leaves and comes back: it has its new birth and none of its old components.
+#[test]
+fn a_handle_comes_back(rt: HostRuntime) -> Result<(), Fail> {
+    let (first, second) = (handle(4)?, handle(9)?);
+    let mut storage = Storage::new(rt.alloc());
+    assert_lives(&rt, &mut storage, &[(first, 2, 10), (second, 1, 11)]);
+    assert_eq!(rt; storage.despawn(first), Ok(()));
+    assert_eq!(rt; storage.born(first, birth(7)), Ok(()));
+    assert!(rt; storage.birth(first) == Some(birth(7)));
+    assert!(rt; storage.get(first, HEALTH) == None);
+    assert!(rt; storage.get(second, HEALTH) == Some(11));
+    Ok(())
+}
+
+// The worked example again, by places: the last entity moves into the place of the first one.
+#[test]
+fn despawn_at_answers_who_has_moved(rt: HostRuntime) -> Result<(), Fail> {
+    let (first, second, third) = (handle(0)?, handle(1)?, handle(2)?);
+    let mut storage = Storage::new(rt.alloc());
+    let entities = [(first, 2, 10), (second, 1, 11), (third, 0, 12)];
+    assert_lives(&rt, &mut storage, &entities);
+    assert_places(&rt, &storage, &[(first, 0, 10), (second, 1, 11), (third, 2, 12)]);
+    assert_eq!(rt; despawn_at(&mut storage, first), Some((0, Some(third))));
+    assert_places(&rt, &storage, &[(third, 0, 12), (second, 1, 11)]);
+    assert_eq!(rt; storage.place(first), None);
+    assert_left(&rt, &mut storage, first, second, third);
+    assert_lists(&rt, &storage, &[third, second], &[])?;
+    assert_eq!(rt; despawn_at(&mut storage, second), Some((1, None)));
+    assert_places(&rt, &storage, &[(third, 0, 12)]);
+    Ok(())
+}
+
+// The place, and who has moved into it.
+fn despawn_at(storage: &mut Storage, entity: Handle) -> Option<(usize, Option<Handle>)> {
+    let place = storage.place(entity)?;
+    Some((place, storage.despawn_at(place, entity)))
+}
+
+fn get_at(storage: &Storage, entity: Handle, id: ComponentId) -> Option<i64> {
+    let place = storage.place(entity)?;
+    storage.get_at(place, entity, id)
+}
+
+fn assert_places(rt: &impl Abort, storage: &Storage, entities: &[(Handle, usize, i64)]) {
+    assert!(rt; storage.len() == entities.len());
+    for (entity, place, health) in entities {
+        assert!(rt; storage.place(*entity) == Some(*place));
+        assert!(rt; get_at(storage, *entity, HEALTH) == Some(*health));
+        assert!(rt; get_at(storage, *entity, MANA) == None);
+    }
+}

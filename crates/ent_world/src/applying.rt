@@ -199,7 +199,8 @@ impl World {
         ensures err { OnErr result (applied self.new faults.new.items
             ≡ applied self.old faults.old.items) }
     {
-        if !self.storage.contains(handle) {
+        let alive = self.contains(handle);
+        if !alive {
             return add_fault(faults, system, command, FaultKind::NotAlive(handle));
         }
         if self.storage.insert(handle, items).is_err() {

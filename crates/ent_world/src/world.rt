@@ -18,7 +18,7 @@ use crate::births::{enter_listed, enter_others};
 use crate::fault::{SyncFault, SyncReport};
 use crate::open_world::OpenWorld;
 use crate::spawning::{make, next_handle};
-use ent_alloc::{AllocFault, Entities, FreeFault, Freed, Limits};
+use ent_alloc::{AllocFault, Entities, FreeFault, Freed, Limits, State};
 use ent_handle::{Birth, ComponentId, Handle, Memory};
 use ent_queue::{Bundle, CommandQueue};
 use ent_shared::{Reserver, share};
@@ -84,11 +84,14 @@ impl World {
         self.storage.is_empty()
     }
 
-    /// Whether the entity is alive.
+    /// Whether the entity is alive. It takes constant time.
     pub fn contains(&self, handle: Handle) -> bool
         ensures { result ≡ lives_in self.now handle }
     {
-        self.storage.contains(handle)
+        match self.entities.state(handle) {
+            State::Alive => true,
+            State::Reserved | State::Gone => false,
+        }
     }
 
     /// The value of the entity's component, if the entity is alive and has it.

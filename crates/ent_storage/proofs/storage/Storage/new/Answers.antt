@@ -1,5 +1,5 @@
-use Rattle.ent_storage.proofs.Indexed.{indexed_none}
+use Rattle.ent_storage.proofs.Counted.{kept_none}
 use Rattle.ent_storage.proofs.storage.Storage.new.Goals as goal
 
 pub invariant_of-result : goal.invariant_of-result
-invariant_of-result c = rw (c.new.ensures.items, c.new-2.ensures) indexed_none
+invariant_of-result c = rw c.new.ensures.items (kept_none _ _)

@@ -1,0 +1,59 @@
+ghost use Rattle.std.specs.Prelude.{◌≡◌, ◌+◌, ◌<◌, T, IsTrue, IfOk, IfErr, length, ℕ};
+ghost use Rattle.std.specs.declared.cmp.Ordering.TheVariants.{Less, Greater};
+ghost use Rattle.std.specs.FinMap.{is_sorted};
+ghost use Rattle.std.specs.List.{HoldsAt};
+ghost use Rattle.ent_handle.specs.Handle.{handle_cmp};
+ghost use Rattle.ent_storage.specs.Position.{IsAt, IsGapFor};
+
+use super::sorted::search;
+use ent_handle::Handle;
+
+/// The position of the handle, or the position where it would go. It is looked for at its slot's
+/// number first, and only then by a binary search.
+pub fn search_slot(pairs: &[(Handle, usize)], handle: Handle) -> Result<usize, usize>
+    requires { T (is_sorted handle_cmp pairs.now) }
+    ensures found { IfOk result (IsAt handle_cmp pairs.now handle) }
+    ensures absent { IfErr result (IsGapFor handle_cmp pairs.now handle) }
+{
+    let slot = handle.index() as usize;
+    if slot < pairs.len() && pairs[slot].0 == handle {
+        return Ok(slot);
+    }
+    if is_gap(pairs, slot, handle) {
+        return Err(slot);
+    }
+    if is_gap(pairs, slot + 1, handle) {
+        return Err(slot + 1);
+    }
+    search(pairs, handle)
+}
+
+/// Whether the handle would go to that position.
+fn is_gap(pairs: &[(Handle, usize)], position: usize, handle: Handle) -> bool
+    requires { T (is_sorted handle_cmp pairs.now) }
+    ensures { IsTrue result → IsGapFor handle_cmp pairs.now handle position }
+{
+    if position > pairs.len() {
+        return false;
+    }
+    is_after(pairs, position, handle) && is_before(pairs, position, handle)
+}
+
+/// Whether the handle comes after the pair before the position, if there is one.
+fn is_after(pairs: &[(Handle, usize)], position: usize, handle: Handle) -> bool
+    ensures { IsTrue result → (k : ℕ) → k + 1 ≡ position
+        → HoldsAt (λ pair. handle_cmp pair.0 handle ≡ Less) pairs.now k }
+{
+    match position.checked_sub(1) {
+        Some(before) => before < pairs.len() && pairs[before].0 < handle,
+        None => true,
+    }
+}
+
+/// Whether the handle comes before the pair at the position, if there is one.
+fn is_before(pairs: &[(Handle, usize)], position: usize, handle: Handle) -> bool
+    ensures { IsTrue result → position < length pairs.now
+        → HoldsAt (λ pair. handle_cmp pair.0 handle ≡ Greater) pairs.now position }
+{
+    position >= pairs.len() || handle < pairs[position].0
+}
