@@ -1,0 +1,5 @@
+pub mod Script
+pub mod Json
+pub mod Names
+pub mod Reading
+pub mod Refusal

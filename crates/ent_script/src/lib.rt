@@ -1,0 +1,22 @@
+//! Scripts of frames, systems and operations: their types, and how they are read from JSON.
+#![tactic(auto)]
+
+mod bundle;
+mod cause;
+mod frame;
+mod kind;
+mod operation;
+mod part_fault;
+mod read_fault;
+mod script;
+mod system;
+mod target;
+
+pub use bundle::Bundle;
+pub use cause::{Cause, ScriptCause};
+pub use frame::Frame;
+pub use operation::Operation;
+pub use read_fault::ReadFault;
+pub use script::Script;
+pub use system::System;
+pub use target::Target;
