@@ -3,3 +3,4 @@ pub mod Json
 pub mod Names
 pub mod Reading
 pub mod Refusal
+pub mod Places

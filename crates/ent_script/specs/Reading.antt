@@ -1,8 +1,9 @@
 -- What a JSON value means as a script, or the first test that it fails.
-use Rattle.std.specs.Prelude.{◌≡◌, ℕ, ℤ, ◌+◌, Bool, ◌&&◌, List, [], ◌∷◌, length, take, codes}
-use Rattle.std.specs.Prelude.{if◌then◌else◌, not, Option, Some, None, option_map, option_and_then}
+use Rattle.std.specs.Prelude.{◌≡◌, ℕ, ℤ, ◌+◌, Bool, false, ◌&&◌, List, [], ◌∷◌, length, take, codes}
+use Rattle.std.specs.Prelude.{if◌then◌else◌, Option, Some, None, option_map, option_and_then}
 use Rattle.std.specs.Prelude.{is_some, unwrap_or, ok_or, Result, Ok, Err, ⊤}
-use Rattle.std.specs.List.{fold}
+use Rattle.std.specs.Global.{Vec}
+use Rattle.std.specs.List.{fold, list_all}
 use Rattle.std.specs.Str.{bytes_eq}
 use Rattle.std.specs.BTreeMap.{insert_entry}
 use Rattle.serde_json.specs.Data.{Data}
@@ -79,11 +80,16 @@ items_of components (m ∷ ms) = do
 abbrev pub by_number : List (ComponentId × ℤ) → List (ComponentId × ℤ)
 by_number items = fold (λ bundle item. insert_entry component_cmp bundle item.0 item.1) [] items
 
+-- the bundle of an object's members
+abbrev pub bundle_by : List (List ℕ) → List (List ℕ × Data) → Result (List (ComponentId × ℤ)) Cause
+bundle_by components ms = do
+  items ← items_of components ms
+  Ok (by_number items)
+
 unfoldable pub bundle_of : List (List ℕ) → Option Data → Result (List (ComponentId × ℤ)) Cause
 bundle_of components part = do
   ms ← ok_or (option_and_then members part) cause.Bundle
-  items ← items_of components ms
-  Ok (by_number items)
+  bundle_by components ms
 
 -- an absent bundle is the empty one
 abbrev pub with_of : List (List ℕ) → Option Data → Result (List (ComponentId × ℤ)) Cause
@@ -130,24 +136,35 @@ target_of components bound part = do
 
 -- ---- operations
 
--- the value is an object with this key, and its other keys are among these
-unfoldable pub has_keys : List ℕ → List (List ℕ) → Data → Bool
-has_keys key others d =
-    is_some (get key d) && is_some (option_and_then
-    (λ ms. if keys_among (key ∷ others) ms then Some ms else None) (members d))
+-- an object that has these keys, and each of its keys is one of those
+unfoldable pub has_keys : List (List ℕ) → List (List ℕ) → Data → Bool
+has_keys required allowed d =
+    list_all (λ key. is_some (get key d)) required
+    && unwrap_or (option_map (keys_among allowed) (members d)) false
 
--- both keys are there, and no others
-abbrev pub has_both : List ℕ → List ℕ → Data → Bool
-has_both key other d = is_some (get other d) && has_keys key (other ∷ []) d
+unfoldable pub is_spawn : Data → Bool
+is_spawn d = has_keys (codes "spawn" ∷ []) (codes "spawn" ∷ codes "as" ∷ []) d
+
+unfoldable pub is_spawn_many : Data → Bool
+is_spawn_many d =
+    has_keys (codes "spawn_many" ∷ []) (codes "spawn_many" ∷ codes "with" ∷ codes "as" ∷ []) d
+
+unfoldable pub is_insert : Data → Bool
+is_insert d = has_keys (codes "insert" ∷ codes "on" ∷ []) (codes "insert" ∷ codes "on" ∷ []) d
+
+unfoldable pub is_remove : Data → Bool
+is_remove d = has_keys (codes "remove" ∷ codes "on" ∷ []) (codes "remove" ∷ codes "on" ∷ []) d
+
+unfoldable pub is_despawn : Data → Bool
+is_despawn d = has_keys (codes "despawn" ∷ []) (codes "despawn" ∷ []) d
 
 abbrev pub kind_of : Data → Option Kind
 kind_of d =
-    if has_keys (codes "spawn") (codes "as" ∷ []) d then Some kinds.Spawn
-    else (if has_keys (codes "spawn_many") (codes "with" ∷ codes "as" ∷ []) d
-    then Some kinds.SpawnMany
-    else (if has_both (codes "insert") (codes "on") d then Some kinds.Insert
-    else (if has_both (codes "remove") (codes "on") d then Some kinds.Remove
-    else (if has_keys (codes "despawn") [] d then Some kinds.Despawn
+    if is_spawn d then Some kinds.Spawn
+    else (if is_spawn_many d then Some kinds.SpawnMany
+    else (if is_insert d then Some kinds.Insert
+    else (if is_remove d then Some kinds.Remove
+    else (if is_despawn d then Some kinds.Despawn
     else None))))
 
 unfoldable pub of_kind : List (List ℕ) → List (List ℕ) → Data → Kind → Result Operation Cause
@@ -204,13 +221,15 @@ frame_of components number d = do
   ds ← ok_or (at_most 256 d) (fault.Frame number)
   numbered (system_of components number) 0 ds
 
+-- the name that a value is, if it is none of these
+abbrev pub new_name : List (List ℕ) → Data → Option (List ℕ)
+new_name names d =
+    option_and_then (λ name. if is_some (place_of name names) then None else Some name) (name_of d)
+
 -- an element is a name that no element before it is
 abbrev pub component_at : List Data → ℕ → Data → Result (List ℕ) ScriptCause
-component_at ds number d = do
-  name ← ok_or (name_of d) script_cause.Components
-  _ ← test (not (is_some (place_of name (names_in name_of (take number ds)))))
-    script_cause.Components
-  Ok name
+component_at ds number d =
+    ok_or (new_name (names_in name_of (take number ds)) d) script_cause.Components
 
 unfoldable pub components_of : Option Data → Result (List (List ℕ)) ScriptCause
 components_of part = do
@@ -222,14 +241,9 @@ script_keys =
     codes "format" ∷ codes "slots" ∷ codes "generations" ∷ codes "components"
     ∷ codes "frames" ∷ []
 
--- what stands beside the frames, tested before them: the limits, the components, and the values of the frames
-pub record Head : Type 0 where
-  pub limits : Limits
-  pub components : List (List ℕ)
-  pub frames : List Data
-
-unfoldable pub head_of : Data → Result Head ScriptCause
-head_of d = do
+-- the limits, and the tests of all that stands before them
+unfoldable pub limits_of : Data → Result Limits ScriptCause
+limits_of d = do
   ms ← ok_or (members d) script_cause.Top
   _ ← test (keys_among script_keys ms) script_cause.Key
   _ ← ok_or (or_absent 1 (whole_within 1 1) (get (codes "format") d)) script_cause.Format
@@ -238,13 +252,7 @@ head_of d = do
   generations ← ok_or
     (or_absent 2147483647 (whole_within 1 2147483647) (get (codes "generations") d))
     script_cause.Generations
-  components ← components_of (get (codes "components") d)
-  frames ← ok_or (option_and_then (at_most 1000) (get (codes "frames") d)) script_cause.Frames
-  Ok (record {
-    limits = record { slots = slots; generations = generations };
-    components = components;
-    frames = frames;
-  })
+  Ok (record { slots = slots; generations = generations })
 
 abbrev pub in_script : {A : Type 0} → Result A ScriptCause → Result A ReadFault
 in_script (Ok x) = Ok x
@@ -253,9 +261,12 @@ in_script (Err c) = Err (fault.Script c)
 -- the script that a value means, or the first test that it fails
 unfoldable pub script_of : Data → Result Script ReadFault
 script_of d = do
-  head ← in_script (head_of d)
-  frames ← numbered (frame_of head.components) 0 head.frames
-  Ok (record { limits = head.limits; components = head.components; frames = frames })
+  limits ← in_script (limits_of d)
+  components ← in_script (components_of (get (codes "components") d))
+  ds ← ok_or (option_and_then (at_most 1000) (get (codes "frames") d))
+    (fault.Script script_cause.Frames)
+  frames ← numbered (frame_of components) 0 ds
+  Ok (record { limits = limits; components = components; frames = frames })
 
 -- the script that bytes mean, or the first test that they fail
 abbrev pub script_of_text : List ℕ → Result Script ReadFault
@@ -273,3 +284,9 @@ abbrev pub ReadsAs : {A : Type 0} → Result A ReadFault → Result A ReadFault 
 ReadsAs (Ok x) read = read ≡ Ok x
 ReadsAs (Err fault.Memory) read = Unit {0}
 ReadsAs (Err e) read = read ≡ Err e
+
+-- the same of a list that lies in a vector
+abbrev pub ReadsList : {A : Type 0} → Result (Vec A) ReadFault → Result (List A) ReadFault → Type 0
+ReadsList (Ok xs) read = read ≡ Ok xs.items
+ReadsList (Err fault.Memory) read = Unit {0}
+ReadsList (Err e) read = read ≡ Err e

@@ -3,11 +3,16 @@
 
 mod bundle;
 mod cause;
+mod elements;
 mod frame;
+mod frames;
 mod kind;
+mod names;
 mod operation;
 mod part_fault;
+mod parts;
 mod read_fault;
+mod reading;
 mod script;
 mod system;
 mod target;

@@ -1,0 +1,6 @@
+pub mod Values
+pub mod NamesLaws
+pub mod Bundles
+pub mod Faults
+pub mod Keys
+pub mod Numbering
