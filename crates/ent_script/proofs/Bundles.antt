@@ -1,12 +1,12 @@
 -- Reading the members of a bundle one after another.
-use Rattle.std.proofs.Common.{◌≡◌, ℕ, ℤ, List, [], ◌∷◌, Result, Ok, Err, refl, sym, ap, ◌∙◌}
+use Rattle.std.proofs.Common.{◌≡◌, ℕ, ℤ, List, [], ◌∷◌, Result, Ok, Err, refl, ap, ◌∙◌}
 use Rattle.std.specs.List.{fold}
 use Rattle.std.specs.BTreeMap.{insert_entry}
 use Rattle.serde_json.specs.Data.{Data}
 use Rattle.ent_handle.specs.declared.component.ComponentId.{ComponentId}
 use Rattle.ent_handle.specs.Component.{component_cmp}
 use Rattle.ent_script.specs.declared.cause.Cause.{Cause}
-use Rattle.ent_script.specs.Reading.{◌>>=◌, item_of, items_of, bundle_by, by_number}
+use Rattle.ent_script.specs.Reading.{◌>>=◌, item_of, items_of, by_number}
 
 abbrev Bundle : Type 0
 Bundle = List (ComponentId × ℤ)

@@ -1,6 +1,6 @@
 -- The keys of an object, as they lie in memory.
-use Rattle.std.proofs.Common.{◌≡◌, ℕ, List, Bool, true, false, ◌&&◌, map, Bor, Option, Some, option_map}
-use Rattle.std.proofs.Common.{is_some, unwrap_or, refl, sym, ap, ◌∙◌}
+use Rattle.std.proofs.Common.{◌≡◌, ℕ, List, Bool, false, ◌&&◌, map, Bor, Option, Some, option_map}
+use Rattle.std.proofs.Common.{is_some, unwrap_or, sym, ap, ◌∙◌}
 use Rattle.std.specs.List.{list_all}
 use Rattle.std.proofs.lemmas.List.Folds.{list_all-map}
 use Rattle.serde_json.specs.Data.{Data}
@@ -18,4 +18,4 @@ both required allowed d ms all among whole is some =
     ap (λ (b : Bool). b && among) (whole ∙ sym (list_all-map (λ key. is_some (get key d)) (λ (key : Bor (List ℕ)). key.now) required))
     ∙ ap (λ (b : Bool). list_all (λ key. is_some (get key d)) (map (λ (key : Bor (List ℕ)). key.now) required) && b) some
     ∙ ap (λ (o : Option (List (List ℕ × Data))). list_all (λ key. is_some (get key d)) (map (λ (key : Bor (List ℕ)). key.now) required)
-        && unwrap_or (option_map (keys_among names) o) false) is
+    && unwrap_or (option_map (keys_among names) o) false) is

@@ -4,3 +4,4 @@ pub mod Bundles
 pub mod Faults
 pub mod Keys
 pub mod Numbering
+pub mod Texts

@@ -4,7 +4,7 @@ use Rattle.std.proofs.Common.{String, Vec, BTreeMap, Global, string_bytes, Bor, 
 use Rattle.serde_json.specs.Data.{Data, Items, Members}
 use Rattle.serde_json.specs.View.{view, items_view, members_view}
 use Rattle.serde_json.specs.declared.value.Value.{Value}
-use Rattle.std.proofs.Common.{Bool, bytes_eq, length}
+use Rattle.std.proofs.Common.{bytes_eq, length}
 use Rattle.std.proofs.lemmas.List.{length-map}
 use Rattle.std.specs.List.{list_all, list_any}
 use Rattle.std.proofs.Common.{arith, slice_get}

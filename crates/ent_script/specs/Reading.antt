@@ -4,7 +4,7 @@ use Rattle.std.specs.Prelude.{if◌then◌else◌, Option, Some, None, option_ma
 use Rattle.std.specs.Prelude.{is_some, unwrap_or, ok_or, Result, Ok, Err, ⊤}
 use Rattle.std.specs.Global.{Vec}
 use Rattle.std.specs.List.{fold, list_all}
-use Rattle.std.specs.Str.{bytes_eq}
+use Rattle.std.specs.Str.{bytes_eq, is_utf8}
 use Rattle.std.specs.BTreeMap.{insert_entry}
 use Rattle.serde_json.specs.Data.{Data}
 use Rattle.serde_json.specs.Find.{get, as_str}
@@ -13,7 +13,6 @@ use Rattle.ent_alloc.specs.Limits.{Limits}
 use Rattle.ent_handle.specs.declared.component.ComponentId.{ComponentId}
 use Rattle.ent_handle.specs.Component.{component_cmp}
 use Rattle.ent_handle.specs.Text.{handle_of}
-use Rattle.ent_handle.specs.declared.text.TextFault.{TextFault}
 use Rattle.ent_script.specs.Json.{at_most, members, keys_among, whole, whole_within}
 use Rattle.ent_script.specs.Names.{name_of, place_of, names_in}
 use Rattle.ent_script.specs.Script.{Script}
@@ -248,10 +247,10 @@ limits_of d = do
   _ ← test (keys_among script_keys ms) script_cause.Key
   _ ← ok_or (or_absent 1 (whole_within 1 1) (get (codes "format") d)) script_cause.Format
   slots ← ok_or (or_absent 4294967295 (whole_within 1 4294967295) (get (codes "slots") d))
-    script_cause.Slots
+      script_cause.Slots
   generations ← ok_or
-    (or_absent 2147483647 (whole_within 1 2147483647) (get (codes "generations") d))
-    script_cause.Generations
+      (or_absent 2147483647 (whole_within 1 2147483647) (get (codes "generations") d))
+      script_cause.Generations
   Ok (record { slots = slots; generations = generations })
 
 abbrev pub in_script : {A : Type 0} → Result A ScriptCause → Result A ReadFault
@@ -264,13 +263,17 @@ script_of d = do
   limits ← in_script (limits_of d)
   components ← in_script (components_of (get (codes "components") d))
   ds ← ok_or (option_and_then (at_most 1000) (get (codes "frames") d))
-    (fault.Script script_cause.Frames)
+      (fault.Script script_cause.Frames)
   frames ← numbered (frame_of components) 0 ds
   Ok (record { limits = limits; components = components; frames = frames })
 
+-- the value that bytes are read as
+abbrev pub json_of : List ℕ → Option Data
+json_of text = if is_utf8 text then read text else None
+
 -- the script that bytes mean, or the first test that they fail
 abbrev pub script_of_text : List ℕ → Result Script ReadFault
-script_of_text text = ok_or (read text) fault.Json >>= script_of
+script_of_text text = ok_or (json_of text) fault.Json >>= script_of
 
 -- ---- what the readers return
 

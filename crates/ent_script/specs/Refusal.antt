@@ -31,6 +31,10 @@ cause_text cause.Handle = codes "handle"
 abbrev pub place : ℕ → List ℕ
 place n = 32 ∷ decimal n
 
+-- where an operation stands, and what is wrong with it
+abbrev pub operation_place : ℕ → ℕ → ℕ → Cause → List ℕ
+operation_place f s o c = place f ++ place s ++ place o ++ 32 ∷ cause_text c
+
 -- want of memory has no text, since no line is written of it
 abbrev pub refusal_text : ReadFault → List ℕ
 refusal_text fault.Json = codes "refused json"
@@ -38,7 +42,7 @@ refusal_text (fault.Script c) = codes "refused script " ++ script_cause_text c
 refusal_text (fault.Frame f) = codes "refused frame" ++ place f
 refusal_text (fault.System f s) = codes "refused system" ++ place f ++ place s
 refusal_text (fault.Operation f s o c) =
-    codes "refused operation" ++ place f ++ place s ++ place o ++ 32 ∷ cause_text c
+    codes "refused operation" ++ operation_place f s o c
 refusal_text fault.Memory = []
 
 -- the text, and a line feed

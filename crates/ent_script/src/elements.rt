@@ -22,11 +22,7 @@ pub(crate) fn at_most(value: &Value, most: usize) -> Option<&Vec<Value>>
     ensures { option_map (λ list. map view list.now.items) result ≡ at_most most (view value.now) }
 {
     let list = elements(value)?;
-    if list.len() <= most {
-        Some(list)
-    } else {
-        None
-    }
+    if list.len() <= most { Some(list) } else { None }
 }
 
 /// The members of an object.
@@ -75,9 +71,5 @@ pub(crate) fn name(value: &Value) -> Option<&str>
     ensures { option_map (λ text. text.now) result ≡ name_of (view value.now) }
 {
     let text = value.as_str()?;
-    if is_name(text) {
-        Some(text)
-    } else {
-        None
-    }
+    if is_name(text) { Some(text) } else { None }
 }

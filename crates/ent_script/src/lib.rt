@@ -16,12 +16,15 @@ mod reading;
 mod script;
 mod system;
 mod target;
+mod writing;
 
 pub use bundle::Bundle;
 pub use cause::{Cause, ScriptCause};
 pub use frame::Frame;
 pub use operation::Operation;
 pub use read_fault::ReadFault;
+pub use reading::{read_script, script_of};
 pub use script::Script;
 pub use system::System;
 pub use target::Target;
+pub use writing::write_refusal;

@@ -20,9 +20,9 @@ impl Model for Script {
     ghost Value = { Script };
 
     ghost view = { λ s. record {
-        limits = s.limits;
-        components = map string_bytes s.components.items;
-        frames = s.frames.items;
+      limits = s.limits;
+      components = map string_bytes s.components.items;
+      frames = s.frames.items;
     } };
 }
 
@@ -30,9 +30,9 @@ impl Script {
     /// The script of these parts. It takes no memory.
     pub fn new(limits: Limits, components: Vec<String>, frames: Vec<Frame>) -> Self
         ensures { result ≡ record {
-            limits = limits;
-            components = map string_bytes components.items;
-            frames = frames.items;
+          limits = limits;
+          components = map string_bytes components.items;
+          frames = frames.items;
         } }
     {
         Script {

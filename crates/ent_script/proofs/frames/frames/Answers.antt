@@ -1,8 +1,7 @@
-use Rattle.std.proofs.Common.{◌≡◌, ◌+◌, ◌∙◌, ◌∷◌, ◌++◌, [], List, Result, Err, map, ap, sym, rules}
+use Rattle.std.proofs.Common.{◌≡◌, ◌+◌, ◌∙◌, List, Err, map, ap, rules}
 use Rattle.serde_json.specs.View.{view}
 use Rattle.ent_script.specs.declared.operation.Operation.{Operation}
-use Rattle.ent_script.specs.declared.read_fault.ReadFault.{ReadFault}
-use Rattle.ent_script.specs.Reading.{numbered, frame_of, ReadsAs}
+use Rattle.ent_script.specs.Reading.{numbered, frame_of}
 use Rattle.ent_script.proofs.Faults.{passes_to_list}
 use Rattle.ent_script.proofs.Numbering.{goes_on, stops, onto, from}
 use Rattle.ent_script.proofs.frames.frames.Goals as goal
@@ -14,7 +13,7 @@ loop-number-preserved c =
     let i = c.loop-number.number in
     ap (λ (done : List (List (List Operation))). onto done (numbered f (i + 1) (from vs (i + 1)))) c.in_ok-push.ensures.items
     ∙ goes_on f vs i c.index-values-number.result c.loop-number.frames.items c.in_ok-frame.field-0
-        (numbered f 0 (map view vs)) c.loop-number-test.true c.index-values-number.is c.in_ok-frame.ensures c.loop-number.invariant
+    (numbered f 0 (map view vs)) c.loop-number-test.true c.index-values-number.is c.in_ok-frame.ensures c.loop-number.invariant
 
 pub returns-in_err-frame : goal.returns-in_err-frame
 returns-in_err-frame c =

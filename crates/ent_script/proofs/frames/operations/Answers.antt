@@ -1,9 +1,8 @@
-use Rattle.std.proofs.Common.{◌≡◌, ◌+◌, ◌∙◌, ◌∷◌, ◌++◌, [], ℕ, List, Result, Err, map, ap, sym, subst, rules}
+use Rattle.std.proofs.Common.{◌≡◌, ◌+◌, ◌∙◌, ℕ, List, Err, map, ap, sym, rules}
 use Rattle.serde_json.specs.View.{view}
 use Rattle.ent_script.specs.declared.operation.Operation.{Operation}
-use Rattle.ent_script.specs.declared.read_fault.ReadFault.{ReadFault}
-use Rattle.ent_script.specs.Names.{with_part, names_in}
-use Rattle.ent_script.specs.Reading.{numbered, operation_at, at_operation, operation_of, bound_name, ReadsAs}
+use Rattle.ent_script.specs.Names.{with_part}
+use Rattle.ent_script.specs.Reading.{numbered, operation_at, at_operation, operation_of, bound_name}
 use Rattle.ent_script.proofs.Faults.{passes_on, returned}
 use Rattle.ent_script.proofs.Numbering.{goes_on, stops, onto, from, names_on}
 use Rattle.ent_script.proofs.frames.operations.Goals as goal
@@ -22,7 +21,7 @@ loop-number-preserved c =
           ∙ sym (names_on bound_name vs i v c.loop-number-test.true c.index-values-number.is);
       rest = ap (λ (done : List Operation). onto done (numbered f (i + 1) (from vs (i + 1)))) c.in_ok-push.ensures.items
           ∙ goes_on f vs i v c.loop-number.operations.items c.in_ok-operation.operation
-              (numbered f 0 (map view vs)) c.loop-number-test.true c.index-values-number.is means c.loop-number.invariant.rest;
+          (numbered f 0 (map view vs)) c.loop-number-test.true c.index-values-number.is means c.loop-number.invariant.rest;
     }
 
 pub returns-in_err-operation : goal.returns-in_err-operation

@@ -9,5 +9,5 @@ invariant-loop-key l = record {
   can : (goal.iterator-loop-key).can_next l.key-iterator;
   finite : (goal.iterator-loop-key).is_finite l.key-iterator;
   rest : onto l.bundle (items_of l.components (map pair_view l.key-iterator))
-    ≡ bundle_by l.components (map pair_view l.members.entries);
+      ≡ bundle_by l.components (map pair_view l.members.entries);
 }

@@ -1,5 +1,4 @@
 use Rattle.std.proofs.Common.{◌∙◌, ap, sym, List, ℕ, Some}
-use Rattle.serde_json.specs.Data.{Data}
 use Rattle.serde_json.specs.View.{view}
 use Rattle.ent_script.proofs.Values.{only_member}
 use Rattle.ent_script.proofs.parts.only.Goals as goal

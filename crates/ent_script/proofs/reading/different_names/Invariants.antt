@@ -10,5 +10,5 @@ invariant-loop-value l = record {
   few : length l.names ≤ l.value-index;
   names : l.names ≡ names_in name_of (until l.values l.value-index);
   rest : onto l.names (numbered (component_at (map view l.values)) l.value-index (from l.values l.value-index))
-    ≡ numbered (component_at (map view l.values)) 0 (map view l.values);
+      ≡ numbered (component_at (map view l.values)) 0 (map view l.values);
 }
