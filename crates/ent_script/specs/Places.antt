@@ -9,4 +9,5 @@ use Rattle.ent_script.specs.Names.{place_of}
 -- the map has the place of each name
 abbrev pub HavePlaces : List (Bor (List ℕ)) → BTreeMap (Bor (List ℕ)) ℕ → Type 0
 HavePlaces names places = (text : List ℕ)
-    → get_by (λ k. slice_cmp nat_cmp text k.now) places ≡ place_of text (map (λ name. name.now) names)
+    → get_by (λ k. slice_cmp nat_cmp text k.now) places
+    ≡ place_of text (map (λ name. name.now) names)

@@ -115,7 +115,8 @@ only (x ∷ []) = Some x
 only _ = None
 
 abbrev pub target_handle : List ℕ → Result Target Cause
-target_handle text = elim (handle_of text) [ Ok h ↦ Ok (target.Handle h) | Err e ↦ Err cause.Handle ]
+target_handle text =
+    elim (handle_of text) [ Ok h ↦ Ok (target.Handle h) | Err e ↦ Err cause.Handle ]
 
 -- the target of a key and the string under it
 unfoldable pub target_at : List (List ℕ) → List (List ℕ) → List ℕ → List ℕ → Result Target Cause

@@ -24,7 +24,7 @@ impl Model for Bundle {
 
 impl Bundle {
     /// A bundle with no components. It takes no memory.
-    pub fn new(alloc: Global) -> Self
+    pub(crate) fn new(alloc: Global) -> Self
         ensures { result ≡ [] }
     {
         Bundle {
@@ -37,7 +37,7 @@ impl Bundle {
     /// # Errors
     ///
     /// `Memory`: nothing has changed.
-    pub fn put(&mut self, id: ComponentId, value: i64) -> Result<(), Memory>
+    pub(crate) fn put(&mut self, id: ComponentId, value: i64) -> Result<(), Memory>
         ensures ok { OnOk result (self.new ≡ insert_entry component_cmp self.old id value) }
         ensures err { OnErr result (self.new ≡ self.old) }
     {

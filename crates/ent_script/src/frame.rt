@@ -20,7 +20,7 @@ impl Model for Frame {
 
 impl Frame {
     /// The frame of these systems. It takes no memory.
-    pub fn new(systems: Vec<System>) -> Self
+    pub(crate) fn new(systems: Vec<System>) -> Self
         ensures { result ≡ systems.items }
     {
         Frame { systems }

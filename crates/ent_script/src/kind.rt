@@ -27,8 +27,8 @@ fn has_all(value: &Value, keys: &[&str]) -> bool
 /// Whether it is an object that has these keys, and each of its keys is one of those.
 #[tactic(auto, unfolding(crate::specs::Reading::has_keys))]
 fn has_keys(value: &Value, required: &[&str], allowed: &[&str]) -> bool
-    ensures { result ≡ has_keys (map (λ key. key.now) required.now) (map (λ key. key.now) allowed.now)
-        (view value.now) }
+    ensures { result ≡ has_keys (map (λ key. key.now) required.now)
+        (map (λ key. key.now) allowed.now) (view value.now) }
 {
     let Some(found) = members(value) else {
         return false;

@@ -1,8 +1,9 @@
 ghost use Rattle.std.specs.Prelude.{◌≡◌, ℕ, ◌≤◌, List, length, map, option_map, string_bytes};
 ghost use Rattle.serde_json.specs.Data.{Data};
 ghost use Rattle.serde_json.specs.View.{view};
-ghost use Rattle.ent_script.specs.Reading.{component_of, item_of, bundle_by, bundle_of, with_of, only};
-ghost use Rattle.ent_script.specs.Reading.{removed_of, target_at, target_of, count_of, binding_of, ReadsPart};
+ghost use Rattle.ent_script.specs.Reading.{component_of, item_of, bundle_by, bundle_of, with_of};
+ghost use Rattle.ent_script.specs.Reading.{removed_of, target_at, target_of, count_of};
+ghost use Rattle.ent_script.specs.Reading.{binding_of, only, ReadsPart};
 
 use crate::bundle::Bundle;
 use crate::cause::Cause;

@@ -28,7 +28,7 @@ impl Model for Script {
 
 impl Script {
     /// The script of these parts. It takes no memory.
-    pub fn new(limits: Limits, components: Vec<String>, frames: Vec<Frame>) -> Self
+    pub(crate) fn new(limits: Limits, components: Vec<String>, frames: Vec<Frame>) -> Self
         ensures { result ≡ record {
           limits = limits;
           components = map string_bytes components.items;

@@ -20,7 +20,7 @@ impl Model for System {
 
 impl System {
     /// The system of these operations. It takes no memory.
-    pub fn new(operations: Vec<Operation>) -> Self
+    pub(crate) fn new(operations: Vec<Operation>) -> Self
         ensures { result ≡ operations.items }
     {
         System { operations }

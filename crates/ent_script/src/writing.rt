@@ -41,7 +41,8 @@ fn append_system(out: &mut Vec<u8>, frame: usize, system: usize) -> Result<(), M
 }
 
 fn append_cause(out: &mut Vec<u8>, operation: usize, cause: Cause) -> Result<(), Memory>
-    ensures ok { OnOk result (out.new.items ≡ out.old.items ++ place operation ++ 32 ∷ cause_text cause) }
+    ensures ok { OnOk result (out.new.items
+        ≡ out.old.items ++ place operation ++ 32 ∷ cause_text cause) }
     ensures kept { OnErr result (take (vec_len out.old) out.new.items ≡ out.old.items) }
     ensures full { OnErr result (vec_capacity out.old
         < vec_len out.old + length (place operation ++ 32 ∷ cause_text cause)) }
@@ -58,7 +59,8 @@ fn append_operation(
     place: (usize, usize, usize),
     cause: Cause,
 ) -> Result<(), Memory>
-    ensures ok { OnOk result (out.new.items ≡ out.old.items ++ operation_place place.0 place.1 place.2 cause) }
+    ensures ok { OnOk result (out.new.items
+        ≡ out.old.items ++ operation_place place.0 place.1 place.2 cause) }
     ensures kept { OnErr result (take (vec_len out.old) out.new.items ≡ out.old.items) }
     ensures full { OnErr result (vec_capacity out.old
         < vec_len out.old + length (operation_place place.0 place.1 place.2 cause)) }
@@ -69,7 +71,8 @@ fn append_operation(
 }
 
 fn append_script_text(out: &mut Vec<u8>, cause: ScriptCause) -> Result<(), Memory>
-    ensures ok { OnOk result (out.new.items ≡ out.old.items ++ codes "refused script " ++ script_cause_text cause) }
+    ensures ok { OnOk result (out.new.items
+        ≡ out.old.items ++ codes "refused script " ++ script_cause_text cause) }
     ensures kept { OnErr result (take (vec_len out.old) out.new.items ≡ out.old.items) }
     ensures full { OnErr result (vec_capacity out.old
         < vec_len out.old + length (codes "refused script " ++ script_cause_text cause)) }
@@ -80,7 +83,8 @@ fn append_script_text(out: &mut Vec<u8>, cause: ScriptCause) -> Result<(), Memor
 }
 
 fn append_frame_text(out: &mut Vec<u8>, frame: usize) -> Result<(), Memory>
-    ensures ok { OnOk result (out.new.items ≡ out.old.items ++ codes "refused frame" ++ place frame) }
+    ensures ok { OnOk result (out.new.items
+        ≡ out.old.items ++ codes "refused frame" ++ place frame) }
     ensures kept { OnErr result (take (vec_len out.old) out.new.items ≡ out.old.items) }
     ensures full { OnErr result (vec_capacity out.old
         < vec_len out.old + length (codes "refused frame" ++ place frame)) }
@@ -91,7 +95,8 @@ fn append_frame_text(out: &mut Vec<u8>, frame: usize) -> Result<(), Memory>
 }
 
 fn append_system_text(out: &mut Vec<u8>, frame: usize, system: usize) -> Result<(), Memory>
-    ensures ok { OnOk result (out.new.items ≡ out.old.items ++ codes "refused system" ++ place frame ++ place system) }
+    ensures ok { OnOk result (out.new.items
+        ≡ out.old.items ++ codes "refused system" ++ place frame ++ place system) }
     ensures kept { OnErr result (take (vec_len out.old) out.new.items ≡ out.old.items) }
     ensures full { OnErr result (vec_capacity out.old
         < vec_len out.old + length (codes "refused system" ++ place frame ++ place system)) }
@@ -106,10 +111,13 @@ fn append_operation_text(
     place: (usize, usize, usize),
     cause: Cause,
 ) -> Result<(), Memory>
-    ensures ok { OnOk result (out.new.items ≡ out.old.items ++ codes "refused operation" ++ operation_place place.0 place.1 place.2 cause) }
+    ensures ok { OnOk result (out.new.items
+        ≡ out.old.items ++ codes "refused operation"
+        ++ operation_place place.0 place.1 place.2 cause) }
     ensures kept { OnErr result (take (vec_len out.old) out.new.items ≡ out.old.items) }
     ensures full { OnErr result (vec_capacity out.old
-        < vec_len out.old + length (codes "refused operation" ++ operation_place place.0 place.1 place.2 cause)) }
+        < vec_len out.old
+        + length (codes "refused operation" ++ operation_place place.0 place.1 place.2 cause)) }
     ensures capacity { vec_capacity out.old ≤ vec_capacity out.new }
 {
     append(out, b"refused operation")?;
