@@ -5,3 +5,4 @@ pub mod Faults
 pub mod Keys
 pub mod Numbering
 pub mod Texts
+pub mod Ranges

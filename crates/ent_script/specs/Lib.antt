@@ -4,3 +4,4 @@ pub mod Names
 pub mod Reading
 pub mod Refusal
 pub mod Places
+pub mod Ranges

@@ -1,5 +1,5 @@
 ghost use Rattle.std.specs.Prelude.{◌≡◌, [], OnOk, OnErr};
-ghost use Rattle.std.specs.BTreeMap.{insert_entry};
+ghost use Rattle.std.specs.BTreeMap.{insert_entry, IsOrdered};
 ghost use Rattle.ent_handle.specs.Component.{component_cmp};
 
 use ent_handle::{ComponentId, Memory};
@@ -19,7 +19,12 @@ impl Model for Bundle {
 
     ghost Value = { List (ComponentId × ℤ) };
 
+    ghost use Rattle.std.specs.BTreeMap.{IsOrdered};
+    ghost use Rattle.ent_handle.specs.Component.{component_cmp};
+
     ghost view = { λ b. b.values.entries };
+
+    ghost invariant = { λ b. IsOrdered component_cmp b.values };
 }
 
 impl Bundle {
@@ -47,7 +52,8 @@ impl Bundle {
 
     /// The components and their values, by strictly rising number.
     pub fn values(&self) -> &BTreeMap<ComponentId, i64>
-        ensures { result.now.entries ≡ self.now }
+        ensures entries { result.now.entries ≡ self.now }
+        ensures rising { IsOrdered component_cmp result.now }
     {
         &self.values
     }

@@ -3,6 +3,7 @@ ghost use Rattle.std.specs.Prelude.{string_bytes};
 ghost use Rattle.ent_script.specs.declared.read_fault.ReadFault.TheVariants.{Memory};
 ghost use Rattle.serde_json.specs.View.{view};
 ghost use Rattle.ent_script.specs.Json.{whole_within as whole_of};
+ghost use Rattle.ent_script.specs.Ranges.{IsScript};
 ghost use Rattle.ent_script.specs.Reading.{or_absent, new_name, component_at, components_of};
 ghost use Rattle.ent_script.specs.Reading.{limits_of, numbered, in_script, script_of};
 ghost use Rattle.ent_script.specs.Reading.{script_of_text};
@@ -99,16 +100,8 @@ fn owned(alloc: Global, names: &[&str]) -> Result<Vec<String>, ReadFault>
     Ok(texts)
 }
 
-/// The script that a JSON value means.
-///
-/// It takes time linear in the value, but for look-ups of names in logarithmic time.
-///
-/// # Errors
-///
-/// `Script`, `Frame`, `System` or `Operation` with the first test that fails; `Memory` if memory
-/// ran out.
 #[tactic(auto, unfolding(crate::specs::Reading::script_of))]
-pub fn script_of(alloc: Global, value: &Value) -> Result<Script, ReadFault>
+fn script_at(alloc: Global, value: &Value) -> Result<Script, ReadFault>
     ensures { ReadsAs result (script_of (view value.now)) }
 {
     let limits = limits(value)?;
@@ -120,6 +113,21 @@ pub fn script_of(alloc: Global, value: &Value) -> Result<Script, ReadFault>
     Ok(Script::new(limits, names, frames))
 }
 
+/// The script that a JSON value means.
+///
+/// It takes time linear in the value, but for look-ups of names in logarithmic time.
+///
+/// # Errors
+///
+/// `Script`, `Frame`, `System` or `Operation` with the first test that fails; `Memory` if memory
+/// ran out.
+pub fn script_of(alloc: Global, value: &Value) -> Result<Script, ReadFault>
+    ensures exact { ReadsAs result (script_of (view value.now)) }
+    ensures ranges { IfOk result IsScript }
+{
+    script_at(alloc, value)
+}
+
 /// The script that a JSON text means.
 ///
 /// It takes time linear in the text, but for look-ups of names in logarithmic time.
@@ -129,7 +137,8 @@ pub fn script_of(alloc: Global, value: &Value) -> Result<Script, ReadFault>
 /// `Json` if `serde_json` reads no value from the text; else what `script_of` says of the value.
 /// `Memory` if memory ran out.
 pub fn read_script(alloc: Global, text: &[u8]) -> Result<Script, ReadFault>
-    ensures { ReadsAs result (script_of_text text.now) }
+    ensures exact { ReadsAs result (script_of_text text.now) }
+    ensures ranges { IfOk result IsScript }
 {
     match Value::from_slice(alloc, text) {
         Ok(value) => script_of(alloc, &value),
