@@ -1,0 +1,109 @@
+-- Names and their places.
+use Rattle.std.proofs.Common.{◌≡◌, ℕ, ◌+◌, ◌<◌, Bool, true, false, List, [], ◌∷◌, ◌++◌, length, map}
+use Rattle.std.proofs.Common.{Option, Some, None, option_map, is_some, IfSome, cond, refl, sym, ap}
+use Rattle.std.proofs.Common.{◌∙◌, arith, bytes_eq, true≢false, suc, add-one, Bor, BTreeMap, subst}
+use Rattle.std.specs.BTreeMap.{get_by, Updates}
+use Rattle.std.specs.Cmp.Lexicographic.{slice_cmp}
+use Rattle.std.specs.Ordering.{nat_cmp}
+use Rattle.std.proofs.lemmas.Map.Text.{btree_map_updates_str}
+use Rattle.std.proofs.lemmas.Slice.Eq.{bytes_eq-Decides}
+use Rattle.std.proofs.Common.{unwrap_or, option_and_then}
+use Rattle.serde_json.specs.Data.{Data}
+use Rattle.ent_script.specs.Names.{name_of, place_of, with_name}
+use Rattle.ent_script.specs.Reading.{new_name}
+use Rattle.ent_script.specs.Places.{HavePlaces}
+
+within_later : (found : Option ℕ) (n : ℕ) → IfSome found (λ p. p < n) → IfSome (option_map (λ p. p + 1) found) (λ p. p < suc n)
+within_later None n h = tt
+within_later (Some p) n h = omega (arith, h)
+
+within_either : (b : Bool) (found : Option ℕ) (n : ℕ) → IfSome found (λ p. p < n)
+    → IfSome (cond b (Some 0) (option_map (λ p. p + 1) found)) (λ p. p < suc n)
+within_either true found n h = omega arith
+within_either false found n h = within_later found n h
+
+-- a name's place is one of theirs
+pub place_of_within : (name : List ℕ) (names : List (List ℕ)) → IfSome (place_of name names) (λ p. p < length names)
+place_of_within name [] = tt
+place_of_within name (first ∷ others) = within_either (bytes_eq first name) (place_of name others) (length others) (place_of_within name others)
+
+-- the first of two
+abbrev pub first_of : Option ℕ → Option ℕ → Option ℕ
+first_of None other = other
+first_of (Some n) other = Some n
+
+later : (found : Option ℕ) (b : Bool) (n : ℕ) → option_map (λ p. p + 1) (first_of found (cond b (Some n) None)) ≡ first_of (option_map (λ p. p + 1) found) (cond b (Some (suc n)) None)
+later (Some p) b n = refl
+later None true n = ap (λ (m : ℕ). Some m) (add-one n)
+later None false n = refl
+
+here_or_later : (here : Bool) (found : Option ℕ) (b : Bool) (n : ℕ)
+    → cond here (Some 0) (option_map (λ p. p + 1) (first_of found (cond b (Some n) None)))
+    ≡ first_of (cond here (Some 0) (option_map (λ p. p + 1) found)) (cond b (Some (suc n)) None)
+here_or_later true found b n = refl
+here_or_later false found b n = later found b n
+
+place_of-append : (text name : List ℕ) (names : List (List ℕ))
+    → place_of text (names ++ name ∷ []) ≡ first_of (place_of text names) (cond (bytes_eq name text) (Some (length names)) None)
+place_of-append text name [] = refl
+place_of-append text name (first ∷ others) =
+    ap (λ (found : Option ℕ). cond (bytes_eq first text) (Some 0) (option_map (λ p. p + 1) found)) (place_of-append text name others)
+    ∙ here_or_later (bytes_eq first text) (place_of text others) (bytes_eq name text) (length others)
+
+no_other : (found : Option ℕ) → found ≡ first_of found None
+no_other None = refl
+no_other (Some n) = refl
+
+at_end_by : (b : Bool) (text name : List ℕ) (names : List (List ℕ)) → bytes_eq name text ≡ b → place_of name names ≡ None
+    → cond b (Some (length names)) (place_of text names) ≡ first_of (place_of text names) (cond b (Some (length names)) None)
+at_end_by true text name names e none =
+    let absent : place_of text names ≡ None = subst (λ (t : List ℕ). place_of t names ≡ None) ((bytes_eq-Decides name text).0 e) none in
+    ap (λ (found : Option ℕ). first_of found (Some (length names))) (sym absent)
+at_end_by false text name names e none = no_other (place_of text names)
+
+at_end : (text name : List ℕ) (names : List (List ℕ)) → place_of name names ≡ None
+    → cond (bytes_eq name text) (Some (length names)) (place_of text names) ≡ place_of text (names ++ name ∷ [])
+at_end text name names none = at_end_by (bytes_eq name text) text name names refl none ∙ sym (place_of-append text name names)
+
+map_now : (names : List (Bor (List ℕ))) (name : Bor (List ℕ)) → map (λ n. n.now) (names ++ name ∷ []) ≡ map (λ n. n.now) names ++ name.now ∷ []
+map_now [] name = refl
+map_now (n ∷ names) name = ap (λ (ns : List (List ℕ)). n.now ∷ ns) (map_now names name)
+
+length_now : (names : List (Bor (List ℕ))) → length names ≡ length (map (λ n. n.now) names)
+length_now [] = refl
+length_now (n ∷ names) = ap suc (length_now names)
+
+-- a new name goes last
+pub places_added : (names : List (Bor (List ℕ))) (places after : BTreeMap (Bor (List ℕ)) ℕ) (name : Bor (List ℕ)) (n : ℕ)
+    → n ≡ length names → HavePlaces names places → get_by (λ k. slice_cmp nat_cmp name.now k.now) places ≡ None
+    → Updates (λ x y. slice_cmp nat_cmp x.now y.now) places after name (Some n) → HavePlaces (names ++ name ∷ []) after
+places_added names places after name n count old none updates = λ text.
+    let seen = map (λ (m : Bor (List ℕ)). m.now) names in
+    let absent : place_of name.now seen ≡ None = sym (old name.now) ∙ none in
+    btree_map_updates_str name.now places after (Some n) updates text
+    ∙ ap (λ (found : Option ℕ). cond (bytes_eq name.now text) (Some n) found) (old text)
+    ∙ ap (λ (m : ℕ). cond (bytes_eq name.now text) (Some m) (place_of text seen)) (count ∙ length_now names)
+    ∙ at_end text name.now seen absent
+    ∙ ap (place_of text) (sym (map_now names name))
+
+pub none_of : (found : Option ℕ) (b : Bool) → b ≡ is_some found → b ≡ false → found ≡ None
+none_of None b e h = refl
+none_of (Some n) b e h = absurd (true≢false (sym e ∙ h))
+
+new_by : (found : Option ℕ) (name t : List ℕ) (names : List (List ℕ)) → place_of name names ≡ found
+    → cond (is_some found) None (Some name) ≡ Some t → (Some name ≡ Some t) × (place_of t names ≡ None)
+new_by None name t names e h =
+    (h, subst (λ (s : List ℕ). place_of s names ≡ None) (ap (λ (o : Option (List ℕ)). unwrap_or o []) h) e)
+new_by (Some n) name t names e h = absurd (cc h)
+
+found_by : (o : Option (List ℕ)) (t : List ℕ) (names : List (List ℕ))
+    → option_and_then (λ name. cond (is_some (place_of name names)) None (Some name)) o ≡ Some t → (o ≡ Some t) × (place_of t names ≡ None)
+found_by None t names h = absurd (cc h)
+found_by (Some name) t names h = new_by (place_of name names) name t names refl h
+
+-- a new name is none of the others
+pub new_name_is : (names : List (List ℕ)) (d : Data) (t : List ℕ) → new_name names d ≡ Some t → (name_of d ≡ Some t) × (place_of t names ≡ None)
+new_name_is names d t h = found_by (name_of d) t names h
+
+pub with_new : (names : List (List ℕ)) (t : List ℕ) → place_of t names ≡ None → with_name names t ≡ names ++ t ∷ []
+with_new names t h = ap (λ (o : Option ℕ). cond (is_some o) names (names ++ t ∷ [])) h

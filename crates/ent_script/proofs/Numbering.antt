@@ -1,0 +1,85 @@
+-- Reading the elements of an array one after another.
+use Rattle.std.proofs.Common.{◌≡◌, ℕ, ◌+◌, ◌<◌, ◌≤◌, zero, suc, List, [], ◌∷◌, ◌++◌, length, map, take}
+use Rattle.std.proofs.Common.{drop, get_or, Result, Ok, Err, Option, refl, sym, ap, ◌∙◌, arith, add-one}
+use Rattle.std.proofs.Common.{append_assoc}
+use Rattle.std.proofs.lemmas.List.{append-nil}
+use Rattle.std.proofs.lemmas.List.Sums.{fold-append}
+use Rattle.serde_json.specs.Data.{Data}
+use Rattle.serde_json.specs.View.{view}
+use Rattle.serde_json.specs.declared.value.Value.{Value}
+use Rattle.ent_script.specs.Names.{with_part, names_in}
+use Rattle.ent_script.specs.Reading.{◌>>=◌, numbered}
+
+-- the elements from this one on
+abbrev pub from : List Value → ℕ → List Data
+from vs i = drop i (map view vs)
+
+-- those before it
+abbrev pub until : List Value → ℕ → List Data
+until vs i = take i (map view vs)
+
+from_here : (vs : List Value) (i : ℕ) (v : Value) → i < length vs → v ≡ get_or vs i v → from vs i ≡ view v ∷ from vs (suc i)
+from_here [] i v h e = absurd (omega arith)
+from_here (first ∷ vs) zero v h e = ap (λ (d : Data). d ∷ map view vs) (sym (ap view e))
+from_here (first ∷ vs) (suc i) v h e = from_here vs i v (omega arith) e
+
+until_here : (vs : List Value) (i : ℕ) (v : Value) → i < length vs → v ≡ get_or vs i v → until vs (suc i) ≡ until vs i ++ view v ∷ []
+until_here [] i v h e = absurd (omega arith)
+until_here (first ∷ vs) zero v h e = ap (λ (d : Data). d ∷ []) (sym (ap view e))
+until_here (first ∷ vs) (suc i) v h e = ap (λ (ds : List Data). view first ∷ ds) (until_here vs i v (omega arith) e)
+
+from_end : (vs : List Value) (i : ℕ) → length vs ≤ i → from vs i ≡ []
+from_end [] zero h = refl
+from_end [] (suc i) h = refl
+from_end (v ∷ vs) zero h = absurd (omega arith)
+from_end (v ∷ vs) (suc i) h = from_end vs i (omega arith)
+
+-- what was read so far, with what is read after it
+abbrev pub onto : {A E : Type 0} → List A → Result (List A) E → Result (List A) E
+onto front (Ok xs) = Ok (front ++ xs)
+onto front (Err e) = Err e
+
+pub onto_none : {A E : Type 0} (read : Result (List A) E) → onto [] read ≡ read
+onto_none (Ok xs) = refl
+onto_none (Err e) = refl
+
+abbrev ok : (A E : Type 0) → List A → Result (List A) E
+ok A E xs = Ok xs
+
+onto_one : {A E : Type 0} (front : List A) (x : A) (read : Result (List A) E) → onto front (read >>= λ xs. Ok (x ∷ xs)) ≡ onto (front ++ x ∷ []) read
+onto_one {A} {E} front x (Ok xs) = ap (ok A E) (sym (append_assoc front (x ∷ []) xs))
+onto_one front x (Err e) = refl
+
+module _ {A E : Type 0} (f : ℕ → Data → Result A E) where
+  pub goes_on : (vs : List Value) (i : ℕ) (v : Value) (front : List A) (x : A) (total : Result (List A) E)
+      → i < length vs → v ≡ get_or vs i v → f i (view v) ≡ Ok x
+      → onto front (numbered f i (from vs i)) ≡ total → onto (front ++ x ∷ []) (numbered f (i + 1) (from vs (i + 1))) ≡ total
+  goes_on vs i v front x total h is means invariant =
+      ap (λ (n : ℕ). onto (front ++ x ∷ []) (numbered f (i + 1) (from vs n))) (add-one i)
+      ∙ sym (onto_one front x (numbered f (i + 1) (from vs (suc i))))
+      ∙ sym (ap (λ (r : Result A E). onto front (r >>= λ y. numbered f (i + 1) (from vs (suc i)) >>= λ ys. Ok (y ∷ ys))) means)
+      ∙ sym (ap (λ (ds : List Data). onto front (numbered f i ds)) (from_here vs i v h is))
+      ∙ invariant
+
+  pub stops : (vs : List Value) (i : ℕ) (v : Value) (front : List A) (e : E) (total : Result (List A) E)
+      → i < length vs → v ≡ get_or vs i v → f i (view v) ≡ Err e
+      → onto front (numbered f i (from vs i)) ≡ total → total ≡ Err e
+  stops vs i v front e total h is means invariant =
+      sym invariant
+      ∙ ap (λ (ds : List Data). onto front (numbered f i ds)) (from_here vs i v h is)
+      ∙ ap (λ (r : Result A E). onto front (r >>= λ y. numbered f (i + 1) (from vs (suc i)) >>= λ ys. Ok (y ∷ ys))) means
+
+  pub ends : (vs : List Value) (i : ℕ) (front : List A) (total : Result (List A) E)
+      → length vs ≤ i → onto front (numbered f i (from vs i)) ≡ total → total ≡ Ok front
+  ends vs i front total h invariant =
+      sym invariant
+      ∙ ap (λ (ds : List Data). onto front (numbered f i ds)) (from_end vs i h)
+      ∙ ap (ok A E) (append-nil front)
+
+-- the names that are found as far as the next element
+pub names_on : (f : Data → Option (List ℕ)) (vs : List Value) (i : ℕ) (v : Value) → i < length vs → v ≡ get_or vs i v
+    → names_in f (until vs (i + 1)) ≡ with_part (names_in f (until vs i)) (f (view v))
+names_on f vs i v h is =
+    ap (λ (n : ℕ). names_in f (until vs n)) (add-one i)
+    ∙ ap (names_in f) (until_here vs i v h is)
+    ∙ fold-append (λ names d. with_part names (f d)) [] (until vs i) (view v ∷ [])

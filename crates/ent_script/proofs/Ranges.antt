@@ -1,0 +1,299 @@
+-- What a value means is in the ranges of a script.
+use Rattle.std.proofs.Common.{◌≡◌, ℕ, ℤ, pos, negsuc, ◌+◌, ◌<◌, ◌≤◌, suc, Bool, true, false, ◌&&◌, cond}
+use Rattle.std.proofs.Common.{List, [], ◌∷◌, length, take, Option, Some, None, option_map, option_and_then, ok_or}
+use Rattle.std.proofs.Common.{Result, Ok, Err, IfSome, bytes_eq, codes, refl, subst, arith, lit≤, leb-true}
+use Rattle.std.specs.Prelude.{IfOk, nat_le}
+use Rattle.std.specs.declared.cmp.Ordering.{Ordering}
+use Rattle.std.specs.declared.cmp.Ordering.TheVariants.{Less, Equal, Greater}
+use Rattle.std.specs.Ordering.{match_ordering}
+use Rattle.std.specs.List.{AllByRecursion, fold}
+use Rattle.std.specs.BTreeMap.{insert_entry}
+use Rattle.serde_json.specs.Data.{Data}
+use Rattle.serde_json.specs.Find.{get, as_str}
+use Rattle.ent_alloc.specs.Limits.{AreLimits}
+use Rattle.ent_handle.specs.Handle.{Handle}
+use Rattle.ent_handle.specs.Text.{handle_of}
+use Rattle.ent_handle.specs.declared.text.TextFault.{TextFault}
+use Rattle.ent_handle.specs.declared.component.ComponentId.{ComponentId}
+use Rattle.ent_handle.specs.Component.{component_cmp}
+use Rattle.ent_script.specs.declared.cause.Cause.{Cause}
+use Rattle.ent_script.specs.declared.cause.Cause.TheVariants as cause
+use Rattle.ent_script.specs.declared.cause.ScriptCause.{ScriptCause}
+use Rattle.ent_script.specs.declared.cause.ScriptCause.TheVariants as script_cause
+use Rattle.ent_script.specs.declared.kind.Kind.{Kind}
+use Rattle.ent_script.specs.declared.kind.Kind.TheVariants as kinds
+use Rattle.ent_script.specs.declared.read_fault.ReadFault.{ReadFault}
+use Rattle.ent_script.specs.declared.read_fault.ReadFault.TheVariants as fault
+use Rattle.ent_script.specs.declared.target.Target.{Target}
+use Rattle.ent_script.specs.declared.target.Target.TheVariants as target
+use Rattle.ent_script.specs.Json.{elements, at_most, members, keys_among, whole, in_range, whole_within}
+use Rattle.ent_script.specs.Names.{place_of, names_in}
+use Rattle.ent_script.specs.Script.{Script}
+use Rattle.ent_script.specs.Ranges.{IsBundleOf, IsTargetOf, IsOperationOf, IsSystemOf, IsFrameOf, IsScript}
+use Rattle.ent_script.specs.Reading.{◌>>=◌, test, numbered, or_absent, component_of, item_of, items_of}
+use Rattle.ent_script.specs.Reading.{bundle_of, with_of, count_of, binding_of, removed_of, only, target_handle}
+use Rattle.ent_script.specs.Reading.{target_at, target_of, kind_of, of_kind, operation_of, at_operation, operation_at, bound_name}
+use Rattle.ent_script.specs.Reading.{system_of, frame_of, component_at, components_of, limits_of, in_script, script_of}
+use Rattle.ent_script.specs.Reading.{script_keys, ReadsAs}
+use Rattle.ent_script.proofs.NamesLaws.{place_of_within}
+
+-- ---- tests one after another
+
+then_ok : {A B E : Type 0} (Q : A → Type 0) (P : B → Type 0) (r : Result A E) (f : A → Result B E)
+    → IfOk r Q → ((x : A) → Q x → IfOk (f x) P) → IfOk (r >>= f) P
+then_ok Q P (Ok x) f h k = k x h
+then_ok Q P (Err e) f h k = tt
+
+or_cause : {A E : Type 0} (Q : A → Type 0) (o : Option A) (e : E) → IfSome o Q → IfOk (ok_or o e) Q
+or_cause Q None e h = tt
+or_cause Q (Some x) e h = h
+
+always : {A E : Type 0} (r : Result A E) → IfOk r (λ _. Unit {0})
+always (Ok x) = tt
+always (Err e) = tt
+
+always_some : {A : Type 0} (o : Option A) → IfSome o (λ _. Unit {0})
+always_some None = tt
+always_some (Some x) = tt
+
+mapped : {A B : Type 0} (P : B → Type 0) (g : A → B) (o : Option A) → IfSome o (λ x. P (g x)) → IfSome (option_map g o) P
+mapped P g None h = tt
+mapped P g (Some x) h = h
+
+chained : {A B : Type 0} (P : B → Type 0) (g : A → Option B) (o : Option A) → ((x : A) → IfSome (g x) P) → IfSome (option_and_then g o) P
+chained P g None h = tt
+chained P g (Some x) h = h x
+
+either : {A E : Type 0} (P : A → Type 0) (b : Bool) (x y : Result A E) → IfOk x P → IfOk y P → IfOk (cond b x y) P
+either P true x y h k = h
+either P false x y h k = k
+
+numbered_each : {A E : Type 0} (P : A → Type 0) (f : ℕ → Data → Result A E) (n : ℕ) (ds : List Data)
+    → ((i : ℕ) (d : Data) → IfOk (f i d) P) → IfOk (numbered f n ds) (λ xs. (length xs ≤ length ds) × AllByRecursion P xs)
+numbered_each P f n [] each = (omega arith, tt)
+numbered_each P f n (d ∷ ds) each =
+    then_ok P (λ xs. (length xs ≤ suc (length ds)) × AllByRecursion P xs) (f n d) _ (each n d)
+    (λ x holds. then_ok (λ xs. (length xs ≤ length ds) × AllByRecursion P xs) (λ xs. (length xs ≤ suc (length ds)) × AllByRecursion P xs)
+    (numbered f (n + 1) ds) _ (numbered_each P f (n + 1) ds each)
+    (λ xs rest. (omega (arith, rest.0), (holds, rest.1))))
+
+loosened : {A E : Type 0} (P : A → Type 0) (r : Result (List A) E) (n most : ℕ) → n ≤ most → IfOk r (λ xs. (length xs ≤ n) × AllByRecursion P xs)
+    → IfOk r (λ xs. (length xs ≤ most) × AllByRecursion P xs)
+loosened P (Ok xs) n most h k = (omega (arith, h, k.0), k.1)
+loosened P (Err e) n most h k = tt
+
+first_part : {A E : Type 0} (P : A → Type 0) (r : Result (List A) E) (most : ℕ) → IfOk r (λ xs. (length xs ≤ most) × AllByRecursion P xs)
+    → IfOk r (λ xs. length xs ≤ most)
+first_part P (Ok xs) most k = k.0
+first_part P (Err e) most k = tt
+
+abbrev ComponentIn : ℕ → ComponentId → Type 0
+ComponentIn n c = c.0 < n
+
+abbrev ItemIn : ℕ → ComponentId × ℤ → Type 0
+ItemIn n item = item.0.0 < n
+
+abbrev AtMost : {A : Type 0} → ℕ → List A → Type 0
+AtMost most xs = length xs ≤ most
+
+-- ---- numbers
+
+abbrev Between : ℕ → ℕ → ℕ → Type 0
+Between low high n = (low ≤ n) × (n ≤ high)
+
+if_within : (b c : Bool) (low high n : ℕ) → (b ≡ true → low ≤ n) → (c ≡ true → n ≤ high) → IfSome (cond (b && c) (Some n) None) (Between low high)
+if_within true true low high n l h = (l refl, h refl)
+if_within true false low high n l h = tt
+if_within false c low high n l h = tt
+
+in_range_within : (low high : ℕ) (z : ℤ) → IfSome (in_range low high z) (Between low high)
+in_range_within low high (pos n) = if_within (nat_le low n) (nat_le n high) low high n (λ e. leb-true low n e) (λ e. leb-true n high e)
+in_range_within low high (negsuc n) = tt
+
+whole_in : (low high : ℕ) (d : Data) → IfSome (whole_within low high d) (Between low high)
+whole_in low high d = chained (Between low high) (in_range low high) (whole d) (in_range_within low high)
+
+few_by : (b : Bool) (most : ℕ) (ds : List Data) → (b ≡ true → length ds ≤ most) → IfSome (cond b (Some ds) None) (λ xs. length xs ≤ most)
+few_by true most ds h = h refl
+few_by false most ds h = tt
+
+few : (most : ℕ) (d : Data) → IfSome (at_most most d) (λ ds. length ds ≤ most)
+few most d = chained (AtMost most) _ (elements d) (λ ds. few_by (nat_le (length ds) most) most ds (λ e. leb-true (length ds) most e))
+
+-- ---- components and bundles
+
+component_in : (components : List (List ℕ)) (text : List ℕ) → IfSome (component_of components text) (λ c. c.0 < length components)
+component_in components text = mapped (ComponentIn (length components)) (λ (n : ℕ). record { 0 = n }) (place_of text components) (place_of_within text components)
+
+item_in : (components : List (List ℕ)) (m : List ℕ × Data) → IfOk (item_of components m) (λ item. item.0.0 < length components)
+item_in components m =
+    then_ok (ComponentIn (length components)) (ItemIn (length components)) (ok_or (component_of components m.0) cause.Component) _
+    (or_cause (ComponentIn (length components)) (component_of components m.0) cause.Component (component_in components m.0))
+    (λ id h. then_ok (λ _. Unit {0}) (ItemIn (length components)) (ok_or (whole m.1) cause.Value) _ (always (ok_or (whole m.1) cause.Value)) (λ value _. h))
+
+items_in : (components : List (List ℕ)) (ms : List (List ℕ × Data)) → IfOk (items_of components ms) (IsBundleOf (length components))
+items_in components [] = tt
+items_in components (m ∷ ms) =
+    then_ok (ItemIn (length components)) (IsBundleOf (length components)) (item_of components m) _ (item_in components m)
+    (λ item h. then_ok (IsBundleOf (length components)) (IsBundleOf (length components)) (items_of components ms) _ (items_in components ms) (λ items k. (h, k)))
+
+by_order : {X : Type 0} (P : X → Type 0) (o : Ordering) (xs ys zs : List X) → AllByRecursion P xs → AllByRecursion P ys → AllByRecursion P zs
+    → AllByRecursion P (match_ordering o xs ys zs)
+by_order P Less xs ys zs a b c = a
+by_order P Equal xs ys zs a b c = b
+by_order P Greater xs ys zs a b c = c
+
+insert_in : (n : ℕ) (bundle : List (ComponentId × ℤ)) (id : ComponentId) (value : ℤ) → id.0 < n → IsBundleOf n bundle
+    → IsBundleOf n (insert_entry component_cmp bundle id value)
+insert_in n [] id value h all = (h, tt)
+insert_in n (e ∷ es) id value h all =
+    by_order (ItemIn n) (component_cmp id e.0) ((id, value) ∷ e ∷ es) ((e.0, value) ∷ es) (e ∷ insert_entry component_cmp es id value)
+    (h, all) (all.0, all.1) (all.0, insert_in n es id value h all.1)
+
+fold_in : (n : ℕ) (bundle items : List (ComponentId × ℤ)) → IsBundleOf n bundle → IsBundleOf n items
+    → IsBundleOf n (fold (λ b item. insert_entry component_cmp b item.0 item.1) bundle items)
+fold_in n bundle [] h all = h
+fold_in n bundle (item ∷ items) h all =
+    fold_in n (insert_entry component_cmp bundle item.0 item.1) items (insert_in n bundle item.0 item.1 all.0 h) all.1
+
+bundle_in : (components : List (List ℕ)) (part : Option Data) → IfOk (bundle_of components part) (IsBundleOf (length components))
+unfolding bundle_of
+bundle_in components part =
+    then_ok (λ _. Unit {0}) (IsBundleOf (length components)) (ok_or (option_and_then members part) cause.Bundle) _ (always (ok_or (option_and_then members part) cause.Bundle))
+    (λ ms _. then_ok (IsBundleOf (length components)) (IsBundleOf (length components)) (items_of components ms) _ (items_in components ms)
+    (λ items h. fold_in (length components) [] items tt h))
+
+with_in : (components : List (List ℕ)) (part : Option Data) → IfOk (with_of components part) (IsBundleOf (length components))
+with_in components None = tt
+with_in components (Some d) = bundle_in components (Some d)
+
+count_in : (part : Option Data) → IfOk (count_of part) (λ n. n ≤ 65536)
+unfolding count_of
+count_in part = or_cause (λ n. n ≤ 65536) (option_and_then (whole_within 0 65536) part) cause.Count (chained (λ n. n ≤ 65536) (whole_within 0 65536) part (λ d. below (whole_within 0 65536 d) 65536 (whole_in 0 65536 d)))
+  where
+    below : (o : Option ℕ) (high : ℕ) → IfSome o (Between 0 high) → IfSome o (λ n. n ≤ high)
+    below None high h = tt
+    below (Some n) high h = h.1
+
+removed_in : (components : List (List ℕ)) (part : Option Data) → IfOk (removed_of components part) (λ c. c.0 < length components)
+unfolding removed_of
+removed_in components part =
+    then_ok (λ _. Unit {0}) (ComponentIn (length components)) (ok_or (option_and_then as_str part) cause.Component) _ (always (ok_or (option_and_then as_str part) cause.Component))
+    (λ text _. or_cause (ComponentIn (length components)) (component_of components text) cause.Component (component_in components text))
+
+-- ---- targets and operations
+
+handle_in : (n : ℕ) (text : List ℕ) → IfOk (target_handle text) (IsTargetOf n)
+handle_in n text = handle_by n (handle_of text)
+  where
+    handle_by : (n : ℕ) (r : Result Handle TextFault) → IfOk {T = Target} {E = Cause} (elim r [ Ok h ↦ Ok (target.Handle h) | Err e ↦ Err cause.Handle ]) (IsTargetOf n)
+    handle_by n (Ok h) = tt
+    handle_by n (Err e) = tt
+
+target_at_in : (components bound : List (List ℕ)) (key text : List ℕ) → IfOk (target_at components bound key text) (IsTargetOf (length components))
+unfolding target_at
+target_at_in components bound key text =
+    either (IsTargetOf (length components)) (bytes_eq key (codes "name")) _ _
+    (or_cause (IsTargetOf (length components)) (option_map target.Name (place_of text bound)) cause.Name (mapped (IsTargetOf (length components)) target.Name (place_of text bound) (always_some (place_of text bound))))
+    (either (IsTargetOf (length components)) (bytes_eq key (codes "handle")) _ _ (handle_in (length components) text)
+    (either (IsTargetOf (length components)) (bytes_eq key (codes "each")) _ _
+    (or_cause (IsTargetOf (length components)) (option_map target.Each (component_of components text)) cause.Component (mapped (IsTargetOf (length components)) target.Each (component_of components text) (component_in components text)))
+    tt))
+
+target_in : (components bound : List (List ℕ)) (part : Option Data) → IfOk (target_of components bound part) (IsTargetOf (length components))
+unfolding target_of
+target_in components bound part =
+    then_ok (λ _. Unit {0}) (IsTargetOf (length components)) (ok_or (option_and_then only (option_and_then members part)) cause.Target) _ (always (ok_or (option_and_then only (option_and_then members part)) cause.Target))
+    (λ member _. then_ok (λ _. Unit {0}) (IsTargetOf (length components)) (ok_or (as_str member.1) cause.Target) _ (always (ok_or (as_str member.1) cause.Target))
+    (λ text _. target_at_in components bound member.0 text))
+
+of_kind_in : (components bound : List (List ℕ)) (d : Data) (kind : Kind) → IfOk (of_kind components bound d kind) (IsOperationOf (length components))
+unfolding of_kind
+of_kind_in components bound d kinds.Spawn =
+    then_ok (IsBundleOf (length components)) (IsOperationOf (length components)) (bundle_of components (get (codes "spawn") d)) _ (bundle_in components (get (codes "spawn") d))
+    (λ bundle h. then_ok (λ _. Unit {0}) (IsOperationOf (length components)) (binding_of bound (get (codes "as") d)) _ (always (binding_of bound (get (codes "as") d))) (λ binds _. h))
+of_kind_in components bound d kinds.SpawnMany =
+    then_ok (λ n. n ≤ 65536) (IsOperationOf (length components)) (count_of (get (codes "spawn_many") d)) _ (count_in (get (codes "spawn_many") d))
+    (λ count k. then_ok (IsBundleOf (length components)) (IsOperationOf (length components)) (with_of components (get (codes "with") d)) _ (with_in components (get (codes "with") d))
+    (λ bundle h. then_ok (λ _. Unit {0}) (IsOperationOf (length components)) (binding_of bound (get (codes "as") d)) _ (always (binding_of bound (get (codes "as") d))) (λ binds _. (k, h))))
+of_kind_in components bound d kinds.Insert =
+    then_ok (IsBundleOf (length components)) (IsOperationOf (length components)) (bundle_of components (get (codes "insert") d)) _ (bundle_in components (get (codes "insert") d))
+    (λ bundle h. then_ok (IsTargetOf (length components)) (IsOperationOf (length components)) (target_of components bound (get (codes "on") d)) _ (target_in components bound (get (codes "on") d)) (λ on k. (h, k)))
+of_kind_in components bound d kinds.Remove =
+    then_ok (ComponentIn (length components)) (IsOperationOf (length components)) (removed_of components (get (codes "remove") d)) _ (removed_in components (get (codes "remove") d))
+    (λ c h. then_ok (IsTargetOf (length components)) (IsOperationOf (length components)) (target_of components bound (get (codes "on") d)) _ (target_in components bound (get (codes "on") d)) (λ on k. (h, k)))
+of_kind_in components bound d kinds.Despawn =
+    then_ok (IsTargetOf (length components)) (IsOperationOf (length components)) (target_of components bound (get (codes "despawn") d)) _ (target_in components bound (get (codes "despawn") d)) (λ on k. k)
+
+operation_in : (components bound : List (List ℕ)) (d : Data) → IfOk (operation_of components bound d) (IsOperationOf (length components))
+unfolding operation_of
+operation_in components bound d =
+    then_ok (λ _. Unit {0}) (IsOperationOf (length components)) (ok_or (kind_of d) cause.Shape) _ (always (ok_or (kind_of d) cause.Shape)) (λ kind _. of_kind_in components bound d kind)
+
+-- ---- systems, frames and the whole
+
+at_in : {A : Type 0} (P : A → Type 0) (f s o : ℕ) (r : Result A Cause) → IfOk r P → IfOk (at_operation f s o r) P
+at_in P f s o (Ok x) h = h
+at_in P f s o (Err c) h = tt
+
+system_in : (components : List (List ℕ)) (frame number : ℕ) (d : Data) → IfOk (system_of components frame number d) (IsSystemOf (length components))
+unfolding system_of
+system_in components frame number d =
+    then_ok (AtMost 10000) (IsSystemOf (length components)) (ok_or (at_most 10000 d) (fault.System frame number)) _ (or_cause (AtMost 10000) (at_most 10000 d) (fault.System frame number) (few 10000 d))
+    (λ ds short. loosened (IsOperationOf (length components)) (numbered (operation_at components frame number ds) 0 ds) (length ds) 10000 short
+    (numbered_each (IsOperationOf (length components)) (operation_at components frame number ds) 0 ds (λ i e. at_in (IsOperationOf (length components)) frame number i _ (operation_in components (names_in bound_name (take i ds)) e))))
+
+frame_in : (components : List (List ℕ)) (number : ℕ) (d : Data) → IfOk (frame_of components number d) (IsFrameOf (length components))
+unfolding frame_of
+frame_in components number d =
+    then_ok (AtMost 256) (IsFrameOf (length components)) (ok_or (at_most 256 d) (fault.Frame number)) _ (or_cause (AtMost 256) (at_most 256 d) (fault.Frame number) (few 256 d))
+    (λ ds short. loosened (IsSystemOf (length components)) (numbered (system_of components number) 0 ds) (length ds) 256 short
+    (numbered_each (IsSystemOf (length components)) (system_of components number) 0 ds (λ i e. system_in components number i e)))
+
+components_in : (part : Option Data) → IfOk (components_of part) (λ names. length names ≤ 256)
+unfolding components_of
+components_in part =
+    then_ok (AtMost 256) (AtMost 256) (ok_or (option_and_then (at_most 256) part) script_cause.Components) _
+    (or_cause (AtMost 256) (option_and_then (at_most 256) part) script_cause.Components (chained (AtMost 256) (at_most 256) part (few 256)))
+    (λ ds short. first_part (λ _. Unit {0}) (numbered (component_at ds) 0 ds) 256 (loosened (λ _. Unit {0}) (numbered (component_at ds) 0 ds) (length ds) 256 short
+    (numbered_each (λ _. Unit {0}) (component_at ds) 0 ds (λ i e. always (component_at ds i e)))))
+
+absent_in : (absent low high : ℕ) → Between low high absent → (part : Option Data) → IfSome (or_absent absent (whole_within low high) part) (Between low high)
+absent_in absent low high h None = h
+absent_in absent low high h (Some d) = whole_in low high d
+
+in_top : {A : Type 0} (P : A → Type 0) (r : Result A ScriptCause) → IfOk r P → IfOk (in_script r) P
+in_top P (Ok x) h = h
+in_top P (Err c) h = tt
+
+limits_in : (d : Data) → IfOk (limits_of d) AreLimits
+unfolding limits_of
+limits_in d =
+    then_ok (λ _. Unit {0}) AreLimits (ok_or (members d) script_cause.Top) _ (always (ok_or (members d) script_cause.Top))
+    (λ ms _. then_ok (λ _. Unit {0}) AreLimits (test (keys_among script_keys ms) script_cause.Key) _ (always (test (keys_among script_keys ms) script_cause.Key))
+    (λ key _. then_ok (λ _. Unit {0}) AreLimits (ok_or (or_absent 1 (whole_within 1 1) (get (codes "format") d)) script_cause.Format) _
+    (always (ok_or (or_absent 1 (whole_within 1 1) (get (codes "format") d)) script_cause.Format))
+    (λ format _. then_ok (Between 1 4294967295) AreLimits (ok_or (or_absent 4294967295 (whole_within 1 4294967295) (get (codes "slots") d)) script_cause.Slots) _
+    (or_cause (Between 1 4294967295) (or_absent 4294967295 (whole_within 1 4294967295) (get (codes "slots") d)) script_cause.Slots (absent_in 4294967295 1 4294967295 (lit≤ tt, lit≤ tt) (get (codes "slots") d)))
+    (λ slots s. then_ok (Between 1 2147483647) AreLimits (ok_or (or_absent 2147483647 (whole_within 1 2147483647) (get (codes "generations") d)) script_cause.Generations) _
+    (or_cause (Between 1 2147483647) (or_absent 2147483647 (whole_within 1 2147483647) (get (codes "generations") d)) script_cause.Generations (absent_in 2147483647 1 2147483647 (lit≤ tt, lit≤ tt) (get (codes "generations") d)))
+    (λ generations g. record { some_slot = s.0; slots = omega (arith, s.1); some_generation = g.0; generations = omega (arith, g.1) })))))
+
+-- what a value means is a script
+pub script_in : (d : Data) → IfOk (script_of d) IsScript
+unfolding script_of
+script_in d =
+    then_ok AreLimits IsScript (in_script (limits_of d)) _ (in_top AreLimits (limits_of d) (limits_in d))
+    (λ limits l. then_ok (AtMost 256) IsScript (in_script (components_of (get (codes "components") d))) _
+    (in_top (AtMost 256) (components_of (get (codes "components") d)) (components_in (get (codes "components") d)))
+    (λ components c. then_ok (AtMost 1000) IsScript (ok_or (option_and_then (at_most 1000) (get (codes "frames") d)) (fault.Script script_cause.Frames)) _
+    (or_cause (AtMost 1000) (option_and_then (at_most 1000) (get (codes "frames") d)) (fault.Script script_cause.Frames) (chained (AtMost 1000) (at_most 1000) (get (codes "frames") d) (few 1000)))
+    (λ ds short. then_ok (λ frames. (length frames ≤ 1000) × AllByRecursion (IsFrameOf (length components)) frames) IsScript
+    (numbered (frame_of components) 0 ds) _
+    (loosened (IsFrameOf (length components)) (numbered (frame_of components) 0 ds) (length ds) 1000 short (numbered_each (IsFrameOf (length components)) (frame_of components) 0 ds (λ i e. frame_in components i e)))
+    (λ frames f. record { limits = l; components = c; count = f.0; frames = f.1 }))))
+
+-- so is what was returned, if it is what a value means
+pub returned_in : (r : Result Script ReadFault) (d : Data) → ReadsAs r (script_of d) → IfOk r IsScript
+returned_in (Ok s) d e = subst (λ (read : Result Script ReadFault). IfOk read IsScript) e (script_in d)
+returned_in (Err e) d h = tt

@@ -1,0 +1,37 @@
+-- Texts: which of them are JSON, and names as texts of their own.
+use Rattle.std.proofs.Common.{◌≡◌, ℕ, ◌+◌, ◌<◌, zero, suc, List, [], ◌∷◌, ◌++◌, length, map, take, get_or}
+use Rattle.std.proofs.Common.{Bool, true, false, cond, Some, None, Bor, String, Global, string_bytes}
+use Rattle.std.proofs.Common.{refl, sym, ap, ◌∙◌, arith, add-one}
+use Rattle.std.specs.Str.{IsUtf8, is_utf8}
+use Rattle.std.proofs.lemmas.List.{map-append}
+use Rattle.std.proofs.lemmas.Str.{IsUtf8-from_is_utf8, is_utf8-from_IsUtf8}
+use Rattle.serde_json.specs.Data.{Data}
+use Rattle.serde_json.specs.Read.{read}
+use Rattle.ent_script.specs.Reading.{json_of}
+
+pub json_read : (text : List ℕ) (d : Data) → IsUtf8 text → read text ≡ Some d → json_of text ≡ Some d
+json_read text d utf8 is = ap (λ (b : Bool). cond b (read text) None) (is_utf8-from_IsUtf8 text utf8) ∙ is
+
+none_by : (text : List ℕ) (b : Bool) → is_utf8 text ≡ b → (IsUtf8 text → read text ≡ None) → cond b (read text) None ≡ None
+none_by text true e refused = refused (IsUtf8-from_is_utf8 text e)
+none_by text false e refused = refl
+
+pub json_none : (text : List ℕ) → (IsUtf8 text → read text ≡ None) → json_of text ≡ None
+json_none text refused = none_by text (is_utf8 text) refl refused
+
+taken : (names : List (Bor (List ℕ))) (i : ℕ) (text : List ℕ) → i < length names
+    → text ≡ (get_or names i (record { ref_ptr = (0, 0); now = [] })).now
+    → take i (map (λ name. name.now) names) ++ text ∷ [] ≡ take (suc i) (map (λ name. name.now) names)
+taken [] i text h is = absurd (omega arith)
+taken (first ∷ names) zero text h is = ap (λ (t : List ℕ). t ∷ []) is
+taken (first ∷ names) (suc i) text h is = ap (λ (ts : List (List ℕ)). first.now ∷ ts) (taken names i text (omega arith) is)
+
+pub one_more : (names : List (Bor (List ℕ))) (i : ℕ) (texts : List (String Global)) (text : String Global) → i < length names
+    → string_bytes text ≡ (get_or names i (record { ref_ptr = (0, 0); now = [] })).now
+    → map string_bytes texts ≡ take i (map (λ name. name.now) names)
+    → map string_bytes (texts ++ text ∷ []) ≡ take (i + 1) (map (λ name. name.now) names)
+one_more names i texts text h is before =
+    map-append string_bytes texts (text ∷ [])
+    ∙ ap (λ (ts : List (List ℕ)). ts ++ string_bytes text ∷ []) before
+    ∙ taken names i (string_bytes text) h is
+    ∙ ap (λ (n : ℕ). take n (map (λ (name : Bor (List ℕ)). name.now) names)) (sym (add-one i))

@@ -1,0 +1,62 @@
+-- The values in memory, and the lists that they are seen as.
+use Rattle.std.proofs.Common.{◌≡◌, ℕ, List, [], ◌∷◌, map, Option, Some, None, option_map}
+use Rattle.std.proofs.Common.{String, Vec, BTreeMap, Global, string_bytes, Bor, refl, sym, ap, ◌∙◌}
+use Rattle.serde_json.specs.Data.{Data, Items, Members}
+use Rattle.serde_json.specs.View.{view, items_view, members_view}
+use Rattle.serde_json.specs.declared.value.Value.{Value}
+use Rattle.std.proofs.Common.{bytes_eq, length}
+use Rattle.std.proofs.lemmas.List.{length-map}
+use Rattle.std.specs.List.{list_all, list_any}
+use Rattle.std.proofs.Common.{arith, slice_get}
+use Rattle.std.specs.Map.{keys_of}
+use Rattle.ent_script.specs.Reading.{only}
+use Rattle.ent_script.specs.Json.{list_of, pairs_of, keys_among}
+
+abbrev pub pair_view : String Global × Value → List ℕ × Data
+pair_view m = (string_bytes m.0, view m.1)
+
+pub list_of-items_view : (vs : List Value) → list_of (items_view vs) ≡ map view vs
+list_of-items_view [] = refl
+list_of-items_view (v ∷ vs) = ap (λ (ds : List Data). view v ∷ ds) (list_of-items_view vs)
+
+pub pairs_of-members_view : (ms : List (String Global × Value)) → pairs_of (members_view ms) ≡ map pair_view ms
+pairs_of-members_view [] = refl
+pairs_of-members_view (m ∷ ms) = ap (λ (ps : List (List ℕ × Data)). pair_view m ∷ ps) (pairs_of-members_view ms)
+
+pub members_seen : (r : Option (Bor (BTreeMap (String Global) Value))) (o : Option Members)
+    → option_map (λ m. members_view m.now.entries) r ≡ o
+    → option_map (λ m. map pair_view m.now.entries) r ≡ option_map pairs_of o
+members_seen None o e = ap (option_map pairs_of) e
+members_seen (Some m) o e =
+    ap (λ (ps : List (List ℕ × Data)). Some ps) (sym (pairs_of-members_view m.now.entries))
+    ∙ ap (option_map pairs_of) e
+
+pub elements_seen : (r : Option (Bor (Vec Value Global))) (o : Option Items)
+    → option_map (λ v. items_view v.now.items) r ≡ o
+    → option_map (λ v. map view v.now.items) r ≡ option_map list_of o
+elements_seen None o e = ap (option_map list_of) e
+elements_seen (Some v) o e =
+    ap (λ (ds : List Data). Some ds) (sym (list_of-items_view v.now.items))
+    ∙ ap (option_map list_of) e
+
+pub length_of_views : (vs : List Value) → length (map view vs) ≡ length vs
+length_of_views vs = length-map vs view
+
+any_lent : (key : List ℕ) (allowed : List (Bor (List ℕ)))
+    → list_any (λ name. bytes_eq key name.now) allowed ≡ list_any (λ name. bytes_eq key name) (map (λ name. name.now) allowed)
+any_lent key [] = refl
+any_lent key (a ∷ allowed) = rw (any_lent key allowed)
+
+-- the keys as they lie in memory
+pub keys_lent : (ms : List (String Global × Value)) (allowed : List (Bor (List ℕ)))
+    → list_all (λ key. list_any (λ name. bytes_eq (string_bytes key) name.now) allowed) (keys_of ms)
+    ≡ keys_among (map (λ name. name.now) allowed) (map pair_view ms)
+keys_lent [] allowed = refl
+keys_lent (m ∷ ms) allowed = rw (any_lent (string_bytes m.0) allowed, keys_lent ms allowed)
+
+-- the only member
+pub only_member : (ms : List (String Global × Value)) (k : String Global) (v : Value)
+    → length ms ≡ 1 → slice_get ms 0 ≡ Some (k, v) → Some (string_bytes k, view v) ≡ only (map pair_view ms)
+only_member [] k v one e = absurd (omega (arith, one))
+only_member (m ∷ []) k v one e = sym (ap (option_map pair_view) e)
+only_member (m ∷ n ∷ ms) k v one e = absurd (omega (arith, one))

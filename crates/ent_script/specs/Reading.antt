@@ -1,0 +1,296 @@
+-- What a JSON value means as a script, or the first test that it fails.
+use Rattle.std.specs.Prelude.{◌≡◌, ℕ, ℤ, ◌+◌, Bool, false, ◌&&◌, List, [], ◌∷◌, length, take, codes}
+use Rattle.std.specs.Prelude.{if◌then◌else◌, Option, Some, None, option_map, option_and_then}
+use Rattle.std.specs.Prelude.{is_some, unwrap_or, ok_or, Result, Ok, Err, ⊤}
+use Rattle.std.specs.Global.{Vec}
+use Rattle.std.specs.List.{fold, list_all}
+use Rattle.std.specs.Str.{bytes_eq, is_utf8}
+use Rattle.std.specs.BTreeMap.{insert_entry}
+use Rattle.serde_json.specs.Data.{Data}
+use Rattle.serde_json.specs.Find.{get, as_str}
+use Rattle.serde_json.specs.Read.{read}
+use Rattle.ent_alloc.specs.Limits.{Limits}
+use Rattle.ent_handle.specs.declared.component.ComponentId.{ComponentId}
+use Rattle.ent_handle.specs.Component.{component_cmp}
+use Rattle.ent_handle.specs.Text.{handle_of}
+use Rattle.ent_script.specs.Json.{at_most, members, keys_among, whole, whole_within}
+use Rattle.ent_script.specs.Names.{name_of, place_of, names_in}
+use Rattle.ent_script.specs.Script.{Script}
+use Rattle.ent_script.specs.declared.cause.Cause.{Cause}
+use Rattle.ent_script.specs.declared.cause.Cause.TheVariants as cause
+use Rattle.ent_script.specs.declared.cause.ScriptCause.{ScriptCause}
+use Rattle.ent_script.specs.declared.cause.ScriptCause.TheVariants as script_cause
+use Rattle.ent_script.specs.declared.kind.Kind.{Kind}
+use Rattle.ent_script.specs.declared.kind.Kind.TheVariants as kinds
+use Rattle.ent_script.specs.declared.operation.Operation.{Operation}
+use Rattle.ent_script.specs.declared.operation.Operation.TheVariants as operation
+use Rattle.ent_script.specs.declared.part_fault.PartFault.{PartFault}
+use Rattle.ent_script.specs.declared.part_fault.PartFault.TheVariants as part_fault
+use Rattle.ent_script.specs.declared.read_fault.ReadFault.{ReadFault}
+use Rattle.ent_script.specs.declared.read_fault.ReadFault.TheVariants as fault
+use Rattle.ent_script.specs.declared.target.Target.{Target}
+use Rattle.ent_script.specs.declared.target.Target.TheVariants as target
+
+-- ---- tests in their order
+
+infixl 10 ◌>>=◌
+abbrev pub ◌>>=◌ : {A B E : Type 0} → Result A E → (A → Result B E) → Result B E
+(Ok x) >>= f = f x
+(Err e) >>= f = Err e
+
+-- a test that finds nothing
+abbrev pub test : {E : Type 0} → Bool → E → Result ⊤ E
+test passes e = if passes then Ok tt else Err e
+
+-- what the elements mean, each by itself and its number from n on, or the first fault of the first
+-- that means nothing
+abbrev pub numbered : {A E : Type 0} → (ℕ → Data → Result A E) → ℕ → List Data → Result (List A) E
+numbered f n [] = Ok []
+numbered f n (d ∷ ds) = do
+  x ← f n d
+  xs ← numbered f (n + 1) ds
+  Ok (x ∷ xs)
+
+-- what a part means, or this value if it is absent
+abbrev pub or_absent : {A : Type 0} → A → (Data → Option A) → Option Data → Option A
+or_absent absent means None = Some absent
+or_absent absent means (Some d) = means d
+
+-- ---- the parts of an operation; a part is what stands under a key of it
+
+-- the number of the component of this name
+abbrev pub component_of : List (List ℕ) → List ℕ → Option ComponentId
+component_of components text = option_map (λ n. record { 0 = n }) (place_of text components)
+
+abbrev pub item_of : List (List ℕ) → List ℕ × Data → Result (ComponentId × ℤ) Cause
+item_of components member = do
+  id ← ok_or (component_of components member.0) cause.Component
+  value ← ok_or (whole member.1) cause.Value
+  Ok (id, value)
+
+abbrev pub items_of : List (List ℕ) → List (List ℕ × Data) → Result (List (ComponentId × ℤ)) Cause
+items_of components [] = Ok []
+items_of components (m ∷ ms) = do
+  item ← item_of components m
+  items ← items_of components ms
+  Ok (item ∷ items)
+
+-- by the numbers of the components
+abbrev pub by_number : List (ComponentId × ℤ) → List (ComponentId × ℤ)
+by_number items = fold (λ bundle item. insert_entry component_cmp bundle item.0 item.1) [] items
+
+-- the bundle of an object's members
+abbrev pub bundle_by : List (List ℕ) → List (List ℕ × Data) → Result (List (ComponentId × ℤ)) Cause
+bundle_by components ms = do
+  items ← items_of components ms
+  Ok (by_number items)
+
+unfoldable pub bundle_of : List (List ℕ) → Option Data → Result (List (ComponentId × ℤ)) Cause
+bundle_of components part = do
+  ms ← ok_or (option_and_then members part) cause.Bundle
+  bundle_by components ms
+
+-- an absent bundle is the empty one
+abbrev pub with_of : List (List ℕ) → Option Data → Result (List (ComponentId × ℤ)) Cause
+with_of components None = Ok []
+with_of components (Some d) = bundle_of components (Some d)
+
+unfoldable pub count_of : Option Data → Result ℕ Cause
+count_of part = ok_or (option_and_then (whole_within 0 65536) part) cause.Count
+
+-- the number of the name that an `as` binds: its place among the names bound so far, or the next
+unfoldable pub binding_of : List (List ℕ) → Option Data → Result (Option ℕ) Cause
+binding_of bound None = Ok None
+binding_of bound (Some d) = do
+  name ← ok_or (name_of d) cause.Name
+  Ok (Some (unwrap_or (place_of name bound) (length bound)))
+
+unfoldable pub removed_of : List (List ℕ) → Option Data → Result ComponentId Cause
+removed_of components part = do
+  text ← ok_or (option_and_then as_str part) cause.Component
+  ok_or (component_of components text) cause.Component
+
+abbrev pub only : {A : Type 0} → List A → Option A
+only (x ∷ []) = Some x
+only _ = None
+
+abbrev pub target_handle : List ℕ → Result Target Cause
+target_handle text =
+    elim (handle_of text) [ Ok h ↦ Ok (target.Handle h) | Err e ↦ Err cause.Handle ]
+
+-- the target of a key and the string under it
+unfoldable pub target_at : List (List ℕ) → List (List ℕ) → List ℕ → List ℕ → Result Target Cause
+target_at components bound key text =
+    if bytes_eq key (codes "name")
+    then ok_or (option_map target.Name (place_of text bound)) cause.Name
+    else (if bytes_eq key (codes "handle") then target_handle text
+    else (if bytes_eq key (codes "each")
+    then ok_or (option_map target.Each (component_of components text)) cause.Component
+    else Err cause.Target))
+
+unfoldable pub target_of : List (List ℕ) → List (List ℕ) → Option Data → Result Target Cause
+target_of components bound part = do
+  member ← ok_or (option_and_then only (option_and_then members part)) cause.Target
+  text ← ok_or (as_str member.1) cause.Target
+  target_at components bound member.0 text
+
+-- ---- operations
+
+-- an object that has these keys, and each of its keys is one of those
+unfoldable pub has_keys : List (List ℕ) → List (List ℕ) → Data → Bool
+has_keys required allowed d =
+    list_all (λ key. is_some (get key d)) required
+    && unwrap_or (option_map (keys_among allowed) (members d)) false
+
+unfoldable pub is_spawn : Data → Bool
+is_spawn d = has_keys (codes "spawn" ∷ []) (codes "spawn" ∷ codes "as" ∷ []) d
+
+unfoldable pub is_spawn_many : Data → Bool
+is_spawn_many d =
+    has_keys (codes "spawn_many" ∷ []) (codes "spawn_many" ∷ codes "with" ∷ codes "as" ∷ []) d
+
+unfoldable pub is_insert : Data → Bool
+is_insert d = has_keys (codes "insert" ∷ codes "on" ∷ []) (codes "insert" ∷ codes "on" ∷ []) d
+
+unfoldable pub is_remove : Data → Bool
+is_remove d = has_keys (codes "remove" ∷ codes "on" ∷ []) (codes "remove" ∷ codes "on" ∷ []) d
+
+unfoldable pub is_despawn : Data → Bool
+is_despawn d = has_keys (codes "despawn" ∷ []) (codes "despawn" ∷ []) d
+
+abbrev pub kind_of : Data → Option Kind
+kind_of d =
+    if is_spawn d then Some kinds.Spawn
+    else (if is_spawn_many d then Some kinds.SpawnMany
+    else (if is_insert d then Some kinds.Insert
+    else (if is_remove d then Some kinds.Remove
+    else (if is_despawn d then Some kinds.Despawn
+    else None))))
+
+unfoldable pub of_kind : List (List ℕ) → List (List ℕ) → Data → Kind → Result Operation Cause
+of_kind components bound d kinds.Spawn = do
+  bundle ← bundle_of components (get (codes "spawn") d)
+  binds ← binding_of bound (get (codes "as") d)
+  Ok (operation.Spawn bundle binds)
+of_kind components bound d kinds.SpawnMany = do
+  count ← count_of (get (codes "spawn_many") d)
+  bundle ← with_of components (get (codes "with") d)
+  binds ← binding_of bound (get (codes "as") d)
+  Ok (operation.SpawnMany count bundle binds)
+of_kind components bound d kinds.Insert = do
+  bundle ← bundle_of components (get (codes "insert") d)
+  on ← target_of components bound (get (codes "on") d)
+  Ok (operation.Insert bundle on)
+of_kind components bound d kinds.Remove = do
+  component ← removed_of components (get (codes "remove") d)
+  on ← target_of components bound (get (codes "on") d)
+  Ok (operation.Remove component on)
+of_kind components bound d kinds.Despawn = do
+  on ← target_of components bound (get (codes "despawn") d)
+  Ok (operation.Despawn on)
+
+-- the operation that a value means, in a system whose earlier operations bind these names
+unfoldable pub operation_of : List (List ℕ) → List (List ℕ) → Data → Result Operation Cause
+operation_of components bound d = do
+  kind ← ok_or (kind_of d) cause.Shape
+  of_kind components bound d kind
+
+-- the name that an operation binds
+abbrev pub bound_name : Data → Option (List ℕ)
+bound_name d = option_and_then name_of (get (codes "as") d)
+
+-- ---- systems, frames and the whole
+
+abbrev pub at_operation : {A : Type 0} → ℕ → ℕ → ℕ → Result A Cause → Result A ReadFault
+at_operation frame system number (Ok x) = Ok x
+at_operation frame system number (Err c) = Err (fault.Operation frame system number c)
+
+-- the operation with this number, after those before it
+abbrev pub operation_at : List (List ℕ) → ℕ → ℕ → List Data → ℕ → Data → Result Operation ReadFault
+operation_at components frame system ds number d =
+    at_operation frame system number
+    (operation_of components (names_in bound_name (take number ds)) d)
+
+unfoldable pub system_of : List (List ℕ) → ℕ → ℕ → Data → Result (List Operation) ReadFault
+system_of components frame number d = do
+  ds ← ok_or (at_most 10000 d) (fault.System frame number)
+  numbered (operation_at components frame number ds) 0 ds
+
+unfoldable pub frame_of : List (List ℕ) → ℕ → Data → Result (List (List Operation)) ReadFault
+frame_of components number d = do
+  ds ← ok_or (at_most 256 d) (fault.Frame number)
+  numbered (system_of components number) 0 ds
+
+-- the name that a value is, if it is none of these
+abbrev pub new_name : List (List ℕ) → Data → Option (List ℕ)
+new_name names d =
+    option_and_then (λ name. if is_some (place_of name names) then None else Some name) (name_of d)
+
+-- an element is a name that no element before it is
+abbrev pub component_at : List Data → ℕ → Data → Result (List ℕ) ScriptCause
+component_at ds number d =
+    ok_or (new_name (names_in name_of (take number ds)) d) script_cause.Components
+
+unfoldable pub components_of : Option Data → Result (List (List ℕ)) ScriptCause
+components_of part = do
+  ds ← ok_or (option_and_then (at_most 256) part) script_cause.Components
+  numbered (component_at ds) 0 ds
+
+abbrev pub script_keys : List (List ℕ)
+script_keys =
+    codes "format" ∷ codes "slots" ∷ codes "generations" ∷ codes "components"
+    ∷ codes "frames" ∷ []
+
+-- the limits, and the tests of all that stands before them
+unfoldable pub limits_of : Data → Result Limits ScriptCause
+limits_of d = do
+  ms ← ok_or (members d) script_cause.Top
+  _ ← test (keys_among script_keys ms) script_cause.Key
+  _ ← ok_or (or_absent 1 (whole_within 1 1) (get (codes "format") d)) script_cause.Format
+  slots ← ok_or (or_absent 4294967295 (whole_within 1 4294967295) (get (codes "slots") d))
+      script_cause.Slots
+  generations ← ok_or
+      (or_absent 2147483647 (whole_within 1 2147483647) (get (codes "generations") d))
+      script_cause.Generations
+  Ok (record { slots = slots; generations = generations })
+
+abbrev pub in_script : {A : Type 0} → Result A ScriptCause → Result A ReadFault
+in_script (Ok x) = Ok x
+in_script (Err c) = Err (fault.Script c)
+
+-- the script that a value means, or the first test that it fails
+unfoldable pub script_of : Data → Result Script ReadFault
+script_of d = do
+  limits ← in_script (limits_of d)
+  components ← in_script (components_of (get (codes "components") d))
+  ds ← ok_or (option_and_then (at_most 1000) (get (codes "frames") d))
+      (fault.Script script_cause.Frames)
+  frames ← numbered (frame_of components) 0 ds
+  Ok (record { limits = limits; components = components; frames = frames })
+
+-- the value that bytes are read as
+abbrev pub json_of : List ℕ → Option Data
+json_of text = if is_utf8 text then read text else None
+
+-- the script that bytes mean, or the first test that they fail
+abbrev pub script_of_text : List ℕ → Result Script ReadFault
+script_of_text text = ok_or (json_of text) fault.Json >>= script_of
+
+-- ---- what the readers return
+
+-- what was returned is this, unless memory ran out
+abbrev pub ReadsPart : {A : Type 0} → Result A PartFault → Result A Cause → Type 0
+ReadsPart (Ok x) read = read ≡ Ok x
+ReadsPart (Err (part_fault.Refused c)) read = read ≡ Err c
+ReadsPart (Err part_fault.Memory) read = Unit {0}
+
+abbrev pub ReadsAs : {A : Type 0} → Result A ReadFault → Result A ReadFault → Type 0
+ReadsAs (Ok x) read = read ≡ Ok x
+ReadsAs (Err fault.Memory) read = Unit {0}
+ReadsAs (Err e) read = read ≡ Err e
+
+-- the same of a list that lies in a vector
+abbrev pub ReadsList : {A : Type 0} → Result (Vec A) ReadFault → Result (List A) ReadFault → Type 0
+ReadsList (Ok xs) read = read ≡ Ok xs.items
+ReadsList (Err fault.Memory) read = Unit {0}
+ReadsList (Err e) read = read ≡ Err e

@@ -1,0 +1,50 @@
+-- The line of each refusal.
+use Rattle.std.specs.Prelude.{ℕ, List, [], ◌∷◌, ◌++◌, codes}
+use Rattle.std.specs.Fmt.{decimal}
+use Rattle.ent_script.specs.declared.cause.Cause.{Cause}
+use Rattle.ent_script.specs.declared.cause.Cause.TheVariants as cause
+use Rattle.ent_script.specs.declared.cause.ScriptCause.{ScriptCause}
+use Rattle.ent_script.specs.declared.cause.ScriptCause.TheVariants as script_cause
+use Rattle.ent_script.specs.declared.read_fault.ReadFault.{ReadFault}
+use Rattle.ent_script.specs.declared.read_fault.ReadFault.TheVariants as fault
+
+abbrev pub script_cause_text : ScriptCause → List ℕ
+script_cause_text script_cause.Top = codes "top"
+script_cause_text script_cause.Key = codes "key"
+script_cause_text script_cause.Format = codes "format"
+script_cause_text script_cause.Slots = codes "slots"
+script_cause_text script_cause.Generations = codes "generations"
+script_cause_text script_cause.Components = codes "components"
+script_cause_text script_cause.Frames = codes "frames"
+
+abbrev pub cause_text : Cause → List ℕ
+cause_text cause.Shape = codes "shape"
+cause_text cause.Bundle = codes "bundle"
+cause_text cause.Component = codes "component"
+cause_text cause.Value = codes "value"
+cause_text cause.Count = codes "count"
+cause_text cause.Name = codes "name"
+cause_text cause.Target = codes "target"
+cause_text cause.Handle = codes "handle"
+
+-- a space, and the decimal of a number
+abbrev pub place : ℕ → List ℕ
+place n = 32 ∷ decimal n
+
+-- where an operation stands, and what is wrong with it
+abbrev pub operation_place : ℕ → ℕ → ℕ → Cause → List ℕ
+operation_place f s o c = place f ++ place s ++ place o ++ 32 ∷ cause_text c
+
+-- want of memory has no text, since no line is written of it
+abbrev pub refusal_text : ReadFault → List ℕ
+refusal_text fault.Json = codes "refused json"
+refusal_text (fault.Script c) = codes "refused script " ++ script_cause_text c
+refusal_text (fault.Frame f) = codes "refused frame" ++ place f
+refusal_text (fault.System f s) = codes "refused system" ++ place f ++ place s
+refusal_text (fault.Operation f s o c) =
+    codes "refused operation" ++ operation_place f s o c
+refusal_text fault.Memory = []
+
+-- the text, and a line feed
+abbrev pub refusal_line : ReadFault → List ℕ
+refusal_line e = refusal_text e ++ 10 ∷ []

@@ -1,0 +1,77 @@
+ghost use Rattle.std.specs.Prelude.{◌≡◌};
+ghost use Rattle.ent_script.specs.Refusal.{cause_text, script_cause_text};
+
+/// What is wrong with a script outside its frames: the first of these that is.
+#[derive(Clone, Copy, Debug, PartialEq, Eq, Hash)]
+pub enum ScriptCause {
+    /// It is no object.
+    Top,
+    /// A key is none of the five.
+    Key,
+    /// `format` is there and is not 1.
+    Format,
+    /// `slots` is there and is no whole number from 1 to 4,294,967,295.
+    Slots,
+    /// `generations` is there and is no whole number from 1 to 2,147,483,647.
+    Generations,
+    /// `components` is no list of at most 256 different names.
+    Components,
+    /// `frames` is no list of at most 1,000 elements.
+    Frames,
+}
+
+impl ScriptCause {
+    /// The word that names it, as `top` or `components`.
+    pub fn text(self) -> &'static str
+        ensures { result.now ≡ script_cause_text self }
+    {
+        match self {
+            ScriptCause::Top => "top",
+            ScriptCause::Key => "key",
+            ScriptCause::Format => "format",
+            ScriptCause::Slots => "slots",
+            ScriptCause::Generations => "generations",
+            ScriptCause::Components => "components",
+            ScriptCause::Frames => "frames",
+        }
+    }
+}
+
+/// What is wrong with an operation: the first of these that is.
+#[derive(Clone, Copy, Debug, PartialEq, Eq, Hash)]
+pub enum Cause {
+    /// It is no object, or its keys are those of no operation.
+    Shape,
+    /// A bundle is no object.
+    Bundle,
+    /// A component is none of the script's.
+    Component,
+    /// The value of a component is no whole number.
+    Value,
+    /// A count is no whole number from 0 to 65,536.
+    Count,
+    /// An `as` is no name, or no earlier operation of the system has the `as` of a target.
+    Name,
+    /// A target is no object of one key and a string, or the key is none of the three.
+    Target,
+    /// The handle of a target is not the text of one.
+    Handle,
+}
+
+impl Cause {
+    /// The word that names it, as `shape` or `component`.
+    pub fn text(self) -> &'static str
+        ensures { result.now ≡ cause_text self }
+    {
+        match self {
+            Cause::Shape => "shape",
+            Cause::Bundle => "bundle",
+            Cause::Component => "component",
+            Cause::Value => "value",
+            Cause::Count => "count",
+            Cause::Name => "name",
+            Cause::Target => "target",
+            Cause::Handle => "handle",
+        }
+    }
+}

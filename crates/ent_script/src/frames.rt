@@ -1,0 +1,208 @@
+ghost use Rattle.std.specs.Prelude.{◌≡◌, ◌≤◌, length, map, OnOk};
+ghost use Rattle.serde_json.specs.View.{view};
+ghost use Rattle.ent_script.specs.Names.{with_part};
+ghost use Rattle.ent_script.specs.Reading.{of_kind, operation_of, bound_name, at_operation};
+ghost use Rattle.ent_script.specs.Reading.{operation_at, system_of, frame_of, numbered};
+ghost use Rattle.ent_script.specs.Reading.{ReadsPart, ReadsAs, ReadsList};
+
+use crate::cause::Cause;
+use crate::elements::{at_most, name};
+use crate::frame::Frame;
+use crate::kind::{Kind, kind_of};
+use crate::names::Names;
+use crate::operation::Operation;
+use crate::part_fault::PartFault;
+use crate::parts::{binding, bundle, bundle_or_none, count, removed, target};
+use crate::read_fault::ReadFault;
+use crate::system::System;
+use ent_handle::Memory;
+use serde_json::Value;
+use std::alloc::Global;
+
+#[tactic(auto, unfolding(crate::specs::Reading::of_kind))]
+fn operation_of_kind(
+    alloc: Global,
+    components: &Names<'_>,
+    bound: &Names<'_>,
+    value: &Value,
+    kind: Kind,
+) -> Result<Operation, PartFault>
+    requires { length components.now ≤ 256 }
+    ensures { ReadsPart result (of_kind components.now bound.now (view value.now) kind) }
+{
+    match kind {
+        Kind::Spawn => {
+            let bundle = bundle(alloc, components, value.get("spawn"))?;
+            let binds = binding(bound, value.get("as"))?;
+            Ok(Operation::Spawn { bundle, binds })
+        }
+        Kind::SpawnMany => {
+            let count = count(value.get("spawn_many"))?;
+            let bundle = bundle_or_none(alloc, components, value.get("with"))?;
+            let binds = binding(bound, value.get("as"))?;
+            Ok(Operation::SpawnMany {
+                count,
+                bundle,
+                binds,
+            })
+        }
+        Kind::Insert => {
+            let bundle = bundle(alloc, components, value.get("insert"))?;
+            let target = target(components, bound, value.get("on"))?;
+            Ok(Operation::Insert { bundle, target })
+        }
+        Kind::Remove => {
+            let component = removed(components, value.get("remove"))?;
+            let target = target(components, bound, value.get("on"))?;
+            Ok(Operation::Remove { component, target })
+        }
+        Kind::Despawn => {
+            let target = target(components, bound, value.get("despawn"))?;
+            Ok(Operation::Despawn { target })
+        }
+    }
+}
+
+/// An operation of a system whose earlier operations bind these names.
+#[tactic(auto, unfolding(crate::specs::Reading::operation_of))]
+fn operation(
+    alloc: Global,
+    components: &Names<'_>,
+    bound: &Names<'_>,
+    value: &Value,
+) -> Result<Operation, PartFault>
+    requires { length components.now ≤ 256 }
+    ensures { ReadsPart result (operation_of components.now bound.now (view value.now)) }
+{
+    let kind = kind_of(value).ok_or(Cause::Shape)?;
+    operation_of_kind(alloc, components, bound, value, kind)
+}
+
+/// Adds the name that an operation binds, if it binds one.
+fn bind<'a>(bound: &mut Names<'a>, value: &'a Value) -> Result<(), Memory>
+    ensures { OnOk result (bound.new ≡ with_part bound.old (bound_name (view value.now))) }
+{
+    let Some(part) = value.get("as") else {
+        return Ok(());
+    };
+    let Some(name) = name(part) else {
+        return Ok(());
+    };
+    bound.add(name)
+}
+
+/// The operation with this number in its system.
+fn operation_at(
+    alloc: Global,
+    components: &Names<'_>,
+    bound: &Names<'_>,
+    place: (usize, usize, usize),
+    value: &Value,
+) -> Result<Operation, ReadFault>
+    requires { length components.now ≤ 256 }
+    ensures { ReadsAs result (at_operation place.0 place.1 place.2
+        (operation_of components.now bound.now (view value.now))) }
+{
+    match operation(alloc, components, bound, value) {
+        Ok(operation) => Ok(operation),
+        Err(PartFault::Memory) => Err(ReadFault::Memory),
+        Err(PartFault::Refused(cause)) => Err(ReadFault::Operation {
+            frame: place.0,
+            system: place.1,
+            operation: place.2,
+            cause,
+        }),
+    }
+}
+
+/// The operations of a system, of which each may use the names that those before it bind.
+fn operations(
+    alloc: Global,
+    components: &Names<'_>,
+    frame: usize,
+    system: usize,
+    values: &[Value],
+) -> Result<System, ReadFault>
+    requires { length components.now ≤ 256 }
+    ensures { ReadsAs result (numbered
+        (operation_at components.now frame system (map view values.now)) 0 (map view values.now)) }
+{
+    let mut bound = Names::new(alloc);
+    let mut operations = Vec::new(alloc);
+    for (number, value) in values.iter().enumerate() {
+        let place = (frame, system, number);
+        let operation = operation_at(alloc, components, &bound, place, value)?;
+        operations.push(operation)?;
+        bind(&mut bound, value)?;
+    }
+    Ok(System::new(operations))
+}
+
+#[tactic(auto, unfolding(crate::specs::Reading::system_of))]
+fn system(
+    alloc: Global,
+    components: &Names<'_>,
+    frame: usize,
+    number: usize,
+    value: &Value,
+) -> Result<System, ReadFault>
+    requires { length components.now ≤ 256 }
+    ensures { ReadsAs result (system_of components.now frame number (view value.now)) }
+{
+    let Some(values) = at_most(value, 10_000) else {
+        return Err(ReadFault::System {
+            frame,
+            system: number,
+        });
+    };
+    operations(alloc, components, frame, number, values)
+}
+
+fn systems(
+    alloc: Global,
+    components: &Names<'_>,
+    frame: usize,
+    values: &[Value],
+) -> Result<Frame, ReadFault>
+    requires { length components.now ≤ 256 }
+    ensures { ReadsAs result
+        (numbered (system_of components.now frame) 0 (map view values.now)) }
+{
+    let mut systems = Vec::new(alloc);
+    for (number, value) in values.iter().enumerate() {
+        systems.push(system(alloc, components, frame, number, value)?)?;
+    }
+    Ok(Frame::new(systems))
+}
+
+#[tactic(auto, unfolding(crate::specs::Reading::frame_of))]
+fn frame(
+    alloc: Global,
+    components: &Names<'_>,
+    number: usize,
+    value: &Value,
+) -> Result<Frame, ReadFault>
+    requires { length components.now ≤ 256 }
+    ensures { ReadsAs result (frame_of components.now number (view value.now)) }
+{
+    let Some(values) = at_most(value, 256) else {
+        return Err(ReadFault::Frame { frame: number });
+    };
+    systems(alloc, components, number, values)
+}
+
+/// The frames of a script with these components.
+pub(crate) fn frames(
+    alloc: Global,
+    components: &Names<'_>,
+    values: &[Value],
+) -> Result<Vec<Frame>, ReadFault>
+    requires { length components.now ≤ 256 }
+    ensures { ReadsList result (numbered (frame_of components.now) 0 (map view values.now)) }
+{
+    let mut frames = Vec::new(alloc);
+    for (number, value) in values.iter().enumerate() {
+        frames.push(frame(alloc, components, number, value)?)?;
+    }
+    Ok(frames)
+}

@@ -1,0 +1,30 @@
+//! Scripts of frames, systems and operations: their types, and how they are read from JSON.
+#![tactic(auto)]
+
+mod bundle;
+mod cause;
+mod elements;
+mod frame;
+mod frames;
+mod kind;
+mod names;
+mod operation;
+mod part_fault;
+mod parts;
+mod read_fault;
+mod reading;
+mod script;
+mod system;
+mod target;
+mod writing;
+
+pub use bundle::Bundle;
+pub use cause::{Cause, ScriptCause};
+pub use frame::Frame;
+pub use operation::Operation;
+pub use read_fault::ReadFault;
+pub use reading::{read_script, script_of};
+pub use script::Script;
+pub use system::System;
+pub use target::Target;
+pub use writing::write_refusal;

@@ -1,0 +1,88 @@
+ghost use Rattle.std.specs.Prelude.{◌≡◌, ◌<◌, [], length, map, OnOk, IfSome, IsTrue};
+ghost use Rattle.std.specs.List.{list_all};
+ghost use Rattle.ent_script.specs.Names.{is_name_byte, is_name, place_of, with_name};
+
+use ent_handle::Memory;
+use std::alloc::Global;
+use std::collections::BTreeMap;
+use std::marker::Model;
+
+/// Whether the text is 1 to 32 letters from `a` to `z`, digits and `_`.
+pub(crate) fn is_name(text: &str) -> bool
+    ensures { result ≡ is_name text.now }
+{
+    1 <= text.len() && text.len() <= 32 && are_name_bytes(text.as_bytes())
+}
+
+fn are_name_bytes(bytes: &[u8]) -> bool
+    ensures { result ≡ list_all is_name_byte bytes.now }
+{
+    bytes.iter().all(|byte| byte.is_ascii_lowercase() || byte.is_ascii_digit() || *byte == b'_')
+}
+
+/// Different names in order, each found in logarithmic time.
+#[derive(Drop)]
+pub(crate) struct Names<'a> {
+    list: Vec<&'a str>,
+    places: BTreeMap<&'a str, usize>,
+}
+
+impl<'a> Model for Names<'a> {
+    ghost use Rattle.std.specs.Prelude.{ℕ, List, map};
+
+    ghost Value = { List (List ℕ) };
+
+    ghost use Rattle.ent_script.specs.Places.{HavePlaces};
+
+    ghost view = { λ n. map (λ name. name.now) n.list.items };
+
+    ghost invariant = { λ n. HavePlaces n.list.items n.places };
+}
+
+impl<'a> Names<'a> {
+    /// No names. It takes no memory.
+    pub(crate) fn new(alloc: Global) -> Self
+        ensures { result ≡ [] }
+    {
+        Names {
+            list: Vec::new(alloc),
+            places: BTreeMap::new(alloc),
+        }
+    }
+
+    /// How many there are.
+    pub(crate) fn len(&self) -> usize
+        ensures { result ≡ length self.now }
+    {
+        self.list.len()
+    }
+
+    /// The place of a name.
+    pub(crate) fn find(&self, name: &str) -> Option<usize>
+        ensures value { result ≡ place_of name.now self.now }
+        ensures within { IfSome result (λ place. place < length self.now) }
+    {
+        self.places.get(name).copied()
+    }
+
+    /// Puts the name last, unless it is there.
+    pub(crate) fn add(&mut self, name: &'a str) -> Result<(), Memory>
+        ensures ok { OnOk result (self.new ≡ with_name self.old name.now) }
+    {
+        if self.places.contains_key(name) {
+            return Ok(());
+        }
+        self.list.reserve(1)?;
+        let place = self.list.as_slice().len();
+        self.places.insert(name, place)?;
+        self.list.push_reserved(name);
+        Ok(())
+    }
+
+    /// The names.
+    pub(crate) fn as_slice(&self) -> &[&'a str]
+        ensures { map (λ name. name.now) result.now ≡ self.now }
+    {
+        &self.list
+    }
+}

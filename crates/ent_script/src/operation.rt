@@ -1,0 +1,46 @@
+use crate::bundle::Bundle;
+use crate::target::Target;
+use ent_handle::ComponentId;
+
+/// What a system does at one of its steps.
+///
+/// A spawn may bind a name to what it got. The names of a system are numbered from 0, in the order
+/// of their first `as`.
+#[derive(Drop)]
+pub enum Operation {
+    /// Spawns an entity.
+    Spawn {
+        /// What it is made of.
+        bundle: Bundle,
+        /// The number of the name that is bound to it.
+        binds: Option<usize>,
+    },
+    /// Spawns many entities at once.
+    SpawnMany {
+        /// How many: at most 65,536.
+        count: u32,
+        /// What each is made of.
+        bundle: Bundle,
+        /// The number of the name that is bound to them.
+        binds: Option<usize>,
+    },
+    /// Sets components.
+    Insert {
+        /// The components, and their values.
+        bundle: Bundle,
+        /// Whose.
+        target: Target,
+    },
+    /// Takes a component away.
+    Remove {
+        /// The component.
+        component: ComponentId,
+        /// Whose.
+        target: Target,
+    },
+    /// Takes entities out.
+    Despawn {
+        /// Which.
+        target: Target,
+    },
+}

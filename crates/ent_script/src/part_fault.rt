@@ -1,0 +1,39 @@
+ghost use Rattle.std.specs.Prelude.{◌≡◌};
+ghost use Rattle.ent_script.specs.declared.part_fault.PartFault.TheVariants as faults;
+
+use crate::cause::Cause;
+use ent_handle::Memory;
+use std::alloc::AllocFailed;
+
+/// Why an operation could not be read.
+#[derive(Clone, Copy, Debug, PartialEq, Eq)]
+pub(crate) enum PartFault {
+    /// A test fails.
+    Refused(Cause),
+    /// Memory ran out.
+    Memory,
+}
+
+impl From<Cause> for PartFault {
+    ghost from_gives = { λ cause fault. fault ≡ faults.Refused cause };
+
+    fn from(cause: Cause) -> Self {
+        PartFault::Refused(cause)
+    }
+}
+
+impl From<Memory> for PartFault {
+    ghost from_gives = { λ _ fault. fault ≡ faults.Memory };
+
+    fn from(_refused: Memory) -> Self {
+        PartFault::Memory
+    }
+}
+
+impl<T: Drop> From<AllocFailed<T>> for PartFault {
+    ghost from_gives = { λ _ fault. fault ≡ faults.Memory };
+
+    fn from(_refused: AllocFailed<T>) -> Self {
+        PartFault::Memory
+    }
+}

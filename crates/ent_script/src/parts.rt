@@ -1,0 +1,168 @@
+ghost use Rattle.std.specs.Prelude.{◌≡◌, ℕ, ◌≤◌, List, length, map, option_map, string_bytes};
+ghost use Rattle.serde_json.specs.Data.{Data};
+ghost use Rattle.serde_json.specs.View.{view};
+ghost use Rattle.ent_script.specs.Reading.{component_of, item_of, bundle_by, bundle_of, with_of};
+ghost use Rattle.ent_script.specs.Reading.{removed_of, target_at, target_of, count_of};
+ghost use Rattle.ent_script.specs.Reading.{binding_of, only, ReadsPart};
+
+use crate::bundle::Bundle;
+use crate::cause::Cause;
+use crate::elements::{members, name, whole_within};
+use crate::names::Names;
+use crate::part_fault::PartFault;
+use crate::target::Target;
+use ent_handle::{ComponentId, Handle};
+use serde_json::{Map, Value};
+use std::alloc::Global;
+
+/// The number of a component.
+pub(crate) fn component(components: &Names<'_>, name: &str) -> Option<ComponentId>
+    requires { length components.now ≤ 256 }
+    ensures { result ≡ component_of components.now name.now }
+{
+    let place = components.find(name)?;
+    Some(ComponentId(place as u8))
+}
+
+/// How many, from 0 to 65,536.
+#[tactic(auto, unfolding(crate::specs::Reading::count_of))]
+pub(crate) fn count(part: Option<&Value>) -> Result<u32, Cause>
+    ensures { result ≡ count_of (option_map (λ v. view v.now) part.entry) }
+{
+    let value = part.ok_or(Cause::Count)?;
+    whole_within(value, 0, 65_536).ok_or(Cause::Count)
+}
+
+/// The number of the name that is bound: that of the name if it is bound, and else the next.
+#[tactic(auto, unfolding(crate::specs::Reading::binding_of))]
+pub(crate) fn binding(bound: &Names<'_>, part: Option<&Value>) -> Result<Option<usize>, Cause>
+    ensures { result ≡ binding_of bound.now (option_map (λ v. view v.now) part.entry) }
+{
+    let Some(value) = part else {
+        return Ok(None);
+    };
+    let name = name(value).ok_or(Cause::Name)?;
+    Ok(Some(bound.find(name).unwrap_or(bound.len())))
+}
+
+/// The component that a removal is of.
+#[tactic(auto, unfolding(crate::specs::Reading::removed_of))]
+pub(crate) fn removed(components: &Names<'_>, part: Option<&Value>) -> Result<ComponentId, Cause>
+    requires { length components.now ≤ 256 }
+    ensures { result ≡ removed_of components.now (option_map (λ v. view v.now) part.entry) }
+{
+    let value = part.ok_or(Cause::Component)?;
+    let name = value.as_str().ok_or(Cause::Component)?;
+    component(components, name).ok_or(Cause::Component)
+}
+
+#[tactic(auto, unfolding(crate::specs::Reading::target_at))]
+fn target_at(
+    components: &Names<'_>,
+    bound: &Names<'_>,
+    key: &str,
+    text: &str,
+) -> Result<Target, Cause>
+    requires { length components.now ≤ 256 }
+    ensures { result ≡ target_at components.now bound.now key.now text.now }
+{
+    if key == "name" {
+        let place = bound.find(text).ok_or(Cause::Name)?;
+        Ok(Target::Name(place))
+    } else if key == "handle" {
+        let handle = Handle::read_text(text.as_bytes()).map_err(|_| Cause::Handle)?;
+        Ok(Target::Handle(handle))
+    } else if key == "each" {
+        let id = component(components, text).ok_or(Cause::Component)?;
+        Ok(Target::Each(id))
+    } else {
+        Err(Cause::Target)
+    }
+}
+
+/// The only member of an object.
+fn only(members: &Map<String, Value>) -> Option<(&str, &Value)>
+    ensures { option_map {U = List ℕ × Data} (λ m. (m.0.now, view m.1.now)) result
+        ≡ only (map (λ m. (string_bytes m.0, view m.1)) members.now.entries) }
+{
+    if members.len() != 1 {
+        return None;
+    }
+    let (key, value) = members.first_key_value()?;
+    Some((key.as_str(), value))
+}
+
+/// Which entities an operation is for.
+#[tactic(auto, unfolding(crate::specs::Reading::target_of))]
+pub(crate) fn target(
+    components: &Names<'_>,
+    bound: &Names<'_>,
+    part: Option<&Value>,
+) -> Result<Target, Cause>
+    requires { length components.now ≤ 256 }
+    ensures { result ≡ target_of components.now bound.now
+        (option_map (λ v. view v.now) part.entry) }
+{
+    let found = members(part.ok_or(Cause::Target)?).ok_or(Cause::Target)?;
+    let (key, value) = only(found).ok_or(Cause::Target)?;
+    let text = value.as_str().ok_or(Cause::Target)?;
+    target_at(components, bound, key, text)
+}
+
+/// The component and the value of a bundle's member.
+fn item(components: &Names<'_>, key: &str, value: &Value) -> Result<(ComponentId, i64), Cause>
+    requires { length components.now ≤ 256 }
+    ensures { result ≡ item_of components.now (key.now, view value.now) }
+{
+    let id = component(components, key).ok_or(Cause::Component)?;
+    let number = value.as_i64().ok_or(Cause::Value)?;
+    Ok((id, number))
+}
+
+fn items(
+    alloc: Global,
+    components: &Names<'_>,
+    members: &Map<String, Value>,
+) -> Result<Bundle, PartFault>
+    requires { length components.now ≤ 256 }
+    ensures { ReadsPart result (bundle_by components.now
+        (map (λ m. (string_bytes m.0, view m.1)) members.now.entries)) }
+{
+    let mut bundle = Bundle::new(alloc);
+    for (key, value) in members {
+        let (id, number) = item(components, key.as_str(), value)?;
+        bundle.put(id, number)?;
+    }
+    Ok(bundle)
+}
+
+/// Components and their values.
+#[tactic(auto, unfolding(crate::specs::Reading::bundle_of))]
+pub(crate) fn bundle(
+    alloc: Global,
+    components: &Names<'_>,
+    part: Option<&Value>,
+) -> Result<Bundle, PartFault>
+    requires { length components.now ≤ 256 }
+    ensures { ReadsPart result (bundle_of components.now
+        (option_map (λ v. view v.now) part.entry)) }
+{
+    let found = members(part.ok_or(Cause::Bundle)?).ok_or(Cause::Bundle)?;
+    items(alloc, components, found)
+}
+
+/// A bundle that may be absent.
+pub(crate) fn bundle_or_none(
+    alloc: Global,
+    components: &Names<'_>,
+    part: Option<&Value>,
+) -> Result<Bundle, PartFault>
+    requires { length components.now ≤ 256 }
+    ensures { ReadsPart result (with_of components.now
+        (option_map (λ v. view v.now) part.entry)) }
+{
+    if part.is_none() {
+        return Ok(Bundle::new(alloc));
+    }
+    bundle(alloc, components, part)
+}

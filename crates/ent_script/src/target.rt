@@ -1,0 +1,13 @@
+use ent_handle::{ComponentId, Handle};
+
+/// Which entities an operation is for.
+#[derive(Clone, Copy, Debug, PartialEq, Eq, Hash)]
+pub enum Target {
+    /// What is bound to the name with this number. The names of a system are numbered from 0, in
+    /// the order of their first `as`.
+    Name(usize),
+    /// This handle.
+    Handle(Handle),
+    /// Each entity that has the component.
+    Each(ComponentId),
+}

@@ -1,0 +1,182 @@
+ghost use Rattle.std.specs.Prelude.{◌≡◌, ◌≢◌, ◌+◌, ◌<◌, ◌≤◌, ◌∷◌, ◌++◌, length, take, codes};
+ghost use Rattle.std.specs.Prelude.{OnOk, OnErr, vec_len, vec_capacity};
+ghost use Rattle.ent_script.specs.Refusal.{cause_text, script_cause_text, place};
+ghost use Rattle.ent_script.specs.Refusal.{operation_place, refusal_text, refusal_line};
+
+use crate::cause::{Cause, ScriptCause};
+use crate::read_fault::ReadFault;
+use ent_handle::Memory;
+use itoa::Buffer;
+
+fn append(out: &mut Vec<u8>, text: &[u8]) -> Result<(), Memory>
+    ensures ok { OnOk result (out.new.items ≡ out.old.items ++ text.now) }
+    ensures err { OnErr result (out.new.items ≡ out.old.items) }
+    ensures full { OnErr result (vec_capacity out.old < vec_len out.old + length text.now) }
+    ensures capacity { vec_capacity out.old ≤ vec_capacity out.new }
+{
+    Ok(out.extend_from_slice(text)?)
+}
+
+/// Appends a space and the decimal of a number.
+fn append_place(out: &mut Vec<u8>, number: usize) -> Result<(), Memory>
+    ensures ok { OnOk result (out.new.items ≡ out.old.items ++ place number) }
+    ensures kept { OnErr result (take (vec_len out.old) out.new.items ≡ out.old.items) }
+    ensures full { OnErr result (vec_capacity out.old < vec_len out.old + length (place number)) }
+    ensures capacity { vec_capacity out.old ≤ vec_capacity out.new }
+{
+    append(out, b" ")?;
+    append(out, Buffer::new().format(number).as_bytes())
+}
+
+/// Appends the numbers of a system and of its frame.
+fn append_system(out: &mut Vec<u8>, frame: usize, system: usize) -> Result<(), Memory>
+    ensures ok { OnOk result (out.new.items ≡ out.old.items ++ place frame ++ place system) }
+    ensures kept { OnErr result (take (vec_len out.old) out.new.items ≡ out.old.items) }
+    ensures full { OnErr result (vec_capacity out.old
+        < vec_len out.old + length (place frame ++ place system)) }
+    ensures capacity { vec_capacity out.old ≤ vec_capacity out.new }
+{
+    append_place(out, frame)?;
+    append_place(out, system)
+}
+
+fn append_cause(out: &mut Vec<u8>, operation: usize, cause: Cause) -> Result<(), Memory>
+    ensures ok { OnOk result (out.new.items
+        ≡ out.old.items ++ place operation ++ 32 ∷ cause_text cause) }
+    ensures kept { OnErr result (take (vec_len out.old) out.new.items ≡ out.old.items) }
+    ensures full { OnErr result (vec_capacity out.old
+        < vec_len out.old + length (place operation ++ 32 ∷ cause_text cause)) }
+    ensures capacity { vec_capacity out.old ≤ vec_capacity out.new }
+{
+    append_place(out, operation)?;
+    append(out, b" ")?;
+    append(out, cause.text().as_bytes())
+}
+
+/// Appends the numbers of an operation, its system and its frame, and what is wrong with it.
+fn append_operation(
+    out: &mut Vec<u8>,
+    place: (usize, usize, usize),
+    cause: Cause,
+) -> Result<(), Memory>
+    ensures ok { OnOk result (out.new.items
+        ≡ out.old.items ++ operation_place place.0 place.1 place.2 cause) }
+    ensures kept { OnErr result (take (vec_len out.old) out.new.items ≡ out.old.items) }
+    ensures full { OnErr result (vec_capacity out.old
+        < vec_len out.old + length (operation_place place.0 place.1 place.2 cause)) }
+    ensures capacity { vec_capacity out.old ≤ vec_capacity out.new }
+{
+    append_system(out, place.0, place.1)?;
+    append_cause(out, place.2, cause)
+}
+
+fn append_script_text(out: &mut Vec<u8>, cause: ScriptCause) -> Result<(), Memory>
+    ensures ok { OnOk result (out.new.items
+        ≡ out.old.items ++ codes "refused script " ++ script_cause_text cause) }
+    ensures kept { OnErr result (take (vec_len out.old) out.new.items ≡ out.old.items) }
+    ensures full { OnErr result (vec_capacity out.old
+        < vec_len out.old + length (codes "refused script " ++ script_cause_text cause)) }
+    ensures capacity { vec_capacity out.old ≤ vec_capacity out.new }
+{
+    append(out, b"refused script ")?;
+    append(out, cause.text().as_bytes())
+}
+
+fn append_frame_text(out: &mut Vec<u8>, frame: usize) -> Result<(), Memory>
+    ensures ok { OnOk result (out.new.items
+        ≡ out.old.items ++ codes "refused frame" ++ place frame) }
+    ensures kept { OnErr result (take (vec_len out.old) out.new.items ≡ out.old.items) }
+    ensures full { OnErr result (vec_capacity out.old
+        < vec_len out.old + length (codes "refused frame" ++ place frame)) }
+    ensures capacity { vec_capacity out.old ≤ vec_capacity out.new }
+{
+    append(out, b"refused frame")?;
+    append_place(out, frame)
+}
+
+fn append_system_text(out: &mut Vec<u8>, frame: usize, system: usize) -> Result<(), Memory>
+    ensures ok { OnOk result (out.new.items
+        ≡ out.old.items ++ codes "refused system" ++ place frame ++ place system) }
+    ensures kept { OnErr result (take (vec_len out.old) out.new.items ≡ out.old.items) }
+    ensures full { OnErr result (vec_capacity out.old
+        < vec_len out.old + length (codes "refused system" ++ place frame ++ place system)) }
+    ensures capacity { vec_capacity out.old ≤ vec_capacity out.new }
+{
+    append(out, b"refused system")?;
+    append_system(out, frame, system)
+}
+
+fn append_operation_text(
+    out: &mut Vec<u8>,
+    place: (usize, usize, usize),
+    cause: Cause,
+) -> Result<(), Memory>
+    ensures ok { OnOk result (out.new.items
+        ≡ out.old.items ++ codes "refused operation"
+        ++ operation_place place.0 place.1 place.2 cause) }
+    ensures kept { OnErr result (take (vec_len out.old) out.new.items ≡ out.old.items) }
+    ensures full { OnErr result (vec_capacity out.old
+        < vec_len out.old
+        + length (codes "refused operation" ++ operation_place place.0 place.1 place.2 cause)) }
+    ensures capacity { vec_capacity out.old ≤ vec_capacity out.new }
+{
+    append(out, b"refused operation")?;
+    append_operation(out, place, cause)
+}
+
+fn append_text(fault: ReadFault, out: &mut Vec<u8>) -> Result<(), Memory>
+    requires { fault ≢ ReadFault.Memory }
+    ensures ok { OnOk result (out.new.items ≡ out.old.items ++ refusal_text fault) }
+    ensures kept { OnErr result (take (vec_len out.old) out.new.items ≡ out.old.items) }
+    ensures full { OnErr result (vec_capacity out.old
+        < vec_len out.old + length (refusal_text fault)) }
+    ensures capacity { vec_capacity out.old ≤ vec_capacity out.new }
+{
+    match fault {
+        ReadFault::Json => append(out, b"refused json"),
+        ReadFault::Script(cause) => append_script_text(out, cause),
+        ReadFault::Frame { frame } => append_frame_text(out, frame),
+        ReadFault::System { frame, system } => append_system_text(out, frame, system),
+        ReadFault::Operation {
+            frame,
+            system,
+            operation,
+            cause,
+        } => append_operation_text(out, (frame, system, operation), cause),
+        ReadFault::Memory => unreachable!(),
+    }
+}
+
+fn append_line(fault: ReadFault, out: &mut Vec<u8>) -> Result<(), Memory>
+    requires { fault ≢ ReadFault.Memory }
+    ensures ok { OnOk result (out.new.items ≡ out.old.items ++ refusal_line fault) }
+    ensures kept { OnErr result (take (vec_len out.old) out.new.items ≡ out.old.items) }
+    ensures full { OnErr result (vec_capacity out.old
+        < vec_len out.old + length (refusal_line fault)) }
+    ensures capacity { vec_capacity out.old ≤ vec_capacity out.new }
+{
+    append_text(fault, out)?;
+    append(out, b"\n")
+}
+
+/// Appends the line of a refusal, as `refused operation 0 0 0 component`.
+///
+/// # Errors
+///
+/// `Memory` if there is no room for all of the line. `out` keeps its items then.
+pub fn write_refusal(fault: ReadFault, out: &mut Vec<u8>) -> Result<(), Memory>
+    // Want of memory has no line.
+    requires { fault ≢ ReadFault.Memory }
+    ensures ok { OnOk result (out.new.items ≡ out.old.items ++ refusal_line fault) }
+    ensures err { OnErr result (out.new.items ≡ out.old.items) }
+    ensures full { OnErr result (vec_capacity out.old
+        < vec_len out.old + length (refusal_line fault)) }
+    ensures capacity { vec_capacity out.old ≤ vec_capacity out.new }
+{
+    let len = out.len();
+    let written = append_line(fault, out);
+    if written.is_err() {
+        out.truncate(len);
+    }
+    written
+}
