@@ -1,5 +1,18 @@
-//! Tests of `ent_runner`, over its public calls.
+//! Tests of `ent_runner`, over its public calls: what no clause says, worked frames, and systems
+//! that really run side by side.
 #![tactic(auto)]
 
 #[cfg(test)]
-mod systems;
+mod acts;
+#[cfg(test)]
+mod beside;
+#[cfg(test)]
+mod frames;
+#[cfg(test)]
+mod meeting;
+#[cfg(test)]
+mod memory;
+#[cfg(test)]
+mod shown;
+#[cfg(test)]
+mod worked;
