@@ -10,7 +10,7 @@ use std::time::Instant;
 enum Start {
     /// One thread starts all others.
     OneByOne,
-    /// Each thread hands half of its workers to a thread that it starts, as the verified runner does.
+    /// Each thread hands half of its workers to one that it starts, as the verified runner does.
     ByHalves,
 }
 

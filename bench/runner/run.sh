@@ -1,7 +1,8 @@
 #!/bin/sh
 # Builds the program of crates/bench_runner and the plain one beside it, lets them take turns, and
 # prints two tables: frames of systems with work, and frames of systems without any. The plain one
-# starts its threads in two ways. Each figure is the median of all runs of its case. It needs `rt` and `rustc` on the path, and four processors.
+# starts its threads in two ways. Each figure is the median of all runs of its case. It needs `rt`
+# and `rustc` on the path, and four processors.
 set -eu
 here=$(cd "$(dirname "$0")" && pwd)
 crate=$here/../../crates/bench_runner
