@@ -1,6 +1,5 @@
 use ent_queue::CommandQueue;
 use ent_world::{SyncFault, SyncReport};
-use thiserror::Error;
 
 /// What a frame has done.
 #[derive(Drop)]
