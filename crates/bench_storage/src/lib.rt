@@ -81,7 +81,10 @@ fn reborn_all(storage: &mut Storage, entities: u32, stride: u32) -> u32
             system: 0,
             ordinal: i,
         };
-        if storage.born(occupant(i, entities, stride, 2), birth).is_ok() {
+        if storage
+            .born(occupant(i, entities, stride, 2), birth)
+            .is_ok()
+        {
             done += 1;
         }
     }

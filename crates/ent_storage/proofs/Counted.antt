@@ -177,12 +177,16 @@ module _ (living : List LivingEntity) (pairs : List (Handle × ℕ)) (rising : T
     where
       inside : j < length left
       inside = omega (arith, length-map left (λ (e : Handle × ℕ). e.1), k)
+
       unused : Handle × ℕ
       unused = (record { index = 0; generation = 0 }, d)
+
       at_i : get_or (map (λ e. e.1) left) i d ≡ (get_or left i unused).1
       at_i = get_or-map (λ (e : Handle × ℕ). e.1) left i unused d (omega (arith, inside))
+
       at_j : get_or (map (λ e. e.1) left) j d ≡ (get_or left j unused).1
       at_j = get_or-map (λ (e : Handle × ℕ). e.1) left j unused d inside
+
       by : (b : Bool) → eqb (get_or (map (λ e. e.1) left) i d) (get_or (map (λ e. e.1) left) j d) ≡ b → b ≡ false
       by false e = refl
       by true e =

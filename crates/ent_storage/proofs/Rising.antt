@@ -149,6 +149,7 @@ gap_from_neighbours {K = K} {X = X} {R = R} o es k p rising l before after = rec
     smaller j d h (inl far) =
         o.trans _ _ _ (rising_at o es j (p - 1) d rising (omega arith) (omega arith)) (before (p - 1) (omega arith) d)
     smaller j d h (inr near) = before j (omega arith) d
+
     greater : (j : ℕ) (d : K × X) → p ≤ j → j < length es → (p < j) ⊎ (j ≤ p) → R (get_or es j d).0 k ≡ Greater
     greater j d h i (inl far) =
         turn o k (get_or es j d).0 Less (o.trans _ _ _ (turn o (get_or es p d).0 k Greater (after (omega arith) d)) (rising_at o es p j d rising far i))

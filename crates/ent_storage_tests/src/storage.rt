@@ -523,7 +523,11 @@ fn despawn_at_answers_who_has_moved(rt: HostRuntime) -> Result<(), Fail> {
     let mut storage = Storage::new(rt.alloc());
     let entities = [(first, 2, 10), (second, 1, 11), (third, 0, 12)];
     assert_lives(&rt, &mut storage, &entities);
-    assert_places(&rt, &storage, &[(first, 0, 10), (second, 1, 11), (third, 2, 12)]);
+    assert_places(
+        &rt,
+        &storage,
+        &[(first, 0, 10), (second, 1, 11), (third, 2, 12)],
+    );
     assert_eq!(rt; despawn_at(&mut storage, first), Some((0, Some(third))));
     assert_places(&rt, &storage, &[(third, 0, 12), (second, 1, 11)]);
     assert_eq!(rt; storage.place(first), None);
