@@ -151,8 +151,8 @@ fn append_world(
 ///
 /// # Errors
 ///
-/// `Memory` if there is no memory for the list of the entities, or no room for all of the text. `out`
-/// keeps its items then.
+/// `Memory` if there is no memory for the list of the entities, or no room for all of the text.
+/// `out` keeps its items then.
 pub fn write_world(
     world: &World,
     names: &[String],
