@@ -14,10 +14,8 @@ fn text(
 ) -> Result<Vec<u8>, Fail> {
     let names = names(alloc, &["hp", "mp"])?;
     let mut out = Vec::new(alloc);
-    let mut number = 0;
-    for report in reports {
-        write_frame(number, report, show, &mut out)?;
-        number += 1;
+    for (number, report) in reports.iter().enumerate() {
+        write_frame(number as u64, report, show, &mut out)?;
     }
     write_world(world, &names, show, &mut out)?;
     Ok(out)
