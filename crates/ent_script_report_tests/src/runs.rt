@@ -6,12 +6,7 @@ use std::alloc::Global;
 use std::test::Fail;
 
 // The text of these frames, numbered from 0, and of this world.
-fn text(
-    alloc: Global,
-    reports: &[SyncReport],
-    world: &World,
-    show: Show,
-) -> Result<Vec<u8>, Fail> {
+fn text(alloc: Global, reports: &[SyncReport], world: &World, show: Show) -> Result<Vec<u8>, Fail> {
     let names = names(alloc, &["hp", "mp"])?;
     let mut out = Vec::new(alloc);
     for (number, report) in reports.iter().enumerate() {
@@ -41,11 +36,15 @@ fn two_spawns(rt: HostRuntime) -> Result<(), Fail> {
     let world = world(alloc, &[((0, 0, 0), &[(0, 5)]), ((0, 1, 0), &[(0, 7)])])?;
     let reports = [report(alloc, 2, &[])?];
     let handles = text(alloc, &reports, &world, Show::Handles)?;
-    assert!(rt; handles.as_slice()
-        == b"frame 0 born 2 faults 0\n0.0.0 0v1 hp=5\n0.1.0 1v1 hp=7\nalive 2\n".as_slice());
+    assert!(rt;
+        handles.as_slice()
+            == b"frame 0 born 2 faults 0\n0.0.0 0v1 hp=5\n0.1.0 1v1 hp=7\nalive 2\n".as_slice()
+    );
     let births = text(alloc, &reports, &world, Show::Births)?;
-    assert!(rt; births.as_slice()
-        == b"frame 0 born 2 faults 0\n0.0.0 hp=5\n0.1.0 hp=7\nalive 2\n".as_slice());
+    assert!(rt;
+        births.as_slice()
+            == b"frame 0 born 2 faults 0\n0.0.0 hp=5\n0.1.0 hp=7\nalive 2\n".as_slice()
+    );
     Ok(())
 }
 
@@ -58,13 +57,19 @@ fn a_late_command(rt: HostRuntime) -> Result<(), Fail> {
     let late = fault(1, 0, FaultKind::NotAlive(handle(0, 1)?));
     let reports = [report(alloc, 1, &[])?, report(alloc, 0, &[late])?];
     let handles = text(alloc, &reports, &world, Show::Handles)?;
-    assert!(rt; handles.as_slice()
-        == b"frame 0 born 1 faults 0\nframe 1 born 0 faults 1\n\
-        fault 1 0 not alive 0v1\nalive 0\n".as_slice());
+    assert!(rt;
+        handles.as_slice()
+            == b"frame 0 born 1 faults 0\nframe 1 born 0 faults 1\n\
+        fault 1 0 not alive 0v1\nalive 0\n"
+                .as_slice()
+    );
     let births = text(alloc, &reports, &world, Show::Births)?;
-    assert!(rt; births.as_slice()
-        == b"frame 0 born 1 faults 0\nframe 1 born 0 faults 1\n\
-        fault 1 0 not alive\nalive 0\n".as_slice());
+    assert!(rt;
+        births.as_slice()
+            == b"frame 0 born 1 faults 0\nframe 1 born 0 faults 1\n\
+        fault 1 0 not alive\nalive 0\n"
+                .as_slice()
+    );
     Ok(())
 }
 
@@ -82,12 +87,18 @@ fn refused_requests(rt: HostRuntime) -> Result<(), Fail> {
             left: 1_099_511_627_776,
         },
     );
-    let reports = [report(alloc, 0, &[many, one])?, report(alloc, 1, &[credit])?];
+    let reports = [
+        report(alloc, 0, &[many, one])?,
+        report(alloc, 1, &[credit])?,
+    ];
     let found = text(alloc, &reports, &world, Show::Handles)?;
-    assert!(rt; found.as_slice()
-        == b"frame 0 born 0 faults 2\nfault 0 0 space wanted 3 left 2\n\
+    assert!(rt;
+        found.as_slice()
+            == b"frame 0 born 0 faults 2\nfault 0 0 space wanted 3 left 2\n\
         fault 0 1 space wanted 1 left 0\nframe 1 born 1 faults 1\n\
-        fault 255 9999 quota left 1099511627776\n1.0.0 0v1 hp=1\nalive 1\n".as_slice());
+        fault 255 9999 quota left 1099511627776\n1.0.0 0v1 hp=1\nalive 1\n"
+                .as_slice()
+    );
     Ok(())
 }
 
@@ -100,8 +111,9 @@ fn two_components(rt: HostRuntime) -> Result<(), Fail> {
         ((0, 0, 1), &[(0, 8), (1, 4)]),
     ];
     let found = world_text(alloc, &entities, Show::Handles)?;
-    assert!(rt; found.as_slice()
-        == b"0.0.0 0v1 hp=8 mp=4\n0.0.1 1v1 hp=8 mp=4\nalive 2\n".as_slice());
+    assert!(rt;
+        found.as_slice() == b"0.0.0 0v1 hp=8 mp=4\n0.0.1 1v1 hp=8 mp=4\nalive 2\n".as_slice()
+    );
     Ok(())
 }
 
@@ -116,11 +128,12 @@ fn entities_by_birth(rt: HostRuntime) -> Result<(), Fail> {
         ((9, 1, 30), &[]),
     ];
     let found = world_text(alloc, &entities, Show::Handles)?;
-    assert!(rt; found.as_slice()
-        == b"9.1.30 3v1\n9.2.2 2v1 mp=6\n9.2.11 1v1\n10.0.0 0v1\nalive 4\n".as_slice());
+    assert!(rt;
+        found.as_slice()
+            == b"9.1.30 3v1\n9.2.2 2v1 mp=6\n9.2.11 1v1\n10.0.0 0v1\nalive 4\n".as_slice()
+    );
     let found = world_text(alloc, &entities, Show::Births)?;
-    assert!(rt; found.as_slice()
-        == b"9.1.30\n9.2.2 mp=6\n9.2.11\n10.0.0\nalive 4\n".as_slice());
+    assert!(rt; found.as_slice() == b"9.1.30\n9.2.2 mp=6\n9.2.11\n10.0.0\nalive 4\n".as_slice());
     Ok(())
 }
 
@@ -134,9 +147,12 @@ fn extreme_numbers(rt: HostRuntime) -> Result<(), Fail> {
         ((u64::MAX, u32::MAX, u32::MAX), &[(0, -10)]),
     ];
     let found = world_text(alloc, &entities, Show::Births)?;
-    assert!(rt; found.as_slice()
-        == b"0.0.0 hp=-9223372036854775808 mp=9223372036854775807\n0.0.1 hp=-1 mp=0\n\
-        18446744073709551615.4294967295.4294967295 hp=-10\nalive 3\n".as_slice());
+    assert!(rt;
+        found.as_slice()
+            == b"0.0.0 hp=-9223372036854775808 mp=9223372036854775807\n0.0.1 hp=-1 mp=0\n\
+        18446744073709551615.4294967295.4294967295 hp=-10\nalive 3\n"
+                .as_slice()
+    );
     let mut out = Vec::new(alloc);
     write_frame(u64::MAX, &report(alloc, 0, &[])?, Show::Births, &mut out)?;
     assert!(rt; out.as_slice() == b"frame 18446744073709551615 born 0 faults 0\n".as_slice());
