@@ -162,6 +162,10 @@ pub fn write_world(
     ensures ok { OnOk result ((text : List ℕ)
         × IsWorldText (map string_bytes names.now) show world.now.entities text
         × (out.new.items ≡ out.old.items ++ text)) }
+    // There is no other such text.
+    ensures only { OnOk result ((text : List ℕ)
+        → IsWorldText (map string_bytes names.now) show world.now.entities text
+        → out.new.items ≡ out.old.items ++ text) }
     ensures err { OnErr result (out.new.items ≡ out.old.items) }
 {
     let len = out.len();
