@@ -1,0 +1,2 @@
+pub mod FrameText
+pub mod WorldText
