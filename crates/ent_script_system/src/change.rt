@@ -1,7 +1,7 @@
 ghost use Rattle.std.specs.Prelude.{◌≡◌, ◌++◌, ◌∷◌, [], map, OnOk};
 ghost use Rattle.ent_queue.specs.Commands.{IsReady, Extends, queue_of};
 ghost use Rattle.ent_script_system.specs.Issuing.{OnEach};
-ghost use Rattle.ent_script_system.specs.Names.{names_of, command_on, HasIssuedOn};
+ghost use Rattle.ent_script_system.specs.Parts.{names_of, command_on, HasIssuedOn};
 
 use crate::bundle::bundle_of;
 use crate::names::Names;

@@ -1,6 +1,6 @@
 ghost use Rattle.std.specs.Prelude.{◌≡◌, ◌≤◌, [], length, OnOk};
 ghost use Rattle.ent_script_system.specs.Issuing.{bound};
-ghost use Rattle.ent_script_system.specs.Names.{names_of};
+ghost use Rattle.ent_script_system.specs.Parts.{names_of};
 
 use ent_handle::{Handle, Memory};
 use std::alloc::Global;

@@ -1,7 +1,7 @@
 ghost use Rattle.std.specs.Prelude.{◌≡◌, OnOk};
 ghost use Rattle.ent_queue.specs.Commands.{IsReady, Extends};
 ghost use Rattle.ent_script_system.specs.Issuing.{MayIssue};
-ghost use Rattle.ent_script_system.specs.Names.{HasIssued};
+ghost use Rattle.ent_script_system.specs.Parts.{HasIssued};
 
 use crate::change::Change;
 use crate::names::Names;

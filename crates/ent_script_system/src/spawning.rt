@@ -2,7 +2,7 @@ ghost use Rattle.std.specs.Prelude.{OnOk};
 ghost use Rattle.ent_queue.specs.Commands.{IsReady, Extends};
 ghost use Rattle.ent_world.specs.OpenWorld.{View};
 ghost use Rattle.ent_script.specs.declared.operation.Operation.TheVariants.{Spawn, SpawnMany};
-ghost use Rattle.ent_script_system.specs.Names.{HasIssued};
+ghost use Rattle.ent_script_system.specs.Parts.{HasIssued};
 
 use crate::bundle::bundle_of;
 use crate::names::Names;

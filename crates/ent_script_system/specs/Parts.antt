@@ -1,5 +1,5 @@
--- How the parts of a system's run say what was issued.
-use Rattle.std.specs.Prelude.{◌≡◌, ℕ, List, [], ◌++◌, slice_index_or}
+-- What the parts of a run issue, and how the lists of names are kept.
+use Rattle.std.specs.Prelude.{◌≡◌, List, [], ◌++◌, slice_index_or}
 use Rattle.ent_handle.specs.Handle.{Handle}
 use Rattle.ent_queue.specs.Command.{Command, Insert, Remove, Despawn}
 use Rattle.ent_queue.specs.Commands.{Issued, queue_of}
