@@ -1,0 +1,25 @@
+use Rattle.std.proofs.Common.{◌∷◌, [], refl, sym, subst, List}
+use Rattle.ent_handle.specs.Handle.{Handle}
+use Rattle.ent_storage.specs.BirthOrder.{ListsWith}
+use Rattle.ent_script.specs.declared.target.Target.{Target}
+use Rattle.ent_script_system.specs.Issuing.{IsTargeted}
+use Rattle.ent_script_system.specs.Parts.{names_of}
+use Rattle.ent_script_system.proofs.Targeted.{issued_on}
+use Rattle.ent_script_system.proofs.change.Change.on_target.Goals as goal
+
+pub returns-in-Handle-clause-issued : goal.returns-in-Handle-clause-issued
+returns-in-Handle-clause-issued c =
+    let h = c.in-Handle.handle in
+    issued_on _ _ _ _ _ _ (h ∷ []) _
+    (subst (λ (on : Target). IsTargeted c.args.view.now (names_of c.args.names.now) on (h ∷ [])) (sym c.in-Handle.is) refl)
+    c.on_each-in-Handle.ensures.ok
+
+pub returns-in_ok-with-in-Each-clause-issued : goal.returns-in_ok-with-in-Each-clause-issued
+returns-in_ok-with-in-Each-clause-issued c =
+    let view = c.args.view.now in
+    let hs = c.deref.result.now in
+    let lists : ListsWith c.in-Each.id view.entities hs =
+    subst (λ (xs : List Handle). ListsWith c.in-Each.id view.entities xs) (sym c.deref.ensures.value) c.in_ok-with-in-Each.ensures in
+    issued_on _ _ _ _ _ _ hs _
+    (subst (λ (on : Target). IsTargeted view (names_of c.args.names.now) on hs) (sym c.in-Each.is) lists)
+    c.on_each-in-Each.ensures.ok

@@ -1,0 +1,71 @@
+-- What a system of a script may issue.
+use Rattle.std.specs.Prelude.{◌≡◌, ℕ, ℤ, List, [], ◌∷◌, ◌++◌, length, map, Some, ◌==◌}
+use Rattle.std.specs.Prelude.{if◌then◌else◌}
+use Rattle.ent_handle.specs.declared.component.ComponentId.{ComponentId}
+use Rattle.ent_handle.specs.Handle.{Handle}
+use Rattle.ent_storage.specs.BirthOrder.{ListsWith}
+use Rattle.ent_queue.specs.Command.{Command, Spawn, SpawnMany, Insert, Remove, Despawn, Refused}
+use Rattle.ent_world.specs.OpenWorld.{View}
+use Rattle.ent_script.specs.declared.operation.Operation.{Operation}
+use Rattle.ent_script.specs.declared.operation.Operation.TheVariants as operation
+use Rattle.ent_script.specs.declared.target.Target.{Target}
+use Rattle.ent_script.specs.declared.target.Target.TheVariants as target
+
+-- what each name stands for: a list of handles, which is empty if nothing is bound to it
+abbrev pub Names : Type 0
+Names = ℕ → List Handle
+
+abbrev pub unbound : Names
+unbound n = []
+
+abbrev pub bound : ℕ → List Handle → Names → Names
+bound n hs names m = if m == n then hs else names m
+
+-- what the names stand for after an operation that has issued these commands: a spawn that was
+-- served binds its name, and a refused one binds nothing
+abbrev pub names_after : Names → Operation → List Command → Names
+names_after names (operation.Spawn bundle (Some n)) (Spawn h items ∷ []) = bound n (h ∷ []) names
+names_after names (operation.SpawnMany count bundle (Some n)) (SpawnMany hs items ∷ []) =
+    bound n hs names
+names_after names _ _ = names
+
+-- The target means these handles, in this order.
+abbrev pub IsTargeted : View → Names → Target → List Handle → Type 0
+IsTargeted view names (target.Name n) hs = hs ≡ names n
+IsTargeted view names (target.Handle h) hs = hs ≡ h ∷ []
+IsTargeted view names (target.Each id) hs = ListsWith id view.entities hs
+
+-- one command for each handle of a target
+abbrev pub OnEach : View → Names → Target → (Handle → Command) → List Command → Type 0
+OnEach view names on command issued =
+    (hs : List Handle) × IsTargeted view names on hs × (issued ≡ map command hs)
+
+abbrev pub IsSpawn : List (ComponentId × ℤ) → List Command → Type 0
+IsSpawn bundle (Spawn h items ∷ []) = items ≡ bundle
+IsSpawn bundle (Refused wanted why ∷ []) = wanted ≡ 1
+IsSpawn bundle _ = ⊥
+
+abbrev pub IsSpawnMany : ℕ → List (ComponentId × ℤ) → List Command → Type 0
+IsSpawnMany count bundle (SpawnMany hs items ∷ []) = (length hs ≡ count) × (items ≡ bundle)
+IsSpawnMany count bundle (Refused wanted why ∷ []) = wanted ≡ count
+IsSpawnMany count bundle _ = ⊥
+
+-- One operation may issue these commands.
+abbrev pub Issues : View → Names → Operation → List Command → Type 0
+Issues view names (operation.Spawn bundle binds) issued = IsSpawn bundle issued
+Issues view names (operation.SpawnMany count bundle binds) issued = IsSpawnMany count bundle issued
+Issues view names (operation.Insert bundle on) issued =
+    OnEach view names on (λ h. Insert h bundle) issued
+Issues view names (operation.Remove id on) issued = OnEach view names on (λ h. Remove h id) issued
+Issues view names (operation.Despawn on) issued = OnEach view names on Despawn issued
+
+-- The operations may issue these commands, one after the other.
+abbrev pub IssuesAll : View → Names → List Operation → List Command → Type 0
+IssuesAll view names [] queue = queue ≡ []
+IssuesAll view names (op ∷ ops) queue =
+    (issued rest : List Command) × (queue ≡ issued ++ rest) × Issues view names op issued
+    × IssuesAll view (names_after names op issued) ops rest
+
+-- A system begins with no names bound.
+abbrev pub MayIssue : List Operation → View → List Command → Type 0
+MayIssue ops view queue = IssuesAll view unbound ops queue

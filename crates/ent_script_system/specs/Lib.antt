@@ -1,0 +1,2 @@
+pub mod Issuing
+pub mod Parts

@@ -1,0 +1,85 @@
+ghost use Rattle.std.specs.Prelude.{◌≡◌, ◌++◌, ◌∷◌, [], map, OnOk};
+ghost use Rattle.ent_queue.specs.Commands.{IsReady, Extends, queue_of};
+ghost use Rattle.ent_script_system.specs.Issuing.{OnEach};
+ghost use Rattle.ent_script_system.specs.Parts.{names_of, command_on, HasIssuedOn};
+
+use crate::bundle::bundle_of;
+use crate::names::Names;
+use ent_handle::{ComponentId, Handle, Memory};
+use ent_queue::Commands;
+use ent_script::{Bundle, Target};
+use ent_world::View;
+use std::alloc::Global;
+
+/// What an operation does to each entity of its target.
+#[derive(Clone, Copy)]
+pub(crate) enum Change<'a> {
+    /// Sets these components.
+    Insert(&'a Bundle),
+    /// Takes this component away.
+    Remove(ComponentId),
+    /// Takes the entity out.
+    Despawn,
+}
+
+impl Change<'_> {
+    /// Issues the change for each handle of the target, in order.
+    #[tactic(auto, using(ent_runner::proofs::Issuing::extends_then))]
+    pub(crate) fn on_target(
+        self,
+        alloc: Global,
+        view: &View<'_>,
+        target: Target,
+        names: &Names,
+        commands: &mut Commands<'_>,
+    ) -> Result<(), Memory>
+        requires { IsReady commands.old }
+        ensures extends { Extends commands.old commands.new }
+        ensures issued { OnOk result (HasIssuedOn view.now (names_of names.now) target
+            (command_on self.entry) commands.old commands.new) }
+    {
+        match target {
+            Target::Name(name) => self.on_each(alloc, names.get(name), commands),
+            Target::Handle(handle) => self.on_each(alloc, &[handle], commands),
+            Target::Each(id) => self.on_each(alloc, &view.with(id)?, commands),
+        }
+    }
+
+    /// Issues the change for each of the handles, in order.
+    #[tactic(auto, using(ent_runner::proofs::Issuing::extends_then))]
+    fn on_each(
+        self,
+        alloc: Global,
+        handles: &[Handle],
+        commands: &mut Commands<'_>,
+    ) -> Result<(), Memory>
+        requires { IsReady commands.old }
+        ensures extends { Extends commands.old commands.new }
+        ensures ok { OnOk result (queue_of commands.new
+            ≡ queue_of commands.old ++ map (command_on self.entry) handles.now) }
+    {
+        for handle in handles {
+            self.on_one(alloc, *handle, commands)?;
+        }
+        Ok(())
+    }
+
+    /// Issues the change for one handle.
+    fn on_one(
+        self,
+        alloc: Global,
+        handle: Handle,
+        commands: &mut Commands<'_>,
+    ) -> Result<(), Memory>
+        requires { IsReady commands.old }
+        ensures extends { Extends commands.old commands.new }
+        ensures ok { OnOk result (queue_of commands.new
+            ≡ queue_of commands.old ++ command_on self.entry handle ∷ []) }
+    {
+        match self {
+            Change::Insert(bundle) => commands.insert(handle, bundle_of(alloc, bundle)?),
+            Change::Remove(id) => commands.remove(handle, id),
+            Change::Despawn => commands.despawn(handle),
+        }
+    }
+}

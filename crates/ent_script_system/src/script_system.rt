@@ -1,0 +1,89 @@
+ghost use Rattle.std.specs.Prelude.{◌≡◌, OnOk};
+ghost use Rattle.ent_queue.specs.Commands.{IsReady, Extends};
+ghost use Rattle.ent_script_system.specs.Issuing.{MayIssue};
+ghost use Rattle.ent_script_system.specs.Parts.{HasIssued};
+
+use crate::change::Change;
+use crate::names::Names;
+use crate::spawning::{spawn, spawn_many};
+use ent_handle::Memory;
+use ent_queue::Commands;
+use ent_runner::System;
+use ent_script::Operation;
+use ent_world::View;
+use std::alloc::Global;
+use std::marker::Model;
+
+/// A system of a script, as a frame runs it. Contracts see the list of its operations.
+#[derive(Drop)]
+pub struct ScriptSystem<'a> {
+    system: &'a ent_script::System,
+}
+
+impl<'a> Model for ScriptSystem<'a> {
+    ghost use Rattle.std.specs.Prelude.{List};
+    ghost use Rattle.ent_script.specs.declared.operation.Operation.{Operation};
+
+    ghost Value = { List Operation };
+
+    ghost view = { λ s. s.system.now };
+}
+
+impl<'a> ScriptSystem<'a> {
+    /// The system of these operations. It takes no memory.
+    pub fn new(system: &'a ent_script::System) -> Self
+        ensures { result ≡ system.now }
+    {
+        ScriptSystem { system }
+    }
+}
+
+impl System for ScriptSystem<'_> {
+    ghost may_issue = { MayIssue };
+
+    #[tactic(auto, using(ent_runner::proofs::Issuing::extends_then))]
+    fn run(
+        &self,
+        alloc: Global,
+        view: &View<'_>,
+        commands: &mut Commands<'_>,
+    ) -> Result<(), Memory> {
+        let mut names = Names::new(alloc);
+        for operation in self.system.operations() {
+            issue(alloc, view, operation, &mut names, commands)?;
+        }
+        Ok(())
+    }
+}
+
+/// Issues the commands of one operation, and binds its name.
+fn issue(
+    alloc: Global,
+    view: &View<'_>,
+    operation: &Operation,
+    names: &mut Names,
+    commands: &mut Commands<'_>,
+) -> Result<(), Memory>
+    requires { IsReady commands.old }
+    ensures extends { Extends commands.old commands.new }
+    ensures issued { OnOk result (HasIssued view.now operation.now
+        commands.old commands.new names.old names.new) }
+{
+    match operation {
+        Operation::Spawn { bundle, binds } => spawn(alloc, bundle, *binds, names, commands),
+        Operation::SpawnMany {
+            count,
+            bundle,
+            binds,
+        } => spawn_many(alloc, *count, bundle, *binds, names, commands),
+        Operation::Insert { bundle, target } => {
+            Change::Insert(bundle).on_target(alloc, view, *target, names, commands)
+        }
+        Operation::Remove { component, target } => {
+            Change::Remove(*component).on_target(alloc, view, *target, names, commands)
+        }
+        Operation::Despawn { target } => {
+            Change::Despawn.on_target(alloc, view, *target, names, commands)
+        }
+    }
+}
