@@ -10,6 +10,7 @@ use Rattle.std.specs.Cmp.Lexicographic.{options_total}
 use Rattle.std.specs.List.{AllPairs}
 use Rattle.std.specs.List.Sorted.{IsPermutation}
 use Rattle.std.proofs.lemmas.List.Sorted.{Contains-permutation, IsPermutation-sym}
+use Rattle.ent_alloc.proofs.ListLaws.{AllPairs-tail}
 use Rattle.ent_handle.specs.declared.component.ComponentId.{ComponentId}
 use Rattle.ent_handle.specs.Birth.{birth_cmp_total}
 use Rattle.ent_handle.specs.Handle.{Handle, handle_cmp_total}
@@ -35,9 +36,6 @@ module _ {X : Type 0} (R : X → X → Type 0) (asym : (a b : X) → R a b → �
   deeper : (x z : X) (xs : List X) → Contains xs z → Contains (x ∷ xs) z
   deeper x z xs (k, l, e) = (suc k, omega (arith, l), e)
 
-  others : (x : X) (xs : List X) → AllPairs R (x ∷ xs) → AllPairs R xs
-  others x xs p = λ i j d lt l. p (suc i) (suc j) d (omega (arith, lt)) (omega (arith, l))
-
   within : (x y : X) (xs ys : List X) → x ≡ y → AllPairs R (x ∷ xs) → ((z : X) → Contains (x ∷ xs) z → Contains (y ∷ ys) z) → (z : X) → Contains xs z → Contains ys z
   within x y xs ys same p f z c = later x z ys (above x z xs p c) (subst (λ w. Contains (w ∷ ys) z) (sym same) (f z (deeper x z xs c)))
 
@@ -47,7 +45,7 @@ module _ {X : Type 0} (R : X → X → Type 0) (asym : (a b : X) → R a b → �
   same_list (x ∷ xs) [] p q f g = let c = f x (0, omega arith, refl) in absurd (omega (arith, c.1))
   same_list (x ∷ xs) (y ∷ ys) p q f g =
       let same : x ≡ y = front x y xs ys p q (f x (0, omega arith, refl)) (g y (0, omega arith, refl)) in
-      let tails : xs ≡ ys = same_list xs ys (others x xs p) (others y ys q) (within x y xs ys same p f) (within y x ys xs (sym same) q g) in
+      let tails : xs ≡ ys = same_list xs ys (AllPairs-tail R x xs p) (AllPairs-tail R y ys q) (within x y xs ys same p f) (within y x ys xs (sym same) q g) in
       ap (λ w. w ∷ xs) same ∙ ap (λ l. y ∷ l) tails
 
 not_both : {K : Type 0} {C : K → K → Ordering} → IsTotalOrder C → (a b : K) → C a b ≡ Less → ¬ (C b a ≡ Less)
