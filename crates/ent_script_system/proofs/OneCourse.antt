@@ -44,7 +44,7 @@ use Rattle.ent_script_system.proofs.Served.{served_first, served_rest}
 abbrev requested : Allocator → ℕ → (ℕ → Result (List Handle) OutOfSpace → List Command) → ℕ → List Command
 requested s left issue wanted = if nat_lt left wanted then Refused wanted (Quota left) ∷ [] else issue wanted (reply_to s wanted)
 
--- what a spawn issues at this reply
+-- what a spawn of one and a spawn of many issue at this reply
 abbrev spawned : List (ComponentId × ℤ) → ℕ → Result (List Handle) OutOfSpace → List Command
 spawned bundle wanted (Ok (h ∷ hs)) = Spawn h bundle ∷ []
 spawned bundle wanted (Ok []) = []
@@ -81,6 +81,7 @@ module _ (s : Allocator) (left : ℕ) (bundle : List (ComponentId × ℤ)) where
       no_credit (many_spawned bundle) wanted rest served.within.0.0 served.within.0.1 ∙ ap (requested s left (many_spawned bundle)) is
   many_is count _ is served = absurd is
 
+-- a target means one list of handles
 same_targets : (view : View) (names : Names) (on : Target) (hs ks : List Handle) → IsTargeted view names on hs → IsTargeted view names on ks → hs ≡ ks
 same_targets view names (target.Name n) hs ks a b = a ∙ sym b
 same_targets view names (target.Handle h) hs ks a b = a ∙ sym b
@@ -98,6 +99,7 @@ same_operation view names (operation.Despawn on) s left cs ds a b p q = same_on_
 
 -- ---- one system
 
+-- After the same commands the allocator, the credit and the names are the same, so the rest follows.
 same_queue : (view : View) (names : Names) (ops : List Operation) (s : Allocator) (left : ℕ) (cs ds : List Command) → IssuesAll view names ops cs → IssuesAll view names ops ds → IsServed s left cs → IsServed s left ds → cs ≡ ds
 same_queue view names [] s left cs ds a b p q = a ∙ sym b
 same_queue view names (op ∷ ops) s left cs ds (first, rest, cs_are, may, others) (first', rest', ds_are, may', others') p q =
@@ -155,15 +157,15 @@ is_alone systems w queues history frame =
 abbrev MayIssueEach : View → List (List Operation) → List (List Command) → Type 0
 MayIssueEach view systems queues = (n : ℕ) (system : List Operation) → slice_get systems n ≡ Some system → MayIssue system view (queue_at queues n)
 
+-- the systems in the order in which the worker ran them
 same_queues : (view : View) (systems : List (List Operation)) (q r : List (List Command)) (ns : List ℕ) (s : Allocator) (left : ℕ) → All (λ n. n < length systems) ns → MayIssueEach view systems q → MayIssueEach view systems r → IsServed s left (commands_of q ns) → IsServed s left (commands_of r ns) → All (λ n. queue_at q n ≡ queue_at r n) ns
 same_queues view systems q r [] s left below may may' served served' = All-nil (λ n. queue_at q n ≡ queue_at r n)
 same_queues view systems q r (n ∷ ns) s left below may may' served served' =
     let system = at_within systems n (All-head (λ n. n < length systems) n ns below) in
-    let same : queue_at q n ≡ queue_at r n =
-        same_queue view unbound system.0 s left (queue_at q n) (queue_at r n) (may n system.0 system.1) (may' n system.0 system.1)
-        (served_first s left (queue_at q n) (commands_of q ns) served) (served_first s left (queue_at r n) (commands_of r ns) served') in
-    let after : IsServed (state_after s (queue_at q n)) (left_after left (queue_at q n)) (commands_of r ns) =
-        subst (λ (cs : List Command). IsServed (state_after s cs) (left_after left cs) (commands_of r ns)) (sym same) (served_rest s left (queue_at r n) (commands_of r ns) served') in
+    let here : IsServed s left (queue_at q n) = served_first s left (queue_at q n) (commands_of q ns) served in
+    let here' : IsServed s left (queue_at r n) = served_first s left (queue_at r n) (commands_of r ns) served' in
+    let same : queue_at q n ≡ queue_at r n = same_queue view unbound system.0 s left (queue_at q n) (queue_at r n) (may n system.0 system.1) (may' n system.0 system.1) here here' in
+    let after : IsServed (state_after s (queue_at q n)) (left_after left (queue_at q n)) (commands_of r ns) = subst (λ (cs : List Command). IsServed (state_after s cs) (left_after left cs) (commands_of r ns)) (sym same) (served_rest s left (queue_at r n) (commands_of r ns) served') in
     All-cons (λ n. queue_at q n ≡ queue_at r n) n ns same
     (same_queues view systems q r ns (state_after s (queue_at q n)) (left_after left (queue_at q n)) (All-tail (λ n. n < length systems) n ns below) may may' (served_rest s left (queue_at q n) (commands_of q ns) served) after)
 
@@ -195,8 +197,7 @@ pub one_end : (systems : List (List Operation)) (w : World) (q r : List (List Co
     → Ends MayIssue systems 1 w q u births faults → Ends MayIssue systems 1 w r v born_too faults_too
     → (q ≡ r) × (u ≡ v) × (births ≡ born_too) × (faults ≡ faults_too)
 one_end systems w q r u v births born_too faults faults_too first second =
-    let one = one_course systems w q r first.history second.history first.frame second.frame in
-    (
+    let one = one_course systems w q r first.history second.history first.frame second.frame in (
       one.0,
       first.world ∙ (λ i. (sync (one.0 i) (reserved_by (one.1 i) w)).world) ∙ sym second.world,
       first.births_are ∙ ap (λ h. born (after_history w.allocator h)) one.1 ∙ sym second.births_are,
