@@ -1,8 +1,10 @@
 //! The run of a whole script.
-ghost use Rattle.std.specs.Prelude.{◌≡◌, ◌<◌, ◌≤◌, IfOk};
+ghost use Rattle.std.specs.Prelude.{◌≡◌, ◌<◌, ◌≤◌, ℕ, List, IfOk};
 ghost use Rattle.ent_script.specs.Ranges.{IsScript};
 ghost use Rattle.ent_script_run.specs.Course.{AreFew, HaveGone};
-ghost use Rattle.ent_script_run.specs.Report.{IsReport};
+ghost use Rattle.ent_script_run.specs.Given.{NoneWrapped, AreGivenOnce};
+ghost use Rattle.ent_script_run.specs.Report.{Execution, IsReport, IsReportOf};
+ghost use Rattle.ent_world.specs.World.{first_world};
 
 use crate::frame;
 use ent_handle::Memory;
@@ -38,6 +40,28 @@ where
     Ok(text)
 }
 
+/// Runs the frames over a world that begins empty, and appends the text of the world that they
+/// leave.
+fn report<R>(
+    rt: &R,
+    alloc: Global,
+    script: &Script,
+    workers: usize,
+    show: Show,
+) -> Result<Vec<u8>, Memory>
+where
+    R: Threads + Sync,
+    requires ranges { IsScript script.now }
+    requires some { 0 < workers }
+    requires few { workers ≤ 64 }
+    ensures { IfOk result (λ text. IsReport script.now workers show text.items) }
+{
+    let mut world = World::new(alloc, script.limits());
+    let mut text = run_frames(rt, alloc, &mut world, script.frames(), workers, show)?;
+    write_world(&world, script.components(), show, &mut text)?;
+    Ok(text)
+}
+
 /// Runs a script over a world that begins empty, on 1 to 64 workers, and answers the report: the
 /// text of each frame and of the world that the last one leaves.
 ///
@@ -57,9 +81,15 @@ where
     requires some { 0 < workers }
     requires few { workers ≤ 64 }
     ensures report { IfOk result (λ text. IsReport script.now workers show text.items) }
+
+    // One worker has no other report.
+    ensures only { workers ≡ 1 → IfOk result (λ text. (other : List ℕ)
+        → IsReport script.now workers show other → text.items ≡ other) }
+
+    // However the frames went.
+    ensures given_once { IfOk result (λ text. (executions : List Execution)
+        → IsReportOf script.now workers show executions text.items
+        → NoneWrapped (first_world script.now.limits) executions → AreGivenOnce executions) }
 {
-    let mut world = World::new(alloc, script.limits());
-    let mut text = run_frames(rt, alloc, &mut world, script.frames(), workers, show)?;
-    write_world(&world, script.components(), show, &mut text)?;
-    Ok(text)
+    report(rt, alloc, script, workers, show)
 }
