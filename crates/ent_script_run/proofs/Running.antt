@@ -1,6 +1,6 @@
 -- A run whose first frames are done goes on by one frame, and ends in a report.
-use Rattle.std.proofs.Common.{◌≡◌, refl, ap, sym, subst, ◌∙◌, ℕ, suc, ◌+◌, ◌<◌, ◌≤◌, List, [], ◌∷◌, ◌++◌}
-use Rattle.std.proofs.Common.{length, get_or, take, arith, append_assoc, append-nil, All}
+use Rattle.std.proofs.Common.{◌≡◌, refl, ap, sym, subst, ◌∙◌, ℕ, ◌+◌, ◌<◌, List, [], ◌∷◌, ◌++◌}
+use Rattle.std.proofs.Common.{length, get_or, take, arith, append_assoc, append-nil}
 use Rattle.std.proofs.lemmas.List.{length-take-le, take_more}
 use Rattle.ent_handle.specs.Handle.{Handle}
 use Rattle.ent_queue.specs.Command.{Command}

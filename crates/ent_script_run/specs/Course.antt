@@ -1,16 +1,10 @@
 -- A run of a script on its way: some frames are done.
-use Rattle.std.specs.Prelude.{◌≡◌, ℕ, ◌≤◌, List, ◌++◌, length}
+use Rattle.std.specs.Prelude.{◌≡◌, ℕ, ◌≤◌, List, length}
 use Rattle.std.specs.List.{All}
-use Rattle.ent_handle.specs.Handle.{Handle}
 use Rattle.ent_world.specs.World.{World}
-use Rattle.ent_world.specs.declared.fault.Fault.{Fault}
-use Rattle.ent_runner.specs.Frame.{IsFrame}
 use Rattle.ent_script.specs.declared.operation.Operation.{Operation}
-use Rattle.ent_script_system.specs.Issuing.{MayIssue}
 use Rattle.ent_script_report.specs.declared.show.Show.{Show}
-use Rattle.ent_script_report.specs.FrameText.{frame_text}
 use Rattle.ent_script_run.specs.Report.{Execution, AreExecutions, last_world, frames_text}
-use Rattle.ent_script_run.specs.Report.{synced, born_in}
 
 -- These frames were run from the first world on, and have left this world and this text.
 pub record HaveGone (frames : List (List (List Operation))) (workers : ℕ) (show : Show)

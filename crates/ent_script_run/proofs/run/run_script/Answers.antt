@@ -1,4 +1,4 @@
-use Rattle.std.proofs.Common.{ℕ, List, subst}
+use Rattle.std.proofs.Common.{ℕ, subst}
 use Rattle.std.proofs.lemmas.Result.{IfOk-weaker}
 use Rattle.ent_script_run.specs.Report.{IsReport}
 use Rattle.ent_script_run.proofs.OneReport.{one_report}
