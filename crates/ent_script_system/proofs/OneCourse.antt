@@ -19,6 +19,7 @@ use Rattle.ent_alloc.specs.History.{Call, IsLegal, after_history}
 use Rattle.ent_alloc.proofs.ListLaws.{filter_all}
 use Rattle.ent_alloc.proofs.PoolLaw.{reply-none}
 use Rattle.ent_shared.specs.declared.refused.Refused.TheVariants.{Space, Quota}
+use Rattle.ent_storage.proofs.OneList.{one_list_with}
 use Rattle.ent_queue.specs.Command.{Command, Spawn, SpawnMany, Insert, Remove, Despawn, Refused}
 use Rattle.ent_world.specs.World.{World}
 use Rattle.ent_world.specs.OpenWorld.{View}
@@ -33,7 +34,7 @@ use Rattle.ent_script.specs.declared.target.Target.{Target}
 use Rattle.ent_script.specs.declared.target.Target.TheVariants as target
 use Rattle.ent_script_system.specs.Issuing.{Names, unbound, names_after, IsTargeted, OnEach}
 use Rattle.ent_script_system.specs.Issuing.{IsSpawn, IsSpawnMany, Issues, IssuesAll, MayIssue}
-use Rattle.ent_script_system.proofs.RisingLists.{one_list_with, one_rising}
+use Rattle.ent_script_system.proofs.RisingLists.{one_rising}
 use Rattle.ent_script_system.proofs.Served.{calls_of, IsServed, state_after, left_after}
 use Rattle.ent_script_system.proofs.Served.{served_first, served_rest}
 
