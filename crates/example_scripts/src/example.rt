@@ -28,13 +28,7 @@ where
 }
 
 /// Whether that run prints what the file has. If not, it tells which one it was.
-fn prints_as_shown<R>(
-    rt: &R,
-    folder: &str,
-    name: &str,
-    workers: usize,
-    show: Show,
-) -> Result<bool>
+fn prints_as_shown<R>(rt: &R, folder: &str, name: &str, workers: usize, show: Show) -> Result<bool>
 where
     R: Files + Print + Threads + Sync + AllocGlobal,
     requires some { 0 < workers }
