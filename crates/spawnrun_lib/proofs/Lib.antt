@@ -1,4 +1,5 @@
 pub mod DeviceLemmas
 pub mod ParsedOptions
+pub mod MovedNames
 pub mod CommandLineLemmas
 pub mod ReplayLemmas

@@ -84,6 +84,7 @@ pub fn execute<S: AsStr, I: Source, O: Sink, E: Sink>(
         Ok(task) => {
             let status = match task {
                 Task::Replay(limits) => replay(alloc, input, output, limits),
+                Task::Run { .. } => Status::Memory,
             };
             finish(errors, status)
         }
