@@ -15,6 +15,7 @@ use Rattle.std.specs.FinMap.Entries.{by_order, below_all, is_sorted-put}
 use Rattle.ent_handle.specs.declared.component.ComponentId.{ComponentId}
 use Rattle.ent_handle.specs.Component.{component_cmp, component_cmp_total}
 use Rattle.ent_queue.specs.Command.{Bundle, IsItem, IsBundle}
+use Rattle.ent_queue.specs.Place.{AreRising}
 
 first : (a b : Bool) → T (a && b) → T a
 first true b h = tt
@@ -32,6 +33,21 @@ second false b h = absurd h
 abbrev putting : ComponentId → ℤ → ComponentId × ℤ → Bundle → Ordering → Bundle
 putting id value item items r =
     by_order r ((id, value) ∷ item ∷ items) ((item.0, value) ∷ items) (item ∷ put component_cmp id value items)
+
+-- the numbers of a bundle rise
+above_first : (low : ComponentId) (items : Bundle) → T (below_all component_cmp low items) → (j : ℕ) (d : ComponentId × ℤ) → j < length items → low.0 < (get_or items j d).0.0
+above_first low [] below j d within = absurd (omega arith)
+above_first low (item ∷ items) below zero d within = ranked low.0 item.0.0 Less (sym (less _ (first _ _ below)))
+above_first low (item ∷ items) below (suc j) d within = above_first low items (second _ _ below) j d (omega arith)
+
+pub are_rising : (items : Bundle) → T (is_sorted component_cmp items) → AreRising items
+are_rising [] rising i j d order within = absurd (omega arith)
+are_rising (item ∷ items) rising zero zero d order within = omega arith
+are_rising (item ∷ items) rising zero (suc j) d order within =
+    let above = above_first item.0 items (first _ _ rising) j d (omega arith) in
+    omega arith
+are_rising (item ∷ items) rising (suc i) zero d order within = absurd (omega arith)
+are_rising (item ∷ items) rising (suc i) (suc j) d order within = are_rising items (second _ _ rising) i j d (omega arith) (omega arith)
 
 -- Where all lower ones stand before a place: a component that is not there goes there.
 module _ (id : ComponentId) (value : ℤ) where

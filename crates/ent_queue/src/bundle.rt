@@ -3,7 +3,7 @@ ghost use Rattle.std.specs.List.{AllWithin, HoldsAt};
 ghost use Rattle.std.specs.FinMap.{put, find};
 ghost use Rattle.ent_handle.specs.Component.{component_cmp};
 ghost use Rattle.ent_queue.specs.Command.{IsBundle};
-ghost use Rattle.ent_queue.specs.Place.{IsPlaceOf, IsGapFor};
+ghost use Rattle.ent_queue.specs.Place.{AreRising, IsPlaceOf, IsGapFor};
 
 use ent_handle::{ComponentId, Memory};
 use smallvec::SmallVec;
@@ -73,6 +73,7 @@ impl Bundle {
 
 /// Where the component of this number stands, or else where it goes.
 fn place_of(items: &[(ComponentId, i64)], number: u8) -> Result<usize, usize>
+    requires { AreRising items.now }
     ensures number { number < 2 ^ 8 }
     ensures found { IfOk result (IsPlaceOf items.now number) }
     ensures absent { IfErr result (IsGapFor items.now number) }
@@ -87,12 +88,10 @@ fn place_of(items: &[(ComponentId, i64)], number: u8) -> Result<usize, usize>
 
 /// How many of the components have a lower number.
 fn first_from(items: &[(ComponentId, i64)], number: u8) -> usize
+    requires { AreRising items.now }
     ensures within { result ≤ length items.now }
     ensures lower { AllWithin (λ item. item.0.0 < number) items.now 0 result }
     ensures here { result < length items.now → HoldsAt (λ item. number ≤ item.0.0) items.now result }
 {
-    items
-        .iter()
-        .position(|item| number <= item.0.0)
-        .unwrap_or(items.len())
+    items.partition_point(|item| item.0.0 < number)
 }

@@ -24,7 +24,7 @@ const REFUSAL: usize = 14;
 /// Commands in the order of issue, packed as bytes.
 ///
 /// [`Commands`](crate::Commands) makes it, and nothing else does.
-#[derive(Drop)]
+#[derive(Drop, Debug)]
 pub struct CommandQueue {
     bytes: Vec<u8>,
     count: usize,

@@ -1,6 +1,6 @@
 //! A frame: workers run the systems while the world is open, and the sync point applies their
 //! queues.
-ghost use Rattle.std.specs.Prelude.{◌≡◌, ◌<◌, ◌≤◌, ◌^◌, length, map, All, List, IfOk, IfSome};
+ghost use Rattle.std.specs.Prelude.{◌≡◌, ◌≢◌, ◌<◌, ◌≤◌, ◌^◌, length, map, All, List, IfOk, IfSome};
 ghost use Rattle.std.specs.Prelude.{IsErrOf, OnOk, IsPermutation, Some, None, false, flat_map};
 ghost use Rattle.std.specs.Prelude.{replicate};
 ghost use Rattle.std.specs.List.{range_with_len};
@@ -25,7 +25,7 @@ use ent_alloc::Limits;
 use ent_claims::Claims;
 use ent_queue::CommandQueue;
 use ent_shared::Reserver;
-use ent_world::{OpenWorld, World};
+use ent_world::{OpenWorld, SyncFault, World};
 use std::alloc::Global;
 use std::mem;
 use std::thread::Threads;
@@ -42,7 +42,8 @@ use std::thread::Threads;
 /// - [`FrameFault::Memory`] if memory was refused before any system ran. The world is as it was.
 /// - [`FrameFault::Lost`] if memory was refused later, or a system answered so. No command was
 ///   applied. What was reserved stays so: [`World::flush`] brings it to life.
-/// - [`FrameFault::Sync`] if all systems ran and the sync point stopped.
+/// - [`FrameFault::Sync`] if all systems ran and the sync point stopped. Unless memory was refused
+///   for the flush, the world is flushed.
 pub fn run_frame<R, S, G>(
     rt: &R,
     alloc: Global,
@@ -71,6 +72,8 @@ where
     ensures still { IsErrOf result FrameFault.Lost → IsLost world.old world.new }
     ensures stopped { IfSyncStopped result (λ fault queues.
         StopsAt S.may_issue systems.now workers world.old queues world.new fault) }
+    ensures stopped_flushed { IfSyncStopped result (λ fault _.
+        fault ≢ SyncFault.FlushMemory → world.new.allocator.asked ≡ 0) }
 {
     let Ok(room) = Room::new(alloc, systems.len(), workers) else {
         return Err(FrameFault::Memory);

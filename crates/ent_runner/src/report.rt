@@ -1,8 +1,9 @@
 use ent_queue::CommandQueue;
 use ent_world::{SyncFault, SyncReport};
+use thiserror::Error;
 
 /// What a frame has done.
-#[derive(Drop)]
+#[derive(Drop, Debug)]
 pub struct FrameReport {
     /// The queue of each system, in the order of the systems.
     pub queues: Vec<CommandQueue>,
@@ -11,15 +12,18 @@ pub struct FrameReport {
 }
 
 /// Why a frame stopped.
-#[derive(Drop)]
+#[derive(Drop, Debug, Error)]
 pub enum FrameFault {
     /// Memory was refused before any system ran. The world is as it was.
+    #[error("out of memory before any system ran")]
     Memory,
     /// Memory was refused after systems had run, or a system answered so. No command was applied.
     /// What the systems had reserved stays reserved: the next flush brings it to life, without
     /// components.
+    #[error("out of memory while the systems ran")]
     Lost,
     /// All systems ran, and the sync point stopped.
+    #[error("the sync point stopped: {fault}")]
     Sync {
         /// What stands of the sync point.
         fault: SyncFault,

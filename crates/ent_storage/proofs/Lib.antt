@@ -3,6 +3,7 @@ pub mod Counted
 pub mod Indexed
 pub mod Keys
 pub mod Missing
+pub mod OneList
 pub mod Overwritten
 pub mod Placed
 pub mod PlacesLemmas

@@ -1,5 +1,5 @@
 -- Worked sync points, computed from the definitions alone.
-use Rattle.std.proofs.Common.{◌≡◌, refl, ℕ, ℤ, pos, false, [], ◌∷◌, Some, None}
+use Rattle.std.proofs.Common.{◌≡◌, refl, sym, ◌∙◌, ℕ, ℤ, pos, true, false, true≢false, List, [], ◌∷◌, Some, None}
 use Rattle.std.specs.FinMap as map
 use Rattle.ent_handle.specs.declared.birth.Birth.{Birth}
 use Rattle.ent_handle.specs.declared.component.ComponentId.{ComponentId}
@@ -7,12 +7,13 @@ use Rattle.ent_handle.specs.Component.{component_cmp_total}
 use Rattle.ent_handle.specs.Handle.{Handle, handle_cmp_total}
 use Rattle.ent_alloc.specs.Sequential.{fresh, after_take, born, next}
 use Rattle.ent_storage.specs.EntityMap.{birth_of, value_of}
-use Rattle.ent_queue.specs.Command.{Spawn, SpawnMany, Despawn}
+use Rattle.ent_queue.specs.Command.{Command, Spawn, SpawnMany, Despawn}
 use Rattle.ent_world.specs.declared.fault.Fault.{Fault}
 use Rattle.ent_world.specs.declared.fault.FaultKind.TheVariants.{NotAlive}
 use Rattle.ent_world.specs.World.{World, first_world, lives_in}
 use Rattle.ent_world.specs.Command.{Applied, after_spawn, after_despawn}
-use Rattle.ent_world.specs.Sync.{sync, sync_until}
+use Rattle.ent_world.specs.Sync.{after_births, sync, sync_until}
+use Rattle.ent_world.specs.Wrapping.{NoneWraps}
 
 -- a handle, as its text reads
 infix 70 ◌v◌
@@ -144,3 +145,25 @@ second_born = simp found
 first_with : value_of stopped.world.entities (0 v 2) (record { 0 = 0 }) ≡ Some (pos 1)
 unfolding fresh
 first_with = simp found
+
+-- the only occupant of a slot with one generation dies: the generations begin anew, and the same handle can be given again
+abbrev one_generation : World
+one_generation = after_spawn (birth 0 0 0) [] (0 v 1) (first_world (record { slots = 1; generations = 1 }))
+
+abbrev its_death : List (List Command)
+its_death = (Despawn (0 v 1) ∷ []) ∷ []
+
+lives_at_first : lives_in (after_births its_death one_generation) (0 v 1) ≡ true
+unfolding fresh
+lives_at_first = simp found
+
+dead_at_last : lives_in (sync its_death one_generation).world (0 v 1) ≡ false
+unfolding fresh
+dead_at_last = simp found
+
+wraps : NoneWraps its_death one_generation → ⊥
+wraps none = true≢false (sym (none (0 v 1) refl lives_at_first) ∙ dead_at_last)
+
+given_again : (sync its_death one_generation).world.allocator.pool ≡ 0 v 1 ∷ []
+unfolding fresh
+given_again = simp found

@@ -3,3 +3,4 @@ pub mod OpenWorld
 pub mod Command
 pub mod Sync
 pub mod Entering
+pub mod Wrapping

@@ -14,10 +14,10 @@ mod components;
 mod role;
 mod systems;
 
-use anyhow::{Error, Result, anyhow};
+use anyhow::{Result, anyhow};
 use components::{AGE, TARGET};
 use ent_alloc::Limits;
-use ent_runner::{FrameFault, NoGate, run_frame};
+use ent_runner::{NoGate, run_frame};
 use ent_world::World;
 use role::Role;
 use std::thread::Threads;
@@ -71,10 +71,7 @@ where
     requires few { workers ≤ 64 }
     ensures flushed { OnOk result (world.new.allocator.asked ≡ 0) }
 {
-    let report = match run_frame(rt, rt.alloc(), world, &SYSTEMS, workers, &NoGate) {
-        Ok(report) => report,
-        Err(fault) => return Err(stopped(fault)),
-    };
+    let report = run_frame(rt, rt.alloc(), world, &SYSTEMS, workers, &NoGate)?;
     let (born, faults) = (report.sync.born.len(), report.sync.faults.len());
     let alive = world.len();
     writeln!(
@@ -109,13 +106,4 @@ fn tell_survivors(world: &World, story: &mut String) -> Result<()> {
         }
     }
     Ok(())
-}
-
-/// Why a frame stopped, in words.
-fn stopped(fault: FrameFault) -> Error {
-    match fault {
-        FrameFault::Memory => anyhow!("out of memory before any system ran"),
-        FrameFault::Lost => anyhow!("out of memory while the systems ran"),
-        FrameFault::Sync { fault, .. } => fault.into(),
-    }
 }

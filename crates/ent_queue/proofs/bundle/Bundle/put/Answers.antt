@@ -7,10 +7,10 @@ use Rattle.std.proofs.lemmas.Int.{to_z-of_z}
 use Rattle.std.specs.FinMap.{put, find}
 use Rattle.ent_handle.specs.Component.{component_cmp}
 use Rattle.ent_queue.specs.Command.{IsBundle}
-use Rattle.ent_queue.specs.Place.{IsPlaceOf, IsGapFor}
+use Rattle.ent_queue.specs.Place.{AreRising, IsPlaceOf, IsGapFor}
 use Rattle.std.proofs.lemmas.Bool.{cases_lt, false≢true}
 use Rattle.ent_queue.proofs.Results.{OnErr-always}
-use Rattle.ent_queue.proofs.Rising.{put_between, put_over, find_between, bundle_put, refill_whole}
+use Rattle.ent_queue.proofs.Rising.{are_rising, put_between, put_over, find_between, bundle_put, refill_whole}
 use Rattle.ent_queue.proofs.bundle.Bundle.put.Goals as goal
 
 -- what is written over
@@ -57,3 +57,6 @@ returns-in_err-insert-in-Err-clause-memory c =
       | inr room ↦ absurd (false≢true (c.in_err-insert-in-Err.ensures.succeeds room))
     ] in
     OnErr-always c.from_residual.result (subst (λ xs. (4 ≤ length xs) × (find component_cmp c.args.id xs ≡ None)) c.self.view_is (full, none))
+
+pub place_of-requires : goal.place_of-requires
+place_of-requires c = subst AreRising (sym c.as_slice.ensures) (are_rising c.self.inside.items.items c.self.invariant.0.rising)

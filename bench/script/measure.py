@@ -1,0 +1,71 @@
+"""Runs `spawnrun run` on a script and prints its row of the table, or stops at a wrong report.
+
+usage: measure.py PROGRAM SHAPE WORKERS COMMANDS SCRIPT REPORT
+"""
+
+import fcntl
+import os
+import re
+import subprocess
+import sys
+import time
+from itertools import zip_longest
+from pathlib import Path
+
+RUNS = 10
+PAGE = 4096  # the least that a pipe holds
+
+
+def check(output, report):
+    """Stops where the program wrote anything else than what must come of the script."""
+    if output != report:
+        pairs = zip_longest(output.splitlines(keepends=True), report.splitlines(keepends=True))
+        line = next(number for number, (written, wanted) in enumerate(pairs, 1) if written != wanted)
+        sys.exit(f"the program's output is wrong at line {line}")
+
+
+def nanoseconds(command, script, report):
+    """How long one run takes, from the start of the process to its end."""
+    output = script.with_name("output")
+    with script.open("rb") as given, output.open("wb") as written:
+        start = time.perf_counter_ns()
+        subprocess.run(command, stdin=given, stdout=written, check=True)
+        took = time.perf_counter_ns() - start
+    check(output.read_bytes(), report)
+    return took
+
+
+def peak_memory(command, script):
+    """The most memory that a run holds, in bytes.
+
+    The program makes all of its output before it writes any, so it is at its peak when the first of it comes, and
+    waits there, as a pipe of one page does not hold the rest. What getrusage tells is of no use for a small run: it
+    counts the Python process that the program was forked from.
+    """
+    read, write = os.pipe()
+    fcntl.fcntl(write, fcntl.F_SETPIPE_SZ, PAGE)
+    with script.open("rb") as given:
+        run = subprocess.Popen(command, stdin=given, stdout=write)
+    os.close(write)
+    with run, open(read, "rb", buffering=0) as output:
+        output.read(1)
+        status = Path(f"/proc/{run.pid}/status").read_text()
+        output.readall()
+    return 1024 * int(re.search(r"VmHWM:\s*(\d+) kB", status)[1])
+
+
+def main(program, shape, workers, commands, script, report):
+    command, commands, script = [program, "run", "--workers", workers], int(commands), Path(script)
+    wanted, length = Path(report).read_bytes(), script.stat().st_size
+    if len(wanted) <= PAGE + 1:
+        sys.exit("the report is too short to tell the memory")
+    least = min(nanoseconds(command, script, wanted) for _ in range(RUNS))
+    peak = peak_memory(command, script)
+    print(
+        f"| {shape} | {workers} | {commands:,} | {length:,} | {len(wanted):,} | {least / 1e6:,.1f} | {least / commands:,.0f}"
+        f" | {peak / 2**20:,.1f} | {peak / commands:,.0f} |"
+    )
+
+
+if __name__ == "__main__":
+    main(*sys.argv[1:])

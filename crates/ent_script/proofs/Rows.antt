@@ -1,0 +1,259 @@
+-- Worked scripts, computed from the definitions alone: what a text means, the test that refuses it,
+-- and the line of each refusal.
+use Rattle.std.proofs.Common.{◌≡◌, refl, ℕ, ℤ, pos, List, [], ◌∷◌, ◌++◌, Some, None}
+use Rattle.std.specs.Prelude.{codes, negsuc, Result, Ok, Err, ⊤}
+use Rattle.std.specs.Fmt.{digits}
+use Rattle.std.specs.Str.{is_utf8, chars}
+use Rattle.serde_json.proofs.OnLiterals.{serde_json_on_literals}
+use Rattle.ent_alloc.specs.Limits.{Limits}
+use Rattle.ent_handle.specs.declared.component.ComponentId.{ComponentId}
+use Rattle.ent_script.specs.declared.cause.Cause.{Cause}
+use Rattle.ent_script.specs.declared.cause.Cause.TheVariants as cause
+use Rattle.ent_script.specs.declared.cause.ScriptCause.{ScriptCause}
+use Rattle.ent_script.specs.declared.cause.ScriptCause.TheVariants as script_cause
+use Rattle.ent_script.specs.declared.operation.Operation.{Operation}
+use Rattle.ent_script.specs.declared.operation.Operation.TheVariants as operation
+use Rattle.ent_script.specs.declared.read_fault.ReadFault.{ReadFault}
+use Rattle.ent_script.specs.declared.read_fault.ReadFault.TheVariants as fault
+use Rattle.ent_script.specs.declared.target.Target.TheVariants as target
+use Rattle.ent_script.specs.Script.{Script}
+use Rattle.ent_script.specs.Reading.{script_of_text, script_of, limits_of, components_of, frame_of}
+use Rattle.ent_script.specs.Reading.{system_of, operation_of, of_kind, has_keys, is_spawn}
+use Rattle.ent_script.specs.Reading.{is_spawn_many, is_insert, is_remove, is_despawn, bundle_of}
+use Rattle.ent_script.specs.Reading.{count_of, binding_of, removed_of, target_of, target_at}
+use Rattle.ent_script.specs.Refusal.{refusal_line}
+
+-- what a row unfolds to compute the script of a text
+unfoldable script_on_literals : ⊤
+unfolding serde_json_on_literals is_utf8 chars script_of limits_of components_of frame_of system_of operation_of of_kind has_keys is_spawn is_spawn_many is_insert is_remove is_despawn bundle_of count_of binding_of removed_of target_of target_at
+script_on_literals = tt
+
+abbrev number : ℕ → ComponentId
+number n = record { 0 = n }
+
+-- a component with its value
+abbrev item : ℕ → ℕ → ComponentId × ℤ
+item id value = (number id, pos value)
+
+-- the limits of a script that has none
+abbrev default_limits : Limits
+default_limits = record { slots = 4294967295; generations = 2147483647 }
+
+abbrev hp : List (List ℕ)
+hp = codes "hp" ∷ []
+
+abbrev hp_mp : List (List ℕ)
+hp_mp = codes "hp" ∷ codes "mp" ∷ []
+
+-- a script with these components and this only system
+abbrev one_system : List (List ℕ) → List Operation → Result Script ReadFault
+one_system components operations = Ok (record { limits = default_limits; components = components; frames = (operations ∷ []) ∷ [] })
+
+-- ---- scripts
+
+no_frames : script_of_text (codes "{\"components\":[],\"frames\":[]}") ≡ Ok (record { limits = default_limits; components = []; frames = [] })
+unfolding script_on_literals
+no_frames = refl
+
+-- a frame of one system, and a frame of two; the second one begins with no name
+two_frames : script_of_text
+    (codes "{\"components\":[\"hp\",\"mp\"],\"frames\":["
+    ++ codes "[[{\"spawn_many\":2,\"with\":{\"hp\":1},\"as\":\"g\"},{\"insert\":{\"mp\":4},\"on\":{\"name\":\"g\"}}]],"
+    ++ codes "[[{\"remove\":\"hp\",\"on\":{\"each\":\"hp\"}}],[{\"insert\":{\"hp\":8},\"on\":{\"each\":\"mp\"}}]]]}")
+    ≡ Ok (record {
+      limits = default_limits;
+      components = hp_mp;
+      frames =
+          ((operation.SpawnMany 2 (item 0 1 ∷ []) (Some 0) ∷ operation.Insert (item 1 4 ∷ []) (target.Name 0) ∷ []) ∷ [])
+          ∷ ((operation.Remove (number 0) (target.Each (number 0)) ∷ [])
+          ∷ (operation.Insert (item 0 8 ∷ []) (target.Each (number 1)) ∷ []) ∷ [])
+          ∷ [];
+    })
+unfolding script_on_literals
+two_frames = refl
+
+limits_given : script_of_text (codes "{\"format\":1,\"slots\":2,\"generations\":3,\"components\":[],\"frames\":[[]]}")
+    ≡ Ok (record { limits = record { slots = 2; generations = 3 }; components = []; frames = [] ∷ [] })
+unfolding script_on_literals
+limits_given = refl
+
+-- a bundle goes by the numbers of its components, whatever the order of its keys
+bundle_by_number : script_of_text (codes "{\"components\":[\"mp\",\"hp\"],\"frames\":[[[{\"spawn\":{\"hp\":-12,\"mp\":7}}]]]}")
+    ≡ one_system (codes "mp" ∷ codes "hp" ∷ []) (operation.Spawn (item 0 7 ∷ (number 1, negsuc 11) ∷ []) None ∷ [])
+unfolding script_on_literals
+bundle_by_number = refl
+
+-- names are numbered by their first `as`, and one that is bound again keeps its number
+names_numbered : script_of_text (codes "{\"components\":[],\"frames\":[[[{\"spawn\":{},\"as\":\"b\"},{\"spawn\":{},\"as\":\"a\"},{\"spawn_many\":0,\"as\":\"b\"},{\"despawn\":{\"name\":\"a\"}}]]]}")
+    ≡ one_system [] (operation.Spawn [] (Some 0) ∷ operation.Spawn [] (Some 1) ∷ operation.SpawnMany 0 [] (Some 0) ∷ operation.Despawn (target.Name 1) ∷ [])
+unfolding script_on_literals
+names_numbered = refl
+
+handle_meant : script_of_text (codes "{\"components\":[],\"frames\":[[[{\"despawn\":{\"handle\":\"3v2\"}}]]]}")
+    ≡ one_system [] (operation.Despawn (target.Handle (record { index = 3; generation = 2 })) ∷ [])
+unfolding script_on_literals
+handle_meant = refl
+
+most_at_once : script_of_text (codes "{\"components\":[],\"frames\":[[[{\"spawn_many\":65536}]]]}") ≡ one_system [] (operation.SpawnMany 65536 [] None ∷ [])
+unfolding script_on_literals
+most_at_once = refl
+
+-- the last value of a key counts
+last_value : script_of_text (codes "{\"components\":7,\"frames\":[],\"components\":[\"hp\"]}") ≡ Ok (record { limits = default_limits; components = hp; frames = [] })
+unfolding script_on_literals
+last_value = refl
+
+-- ---- refusals of what stands outside the frames
+
+abbrev refused_script : ScriptCause → Result Script ReadFault
+refused_script c = Err (fault.Script c)
+
+cut_off : script_of_text (codes "{\"components\":[],\"frames\":[]") ≡ Err fault.Json
+unfolding script_on_literals
+cut_off = refl
+
+no_utf8 : script_of_text (255 ∷ []) ≡ Err fault.Json
+unfolding script_on_literals
+no_utf8 = refl
+
+no_object : script_of_text (codes "[]") ≡ refused_script script_cause.Top
+unfolding script_on_literals
+no_object = refl
+
+unknown_key : script_of_text (codes "{\"components\":[],\"frames\":[],\"seed\":1}") ≡ refused_script script_cause.Key
+unfolding script_on_literals
+unknown_key = refl
+
+format_two : script_of_text (codes "{\"format\":2,\"components\":[],\"frames\":[]}") ≡ refused_script script_cause.Format
+unfolding script_on_literals
+format_two = refl
+
+slots_zero : script_of_text (codes "{\"slots\":0,\"components\":[],\"frames\":[]}") ≡ refused_script script_cause.Slots
+unfolding script_on_literals
+slots_zero = refl
+
+-- a number with an exponent is no whole number
+slots_with_exponent : script_of_text (codes "{\"slots\":1e3,\"components\":[],\"frames\":[]}") ≡ refused_script script_cause.Slots
+unfolding script_on_literals
+slots_with_exponent = refl
+
+generations_above : script_of_text (codes "{\"generations\":2147483648,\"components\":[],\"frames\":[]}") ≡ refused_script script_cause.Generations
+unfolding script_on_literals
+generations_above = refl
+
+component_twice : script_of_text (codes "{\"components\":[\"hp\",\"mp\",\"hp\"],\"frames\":[]}") ≡ refused_script script_cause.Components
+unfolding script_on_literals
+component_twice = refl
+
+capital_letters : script_of_text (codes "{\"components\":[\"HP\"],\"frames\":[]}") ≡ refused_script script_cause.Components
+unfolding script_on_literals
+capital_letters = refl
+
+without_frames : script_of_text (codes "{\"components\":[]}") ≡ refused_script script_cause.Frames
+unfolding script_on_literals
+without_frames = refl
+
+-- of two tests that fail, the first refuses
+key_before_format : script_of_text (codes "{\"format\":2,\"seed\":1}") ≡ refused_script script_cause.Key
+unfolding script_on_literals
+key_before_format = refl
+
+format_before_slots : script_of_text (codes "{\"slots\":0,\"format\":2,\"generations\":0}") ≡ refused_script script_cause.Format
+unfolding script_on_literals
+format_before_slots = refl
+
+slots_before_generations : script_of_text (codes "{\"generations\":0,\"slots\":0}") ≡ refused_script script_cause.Slots
+unfolding script_on_literals
+slots_before_generations = refl
+
+components_before_frames : script_of_text (codes "{}") ≡ refused_script script_cause.Components
+unfolding script_on_literals
+components_before_frames = refl
+
+-- ---- refusals of frames, systems and operations
+
+abbrev refused_operation : ℕ → ℕ → ℕ → Cause → Result Script ReadFault
+refused_operation frame system number c = Err (fault.Operation frame system number c)
+
+no_frame : script_of_text (codes "{\"components\":[],\"frames\":[[],7]}") ≡ Err (fault.Frame 1)
+unfolding script_on_literals
+no_frame = refl
+
+no_system : script_of_text (codes "{\"components\":[],\"frames\":[[],[[],[],{}]]}") ≡ Err (fault.System 1 2)
+unfolding script_on_literals
+no_system = refl
+
+other_keys : script_of_text (codes "{\"components\":[],\"frames\":[[[{\"spawn\":{},\"with\":{}}]]]}") ≡ refused_operation 0 0 0 cause.Shape
+unfolding script_on_literals
+other_keys = refl
+
+no_bundle : script_of_text (codes "{\"components\":[],\"frames\":[[[{\"spawn\":[]}]]]}") ≡ refused_operation 0 0 0 cause.Bundle
+unfolding script_on_literals
+no_bundle = refl
+
+unknown_component : script_of_text (codes "{\"components\":[\"hp\"],\"frames\":[[[{\"spawn\":{\"mp\":1}}]]]}") ≡ refused_operation 0 0 0 cause.Component
+unfolding script_on_literals
+unknown_component = refl
+
+fraction : script_of_text (codes "{\"components\":[\"hp\"],\"frames\":[[[{\"spawn\":{\"hp\":1.5}}]]]}") ≡ refused_operation 0 0 0 cause.Value
+unfolding script_on_literals
+fraction = refl
+
+too_many : script_of_text (codes "{\"components\":[],\"frames\":[[[{\"spawn_many\":65537}]]]}") ≡ refused_operation 0 0 0 cause.Count
+unfolding script_on_literals
+too_many = refl
+
+two_targets : script_of_text (codes "{\"components\":[\"hp\"],\"frames\":[[[{\"despawn\":{\"each\":\"hp\",\"handle\":\"0v1\"}}]]]}") ≡ refused_operation 0 0 0 cause.Target
+unfolding script_on_literals
+two_targets = refl
+
+no_handle : script_of_text (codes "{\"components\":[],\"frames\":[[[{\"despawn\":{\"handle\":\"0v0\"}}]]]}") ≡ refused_operation 0 0 0 cause.Handle
+unfolding script_on_literals
+no_handle = refl
+
+-- a name that only a later operation of the system binds
+bound_later : script_of_text (codes "{\"components\":[],\"frames\":[[[{\"spawn\":{},\"as\":\"a\"},{\"despawn\":{\"name\":\"b\"}},{\"spawn\":{},\"as\":\"b\"}]]]}") ≡ refused_operation 0 0 1 cause.Name
+unfolding script_on_literals
+bound_later = refl
+
+-- a name that another system binds
+bound_elsewhere : script_of_text (codes "{\"components\":[],\"frames\":[[[{\"spawn\":{},\"as\":\"a\"}],[{\"despawn\":{\"name\":\"a\"}}]]]}") ≡ refused_operation 0 1 0 cause.Name
+unfolding script_on_literals
+bound_elsewhere = refl
+
+count_before_bundle : script_of_text (codes "{\"components\":[],\"frames\":[[[{\"spawn_many\":-1,\"with\":7}]]]}") ≡ refused_operation 0 0 0 cause.Count
+unfolding script_on_literals
+count_before_bundle = refl
+
+bundle_before_name : script_of_text (codes "{\"components\":[],\"frames\":[[[{\"spawn\":{\"hp\":1},\"as\":\"\"}]]]}") ≡ refused_operation 0 0 0 cause.Component
+unfolding script_on_literals
+bundle_before_name = refl
+
+-- of two operations that mean nothing, the first is named
+first_of_two : script_of_text (codes "{\"components\":[],\"frames\":[[],[[],[{\"spawn\":{}},{},{\"spawn\":7}]],7]}") ≡ refused_operation 1 1 1 cause.Shape
+unfolding script_on_literals
+first_of_two = refl
+
+-- ---- the lines
+
+line_of_json : refusal_line fault.Json ≡ codes "refused json\n"
+line_of_json = refl
+
+line_of_script : refusal_line (fault.Script script_cause.Generations) ≡ codes "refused script generations\n"
+line_of_script = refl
+
+line_of_frame : refusal_line (fault.Frame 999) ≡ codes "refused frame 999\n"
+unfolding digits
+line_of_frame = refl
+
+line_of_system : refusal_line (fault.System 0 12) ≡ codes "refused system 0 12\n"
+unfolding digits
+line_of_system = refl
+
+line_of_operation : refusal_line (fault.Operation 0 0 0 cause.Component) ≡ codes "refused operation 0 0 0 component\n"
+unfolding digits
+line_of_operation = refl
+
+place_of_operation : refusal_line (fault.Operation 1 20 304 cause.Name) ≡ codes "refused operation 1 20 304 name\n"
+unfolding digits
+place_of_operation = refl

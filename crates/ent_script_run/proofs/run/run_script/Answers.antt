@@ -1,0 +1,18 @@
+use Rattle.std.proofs.Common.{ℕ, subst}
+use Rattle.std.proofs.lemmas.Result.{IfOk-weaker}
+use Rattle.ent_script_run.specs.Report.{IsReport}
+use Rattle.ent_script_run.proofs.OneReport.{one_report}
+use Rattle.ent_script_run.proofs.GivenOnce.{given_once}
+use Rattle.ent_script_run.proofs.run.run_script.Goals as goal
+
+pub returns-clause-only : goal.returns-clause-only
+returns-clause-only g c alone =
+    IfOk-weaker c.report.result _ _ (λ text is other also.
+    one_report c.args.script.now c.args.show text.items other
+    (subst (λ (n : ℕ). IsReport c.args.script.now n c.args.show text.items) alone is)
+    (subst (λ (n : ℕ). IsReport c.args.script.now n c.args.show other) alone also)) c.report.ensures
+
+pub returns-clause-given_once : goal.returns-clause-given_once
+returns-clause-given_once g c =
+    IfOk-weaker c.report.result _ _ (λ text is executions report wraps.
+    given_once c.args.script.now c.args.workers c.args.show executions text.items c.requires.ranges.limits report wraps) c.report.ensures

@@ -1,0 +1,99 @@
+//! The run of a whole script.
+ghost use Rattle.std.specs.Prelude.{◌≡◌, ◌<◌, ◌≤◌, ℕ, List, IfOk};
+ghost use Rattle.ent_script.specs.Ranges.{IsScript};
+ghost use Rattle.ent_script_run.specs.Course.{AreFew, HaveGone};
+ghost use Rattle.ent_script_run.specs.Given.{NoneWrapped, AreGivenOnce};
+ghost use Rattle.ent_script_run.specs.Report.{Execution, IsReport, IsReportOf};
+ghost use Rattle.ent_world.specs.World.{first_world};
+
+use crate::frame;
+use ent_handle::Memory;
+use ent_script::{Frame, Script};
+use ent_script_report::{Show, write_frame, write_world};
+use ent_world::World;
+use std::alloc::Global;
+use std::thread::Threads;
+
+/// Runs the frames one after the other, and appends the text of each.
+fn run_frames<R>(
+    rt: &R,
+    alloc: Global,
+    world: &mut World,
+    frames: &[Frame],
+    workers: usize,
+    show: Show,
+) -> Result<Vec<u8>, Memory>
+where
+    R: Threads + Sync,
+    requires flushed { world.old.allocator.asked ≡ 0 }
+    requires systems { AreFew frames.now }
+    requires some { 0 < workers }
+    requires few { workers ≤ 64 }
+    ensures went { IfOk result (λ text. HaveGone frames.now workers show world.old world.new
+        text.items) }
+{
+    let mut text = Vec::new(alloc);
+    for (number, systems) in frames.iter().enumerate() {
+        let report = frame::run(rt, alloc, world, systems.systems(), workers)?;
+        write_frame(number as u64, &report, show, &mut text)?;
+    }
+    Ok(text)
+}
+
+/// Runs the frames over a world that begins empty, and appends the text of the world that they
+/// leave.
+fn report<R>(
+    rt: &R,
+    alloc: Global,
+    script: &Script,
+    workers: usize,
+    show: Show,
+) -> Result<Vec<u8>, Memory>
+where
+    R: Threads + Sync,
+    requires ranges { IsScript script.now }
+    requires some { 0 < workers }
+    requires few { workers ≤ 64 }
+    ensures { IfOk result (λ text. IsReport script.now workers show text.items) }
+{
+    let mut world = World::new(alloc, script.limits());
+    let mut text = run_frames(rt, alloc, &mut world, script.frames(), workers, show)?;
+    write_world(&world, script.components(), show, &mut text)?;
+    Ok(text)
+}
+
+/// Runs a script over a world that begins empty, on 1 to 64 workers, and answers the report: the
+/// text of each frame and of the world that the last one leaves. The script is one that
+/// `ent_script` has read.
+///
+/// With several workers, which entity gets which handle may differ from run to run. What a frame has
+/// done is kept as text alone, so memory grows with the world, the text and the longest frame.
+///
+/// # Errors
+///
+/// `Memory` if memory was refused at any point of the run.
+pub fn run_script<R>(
+    rt: &R,
+    alloc: Global,
+    script: &Script,
+    workers: usize,
+    show: Show,
+) -> Result<Vec<u8>, Memory>
+where
+    R: Threads + Sync,
+    requires ranges { IsScript script.now }
+    requires some { 0 < workers }
+    requires few { workers ≤ 64 }
+    ensures report { IfOk result (λ text. IsReport script.now workers show text.items) }
+
+    // One worker has no other report.
+    ensures only { workers ≡ 1 → IfOk result (λ text. (other : List ℕ)
+        → IsReport script.now workers show other → text.items ≡ other) }
+
+    // However the frames went.
+    ensures given_once { IfOk result (λ text. (executions : List Execution)
+        → IsReportOf script.now workers show executions text.items
+        → NoneWrapped (first_world script.now.limits) executions → AreGivenOnce executions) }
+{
+    report(rt, alloc, script, workers, show)
+}
