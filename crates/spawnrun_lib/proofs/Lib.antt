@@ -3,3 +3,4 @@ pub mod ParsedOptions
 pub mod MovedNames
 pub mod CommandLineLemmas
 pub mod ReplayLemmas
+pub mod RunningLemmas
