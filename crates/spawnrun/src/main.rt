@@ -1,4 +1,5 @@
-//! Runs schedules of allocator events: `spawnrun replay` reads one on standard input, and writes what each event gave.
+//! Runs schedules of allocator events and scripts of frames: `spawnrun replay` and `spawnrun run` read one on standard input,
+//! and write what it gave.
 #![tactic(auto)]
 
 use spawnrun_lib::{Counted, execute, refuse_words};
@@ -12,7 +13,7 @@ fn main(rt: HostRuntime) -> ExitCode {
         Ok(words) => {
             let mut input = Counted::new(rt.stdin());
             let mut output = Counted::new(rt.stdout());
-            execute(rt.alloc(), &words, &mut input, &mut output, &mut errors)
+            execute(&rt, rt.alloc(), &words, &mut input, &mut output, &mut errors)
         }
         Err(error) => refuse_words(&error, &mut errors),
     };

@@ -1,4 +1,6 @@
 pub mod DeviceLemmas
 pub mod ParsedOptions
+pub mod MovedNames
 pub mod CommandLineLemmas
 pub mod ReplayLemmas
+pub mod RunningLemmas

@@ -8,7 +8,7 @@ use Rattle.std.specs.Option.{option_map_or}
 use Rattle.std.specs.Str.{bytes_eq, chars}
 use Rattle.std.proofs.lemmas.Bool.Decides.{nat_tests}
 use Rattle.std.proofs.lemmas.Slice.Eq.{bytes_eq-Decides}
-use Rattle.clap.specs.Words.{Row, Rule, Shape, Text, one_of, read_as}
+use Rattle.clap.specs.Words.{Row, Rule, Shape, Text, first_of, one_of, read_as}
 use Rattle.clap.specs.Kinds.{Kinds, or_else, range_kinds}
 use Rattle.clap.specs.Values.{is_request}
 use Rattle.clap.specs.Takes.{value_passes}
@@ -106,6 +106,7 @@ without-absent a rows absent = at_row-absent a.id (λ _. []) [] rows absent ∙ 
 -- the matches have a value of the option, which it accepts
 pub record HasValue (a : Rule) (rows : List Row) : Type 0 where
   pub text : Text
+  pub written : first_of a.id rows ≡ Some text
   pub is : one_of a.id rows ≡ Some (read_as (reading_by a) text)
   pub passes : value_passes a text ≡ true
 
@@ -383,18 +384,19 @@ module _ (c : List Rule) where
     value-found a plain_option [] good e = cc
     value-found a plain_option (r ∷ rs) good e =
         let found = go (bytes_eq r.id a.id) refl e (value-found a plain_option rs good.1) in
-        record { text = found.0; is = found.1; passes = found.2 }
+        record { text = found.0; written = found.1; is = found.2; passes = found.3 }
       where
         go : (same : Bool) → bytes_eq r.id a.id ≡ same → (same || has_row a.id rs) ≡ true → (has_row a.id rs ≡ true → HasValue a rs)
-            → (text : Text) × (option_and_then row_text (cond same (Some r) (find (λ x. bytes_eq x.id a.id) rs)) ≡ Some (read_as (reading_by a) text)) × (value_passes a text ≡ true)
-        go false is h rest = let found = rest h in (found.text, found.is, found.passes)
+            → (text : Text) × (option_and_then (λ row. slice_get row.values 0) (cond same (Some r) (find (λ x. bytes_eq x.id a.id) rs)) ≡ Some text)
+            × (option_and_then row_text (cond same (Some r) (find (λ x. bytes_eq x.id a.id) rs)) ≡ Some (read_as (reading_by a) text)) × (value_passes a text ≡ true)
+        go false is h rest = let found = rest h in (found.text, found.written, found.is, found.passes)
         go true is h rest =
             let held = good.0 in
             let same : r.id ≡ a.id = (bytes_eq-Decides r.id a.id).0 is in
             let both : Some held.rule ≡ Some a = sym held.own ∙ (ap (arg_by_id c) same ∙ plain_option.own) in
             let rule_is : held.rule ≡ a = cc in
             let read : r.reading ≡ reading_by a = held.read ∙ ap reading_by rule_is in
-            (held.text, (λ i. option_map (read_as (read i)) (slice_get (held.one i) 0)), subst (λ rule. value_passes rule held.text ≡ true) rule_is held.passes)
+            (held.text, (λ i. slice_get (held.one i) 0), (λ i. option_map (read_as (read i)) (slice_get (held.one i) 0)), subst (λ rule. value_passes rule held.text ≡ true) rule_is held.passes)
 
     module _ (t : Shape) where
       abbrev s : Shape

@@ -2,24 +2,31 @@
 use Rattle.std.proofs.Common.{◌≡◌, ◌≢◌, ◌∙◌, List, ℕ, Option, Some, None, length, ◌<◌, sym, subst}
 use Rattle.std.proofs.Common.{refl, IfSome, IfOk, OnErr}
 use Rattle.std.specs.Prelude.{Result, Ok, Err}
-use Rattle.spawnrun_lib.specs.Replay.{HasWritten, Reports}
+use Rattle.spawnrun_lib.specs.Device.{Writes}
 use Rattle.spawnrun_lib.specs.declared.status.Status.{Status}
 use Rattle.spawnrun_lib.specs.declared.status.Status.TheVariants.{Memory}
 use Rattle.std.specs.Global.{Vec}
 use Rattle.std.specs.Io.KnownBytes.{Appends}
 use Rattle.ent_handle.specs.declared.Memory.{Memory as NoMemory}
-use Rattle.ent_alloc.specs.Limits.{Limits}
 
--- a text that was written whole reports the input
-pub reported : (Kept : Type 0) (limits : Limits) (told : Option (List ℕ)) (status result : Status) (text : Result (Vec ℕ) NoMemory) (lines : List ℕ) (old new : Option (List ℕ))
-    → status ≢ Memory → ((bytes : List ℕ) → told ≡ Some bytes → Reports limits bytes status lines) → IfOk text (λ bytes. bytes.items ≡ lines)
+-- a text that was written whole stands so to the input
+pub written : (Kept : Type 0) (P : List ℕ → List ℕ → Type 0) (Q : List ℕ → Type 0) (told : Option (List ℕ)) (status result : Status) (text : Result (Vec ℕ) NoMemory)
+    (old new : Option (List ℕ)) → status ≢ Memory → ((bytes lines : List ℕ) → told ≡ Some bytes → Q lines → P bytes lines) → IfOk text (λ bytes. Q bytes.items)
     → IfOk text (λ bytes. result ≡ status → Appends old new bytes.items) → OnErr text ((result ≡ Memory) × Kept)
-    → result ≡ status → HasWritten limits status told old new
-reported Kept limits None status result text lines old new differs reports is whole refused same = tt
-reported Kept limits (Some bytes) status result (Ok text) lines old new differs reports is whole refused same =
-    (lines, reports bytes refl, subst (Appends old new) is (whole same))
-reported Kept limits (Some bytes) status result (Err e) lines old new differs reports is whole refused same =
+    → result ≡ status → Writes P told old new
+written Kept P Q None status result text old new differs stands made whole refused same = tt
+written Kept P Q (Some bytes) status result (Ok text) old new differs stands made whole refused same =
+    (text.items, stands bytes text.items refl made, whole same)
+written Kept P Q (Some bytes) status result (Err e) old new differs stands made whole refused same =
     absurd (differs (sym same ∙ refused.0))
+
+-- and if it is the one that reports the input, the input is reported
+pub reported : (Kept : Type 0) (P : List ℕ → List ℕ → Type 0) (told : Option (List ℕ)) (status result : Status) (text : Result (Vec ℕ) NoMemory) (lines : List ℕ)
+    (old new : Option (List ℕ)) → status ≢ Memory → ((bytes : List ℕ) → told ≡ Some bytes → P bytes lines) → IfOk text (λ bytes. bytes.items ≡ lines)
+    → IfOk text (λ bytes. result ≡ status → Appends old new bytes.items) → OnErr text ((result ≡ Memory) × Kept)
+    → result ≡ status → Writes P told old new
+reported Kept P told status result text lines old new differs reports =
+    written Kept P (λ known. known ≡ lines) told status result text old new differs (λ bytes known is same. subst (P bytes) (sym same) (reports bytes is))
 
 -- what was read is what the source tells
 pub told_is : (told : Option (List ℕ)) (read bytes : List ℕ) → IfSome told (λ all. read ≡ all) → told ≡ Some bytes → read ≡ bytes

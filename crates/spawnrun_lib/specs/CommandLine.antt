@@ -1,21 +1,25 @@
 -- The program's command line, in the words of clap.
 use Rattle.std.specs.Prelude.{⊤, ◌≡◌, ◌≢◌, ℕ, List, [], ◌∷◌, Option, Some, true, pos, codes}
-use Rattle.std.specs.Prelude.{option_map}
+use Rattle.std.specs.Prelude.{◌≤◌, map, option_map}
+use Rattle.std.specs.Borrow.{Bor}
 use Rattle.std.specs.Str.Parse.{digits_value, without_leading_plus}
 use Rattle.clap.specs.Words.{App, IsAmong, IsSignedIn, Row, Rule, Text, fault_of, found_of, kind_of}
+use Rattle.clap.specs.Words.{first_of}
 use Rattle.clap.specs.Words.{rows_of, without_minus, new_app, new_rule, one_of, subcommand_of}
 use Rattle.clap.specs.Words.{with_rule, with_subcommand}
 use Rattle.clap.specs.Simple.{on_top}
-use Rattle.clap.specs.declared.builder.value_parser.ValueParser.TheVariants.{Signed}
+use Rattle.clap.specs.declared.builder.value_parser.ValueParser.TheVariants.{Names, Signed}
 use Rattle.clap.specs.declared.parser.ArgMatches.{ArgMatches}
 use Rattle.clap.specs.declared.error.Error.{Error}
 use Rattle.clap.specs.declared.error.kind.ErrorKind.{ErrorKind}
 use Rattle.clap.specs.declared.error.kind.ErrorKind.TheVariants.{OutOfMemory}
 use Rattle.ent_alloc.specs.Limits.{AreLimits}
+use Rattle.ent_script_report.specs.declared.Show.{Show}
+use Rattle.ent_script_report.specs.declared.Show.TheVariants.{Births, Handles}
 use Rattle.spawnrun_lib.specs.declared.task.LineFault.{LineFault}
 use Rattle.spawnrun_lib.specs.declared.task.LineFault.TheVariants.{Line, Memory}
 use Rattle.spawnrun_lib.specs.declared.task.Task.{Task}
-use Rattle.spawnrun_lib.specs.declared.task.Task.TheVariants.{Replay}
+use Rattle.spawnrun_lib.specs.declared.task.Task.TheVariants.{Replay, Run}
 
 -- an option that takes a whole number from 1 to `most`, and has a default
 abbrev pub number_option : Text → ℕ → Text → Rule
@@ -23,6 +27,15 @@ number_option name most default = record (new_rule name) {
   long = Some name;
   value_names = 1;
   parser = Some (Signed (pos 1) (pos most));
+  defaults = default ∷ [];
+}
+
+-- an option that takes one of these names, and has a default
+abbrev pub name_option : Text → Bor (List (Bor Text)) → Text → Rule
+name_option name names default = record (new_rule name) {
+  long = Some name;
+  value_names = 1;
+  parser = Some (Names names);
   defaults = default ∷ [];
 }
 
@@ -35,13 +48,41 @@ generations_option = number_option (codes "generations") 2147483647 (codes "2147
 abbrev pub replay_command : App
 replay_command = with_rule (with_rule (new_app (codes "replay")) slots_option) generations_option
 
+abbrev pub workers_option : Rule
+workers_option = number_option (codes "workers") 64 (codes "1")
+
+-- what `--show` takes
+abbrev pub show_text : Show → Text
+show_text Births = codes "births"
+show_text Handles = codes "handles"
+
+abbrev pub shown : List Text
+shown = show_text Births ∷ show_text Handles ∷ []
+
+abbrev pub show_option : Bor (List (Bor Text)) → Rule
+show_option names = name_option (codes "show") names (codes "births")
+
+abbrev pub run_command : Bor (List (Bor Text)) → App
+run_command names =
+    with_rule (with_rule (new_app (codes "run")) workers_option) (show_option names)
+
 -- the words begin after the program's name, and name one of its subcommands
-abbrev pub program : App
-program = with_subcommand (on_top (λ top. record top {
+abbrev pub program_of : Bor (List (Bor Text)) → App
+program_of names = with_subcommand (with_subcommand (on_top (λ top. record top {
   no_binary_name = true;
   disable_help_subcommand = true;
   subcommand_required = true;
-}) (new_app (codes "spawnrun"))) replay_command.top
+}) (new_app (codes "spawnrun"))) replay_command.top) (run_command names).top
+
+-- references to these texts, all to one place: clap reads the texts alone
+abbrev pub placed : List Text → Bor (List (Bor Text))
+placed texts = record {
+  ref_ptr = (0, 0);
+  now = map (λ text. record { ref_ptr = (0, 0); now = text }) texts;
+}
+
+abbrev pub program : App
+program = program_of (placed shown)
 
 -- what clap's matches have for each option
 abbrev pub given : ArgMatches → List Row
@@ -58,13 +99,25 @@ pub record HasNumber (option : Text) (most : ℕ) (rows : List Row) : Type 0 whe
   pub is : one_of option rows ≡ Some (without_minus text)
   pub within : IsSignedIn (pos 1) (pos most) text
 
--- the task is the subcommand that clap finds in the words, with the numbers of its options
+-- the option's value is one of what `--show` takes
+abbrev pub HasShow : List Row → Type 0
+HasShow rows = (show : Show) × (first_of (codes "show") rows ≡ Some (show_text show))
+
+-- a number of workers that the program takes
+abbrev pub AreWorkers : ℕ → Type 0
+AreWorkers workers = (1 ≤ workers) × (workers ≤ 64)
+
+-- the task is the subcommand that clap finds in the words, with the values of its options
 abbrev pub AsksFor : List Text → Task → Type 0
 AsksFor words (Replay limits) = (rows : List Row)
     × (subcommand_of program words ≡ Some (codes "replay", rows))
     × (number_of (codes "slots") rows ≡ Some limits.slots)
     × (number_of (codes "generations") rows ≡ Some limits.generations)
     × AreLimits limits
+AsksFor words (Run workers show) = (rows : List Row)
+    × (subcommand_of program words ≡ Some (codes "run", rows))
+    × (number_of (codes "workers") rows ≡ Some workers) × AreWorkers workers
+    × (first_of (codes "show") rows ≡ Some (show_text show))
 
 -- the fault that an error of clap's is
 abbrev pub IsFaultOf : Error → LineFault → Type 0

@@ -1,7 +1,7 @@
 -- What devices tell of their bytes and failures, beside the words of std's readers and writers.
 use Rattle.std.specs.Prelude.{◌≡◌, ℕ, ◌+◌, ◌-◌, ◌^◌, ◌≤◌, ◌⊎◌, ◌==◌, if◌then◌else◌, List, length}
 use Rattle.std.specs.Prelude.{Option, None, IfSome}
-use Rattle.std.specs.Io.KnownBytes.{Consumes}
+use Rattle.std.specs.Io.KnownBytes.{Appends, Consumes}
 
 -- the bytes that a device tells before and after a failed call are the same
 abbrev pub KeepsIfTold : Option (List ℕ) → Option (List ℕ) → Type 0
@@ -27,3 +27,9 @@ most_failures = 2 ^ 64 - 1
 -- an adapter tells its device's bytes until it has counted all the failures that it can
 abbrev pub told : ℕ → Option (List ℕ) → Option (List ℕ)
 told failures bytes = if failures == most_failures then None else bytes
+
+-- a text that stands so to the input was written, if the devices tell
+abbrev pub Writes : (List ℕ → List ℕ → Type 0) → Option (List ℕ) → Option (List ℕ)
+    → Option (List ℕ) → Type 0
+Writes P input old new =
+    IfSome input (λ bytes. (text : List ℕ) × P bytes text × Appends old new text)

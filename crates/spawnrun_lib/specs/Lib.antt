@@ -4,3 +4,4 @@ pub mod CommandLine
 pub mod Program
 pub mod Status
 pub mod Replay
+pub mod Running

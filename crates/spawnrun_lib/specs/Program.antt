@@ -1,10 +1,18 @@
 -- What the program's words ask for.
-use Rattle.std.specs.Prelude.{List}
+use Rattle.std.specs.Prelude.{ℕ, List, Option}
 use Rattle.clap.specs.Words.{Text}
-use Rattle.ent_alloc.specs.Limits.{Limits}
-use Rattle.spawnrun_lib.specs.declared.task.Task.TheVariants.{Replay}
+use Rattle.spawnrun_lib.specs.declared.status.Status.{Status}
+use Rattle.spawnrun_lib.specs.declared.task.Task.{Task}
+use Rattle.spawnrun_lib.specs.declared.task.Task.TheVariants.{Replay, Run}
 use Rattle.spawnrun_lib.specs.CommandLine.{AsksFor}
+use Rattle.spawnrun_lib.specs.Replay.{HasWritten}
+use Rattle.spawnrun_lib.specs.Running.{HasGiven}
 
--- the words ask for a replay with limits of which this holds
-abbrev pub AsksToReplay : List Text → (Limits → Type 0) → Type 0
-AsksToReplay words P = (limits : Limits) × AsksFor words (Replay limits) × P limits
+-- a task that ends so has written what it has to, if the devices tell
+abbrev pub HasDone : Task → Status → Option (List ℕ) → Option (List ℕ) → Option (List ℕ) → Type 0
+HasDone (Replay limits) status = HasWritten limits status
+HasDone (Run workers show) status = HasGiven workers show status
+
+-- the words ask for a task of which this holds
+abbrev pub AsksTo : List Text → (Task → Type 0) → Type 0
+AsksTo words P = (task : Task) × AsksFor words task × P task

@@ -1,7 +1,6 @@
 -- What the run of an input writes, and how it ends.
-use Rattle.std.specs.Prelude.{◌≡◌, ℕ, ◌<◌, ◌≤◌, List, ◌++◌, length, codes, Option, IfSome, Result}
+use Rattle.std.specs.Prelude.{◌≡◌, ℕ, ◌<◌, ◌≤◌, List, ◌++◌, length, codes, Option, Result}
 use Rattle.std.specs.Prelude.{Ok, Err}
-use Rattle.std.specs.Io.KnownBytes.{Appends}
 use Rattle.std.specs.Fmt.{decimal}
 use Rattle.std.specs.List.{flat_map}
 use Rattle.ent_alloc.specs.Limits.{Limits}
@@ -13,6 +12,7 @@ use Rattle.ent_replay.specs.declared.Event.{Event}
 use Rattle.ent_replay.specs.declared.Outcome.{Outcome}
 use Rattle.ent_replay.specs.declared.ReadFault.TheVariants.{Line}
 use Rattle.ent_replay.specs.declared.ReplayFault.{ReplayFault}
+use Rattle.spawnrun_lib.specs.Device.{Writes}
 use Rattle.spawnrun_lib.specs.declared.status.Status.{Status}
 use Rattle.spawnrun_lib.specs.declared.status.Status.TheVariants.{Done, Refused}
 
@@ -48,6 +48,4 @@ pub data Reports (limits : Limits) (input : List ℕ) : Status → List ℕ → 
 -- a run that ends so has written what it reports of the input, if the devices tell
 abbrev pub HasWritten : Limits → Status
     → Option (List ℕ) → Option (List ℕ) → Option (List ℕ) → Type 0
-HasWritten limits status input old new =
-    IfSome input (λ bytes.
-    (text : List ℕ) × Reports limits bytes status text × Appends old new text)
+HasWritten limits status = Writes (λ input text. Reports limits input status text)

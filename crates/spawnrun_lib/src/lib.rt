@@ -1,5 +1,5 @@
 //! The program `spawnrun` but for its `main`: devices, the whole input, the command line, and the
-//! run of a schedule.
+//! runs of schedules and of scripts.
 //!
 //! `main` hands its arguments and the standard streams to `execute`. All that it does from then on
 //! has a contract, over any devices, so that tests can put devices in memory in their place.
@@ -7,8 +7,10 @@
 
 mod device;
 mod input;
+mod output;
 mod program;
 mod replaying;
+mod running;
 mod status;
 mod task;
 
@@ -16,5 +18,6 @@ pub use device::{Counted, Failed, Sink, Source};
 pub use input::{INPUT_LIMIT, InputFault, read_all};
 pub use program::{execute, refuse_words};
 pub use replaying::replay;
+pub use running::run;
 pub use status::Status;
 pub use task::{LineFault, Task, command_line};

@@ -7,18 +7,20 @@ ghost use Rattle.std.specs.Io.KnownBytes.{Appends};
 ghost use Rattle.clap.specs.Words.{takes};
 ghost use Rattle.spawnrun_lib.specs.CommandLine.{IsFaulty, program};
 ghost use Rattle.spawnrun_lib.specs.Device.{OneFails, Takes, TakesAtMost};
-ghost use Rattle.spawnrun_lib.specs.Replay.{HasWritten, input_limit};
+ghost use Rattle.spawnrun_lib.specs.Replay.{input_limit};
 ghost use Rattle.spawnrun_lib.specs.Status.{exit_number, said, words_status};
-ghost use Rattle.spawnrun_lib.specs.Program.{AsksToReplay};
+ghost use Rattle.spawnrun_lib.specs.Program.{AsksTo, HasDone};
 
 use crate::device::{Sink, Source};
 use crate::replaying::replay;
+use crate::running::run;
 use crate::status::Status;
 use crate::task::{LineFault, Task, command_line};
 use std::alloc::Global;
 use std::convert::AsStr;
 use std::io;
 use std::io::ErrorKind;
+use std::thread::Threads;
 
 // The exit status for words that are no command line of the program, and for a request for help.
 const LINE_FAULT: u8 = 2;
@@ -34,21 +36,23 @@ const LINE_FAULT: u8 = 2;
 /// | 4 | A call of the input or the output failed. | `device` |
 ///
 /// A failure of the error stream changes no status.
-pub fn execute<S: AsStr, I: Source, O: Sink, E: Sink>(
+pub fn execute<R, S: AsStr, I: Source, O: Sink, E: Sink>(
+    rt: &R,
     alloc: Global,
     words: &[S],
     input: &mut I,
     output: &mut O,
     errors: &mut E,
 ) -> u8
+where
+    R: Threads + Sync,
     ensures statuses { result ≤ 4 }
 
-    // A replay was done, or its input refused.
-    ensures done { result ≡ 0 → AsksToReplay (map S.text words.now) (λ limits.
-        HasWritten limits Status.Done
+    // A replay or a run was done, or its input refused.
+    ensures done { result ≡ 0 → AsksTo (map S.text words.now) (λ task. HasDone task Status.Done
         (I.remaining input.old) (O.written output.old) (O.written output.new)) }
-    ensures refused { result ≡ 1 → AsksToReplay (map S.text words.now) (λ limits.
-        HasWritten limits Status.Refused
+    ensures refused { result ≡ 1 → AsksTo (map S.text words.now) (λ task.
+        HasDone task Status.Refused
         (I.remaining input.old) (O.written output.old) (O.written output.new)) }
 
     // The words are faulty, exactly then without want of memory.
@@ -84,6 +88,7 @@ pub fn execute<S: AsStr, I: Source, O: Sink, E: Sink>(
         Ok(task) => {
             let status = match task {
                 Task::Replay(limits) => replay(alloc, input, output, limits),
+                Task::Run { workers, show } => run(rt, alloc, input, output, workers, show),
             };
             finish(errors, status)
         }

@@ -1,14 +1,12 @@
 //! The run of a schedule: bytes in, bytes out.
-ghost use Rattle.std.specs.Prelude.{◌≡◌, ◌≢◌, ◌+◌, ◌⊎◌, min, length, All};
-ghost use Rattle.std.specs.Prelude.{Err, IfOk, IfSome, OnErr, OnOk};
-ghost use Rattle.std.specs.Io.KnownBytes.{Appends};
+ghost use Rattle.std.specs.Prelude.{◌≡◌, ◌≢◌, ◌+◌, min, length, All, Err, IfOk, IfSome};
 ghost use Rattle.ent_replay.specs.Schedule.{outcomes_of, starting};
 ghost use Rattle.spawnrun_lib.specs.Device.{Takes, TakesAtMost, OneFails};
 ghost use Rattle.spawnrun_lib.specs.Replay.{HasWritten, input_limit, outcome_lines, refused_line};
-ghost use Rattle.spawnrun_lib.specs.Replay.{size_line};
 
-use crate::device::{Failed, Sink, Source};
+use crate::device::{Sink, Source};
 use crate::input::{INPUT_LIMIT, InputFault, read_all};
+use crate::output::{size_line, write};
 use crate::status::Status;
 use ent_alloc::Limits;
 use ent_handle::Memory;
@@ -67,32 +65,6 @@ pub fn replay<I: Source, O: Sink>(
         Err(InputFault::Memory) => Status::Memory,
         Err(InputFault::Device) => Status::Device,
     }
-}
-
-// Writes a text, if there was memory for it, and ends with the status.
-fn write<O: Sink>(output: &mut O, text: Result<Vec<u8>, Memory>, status: Status) -> Status
-    requires { status ≢ Status.Device }
-    ensures ends { OnOk text ((result ≡ status) ⊎ (result ≡ Status.Device)) }
-    ensures written { IfOk text (λ bytes. result ≡ status
-        → Appends (O.written output.old) (O.written output.new) bytes.items) }
-    ensures memory { OnErr text ((result ≡ Status.Memory) × (output.new ≡ output.old)) }
-    ensures failed { result ≡ Status.Device
-        → O.failures output.new ≡ O.failures output.old + 1 }
-    ensures unfailed { result ≢ Status.Device → O.failures output.new ≡ O.failures output.old }
-{
-    match text {
-        Ok(text) => match output.put(&text) {
-            Ok(()) => status,
-            Err(Failed) => Status::Device,
-        },
-        Err(Memory) => Status::Memory,
-    }
-}
-
-fn size_line(alloc: Global) -> Result<Vec<u8>, Memory>
-    ensures { IfOk result (λ text. text.items ≡ size_line) }
-{
-    Ok(Vec::from_slice(alloc, b"refused size\n")?)
 }
 
 // The lines of what the events give, from an empty allocator.

@@ -1,22 +1,35 @@
 //! What the words after the program's name ask for.
 ghost use Rattle.std.specs.Prelude.{◌≡◌, [], IfOk, IfErr, OnOk, map, Some, true, false, codes};
-ghost use Rattle.clap.specs.Words.{app_of, fault_of, rule_of, takes};
+ghost use Rattle.clap.specs.Words.{app_of, fault_of, first_of, rule_of, takes};
 ghost use Rattle.clap.specs.declared.builder.Command.TheViews.{out-Command as fields_of};
 ghost use Rattle.ent_alloc.specs.Limits.{AreLimits};
-ghost use Rattle.spawnrun_lib.specs.CommandLine.{AsksFor, HasNumber, IsFaultIn, given, number_of};
-ghost use Rattle.spawnrun_lib.specs.CommandLine.{number_option, program, replay_command};
+ghost use Rattle.spawnrun_lib.specs.CommandLine.{AreWorkers, AsksFor, HasNumber, HasShow, IsFaultIn};
+ghost use Rattle.spawnrun_lib.specs.CommandLine.{given, name_option, number_of, number_option};
+ghost use Rattle.spawnrun_lib.specs.CommandLine.{program, program_of, replay_command, run_command};
+ghost use Rattle.spawnrun_lib.specs.CommandLine.{show_text};
 
 use clap::error::ErrorKind;
 use clap::{Arg, ArgMatches, Command};
 use ent_alloc::Limits;
+use ent_script_report::Show;
 use std::alloc::{AllocError, Global};
 use std::convert::AsStr;
+
+// The values of `--show`.
+static SHOWN: [&str; 2] = ["births", "handles"];
 
 /// What the program is asked to do.
 #[derive(Clone, Copy, Debug, PartialEq, Eq)]
 pub enum Task {
     /// To run the schedule on standard input over an allocator of these limits.
     Replay(Limits),
+    /// To run the script on standard input.
+    Run {
+        /// How many workers run the systems of a frame, from 1 to 64.
+        workers: usize,
+        /// What names an entity in the output.
+        show: Show,
+    },
 }
 
 /// Why words ask for no task.
@@ -72,6 +85,25 @@ fn number_option<'a>(
         .help(help)
 }
 
+// An option that takes one of these names.
+fn name_option<'a>(
+    alloc: Global,
+    name: &'a str,
+    names: &'a [&'a str],
+    default: &'a str,
+    help: &'a str,
+) -> Arg<'a>
+    ensures rule { rule_of result ≡ name_option name.entry.now names.entry default.entry.now }
+    ensures own { result.global ≡ false }
+{
+    Arg::new(alloc, name)
+        .long(name)
+        .value_name("WHAT")
+        .value_parser(names)
+        .default_value(default)
+        .help(help)
+}
+
 fn replay_command<'a>(alloc: Global) -> Result<Command<'a>, AllocError>
     ensures app { IfOk result (λ c. app_of c ≡ replay_command) }
     ensures own { IfOk result (λ c. (fields_of c).has_globals ≡ false) }
@@ -96,16 +128,36 @@ fn replay_command<'a>(alloc: Global) -> Result<Command<'a>, AllocError>
         .arg(generations)
 }
 
-fn program<'a>(alloc: Global) -> Result<Command<'a>, AllocError>
-    ensures { IfOk result (λ c. app_of c ≡ program) }
+fn run_command<'a>(alloc: Global, shown: &'a [&'a str]) -> Result<Command<'a>, AllocError>
+    ensures app { IfOk result (λ c. app_of c ≡ run_command shown.entry) }
+    ensures own { IfOk result (λ c. (fields_of c).has_globals ≡ false) }
+{
+    let workers = number_option(
+        alloc,
+        "workers",
+        64,
+        "1",
+        "How many workers run the systems of a frame",
+    );
+    let show = name_option(alloc, "show", shown, "births", "What names an entity");
+    Command::new(alloc, "run")
+        .about("Runs the script of frames on standard input")
+        .arg(workers)?
+        .arg(show)
+}
+
+fn program<'a>(alloc: Global, shown: &'a [&'a str]) -> Result<Command<'a>, AllocError>
+    ensures { IfOk result (λ c. app_of c ≡ program_of shown.entry) }
 {
     let replay = replay_command(alloc)?;
+    let run = run_command(alloc, shown)?;
     Command::new(alloc, "spawnrun")
-        .about("Runs schedules over Bevy's entity allocator")
+        .about("Runs schedules and scripts over Bevy's entity allocator")
         .no_binary_name(true)
         .disable_help_subcommand(true)
         .subcommand_required(true)
         .subcommand(replay)?
+        .subcommand(run)?
         .bin_name("spawnrun")
 }
 
@@ -122,6 +174,25 @@ fn limits_of(options: &ArgMatches<'_>) -> Limits
     Limits::new(slots, generations).unwrap()
 }
 
+fn workers_of(options: &ArgMatches<'_>) -> usize
+    requires { HasNumber (codes "workers") 64 (given options.now) }
+    ensures number { number_of (codes "workers") (given options.now) ≡ Some result }
+    ensures within { AreWorkers result }
+{
+    options.get_one::<usize>("workers").unwrap()
+}
+
+fn show_of(options: &ArgMatches<'_>) -> Show
+    requires { HasShow (given options.now) }
+    ensures { first_of (codes "show") (given options.now) ≡ Some (show_text result) }
+{
+    if options.get_str("show").unwrap() == "handles" {
+        Show::Handles
+    } else {
+        Show::Births
+    }
+}
+
 /// Reads the task from the words after the program's name.
 ///
 /// # Errors
@@ -135,9 +206,14 @@ pub fn command_line<S: AsStr>(alloc: Global, words: &[S]) -> Result<Task, LineFa
     ensures refused { IfErr result (λ fault.
         takes program (map S.text words.now) ≡ true → fault ≡ LineFault.Memory) }
 {
-    let matches = program(alloc)?.try_get_matches_from(words)?;
-    match matches.subcommand_matches("replay") {
-        Some(options) => Ok(Task::Replay(limits_of(options))),
-        None => unreachable!(),
+    let matches = program(alloc, &SHOWN)?.try_get_matches_from(words)?;
+    let (name, options) = matches.subcommand().unwrap();
+    match name {
+        "replay" => Ok(Task::Replay(limits_of(options))),
+        "run" => Ok(Task::Run {
+            workers: workers_of(options),
+            show: show_of(options),
+        }),
+        _ => unreachable!(),
     }
 }

@@ -12,4 +12,6 @@ mod program;
 #[cfg(test)]
 mod schedules;
 #[cfg(test)]
+mod scripts;
+#[cfg(test)]
 mod words;

@@ -3,6 +3,7 @@ use spawnrun_lib::{execute, refuse_words};
 use std::io;
 use std::io::ErrorKind;
 use std::process::Abort;
+use std::thread::Threads;
 
 // How the program ends: its exit status, what it writes, and what it says on the error stream.
 #[derive(Clone, Copy)]
@@ -24,11 +25,11 @@ const HELP: Ending<'static> = Ending {
 
 // Runs the program on these words and this input, and compares how it ends. Its output fails after `puts`
 // calls that succeed.
-fn ends(rt: &(impl Abort + AllocGlobal), words: &[&str], input: &str, puts: u64, ending: Ending) {
+fn ends(rt: &(impl Threads + Sync + Abort + AllocGlobal), words: &[&str], input: &str, puts: u64, ending: Ending) {
     let mut source = MemorySource::new(input.as_bytes(), 7, NEVER);
     let mut sink = MemorySink::new(rt.alloc(), puts);
     let mut errors = MemorySink::new(rt.alloc(), NEVER);
-    let status = execute(rt.alloc(), words, &mut source, &mut sink, &mut errors);
+    let status = execute(rt, rt.alloc(), words, &mut source, &mut sink, &mut errors);
     assert!(rt; status == ending.status);
     assert!(rt; sink.bytes.as_slice() == ending.output.as_bytes());
     assert!(rt; errors.bytes.as_slice() == ending.errors.as_bytes());
@@ -63,12 +64,41 @@ fn tasks_are_done(rt: HostRuntime) {
 }
 
 #[test]
+fn scripts_are_run(rt: HostRuntime) {
+    let script = "{\"components\":[\"hp\"],\"frames\":[[[{\"spawn\":{\"hp\":5}}]]]}";
+    let births = Ending {
+        status: 0,
+        output: "frame 0 born 1 faults 0\n0.0.0 hp=5\nalive 1\n",
+        errors: "",
+    };
+    ends(&rt, &["run", "--workers", "2"], script, NEVER, births);
+    let handles = Ending {
+        status: 0,
+        output: "frame 0 born 1 faults 0\n0.0.0 0v1 hp=5\nalive 1\n",
+        errors: "",
+    };
+    ends(&rt, &["run", "--show", "handles"], script, NEVER, handles);
+    let refused = Ending {
+        status: 1,
+        output: "refused script top\n",
+        errors: "",
+    };
+    ends(&rt, &["run"], "[]", NEVER, refused);
+    let failed = Ending {
+        status: 4,
+        output: "",
+        errors: "device\n",
+    };
+    ends(&rt, &["run"], script, 0, failed);
+}
+
+#[test]
 fn faulty_words_use_no_device(rt: HostRuntime) {
     let none = Ending {
         status: 2,
         output: "",
         errors: "error: 'spawnrun' requires a subcommand but one was not provided\n  \
-                 [subcommands: replay]\n\nUsage: spawnrun <COMMAND>\n\n\
+                 [subcommands: replay, run]\n\nUsage: spawnrun <COMMAND>\n\n\
                  For more information, try '--help'.\n",
     };
     ends(&rt, &[], "alloc\n", 0, none);
@@ -104,7 +134,7 @@ fn refused_memory_is_told_in_place_of_help(rt: HostRuntime) {
         return;
     }
     let words = ["replay", "--help"];
-    let status = execute(rt.alloc(), &words, &mut source, &mut sink, &mut errors);
+    let status = execute(&rt, rt.alloc(), &words, &mut source, &mut sink, &mut errors);
     let said = errors.bytes.as_slice();
     assert!(rt;
         (status, said) == (HELP.status, HELP.errors.as_bytes())

@@ -1,3 +1,5 @@
+use ent_alloc::Limits;
+use ent_script_report::Show;
 use spawnrun_lib::{LineFault, Task, command_line};
 use std::alloc::{AllocError, Global};
 use std::test::Fail;
@@ -19,9 +21,23 @@ fn options_have_ranges_and_defaults(rt: HostRuntime) -> Result<(), Fail> {
         ),
     ];
     for (words, slots, generations) in cases {
-        let Task::Replay(limits) = command_line(rt.alloc(), words)?;
-        assert!(rt; limits.slots() == slots);
-        assert!(rt; limits.generations() == generations);
+        let limits = Limits::new(slots, generations).expect(&rt, "limits");
+        assert!(rt; command_line(rt.alloc(), words)? == Task::Replay(limits));
+    }
+    Ok(())
+}
+
+#[test]
+fn a_run_has_workers_and_shows(rt: HostRuntime) -> Result<(), Fail> {
+    let cases = [
+        (["run"].as_slice(), 1, Show::Births),
+        (["run", "--workers", "2"].as_slice(), 2, Show::Births),
+        (["run", "--show", "handles"].as_slice(), 1, Show::Handles),
+        (["run", "--show=births", "--workers=64"].as_slice(), 64, Show::Births),
+        (["run", "--workers=8", "--show=handles"].as_slice(), 8, Show::Handles),
+    ];
+    for (words, workers, show) in cases {
+        assert!(rt; command_line(rt.alloc(), words)? == Task::Run { workers, show });
     }
     Ok(())
 }
@@ -39,7 +55,7 @@ fn faults_are_shown_by_clap(rt: HostRuntime) -> Result<(), Fail> {
         (
             [].as_slice(),
             "error: 'spawnrun' requires a subcommand but one was not provided\n  \
-             [subcommands: replay]\n\nUsage: spawnrun <COMMAND>\n\n\
+             [subcommands: replay, run]\n\nUsage: spawnrun <COMMAND>\n\n\
              For more information, try '--help'.\n",
         ),
         (
@@ -56,6 +72,30 @@ fn faults_are_shown_by_clap(rt: HostRuntime) -> Result<(), Fail> {
             ["replay", "more"].as_slice(),
             "error: unexpected argument 'more' found\n\nUsage: spawnrun replay [OPTIONS]\n\n\
              For more information, try '--help'.\n",
+        ),
+        (
+            ["run", "--workers", "65"].as_slice(),
+            "error: invalid value '65' for '--workers <N>': 65 is not in 1..=64\n\n\
+             For more information, try '--help'.\n",
+        ),
+        (
+            ["run", "--show", "names"].as_slice(),
+            "error: invalid value 'names' for '--show <WHAT>'\n  \
+             [possible values: births, handles]\n\n\
+             For more information, try '--help'.\n",
+        ),
+        (
+            ["run", "--slots", "2"].as_slice(),
+            "error: unexpected argument '--slots' found\n\nUsage: spawnrun run [OPTIONS]\n\n\
+             For more information, try '--help'.\n",
+        ),
+        (
+            ["run", "--help"].as_slice(),
+            "Runs the script of frames on standard input\n\n\
+             Usage: spawnrun run [OPTIONS]\n\nOptions:\n      \
+             --workers <N>  How many workers run the systems of a frame [default: 1]\n      \
+             --show <WHAT>  What names an entity [default: births] [possible values: births, handles]\n  \
+             -h, --help         Print help\n",
         ),
         (
             ["replay", "--help"].as_slice(),

@@ -1,49 +1,84 @@
-use Rattle.std.proofs.Common.{◌≡◌, ◌∙◌, ℕ, List, codes, Some, true, sym, ap, map, subst}
-use Rattle.std.proofs.lemmas.Bool.{false≢true}
-use Rattle.std.specs.Prelude.{option_map}
-use Rattle.clap.specs.Words.{HasKind, fault_of, is_simple_and_free, rows_of, found_of, takes}
-use Rattle.spawnrun_lib.specs.CommandLine.{HasNumber, program}
-use Rattle.spawnrun_lib.proofs.CommandLineLemmas.{MeetsReplay-parse, found_fault, only_memory}
-use Rattle.spawnrun_lib.proofs.CommandLineLemmas.{program-simple_and_free}
+use Rattle.std.proofs.Common.{◌≡◌, ◌∙◌, IfSome, ℕ, List, codes, true, refl, sym, map, subst}
+use Rattle.clap.specs.Words.{HasKind, rows_of, found_of, takes}
+use Rattle.spawnrun_lib.specs.CommandLine.{program}
+use Rattle.spawnrun_lib.proofs.CommandLineLemmas.{IsProgram-names, MeetsTask-parse}
+use Rattle.spawnrun_lib.proofs.CommandLineLemmas.{found_fault, none_other, only_memory, replay_asked}
+use Rattle.spawnrun_lib.proofs.CommandLineLemmas.{run_asked, subcommand_met-named}
 use Rattle.spawnrun_lib.proofs.task.command_line.Goals as goal
 
 pub returns-in_err-matches-clause-refused : goal.returns-in_err-matches-clause-refused
 returns-in_err-matches-clause-refused g c =
     let words : List (List ℕ) = map g.S.AsStr.text c.args.words.now in
-    only_memory _ _ (takes program words ≡ true) c.from_residual-in_err-matches.ensures.1
-    (λ yes. c.in_err-matches.ensures.passes (ap (λ app. takes app words) c.in_ok-program.ensures ∙ yes))
+    let is = IsProgram-names _ _ c.in_ok-program.ensures refl in
+    only_memory _ _ (takes program words ≡ true) c.from_residual-in_err-matches.ensures.1 (λ yes. c.in_err-matches.ensures.passes (is.taken words yes))
 
 pub returns-in_err-matches-clause-fault : goal.returns-in_err-matches-clause-fault
 returns-in_err-matches-clause-fault g c =
     let words : List (List ℕ) = map g.S.AsStr.text c.args.words.now in
-    let app = c.in_ok-program.ensures in
-    let kind = c.in_err-matches.ensures.kinds (ap is_simple_and_free app ∙ program-simple_and_free) in
-    found_fault _ c.in_err-matches.field-0.0 words c.from_residual-in_err-matches.ensures.1 (subst (λ a. HasKind (fault_of a words) c.in_err-matches.field-0.0) app kind)
+    let is = IsProgram-names _ _ c.in_ok-program.ensures refl in
+    let kind = c.in_err-matches.ensures.kinds is.free in
+    found_fault _ c.in_err-matches.field-0.0 words c.from_residual-in_err-matches.ensures.1
+    (subst (λ kinds. HasKind kinds c.in_err-matches.field-0.0) (is.fault words) kind)
 
 pub limits_of-requires-clause-slots : goal.limits_of-requires-clause-slots
 limits_of-requires-clause-slots g c =
-    let met = MeetsReplay-parse c.in_ok-program.field-0 (map g.S.AsStr.text c.args.words.now) c.in_ok-matches.matches c.in_ok-program.ensures
-    c.in_ok-matches.ensures.kinds c.in_ok-matches.ensures.matches in
-    let same : Some met.asked.rows ≡ Some (rows_of (found_of c.in-Some.options.now)) = ap (option_map (λ p. p.1)) (sym met.rows) ∙ c.in-Some.ensures.rows in
-    let rows : met.asked.rows ≡ rows_of (found_of c.in-Some.options.now) = cc in
-    subst (HasNumber (codes "slots") 4294967295) rows met.asked.slots
+    let words : List (List ℕ) = map g.S.AsStr.text c.args.words.now in
+    let met = MeetsTask-parse _ words _ (IsProgram-names _ _ c.in_ok-program.ensures refl) c.in_ok-matches.ensures.kinds c.in_ok-matches.ensures.matches in
+    (replay_asked _ _ met.asked (subcommand_met-named words _ met _ _ _ (codes "replay") c.subcommand.ensures.name c.subcommand.ensures.rows c.unwrap.ensures c.in-replay.is)).0
 
 pub limits_of-requires-clause-generations : goal.limits_of-requires-clause-generations
 limits_of-requires-clause-generations g c =
-    let met = MeetsReplay-parse c.in_ok-program.field-0 (map g.S.AsStr.text c.args.words.now) c.in_ok-matches.matches c.in_ok-program.ensures
-    c.in_ok-matches.ensures.kinds c.in_ok-matches.ensures.matches in
-    let same : Some met.asked.rows ≡ Some (rows_of (found_of c.in-Some.options.now)) = ap (option_map (λ p. p.1)) (sym met.rows) ∙ c.in-Some.ensures.rows in
-    let rows : met.asked.rows ≡ rows_of (found_of c.in-Some.options.now) = cc in
-    subst (HasNumber (codes "generations") 2147483647) rows met.asked.generations
+    let words : List (List ℕ) = map g.S.AsStr.text c.args.words.now in
+    let met = MeetsTask-parse _ words _ (IsProgram-names _ _ c.in_ok-program.ensures refl) c.in_ok-matches.ensures.kinds c.in_ok-matches.ensures.matches in
+    (replay_asked _ _ met.asked (subcommand_met-named words _ met _ _ _ (codes "replay") c.subcommand.ensures.name c.subcommand.ensures.rows c.unwrap.ensures c.in-replay.is)).1
+
+pub workers_of-requires : goal.workers_of-requires
+workers_of-requires g c =
+    let words : List (List ℕ) = map g.S.AsStr.text c.args.words.now in
+    let met = MeetsTask-parse _ words _ (IsProgram-names _ _ c.in_ok-program.ensures refl) c.in_ok-matches.ensures.kinds c.in_ok-matches.ensures.matches in
+    (run_asked _ _ met.asked (subcommand_met-named words _ met _ _ _ (codes "run") c.subcommand.ensures.name c.subcommand.ensures.rows c.unwrap.ensures c.in-run.is)).0
+
+pub show_of-requires : goal.show_of-requires
+show_of-requires g c =
+    let words : List (List ℕ) = map g.S.AsStr.text c.args.words.now in
+    let met = MeetsTask-parse _ words _ (IsProgram-names _ _ c.in_ok-program.ensures refl) c.in_ok-matches.ensures.kinds c.in_ok-matches.ensures.matches in
+    (run_asked _ _ met.asked (subcommand_met-named words _ met _ _ _ (codes "run") c.subcommand.ensures.name c.subcommand.ensures.rows c.unwrap.ensures c.in-run.is)).1
+
+pub returns-in-replay-clause-asked : goal.returns-in-replay-clause-asked
+returns-in-replay-clause-asked g c =
+    let words : List (List ℕ) = map g.S.AsStr.text c.args.words.now in
+    let met = MeetsTask-parse _ words _ (IsProgram-names _ _ c.in_ok-program.ensures refl) c.in_ok-matches.ensures.kinds c.in_ok-matches.ensures.matches in (
+      rows_of (found_of c.unwrap.result.1.now),
+      subcommand_met-named words _ met _ _ _ (codes "replay") c.subcommand.ensures.name c.subcommand.ensures.rows c.unwrap.ensures c.in-replay.is,
+      c.limits_of.ensures.slots,
+      c.limits_of.ensures.generations,
+      c.limits_of.ensures.within,
+    )
+
+pub returns-in-run-clause-asked : goal.returns-in-run-clause-asked
+returns-in-run-clause-asked g c =
+    let words : List (List ℕ) = map g.S.AsStr.text c.args.words.now in
+    let met = MeetsTask-parse _ words _ (IsProgram-names _ _ c.in_ok-program.ensures refl) c.in_ok-matches.ensures.kinds c.in_ok-matches.ensures.matches in (
+      rows_of (found_of c.unwrap.result.1.now),
+      subcommand_met-named words _ met _ _ _ (codes "run") c.subcommand.ensures.name c.subcommand.ensures.rows c.unwrap.ensures c.in-run.is,
+      c.workers_of.ensures.number,
+      c.workers_of.ensures.within,
+      c.show_of.ensures,
+    )
+
+pub returns-in-replay-clause-taken : goal.returns-in-replay-clause-taken
+returns-in-replay-clause-taken g c =
+    let words : List (List ℕ) = map g.S.AsStr.text c.args.words.now in
+    (MeetsTask-parse _ words _ (IsProgram-names _ _ c.in_ok-program.ensures refl) c.in_ok-matches.ensures.kinds c.in_ok-matches.ensures.matches).no_fault
+
+pub returns-in-run-clause-taken : goal.returns-in-run-clause-taken
+returns-in-run-clause-taken g c =
+    let words : List (List ℕ) = map g.S.AsStr.text c.args.words.now in
+    (MeetsTask-parse _ words _ (IsProgram-names _ _ c.in_ok-program.ensures refl) c.in_ok-matches.ensures.kinds c.in_ok-matches.ensures.matches).no_fault
 
 pub unreachable-requires : goal.unreachable-requires
 unreachable-requires g c =
-    let met = MeetsReplay-parse c.in_ok-program.field-0 (map g.S.AsStr.text c.args.words.now) c.in_ok-matches.matches c.in_ok-program.ensures
-    c.in_ok-matches.ensures.kinds c.in_ok-matches.ensures.matches in
-    false≢true (c.in-None.ensures.found.1 met.name)
-
-pub returns-clause-taken : goal.returns-clause-taken
-returns-clause-taken g c =
-    let met = MeetsReplay-parse c.in_ok-program.field-0 (map g.S.AsStr.text c.args.words.now) c.in_ok-matches.matches c.in_ok-program.ensures
-    c.in_ok-matches.ensures.kinds c.in_ok-matches.ensures.matches in
-    met.no_fault
+    let words : List (List ℕ) = map g.S.AsStr.text c.args.words.now in
+    let met = MeetsTask-parse _ words _ (IsProgram-names _ _ c.in_ok-program.ensures refl) c.in_ok-matches.ensures.kinds c.in_ok-matches.ensures.matches in
+    none_other _ met.asked c.subcommand.result (c.subcommand.ensures.name ∙ met.name)
+    (subst (λ r. IfSome r (λ p. (p.0.now ≡ codes "replay" → ⊥) × (p.0.now ≡ codes "run" → ⊥))) (sym c.unwrap.ensures) (c.in_default.not-replay, c.in_default.not-run))

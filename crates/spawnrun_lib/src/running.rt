@@ -1,0 +1,89 @@
+//! The run of a script: bytes in, bytes out.
+ghost use Rattle.std.specs.Prelude.{◌≡◌, ◌≢◌, ◌+◌, ◌<◌, ◌≤◌, min, length, IfOk, IfSome, OnOk};
+ghost use Rattle.ent_script.specs.Refusal.{refusal_line};
+ghost use Rattle.spawnrun_lib.specs.Device.{Takes, TakesAtMost, OneFails};
+ghost use Rattle.spawnrun_lib.specs.Replay.{input_limit};
+ghost use Rattle.spawnrun_lib.specs.Running.{HasGiven};
+
+use crate::device::{Sink, Source};
+use crate::input::{INPUT_LIMIT, InputFault, read_all};
+use crate::output::{size_line, write};
+use crate::status::Status;
+use ent_handle::Memory;
+use ent_script::{ReadFault, read_script, write_refusal};
+use ent_script_report::Show;
+use ent_script_run::run_script;
+use std::alloc::Global;
+use std::thread::Threads;
+
+/// Runs the script that the input means over an empty world, each frame on that many workers, and
+/// writes its report.
+///
+/// No frame runs before the whole input is read, and nothing is written before all of the output is
+/// made. An input of more than 67,108,864 bytes is refused by one line, and so is one that is no
+/// script. Of a longer input just one byte more than the limit is taken.
+///
+/// After `Memory`, or a failure of the input, the output is as it was. `Device` is one failed call
+/// of one of the two devices.
+pub fn run<R, I: Source, O: Sink>(
+    rt: &R,
+    alloc: Global,
+    input: &mut I,
+    output: &mut O,
+    workers: usize,
+    show: Show,
+) -> Status
+where
+    R: Threads + Sync,
+    requires some { 0 < workers }
+    requires few { workers ≤ 64 }
+
+    ensures done { result ≡ Status.Done → HasGiven workers show Status.Done
+        (I.remaining input.old) (O.written output.old) (O.written output.new) }
+    ensures refused { result ≡ Status.Refused → HasGiven workers show Status.Refused
+        (I.remaining input.old) (O.written output.old) (O.written output.new) }
+    ensures memory { result ≡ Status.Memory → output.new ≡ output.old }
+
+    // The failures of the two devices.
+    ensures device { result ≡ Status.Device → OneFails
+        (I.failures input.old) (I.failures input.new)
+        (O.failures output.old) (O.failures output.new) }
+    ensures input_unfailed { result ≢ Status.Device → I.failures input.new ≡ I.failures input.old }
+    ensures output_unfailed { result ≢ Status.Device
+        → O.failures output.new ≡ O.failures output.old }
+    ensures unread { I.failures input.new ≢ I.failures input.old → output.new ≡ output.old }
+
+    // What is taken of an input that didn't fail: all of it, or one byte more than the limit.
+    ensures reads { I.failures input.new ≡ I.failures input.old → result ≢ Status.Memory
+        → IfSome (I.remaining input.old) (λ all.
+        Takes (I.remaining input.old) (I.remaining input.new)
+        (min (length all) (input_limit + 1))) }
+    ensures stops { I.failures input.new ≡ I.failures input.old
+        → TakesAtMost (I.remaining input.old) (I.remaining input.new) (input_limit + 1) }
+{
+    match read_all(alloc, input, INPUT_LIMIT) {
+        Ok(bytes) => match read_script(alloc, &bytes) {
+            Ok(script) => {
+                let report = run_script(rt, alloc, &script, workers, show);
+                write(output, report, Status::Done)
+            }
+            Err(fault) => write(output, refusal_line(alloc, fault), Status::Refused),
+        },
+        Err(InputFault::TooLong) => write(output, size_line(alloc), Status::Refused),
+        Err(InputFault::Memory) => Status::Memory,
+        Err(InputFault::Device) => Status::Device,
+    }
+}
+
+// The line that refuses a text that is no script. Want of memory is no refusal.
+fn refusal_line(alloc: Global, fault: ReadFault) -> Result<Vec<u8>, Memory>
+    ensures refused { OnOk result (fault ≢ ReadFault.Memory) }
+    ensures line { IfOk result (λ line. line.items ≡ refusal_line fault) }
+{
+    if fault == ReadFault::Memory {
+        return Err(Memory);
+    }
+    let mut line = Vec::new(alloc);
+    write_refusal(fault, &mut line)?;
+    Ok(line)
+}
