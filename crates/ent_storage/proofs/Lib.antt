@@ -1,5 +1,6 @@
 pub mod ByBirth
 pub mod Counted
+pub mod Dense
 pub mod Indexed
 pub mod Keys
 pub mod Missing

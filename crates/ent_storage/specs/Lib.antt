@@ -4,4 +4,5 @@ pub mod BirthOrder
 pub mod Position
 pub mod Places
 pub mod Indexed
+pub mod SparseSet
 pub mod Fault

@@ -12,6 +12,7 @@ mod living;
 mod order;
 mod slot;
 mod sorted;
+mod sparse_set;
 mod storage;
 
 pub use fault::StorageFault;
