@@ -21,7 +21,7 @@ use Rattle.ent_handle.specs.declared.birth.Birth.{Birth}
 use Rattle.ent_handle.specs.Birth.{birth_cmp, birth_cmp_total}
 use Rattle.ent_handle.specs.Handle.{Handle, handle_cmp, handle_cmp_total}
 use Rattle.ent_handle.specs.Handle.{handle_cmp-IsAntisymmetric}
-use Rattle.ent_storage.specs.declared.living.LivingEntity.{LivingEntity}
+use Rattle.ent_storage.specs.Living.{LivingEntity}
 use Rattle.ent_storage.specs.EntityMap.{Entity}
 use Rattle.ent_storage.specs.Indexed.{entity_of, entities_of, IsIndexed}
 use Rattle.ent_storage.specs.BirthOrder.{birth_order, pair_cmp, ListsByBirth, IsInOrder}

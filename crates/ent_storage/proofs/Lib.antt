@@ -1,4 +1,5 @@
 pub mod ByBirth
+pub mod ColumnsLemmas
 pub mod Counted
 pub mod Dense
 pub mod Indexed

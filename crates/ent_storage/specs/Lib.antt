@@ -5,4 +5,5 @@ pub mod Position
 pub mod Places
 pub mod Indexed
 pub mod SparseSet
+pub mod Living
 pub mod Fault

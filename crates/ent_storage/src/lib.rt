@@ -4,7 +4,7 @@
 //! the vector an index has the place of each handle.
 #![tactic(auto)]
 
-mod components;
+mod columns;
 mod fault;
 mod index;
 mod items;

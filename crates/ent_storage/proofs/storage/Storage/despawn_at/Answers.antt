@@ -1,7 +1,7 @@
 use Rattle.std.proofs.Common.{◌<◌, ◌≤◌, length, Some, slice_get, ap, sym, ◌∙◌, arith}
 use Rattle.std.specs.FinMap as map
 use Rattle.ent_storage.specs.EntityMap.{Store}
-use Rattle.ent_storage.specs.declared.living.LivingEntity.{LivingEntity}
+use Rattle.ent_storage.specs.Living.{LivingEntity}
 use Rattle.std.proofs.lemmas.List.{length-map}
 use Rattle.std.proofs.lemmas.Option.{slice_get_past}
 use Rattle.ent_storage.specs.Indexed.{counted, handles_of}
@@ -13,13 +13,13 @@ use Rattle.ent_storage.proofs.storage.Storage.despawn_at.Goals as goal
 -- the place is one of the rows
 pub swap_remove-requires : goal.swap_remove-requires
 swap_remove-requires c =
-    let at = at_place c.self.inside.living.items c.args.place c.args.handle (ap (λ (s : Store). slice_get s.places c.args.place) c.self.view_is ∙ c.requires) in
+    let at = at_place c.self.inside.living.entities c.args.place c.args.handle (ap (λ (s : Store). slice_get s.places c.args.place) c.self.view_is ∙ c.requires) in
     omega (arith, at.0, c.self.inside.living.ok.0)
 
 -- the entity that is now in the place was the last, and the index has it
 pub set_place-requires : goal.set_place-requires
 set_place-requires c =
-    let living = c.self.inside.living.items in
+    let living = c.self.inside.living.entities in
     let index = counted living c.self.inside.index.by_handle in
     let placed = placed_from_place living index c.self.invariant.indexed c.args.handle c.args.place (ap (λ (s : Store). slice_get s.places c.args.place) c.self.view_is ∙ c.requires) in
     let rest = moved_into living c.swap_remove.new.self.items c.args.place _ _ c.self.inside.living.ok.0 c.swap_remove.new.self.ok.0 c.swap_remove.ensures.len c.swap_remove.ensures.by_index in
@@ -28,7 +28,7 @@ set_place-requires c =
 
 pub invariant_of-self : goal.invariant_of-self
 invariant_of-self c =
-    let living = c.self.inside.living.items in
+    let living = c.self.inside.living.entities in
     let index = counted living c.self.inside.index.by_handle in
     let placed = placed_from_place living index c.self.invariant.indexed c.args.handle c.args.place (ap (λ (s : Store). slice_get s.places c.args.place) c.self.view_is ∙ c.requires) in
     let rest = moved_into living c.swap_remove.new.self.items c.args.place _ _ c.self.inside.living.ok.0 c.swap_remove.new.self.ok.0 c.swap_remove.ensures.len c.swap_remove.ensures.by_index in
@@ -38,7 +38,7 @@ invariant_of-self c =
 
 pub returns-then-place-len-clause-entities : goal.returns-then-place-len-clause-entities
 returns-then-place-len-clause-entities c =
-    let living = c.self.inside.living.items in
+    let living = c.self.inside.living.entities in
     let index = counted living c.self.inside.index.by_handle in
     let placed = placed_from_place living index c.self.invariant.indexed c.args.handle c.args.place (ap (λ (s : Store). slice_get s.places c.args.place) c.self.view_is ∙ c.requires) in
     let rest = moved_into living c.swap_remove.new.self.items c.args.place _ _ c.self.inside.living.ok.0 c.swap_remove.new.self.ok.0 c.swap_remove.ensures.len c.swap_remove.ensures.by_index in
@@ -48,7 +48,7 @@ returns-then-place-len-clause-entities c =
 
 pub returns-then-place-len-clause-places : goal.returns-then-place-len-clause-places
 returns-then-place-len-clause-places c =
-    let living = c.self.inside.living.items in
+    let living = c.self.inside.living.entities in
     let index = counted living c.self.inside.index.by_handle in
     let placed = placed_from_place living index c.self.invariant.indexed c.args.handle c.args.place (ap (λ (s : Store). slice_get s.places c.args.place) c.self.view_is ∙ c.requires) in
     let rest = moved_into living c.swap_remove.new.self.items c.args.place _ _ c.self.inside.living.ok.0 c.swap_remove.new.self.ok.0 c.swap_remove.ensures.len c.swap_remove.ensures.by_index in
@@ -63,7 +63,7 @@ returns-then-place-len-clause-moved c =
 -- the entity was the last
 pub invariant_of-self-else-place-len : goal.invariant_of-self-else-place-len
 invariant_of-self-else-place-len c =
-    let living = c.self.inside.living.items in
+    let living = c.self.inside.living.entities in
     let index = counted living c.self.inside.index.by_handle in
     let placed = placed_from_place living index c.self.invariant.indexed c.args.handle c.args.place (ap (λ (s : Store). slice_get s.places c.args.place) c.self.view_is ∙ c.requires) in
     let rest = moved_into living c.swap_remove.new.self.items c.args.place _ _ c.self.inside.living.ok.0 c.swap_remove.new.self.ok.0 c.swap_remove.ensures.len c.swap_remove.ensures.by_index in
@@ -72,7 +72,7 @@ invariant_of-self-else-place-len c =
 
 pub returns-else-place-len-clause-entities : goal.returns-else-place-len-clause-entities
 returns-else-place-len-clause-entities c =
-    let living = c.self.inside.living.items in
+    let living = c.self.inside.living.entities in
     let index = counted living c.self.inside.index.by_handle in
     let placed = placed_from_place living index c.self.invariant.indexed c.args.handle c.args.place (ap (λ (s : Store). slice_get s.places c.args.place) c.self.view_is ∙ c.requires) in
     let rest = moved_into living c.swap_remove.new.self.items c.args.place _ _ c.self.inside.living.ok.0 c.swap_remove.new.self.ok.0 c.swap_remove.ensures.len c.swap_remove.ensures.by_index in
@@ -82,7 +82,7 @@ returns-else-place-len-clause-entities c =
 
 pub returns-else-place-len-clause-places : goal.returns-else-place-len-clause-places
 returns-else-place-len-clause-places c =
-    let living = c.self.inside.living.items in
+    let living = c.self.inside.living.entities in
     let index = counted living c.self.inside.index.by_handle in
     let placed = placed_from_place living index c.self.invariant.indexed c.args.handle c.args.place (ap (λ (s : Store). slice_get s.places c.args.place) c.self.view_is ∙ c.requires) in
     let rest = moved_into living c.swap_remove.new.self.items c.args.place _ _ c.self.inside.living.ok.0 c.swap_remove.new.self.ok.0 c.swap_remove.ensures.len c.swap_remove.ensures.by_index in

@@ -9,13 +9,13 @@ use Rattle.ent_storage.proofs.storage.Storage.get_at.Goals as goal
 -- the place is one of the rows
 pub index-requires : goal.index-requires
 index-requires c =
-    let at = at_place c.self.inside.living.items c.args.place c.args.handle (ap (λ (s : Store). slice_get s.places c.args.place) c.self.view_is ∙ c.requires) in
+    let at = at_place c.self.inside.living.entities c.args.place c.args.handle (ap (λ (s : Store). slice_get s.places c.args.place) c.self.view_is ∙ c.requires) in
     omega (arith, at.0, c.self.inside.living.ok.0)
 
 -- the entity that was read is the handle's
 pub returns : goal.returns
 returns c =
-    let living = c.self.inside.living.items in
+    let living = c.self.inside.living.entities in
     let index = counted living c.self.inside.index.by_handle in
     let placed = placed_from_place living index c.self.invariant.indexed c.args.handle c.args.place (ap (λ (s : Store). slice_get s.places c.args.place) c.self.view_is ∙ c.requires) in
     let found = get_read living index c.self.invariant.indexed c.args.handle c.args.place placed c.index.result.now c.index.ensures in

@@ -9,8 +9,8 @@ use Rattle.ent_storage.proofs.storage.Storage.is_empty.Goals as goal
 -- an empty list stands for the empty map, and no other list does
 pub returns : goal.returns
 returns c =
-    let living = c.self.inside.living.items in
-    let counted = len_living living (counted c.self.inside.living.items c.self.inside.index.by_handle) c.self.invariant.indexed in
+    let living = c.self.inside.living.entities in
+    let counted = len_living living (counted c.self.inside.living.entities c.self.inside.index.by_handle) c.self.invariant.indexed in
     let view = ap (λ (s : Store). map.len s.entities) c.self.view_is in (
       λ empty.
           let none : vec_len c.self.inside.living ≡ 0 = eqb-true _ _ (sym c.is_empty.ensures ∙ empty) in

@@ -8,7 +8,7 @@ use Rattle.ent_storage.proofs.storage.Storage.place.Goals as goal
 
 pub returns-clause-at : goal.returns-clause-at
 returns-clause-at c i =
-    let living = c.self.inside.living.items in
+    let living = c.self.inside.living.entities in
     let index = counted living c.self.inside.index.by_handle in
     let answer = rw c.deref.ensures.value at c.place.ensures in
     let places = ap (λ (s : Store). slice_get s.places i) c.self.view_is in (
@@ -18,7 +18,7 @@ returns-clause-at c i =
 
 pub returns-clause-there : goal.returns-clause-there
 returns-clause-there c =
-    let living = c.self.inside.living.items in
+    let living = c.self.inside.living.entities in
     let index = counted living c.self.inside.index.by_handle in
     let answer = rw c.deref.ensures.value at c.place.ensures in
     ap is_some answer
