@@ -4,6 +4,7 @@ pub mod Counted
 pub mod Dense
 pub mod Indexed
 pub mod Keys
+pub mod LivingLemmas
 pub mod Missing
 pub mod Overwritten
 pub mod Placed
