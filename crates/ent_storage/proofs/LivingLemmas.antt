@@ -2,19 +2,21 @@
 use Rattle.std.proofs.Common.{◌≡◌, ◌≢◌, ℕ, ℤ, zero, suc, ◌+◌, ◌-◌, ◌<◌, ◌≤◌, Bool, true, false, cond}
 use Rattle.std.proofs.Common.{◌⊎◌, inl, inr, List, [], ◌∷◌, ◌++◌, map, length, get_or, set, Option}
 use Rattle.std.proofs.Common.{Some, None, slice_get, option_and_then, take, drop, refl, sym, ap, subst, ◌∙◌, arith}
-use Rattle.std.proofs.lemmas.Option.{none-some, slice_get-get_or, slice_get_past}
+use Rattle.std.proofs.lemmas.Option.{none-some, same_Some, slice_get-get_or, slice_get_past}
 use Rattle.std.proofs.lemmas.Bool.{cases_lt, cases_eq}
 use Rattle.std.proofs.lemmas.List.{length_push, drop_all, append-nil, take_all}
-use Rattle.std.specs.Option.{option_map}
+use Rattle.std.specs.Option.{option_map, option_map_or}
+use Rattle.std.specs.Ordering.{eq_by_cmp}
 use Rattle.std.specs.FinMap as finite
 use Rattle.ent_handle.specs.declared.birth.Birth.{Birth}
 use Rattle.ent_handle.specs.declared.component.ComponentId.{ComponentId}
-use Rattle.ent_handle.specs.Handle.{Handle}
+use Rattle.ent_handle.specs.Handle.{Handle, handle_cmp}
 use Rattle.ent_storage.specs.Components.{Components}
 use Rattle.ent_storage.specs.SparseSet.{Column, Values, IsMovedDown}
 use Rattle.ent_storage.specs.declared.living.Row.{Row}
 use Rattle.ent_storage.specs.Living.{LivingEntity, Living, IsMovedInto, IsWithin, IsValueAt, change_at}
 use Rattle.ent_storage.specs.Living.{column_at, value_at, components_at, entities_from, born_at}
+use Rattle.ent_storage.specs.Indexed.{has_handle_at}
 use Rattle.ent_storage.proofs.ColumnsLemmas.{same_components, no_components, get_components}
 
 -- ---- the entity at a place
@@ -195,3 +197,20 @@ value_from rows columns i id within = by (cases_lt i (length rows))
     by (inr l) =
         ap (option_and_then (λ (e : LivingEntity). finite.get e.components id)) (slice_get_past (entities_from 0 rows columns) i (omega (arith, length_from 0 rows columns)))
         ∙ sym (within.none_beyond i id l)
+
+-- a test of the handle at a place
+test_some : (o : Option LivingEntity) (h q : Handle) → option_map (λ (e : LivingEntity). e.handle) o ≡ Some q → option_map_or (λ (e : LivingEntity). eq_by_cmp handle_cmp e.handle h) o false ≡ eq_by_cmp handle_cmp q h
+test_some None h q e = absurd (none-some q e)
+test_some (Some x) h q e = ap (λ (g : Handle). eq_by_cmp handle_cmp g h) (same_Some _ _ e)
+
+test_none : (o : Option LivingEntity) (h : Handle) → option_map (λ (e : LivingEntity). e.handle) o ≡ None → option_map_or (λ (e : LivingEntity). eq_by_cmp handle_cmp e.handle h) o false ≡ false
+test_none None h e = refl
+test_none (Some x) h e = absurd (none-some x.handle (sym e))
+
+pub test_at : (rows : List Row) (columns : List Column) (i : ℕ) (row : Row) (h : Handle) → slice_get rows i ≡ Some row → has_handle_at (entities_from 0 rows columns) h (Some i) ≡ eq_by_cmp handle_cmp row.handle h
+test_at rows columns i row h at =
+    test_some _ h row.handle (handle_get rows columns 0 i ∙ ap (option_map (λ (r : Row). r.handle)) at)
+
+pub test_past : (rows : List Row) (columns : List Column) (i : ℕ) (h : Handle) → length rows ≤ i → has_handle_at (entities_from 0 rows columns) h (Some i) ≡ false
+test_past rows columns i h l =
+    test_none _ h (handle_get rows columns 0 i ∙ ap (option_map (λ (r : Row). r.handle)) (slice_get_past rows i l))

@@ -176,10 +176,7 @@ impl Living {
         ensures { IfOk result (λ births. births.items
             ≡ map (λ entity. (entity.birth, entity.handle)) self.now.entities) }
     {
-        self.rows
-            .iter()
-            .map(|row| (row.birth, row.handle))
-            .collect(alloc)
+        births(alloc, &self.rows)
     }
 
     /// The birth and the handle of the entity at the place of each pair.
@@ -213,6 +210,13 @@ impl Living {
             None => &[],
         }
     }
+}
+
+/// The birth and the handle of each row.
+fn births(alloc: Global, rows: &[Row]) -> Result<Vec<(Birth, Handle)>, AllocError>
+    ensures { IfOk result (λ births. births.items ≡ map (λ row. (row.birth, row.handle)) rows.now) }
+{
+    rows.iter().map(|row| (row.birth, row.handle)).collect(alloc)
 }
 
 /// Whether the entity at the place has that handle.

@@ -1,4 +1,5 @@
-use Rattle.std.proofs.Common.{◌≡◌, ◌≢◌, ℕ, ℤ, ◌+◌, ◌-◌, ◌<◌, ◌≤◌, List, [], ◌∷◌, ◌++◌, map, length, get_or, set, Some, None, slice_get, refl, ap, sym, subst, ◌∙◌, arith, rules, suc}
+use Rattle.std.proofs.Common.{◌≡◌, ◌≢◌, ℕ, ℤ, ◌+◌, ◌-◌, ◌<◌, ◌≤◌, List, [], ◌∷◌, ◌++◌, map, length, get_or, set, Some, None, slice_get, refl, ap, sym, subst, ◌∙◌, arith, suc}
+use Rattle.std.proofs.lemmas.Result.{IfOk-weaker}
 use Rattle.std.specs.FinMap as finite
 use Rattle.ent_handle.specs.declared.component.ComponentId.{ComponentId}
 use Rattle.ent_handle.specs.declared.birth.Birth.{Birth}
@@ -19,4 +20,4 @@ births_from n (row ∷ rows) columns = ap (λ (es : List (Birth × Handle)). (ro
 pub returns : goal.returns
 returns c =
     let same = births_from 0 c.self.inside.rows.items c.self.inside.columns.items ∙ ap (λ (l : Living). map {B = Birth × Handle} (λ e. (e.birth, e.handle)) l.entities) c.self.view_is in
-    let h = c.collect.ensures in ?
+    IfOk-weaker _ _ (λ births. births.items ≡ map {B = Birth × Handle} (λ e. (e.birth, e.handle)) c.args.self.now.entities) (λ births is. is ∙ ap (map {B = Birth × Handle} (λ (row : Row). (row.birth, row.handle))) c.deref.ensures.value ∙ same) c.births.ensures

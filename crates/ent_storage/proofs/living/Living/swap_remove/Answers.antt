@@ -25,7 +25,7 @@ swap_remove-requires-2 c =
 pub invariant_of-self : goal.invariant_of-self
 invariant_of-self c =
     let swap_remove_len = rw c.deref_mut.ensures.value at c.swap_remove.ensures.len in
-    let swap_remove_moved = rw c.deref_mut.ensures.value at c.swap_remove.ensures.moved in
+    let swap_remove_moved = rw (c.deref_mut.ensures.value, c.len.ensures) at c.swap_remove.ensures.moved in
     let inside : c.args.place < vec_len c.self.inside.rows = omega (arith, inside_from c.self.inside.rows.items c.self.inside.columns.items _ c.args.self.now c.args.place c.self.view_is c.requires, c.self.inside.rows.ok.0) in
     rw (written_back c.swap_remove.new.columns c.self.inside.columns.items c.self.inside.columns.len swap_remove_len c.self.inside.columns.ok.0)
     (moved_within c.self.inside.rows.items c.swap_remove-2.new.self.items c.args.place _ _ c.self.inside.rows.ok.0 c.swap_remove-2.new.self.ok.0 c.swap_remove-2.ensures.len inside c.swap_remove-2.ensures.by_index c.self.inside.columns.items c.swap_remove.new.columns swap_remove_moved swap_remove_len c.self.invariant)
@@ -33,7 +33,7 @@ invariant_of-self c =
 pub returns-clause-entities : goal.returns-clause-entities
 returns-clause-entities c =
     let swap_remove_len = rw c.deref_mut.ensures.value at c.swap_remove.ensures.len in
-    let swap_remove_moved = rw c.deref_mut.ensures.value at c.swap_remove.ensures.moved in
+    let swap_remove_moved = rw (c.deref_mut.ensures.value, c.len.ensures) at c.swap_remove.ensures.moved in
     let inside : c.args.place < vec_len c.self.inside.rows = omega (arith, inside_from c.self.inside.rows.items c.self.inside.columns.items _ c.args.self.now c.args.place c.self.view_is c.requires, c.self.inside.rows.ok.0) in
     rw (written_back c.swap_remove.new.columns c.self.inside.columns.items c.self.inside.columns.len swap_remove_len c.self.inside.columns.ok.0, ← ap (λ (l : Living). l.entities) c.self.view_is)
     (moved_from c.self.inside.rows.items c.swap_remove-2.new.self.items c.args.place _ _ c.self.inside.rows.ok.0 c.swap_remove-2.new.self.ok.0 c.swap_remove-2.ensures.len inside c.swap_remove-2.ensures.by_index c.self.inside.columns.items c.swap_remove.new.columns swap_remove_moved)
