@@ -1,8 +1,9 @@
-ghost use Rattle.std.specs.Prelude.{◌≡◌, ◌≤◌, IfSome, length};
+ghost use Rattle.std.specs.Prelude.{◌≡◌, ◌<◌, ◌≤◌, ℕ, IfSome, None, Some, drop, length, is_some};
+ghost use Rattle.std.specs.List.{count_by};
 ghost use Rattle.std.specs.Iterator.{YieldsFirst, UpTo, item_count};
 ghost use Rattle.std.specs.Iterator.SizeHint.{IsWithinCount};
 ghost use Rattle.std.specs.FinMap as map;
-ghost use Rattle.ent_storage.specs.Living.{components_at, items_from};
+ghost use Rattle.ent_storage.specs.Living.{components_at, column_at, IsFirstWith};
 
 use super::sparse_set::SparseSet;
 use ent_handle::ComponentId;
@@ -40,15 +41,11 @@ impl<'a> Items<'a> {
         requires { length columns.now ≤ 256 }
         ensures { result ≡ map.entries (components_at columns.now place) }
     {
-        let left = columns
-            .iter()
-            .filter(|column| column.get(place).is_some())
-            .count();
         Items {
             columns,
             number: 0,
             place,
-            left,
+            left: count_at(columns, place),
         }
     }
 }
@@ -64,7 +61,7 @@ impl Iterator for Items<'_> {
         let skipped = first_with(self.columns, self.place)?;
         let value = self.columns[skipped].get(self.place)?;
         let id = ComponentId((self.number + skipped) as u8);
-        self.columns = &self.columns[skipped + 1..];
+        self.columns = after(self.columns, skipped + 1);
         self.number += skipped + 1;
         self.left -= 1;
         Some((id, value))
@@ -85,12 +82,35 @@ impl ExactSizeIterator for Items<'_> {
     }
 }
 
-/// The position of the first column that has a value at the place.
-fn first_with(columns: &[SparseSet], place: usize) -> Option<usize>
-    ensures found { IfSome result (λ position. IsFirstWith columns.now place position) }
-    ensures absent { result ≡ None → items_from 0 columns.now place ≡ [] }
+/// How many of the columns have a value at the place.
+fn count_at(columns: &[SparseSet], place: usize) -> usize
+    ensures { result
+        ≡ count_by (λ column. is_some (map.get column.values place)) columns.now }
 {
     columns
         .iter()
-        .position(|column| column.get(place).is_some())
+        .filter(|column| column.get(place).is_some())
+        .count()
+}
+
+/// The position of the first column that has a value at the place.
+fn first_with(columns: &[SparseSet], place: usize) -> Option<usize>
+    ensures found { IfSome result (λ position. IsFirstWith columns.now place position) }
+    ensures absent { result ≡ None → (k : ℕ) → k < length columns.now
+        → map.get (column_at columns.now k).values place ≡ None }
+{
+    for (position, column) in columns.iter().enumerate() {
+        if column.get(place).is_some() {
+            return Some(position);
+        }
+    }
+    None
+}
+
+/// The columns after the first ones.
+fn after<'a>(columns: &'a [SparseSet], count: usize) -> &'a [SparseSet]
+    requires { count ≤ length columns.now }
+    ensures { result.now ≡ drop count columns.now }
+{
+    &columns[count..]
 }
