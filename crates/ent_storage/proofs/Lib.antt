@@ -1,4 +1,5 @@
 pub mod ByBirth
+pub mod Changed
 pub mod ColumnsLemmas
 pub mod Counted
 pub mod Dense
@@ -10,3 +11,4 @@ pub mod Overwritten
 pub mod Placed
 pub mod PlacesLemmas
 pub mod Rising
+pub mod WithComponent

@@ -90,7 +90,6 @@ pushed_from n (r ∷ rows) columns row none =
 module _ (rows left : List Row) (i n m : ℕ) (whole : n ≡ length rows) (rest : m ≡ length left) (one_less : m + 1 ≡ n) (inside : i < n)
     (by_index : ((d : Row) → i + 1 < n → get_or left i d ≡ get_or rows (n - 1) d) × ((k : ℕ) (d : Row) → k ≢ i → k + 1 < n → get_or left k d ≡ get_or rows k d))
     (old new : List Column) (down : (number : ℕ) → IsMovedDown i (n - 1) (column_at old number).values (column_at new number).values) where
-
   at_old : (k : ℕ) (row : Row) (d : LivingEntity) → k < n → get_or (entities_from 0 rows old) k d ≡ entity_at old k (get_or rows k row)
   at_old k row d l =
       at_from 0 rows old k row d (omega arith) ∙ ap (λ (p : ℕ). entity_at old p (get_or rows k row)) (omega arith)

@@ -216,7 +216,9 @@ impl Living {
 fn births(alloc: Global, rows: &[Row]) -> Result<Vec<(Birth, Handle)>, AllocError>
     ensures { IfOk result (λ births. births.items ≡ map (λ row. (row.birth, row.handle)) rows.now) }
 {
-    rows.iter().map(|row| (row.birth, row.handle)).collect(alloc)
+    rows.iter()
+        .map(|row| (row.birth, row.handle))
+        .collect(alloc)
 }
 
 /// Whether the entity at the place has that handle.

@@ -47,7 +47,8 @@ impl Model for Storage {
       spare = min a.living.room a.index.room - length a.living.entities;
     } };
 
-    ghost invariant = { λ a. IsKept a.living.entities a.index.by_handle a.index.room };
+    ghost invariant = { λ a. IsKept a.living.entities a.index.by_handle
+        (min a.living.room a.index.room) };
 }
 
 impl Storage {

@@ -7,4 +7,3 @@ use Rattle.ent_storage.specs.SparseSet.{Column, Values, HasRoom, IsMovedDown, no
 use Rattle.ent_storage.specs.Living.{column_at, value_at, components_at}
 use Rattle.ent_storage.proofs.ColumnsLemmas.{column_past, room_inside, components_insert, insert_others, insert_room, components_remove, remove_others, column_set, column_kept, column_pushed, taken_none, moved_none, get_components}
 use Rattle.ent_storage.proofs.columns.grow.Goals as goal
-
