@@ -1,11 +1,13 @@
 ghost use Rattle.std.specs.Prelude.{◌≡◌, ◌+◌, ◌≤◌, ◌<◌, ◌↔◌, IsTrue, IsErrOf, IfOk, IfSome, IfErr};
+ghost use Rattle.std.specs.Prelude.{Contains, ◌≢◌, ℤ};
 ghost use Rattle.std.specs.Prelude.{OnOk, OnErr, IsOk, None, Some, ℕ, [], ◌∷◌, ◌++◌, is_some};
 ghost use Rattle.std.specs.Prelude.{slice_get, SomeIndex};
 ghost use Rattle.std.specs.Option.{option_map};
 ghost use Rattle.std.specs.FinMap as map;
 ghost use Rattle.ent_storage.specs.Components.{with_items, missing};
 ghost use Rattle.ent_storage.specs.EntityMap.{newborn, birth_of, components_of, value_of};
-ghost use Rattle.ent_storage.specs.EntityMap.{with_components};
+ghost use Rattle.ent_storage.specs.EntityMap.{with_components, value_at_place};
+ghost use Rattle.std.specs.List.{AllPairs};
 ghost use Rattle.ent_storage.specs.BirthOrder.{ListsAll, ListsWith};
 ghost use Rattle.ent_storage.specs.Indexed.{entity_of};
 ghost use Rattle.ent_storage.specs.Places.{AreWithout};
@@ -23,7 +25,7 @@ use std::marker::Model;
 ///
 /// It also has the handle at each place, and a number, `spare`: for how many more entities there is
 /// room. It takes constant time to look an entity up by its handle if the handles are those of an
-/// allocator, and else logarithmic time.
+/// allocator, and else logarithmic time. Each component's values stand in a vector of their own.
 #[derive(Drop)]
 pub struct Storage {
     living: Living,
@@ -119,7 +121,7 @@ impl Storage {
     }
 
     /// The value of a component of the entity at a place, whose handle has to be this one. It takes
-    /// constant time, but for the search among the entity's own components.
+    /// constant time.
     pub fn get_at(&self, place: usize, handle: Handle, id: ComponentId) -> Option<i64>
         requires { slice_get self.now.places place ≡ Some handle }
         ensures { result ≡ value_of self.now.entities handle id }
@@ -203,7 +205,8 @@ impl Storage {
 
     /// Takes the entity out. It takes no memory, and `spare` is then greater by 1.
     ///
-    /// The time is that of two look-ups. The index stays as it is, but for the entity that moves.
+    /// The time is that of two look-ups, and of a look at each component number up to the highest
+    /// that was ever set. The index stays as it is, but for the entity that moves.
     ///
     /// # Errors
     ///
@@ -231,7 +234,8 @@ impl Storage {
     /// the entity that has moved into the place: the last one, or nobody if it was the last itself.
     /// It takes no memory, and `spare` is then greater by 1.
     ///
-    /// The time is that of a look-up, for the entity that moves.
+    /// The time is that of a look-up, for the entity that moves, and of a look at each component
+    /// number up to the highest that was ever set.
     pub fn despawn_at(&mut self, place: usize, handle: Handle) -> Option<Handle>
         requires { slice_get self.old.places place ≡ Some handle }
         ensures entities { self.new.entities ≡ map.remove self.old.entities handle }
@@ -321,8 +325,18 @@ impl Storage {
         Ok(handles_in_order(self.alloc, births)?)
     }
 
+    /// The place and the value of each entity that has the component, in no stated order. It takes
+    /// no memory, and a walk over it is a walk over one slice.
+    pub fn dense(&self, id: ComponentId) -> &[(usize, i64)]
+        ensures has { (place : ℕ) (value : ℤ) → Contains result.now (place, value)
+            ↔ (value_at_place self.now place id ≡ Some value) }
+        ensures once { AllPairs (λ a b. a.0 ≢ b.0) result.now }
+    {
+        self.living.pairs(id)
+    }
+
     /// The handles of the entities that have the component, by birth and then by handle. The time
-    /// is that of a pass over all entities and a sort of those that are listed.
+    /// is that of a sort of those that are listed.
     ///
     /// # Errors
     ///
