@@ -78,7 +78,7 @@ impl Iterator for Items<'_> {
 
 impl ExactSizeIterator for Items<'_> {
     fn len(&self) -> usize {
-        self.left
+        self.size_hint().0
     }
 }
 
