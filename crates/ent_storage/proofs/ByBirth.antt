@@ -21,7 +21,7 @@ use Rattle.ent_handle.specs.declared.birth.Birth.{Birth}
 use Rattle.ent_handle.specs.Birth.{birth_cmp, birth_cmp_total}
 use Rattle.ent_handle.specs.Handle.{Handle, handle_cmp, handle_cmp_total}
 use Rattle.ent_handle.specs.Handle.{handle_cmp-IsAntisymmetric}
-use Rattle.ent_storage.specs.declared.living.LivingEntity.{LivingEntity}
+use Rattle.ent_storage.specs.Living.{LivingEntity}
 use Rattle.ent_storage.specs.EntityMap.{Entity}
 use Rattle.ent_storage.specs.Indexed.{entity_of, entities_of, IsIndexed}
 use Rattle.ent_storage.specs.BirthOrder.{birth_order, pair_cmp, ListsByBirth, IsInOrder}
@@ -67,51 +67,27 @@ filter-all (x ∷ xs) = ap (λ ys. x ∷ ys) (filter-all xs)
 
 -- ---- the births of the entities that pass
 
-abbrev born_of : LivingEntity → Birth × Handle
+abbrev pub born_of : LivingEntity → Birth × Handle
 born_of entity = (entity.birth, entity.handle)
 
 module _ (living : List LivingEntity) (index : FinMap handle_cmp ℕ) (indexed : IsIndexed living index) (passes : Entity → Bool) where
-  abbrev chosen : List LivingEntity
-  chosen = filter (λ entity. passes (entity_of entity)) living
-
-  abbrev births : List (Birth × Handle)
-  births = map born_of chosen
-
   -- an entity that passes has this birth and this handle
-  record IsBorn (b : Birth × Handle) : Type 0 where
-    entity : Entity
-    there : finite.get (entities_of living) b.1 ≡ Some entity
-    birth : entity.birth ≡ b.0
-    pass : passes entity ≡ true
+  pub record IsBorn (b : Birth × Handle) : Type 0 where
+    pub entity : Entity
+    pub there : finite.get (entities_of living) b.1 ≡ Some entity
+    pub birth : entity.birth ≡ b.0
+    pub pass : passes entity ≡ true
 
-  all_there : All (λ entity. finite.get (entities_of living) entity.handle ≡ Some (entity_of entity)) living
-  all_there k d l = get_placed living index indexed (get_or living k d).handle k d (indexed.each_entity k l d)
-
-  all_born : All IsBorn births
-  all_born k d l =
-      let r : LivingEntity = some_entity d.1 in
-      let below : k < length chosen = omega (arith, length-map {B = Birth × Handle} chosen born_of) in
-      let at = get_or-map born_of chosen k r d below in
-      subst IsBorn (sym at) (record {
-        entity = entity_of (get_or chosen k r);
-        there = All-filter (λ entity. passes (entity_of entity)) (λ entity. finite.get (entities_of living) entity.handle ≡ Some (entity_of entity)) living all_there k r below;
-        birth = refl;
-        pass = filter_passes (λ entity. passes (entity_of entity)) living k r below;
-      })
-
-  abbrev alike : Birth × Handle → Birth × Handle → Bool
+  abbrev pub alike : Birth × Handle → Birth × Handle → Bool
   alike a b = eq_by_cmp handle_cmp a.1 b.1
 
-  births_apart : IsDistinct alike births
-  births_apart = IsDistinct-from_apart alike births (λ i j d l k.
-      let r : LivingEntity = some_entity d.1 in
-      let below : j < length chosen = omega (arith, length-map {B = Birth × Handle} chosen born_of) in
-      let at_i = get_or-map born_of chosen i r d (omega arith) in
-      let at_j = get_or-map born_of chosen j r d below in
-      let differ = AllPairs-filter (λ (a b : LivingEntity). a.handle ≢ b.handle) (λ entity. passes (entity_of entity)) living (λ i j d l k e. let twice : i ≡ j = distinct living index indexed i j d (omega arith) k e in absurd (omega arith)) i j r l below in
-      rw (at_i, at_j) (apart handle_cmp_total handle_cmp-IsAntisymmetric _ _ differ))
+  pub all_there : All (λ entity. finite.get (entities_of living) entity.handle ≡ Some (entity_of entity)) living
+  all_there k d l = get_placed living index indexed (get_or living k d).handle k d (indexed.each_entity k l d)
 
-  module _ (handles : List Handle) (ordered : IsInOrder births handles) where
+  -- the births are those of the entities that pass, each once
+  module _ (births : List (Birth × Handle)) (all_born : All IsBorn births) (births_apart : IsDistinct alike births)
+      (complete : (i : ℕ) (r : LivingEntity) → i < length living → passes (entity_of (get_or living i r)) ≡ true → Contains births (born_of (get_or living i r)))
+      (handles : List Handle) (ordered : IsInOrder births handles) where
     abbrev sorted : List (Birth × Handle)
     sorted = ordered.sorted
 
@@ -157,9 +133,7 @@ module _ (living : List LivingEntity) (index : FinMap handle_cmp ℕ) (indexed :
         let entity : LivingEntity = get_or living i r in
         let at = indexed.each_place h i placed in
         let is : entity_of entity ≡ e = same_entity (entity_of entity) e (sym (get_placed living index indexed h i r placed) ∙ found) in
-        let read = get_or_default living i entity r at.0 in
-        let among = contains_filter (λ entity. passes (entity_of entity)) living entity i at.0 read (ap passes is ∙ pass) in
-        let listed = Contains-permutation births sorted (born_of entity) ordered.permutation (contains_map born_of chosen entity among) in
+        let listed = Contains-permutation births sorted (born_of entity) ordered.permutation (complete i r at.0 (ap passes is ∙ pass)) in
         subst (λ q. Contains (map (λ (born : Birth × Handle). born.1) sorted) q) (at.1 r) (contains_map (λ (born : Birth × Handle). born.1) sorted (born_of entity) listed)
 
     to_list : (h : Handle) (o : Option Entity) → finite.get (entities_of living) h ≡ o → IsSomeAnd o (λ e. IsTrue (passes e)) → Contains (map (λ (born : Birth × Handle). born.1) sorted) h
@@ -168,8 +142,45 @@ module _ (living : List LivingEntity) (index : FinMap handle_cmp ℕ) (indexed :
         let place = placed_from_get living index indexed h e found in
         of_entity h e place.0 found place.1 pass
 
-    pub lists : ListsByBirth passes (entities_of living) handles
-    lists = subst (ListsByBirth passes (entities_of living)) (sym ordered.are) (record {
+    pub lists_of : ListsByBirth passes (entities_of living) handles
+    lists_of = subst (ListsByBirth passes (entities_of living)) (sym ordered.are) (record {
       rising = rising;
       holds = λ h. (from_list h, to_list h _ refl);
     })
+
+  -- ---- the births of a filtered list
+
+  abbrev chosen : List LivingEntity
+  chosen = filter (λ entity. passes (entity_of entity)) living
+
+  abbrev births : List (Birth × Handle)
+  births = map born_of chosen
+
+  all_born : All IsBorn births
+  all_born k d l =
+      let r : LivingEntity = some_entity d.1 in
+      let below : k < length chosen = omega (arith, length-map {B = Birth × Handle} chosen born_of) in
+      let at = get_or-map born_of chosen k r d below in
+      subst IsBorn (sym at) (record {
+        entity = entity_of (get_or chosen k r);
+        there = All-filter (λ entity. passes (entity_of entity)) (λ entity. finite.get (entities_of living) entity.handle ≡ Some (entity_of entity)) living all_there k r below;
+        birth = refl;
+        pass = filter_passes (λ entity. passes (entity_of entity)) living k r below;
+      })
+
+  births_apart : IsDistinct alike births
+  births_apart = IsDistinct-from_apart alike births (λ i j d l k.
+      let r : LivingEntity = some_entity d.1 in
+      let below : j < length chosen = omega (arith, length-map {B = Birth × Handle} chosen born_of) in
+      let at_i = get_or-map born_of chosen i r d (omega arith) in
+      let at_j = get_or-map born_of chosen j r d below in
+      let differ = AllPairs-filter (λ (a b : LivingEntity). a.handle ≢ b.handle) (λ entity. passes (entity_of entity)) living (λ i j d l k e. let twice : i ≡ j = distinct living index indexed i j d (omega arith) k e in absurd (omega arith)) i j r l below in
+      rw (at_i, at_j) (apart handle_cmp_total handle_cmp-IsAntisymmetric _ _ differ))
+
+  complete : (i : ℕ) (r : LivingEntity) → i < length living → passes (entity_of (get_or living i r)) ≡ true → Contains births (born_of (get_or living i r))
+  complete i r l pass =
+      let entity : LivingEntity = get_or living i r in
+      contains_map born_of chosen entity (contains_filter (λ entity. passes (entity_of entity)) living entity i l (get_or_default living i entity r l) pass)
+
+  pub lists : (handles : List Handle) → IsInOrder births handles → ListsByBirth passes (entities_of living) handles
+  lists = lists_of births all_born births_apart complete

@@ -20,13 +20,12 @@ use Rattle.std.specs.FinMap as finite
 use Rattle.std.specs.FinMap.{FinMap, find, is_sorted}
 use Rattle.ent_handle.specs.Handle.{Handle, handle_cmp, handle_cmp_total as total}
 use Rattle.ent_handle.specs.Handle.{handle_cmp-IsAntisymmetric as same}
-use Rattle.ent_storage.specs.declared.living.LivingEntity.{LivingEntity}
+use Rattle.ent_storage.specs.Living.{LivingEntity, IsMovedInto}
 use Rattle.ent_storage.specs.Indexed.{IsIndexed, IsKept, has_handle_at, counted, Keeps, HasAll}
 use Rattle.ent_storage.proofs.Keys.{tied, same_or_apart, get-insert_same, get-insert_other}
 use Rattle.ent_storage.proofs.Keys.{get-remove_same, get-remove_other}
 use Rattle.ent_storage.proofs.Indexed.{some_not_none, some_entity, indexed_set, indexed_push}
 use Rattle.ent_storage.proofs.Indexed.{indexed_moved, indexed_popped, indexed_none, read_handle}
-use Rattle.ent_storage.proofs.Indexed.{IsMovedInto}
 use Rattle.ent_storage.specs.Components.{Components}
 use Rattle.ent_storage.proofs.Rising.{equal, rising_at}
 use Rattle.ent_storage.proofs.Rising.{get_at, map_insert}

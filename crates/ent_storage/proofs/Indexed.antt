@@ -10,7 +10,7 @@ use Rattle.std.specs.FinMap as finite
 use Rattle.std.specs.FinMap.{FinMap, find}
 use Rattle.ent_handle.specs.Handle.{Handle, handle_cmp, handle_cmp_total as total}
 use Rattle.ent_handle.specs.Handle.{handle_cmp-IsAntisymmetric as same}
-use Rattle.ent_storage.specs.declared.living.LivingEntity.{LivingEntity}
+use Rattle.ent_storage.specs.Living.{LivingEntity, IsMovedInto}
 use Rattle.std.specs.Option.{option_map_or}
 use Rattle.ent_storage.specs.Components.{Components}
 use Rattle.ent_storage.specs.EntityMap.{Entity, EntityMap, with_components}
@@ -189,12 +189,6 @@ module _ (living : List LivingEntity) (index : FinMap handle_cmp ℕ) (indexed :
         ∙ sym (ap (λ (o : Option Entity). option_map_or (λ e. finite.insert (entities_of living) h (record e { components = change e.components })) o (entities_of living)) get_read)
 
 -- ---- an entity is taken out, and the last one moves into its place
-
--- the list without the entity at place i, into which the last one has moved
-pub record IsMovedInto (living : List LivingEntity) (i : ℕ) (left : List LivingEntity) : Type 0 where
-  pub one_less : length left + 1 ≡ length living
-  pub moved : (d : LivingEntity) → i + 1 < length living → get_or left i d ≡ get_or living (length living - 1) d
-  pub others : (k : ℕ) (d : LivingEntity) → k ≢ i → k + 1 < length living → get_or left k d ≡ get_or living k d
 
 -- and the index without the handle of that entity
 pub record IsIndexWithout (index : FinMap handle_cmp ℕ) (living : List LivingEntity) (h : Handle) (i : ℕ) (left : FinMap handle_cmp ℕ) : Type 0 where

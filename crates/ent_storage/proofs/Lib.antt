@@ -1,10 +1,15 @@
 pub mod ByBirth
+pub mod Changed
+pub mod ColumnsLemmas
 pub mod Counted
+pub mod Dense
 pub mod Indexed
 pub mod Keys
+pub mod LivingLemmas
 pub mod Missing
 pub mod OneList
 pub mod Overwritten
 pub mod Placed
 pub mod PlacesLemmas
 pub mod Rising
+pub mod WithComponent

@@ -7,10 +7,10 @@ use Rattle.ent_storage.specs.Components.{Components}
 use Rattle.std.specs.FinMap as finite
 use Rattle.std.specs.FinMap.{FinMap}
 use Rattle.ent_handle.specs.Handle.{Handle, handle_cmp}
-use Rattle.ent_storage.specs.declared.living.LivingEntity.{LivingEntity}
+use Rattle.ent_storage.specs.Living.{LivingEntity, IsMovedInto}
 use Rattle.ent_storage.specs.Indexed.{IsIndexed, entities_of, handles_of}
 use Rattle.ent_storage.specs.Places.{AreWithout}
-use Rattle.ent_storage.proofs.Indexed.{IsMovedInto, some_entity, some_not_none}
+use Rattle.ent_storage.proofs.Indexed.{some_entity, some_not_none}
 use Rattle.ent_storage.proofs.Indexed.{get_placed, get_unplaced}
 
 same_handle : (g h : Handle) → Some g ≡ Some h → g ≡ h

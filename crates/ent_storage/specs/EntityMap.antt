@@ -1,5 +1,5 @@
 -- The living entities: a finite map from handles to births and components.
-use Rattle.std.specs.Prelude.{ℕ, ℤ, List, Option, refl, option_and_then}
+use Rattle.std.specs.Prelude.{ℕ, ℤ, List, Option, refl, option_and_then, slice_get}
 use Rattle.std.specs.Coded.{Coded, code_by, coded×, coded_list, coded_ℕ}
 use Rattle.std.specs.Option.{option_map, option_map_or}
 use Rattle.std.specs.FinMap as map
@@ -59,3 +59,8 @@ store_code =
     (coded× (map.code handle_code entity_code) (coded× (coded_list handle_code) coded_ℕ))
     (λ s. (s.entities, (s.places, s.spare)))
     (λ p. record { entities = p.0; places = p.1.0; spare = p.1.1 }) (λ _. refl)
+
+-- the value of one component of the entity at a place, if there is an entity and has it
+abbrev pub value_at_place : Store → ℕ → ComponentId → Option ℤ
+value_at_place s place id =
+    option_and_then (λ h. value_of s.entities h id) (slice_get s.places place)

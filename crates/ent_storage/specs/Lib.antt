@@ -4,4 +4,6 @@ pub mod BirthOrder
 pub mod Position
 pub mod Places
 pub mod Indexed
+pub mod SparseSet
+pub mod Living
 pub mod Fault

@@ -5,7 +5,7 @@ ghost use Rattle.ent_handle.specs.Handle.{handle_cmp};
 ghost use Rattle.ent_storage.specs.Indexed.{counted, HasAll, Keeps, IsFree};
 ghost use Rattle.ent_storage.specs.Position.{IsGapFor};
 
-use super::living::{LivingEntity, has_handle_at};
+use super::living::{Living, has_handle_at};
 use super::slot::search_slot;
 use ent_handle::Handle;
 use std::alloc::{AllocError, Global};
@@ -52,8 +52,8 @@ impl Index {
     }
 
     /// The place of the entity, if it is among the living.
-    pub fn place(&self, living: &[LivingEntity], handle: Handle) -> Option<usize>
-        ensures { result ≡ map.get (counted living.now self.now.by_handle) handle }
+    pub fn place(&self, living: &Living, handle: Handle) -> Option<usize>
+        ensures { result ≡ map.get (counted living.now.entities self.now.by_handle) handle }
     {
         let Ok(position) = search_slot(&self.pairs, handle) else {
             return None;
@@ -67,10 +67,10 @@ impl Index {
     }
 
     /// Writes down the place of an entity that the living don't have yet. It takes no memory.
-    pub fn put(&mut self, living: &[LivingEntity], handle: Handle, place: usize)
-        requires room { length living.now < self.old.room }
+    pub fn put(&mut self, living: &Living, handle: Handle, place: usize)
+        requires room { length living.now.entities < self.old.room }
         ensures placed { map.get self.new.by_handle handle ≡ Some place }
-        ensures kept { Keeps handle (counted living.now self.old.by_handle) self.new.by_handle }
+        ensures kept { Keeps handle (counted living.now.entities self.old.by_handle) self.new.by_handle }
         ensures room { self.new.room ≡ self.old.room }
     {
         make_room(&mut self.pairs, living);
@@ -111,12 +111,12 @@ impl Index {
 }
 
 /// Makes room for one pair more. It takes no memory: if there is no room, some pairs don't count.
-fn make_room(pairs: &mut Vec<(Handle, usize)>, living: &[LivingEntity])
+fn make_room(pairs: &mut Vec<(Handle, usize)>, living: &Living)
     requires sorted { T (map.is_sorted handle_cmp pairs.old.items) }
-    requires room { length living.now < vec_capacity pairs.old }
+    requires room { length living.now.entities < vec_capacity pairs.old }
     ensures sorted { T (map.is_sorted handle_cmp pairs.new.items) }
-    ensures kept { HasAll (counted living.now (map.from_sorted pairs.old.items))
-        (counted living.now (map.from_sorted pairs.new.items)) }
+    ensures kept { HasAll (counted living.now.entities (map.from_sorted pairs.old.items))
+        (counted living.now.entities (map.from_sorted pairs.new.items)) }
     ensures room { vec_len pairs.new < vec_capacity pairs.new }
     ensures capacity { vec_capacity pairs.new ≡ vec_capacity pairs.old }
 {
@@ -126,12 +126,12 @@ fn make_room(pairs: &mut Vec<(Handle, usize)>, living: &[LivingEntity])
 }
 
 /// Drops the pairs that don't count. It takes no memory.
-fn sweep(pairs: &mut Vec<(Handle, usize)>, living: &[LivingEntity])
+fn sweep(pairs: &mut Vec<(Handle, usize)>, living: &Living)
     requires { T (map.is_sorted handle_cmp pairs.old.items) }
     ensures sorted { T (map.is_sorted handle_cmp pairs.new.items) }
     ensures counted { map.from_sorted pairs.new.items
-        ≡ counted living.now (map.from_sorted pairs.old.items) }
-    ensures len { vec_len pairs.new ≤ length living.now }
+        ≡ counted living.now.entities (map.from_sorted pairs.old.items) }
+    ensures len { vec_len pairs.new ≤ length living.now.entities }
     ensures capacity { vec_capacity pairs.new ≡ vec_capacity pairs.old }
 {
     pairs.retain(|pair| has_handle_at(living, pair.0, pair.1));
@@ -141,7 +141,7 @@ fn sweep(pairs: &mut Vec<(Handle, usize)>, living: &[LivingEntity])
 /// two.
 fn put_in_gap(
     pairs: &mut Vec<(Handle, usize)>,
-    living: &[LivingEntity],
+    living: &Living,
     position: usize,
     pair: (Handle, usize),
 )
@@ -151,7 +151,7 @@ fn put_in_gap(
     ensures sorted { T (map.is_sorted handle_cmp pairs.new.items) }
     ensures placed { map.get (map.from_sorted {R = handle_cmp} pairs.new.items) pair.0
         ≡ Some pair.1 }
-    ensures kept { Keeps pair.0 (counted living.now (map.from_sorted pairs.old.items))
+    ensures kept { Keeps pair.0 (counted living.now.entities (map.from_sorted pairs.old.items))
         (map.from_sorted pairs.new.items) }
     ensures capacity { vec_capacity pairs.new ≡ vec_capacity pairs.old }
 {
@@ -170,12 +170,12 @@ fn put_in_gap(
 /// end a new pair moves nothing, so it takes over no other slot's.
 fn taken_over(
     pairs: &[(Handle, usize)],
-    living: &[LivingEntity],
+    living: &Living,
     position: usize,
     handle: Handle,
 ) -> Option<usize>
     ensures beside { IfSome result (λ other. (other ≤ position) × (position ≤ other + 1)) }
-    ensures free { IfSome result (λ other. IsFree living.now pairs.now other) }
+    ensures free { IfSome result (λ other. IsFree living.now.entities pairs.now other) }
 {
     let before = position.saturating_sub(1);
     let free_before = is_free(pairs, living, before);
@@ -196,8 +196,8 @@ fn taken_over(
 }
 
 /// Whether a pair stands there that doesn't count.
-fn is_free(pairs: &[(Handle, usize)], living: &[LivingEntity], position: usize) -> bool
-    ensures { IsTrue result → IsFree living.now pairs.now position }
+fn is_free(pairs: &[(Handle, usize)], living: &Living, position: usize) -> bool
+    ensures { IsTrue result → IsFree living.now.entities pairs.now position }
 {
     position < pairs.len() && !has_handle_at(living, pairs[position].0, pairs[position].1)
 }

@@ -4,7 +4,7 @@
 //! the vector an index has the place of each handle.
 #![tactic(auto)]
 
-mod components;
+mod columns;
 mod fault;
 mod index;
 mod items;
@@ -12,6 +12,7 @@ mod living;
 mod order;
 mod slot;
 mod sorted;
+mod sparse_set;
 mod storage;
 
 pub use fault::StorageFault;

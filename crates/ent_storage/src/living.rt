@@ -1,53 +1,232 @@
-ghost use Rattle.std.specs.Prelude.{◌≡◌, IfOk, Some, map, filter};
+ghost use Rattle.std.specs.Prelude.{◌≡◌, ◌≢◌, ◌+◌, ◌<◌, ◌==◌, ◌≤◌, ℕ, ℤ, List, [], ◌∷◌, ◌++◌, length, map};
+ghost use Rattle.std.specs.Prelude.{IsOk, IfOk, OnOk, OnErr, IsTrue, None, Some, Contains, slice_get};
+ghost use Rattle.std.specs.List.{All, HoldsAt, AllPairs};
 ghost use Rattle.std.specs.FinMap as finite;
+ghost use Rattle.ent_storage.specs.Components.{with_items, missing};
+ghost use Rattle.ent_storage.specs.Living.{born_at, change_at, IsMovedInto, IsValueAt};
 ghost use Rattle.ent_storage.specs.Indexed.{has_handle_at};
 
-use super::components::Components;
+use super::columns;
+use super::items::Items;
+use super::sparse_set::SparseSet;
 use ent_handle::{Birth, ComponentId, Handle};
 use std::alloc::{AllocError, Global};
+use std::marker::Model;
 
-/// One living entity.
-#[derive(Drop)]
-pub struct LivingEntity {
+/// What an entity has besides its components.
+#[derive(Clone, Copy)]
+pub struct Row {
     pub handle: Handle,
     pub birth: Birth,
-    pub components: Components,
 }
 
-/// Whether the entity at the place has that handle.
-pub fn has_handle_at(living: &[LivingEntity], handle: Handle, place: usize) -> bool
-    ensures { result ≡ has_handle_at living.now handle (Some place) }
-{
-    match living.get(place) {
-        Some(entity) => entity.handle == handle,
-        None => false,
+/// The living entities, place by place.
+///
+/// The rows have the handle and the birth of each. The columns have the components: at a
+/// component's number the values of that component, by the places of the entities that have it.
+#[derive(Drop)]
+pub struct Living {
+    rows: Vec<Row>,
+    columns: Vec<SparseSet>,
+    alloc: Global,
+}
+
+impl Model for Living {
+    ghost use Rattle.std.specs.Prelude.{vec_capacity, length};
+    ghost use Rattle.ent_storage.specs.Living.{Living, living_code, entities_from, IsWithin};
+
+    ghost Value = { Living };
+
+    ghost coded = { living_code };
+
+    ghost view = { λ a. record {
+      entities = entities_from 0 a.rows.items a.columns.items;
+      room = vec_capacity a.rows;
+    } };
+
+    ghost invariant = { λ a. IsWithin (length a.rows.items) a.columns.items };
+}
+
+impl Living {
+    /// No entities, without room.
+    pub fn new(alloc: Global) -> Self
+        ensures { result ≡ record { entities = []; room = 0 } }
+    {
+        Living {
+            rows: Vec::new(alloc),
+            columns: Vec::new(alloc),
+            alloc,
+        }
+    }
+
+    /// How many entities there are.
+    pub fn len(&self) -> usize
+        ensures { result ≡ length self.now.entities }
+    {
+        self.rows.len()
+    }
+
+    /// Whether there are no entities.
+    pub fn is_empty(&self) -> bool
+        ensures { result ≡ (length self.now.entities == 0) }
+    {
+        self.rows.is_empty()
+    }
+
+    /// For how many entities there is room in all.
+    pub fn capacity(&self) -> usize
+        ensures { result ≡ self.now.room }
+    {
+        self.rows.capacity()
+    }
+
+    /// Makes room for `additional` more entities. After an `Err` nothing is changed.
+    pub fn reserve(&mut self, additional: usize) -> Result<(), AllocError>
+        ensures entities { self.new.entities ≡ self.old.entities }
+        ensures ok { OnOk result (length self.new.entities + additional ≤ self.new.room) }
+        ensures grows { self.old.room ≤ self.new.room }
+        ensures succeeds { length self.old.entities + additional ≤ self.old.room → IsOk result }
+        ensures full { OnErr result (self.old.room < length self.old.entities + additional) }
+        ensures err { OnErr result (self.new.room ≡ self.old.room) }
+    {
+        self.rows.reserve(additional)
+    }
+
+    /// The handle of the entity at the place.
+    pub fn handle(&self, place: usize) -> Handle
+        requires { place < length self.now.entities }
+        ensures { HoldsAt (λ entity. result ≡ entity.handle) self.now.entities place }
+    {
+        self.rows[place].handle
+    }
+
+    /// The birth of the entity at the place.
+    pub fn birth(&self, place: usize) -> Birth
+        requires { place < length self.now.entities }
+        ensures { HoldsAt (λ entity. result ≡ entity.birth) self.now.entities place }
+    {
+        self.rows[place].birth
+    }
+
+    /// The value of a component of the entity at the place, if it has the component.
+    pub fn value(&self, place: usize, id: ComponentId) -> Option<i64>
+        requires { place < length self.now.entities }
+        ensures { HoldsAt (λ entity. result ≡ finite.get entity.components id) self.now.entities place }
+    {
+        columns::value(&self.columns, place, id)
+    }
+
+    /// The components of the entity at the place and their values, by rising number.
+    pub fn items(&self, place: usize) -> Items<'_>
+        requires { place < length self.now.entities }
+        ensures { HoldsAt (λ entity. result ≡ finite.entries entity.components) self.now.entities place }
+    {
+        Items::new(&self.columns, place)
+    }
+
+    /// Adds an entity without components. There has to be room for it.
+    pub fn push(&mut self, handle: Handle, birth: Birth)
+        requires { length self.old.entities < self.old.room }
+        ensures entities { self.new.entities ≡ self.old.entities
+            ++ record { handle = handle; birth = birth; components = finite.empty } ∷ [] }
+        ensures room { self.new.room ≡ self.old.room }
+    {
+        self.rows.push_reserved(Row { handle, birth });
+    }
+
+    /// Takes the entity at the place out, and moves the last one there. It takes no memory.
+    pub fn swap_remove(&mut self, place: usize)
+        requires { place < length self.old.entities }
+        ensures entities { IsMovedInto self.old.entities place self.new.entities }
+        ensures room { self.new.room ≡ self.old.room }
+    {
+        columns::swap_remove(&mut self.columns, place, self.rows.len() - 1);
+        let _ = self.rows.swap_remove(place);
+    }
+
+    /// Sets each of the items of the entity at the place, the first item first. After an `Err`
+    /// nothing is changed.
+    pub fn insert(&mut self, place: usize, items: &[(ComponentId, i64)]) -> Result<(), AllocError>
+        requires { place < length self.old.entities }
+        ensures ok { OnOk result (self.new.entities
+            ≡ change_at self.old.entities place (λ held. with_items held items.now)) }
+        ensures room { self.new.room ≡ self.old.room }
+        ensures err { OnErr result (self.new.entities ≡ self.old.entities) }
+        ensures growing { OnErr result
+            (HoldsAt (λ entity. 0 < missing entity.components items.now) self.old.entities place) }
+    {
+        columns::reserve_all(&mut self.columns, self.alloc, place, items)?;
+        columns::set_all(&mut self.columns, place, items);
+        Ok(())
+    }
+
+    /// Takes a component out of the entity at the place, and answers its value. It takes no memory.
+    pub fn remove(&mut self, place: usize, id: ComponentId) -> Option<i64>
+        requires { place < length self.old.entities }
+        ensures value { HoldsAt (λ entity. result ≡ finite.get entity.components id) self.old.entities place }
+        ensures entities { self.new.entities
+            ≡ change_at self.old.entities place (λ held. finite.remove held id) }
+        ensures room { self.new.room ≡ self.old.room }
+    {
+        columns::remove(&mut self.columns, place, id)
+    }
+
+    /// The birth and the handle of each entity.
+    pub fn births(&self, alloc: Global) -> Result<Vec<(Birth, Handle)>, AllocError>
+        ensures { IfOk result (λ births. births.items
+            ≡ map (λ entity. (entity.birth, entity.handle)) self.now.entities) }
+    {
+        births(alloc, &self.rows)
+    }
+
+    /// The birth and the handle of the entity at the place of each pair.
+    pub fn births_at(
+        &self,
+        alloc: Global,
+        pairs: &[(usize, i64)],
+    ) -> Result<Vec<(Birth, Handle)>, AllocError>
+        requires { All (λ pair. pair.0 < length self.now.entities) pairs.now }
+        ensures { IfOk result (λ births. map Some births.items
+            ≡ map (λ pair. born_at self.now.entities pair.0) pairs.now) }
+    {
+        let mut births = Vec::new(alloc);
+        for pair in pairs {
+            let row = self.rows[pair.0];
+            births.push((row.birth, row.handle))?;
+        }
+        Ok(births)
+    }
+
+    /// The place and the value of each entity that has the component.
+    pub fn pairs(&self, id: ComponentId) -> &[(usize, i64)]
+        ensures has { (place : ℕ) (v : ℤ) → Contains result.now (place, v)
+            → IsValueAt self.now.entities place id v }
+        ensures all { (place : ℕ) (v : ℤ) → IsValueAt self.now.entities place id v
+            → Contains result.now (place, v) }
+        ensures once { AllPairs (λ a b. a.0 ≢ b.0) result.now }
+    {
+        match self.columns.get(id.0 as usize) {
+            Some(column) => column.pairs(),
+            None => &[],
+        }
     }
 }
 
-/// The birth and the handle of each entity.
-pub fn births(alloc: Global, living: &[LivingEntity]) -> Result<Vec<(Birth, Handle)>, AllocError>
-    ensures { IfOk result (λ births. births.items
-        ≡ map (λ entity. (entity.birth, entity.handle)) living.now) }
+/// The birth and the handle of each row.
+fn births(alloc: Global, rows: &[Row]) -> Result<Vec<(Birth, Handle)>, AllocError>
+    ensures { IfOk result (λ births. births.items ≡ map (λ row. (row.birth, row.handle)) rows.now) }
 {
-    living
-        .iter()
-        .map(|entity| (entity.birth, entity.handle))
+    rows.iter()
+        .map(|row| (row.birth, row.handle))
         .collect(alloc)
 }
 
-/// The birth and the handle of each entity that has the component.
-pub fn births_with(
-    alloc: Global,
-    living: &[LivingEntity],
-    id: ComponentId,
-) -> Result<Vec<(Birth, Handle)>, AllocError>
-    ensures { IfOk result (λ births. births.items
-        ≡ map (λ entity. (entity.birth, entity.handle))
-        (filter (λ entity. finite.contains_key entity.components id) living.now)) }
+/// Whether the entity at the place has that handle.
+pub fn has_handle_at(living: &Living, handle: Handle, place: usize) -> bool
+    ensures { result ≡ has_handle_at living.now.entities handle (Some place) }
 {
-    living
-        .iter()
-        .filter(|entity| entity.components.get(id).is_some())
-        .map(|entity| (entity.birth, entity.handle))
-        .collect(alloc)
+    match living.rows.get(place) {
+        Some(entity) => entity.handle == handle,
+        None => false,
+    }
 }

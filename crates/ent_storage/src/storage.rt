@@ -1,20 +1,21 @@
 ghost use Rattle.std.specs.Prelude.{◌≡◌, ◌+◌, ◌≤◌, ◌<◌, ◌↔◌, IsTrue, IsErrOf, IfOk, IfSome, IfErr};
+ghost use Rattle.std.specs.Prelude.{Contains, ◌≢◌, ℤ};
 ghost use Rattle.std.specs.Prelude.{OnOk, OnErr, IsOk, None, Some, ℕ, [], ◌∷◌, ◌++◌, is_some};
 ghost use Rattle.std.specs.Prelude.{slice_get, SomeIndex};
 ghost use Rattle.std.specs.Option.{option_map};
 ghost use Rattle.std.specs.FinMap as map;
 ghost use Rattle.ent_storage.specs.Components.{with_items, missing};
 ghost use Rattle.ent_storage.specs.EntityMap.{newborn, birth_of, components_of, value_of};
-ghost use Rattle.ent_storage.specs.EntityMap.{with_components};
+ghost use Rattle.ent_storage.specs.EntityMap.{with_components, value_at_place};
+ghost use Rattle.std.specs.List.{AllPairs};
 ghost use Rattle.ent_storage.specs.BirthOrder.{ListsAll, ListsWith};
 ghost use Rattle.ent_storage.specs.Indexed.{entity_of};
 ghost use Rattle.ent_storage.specs.Places.{AreWithout};
 
-use super::components::Components;
 use super::fault::StorageFault;
 use super::index::Index;
 use super::items::Items;
-use super::living::{LivingEntity, births, births_with};
+use super::living::Living;
 use super::order::handles_in_order;
 use ent_handle::{Birth, ComponentId, Handle, Memory};
 use std::alloc::Global;
@@ -24,16 +25,16 @@ use std::marker::Model;
 ///
 /// It also has the handle at each place, and a number, `spare`: for how many more entities there is
 /// room. It takes constant time to look an entity up by its handle if the handles are those of an
-/// allocator, and else logarithmic time.
+/// allocator, and else logarithmic time. Each component's values stand in a vector of their own.
 #[derive(Drop)]
 pub struct Storage {
-    living: Vec<LivingEntity>,
+    living: Living,
     index: Index,
     alloc: Global,
 }
 
 impl Model for Storage {
-    ghost use Rattle.std.specs.Prelude.{◌-◌, min, vec_len, vec_capacity};
+    ghost use Rattle.std.specs.Prelude.{◌-◌, min, length};
     ghost use Rattle.ent_storage.specs.EntityMap.{Store, store_code};
 
     ghost Value = { Store };
@@ -43,12 +44,13 @@ impl Model for Storage {
     ghost use Rattle.ent_storage.specs.Indexed.{entities_of, handles_of, IsKept};
 
     ghost view = { λ a. record {
-      entities = entities_of a.living.items;
-      places = handles_of a.living.items;
-      spare = min (vec_capacity a.living) a.index.room - vec_len a.living;
+      entities = entities_of a.living.entities;
+      places = handles_of a.living.entities;
+      spare = min a.living.room a.index.room - length a.living.entities;
     } };
 
-    ghost invariant = { λ a. IsKept a.living.items a.index.by_handle a.index.room };
+    ghost invariant = { λ a. IsKept a.living.entities a.index.by_handle
+        (min a.living.room a.index.room) };
 }
 
 impl Storage {
@@ -59,7 +61,7 @@ impl Storage {
         ensures places { result.places ≡ [] }
     {
         Storage {
-            living: Vec::new(alloc),
+            living: Living::new(alloc),
             index: Index::new(alloc),
             alloc,
         }
@@ -83,30 +85,31 @@ impl Storage {
     pub fn contains(&self, handle: Handle) -> bool
         ensures { result ≡ map.contains_key self.now.entities handle }
     {
-        self.find(handle).is_some()
+        self.place(handle).is_some()
     }
 
     /// When and by whom the entity was brought to life, if it is there.
     pub fn birth(&self, handle: Handle) -> Option<Birth>
         ensures { result ≡ birth_of self.now.entities handle }
     {
-        let entity = self.find(handle)?;
-        Some(entity.birth)
+        let place = self.place(handle)?;
+        Some(self.living.birth(place))
     }
 
     /// The value of the entity's component, if the entity is there and has it.
     pub fn get(&self, handle: Handle, id: ComponentId) -> Option<i64>
         ensures { result ≡ value_of self.now.entities handle id }
     {
-        self.find(handle)?.components.get(id)
+        let place = self.place(handle)?;
+        self.get_at(place, handle, id)
     }
 
     /// The entity's components and their values, by rising number, if the entity is there.
     pub fn items(&self, handle: Handle) -> Option<Items<'_>>
         ensures { result ≡ option_map map.entries (components_of self.now.entities handle) }
     {
-        let entity = self.find(handle)?;
-        Some(Items::new(entity.components.items()))
+        let place = self.place(handle)?;
+        Some(self.living.items(place))
     }
 
     /// The place of the entity, if it is there. It stays until an entity is taken out.
@@ -118,12 +121,12 @@ impl Storage {
     }
 
     /// The value of a component of the entity at a place, whose handle has to be this one. It takes
-    /// constant time, but for the search among the entity's own components.
+    /// constant time.
     pub fn get_at(&self, place: usize, handle: Handle, id: ComponentId) -> Option<i64>
         requires { slice_get self.now.places place ≡ Some handle }
         ensures { result ≡ value_of self.now.entities handle id }
     {
-        self.living[place].components.get(id)
+        self.living.value(place, id)
     }
 
     /// For how many more entities there is room.
@@ -196,18 +199,14 @@ impl Storage {
         }
         self.reserve(1)?;
         self.index.put(&self.living, handle, self.living.len());
-        let components = Components::new(self.alloc);
-        self.living.push_reserved(LivingEntity {
-            handle,
-            birth,
-            components,
-        });
+        self.living.push(handle, birth);
         Ok(())
     }
 
     /// Takes the entity out. It takes no memory, and `spare` is then greater by 1.
     ///
-    /// The time is that of two look-ups. The index stays as it is, but for the entity that moves.
+    /// The time is that of two look-ups, and of a look at each component number up to the highest
+    /// that was ever set. The index stays as it is, but for the entity that moves.
     ///
     /// # Errors
     ///
@@ -235,7 +234,8 @@ impl Storage {
     /// the entity that has moved into the place: the last one, or nobody if it was the last itself.
     /// It takes no memory, and `spare` is then greater by 1.
     ///
-    /// The time is that of a look-up, for the entity that moves.
+    /// The time is that of a look-up, for the entity that moves, and of a look at each component
+    /// number up to the highest that was ever set.
     pub fn despawn_at(&mut self, place: usize, handle: Handle) -> Option<Handle>
         requires { slice_get self.old.places place ≡ Some handle }
         ensures entities { self.new.entities ≡ map.remove self.old.entities handle }
@@ -243,9 +243,9 @@ impl Storage {
         ensures places { AreWithout place self.old.places self.new.places }
         ensures moved { result ≡ slice_get self.new.places place }
     {
-        let _ = self.living.swap_remove(place);
+        self.living.swap_remove(place);
         if place < self.living.len() {
-            let moved = self.living[place].handle;
+            let moved = self.living.handle(place);
             self.index.set_place(moved, place);
             Some(moved)
         } else {
@@ -285,8 +285,7 @@ impl Storage {
         let Some(place) = self.index.place(&self.living, handle) else {
             return Err(StorageFault::Absent);
         };
-        let entity = &mut self.living[place];
-        entity.components.insert(items)?;
+        self.living.insert(place, items)?;
         Ok(())
     }
 
@@ -311,8 +310,7 @@ impl Storage {
         let Some(place) = self.index.place(&self.living, handle) else {
             return Err(StorageFault::Absent);
         };
-        let entity = &mut self.living[place];
-        Ok(entity.components.remove(id))
+        Ok(self.living.remove(place, id))
     }
 
     /// The handles of all entities, by birth and then by handle. The time is that of a sort.
@@ -323,12 +321,22 @@ impl Storage {
     pub fn by_birth(&self) -> Result<Vec<Handle>, Memory>
         ensures { IfOk result (λ handles. ListsAll self.now.entities handles.items) }
     {
-        let births = births(self.alloc, &self.living)?;
+        let births = self.living.births(self.alloc)?;
         Ok(handles_in_order(self.alloc, births)?)
     }
 
+    /// The place and the value of each entity that has the component, in no stated order. It takes
+    /// no memory, and a walk over it is a walk over one slice.
+    pub fn dense(&self, id: ComponentId) -> &[(usize, i64)]
+        ensures has { (place : ℕ) (value : ℤ) → Contains result.now (place, value)
+            ↔ (value_at_place self.now place id ≡ Some value) }
+        ensures once { AllPairs (λ a b. a.0 ≢ b.0) result.now }
+    {
+        self.living.pairs(id)
+    }
+
     /// The handles of the entities that have the component, by birth and then by handle. The time
-    /// is that of a pass over all entities and a sort of those that are listed.
+    /// is that of a sort of those that are listed.
     ///
     /// # Errors
     ///
@@ -336,16 +344,7 @@ impl Storage {
     pub fn with(&self, id: ComponentId) -> Result<Vec<Handle>, Memory>
         ensures { IfOk result (λ handles. ListsWith id self.now.entities handles.items) }
     {
-        let births = births_with(self.alloc, &self.living, id)?;
+        let births = self.living.births_at(self.alloc, self.living.pairs(id))?;
         Ok(handles_in_order(self.alloc, births)?)
-    }
-
-    /// The entity, if it is there.
-    fn find(&self, handle: Handle) -> Option<&LivingEntity>
-        ensures { option_map (λ entity. entity_of entity.now) result
-            ≡ map.get self.now.entities handle }
-    {
-        let place = self.index.place(&self.living, handle)?;
-        Some(&self.living[place])
     }
 }

@@ -531,10 +531,44 @@ fn despawn_at_answers_who_has_moved(rt: HostRuntime) -> Result<(), Fail> {
     assert_eq!(rt; despawn_at(&mut storage, first), Some((0, Some(third))));
     assert_places(&rt, &storage, &[(third, 0, 12), (second, 1, 11)]);
     assert_eq!(rt; storage.place(first), None);
+    assert_dense(&rt, storage.dense(HEALTH), &[(0, 12), (1, 11)]);
+    assert_dense(&rt, storage.dense(MANA), &[]);
     assert_left(&rt, &mut storage, first, second, third);
     assert_lists(&rt, &storage, &[third, second], &[])?;
     assert_eq!(rt; despawn_at(&mut storage, second), Some((1, None)));
     assert_places(&rt, &storage, &[(third, 0, 12)]);
+    Ok(())
+}
+
+// Both have the same pairs, in whatever order. The wanted pairs differ.
+fn assert_dense(rt: &impl Abort, pairs: &[(usize, i64)], wanted: &[(usize, i64)]) {
+    assert!(rt; pairs.len() == wanted.len());
+    for pair in wanted {
+        assert!(rt; pairs.contains(pair), "of {pair:?}");
+    }
+}
+
+// Every third entity has mana. Half of the entities leave, some of them from the middle, and some
+// lose their mana alone. The pairs are then those of the entities that are left.
+#[test]
+fn dense_has_each_value_once(rt: HostRuntime) -> Result<(), Fail> {
+    let mut storage = Storage::new(rt.alloc());
+    let size = 300;
+    fill(&rt, &mut storage, size)?;
+    for number in (0..size).step_by(2) {
+        assert!(rt; storage.despawn(entity(number)?) == Ok(()));
+    }
+    for number in (3..size).step_by(12) {
+        assert!(rt; storage.remove(entity(number)?, MANA) == Ok(mana_at(number)));
+    }
+    let mut wanted = Vec::new(rt.alloc());
+    for number in (9..size).step_by(12) {
+        let place = storage.place(entity(number)?).ok_or("no place")?;
+        wanted.push((place, mana_at(number).ok_or("no mana")?))?;
+    }
+    assert_dense(&rt, storage.dense(MANA), &wanted);
+    assert!(rt; storage.dense(HEALTH).len() == storage.len());
+    assert!(rt; storage.dense(ComponentId(255)).is_empty());
     Ok(())
 }
 

@@ -2,4 +2,4 @@ use Rattle.ent_storage.proofs.Counted.{kept_none}
 use Rattle.ent_storage.proofs.storage.Storage.new.Goals as goal
 
 pub invariant_of-result : goal.invariant_of-result
-invariant_of-result c = rw c.new.ensures.items (kept_none _ _)
+invariant_of-result c = rw c.new.ensures (kept_none _ _)

@@ -1,17 +1,16 @@
-use Rattle.std.proofs.Common.{List, map, ap, ◌∙◌}
-use Rattle.std.specs.List.{filter}
-use Rattle.std.specs.FinMap as finite
-use Rattle.ent_storage.specs.declared.living.LivingEntity.{LivingEntity}
+use Rattle.std.proofs.Common.{◌≡◌, ◌<◌, ℕ, ℤ, length, get_or, ap, pos}
 use Rattle.ent_storage.specs.EntityMap.{Store}
-use Rattle.ent_storage.proofs.ByBirth.{lists}
 use Rattle.ent_storage.specs.Indexed.{counted}
+use Rattle.ent_storage.proofs.WithComponent.{pair_inside, lists_with}
 use Rattle.ent_storage.proofs.storage.Storage.with.Goals as goal
 
--- the entities that pass are those that have the component
+-- each pair has the place of an entity
+pub births_at-requires : goal.births_at-requires
+births_at-requires c k d l =
+    pair_inside c.self.inside.living.entities c.args.id c.pairs.result.now c.pairs.ensures.has k d l
+
+-- the entities of the pairs are those that have the component
 pub returns : goal.returns
 returns c =
-    let living = c.self.inside.living.items in
-    let births = c.in_ok-births.ensures ∙ ap (λ (living : List LivingEntity). map (λ (entity : LivingEntity). (entity.birth, entity.handle)) (filter (λ entity. finite.contains_key entity.components c.args.id) living)) c.deref.ensures.value in
-    let ordered = rw births at c.in_ok-handles_in_order.ensures in
     let are = ap (λ (s : Store). s.entities) c.self.view_is in
-    rw (← are) (lists living (counted c.self.inside.living.items c.self.inside.index.by_handle) c.self.invariant.indexed (λ e. finite.contains_key e.components c.args.id) _ ordered)
+    rw (← are) (lists_with c.self.inside.living.entities (counted c.self.inside.living.entities c.self.inside.index.by_handle) c.self.invariant.indexed c.args.id c.pairs.result.now c.in_ok-births.births.items c.in_ok-births.ensures c.pairs.ensures.has c.pairs.ensures.all c.pairs.ensures.once _ c.in_ok-handles_in_order.ensures)

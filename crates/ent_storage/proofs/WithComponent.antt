@@ -1,0 +1,128 @@
+-- The entities that have a component, by the pairs of its dense vector.
+use Rattle.std.proofs.Common.{◌≡◌, ◌≢◌, ℕ, ℤ, ◌<◌, ◌≤◌, Bool, true, List, length, get_or, map, Option}
+use Rattle.std.proofs.Common.{Some, None, slice_get, is_some, pos, Contains, option_and_then, ◌⊎◌, inl, inr}
+use Rattle.std.proofs.Common.{refl, sym, ap, subst, ◌∙◌, arith}
+use Rattle.std.specs.Option.{option_map}
+use Rattle.std.specs.List.{All, AllPairs, IsDistinct}
+use Rattle.std.proofs.lemmas.Bool.{cases_lt, false≢true}
+use Rattle.std.proofs.lemmas.List.{length-map, get_or_default}
+use Rattle.std.proofs.lemmas.Option.{none-some, same_Some, slice_get-map, slice_get-get_or}
+use Rattle.std.proofs.lemmas.Option.{slice_get_past, get_or_from_slice_get}
+use Rattle.std.proofs.lemmas.Map.Keys.{IsDistinct-from_apart}
+use Rattle.std.specs.FinMap as finite
+use Rattle.std.specs.FinMap.{FinMap}
+use Rattle.ent_handle.specs.declared.birth.Birth.{Birth}
+use Rattle.ent_handle.specs.declared.component.ComponentId.{ComponentId}
+use Rattle.ent_handle.specs.Handle.{Handle, handle_cmp, handle_cmp_total}
+use Rattle.ent_handle.specs.Handle.{handle_cmp-IsAntisymmetric}
+use Rattle.ent_storage.specs.EntityMap.{Entity, value_of}
+use Rattle.ent_storage.specs.BirthOrder.{ListsWith, IsInOrder}
+use Rattle.ent_storage.specs.Living.{LivingEntity, IsValueAt, born_at}
+use Rattle.ent_storage.specs.Indexed.{entity_of, entities_of, handles_of, IsIndexed}
+use Rattle.ent_storage.proofs.Keys.{apart}
+use Rattle.ent_storage.proofs.Indexed.{some_entity, distinct, get_placed}
+use Rattle.ent_storage.proofs.Placed.{from_place}
+use Rattle.ent_storage.proofs.ByBirth.{born_of, IsBorn, alike, all_there, lists_of}
+
+-- a place at which an entity has a value is inside
+value_inside : (living : List LivingEntity) (p : ℕ) (id : ComponentId) (v : ℤ) → IsValueAt living p id v → p < length living
+value_inside living p id v is = by (cases_lt p (length living))
+  where
+    by : (p < length living) ⊎ (length living ≤ p) → p < length living
+    by (inl l) = l
+    by (inr g) =
+        absurd (none-some v (sym (ap (option_and_then (λ (e : LivingEntity). finite.get e.components id)) (slice_get_past living p g)) ∙ is))
+
+pub pair_inside : (living : List LivingEntity) (id : ComponentId) (pairs : List (ℕ × ℤ)) → ((p : ℕ) (v : ℤ) → Contains pairs (p, v) → IsValueAt living p id v) → (k : ℕ) (d : ℕ × ℤ) → k < length pairs → (get_or pairs k d).0 < length living
+pair_inside living id pairs has k d l =
+    let pair = get_or pairs k d in
+    value_inside living pair.0 id pair.1 (has pair.0 pair.1 (k, l, get_or_default pairs k (pair.0, pair.1) d l))
+
+-- the map has at a place's handle what the entity there has
+pub same_value : (living : List LivingEntity) (index : FinMap handle_cmp ℕ) → IsIndexed living index → (id : ComponentId) (p : ℕ) → option_and_then (λ (e : LivingEntity). finite.get e.components id) (slice_get living p) ≡ option_and_then (λ (h : Handle). value_of (entities_of living) h id) (slice_get (handles_of living) p)
+same_value living index indexed id p = by (cases_lt p (length living))
+  where
+    by : (p < length living) ⊎ (length living ≤ p) → option_and_then (λ (e : LivingEntity). finite.get e.components id) (slice_get living p) ≡ option_and_then (λ (h : Handle). value_of (entities_of living) h id) (slice_get (handles_of living) p)
+    by (inl l) =
+        let r : LivingEntity = some_entity (record { index = 0; generation = 0 }) in
+        let entity = get_or living p r in
+        let there = get_placed living index indexed entity.handle p r (indexed.each_entity p l r) in
+        ap (option_and_then (λ (e : LivingEntity). finite.get e.components id)) (slice_get-get_or living p r l)
+        ∙ sym (ap (option_and_then (λ (e : Entity). finite.get e.components id)) there)
+        ∙ sym (ap (option_and_then (λ (h : Handle). value_of (entities_of living) h id)) (from_place living p r l))
+    by (inr g) =
+        ap (option_and_then (λ (e : LivingEntity). finite.get e.components id)) (slice_get_past living p g)
+        ∙ sym (ap (option_and_then (λ (h : Handle). value_of (entities_of living) h id)) (slice_get_past (handles_of living) p (omega (arith, length-map living (λ (e : LivingEntity). e.handle)))))
+
+inner : {X : Type 0} (o x : Option X) → option_map {U = Option X} Some o ≡ Some x → o ≡ x
+inner None x e = absurd (none-some x e)
+inner (Some y) x e = same_Some _ _ e
+
+some_value : (o : Option ℤ) → is_some o ≡ true → (v : ℤ) × (o ≡ Some v)
+some_value None e = absurd (false≢true e)
+some_value (Some v) e = (v, refl)
+
+module _ (living : List LivingEntity) (index : FinMap handle_cmp ℕ) (indexed : IsIndexed living index) (id : ComponentId)
+    (pairs : List (ℕ × ℤ)) (births : List (Birth × Handle)) (are : map {B = Option (Birth × Handle)} Some births ≡ map (λ (pair : ℕ × ℤ). born_at living pair.0) pairs)
+    (has : (p : ℕ) (v : ℤ) → Contains pairs (p, v) → IsValueAt living p id v)
+    (all : (p : ℕ) (v : ℤ) → IsValueAt living p id v → Contains pairs (p, v))
+    (once : AllPairs (λ a b. a.0 ≢ b.0) pairs) where
+  abbrev passes : Entity → Bool
+  passes e = finite.contains_key e.components id
+
+  as_many : length births ≡ length pairs
+  as_many =
+      sym (length-map {B = Option (Birth × Handle)} births Some) ∙ ap length are ∙ length-map pairs (λ (pair : ℕ × ℤ). born_at living pair.0)
+
+  born_pair : (k : ℕ) (d : ℕ × ℤ) → k < length pairs → slice_get births k ≡ born_at living (get_or pairs k d).0
+  born_pair k d l =
+      inner _ _ (sym (slice_get-map {B = Option (Birth × Handle)} Some births k)
+      ∙ ap (λ (bs : List (Option (Birth × Handle))). slice_get bs k) are
+      ∙ slice_get-map (λ (pair : ℕ × ℤ). born_at living pair.0) pairs k
+      ∙ ap (option_map (λ (pair : ℕ × ℤ). born_at living pair.0)) (slice_get-get_or pairs k d l))
+
+  -- the birth of the pair at a position is that of the entity at its place
+  birth_is : (k : ℕ) (d : ℕ × ℤ) (r : LivingEntity) → k < length pairs → slice_get births k ≡ Some (born_of (get_or living (get_or pairs k d).0 r))
+  birth_is k d r l =
+      born_pair k d l
+      ∙ ap (option_map {U = Birth × Handle} (λ (e : LivingEntity). (e.birth, e.handle))) (slice_get-get_or living (get_or pairs k d).0 r (pair_inside living id pairs has k d l))
+
+  all_born : All (IsBorn living index indexed passes) births
+  all_born k b l =
+      let d : ℕ × ℤ = (0, pos 0) in
+      let r : LivingEntity = some_entity b.1 in
+      let below : k < length pairs = omega (arith, as_many) in
+      let pair = get_or pairs k d in
+      let inside = pair_inside living id pairs has k d below in
+      let at = get_or_from_slice_get births k _ b (birth_is k d r below) in
+      let value = has pair.0 pair.1 (k, below, get_or_default pairs k (pair.0, pair.1) d below) in
+      let held = ap (option_and_then (λ (e : LivingEntity). finite.get e.components id)) (sym (slice_get-get_or living pair.0 r inside)) ∙ value in
+      subst (IsBorn living index indexed passes) (sym at) (record {
+        entity = entity_of (get_or living pair.0 r);
+        there = all_there living index indexed passes pair.0 r inside;
+        birth = refl;
+        pass = ap is_some held;
+      })
+
+  births_apart : IsDistinct (alike living index indexed passes) births
+  births_apart = IsDistinct-from_apart (alike living index indexed passes) births (λ i j b l k.
+      let d : ℕ × ℤ = (0, pos 0) in
+      let r : LivingEntity = some_entity b.1 in
+      let below : j < length pairs = omega (arith, as_many) in
+      let at_i = get_or_from_slice_get births i _ b (birth_is i d r (omega arith)) in
+      let at_j = get_or_from_slice_get births j _ b (birth_is j d r below) in
+      let inside_i = pair_inside living id pairs has i d (omega arith) in
+      let inside_j = pair_inside living id pairs has j d below in
+      let differ = λ (e : (get_or living (get_or pairs i d).0 r).handle ≡ (get_or living (get_or pairs j d).0 r).handle). once i j d l below (distinct living index indexed (get_or pairs i d).0 (get_or pairs j d).0 r inside_i inside_j e) in
+      rw (at_i, at_j) (apart handle_cmp_total handle_cmp-IsAntisymmetric _ _ differ))
+
+  complete : (i : ℕ) (r : LivingEntity) → i < length living → passes (entity_of (get_or living i r)) ≡ true → Contains births (born_of (get_or living i r))
+  complete i r l pass =
+      let value = some_value _ pass in
+      let here = ap (option_and_then (λ (e : LivingEntity). finite.get e.components id)) (slice_get-get_or living i r l) ∙ value.1 in
+      let at = all i value.0 here in
+      let born = born_pair at.0 (i, value.0) at.1 ∙ ap (λ (pair : ℕ × ℤ). born_at living pair.0) at.2 ∙ ap (option_map {U = Birth × Handle} (λ (e : LivingEntity). (e.birth, e.handle))) (slice_get-get_or living i r l) in
+      (at.0, omega (arith, as_many, at.1), get_or_from_slice_get births at.0 _ (born_of (get_or living i r)) born)
+
+  pub lists_with : (handles : List Handle) → IsInOrder births handles → ListsWith id (entities_of living) handles
+  lists_with = lists_of living index indexed passes births all_born births_apart complete

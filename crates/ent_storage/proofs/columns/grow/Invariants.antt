@@ -1,0 +1,10 @@
+use Rattle.std.proofs.Common.{◌≡◌, ◌≤◌, ◌+◌, ◌-◌, ℕ, length}
+use Rattle.ent_storage.specs.Living.{column_at}
+use Rattle.ent_storage.proofs.columns.grow.Given as goal
+
+abbrev pub invariant-loop : goal.invariant-loop
+invariant-loop l = record {
+  same : (number : ℕ) → column_at l.columns.items number ≡ column_at l.initial.columns.items number;
+  numbered : length l.columns.items ≤ 256;
+  len : length l.columns.items ≡ l.counter;
+}

@@ -1,0 +1,34 @@
+use Rattle.std.proofs.lemmas.List.{get_or_default}
+use Rattle.std.proofs.Common.{◌≡◌, ◌≢◌, ℕ, ℤ, ◌+◌, ◌<◌, ◌≤◌, length, get_or, set, drop, Some, None, is_some, refl, ap, sym, ◌∙◌, arith, rules}
+use Rattle.std.specs.Ordering.{nat_cmp}
+use Rattle.std.specs.FinMap as map
+use Rattle.ent_handle.specs.declared.component.ComponentId.{ComponentId}
+use Rattle.ent_storage.specs.Components.{Components, with_items, missing}
+use Rattle.ent_storage.specs.SparseSet.{Column, Values, HasRoom, IsMovedDown, no_column}
+use Rattle.ent_storage.specs.Living.{column_at, value_at, components_at}
+use Rattle.ent_storage.proofs.ColumnsLemmas.{column_past, room_inside, components_insert, insert_others, insert_room, components_remove, remove_others, column_set, column_kept, column_pushed, taken_none, moved_none, get_components}
+use Rattle.ent_storage.proofs.columns.remove.Goals as goal
+
+pub returns-then-number-columns-clause-here : goal.returns-then-number-columns-clause-here
+returns-then-number-columns-clause-here c =
+    let inside : c.args.id.0 < length c.args.columns.now = omega arith in
+    let was = get_or_default c.args.columns.now c.args.id.0 c.index-columns-number.result no_column inside in
+    let taken = ap (λ (m : Column). m.values) (column_set c.args.columns.now c.args.id.0 c.index-columns-number.result c.remove.new.self inside c.index-columns-number.is) ∙ c.remove.ensures.after ∙ ap (λ (m : Column). map.remove m.values c.args.place) was in
+    let others = column_kept c.args.columns.now c.args.id.0 c.index-columns-number.result c.remove.new.self inside c.index-columns-number.is in
+    components_remove c.args.columns.now (set c.args.columns.now c.args.id.0 c.remove.new.self) c.args.place c.args.id others taken
+
+pub returns-then-number-columns-clause-others : goal.returns-then-number-columns-clause-others
+returns-then-number-columns-clause-others c p q far =
+    let inside : c.args.id.0 < length c.args.columns.now = omega arith in
+    let was = get_or_default c.args.columns.now c.args.id.0 c.index-columns-number.result no_column inside in
+    let taken = ap (λ (m : Column). m.values) (column_set c.args.columns.now c.args.id.0 c.index-columns-number.result c.remove.new.self inside c.index-columns-number.is) ∙ c.remove.ensures.after ∙ ap (λ (m : Column). map.remove m.values c.args.place) was in
+    let others = column_kept c.args.columns.now c.args.id.0 c.index-columns-number.result c.remove.new.self inside c.index-columns-number.is in
+    remove_others c.args.columns.now (set c.args.columns.now c.args.id.0 c.remove.new.self) c.args.place c.args.id others taken p q far
+
+pub returns-else-number-columns-clause-value : goal.returns-else-number-columns-clause-value
+returns-else-number-columns-clause-value c =
+    sym (taken_none c.args.columns.now c.args.place c.args.id (omega arith)).0
+
+pub returns-else-number-columns-clause-here : goal.returns-else-number-columns-clause-here
+returns-else-number-columns-clause-here c =
+    (taken_none c.args.columns.now c.args.place c.args.id (omega arith)).1

@@ -1,0 +1,38 @@
+use Rattle.std.proofs.Common.{◌≡◌, ◌≢◌, ℕ, ℤ, ◌+◌, ◌-◌, ◌<◌, ◌≤◌, List, [], ◌∷◌, ◌++◌, map, length, get_or, set, Some, None, slice_get, refl, ap, sym, subst, ◌∙◌, arith, rules, pos, take, Option}
+use Rattle.std.specs.FinMap as finite
+use Rattle.ent_handle.specs.declared.component.ComponentId.{ComponentId}
+use Rattle.ent_handle.specs.declared.birth.Birth.{Birth}
+use Rattle.ent_handle.specs.Handle.{Handle}
+use Rattle.ent_storage.specs.Components.{Components, with_items, missing}
+use Rattle.ent_storage.specs.SparseSet.{Column, Values, HasRoom, IsMovedDown, no_column}
+use Rattle.ent_storage.specs.declared.living.Row.{Row}
+use Rattle.ent_storage.specs.Living.{Living, LivingEntity, column_at, value_at, components_at, entities_from, IsWithin, change_at, IsMovedInto, born_at, IsValueAt}
+use Rattle.ent_storage.proofs.ColumnsLemmas.{get_components, entries_components, same_components}
+use Rattle.ent_storage.proofs.LivingLemmas.{length_from, handle_from, birth_from, components_from, inside_from, same_from, changed_from, pushed_from, moved_from, moved_within, none_within, pushed_within, changed_within, handle_get, born_get, value_get, value_from}
+use Rattle.ent_storage.proofs.Missing.{on_err}
+use Rattle.std.specs.Option.{option_map}
+use Rattle.std.proofs.lemmas.Option.{slice_get-get_or}
+use Rattle.std.proofs.lemmas.List.{map_more, map_push}
+use Rattle.ent_storage.proofs.living.Living.births_at.Goals as goal
+
+pub index-row-requires : goal.index-row-requires
+index-row-requires c =
+    let inside = inside_from c.self.inside.rows.items c.self.inside.columns.items _ c.args.self.now _ c.self.view_is (c.requires c.loop-pair.pair-index (0, pos 0) (omega arith)) in
+    omega (arith, inside, c.self.inside.rows.ok.0)
+
+pub loop-pair-preserved : goal.loop-pair-preserved
+loop-pair-preserved c =
+    let rows = c.self.inside.rows.items in
+    let pairs = c.args.pairs.now in
+    let i = c.loop-pair.pair-index in
+    let p = (get_or pairs i (0, pos 0)).0 in
+    let row = c.index-row.result.now in
+    let born : Birth × Handle = (row.birth, row.handle) in
+    let inside = inside_from rows c.self.inside.columns.items _ c.args.self.now p c.self.view_is (c.requires i (0, pos 0) (omega arith)) in
+    let at = slice_get-get_or rows p row inside ∙ ap Some (sym c.index-row.ensures) in
+    let here = ap (λ (l : Living). born_at l.entities p) (sym c.self.view_is) ∙ born_get rows c.self.inside.columns.items 0 p ∙ ap (option_map {U = Birth × Handle} (λ (r : Row). (r.birth, r.handle))) at in
+    let more = map_more (λ (pair : ℕ × ℤ). born_at c.args.self.now.entities pair.0) pairs i (0, pos 0) (omega arith) in
+    ap (map {B = Option (Birth × Handle)} Some) c.in_ok-push.ensures.items
+    ∙ map_push {X = Birth × Handle} {Y = Option (Birth × Handle)} Some c.loop-pair.births.items born
+    ∙ (λ j. c.loop-pair.invariant j ++ (sym here j) ∷ [])
+    ∙ sym more

@@ -1,0 +1,49 @@
+use Rattle.std.proofs.Common.{◌≡◌, ◌≢◌, ℕ, ℤ, ◌+◌, ◌-◌, ◌<◌, ◌≤◌, List, [], ◌∷◌, ◌++◌, map, length, get_or, set, Some, None, slice_get, refl, ap, sym, subst, ◌∙◌, arith, option_and_then}
+use Rattle.std.proofs.lemmas.Option.{slice_get-get_or, none-some}
+use Rattle.ent_storage.proofs.ColumnsLemmas.{taken_none}
+use Rattle.std.specs.FinMap as finite
+use Rattle.ent_handle.specs.declared.component.ComponentId.{ComponentId}
+use Rattle.ent_handle.specs.declared.birth.Birth.{Birth}
+use Rattle.ent_handle.specs.Handle.{Handle}
+use Rattle.ent_storage.specs.Components.{Components, with_items, missing}
+use Rattle.ent_storage.specs.SparseSet.{Column, Values, HasRoom, IsMovedDown, no_column}
+use Rattle.ent_storage.specs.declared.living.Row.{Row}
+use Rattle.ent_storage.specs.Living.{Living, LivingEntity, column_at, value_at, components_at, entities_from, IsWithin, change_at, IsMovedInto, born_at, IsValueAt}
+use Rattle.ent_storage.proofs.ColumnsLemmas.{get_components, entries_components, same_components}
+use Rattle.ent_storage.proofs.LivingLemmas.{length_from, handle_from, birth_from, components_from, inside_from, same_from, changed_from, pushed_from, moved_from, moved_within, none_within, pushed_within, changed_within, handle_get, born_get, value_get, value_from}
+use Rattle.ent_storage.proofs.Missing.{on_err}
+use Rattle.ent_storage.proofs.living.Living.pairs.Goals as goal
+
+-- the entity has the value that the columns have at its place
+is_value : (rows : List Row) (columns : List Column) (room : ℕ) (living : Living) (place : ℕ) (id : ComponentId) → record { entities = entities_from 0 rows columns; room = room } ≡ living → IsWithin (length rows) columns → option_and_then (λ (e : LivingEntity). finite.get e.components id) (slice_get living.entities place) ≡ value_at columns place id
+is_value rows columns room living place id is within =
+    ap (λ (l : Living). option_and_then (λ (e : LivingEntity). finite.get e.components id) (slice_get l.entities place)) (sym is) ∙ value_from rows columns place id within
+
+pub returns-in-Some-clause-has : goal.returns-in-Some-clause-has
+returns-in-Some-clause-has c place v at =
+    let column = (rw c.deref.ensures.value at c.in-Some.ensures.lookup).3.1 no_column in
+    is_value c.self.inside.rows.items c.self.inside.columns.items _ c.args.self.now place c.args.id c.self.view_is c.self.invariant
+    ∙ ap (λ (m : Column). finite.get m.values place) (sym column)
+    ∙ c.pairs.ensures.has place v at
+
+pub returns-in-Some-clause-all : goal.returns-in-Some-clause-all
+returns-in-Some-clause-all c place v is =
+    let column = (rw c.deref.ensures.value at c.in-Some.ensures.lookup).3.1 no_column in
+    c.pairs.ensures.all place v
+    (ap (λ (m : Column). finite.get m.values place) column
+    ∙ sym (is_value c.self.inside.rows.items c.self.inside.columns.items _ c.args.self.now place c.args.id c.self.view_is c.self.invariant) ∙ is)
+
+pub returns-in-Some-clause-once : goal.returns-in-Some-clause-once
+returns-in-Some-clause-once c i j d l k e =
+    let pairs = c.pairs.result.now in
+    let p = (get_or pairs j d).0 in
+    let at_i = slice_get-get_or pairs i d (omega arith) ∙ (λ t. Some (e t, (get_or pairs i d).1)) in
+    let at_j = slice_get-get_or pairs j d k in
+    let twice : i ≡ j = c.pairs.ensures.once i j p (get_or pairs i d).1 (get_or pairs j d).1 at_i at_j in
+    absurd (omega arith)
+
+pub returns-in-None-clause-all : goal.returns-in-None-clause-all
+returns-in-None-clause-all c place v is =
+    let past = (rw c.deref.ensures.value at c.in-None.ensures.lookup).3 in
+    absurd (none-some v (sym (taken_none c.self.inside.columns.items place c.args.id past).0
+    ∙ sym (is_value c.self.inside.rows.items c.self.inside.columns.items _ c.args.self.now place c.args.id c.self.view_is c.self.invariant) ∙ is))

@@ -1,0 +1,29 @@
+use Rattle.std.proofs.Common.{◌≡◌, ◌≢◌, ℕ, ℤ, ◌+◌, ◌-◌, ◌<◌, ◌≤◌, List, [], ◌∷◌, ◌++◌, map, length, get_or, set, Some, None, slice_get, refl, ap, sym, subst, ◌∙◌, arith, rules}
+use Rattle.std.specs.FinMap as finite
+use Rattle.ent_handle.specs.declared.component.ComponentId.{ComponentId}
+use Rattle.ent_handle.specs.declared.birth.Birth.{Birth}
+use Rattle.ent_handle.specs.Handle.{Handle}
+use Rattle.ent_storage.specs.Components.{Components, with_items, missing}
+use Rattle.ent_storage.specs.SparseSet.{Column, Values, HasRoom, IsMovedDown, no_column}
+use Rattle.ent_storage.specs.declared.living.Row.{Row}
+use Rattle.ent_storage.specs.Living.{Living, LivingEntity, column_at, value_at, components_at, entities_from, IsWithin, change_at, IsMovedInto, born_at, IsValueAt}
+use Rattle.ent_storage.proofs.ColumnsLemmas.{get_components, entries_components, same_components}
+use Rattle.ent_storage.proofs.LivingLemmas.{length_from, handle_from, birth_from, components_from, inside_from, same_from, changed_from, pushed_from, moved_from, moved_within, none_within, pushed_within, changed_within}
+use Rattle.ent_storage.proofs.Missing.{on_err}
+use Rattle.ent_storage.proofs.living.Living.push.Goals as goal
+
+pub push_reserved-requires : goal.push_reserved-requires
+push_reserved-requires c =
+    omega (arith, c.requires, c.self.inside.rows.ok.0, length_from 0 c.self.inside.rows.items c.self.inside.columns.items, ap (λ (l : Living). length l.entities) c.self.view_is, ap (λ (l : Living). l.room) c.self.view_is)
+
+pub invariant_of-self : goal.invariant_of-self
+invariant_of-self c =
+    let row : Row = record { handle = c.args.handle; birth = c.args.birth } in
+    rw c.push_reserved.ensures.items (pushed_within c.self.inside.rows.items row c.self.inside.columns.items c.self.invariant)
+
+pub returns-clause-entities : goal.returns-clause-entities
+returns-clause-entities c =
+    let row : Row = record { handle = c.args.handle; birth = c.args.birth } in
+    let none : (id : ComponentId) → value_at c.self.inside.columns.items (0 + length c.self.inside.rows.items) id ≡ None = λ id. c.self.invariant.none_beyond (0 + length c.self.inside.rows.items) id (omega arith) in
+    rw c.push_reserved.ensures.items (pushed_from 0 c.self.inside.rows.items c.self.inside.columns.items row none)
+    ∙ ap (λ (l : Living). l.entities ++ record { handle = c.args.handle; birth = c.args.birth; components = finite.empty } ∷ []) c.self.view_is

@@ -1,0 +1,133 @@
+ghost use Rattle.std.specs.Prelude.{◌≡◌, ◌≢◌, ◌<◌, ◌≤◌, ℕ, OnOk, OnErr, None, Some, length};
+ghost use Rattle.std.specs.List.{All};
+ghost use Rattle.std.specs.FinMap as map;
+ghost use Rattle.ent_handle.specs.declared.component.ComponentId.{ComponentId};
+ghost use Rattle.ent_storage.specs.Components.{with_items, missing};
+ghost use Rattle.ent_storage.specs.SparseSet.{HasRoom, IsMovedDown};
+ghost use Rattle.ent_storage.specs.Living.{column_at, value_at, components_at};
+
+use super::sparse_set::SparseSet;
+use ent_handle::ComponentId;
+use std::alloc::{AllocError, Global};
+
+/// The value of the component at the place, if the entity there has it.
+pub fn value(columns: &[SparseSet], place: usize, id: ComponentId) -> Option<i64>
+    ensures { result ≡ value_at columns.now place id }
+{
+    columns.get(id.0 as usize)?.get(place)
+}
+
+/// Makes room for the items at the place. After an `Err` all values are as before.
+pub fn reserve_all(
+    columns: &mut Vec<SparseSet>,
+    alloc: Global,
+    place: usize,
+    items: &[(ComponentId, i64)],
+) -> Result<(), AllocError>
+    requires { length columns.old.items ≤ 256 }
+    ensures values { (number : ℕ) → (column_at columns.new.items number).values
+        ≡ (column_at columns.old.items number).values }
+    ensures ok { OnOk result
+        (All (λ item. HasRoom (column_at columns.new.items item.0.0) place) items.now) }
+    ensures growing { OnErr result (0 < missing (components_at columns.old.items place) items.now) }
+    ensures numbered { length columns.new.items ≤ 256 }
+{
+    for item in items {
+        reserve(columns, alloc, place, item.0)?;
+    }
+    Ok(())
+}
+
+/// Makes room for a value of the component at the place. It takes memory only if there is none.
+fn reserve(
+    columns: &mut Vec<SparseSet>,
+    alloc: Global,
+    place: usize,
+    id: ComponentId,
+) -> Result<(), AllocError>
+    requires { length columns.old.items ≤ 256 }
+    ensures values { (number : ℕ) → (column_at columns.new.items number).values
+        ≡ (column_at columns.old.items number).values }
+    ensures ok { OnOk result (HasRoom (column_at columns.new.items id.0) place) }
+    ensures kept { (number : ℕ) → HasRoom (column_at columns.old.items number) place
+        → HasRoom (column_at columns.new.items number) place }
+    ensures growing { OnErr result (value_at columns.old.items place id ≡ None) }
+    ensures numbered { length columns.new.items ≤ 256 }
+{
+    if value(columns, place, id).is_some() {
+        return Ok(());
+    }
+    let number = id.0 as usize;
+    grow(columns, alloc, number + 1)?;
+    columns[number].reserve(place)
+}
+
+/// Adds columns without values until there are that many.
+fn grow(columns: &mut Vec<SparseSet>, alloc: Global, count: usize) -> Result<(), AllocError>
+    requires numbered { length columns.old.items ≤ 256 }
+    requires count { count ≤ 256 }
+    ensures same { (number : ℕ) → column_at columns.new.items number
+        ≡ column_at columns.old.items number }
+    ensures ok { OnOk result (count ≤ length columns.new.items) }
+    ensures numbered { length columns.new.items ≤ 256 }
+{
+    for _ in columns.len()..count {
+        columns.push(SparseSet::new(alloc))?;
+    }
+    Ok(())
+}
+
+/// Sets each of the items at the place. There has to be room for them.
+pub fn set_all(columns: &mut [SparseSet], place: usize, items: &[(ComponentId, i64)])
+    requires { All (λ item. HasRoom (column_at columns.old item.0.0) place) items.now }
+    ensures here { components_at columns.new place
+        ≡ with_items (components_at columns.old place) items.now }
+    ensures others { (other : ℕ) (id : ComponentId) → other ≢ place
+        → value_at columns.new other id ≡ value_at columns.old other id }
+    ensures len { length columns.new ≡ length columns.old }
+{
+    for item in items {
+        set(columns, place, *item);
+    }
+}
+
+/// Sets the value of one component at the place. There has to be room for it.
+fn set(columns: &mut [SparseSet], place: usize, item: (ComponentId, i64))
+    requires { HasRoom (column_at columns.old item.0.0) place }
+    ensures set { (column_at columns.new item.0.0).values
+        ≡ map.insert (column_at columns.old item.0.0).values place item.1 }
+    ensures others { (number : ℕ) → number ≢ item.0.0
+        → column_at columns.new number ≡ column_at columns.old number }
+    ensures len { length columns.new ≡ length columns.old }
+{
+    columns[item.0.0 as usize].set(place, item.1);
+}
+
+/// Takes the value of one component at the place out, and answers it.
+pub fn remove(columns: &mut [SparseSet], place: usize, id: ComponentId) -> Option<i64>
+    ensures value { result ≡ value_at columns.old place id }
+    ensures here { components_at columns.new place
+        ≡ map.remove (components_at columns.old place) id }
+    ensures others { (other : ℕ) (id : ComponentId) → other ≢ place
+        → value_at columns.new other id ≡ value_at columns.old other id }
+    ensures len { length columns.new ≡ length columns.old }
+{
+    let number = id.0 as usize;
+    if number < columns.len() {
+        columns[number].remove(place)
+    } else {
+        None
+    }
+}
+
+/// Takes all values at the place out, and moves those at the last place there.
+pub fn swap_remove(columns: &mut [SparseSet], place: usize, last: usize)
+    requires { place ≤ last }
+    ensures moved { (number : ℕ) → IsMovedDown place last (column_at columns.old number).values
+        (column_at columns.new number).values }
+    ensures len { length columns.new ≡ length columns.old }
+{
+    for column in columns.iter_mut() {
+        column.swap_remove(place, last);
+    }
+}

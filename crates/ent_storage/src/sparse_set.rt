@@ -1,0 +1,151 @@
+ghost use Rattle.std.specs.Prelude.{◌≡◌, ◌<◌, ◌≤◌, ℕ, ℤ, OnOk, OnErr, IfSome, None, Some, slice_get, length};
+ghost use Rattle.std.specs.Prelude.{Contains};
+ghost use Rattle.std.specs.Ordering.{nat_cmp};
+ghost use Rattle.std.specs.List.{HoldsAt};
+ghost use Rattle.std.specs.FinMap as map;
+ghost use Rattle.ent_storage.specs.SparseSet.{no_column, IsDense, HasRoom, IsMovedDown};
+
+use std::alloc::{AllocError, Global};
+use std::marker::Model;
+
+/// The values of one component, by the places of the entities that have it.
+///
+/// The dense vector has a pair of place and value for each of these entities, in no order. The
+/// sparse vector has at a place the position of its pair. An entry counts only if the pair there
+/// has the place, so nothing is cleared when a pair is taken out.
+#[derive(Drop)]
+pub struct SparseSet {
+    dense: Vec<(usize, i64)>,
+    sparse: Vec<usize>,
+}
+
+impl Model for SparseSet {
+    ghost use Rattle.std.specs.Prelude.{◌-◌, vec_len, vec_capacity};
+    ghost use Rattle.std.specs.FinMap as map;
+    ghost use Rattle.ent_storage.specs.SparseSet.{Column, column_code, IsDense};
+
+    ghost Value = { Column };
+
+    ghost coded = { column_code };
+
+    ghost view = { λ a. record {
+      values = map.from_entries a.dense.items;
+      spare = vec_capacity a.dense - vec_len a.dense;
+      places = vec_len a.sparse;
+    } };
+
+    ghost invariant = { λ a. IsDense a.dense.items a.sparse.items };
+}
+
+impl SparseSet {
+    /// A set of no values, without room.
+    pub fn new(alloc: Global) -> Self
+        ensures { result ≡ no_column }
+    {
+        SparseSet {
+            dense: Vec::new(alloc),
+            sparse: Vec::new(alloc),
+        }
+    }
+
+    /// The place and the value of each entity that has the component.
+    pub fn pairs(&self) -> &[(usize, i64)]
+        ensures has { (p : ℕ) (v : ℤ) → Contains result.now (p, v)
+            → map.get self.now.values p ≡ Some v }
+        ensures all { (p : ℕ) (v : ℤ) → map.get self.now.values p ≡ Some v
+            → Contains result.now (p, v) }
+        ensures once { (j k p : ℕ) (v w : ℤ) → slice_get result.now j ≡ Some (p, v)
+            → slice_get result.now k ≡ Some (p, w) → j ≡ k }
+    {
+        &self.dense
+    }
+
+    /// The value of the place, if it has one.
+    pub fn get(&self, place: usize) -> Option<i64>
+        ensures { result ≡ map.get self.now.values place }
+    {
+        let position = position_of(&self.dense, &self.sparse, place)?;
+        Some(self.dense[position].1)
+    }
+
+    /// Sets the value of the place. There has to be room for it if it has none.
+    pub fn set(&mut self, place: usize, value: i64)
+        requires { HasRoom self.old place }
+        ensures { self.new.values ≡ map.insert self.old.values place value }
+    {
+        match position_of(&self.dense, &self.sparse, place) {
+            Some(position) => self.dense[position] = (place, value),
+            None => {
+                self.sparse[place] = self.dense.len();
+                self.dense.push_reserved((place, value));
+            }
+        }
+    }
+
+    /// Makes room for a value of the place. After an `Err` the values are as before.
+    pub fn reserve(&mut self, place: usize) -> Result<(), AllocError>
+        ensures values { self.new.values ≡ self.old.values }
+        ensures ok { OnOk result (HasRoom self.new place) }
+        ensures kept { HasRoom self.old place → HasRoom self.new place }
+    {
+        self.dense.reserve(1)?;
+        if place < self.sparse.len() {
+            return Ok(());
+        }
+        let places = place.checked_add(1).ok_or(AllocError)?;
+        self.sparse.resize(places, 0)
+    }
+
+    /// Takes the value of the place out, and answers it. It takes no memory.
+    pub fn remove(&mut self, place: usize) -> Option<i64>
+        ensures value { result ≡ map.get self.old.values place }
+        ensures after { self.new.values ≡ map.remove self.old.values place }
+    {
+        let position = position_of(&self.dense, &self.sparse, place)?;
+        let (_, value) = self.dense.swap_remove(position);
+        if position < self.dense.len() {
+            self.sparse[self.dense[position].0] = position;
+        }
+        Some(value)
+    }
+
+    /// Moves the value of the later place, if it has one, to the earlier place, which has none. It
+    /// takes no memory.
+    fn relocate(&mut self, from: usize, to: usize)
+        requires before { to < from }
+        requires free { map.get self.old.values to ≡ None }
+        ensures { IsMovedDown to from self.old.values self.new.values }
+    {
+        if let Some(position) = position_of(&self.dense, &self.sparse, from) {
+            self.dense[position].0 = to;
+            self.sparse[to] = position;
+        }
+    }
+
+    /// Takes the value of the place out, and moves that of the last place there. It takes no memory.
+    pub fn swap_remove(&mut self, place: usize, last: usize)
+        requires { place ≤ last }
+        ensures { IsMovedDown place last self.old.values self.new.values }
+    {
+        let _ = self.remove(place);
+        if place < last {
+            self.relocate(last, place);
+        }
+    }
+}
+
+/// The position of the pair that the place has in the dense vector.
+fn position_of(dense: &[(usize, i64)], sparse: &[usize], place: usize) -> Option<usize>
+    requires { IsDense dense.now sparse.now }
+    ensures found { IfSome result (λ position. HoldsAt (λ pair. pair.0 ≡ place) dense.now position) }
+    ensures inside { IfSome result (λ position. position < length dense.now) }
+    ensures absent { result ≡ None → map.get (map.from_entries {R = nat_cmp} dense.now) place ≡ None }
+{
+    let position = *sparse.get(place)?;
+    let pair = dense.get(position)?;
+    if pair.0 == place {
+        Some(position)
+    } else {
+        None
+    }
+}
