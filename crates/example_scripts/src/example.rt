@@ -42,7 +42,7 @@ where
     let wanted = fs::read(rt, format!(in rt.alloc(); "{folder}/{name}.{shown}.txt")?)?;
     let is_same = printed(rt, &script, workers, show)? == wanted;
     if !is_same {
-        println!(rt; "{name} on {workers} workers differs from {name}.{shown}.txt")?;
+        println!(rt; "{name}, workers {workers}: differs from {name}.{shown}.txt")?;
     }
     Ok(is_same)
 }
