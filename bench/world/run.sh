@@ -1,15 +1,49 @@
 #!/bin/sh
-# Builds the static library of crates/bench_world and the driver, and prints the table of times.
-# It needs `rt` and `rustc` on the path.
+# Builds the program of crates/bench_world and the plain one beside it, lets them take turns, and prints two tables of
+# nanoseconds a command: of queues of all four kinds of commands, and of the kinds by themselves, at entities in a scattered
+# and in a rising order. Each figure is the shortest of all runs of its case. Both programs have to end with the same number of
+# entities and the same sum of values. It needs `rt` and `rustc` on the path.
+# An argument is how many turns there are.
 set -eu
 here=$(cd "$(dirname "$0")" && pwd)
 crate=$here/../../crates/bench_world
-kit=$(dirname "$(dirname "$(readlink -f "$(command -v rt)")")")
 out=$(mktemp -d)
 trap 'rm -rf "$out"' EXIT
 
-(cd "$crate" && rt lib >"$out/log" 2>&1) || { tail -5 "$out/log"; exit 1; }
-rustc -O --edition 2021 -o "$out/world" "$here/main.rs" \
-    -L "native=$crate/out" -l static=bench_world \
-    -L "native=$kit/c" -l static=libc_c
-"$out/world"
+# rt builds for x86-64-v2, so the plain program is built for it too.
+(cd "$crate" && rt run >"$out/log" 2>&1) || { tail -5 "$out/log"; exit 1; }
+rustc -O -C target-cpu=x86-64-v2 --edition 2021 -o "$out/plain" "$here/main.rs"
+
+for turn in $(seq "${1-15}"); do
+    for entities in 1000 10000 100000 1000000; do
+        "$crate/out/bench_world" "$entities" | sed "s/^/verified|$entities|/"
+        "$out/plain" "$entities" | sed "s/^/plain|$entities|/"
+    done
+done >"$out/lines"
+
+# A line: the side, how many entities, the order, the kind, how many commands, the seconds, and what is left.
+awk -F'|' '
+    { key = $2 " " $3 " " $4; left = $7 " " $8; time = $6 * 1e9 / $5 }
+    !(key in ends) { ends[key] = left }
+    ends[key] != left { print "other entities after: " key; failed = 1; exit 1 }
+    !((key, $1) in least) || time < least[key, $1] { least[key, $1] = time }
+    function times(key) {
+        return sprintf("%.0f | %.0f | %.2f |", least[key, "verified"], least[key, "plain"], \
+            least[key, "verified"] / least[key, "plain"])
+    }
+    END {
+        if (failed) exit 1
+        print "| Entities before | Verified | Plain | Ratio |"
+        print "|---|---|---|---|"
+        for (entities = 1000; entities <= 1000000; entities *= 10)
+            printf "| %d | %s\n", entities, times(entities " scattered all")
+        print ""
+        print "| Command | Order | Entities before | Verified | Plain | Ratio |"
+        print "|---|---|---|---|---|---|"
+        count = split("spawn insert remove despawn", kind)
+        for (i = 1; i <= count; i++)
+            for (j = 1; j <= split("rising scattered", order); j++)
+                for (entities = 100000; entities <= 1000000; entities *= 10)
+                    printf "| %s | %s | %d | %s\n", kind[i], order[j], entities, \
+                        times(entities " " order[j] " " kind[i])
+    }' "$out/lines"

@@ -1,6 +1,6 @@
 use Rattle.std.proofs.Common.{◌≡◌}
 use Rattle.ent_queue.specs.Commands.{IsReady, shared_of}
-use Rattle.bench_world.proofs.issued.Given as goal
+use Rattle.bench_world.proofs.work.issued.Given as goal
 
 -- it stays the same reserver of the same allocator
 abbrev pub invariant-loop-round : goal.invariant-loop-round

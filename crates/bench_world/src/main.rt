@@ -1,0 +1,157 @@
+//! Sync points for `bench/world` to time.
+//!
+//! `bench_world ENTITIES` applies queues of 25,000 rounds to worlds of that many entities. It
+//! prints a line for each: the order, the kind of its commands, how many commands it has, the
+//! seconds of `World::apply`, and how many entities are alive then and the sum of their values.
+//! Without a word it does so with few entities and few rounds, and prints no seconds.
+#![tactic(auto)]
+
+mod work;
+
+use ent_alloc::Limits;
+use ent_handle::Birth;
+use ent_world::World;
+use std::rt::Clock;
+use std::time::Instant;
+use std::{env, io};
+use work::{Kind, MARK, VALUE, Work, bundle, entity_at, issued};
+
+/// Rounds of a queue that is timed.
+const ROUNDS: u32 = 25_000;
+
+/// Entities and rounds if nothing is timed.
+const FEW: u32 = 100;
+
+/// How far apart the entities of two rounds are.
+const RISING: u32 = 1;
+const SCATTERED: u32 = 7919;
+
+/// The commands of all kinds by themselves, in the order in which a round has them.
+const KINDS: [Kind; 4] = [Kind::Spawns, Kind::Inserts, Kind::Removes, Kind::Despawns];
+
+fn main(rt: HostRuntime) -> io::Result<()> {
+    let mut words = env::args(&rt)?;
+    let _ = words.next();
+    match words.next() {
+        Some(entities) => print_all(&rt, entities.parse().unwrap_or(FEW), ROUNDS, true),
+        None => print_all(&rt, FEW, FEW, false),
+    }
+}
+
+fn print_all<R>(rt: &R, entities: u32, rounds: u32, timed: bool) -> io::Result<()>
+where
+    R: Clock + Print + AllocGlobal,
+{
+    for stride in [SCATTERED, RISING] {
+        let order = Work {
+            kind: Kind::All,
+            entities,
+            rounds,
+            stride,
+        };
+        print_whole(rt, order, timed)?;
+        print_apart(rt, order, timed)?;
+    }
+    Ok(())
+}
+
+/// A queue of rounds of all four kinds.
+fn print_whole<R>(rt: &R, work: Work, timed: bool) -> io::Result<()>
+where
+    R: Clock + Print + AllocGlobal,
+{
+    let world = filled(rt, work.entities)?;
+    let (world, seconds) = phase(rt, world, work)?;
+    print_line(rt, &world, work, seconds, timed)
+}
+
+/// Four queues, each of one kind, one after the other.
+fn print_apart<R>(rt: &R, work: Work, timed: bool) -> io::Result<()>
+where
+    R: Clock + Print + AllocGlobal,
+{
+    let mut world = filled(rt, work.entities)?;
+    for kind in KINDS {
+        let work = Work { kind, ..work };
+        let (after, seconds) = phase(rt, world, work)?;
+        print_line(rt, &after, work, seconds, timed)?;
+        world = after;
+    }
+    Ok(())
+}
+
+/// Issues the commands and applies them. Answers the seconds of `apply`.
+fn phase<R>(rt: &R, world: World, work: Work) -> io::Result<(World, f64)>
+where
+    R: Clock + AllocGlobal,
+{
+    if world.needs_flush() {
+        return Err(io::ErrorKind::Unsupported.into());
+    }
+    let Ok((open, mut reservers)) = world.open(1) else {
+        return Err(io::ErrorKind::OutOfMemory.into());
+    };
+    let Some(mut reserver) = reservers.pop() else {
+        return Err(io::ErrorKind::Unsupported.into());
+    };
+    let queue = issued(rt.alloc(), open.shared(), &mut reserver, work);
+    let reservers = Vec::from_array(rt.alloc(), [reserver])?;
+    let queues = Vec::from_array(rt.alloc(), [queue])?;
+    let mut world = open.close(reservers);
+    let start = Instant::now(rt)?;
+    let applied = world.apply(&queues);
+    let seconds = start.elapsed(rt)?.as_secs_f64();
+    let Ok(report) = applied else {
+        return Err(io::ErrorKind::OutOfMemory.into());
+    };
+    if !report.faults.is_empty() {
+        return Err(io::ErrorKind::Unsupported.into());
+    }
+    Ok((world, seconds))
+}
+
+fn print_line<R>(rt: &R, world: &World, work: Work, seconds: f64, timed: bool) -> io::Result<()>
+where
+    R: Print,
+{
+    let order = if work.stride == RISING { "rising" } else { "scattered" };
+    let kind = work.kind.name();
+    let commands = work.commands();
+    let living = world.len();
+    let sum = sum_of(world, work);
+    if timed {
+        println!(rt; "{order}|{kind}|{commands}|{seconds:.9}|{living}|{sum}")
+    } else {
+        println!(rt; "{order} {kind} commands {commands} living {living} sum {sum}")
+    }
+}
+
+/// The sum of all values of the first occupants of all slots.
+fn sum_of(world: &World, work: Work) -> i64 {
+    let mut sum: i64 = 0;
+    for index in 0..work.entities.saturating_add(work.rounds) {
+        if let Some(handle) = entity_at(index) {
+            let value = world.get(handle, VALUE).unwrap_or(0);
+            let mark = world.get(handle, MARK).unwrap_or(0);
+            sum = sum.wrapping_add(value).wrapping_add(mark);
+        }
+    }
+    sum
+}
+
+/// A world of that many entities, each with one component.
+fn filled<R: AllocGlobal>(rt: &R, entities: u32) -> io::Result<World> {
+    let mut world = World::new(rt.alloc(), Limits::default_limits());
+    let bundle = bundle(rt.alloc(), VALUE, 7);
+    for ordinal in 0..entities {
+        let birth = Birth {
+            frame: 0,
+            system: 0,
+            ordinal,
+        };
+        if world.spawn(birth, &bundle).is_err() {
+            return Err(io::ErrorKind::OutOfMemory.into());
+        }
+    }
+    Ok(world)
+}
