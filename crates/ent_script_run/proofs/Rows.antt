@@ -1,8 +1,8 @@
--- Worked runs, by the definitions alone: texts that are a report of a script, and one that is none.
+-- Worked runs, by the definitions alone: texts that are a report of a script, and texts that are none.
 use Rattle.std.proofs.Common.{◌≡◌, refl, sym, ◌∙◌, ap, subst, arith, cond, true, false, Bool, ℕ, zero, suc}
 use Rattle.std.proofs.Common.{◌≤◌, ◌<◌, ℤ, pos, List, [], ◌∷◌, ◌++◌, length, map, get_or, append-nil, Some}
 use Rattle.std.proofs.Common.{None, Option, IsPermutation}
-use Rattle.std.specs.Prelude.{codes, slice_get, slice_index_or, Ok, Err, Result, Contains, IsSomeAnd, IsTrue}
+use Rattle.std.specs.Prelude.{codes, slice_get, Ok, Result, Contains, IsSomeAnd, IsTrue}
 use Rattle.std.specs.Cmp.{Equal-is}
 use Rattle.std.specs.declared.cmp.Ordering.TheVariants.{Less}
 use Rattle.std.specs.Fmt.{digits}
@@ -68,6 +68,7 @@ abbrev IsThere : Option Entity → Type 0
 IsThere entity = IsSomeAnd entity (λ _. IsTrue true)
 
 module _ (m : EntityMap) (handles : List Handle) where
+  -- the handles rise, each of them is there, and whatever is there is one of them
   listed : AllPairs (λ g h. birth_order m g h ≡ Less) handles → All (λ h. IsThere (finite.get m h)) handles
       → ((h : Handle) → IsThere (finite.get m h) → Contains handles h) → ListsAll m handles
   listed rising there all = record {
@@ -75,7 +76,7 @@ module _ (m : EntityMap) (handles : List Handle) where
     holds = λ h. ((λ c. subst (λ (g : Handle). IsThere (finite.get m g)) c.2 (there c.0 h c.1)), all h);
   }
 
--- equal to the handle in the list
+-- the first of a list, and one of the others
 here : (g h : Handle) (handles : List Handle) → eq_by_cmp handle_cmp h g ≡ true → Contains (g ∷ handles) h
 here g h handles same = (0, omega arith, sym (handle_cmp-IsAntisymmetric h g ((Equal-is (handle_cmp h g)).0 same)))
 
@@ -86,6 +87,7 @@ nobody_listed : ListsAll finite.empty []
 nobody_listed = listed finite.empty [] (λ i j d less within. absurd (omega (arith, within))) (All-nil (λ h. IsThere (finite.get finite.empty h)))
     (λ h there. absurd (subst IsThere (finite.get-empty handle_cmp h) there))
 
+-- the text of a map without entities
 nobody : (names : List (List ℕ)) (show : Show) (m : EntityMap) → finite.len m ≡ 0 → IsWorldText names show m (codes "alive 0\n")
 unfolding digits
 nobody names show m none = record {
@@ -110,7 +112,7 @@ module _ (names : List (List ℕ)) (show : Show) (m : EntityMap) (h : Handle) (b
       ap (λ (o : Option Entity). option_map_or (λ e. entity_line names show h e.birth (finite.entries e.components)) o []) there
       ∙ ap (entity_line names show h born) (its_items id value)
 
--- ---- scripts without systems
+-- ---- scripts without systems: the same report on any number of workers
 
 -- so many workers that ran no system
 abbrev idle : ℕ → List (List ℕ)
@@ -285,7 +287,7 @@ no_space = (
   },
 )
 
--- a system spawns an entity
+-- a system spawns an entity with five health points
 abbrev spawn : List Operation
 spawn = operation.Spawn (item 0 5 ∷ []) None ∷ []
 
@@ -396,8 +398,7 @@ unfolding fresh digits
 two_frames =
     let same : second ≡ (synced first spawning).world = sym second_is in
     let births = ap (λ (w : World). born_in w despawning) second_is ∙ none_born in
-    let faults = ap (λ (w : World). (synced w despawning).faults) second_is ∙ no_faults_then in
-    (
+    let faults = ap (λ (w : World). (synced w despawning).faults) second_is ∙ no_faults_then in (
       spawning ∷ despawning ∷ [],
       record {
         frames = (spawned_frame, (subst (λ (w : World). IsFrame MayIssue ((operation.Despawn (target.Handle (0 v 1)) ∷ []) ∷ []) 1 w despawning.queues despawning.history) same despawned_frame, tt));
@@ -411,6 +412,9 @@ two_frames =
 
 abbrev spawn_after : List Operation
 spawn_after = operation.Spawn (item 0 7 ∷ []) None ∷ []
+
+abbrev two_spawns : Script
+two_spawns = record { limits = limits; components = hp; frames = (spawn ∷ spawn_after ∷ []) ∷ [] }
 
 -- the handles of the two systems if the first one asks first, and else
 abbrev of_first : Bool → Handle
@@ -575,11 +579,8 @@ module _ (b : Bool) where
           ++ alive_line (sym (two_live b) i);
     }
 
-    script_of_both : Script
-    script_of_both = record { limits = limits; components = hp; frames = (spawn ∷ spawn_after ∷ []) ∷ [] }
-
-    report_of_both : IsReport script_of_both 2 show (codes "frame 0 born 2 faults 0\n" ++ (lines_of_both ++ alive_line 2))
-    unfolding digits script_of_both
+    report_of_both : IsReport two_spawns 2 show (codes "frame 0 born 2 faults 0\n" ++ (lines_of_both ++ alive_line 2))
+    unfolding digits
     report_of_both = (
       both b ∷ [],
       record {
@@ -589,3 +590,59 @@ module _ (b : Bool) where
         is = λ i. (frame_text show 0 (sym (born_of_both b) i) (sym (no_faults_of_both b) i) ++ []) ++ (lines_of_both ++ alive_line 2);
       },
     )
+
+first_asks_first : IsReport two_spawns 2 Handles (codes "frame 0 born 2 faults 0\n0.0.0 0v1 hp=5\n0.1.0 1v1 hp=7\nalive 2\n")
+unfolding digits
+first_asks_first = report_of_both true Handles
+
+second_asks_first : IsReport two_spawns 2 Handles (codes "frame 0 born 2 faults 0\n0.0.0 1v1 hp=5\n0.1.0 0v1 hp=7\nalive 2\n")
+unfolding digits
+second_asks_first = report_of_both false Handles
+
+-- by their births both runs read alike
+either_by_birth : (b : Bool) → IsReport two_spawns 2 Births (codes "frame 0 born 2 faults 0\n0.0.0 hp=5\n0.1.0 hp=7\nalive 2\n")
+unfolding digits
+either_by_birth b = report_of_both b Births
+
+-- ---- the same two systems on one worker: the first one asks first
+
+abbrev in_turn : Execution
+in_turn = record { queues = (both true).queues; history = call 0 (0 v 1) ∷ call 0 (1 v 1) ∷ [] }
+
+work_in_turn : IsWork in_turn.queues in_turn.history 0 (0 ∷ 1 ∷ [])
+work_in_turn = record {
+  rising = AllPairs-cons (λ m n. m < n) 0 (1 ∷ []) (All-cons (λ n. 0 < n) 1 [] (omega arith) (All-nil (λ n. 0 < n))) (rising_alone 1);
+  calls = refl;
+  within = (omega (arith, some_credit), (omega (arith, some_credit), tt));
+}
+
+only_work : (worker : ℕ) (mine : List ℕ) → slice_get ((0 ∷ 1 ∷ []) ∷ []) worker ≡ Some mine → IsWork in_turn.queues in_turn.history worker mine
+only_work zero mine e = let same : 0 ∷ 1 ∷ [] ≡ mine = cc e in subst (IsWork in_turn.queues in_turn.history 0) same work_in_turn
+only_work (suc worker) mine e = absurd (cc e)
+
+frame_in_turn : IsFrame MayIssue (spawn ∷ spawn_after ∷ []) 1 first in_turn.queues in_turn.history
+unfolding fresh
+frame_in_turn = record {
+  legal = (omega arith, refl, (omega arith, refl, tt));
+  callers = all_of_first ((1, Ok (0 v 1 ∷ [])) ∷ (1, Ok (1 v 1 ∷ [])) ∷ []);
+  ran = (0 ∷ 1 ∷ []) ∷ [];
+  each_worker = refl;
+  once = IsPermutation-refl (0 ∷ 1 ∷ []);
+  work = only_work;
+  count = refl;
+  each_system = issue_of_both true;
+}
+
+one_asks_in_turn : IsReport two_spawns 1 Handles (codes "frame 0 born 2 faults 0\n0.0.0 0v1 hp=5\n0.1.0 1v1 hp=7\nalive 2\n")
+unfolding digits report_of_both
+one_asks_in_turn =
+    let report = (report_of_both true Handles).1 in (
+      in_turn ∷ [],
+      record { frames = (frame_in_turn, tt); world_text = report.world_text; world = report.world; is = report.is },
+    )
+
+not_second_first : IsReport two_spawns 1 Handles (codes "frame 0 born 2 faults 0\n0.0.0 1v1 hp=5\n0.1.0 0v1 hp=7\nalive 2\n") → ⊥
+not_second_first other =
+    let same = one_report two_spawns Handles _ _ one_asks_in_turn other in
+    let index : 48 ≡ 49 = ap (λ (text : List ℕ). get_or text 30 0) same in
+    omega (arith, index)
