@@ -98,6 +98,12 @@ most_at_once : script_of_text (codes "{\"components\":[],\"frames\":[[[{\"spawn_
 unfolding script_on_literals
 most_at_once = refl
 
+-- 32 bytes, with each kind of byte that a name may have
+longest_name : script_of_text (codes "{\"components\":[\"_23456789_abcdefghijklmnopqrstuv\"],\"frames\":[]}")
+    ≡ Ok (record { limits = default_limits; components = codes "_23456789_abcdefghijklmnopqrstuv" ∷ []; frames = [] })
+unfolding script_on_literals
+longest_name = refl
+
 -- the last value of a key counts
 last_value : script_of_text (codes "{\"components\":7,\"frames\":[],\"components\":[\"hp\"]}") ≡ Ok (record { limits = default_limits; components = hp; frames = [] })
 unfolding script_on_literals
@@ -132,6 +138,10 @@ slots_zero : script_of_text (codes "{\"slots\":0,\"components\":[],\"frames\":[]
 unfolding script_on_literals
 slots_zero = refl
 
+slots_above : script_of_text (codes "{\"slots\":4294967296,\"components\":[],\"frames\":[]}") ≡ refused_script script_cause.Slots
+unfolding script_on_literals
+slots_above = refl
+
 -- a number with an exponent is no whole number
 slots_with_exponent : script_of_text (codes "{\"slots\":1e3,\"components\":[],\"frames\":[]}") ≡ refused_script script_cause.Slots
 unfolding script_on_literals
@@ -148,6 +158,14 @@ component_twice = refl
 capital_letters : script_of_text (codes "{\"components\":[\"HP\"],\"frames\":[]}") ≡ refused_script script_cause.Components
 unfolding script_on_literals
 capital_letters = refl
+
+name_of_33 : script_of_text (codes "{\"components\":[\"_23456789_abcdefghijklmnopqrstuvw\"],\"frames\":[]}") ≡ refused_script script_cause.Components
+unfolding script_on_literals
+name_of_33 = refl
+
+empty_name : script_of_text (codes "{\"components\":[\"\"],\"frames\":[]}") ≡ refused_script script_cause.Components
+unfolding script_on_literals
+empty_name = refl
 
 without_frames : script_of_text (codes "{\"components\":[]}") ≡ refused_script script_cause.Frames
 unfolding script_on_literals
@@ -202,6 +220,18 @@ fraction = refl
 too_many : script_of_text (codes "{\"components\":[],\"frames\":[[[{\"spawn_many\":65537}]]]}") ≡ refused_operation 0 0 0 cause.Count
 unfolding script_on_literals
 too_many = refl
+
+removed_by_number : script_of_text (codes "{\"components\":[\"hp\"],\"frames\":[[[{\"remove\":0,\"on\":{\"each\":\"hp\"}}]]]}") ≡ refused_operation 0 0 0 cause.Component
+unfolding script_on_literals
+removed_by_number = refl
+
+each_unknown : script_of_text (codes "{\"components\":[\"hp\"],\"frames\":[[[{\"despawn\":{\"each\":\"mp\"}}]]]}") ≡ refused_operation 0 0 0 cause.Component
+unfolding script_on_literals
+each_unknown = refl
+
+unknown_target : script_of_text (codes "{\"components\":[],\"frames\":[[[{\"despawn\":{\"all\":\"hp\"}}]]]}") ≡ refused_operation 0 0 0 cause.Target
+unfolding script_on_literals
+unknown_target = refl
 
 two_targets : script_of_text (codes "{\"components\":[\"hp\"],\"frames\":[[[{\"despawn\":{\"each\":\"hp\",\"handle\":\"0v1\"}}]]]}") ≡ refused_operation 0 0 0 cause.Target
 unfolding script_on_literals
