@@ -13,7 +13,14 @@ fn main(rt: HostRuntime) -> ExitCode {
         Ok(words) => {
             let mut input = Counted::new(rt.stdin());
             let mut output = Counted::new(rt.stdout());
-            execute(&rt, rt.alloc(), &words, &mut input, &mut output, &mut errors)
+            execute(
+                &rt,
+                rt.alloc(),
+                &words,
+                &mut input,
+                &mut output,
+                &mut errors,
+            )
         }
         Err(error) => refuse_words(&error, &mut errors),
     };

@@ -25,7 +25,13 @@ const HELP: Ending<'static> = Ending {
 
 // Runs the program on these words and this input, and compares how it ends. Its output fails after `puts`
 // calls that succeed.
-fn ends(rt: &(impl Threads + Sync + Abort + AllocGlobal), words: &[&str], input: &str, puts: u64, ending: Ending) {
+fn ends(
+    rt: &(impl Threads + Sync + Abort + AllocGlobal),
+    words: &[&str],
+    input: &str,
+    puts: u64,
+    ending: Ending,
+) {
     let mut source = MemorySource::new(input.as_bytes(), 7, NEVER);
     let mut sink = MemorySink::new(rt.alloc(), puts);
     let mut errors = MemorySink::new(rt.alloc(), NEVER);

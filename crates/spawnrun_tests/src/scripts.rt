@@ -8,12 +8,15 @@ use std::test::Fail;
 use std::thread::Threads;
 
 // Two systems that spawn in one frame.
-const TWO_SPAWNERS: &str = r#"{"components":["hp"],"frames":[[[{"spawn":{"hp":5}}],[{"spawn":{"hp":7}}]]]}"#;
+const TWO_SPAWNERS: &str =
+    r#"{"components":["hp"],"frames":[[[{"spawn":{"hp":5}}],[{"spawn":{"hp":7}}]]]}"#;
 
 // A bulk with a name, and targets by name and by component.
-const TARGETS: &str = r#"{"components":["hp","mp"],"frames":[[[{"spawn_many":2,"with":{"hp":1},"as":"g"},{"insert":{"mp":4},"on":{"name":"g"}}]],[[{"remove":"hp","on":{"each":"hp"}}],[{"insert":{"hp":8},"on":{"each":"mp"}}]]]}"#;
+const TARGETS: &str =
+    r#"{"components":["hp","mp"],"frames":[[[{"spawn_many":2,"with":{"hp":1},"as":"g"},{"insert":{"mp":4},"on":{"name":"g"}}]],[[{"remove":"hp","on":{"each":"hp"}}],[{"insert":{"hp":8},"on":{"each":"mp"}}]]]}"#;
 
-const TARGETS_OUTPUT: &str = "frame 0 born 2 faults 0\nframe 1 born 0 faults 0\n0.0.0 0v1 hp=8 mp=4\n0.0.1 1v1 hp=8 mp=4\nalive 2\n";
+const TARGETS_OUTPUT: &str =
+    "frame 0 born 2 faults 0\nframe 1 born 0 faults 0\n0.0.0 0v1 hp=8 mp=4\n0.0.1 1v1 hp=8 mp=4\nalive 2\n";
 
 const TARGETS_BIRTHS: &str =
     "frame 0 born 2 faults 0\nframe 1 born 0 faults 0\n0.0.0 hp=8 mp=4\n0.0.1 hp=8 mp=4\nalive 2\n";
@@ -77,7 +80,14 @@ const WORKED: [(&str, &str); 7] = [
 #[test]
 fn worked_scripts(rt: HostRuntime) {
     for (script, output) in WORKED {
-        runs(&rt, 1, Show::Handles, script.as_bytes(), Status::Done, output);
+        runs(
+            &rt,
+            1,
+            Show::Handles,
+            script.as_bytes(),
+            Status::Done,
+            output,
+        );
     }
 }
 
@@ -102,7 +112,14 @@ const REFUSED: [(&str, &str); 5] = [
 #[test]
 fn no_script_is_refused_with_its_place(rt: HostRuntime) {
     for (script, line) in REFUSED {
-        runs(&rt, 1, Show::Handles, script.as_bytes(), Status::Refused, line);
+        runs(
+            &rt,
+            1,
+            Show::Handles,
+            script.as_bytes(),
+            Status::Refused,
+            line,
+        );
     }
 }
 
@@ -111,7 +128,14 @@ fn a_script_that_breaks_off_is_refused(rt: HostRuntime) {
     let script = TARGETS.as_bytes();
     for length in 0..script.len() {
         let (start, _) = script.split_at(length);
-        runs(&rt, 1, Show::Handles, start, Status::Refused, "refused json\n");
+        runs(
+            &rt,
+            1,
+            Show::Handles,
+            start,
+            Status::Refused,
+            "refused json\n",
+        );
     }
 }
 
@@ -120,14 +144,28 @@ fn deep_arrays_are_refused(rt: HostRuntime) -> Result<(), Fail> {
     let mut script = Vec::new(rt.alloc());
     script.resize(200, b'[')?;
     script.resize(400, b']')?;
-    runs(&rt, 1, Show::Births, &script, Status::Refused, "refused json\n");
+    runs(
+        &rt,
+        1,
+        Show::Births,
+        &script,
+        Status::Refused,
+        "refused json\n",
+    );
     Ok(())
 }
 
 #[test]
 fn names_are_utf8(rt: HostRuntime) {
     let script = b"{\"components\":[\"h\xffp\"],\"frames\":[]}";
-    runs(&rt, 1, Show::Births, script, Status::Refused, "refused json\n");
+    runs(
+        &rt,
+        1,
+        Show::Births,
+        script,
+        Status::Refused,
+        "refused json\n",
+    );
 }
 
 // Gives that many spaces, and then its end.
@@ -192,7 +230,14 @@ fn each_read_and_the_write_fails_in_turn(rt: HostRuntime) {
         assert!(rt; status == Status::Device);
     }
     let mut sink = MemorySink::new(rt.alloc(), 0);
-    let status = run(&rt, rt.alloc(), &mut EndlessSource, &mut sink, 1, Show::Births);
+    let status = run(
+        &rt,
+        rt.alloc(),
+        &mut EndlessSource,
+        &mut sink,
+        1,
+        Show::Births,
+    );
     assert!(rt; status == Status::Device);
 }
 

@@ -33,8 +33,16 @@ fn a_run_has_workers_and_shows(rt: HostRuntime) -> Result<(), Fail> {
         (["run"].as_slice(), 1, Show::Births),
         (["run", "--workers", "2"].as_slice(), 2, Show::Births),
         (["run", "--show", "handles"].as_slice(), 1, Show::Handles),
-        (["run", "--show=births", "--workers=64"].as_slice(), 64, Show::Births),
-        (["run", "--workers=8", "--show=handles"].as_slice(), 8, Show::Handles),
+        (
+            ["run", "--show=births", "--workers=64"].as_slice(),
+            64,
+            Show::Births,
+        ),
+        (
+            ["run", "--workers=8", "--show=handles"].as_slice(),
+            8,
+            Show::Handles,
+        ),
     ];
     for (words, workers, show) in cases {
         assert!(rt; command_line(rt.alloc(), words)? == Task::Run { workers, show });
@@ -81,7 +89,8 @@ fn faults_are_shown_by_clap(rt: HostRuntime) -> Result<(), Fail> {
         (
             ["run", "--show", "names"].as_slice(),
             "error: invalid value 'names' for '--show <WHAT>'\n  \
-             [possible values: births, handles]\n\n\
+             [possible values: births, handles]\n\n  \
+             tip: a similar value exists: 'handles'\n\n\
              For more information, try '--help'.\n",
         ),
         (
