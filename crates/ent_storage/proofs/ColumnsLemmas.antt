@@ -1,9 +1,9 @@
 -- What columns have at a place, and after each change.
-use Rattle.std.proofs.Common.{◌≡◌, ◌≢◌, ℕ, ℤ, zero, suc, ◌+◌, ◌-◌, ◌<◌, ◌≤◌, Bool, true, false, cond, T}
+use Rattle.std.proofs.Common.{◌≡◌, ◌≢◌, ℕ, ℤ, zero, suc, ◌+◌, ◌<◌, ◌≤◌, Bool, true, false, cond, T}
 use Rattle.std.proofs.Common.{◌⊎◌, inl, inr, List, [], ◌∷◌, ◌++◌, length, get_or, set, drop, Option}
-use Rattle.std.proofs.Common.{◌&&◌, Some, None, slice_get, is_some, refl, sym, ap, subst, ◌∙◌, arith}
-use Rattle.std.proofs.lemmas.Option.{same_Some, none-some}
-use Rattle.std.proofs.lemmas.List.{get_or_past, get_or_default, get_or-set_same, get_or-set_other}
+use Rattle.std.proofs.Common.{◌&&◌, Some, None, is_some, refl, sym, ap, subst, ◌∙◌, arith}
+use Rattle.std.proofs.lemmas.Option.{none-some}
+use Rattle.std.proofs.lemmas.List.{get_or_past, get_or-set_same, get_or-set_other}
 use Rattle.std.proofs.lemmas.Bool.{cases_lt, cases_eq}
 use Rattle.std.specs.declared.cmp.Ordering.TheVariants.{Less, Equal, Greater}
 use Rattle.std.specs.Ordering.{nat_cmp, eq_by_cmp, is_lt, MatchOrdering}
@@ -16,7 +16,6 @@ use Rattle.std.specs.FinMap.Entries.{below_all}
 use Rattle.ent_handle.specs.declared.component.ComponentId.{ComponentId}
 use Rattle.ent_handle.specs.Component.{component_cmp, component_cmp_total as total}
 use Rattle.ent_handle.specs.Component.{component_cmp-IsAntisymmetric as same}
-use Rattle.ent_storage.specs.Components.{Components}
 use Rattle.ent_storage.specs.SparseSet.{Values, Column, no_column, HasRoom, IsMovedDown}
 use Rattle.ent_storage.specs.Living.{column_at, value_at, with_value, items_from, components_at}
 use Rattle.ent_storage.proofs.Rising.{remove_absent}

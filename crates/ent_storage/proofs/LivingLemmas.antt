@@ -1,8 +1,8 @@
 -- The living entities that rows and columns stand for, after each change.
-use Rattle.std.proofs.Common.{◌≡◌, ◌≢◌, ℕ, ℤ, zero, suc, ◌+◌, ◌-◌, ◌<◌, ◌≤◌, Bool, true, false, cond}
-use Rattle.std.proofs.Common.{◌⊎◌, inl, inr, List, [], ◌∷◌, ◌++◌, map, length, get_or, set, Option}
+use Rattle.std.proofs.Common.{◌≡◌, ◌≢◌, ℕ, zero, suc, ◌+◌, ◌-◌, ◌<◌, ◌≤◌, false}
+use Rattle.std.proofs.Common.{◌⊎◌, inl, inr, List, [], ◌∷◌, ◌++◌, length, get_or, Option}
 use Rattle.std.proofs.Common.{Some, None, slice_get, option_and_then, take, drop, refl, sym, ap, subst, ◌∙◌, arith}
-use Rattle.std.proofs.lemmas.Option.{none-some, same_Some, slice_get-get_or, slice_get_past}
+use Rattle.std.proofs.lemmas.Option.{none-some, same_Some, slice_get_past}
 use Rattle.std.proofs.lemmas.Bool.{cases_lt, cases_eq}
 use Rattle.std.proofs.lemmas.List.{length_push, drop_all, append-nil, take_all}
 use Rattle.std.specs.Option.{option_map, option_map_or}
@@ -12,9 +12,9 @@ use Rattle.ent_handle.specs.declared.birth.Birth.{Birth}
 use Rattle.ent_handle.specs.declared.component.ComponentId.{ComponentId}
 use Rattle.ent_handle.specs.Handle.{Handle, handle_cmp}
 use Rattle.ent_storage.specs.Components.{Components}
-use Rattle.ent_storage.specs.SparseSet.{Column, Values, IsMovedDown}
+use Rattle.ent_storage.specs.SparseSet.{Column, IsMovedDown}
 use Rattle.ent_storage.specs.declared.living.Row.{Row}
-use Rattle.ent_storage.specs.Living.{LivingEntity, Living, IsMovedInto, IsWithin, IsValueAt, change_at}
+use Rattle.ent_storage.specs.Living.{LivingEntity, Living, IsMovedInto, IsWithin, change_at}
 use Rattle.ent_storage.specs.Living.{column_at, value_at, components_at, entities_from, born_at}
 use Rattle.ent_storage.specs.Indexed.{has_handle_at}
 use Rattle.ent_storage.proofs.ColumnsLemmas.{same_components, no_components, get_components}

@@ -1,12 +1,10 @@
 -- How many items set a component that is not there.
-use Rattle.std.proofs.Common.{◌≡◌, ℕ, None, Option, ℤ, ◌+◌, ◌<◌, ◌≤◌, Bool, true, false, cond, List, [], ◌∷◌}
-use Rattle.std.proofs.Common.{length, get_or, drop, Some, is_none, arith}
-use Rattle.std.specs.Ordering.{eq_by_cmp}
+use Rattle.std.proofs.Common.{◌≡◌, ℕ, None, Option, ℤ, ◌<◌, ◌≤◌, cond, List}
+use Rattle.std.proofs.Common.{length, get_or, is_none, arith}
 use Rattle.std.proofs.Common.{Result, Ok, Err, OnErr}
 use Rattle.std.specs.FinMap as map
 use Rattle.std.proofs.lemmas.List.Sums.{get_or-le-sum_by}
 use Rattle.ent_handle.specs.declared.component.ComponentId.{ComponentId}
-use Rattle.ent_handle.specs.Component.{component_cmp, component_cmp_total}
 use Rattle.ent_storage.specs.Components.{Components, missing}
 
 one_if : (o : Option ℤ) → o ≡ None → 1 ≤ cond (is_none o) 1 0

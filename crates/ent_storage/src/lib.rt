@@ -1,7 +1,8 @@
 //! Birth and components of living entities: a finite map from handles.
 //!
 //! `Storage` keeps the entities in one vector. An entity's *place* is where it stands there. Beside
-//! the vector an index has the place of each handle.
+//! the vector an index has the place of each handle, and for each component number a sparse set has
+//! the values, by places.
 #![tactic(auto)]
 
 mod columns;

@@ -1,12 +1,8 @@
 use Rattle.std.proofs.lemmas.List.{get_or_default}
-use Rattle.std.proofs.Common.{◌≡◌, ◌≢◌, ℕ, ℤ, ◌+◌, ◌<◌, ◌≤◌, length, get_or, set, drop, Some, None, is_some, refl, ap, sym, ◌∙◌, arith, rules}
-use Rattle.std.specs.Ordering.{nat_cmp}
+use Rattle.std.proofs.Common.{◌<◌, length, set, ap, sym, ◌∙◌, arith}
 use Rattle.std.specs.FinMap as map
-use Rattle.ent_handle.specs.declared.component.ComponentId.{ComponentId}
-use Rattle.ent_storage.specs.Components.{Components, with_items, missing}
-use Rattle.ent_storage.specs.SparseSet.{Column, Values, HasRoom, IsMovedDown, no_column}
-use Rattle.ent_storage.specs.Living.{column_at, value_at, components_at}
-use Rattle.ent_storage.proofs.ColumnsLemmas.{column_past, room_inside, components_insert, insert_others, insert_room, components_remove, remove_others, column_set, column_kept, column_pushed, taken_none, moved_none, get_components}
+use Rattle.ent_storage.specs.SparseSet.{Column, no_column}
+use Rattle.ent_storage.proofs.ColumnsLemmas.{components_remove, remove_others, column_set, column_kept, taken_none}
 use Rattle.ent_storage.proofs.columns.remove.Goals as goal
 
 pub returns-then-number-columns-clause-here : goal.returns-then-number-columns-clause-here

@@ -1,13 +1,10 @@
-use Rattle.std.proofs.Common.{◌≡◌, ◌≢◌, ℕ, ℤ, ◌+◌, ◌<◌, ◌≤◌, length, get_or, set, drop, Some, None, is_some, refl, ap, sym, subst, ◌∙◌, arith, rules, w64, SFits, to_z, of_z}
+use Rattle.std.proofs.Common.{ℤ, ap, sym, subst, ◌∙◌, rules, w64, SFits, to_z, of_z}
 use Rattle.std.proofs.lemmas.List.{get_or_default}
 use Rattle.std.proofs.lemmas.Int.{to_z-of_z}
-use Rattle.std.specs.Ordering.{nat_cmp}
 use Rattle.std.specs.FinMap as map
-use Rattle.ent_handle.specs.declared.component.ComponentId.{ComponentId}
-use Rattle.ent_storage.specs.Components.{Components, with_items, missing}
-use Rattle.ent_storage.specs.SparseSet.{Column, Values, HasRoom, IsMovedDown, no_column}
-use Rattle.ent_storage.specs.Living.{column_at, value_at, components_at}
-use Rattle.ent_storage.proofs.ColumnsLemmas.{column_past, room_inside, components_insert, insert_others, insert_room, components_remove, remove_others, column_set, column_kept, column_pushed, taken_none, moved_none, get_components}
+use Rattle.ent_storage.specs.SparseSet.{Column, Values, HasRoom, no_column}
+use Rattle.ent_storage.specs.Living.{column_at}
+use Rattle.ent_storage.proofs.ColumnsLemmas.{room_inside, column_set}
 use Rattle.ent_storage.proofs.columns.set.Goals as goal
 
 pub bounds-columns-item : goal.bounds-columns-item

@@ -1,4 +1,4 @@
-use Rattle.std.proofs.Common.{◌≡◌, ◌≢◌, ◌≤◌, ◌<◌, ℕ, length, drop, get_or}
+use Rattle.std.proofs.Common.{◌≡◌, ◌≢◌, ◌<◌, ℕ, length, drop, get_or}
 use Rattle.ent_handle.specs.declared.component.ComponentId.{ComponentId}
 use Rattle.std.proofs.Common.{ℤ}
 use Rattle.ent_storage.specs.Components.{with_items}

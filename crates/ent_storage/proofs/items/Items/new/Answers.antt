@@ -1,5 +1,4 @@
-use Rattle.std.proofs.Common.{◌≡◌, length, ap, sym, ◌∙◌, arith}
-use Rattle.ent_storage.specs.Living.{items_from, components_at}
+use Rattle.std.proofs.Common.{sym, ◌∙◌, arith}
 use Rattle.ent_storage.proofs.ColumnsLemmas.{entries_components, count_items}
 use Rattle.ent_storage.proofs.items.Items.new.Goals as goal
 

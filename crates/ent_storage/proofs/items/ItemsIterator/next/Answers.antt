@@ -1,10 +1,9 @@
-use Rattle.std.proofs.Common.{◌≡◌, ℕ, ℤ, ◌+◌, ◌≤◌, List, [], ◌∷◌, length, drop, Some, None, refl, ap, sym, ◌∙◌, arith, rules, SFits, w64}
+use Rattle.std.proofs.Common.{◌≡◌, ◌+◌, ◌∷◌, length, drop, refl, ap, sym, ◌∙◌, arith, rules, SFits, w64}
 use Rattle.std.proofs.lemmas.List.{length-drop, get_or_default}
 use Rattle.std.proofs.lemmas.Int.{to_z-of_z}
 use Rattle.std.specs.FinMap as map
-use Rattle.ent_handle.specs.declared.component.ComponentId.{ComponentId}
 use Rattle.ent_storage.specs.SparseSet.{Column, no_column}
-use Rattle.ent_storage.specs.Living.{items_from, column_at}
+use Rattle.ent_storage.specs.Living.{items_from}
 use Rattle.ent_storage.proofs.ColumnsLemmas.{items_none, items_first}
 use Rattle.ent_storage.proofs.items.ItemsIterator.next.Goals as goal
 

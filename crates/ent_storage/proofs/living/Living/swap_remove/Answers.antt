@@ -1,15 +1,6 @@
-use Rattle.std.proofs.Common.{◌≡◌, ◌≢◌, ℕ, ℤ, ◌+◌, ◌-◌, ◌<◌, ◌≤◌, List, [], ◌∷◌, ◌++◌, map, length, get_or, set, Some, None, slice_get, refl, ap, sym, subst, ◌∙◌, arith, rules, vec_len}
-use Rattle.std.specs.FinMap as finite
-use Rattle.ent_handle.specs.declared.component.ComponentId.{ComponentId}
-use Rattle.ent_handle.specs.declared.birth.Birth.{Birth}
-use Rattle.ent_handle.specs.Handle.{Handle}
-use Rattle.ent_storage.specs.Components.{Components, with_items, missing}
-use Rattle.ent_storage.specs.SparseSet.{Column, Values, HasRoom, IsMovedDown, no_column}
-use Rattle.ent_storage.specs.declared.living.Row.{Row}
-use Rattle.ent_storage.specs.Living.{Living, LivingEntity, column_at, value_at, components_at, entities_from, IsWithin, change_at, IsMovedInto, born_at, IsValueAt}
-use Rattle.ent_storage.proofs.ColumnsLemmas.{get_components, entries_components, same_components}
-use Rattle.ent_storage.proofs.LivingLemmas.{length_from, handle_from, birth_from, components_from, inside_from, same_from, changed_from, pushed_from, moved_from, moved_within, none_within, pushed_within, changed_within, written_back}
-use Rattle.ent_storage.proofs.Missing.{on_err}
+use Rattle.std.proofs.Common.{◌<◌, ap, arith, vec_len}
+use Rattle.ent_storage.specs.Living.{Living}
+use Rattle.ent_storage.proofs.LivingLemmas.{inside_from, moved_from, moved_within, written_back}
 use Rattle.ent_storage.proofs.living.Living.swap_remove.Goals as goal
 
 pub swap_remove-requires : goal.swap_remove-requires

@@ -1,4 +1,4 @@
-use Rattle.std.proofs.Common.{ℕ, ℤ, Some, ap, sym, ◌∙◌, rules, SFits, w64, length}
+use Rattle.std.proofs.Common.{ℕ, ℤ, Some, ap, sym, ◌∙◌, rules, SFits, w64}
 use Rattle.std.proofs.lemmas.Int.{to_z-of_z}
 use Rattle.std.specs.FinMap as map
 use Rattle.ent_storage.specs.SparseSet.{Column}

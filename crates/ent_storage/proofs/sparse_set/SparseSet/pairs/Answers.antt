@@ -1,4 +1,4 @@
-use Rattle.std.proofs.Common.{ℕ, ℤ, Some, ap, sym, ◌∙◌, rules, length, ◌<◌, arith, slice_get}
+use Rattle.std.proofs.Common.{Some, ap, sym, ◌∙◌}
 use Rattle.std.specs.FinMap as map
 use Rattle.ent_storage.specs.SparseSet.{Column}
 use Rattle.ent_storage.proofs.Dense.{has, at, once}

@@ -1,8 +1,6 @@
-use Rattle.std.proofs.Common.{◌≡◌, ℕ, ℤ, ◌<◌, length, get_or, set, Some, None, slice_get, refl, ap, sym, ◌∙◌, arith, w64, SFits, rules}
-use Rattle.std.proofs.lemmas.Int.{to_z-of_z}
-use Rattle.std.specs.Ordering.{nat_cmp}
+use Rattle.std.proofs.Common.{ℕ, ℤ, ap, ◌∙◌, arith}
 use Rattle.std.specs.FinMap as map
-use Rattle.ent_storage.specs.SparseSet.{Column, Values, IsDense, IsMovedDown}
+use Rattle.ent_storage.specs.SparseSet.{Column}
 use Rattle.ent_storage.proofs.Dense.{pair_here, renamed_dense, renamed_values, place_inside}
 use Rattle.ent_storage.proofs.sparse_set.SparseSet.relocate.Goals as goal
 

@@ -1,11 +1,10 @@
-use Rattle.std.proofs.Common.{◌≡◌, ℕ, ℤ, ◌+◌, ◌<◌, ◌≤◌, length, get_or, Some, None, slice_get, refl, ap, sym, ◌∙◌, arith}
+use Rattle.std.proofs.Common.{ℕ, ℤ, Some, refl, ap, sym, ◌∙◌, arith}
 use Rattle.std.proofs.Common.{SFits, w64, rules}
 use Rattle.std.proofs.lemmas.Int.{to_z-of_z}
 use Rattle.std.proofs.lemmas.Option.{slice_get-get_or}
-use Rattle.std.specs.Ordering.{nat_cmp}
 use Rattle.std.specs.FinMap as map
-use Rattle.ent_storage.specs.SparseSet.{Column, Values, IsDense}
-use Rattle.ent_storage.proofs.Dense.{IsFilled, filled, has, pair_here, removed_values, popped_dense}
+use Rattle.ent_storage.specs.SparseSet.{Column}
+use Rattle.ent_storage.proofs.Dense.{filled, has, pair_here, removed_values, popped_dense}
 use Rattle.ent_storage.proofs.Dense.{refilled_dense, in_sparse, removed_none}
 use Rattle.ent_storage.proofs.sparse_set.SparseSet.remove.Goals as goal
 

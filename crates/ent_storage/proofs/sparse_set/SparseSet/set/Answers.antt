@@ -1,8 +1,8 @@
-use Rattle.std.proofs.Common.{◌≡◌, ℕ, ℤ, ◌<◌, length, set, Some, None, refl, ap, sym, ◌∙◌, arith, SFits, w64, rules}
+use Rattle.std.proofs.Common.{◌≡◌, ◌<◌, length, None, refl, ap, sym, ◌∙◌, arith, SFits, w64, rules}
 use Rattle.std.proofs.lemmas.Int.{to_z-of_z}
 use Rattle.std.specs.Ordering.{nat_cmp}
 use Rattle.std.specs.FinMap as map
-use Rattle.ent_storage.specs.SparseSet.{Column, IsDense}
+use Rattle.ent_storage.specs.SparseSet.{Column}
 use Rattle.ent_storage.proofs.Dense.{pair_here, over_values, pushed_dense, pushed_values}
 use Rattle.ent_storage.proofs.sparse_set.SparseSet.set.Goals as goal
 

@@ -1,7 +1,6 @@
 use Rattle.std.proofs.Common.{◌<◌, length, min, Some, ap, ◌∙◌, arith}
 use Rattle.std.specs.FinMap as map
 use Rattle.ent_storage.specs.Living.{LivingEntity}
-use Rattle.ent_storage.specs.Components.{Components}
 use Rattle.ent_storage.specs.EntityMap.{EntityMap, Store}
 use Rattle.ent_storage.specs.Indexed.{entity_of}
 use Rattle.ent_storage.proofs.Indexed.{unplaced_from_test, entities_push}

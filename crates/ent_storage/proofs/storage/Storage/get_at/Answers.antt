@@ -1,4 +1,4 @@
-use Rattle.std.proofs.Common.{Option, slice_get, option_and_then, ap, sym, ◌∙◌, arith}
+use Rattle.std.proofs.Common.{Option, slice_get, option_and_then, ap, sym, ◌∙◌}
 use Rattle.std.specs.FinMap as map
 use Rattle.ent_storage.specs.EntityMap.{Entity, Store}
 use Rattle.ent_storage.specs.Indexed.{counted}

@@ -1,4 +1,4 @@
-use Rattle.std.proofs.Common.{◌≡◌, ◌<◌, length, get_or, min, Option, Some, option_and_then, refl, ap, sym, subst, ◌∙◌, arith}
+use Rattle.std.proofs.Common.{min, refl, ap, sym, ◌∙◌}
 use Rattle.std.specs.Option.{option_map}
 use Rattle.std.proofs.lemmas.Result.{err_from_is_err_and}
 use Rattle.std.specs.FinMap as map
@@ -6,7 +6,7 @@ use Rattle.ent_storage.specs.Components.{with_items}
 use Rattle.ent_storage.specs.EntityMap.{Entity, Store, components_of, with_components}
 use Rattle.ent_storage.specs.Indexed.{counted}
 use Rattle.ent_storage.proofs.Indexed.{some_entity, some_not_none, get_unplaced}
-use Rattle.ent_storage.proofs.Changed.{was, inside, found, changed_entities, changed_handles, changed_kept, length_changed}
+use Rattle.ent_storage.proofs.Changed.{inside, found, changed_entities, changed_handles, changed_kept, length_changed}
 use Rattle.ent_storage.proofs.storage.Storage.insert.Goals as goal
 
 -- the index has no place of the handle

@@ -1,8 +1,7 @@
-use Rattle.std.proofs.Common.{◌≡◌, ◌<◌, length, get_or, Some, Option, is_some, slice_get, refl, ap, sym, ◌∙◌, arith}
+use Rattle.std.proofs.Common.{Some, Option, slice_get, refl, ap, sym, ◌∙◌}
 use Rattle.std.specs.Option.{option_map}
 use Rattle.std.specs.FinMap as map
-use Rattle.ent_storage.specs.Components.{Components}
-use Rattle.ent_storage.specs.EntityMap.{Entity, Store, birth_of, components_of}
+use Rattle.ent_storage.specs.EntityMap.{Entity, Store}
 use Rattle.ent_storage.specs.Indexed.{counted}
 use Rattle.ent_storage.proofs.Indexed.{get_placed, some_entity}
 use Rattle.ent_storage.proofs.Placed.{placed_from_place, at_place}

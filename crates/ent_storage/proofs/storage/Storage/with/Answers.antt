@@ -1,4 +1,4 @@
-use Rattle.std.proofs.Common.{◌≡◌, ◌<◌, ℕ, ℤ, length, get_or, ap, pos}
+use Rattle.std.proofs.Common.{ap}
 use Rattle.ent_storage.specs.EntityMap.{Store}
 use Rattle.ent_storage.specs.Indexed.{counted}
 use Rattle.ent_storage.proofs.WithComponent.{pair_inside, lists_with}
