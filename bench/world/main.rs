@@ -94,7 +94,9 @@ fn issued(world: &mut World, entities: u32, stride: u32, kind: Kind) -> Vec<Comm
 
 fn print_line(world: &World, entities: u32, order: &str, kind: &str, commands: u32, seconds: f64) {
     let living = world.storage.len();
-    let sum: i64 = (0..entities + ROUNDS).map(|index| value_at(world, index)).sum();
+    let sum: i64 = (0..entities + ROUNDS)
+        .map(|index| value_at(world, index))
+        .sum();
     println!("{order}|{kind}|{commands}|{seconds:.9}|{living}|{sum}");
 }
 
@@ -104,12 +106,16 @@ fn value_at(world: &World, index: u32) -> i64 {
     value(VALUE) + value(MARK)
 }
 
+/// A world of that many entities, at least one. Each has a value, and the last one the mark too, so
+/// that what a storage keeps for the mark at each entity is there before anything is timed.
 fn filled(entities: u32) -> World {
     let mut world = World::default();
-    let bundle = bundle(VALUE, 7);
-    for ordinal in 0..entities {
+    let mut bundle = bundle(VALUE, 7);
+    for ordinal in 1..entities {
         world.spawn(ordinal, bundle.items()).expect("a slot");
     }
+    bundle.put(MARK, 1);
+    world.spawn(0, bundle.items()).expect("a slot");
     world
 }
 

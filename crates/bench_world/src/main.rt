@@ -10,6 +10,7 @@ mod work;
 
 use ent_alloc::Limits;
 use ent_handle::Birth;
+use ent_queue::Bundle;
 use ent_world::World;
 use std::rt::Clock;
 use std::time::Instant;
@@ -24,6 +25,7 @@ const FEW: u32 = 100;
 
 /// How far apart the entities of two rounds are.
 const RISING: u32 = 1;
+
 const SCATTERED: u32 = 7919;
 
 /// The commands of all kinds by themselves, in the order in which a round has them.
@@ -43,14 +45,14 @@ where
     R: Clock + Print + AllocGlobal,
 {
     for stride in [SCATTERED, RISING] {
-        let order = Work {
+        let work = Work {
             kind: Kind::All,
             entities,
             rounds,
             stride,
         };
-        print_whole(rt, order, timed)?;
-        print_apart(rt, order, timed)?;
+        print_whole(rt, work, timed)?;
+        print_apart(rt, work, timed)?;
     }
     Ok(())
 }
@@ -114,7 +116,11 @@ fn print_line<R>(rt: &R, world: &World, work: Work, seconds: f64, timed: bool) -
 where
     R: Print,
 {
-    let order = if work.stride == RISING { "rising" } else { "scattered" };
+    let order = if work.stride == RISING {
+        "rising"
+    } else {
+        "scattered"
+    };
     let kind = work.kind.name();
     let commands = work.commands();
     let living = world.len();
@@ -139,19 +145,27 @@ fn sum_of(world: &World, work: Work) -> i64 {
     sum
 }
 
-/// A world of that many entities, each with one component.
+/// A world of that many entities, at least one. Each has a value, and the last one the mark too, so
+/// that what a storage keeps for the mark at each entity is there before anything is timed.
 fn filled<R: AllocGlobal>(rt: &R, entities: u32) -> io::Result<World> {
     let mut world = World::new(rt.alloc(), Limits::default_limits());
-    let bundle = bundle(rt.alloc(), VALUE, 7);
-    for ordinal in 0..entities {
-        let birth = Birth {
-            frame: 0,
-            system: 0,
-            ordinal,
-        };
-        if world.spawn(birth, &bundle).is_err() {
-            return Err(io::ErrorKind::OutOfMemory.into());
-        }
+    let mut bundle = bundle(rt.alloc(), VALUE, 7);
+    for ordinal in 1..entities {
+        spawn(&mut world, ordinal, &bundle)?;
     }
+    let _ = bundle.put(MARK, 1);
+    spawn(&mut world, 0, &bundle)?;
     Ok(world)
+}
+
+fn spawn(world: &mut World, ordinal: u32, bundle: &Bundle) -> io::Result<()> {
+    let birth = Birth {
+        frame: 0,
+        system: 0,
+        ordinal,
+    };
+    match world.spawn(birth, bundle) {
+        Ok(_) => Ok(()),
+        Err(_) => Err(io::ErrorKind::OutOfMemory.into()),
+    }
 }

@@ -64,12 +64,7 @@ impl Work {
 }
 
 /// A queue of these commands.
-pub fn issued(
-    alloc: Global,
-    shared: &Shared,
-    reserver: &mut Reserver,
-    work: Work,
-) -> CommandQueue
+pub fn issued(alloc: Global, shared: &Shared, reserver: &mut Reserver, work: Work) -> CommandQueue
     requires { IsOf shared.now reserver.old }
     ensures { IsOf shared.now reserver.new }
 {
