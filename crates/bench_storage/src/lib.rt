@@ -41,22 +41,82 @@ pub extern "C" fn storage_get(alloc: Global, entities: u32, stride: u32, rounds:
     ensures { result ≤ entities }
 {
     let mut storage = Storage::new(alloc);
-    let _ = born_all(&mut storage, entities, 1);
-    let mut done = insert_all(&mut storage, entities, 1);
+    let mut done = fill(&mut storage, entities);
     for _ in 0..rounds {
         done = get_all(&storage, entities, stride);
     }
     done
 }
 
-/// Brings the entities to life in order and takes each out again.
+/// Brings the entities to life in order, gives each a component, and asks for the place of each in
+/// every round.
+#[unsafe(no_mangle)]
+pub extern "C" fn storage_place(alloc: Global, entities: u32, stride: u32, rounds: u32) -> u32
+    ensures { result ≤ entities }
+{
+    let mut storage = Storage::new(alloc);
+    let mut done = fill(&mut storage, entities);
+    for _ in 0..rounds {
+        done = place_all(&storage, entities, stride);
+    }
+    done
+}
+
+/// Brings the entities to life in order, gives each a component, and in every round asks for the
+/// place of each and reads its component there.
+#[unsafe(no_mangle)]
+pub extern "C" fn storage_get_at(alloc: Global, entities: u32, stride: u32, rounds: u32) -> u32
+    ensures { result ≤ entities }
+{
+    let mut storage = Storage::new(alloc);
+    let mut done = fill(&mut storage, entities);
+    for _ in 0..rounds {
+        done = get_at_all(&storage, entities, stride);
+    }
+    done
+}
+
+/// Brings the entities to life in order, gives each a component, and walks over the values of that
+/// component in every round.
+#[unsafe(no_mangle)]
+pub extern "C" fn storage_dense(alloc: Global, entities: u32, rounds: u32) -> u32 {
+    let mut storage = Storage::new(alloc);
+    let mut done = fill(&mut storage, entities);
+    for _ in 0..rounds {
+        done = count_values(storage.dense(VALUE));
+    }
+    done
+}
+
+/// Brings the entities to life in order, gives each a component, and takes each out again.
 #[unsafe(no_mangle)]
 pub extern "C" fn storage_despawn(alloc: Global, entities: u32, stride: u32) -> u32
     ensures { result ≤ entities }
 {
     let mut storage = Storage::new(alloc);
-    let _ = born_all(&mut storage, entities, 1);
+    let _ = fill(&mut storage, entities);
     despawn_all(&mut storage, entities, stride)
+}
+
+/// Brings the entities to life in order, gives each a component, and asks for the place of each and
+/// takes out who stands there.
+#[unsafe(no_mangle)]
+pub extern "C" fn storage_despawn_at(alloc: Global, entities: u32, stride: u32) -> u32
+    ensures { result ≤ entities }
+{
+    let mut storage = Storage::new(alloc);
+    let _ = fill(&mut storage, entities);
+    despawn_at_all(&mut storage, entities, stride)
+}
+
+/// Brings the entities to life in order and takes all out again.
+#[unsafe(no_mangle)]
+pub extern "C" fn storage_emptied(alloc: Global, entities: u32) -> u32
+    ensures { result ≤ entities }
+{
+    let mut storage = Storage::new(alloc);
+    let _ = born_all(&mut storage, entities, 1);
+    despawn_all(&mut storage, entities, 1)
 }
 
 /// Brings the entities to life in order, takes all out, and brings the next occupants of the slots
@@ -156,6 +216,50 @@ fn insert_all(storage: &mut Storage, entities: u32, stride: u32) -> u32
     done
 }
 
+/// Brings the entities to life in order and gives each a component.
+fn fill(storage: &mut Storage, entities: u32) -> u32
+    ensures { result ≤ entities }
+{
+    let _ = born_all(storage, entities, 1);
+    insert_all(storage, entities, 1)
+}
+
+fn place_all(storage: &Storage, entities: u32, stride: u32) -> u32
+    ensures { result ≤ entities }
+{
+    let mut done = 0;
+    for i in 0..entities {
+        if storage.place(handle(i, entities, stride)).is_some() {
+            done += 1;
+        }
+    }
+    done
+}
+
+fn get_at_all(storage: &Storage, entities: u32, stride: u32) -> u32
+    ensures { result ≤ entities }
+{
+    let mut done = 0;
+    for i in 0..entities {
+        let handle = handle(i, entities, stride);
+        if let Some(place) = storage.place(handle) {
+            if storage.get_at(place, handle, VALUE).is_some() {
+                done += 1;
+            }
+        }
+    }
+    done
+}
+
+/// How many of the values are not below zero.
+fn count_values(pairs: &[(usize, i64)]) -> u32 {
+    let mut count = 0u32;
+    for pair in pairs {
+        count = count.wrapping_add((pair.1 >= 0) as u32);
+    }
+    count
+}
+
 fn get_all(storage: &Storage, entities: u32, stride: u32) -> u32
     ensures { result ≤ entities }
 {
@@ -174,6 +278,20 @@ fn despawn_all(storage: &mut Storage, entities: u32, stride: u32) -> u32
     let mut done = 0;
     for i in 0..entities {
         if storage.despawn(handle(i, entities, stride)).is_ok() {
+            done += 1;
+        }
+    }
+    done
+}
+
+fn despawn_at_all(storage: &mut Storage, entities: u32, stride: u32) -> u32
+    ensures { result ≤ entities }
+{
+    let mut done = 0;
+    for i in 0..entities {
+        let handle = handle(i, entities, stride);
+        if let Some(place) = storage.place(handle) {
+            let _ = storage.despawn_at(place, handle);
             done += 1;
         }
     }
