@@ -1,13 +1,30 @@
 #!/bin/sh
 # Shows that a program which closes a `Shared` while it holds a reply of it doesn't compile: keeps a reply in a copy of
-# crates/own_threads, uses it after the close, and fails unless the compiler refuses the move. It needs `rt` and `git` on the path.
+# crates/own_threads, uses it after the close, and fails unless the compiler refuses the move. It proves nothing, and needs `rt`,
+# `git` and `patch` on the path.
 set -eu
 top=$(cd "$(dirname "$0")/.." && pwd)
 copy=$(mktemp -d)
 trap 'rm -rf "$copy"' EXIT
 
-git -C "$top" archive HEAD | tar -x -C "$copy"
+git -C "$top" archive HEAD crates crates.txt HANDLES | tar -x -C "$copy"
 cd "$copy/crates/own_threads"
-sed -i -e 's|^    a.at_once(&shared, 24)?;|    let reserved = shared.reserve_many(\&mut a.reserver, 24)?;|' \
-    -e 's|^    let mut born = .*|&\n    println!(rt; "{} held", reserved.len())?;|' src/main.rt
-rt try 2>&1 | grep 'cannot move out of `shared` because it is borrowed'
+patch --quiet -p1 <<'PATCH'
+--- a/src/main.rt
++++ b/src/main.rt
+@@ -3,5 +3,7 @@
+     // From now on a reserves after all that b has reserved.
+     a.meet(&shared, &mut b);
+-    a.at_once(&shared, 24)?;
++    let held = shared.reserve_many(&mut a.reserver, 24)?;
+ 
+-    end(rt, shared, a, b)
++    let given = end(rt, shared, a, b)?;
++    println!(rt; "{} held", held.len())?;
++    Ok(given)
+PATCH
+rt try >"$copy/said" 2>&1 || true
+grep 'cannot move out of `shared` because it is borrowed' "$copy/said" || {
+    cat "$copy/said"
+    exit 1
+}

@@ -2,16 +2,16 @@
 # Runs `spawnrun replay` under a limit on its address space, on schedules of a few lines that request more handles than fit. Each must end
 # with status 3, `memory` on standard error and nothing else, within two seconds, and an ordinary schedule must run as ever. The first
 # schedule requests 4,294,967,295 handles, which take 32 GiB: it must be refused under any limit in the memory that the program takes
-# anyway. The second requests a reply that fits and a line that doesn't. It needs `rt` and `timeout` on the path, and a shell with
-# `ulimit -v`.
+# anyway. The second requests a reply that fits and a line that doesn't. It needs `timeout` on the path, a shell with `ulimit -v`, and the
+# program as `.ci/run` or `prove.sh` built it. If it wasn't built, `rt`, which then proves it first.
 set -eu
 here=$(cd "$(dirname "$0")" && pwd)
 out=$(mktemp -d)
 trap 'rm -rf "$out"' EXIT
 
-cd "$here/../crates/spawnrun"
-rt run -- replay <"$here/one_caller.txt" >"$out/build" 2>&1
-program=$PWD/out/spawnrun
+program=$here/../crates/spawnrun/out/spawnrun
+[ -x "$program" ] || (cd "$here/../crates/spawnrun" && rt run >"$out/built" 2>&1)
+"$program" replay <"$here/one_caller.txt" >"$out/wanted"
 
 # replay KIBIBYTES SCHEDULE
 replay() {
@@ -36,7 +36,7 @@ for case in "65536 greatest" "4194304 greatest" "1048576 line"; do
 done
 
 replay 65536 "$here/one_caller.txt"
-if [ "$status" = 0 ] && cmp -s "$out/printed" stdout; then
+if [ "$status" = 0 ] && cmp -s "$out/printed" "$out/wanted"; then
     echo "an ordinary schedule under 65536 KiB: undisturbed"
 else
     echo "an ordinary schedule under 65536 KiB: wrong, status $status"

@@ -1,0 +1,132 @@
+#!/usr/bin/env python3
+"""Compares README and the pages with what they quote. It needs the program that the gate built, and runs at the top of the repository.
+
+Above each fenced block stands a line that says what the block is:
+
+    <!-- from FILE -->       it stands in that file: each run of its lines between lines `..`, whatever their indentation
+    <!-- prints COMMAND -->  that shell command prints the block; with lines `..`, each run of its lines
+    <!-- run -->             commands to run, which must end with status 0
+    <!-- ran by the gate --> commands that `.ci/run` runs in another way
+    <!-- picture -->         a drawing
+
+A block without such a line is refused, so nothing that a page quotes goes uncompared. Two tables are compared too: the steps of
+README's schedule with what the program prints, and the refusals of docs/SCRIPTS.md, script by script.
+"""
+
+import pathlib
+import re
+import subprocess
+import sys
+
+PROGRAM = "crates/spawnrun/out/spawnrun"
+MARK = re.compile(r"<!-- (from|prints|run|ran by the gate|picture)(?: (.*))? -->$")
+
+
+def runs_of(lines):
+    """The runs of lines between lines `..`, each without the indentation that its lines share."""
+    runs = [[]]
+    for line in lines:
+        if line.strip() == "..":
+            runs.append([])
+        else:
+            runs[-1].append(line)
+    return [unindented(it) for it in runs if any(it)]
+
+
+def unindented(lines):
+    depth = min((len(it) - len(it.lstrip()) for it in lines if it.strip()), default=0)
+    return [it[depth:].rstrip() for it in lines]
+
+
+def has_run(lines, run):
+    """Whether the run stands in these lines, at any indentation."""
+    size = len(run)
+    return any(unindented(lines[at : at + size]) == run for at in range(len(lines) - size + 1))
+
+
+def printed(command, given=None):
+    """What a shell command prints on standard output."""
+    how = {"shell": True, "input": given, "text": True, "capture_output": True}
+    return subprocess.run(command, **how).stdout.splitlines()
+
+
+def blocks_of(page):
+    """Each fenced block of a page: its first line's number, the line above it, and its own lines."""
+    above, block, at = "", None, 0
+    for number, line in enumerate(page.read_text().splitlines(), 1):
+        if line.lstrip().startswith("```"):
+            if block is None:
+                block, at = [], number
+            else:
+                yield at, above, block
+                block = above = None
+        elif block is not None:
+            block.append(line)
+        elif line.strip():
+            above = line
+        above = above or ""
+
+
+def fault_of(mark, block):
+    """What is wrong with a block under this line, or None."""
+    what = MARK.match(mark.strip())
+    if not what:
+        return "has no line that says what it is"
+    kind, object = what.groups()
+    if kind == "from":
+        lines = pathlib.Path(object).read_text().splitlines()
+        return None if all(has_run(lines, it) for it in runs_of(block)) else f"doesn't stand in {object}"
+    if kind == "prints":
+        lines = printed(object) or printed(f"{object} 2>&1")
+        same = all(has_run(lines, it) for it in runs_of(block)) if ".." in block else lines == block
+        return None if same else f"isn't what this prints: {object}"
+    if kind == "run":
+        ended = subprocess.run("\n".join(["set -e", *block]), shell=True, capture_output=True, text=True)
+        return f"ends with status {ended.returncode}: {ended.stderr[-300:]}" if ended.returncode else None
+    return None
+
+
+def cells_of(page, head):
+    """The cells of each row of the table that begins with this head."""
+    lines = page.read_text().splitlines()
+    rows = lines[lines.index(head) + 2 :]
+    end = next((at for at, it in enumerate(rows) if not it.startswith("|")), len(rows))
+    return [[it.strip() for it in row.strip("|").split("|")] for row in rows[:end]]
+
+
+def faults_of_schedule():
+    """The steps of README's schedule are the lines of its file, each with the line that it prints."""
+    cells = cells_of(pathlib.Path("README.md"), "| Line | Prints | |")
+    steps, said = [it[0].strip("`") for it in cells], [it[1].strip("`") for it in cells]
+    file = "examples/two_callers.txt"
+    if steps != pathlib.Path(file).read_text().splitlines():
+        yield f"README.md: its schedule is not {file}"
+    if said != printed(f"{PROGRAM} replay < {file}"):
+        yield "README.md: its schedule doesn't print what it says"
+
+
+def faults_of_refusals():
+    """Each script of the table of refusals is refused with its line."""
+    page = pathlib.Path("docs/SCRIPTS.md")
+    cells = cells_of(page, "| Line | What is wrong | A script that meets it | The way out |")
+    for line, _, script, *_ in cells:
+        if script and printed(f"{PROGRAM} run", script.strip("`")) != [line.strip("`")]:
+            yield f"{page}: {script} isn't refused with {line}"
+
+
+def main():
+    faults, count = [], 0
+    pages = [pathlib.Path("README.md"), *sorted(pathlib.Path("docs").rglob("*.md"))]
+    for page in pages:
+        for at, mark, block in blocks_of(page):
+            count += 1
+            fault = fault_of(mark, block)
+            if fault:
+                faults.append(f"{page}:{at}: the block {fault}")
+    faults += [*faults_of_schedule(), *faults_of_refusals()]
+    print(*faults, f"pages: {count} blocks compared, {len(faults)} faults", sep="\n")
+    return 1 if faults else 0
+
+
+if __name__ == "__main__":
+    sys.exit(main())

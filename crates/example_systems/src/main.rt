@@ -1,0 +1,50 @@
+//! How a system is written: from eight lines that may issue anything, over refusals, loops and lists
+//! of several types, to a promise that the frame hands on. `docs/WRITING_A_SYSTEM.md` explains it
+//! step by step.
+#![tactic(auto)]
+
+ghost use Rattle.std.specs.Prelude.{◌≡◌, ◌≤◌, length, IfOk, OnOk};
+ghost use Rattle.ent_runner.specs.Frame.{queue_at};
+
+mod by_hand;
+mod meadow;
+
+use anyhow::Result;
+use by_hand::plant_by_hand;
+use ent_alloc::Limits;
+use ent_runner::{FrameFault, FrameReport, NoGate, run_frame};
+use ent_world::World;
+use meadow::{Grow, Reap, Sow};
+use std::thread::Threads;
+
+fn main(rt: HostRuntime) -> Result<()> {
+    let world = World::new(rt.alloc(), Limits::default_limits());
+    let mut world = plant_by_hand(rt.alloc(), world)?;
+    println!(rt; "planted by hand: {} alive", world.len())?;
+    let _ = grow(&rt, &mut world)?;
+    println!(rt; "after a frame: {} alive", world.len())?;
+    let _ = reap(&rt, &mut world)?;
+    println!(rt; "reaped: {} alive", world.len())?;
+    Ok(())
+}
+
+/// A frame of two workers: a plant is sown, and all others grow.
+fn grow<R>(rt: &R, world: &mut World) -> Result<FrameReport, FrameFault>
+where
+    R: Threads + Sync + AllocGlobal,
+    requires flushed { world.old.allocator.asked ≡ 0 }
+    ensures flushed { OnOk result (world.new.allocator.asked ≡ 0) }
+{
+    run_frame(rt, rt.alloc(), world, &[Grow], 2, &NoGate)
+}
+
+/// A frame of the reaper alone. It hands on what the reaper promises: at most one command.
+fn reap<R>(rt: &R, world: &mut World) -> Result<FrameReport, FrameFault>
+where
+    R: Threads + Sync + AllocGlobal,
+    requires flushed { world.old.allocator.asked ≡ 0 }
+    ensures flushed { OnOk result (world.new.allocator.asked ≡ 0) }
+    ensures few { IfOk result (λ report. length (queue_at report.queues.items 0) ≤ 1) }
+{
+    run_frame(rt, rt.alloc(), world, &[Reap { ripe: 3 }], 2, &NoGate)
+}
