@@ -4,9 +4,11 @@ pub mod Chunks
 pub mod Few
 pub mod Results
 pub mod Rising
+pub mod Putting
 pub mod Queues
 pub mod Fronts
 pub mod Pushes
 pub mod Gaining
 pub mod Issuing
+pub mod Extending
 pub mod Rows

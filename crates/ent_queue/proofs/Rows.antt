@@ -1,12 +1,10 @@
 -- Worked queues, computed from the definitions alone.
 use Rattle.std.proofs.Common.{◌≡◌, refl, ℕ, ℤ, pos, neg_ℤ, ◌^◌, List, [], ◌∷◌, Ok, Err, arith}
 use Rattle.std.specs.List.{flat_map, sum_by}
-use Rattle.std.specs.FinMap.{put}
 use Rattle.ent_handle.specs.declared.component.ComponentId.{ComponentId}
-use Rattle.ent_handle.specs.Component.{component_cmp}
 use Rattle.ent_handle.specs.Handle.{Handle}
 use Rattle.ent_shared.specs.declared.refused.Refused.TheVariants.{Space, Quota}
-use Rattle.ent_queue.specs.Command.{Bundle, Command, Spawn, SpawnMany, Insert, Remove, Despawn}
+use Rattle.ent_queue.specs.Command.{bundle_of, Command, Spawn, SpawnMany, Insert, Remove, Despawn}
 use Rattle.ent_queue.specs.Command.{Refused}
 use Rattle.ent_queue.specs.Packing.{bytes_2, bytes_4, bytes_8, queue_bytes}
 use Rattle.ent_queue.specs.Unpacking.{commands_in, number_2, number_4, number_8}
@@ -29,13 +27,8 @@ number is value = (component number, value)
 abbrev minus : ℕ → ℤ
 minus n = neg_ℤ (pos n)
 
--- one component after the other is put
-abbrev putting : List (ComponentId × ℤ) → Bundle → Bundle
-putting [] items = items
-putting (item ∷ more) items = putting more (put component_cmp item.0 item.1 items)
-
 -- the numbers rise, and the last value under a number counts
-bundle_rises : putting (9 is pos 10 ∷ 3 is pos 20 ∷ 7 is pos 30 ∷ 1 is pos 40 ∷ 5 is pos 50 ∷ 3 is minus 60 ∷ []) []
+bundle_rises : bundle_of (9 is pos 10 ∷ 3 is pos 20 ∷ 7 is pos 30 ∷ 1 is pos 40 ∷ 5 is pos 50 ∷ 3 is minus 60 ∷ [])
     ≡ 1 is pos 40 ∷ 3 is minus 60 ∷ 5 is pos 50 ∷ 7 is pos 30 ∷ 9 is pos 10 ∷ []
 bundle_rises = refl
 

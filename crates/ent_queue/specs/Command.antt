@@ -1,9 +1,9 @@
 -- Commands: what a system asks of the world. A queue of them stands for their list.
-use Rattle.std.specs.Prelude.{◌≡◌, ℕ, ℤ, ◌^◌, ◌<◌, T, List, length}
+use Rattle.std.specs.Prelude.{◌≡◌, ℕ, ℤ, ◌^◌, ◌<◌, T, List, [], ◌∷◌, length}
 use Rattle.std.specs.List.{All}
 use Rattle.std.specs.Int.{w64}
 use Rattle.std.specs.Int.RustNames.{FitsSigned}
-use Rattle.std.specs.FinMap.{is_sorted}
+use Rattle.std.specs.FinMap.{is_sorted, put}
 use Rattle.ent_handle.specs.declared.component.ComponentId.{ComponentId}
 use Rattle.ent_handle.specs.Component.{component_cmp}
 use Rattle.ent_handle.specs.Handle.{Handle, IsHandle}
@@ -32,6 +32,15 @@ pub record IsItem (item : ComponentId × ℤ) : Type 0 where
 pub record IsBundle (items : Bundle) : Type 0 where
   pub rising : T (is_sorted component_cmp items)
   pub each : All IsItem items
+
+-- the bundle after each of the items was put into it, the first item first
+abbrev pub with_items : Bundle → List (ComponentId × ℤ) → Bundle
+with_items held [] = held
+with_items held (item ∷ items) = with_items (put component_cmp item.0 item.1 held) items
+
+-- the bundle of these components: of one that stands there twice the last value
+abbrev pub bundle_of : List (ComponentId × ℤ) → Bundle
+bundle_of items = with_items [] items
 
 -- the ranges of what a refusal says
 abbrev pub HasRange : Refusal → Type 0

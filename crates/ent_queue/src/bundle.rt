@@ -1,8 +1,10 @@
-ghost use Rattle.std.specs.Prelude.{◌≡◌, ◌^◌, ◌<◌, ◌≤◌, [], length, None, OnOk, OnErr, IfOk, IfErr};
+ghost use Rattle.std.specs.Prelude.{◌≡◌, ◌^◌, ◌<◌, ◌≤◌, [], length, reverse, None};
+ghost use Rattle.std.specs.Prelude.{OnOk, OnErr, IfOk, IfErr};
 ghost use Rattle.std.specs.List.{AllWithin, HoldsAt};
 ghost use Rattle.std.specs.FinMap.{put, find};
 ghost use Rattle.ent_handle.specs.Component.{component_cmp};
-ghost use Rattle.ent_queue.specs.Command.{IsBundle};
+ghost use Rattle.ent_handle.specs.declared.component.ComponentId.{ComponentId as Id};
+ghost use Rattle.ent_queue.specs.Command.{IsBundle, bundle_of};
 ghost use Rattle.ent_queue.specs.Place.{AreRising, IsPlaceOf, IsGapFor};
 
 use ent_handle::{ComponentId, Memory};
@@ -43,6 +45,25 @@ impl Bundle {
         Bundle {
             items: SmallVec::new(alloc),
         }
+    }
+
+    /// A bundle of these components, in any order. Of one that stands there twice the last value
+    /// counts.
+    ///
+    /// # Errors
+    ///
+    /// `Memory`, which needs more than four different components. Nothing is left behind.
+    pub fn of(alloc: Global, items: &[(ComponentId, i64)]) -> Result<Self, Memory>
+        ensures ok { IfOk result (λ bundle. bundle ≡ bundle_of items.now) }
+        ensures last { IfOk result (λ bundle. (id : Id) →
+            find component_cmp id bundle ≡ find component_cmp id (reverse items.now)) }
+        ensures memory { OnErr result (4 < length (bundle_of items.now)) }
+    {
+        let mut bundle = Bundle::new(alloc);
+        for (id, value) in items {
+            bundle.put(*id, *value)?;
+        }
+        Ok(bundle)
     }
 
     /// Puts the component's value, in place of the one that is there.

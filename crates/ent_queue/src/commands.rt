@@ -49,8 +49,8 @@ impl<'a> Commands<'a> {
     /// # Errors
     ///
     /// [`QueueFault::Memory`], and then neither the queue nor the reserver has changed. [`QueueFault::Space`] and
-    /// [`QueueFault::Quota`] as [`Shared::reserve`] answers them; the queue then keeps the refusal. After any of them the
-    /// bundle is dropped.
+    /// [`QueueFault::Quota`] as [`Shared::reserve`] answers them; the queue then keeps the refusal, and
+    /// [`QueueFault::or_memory`] lets a system go on. After any of them the bundle is dropped.
     pub fn spawn(&mut self, bundle: Bundle) -> Result<Handle, QueueFault>
         requires { IsReady self.old }
         ensures extends { Extends self.old self.new }

@@ -1,3 +1,6 @@
+ghost use Rattle.std.specs.Prelude.{◌≡◌, ◌≢◌, OnOk, OnErr};
+
+use ent_handle::Memory;
 use ent_shared::Refused;
 use std::alloc::AllocError;
 use thiserror::Error;
@@ -23,6 +26,30 @@ pub enum QueueFault {
     /// Memory ran out. Neither the queue nor the reserver has changed.
     #[error("out of memory")]
     Memory,
+}
+
+impl QueueFault {
+    /// What a system makes of the fault. A refusal stands in the queue, and the system goes on.
+    /// Only want of memory ends it:
+    ///
+    /// ```text
+    /// if let Err(fault) = commands.spawn(bundle) {
+    ///     fault.or_memory()?;
+    /// }
+    /// ```
+    ///
+    /// # Errors
+    ///
+    /// `Memory`, if that is the fault.
+    pub fn or_memory(self) -> Result<(), Memory>
+        ensures ok { OnOk result (self ≢ QueueFault.Memory) }
+        ensures err { OnErr result (self ≡ QueueFault.Memory) }
+    {
+        match self {
+            QueueFault::Space { .. } | QueueFault::Quota { .. } => Ok(()),
+            QueueFault::Memory => Err(Memory),
+        }
+    }
 }
 
 impl From<AllocError> for QueueFault {

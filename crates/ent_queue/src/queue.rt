@@ -1,10 +1,11 @@
 ghost use Rattle.std.specs.Prelude.{◌≡◌, ◌↔◌, ◌++◌, ◌∷◌, [], length, IsTrue, OnOk, OnErr};
-ghost use Rattle.std.specs.Prelude.{IfOk, IfErr, IsErrOf, Result, List};
+ghost use Rattle.std.specs.Prelude.{IfOk, IfErr, IsErrOf, Result, List, All};
 ghost use Rattle.ent_handle.specs.Handle.{Handle as HandleValue};
 ghost use Rattle.ent_shared.specs.declared.refused.Refused.{Refused as Refusal};
 ghost use Rattle.ent_shared.specs.Phase.{IsOf};
 ghost use Rattle.ent_shared.specs.Replies.{listed_alone};
-ghost use Rattle.ent_queue.specs.Command.{IsBundle, Spawn, SpawnMany, Insert, Remove, Despawn};
+ghost use Rattle.ent_queue.specs.Command.{IsBundle, IsCommand};
+ghost use Rattle.ent_queue.specs.Command.{Spawn, SpawnMany, Insert, Remove, Despawn};
 ghost use Rattle.ent_queue.specs.Packing.{queue_bytes};
 
 use crate::entries::Entries;
@@ -71,7 +72,11 @@ impl CommandQueue {
 
     /// The commands, in the order of issue. They are read in place.
     pub fn entries(&self) -> Entries<'_>
-        ensures { result ≡ self.now }
+        ensures entries { result ≡ self.now }
+
+        // Each command is in its ranges. A refusal for want of slots says twice how many handles
+        // were wanted, and the two numbers are equal.
+        ensures each { All IsCommand self.now }
     {
         Entries::new(self.count, &self.bytes)
     }

@@ -81,6 +81,7 @@ reservations_within start high (c ∷ cs) end asked up is f =
 pub record Lost (here start : Allocator) (count : ℕ) (records : List Record) (at floor : ℤ) : Type 0 where
   pub asked : ℕ
   pub some_asked : sum_by requested_by records ≤ asked
+  pub all_asked : length records ≡ count → sum_by requested_by records ≡ asked
   pub most_asked : sum_by (λ (r : Record). r.left) records + asked ≤ count * credit
   pub reached : All (λ (r : Record). cursor (after_loss start asked) ≤ℤ r.mark) records
   pub whole : length records ≡ count → cursor (after_loss start asked) ≡ cursor (history.after_history start (history_of records))
@@ -150,6 +151,7 @@ lost_at start count records at floor sound flushed few k which =
     record {
       asked = asked;
       some_asked = k.some requested;
+      all_asked = λ all_here. k.all all_here requested;
       most_asked = k.credit;
       reached = All-weaker (IsKept start at k.log) (λ (r : Record). cursor (after_loss start asked) ≤ℤ r.mark)
           (λ r kept. let mark = kept.marks.mark in let left = cursor-loss start sound flushed asked in omega (arith, ints)) records k.each;

@@ -217,7 +217,10 @@ impl Shared {
             ≤ self.count * credit }
         ensures reached { All (λ r. cursor result ≤ℤ r.own.mark) reservers.items }
 
-        // If all are here, the cursor is where `close` leaves it.
+        // If all are here, it counts what they have requested, and the cursor is where `close`
+        // leaves it.
+        ensures asked { length reservers.items ≡ self.count
+            → sum_by (λ r. requested_by r.own) reservers.items ≡ result.asked }
         ensures whole { length reservers.items ≡ self.count
             → cursor result
             ≡ cursor (after_history self.start (history_of (records_of reservers.items))) }

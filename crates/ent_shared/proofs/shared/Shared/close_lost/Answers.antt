@@ -50,6 +50,12 @@ returns-clause-least c =
     let own : sum_by requested_by (records_of c.args.reservers.items) ≡ sum_by (λ (r : Reserver). requested_by r.own) c.args.reservers.items = sum_by-records_of requested_by c.args.reservers.items in
     subst (λ (s : Allocator). sum_by (λ (r : Reserver). requested_by r.own) c.args.reservers.items ≤ s.asked) (sym (left_is c)) (subst (λ (n : ℕ). n ≤ l.asked) own l.some_asked)
 
+pub returns-clause-asked : goal.returns-clause-asked
+returns-clause-asked c = λ all_here.
+    let l = after c in
+    let own : sum_by requested_by (records_of c.args.reservers.items) ≡ sum_by (λ (r : Reserver). requested_by r.own) c.args.reservers.items = sum_by-records_of requested_by c.args.reservers.items in
+    sym own ∙ l.all_asked (length-records_of c.args.reservers.items ∙ all_here) ∙ ap (λ (s : Allocator). s.asked) (sym (left_is c))
+
 pub returns-clause-most : goal.returns-clause-most
 returns-clause-most c =
     let l = after c in
