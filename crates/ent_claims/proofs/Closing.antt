@@ -6,13 +6,13 @@ use Rattle.std.proofs.Common.{append-nil}
 use Rattle.std.proofs.Common.{⊎_elim, Option}
 use Rattle.std.proofs.lemmas.Option.{none-some}
 use Rattle.std.proofs.lemmas.Bool.{cases_lt}
-use Rattle.std.specs.Prelude.{true}
+use Rattle.std.specs.Prelude.{true, slice_get, Some}
 use Rattle.std.specs.List.{sum_by, All, Contains, range_with_len}
-use Rattle.std.proofs.lemmas.List.Elements.{All-head}
+use Rattle.std.proofs.lemmas.List.Elements.{All-head, All-tail}
 use Rattle.std.proofs.lemmas.List.Sums.{sum_by-cons, sum_by-append}
 use Rattle.ent_claims.specs.declared.record.Record.{Record}
 use Rattle.ent_claims.specs.Rule.{weigh, IsKept, IsClosed}
-use Rattle.ent_claims.specs.Claims.{Claimer, IsClaimedBy, HaveEnded}
+use Rattle.ent_claims.specs.Claims.{Claimer, IsClaimedBy, HaveEnded, AreFirst}
 use Rattle.ent_claims.proofs.Counting.{is, found_in, inside, in_range, weigh_same}
 
 abbrev pub records_of : List Claimer → List Record
@@ -92,9 +92,25 @@ all_claimed numbers claimed [] some each ended = absurd (omega arith)
 all_claimed numbers claimed (c ∷ cs) some each ended =
     (All-head (IsKept numbers claimed) c.own (records_of cs) each).ends (All-head (λ (x : Claimer). x.own.ended ≡ true) c cs ended)
 
+one_ended : (numbers claimed : ℕ) (cs : List Claimer) → All (IsKept numbers claimed) (records_of cs) → (k : ℕ) (c : Claimer) → slice_get cs k ≡ Some c → c.own.ended ≡ true → claimed ≡ numbers
+one_ended numbers claimed [] each k c at ended = absurd (none-some c at)
+one_ended numbers claimed (x ∷ cs) each zero c at ended =
+    let same : x ≡ c = ap (λ (o : Option Claimer). unwrap_or o x) at in
+    (All-head (IsKept numbers claimed) x.own (records_of cs) each).ends (ap (λ (y : Claimer). y.own.ended) same ∙ ended)
+one_ended numbers claimed (x ∷ cs) each (suc k) c at ended =
+    one_ended numbers claimed cs (All-tail (IsKept numbers claimed) x.own (records_of cs) each) k c at ended
+
 module _ (numbers workers : ℕ) (cs : List Claimer) (all : length cs ≡ workers) (closed : IsClosed numbers workers (records_of cs)) where
   weights : (f : ℕ → ℕ) → weight f cs ≡ sum_by f (range_with_len 0 closed.claimed)
   weights f = sym (weigh-records_of f cs) ∙ closed.all (length-records_of cs ∙ all) f
+
+  pub first : AreFirst numbers cs
+  first = record {
+    count = closed.claimed;
+    within = closed.within;
+    once = weigh_same (flat_map (λ (c : Claimer). c.own.claims) cs) (range_with_len 0 closed.claimed) (λ f. weight-flat_map f cs ∙ weights f);
+    whole = one_ended numbers closed.claimed cs closed.each;
+  }
 
   pub apart : (n j k : ℕ) → IsClaimedBy cs n j → IsClaimedBy cs n k → j ≡ k
   apart n j k first second =

@@ -1,6 +1,7 @@
 -- What contracts see of the claims and of their claimers.
 use Rattle.std.specs.Prelude.{◌≡◌, ℕ, ◌^◌, ◌<◌, ◌≤◌, List, [], ◌∷◌, All, AllPairs, Contains, length}
-use Rattle.std.specs.Prelude.{Bool, true, slice_get, Some, refl}
+use Rattle.std.specs.Prelude.{Bool, true, slice_get, Some, refl, flat_map, IsPermutation}
+use Rattle.std.specs.List.{range_with_len}
 use Rattle.std.specs.Coded.{Coded, code_by, coded×, coded_ℕ}
 use Rattle.atomic_table.specs.Seated.{TableId, table_id_coded}
 use Rattle.ent_claims.specs.contracts.record.Record as recorded
@@ -44,6 +45,15 @@ pub record IsOf (claims : Claims) (c : Claimer) : Type 0 where
 abbrev pub IsClaimedBy : List Claimer → ℕ → ℕ → Type 0
 IsClaimedBy claimers n k =
     (c : Claimer) × (slice_get claimers k ≡ Some c) × Contains c.own.claims n
+
+-- What these claimers have claimed together are the first numbers, each once.
+pub record AreFirst (numbers : ℕ) (claimers : List Claimer) : Type 0 where
+  pub count : ℕ
+  pub within : count ≤ numbers
+  pub once : IsPermutation (flat_map (λ (c : Claimer). c.own.claims) claimers) (range_with_len 0 count)
+  -- all of them, if one of the claimers has found that no number is left
+  pub whole : (k : ℕ) (c : Claimer) → slice_get claimers k ≡ Some c → c.own.ended ≡ true
+      → count ≡ numbers
 
 -- each of them has found that no number is left
 abbrev pub HaveEnded : List Claimer → Type 0

@@ -1,7 +1,7 @@
 ghost use Rattle.std.specs.Prelude.{◌≡◌, ◌<◌, ◌≤◌, ◌^◌, ℕ, [], ◌∷◌, ◌++◌, length, All, flat_map};
 ghost use Rattle.std.specs.Prelude.{IsPermutation, IfOk, IfSome, IfNone, None, true, false};
 ghost use Rattle.std.specs.List.{range_with_len};
-ghost use Rattle.ent_claims.specs.Claims.{IsOpen, IsOf, IsClaimedBy, HaveEnded};
+ghost use Rattle.ent_claims.specs.Claims.{IsOpen, IsOf, IsClaimedBy, HaveEnded, AreFirst};
 
 use crate::claimer::Claimer;
 use crate::rule::Opening;
@@ -104,6 +104,9 @@ impl Claims {
         // No number is claimed by two claimers.
         ensures apart { (n j k : ℕ) → IsClaimedBy claimers.items n j
             → IsClaimedBy claimers.items n k → j ≡ k }
+
+        // All claims together are the first numbers, each once.
+        ensures first { AreFirst self.numbers claimers.items }
 
         // If all claimers have ended, each number is claimed, and all claims together are the
         // numbers, each once.

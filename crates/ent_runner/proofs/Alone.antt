@@ -18,6 +18,7 @@ use Rattle.ent_world.specs.Sync.{sync}
 use Rattle.ent_world.specs.OpenWorld.{OpenWorld, View}
 use Rattle.ent_world.specs.declared.fault.Fault.{Fault}
 use Rattle.ent_runner.specs.Frame.{IsFrame, Ends, EndsInOrder, queue_at, commands_of, requests_by, first_call, calls_in_order, reserved_by, world_of}
+use Rattle.ent_runner.proofs.Lost.{ClosedAgain}
 use Rattle.ent_runner.proofs.Lists.{at_within, all_below}
 
 -- numbers that rise and fill a range are the range
@@ -99,12 +100,12 @@ pub same_world : (world : OpenWorld) (before : World) (closed : World) → close
 same_world world before closed is start phase entities = (λ i. record { allocator = start i; phase = phase i; entities = entities i }) ∙ is
 
 -- the sync of the queues of a frame ends it
-pub ends : {S : Type 0} (may : S → View → List Command → Type 0) (systems : List S) (workers : ℕ) (before : World) (world : OpenWorld) (closed after : World) (got : Option (Vec (List Command) Global)) (queues : Vec (List Command) Global) (seen : List (List Command)) (births : List Handle) (faults : List Fault)
-    → ((history : List Call) × IsLegal world.shared.start history × (closed ≡ reserved_by history (world_of world)) × IfSome got (λ q. IsFrame may systems world.shared.count (world_of world) q.items history))
+pub ends : {S : Type 0} (may leave : S → View → List Command → Type 0) (systems : List S) (workers : ℕ) (before : World) (world : OpenWorld) (closed after : World) (got : Option (Vec (List Command) Global)) (queues : Vec (List Command) Global) (seen : List (List Command)) (births : List Handle) (faults : List Fault)
+    → ClosedAgain may leave systems world closed got
     → got ≡ Some queues → world_of world ≡ before → world.shared.count ≡ workers → seen ≡ queues.items
     → after ≡ (sync seen closed).world → births ≡ born closed.allocator → faults ≡ (sync seen closed).faults
     → Ends may systems workers before queues.items after births faults
-ends may systems workers before world closed after got queues seen births faults r some same count shown ok born_are faults_are =
+ends may leave systems workers before world closed after got queues seen births faults r some same count shown ok born_are faults_are =
     let frame : IsFrame may systems world.shared.count (world_of world) queues.items r.0 = subst (λ (o : Option (Vec (List Command) Global)). IfSome o (λ q. IsFrame may systems world.shared.count (world_of world) q.items r.0)) some r.3 in
     let is : closed ≡ reserved_by r.0 before = r.2 ∙ ap (reserved_by r.0) same in
     record {

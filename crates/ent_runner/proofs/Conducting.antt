@@ -1,5 +1,5 @@
 -- What the workers have done together, once all of them are back.
-use Rattle.std.proofs.Common.{◌≡◌, ℕ, zero, suc, ◌+◌, ◌<◌, List, [], ◌∷◌, ◌++◌, length, map, get_or, refl, ap, sym, ◌∙◌, arith, subst, Option, Some, None, true, false, take, drop, reverse}
+use Rattle.std.proofs.Common.{◌≡◌, ℕ, zero, suc, ◌+◌, ◌<◌, ◌≤◌, List, [], ◌∷◌, ◌++◌, length, map, get_or, refl, ap, sym, ◌∙◌, arith, subst, Option, Some, None, true, false, take, drop, reverse}
 use Rattle.std.specs.Prelude.{slice_get, replicate, IsSome, IfSome}
 use Rattle.std.proofs.Common.{Vec, Global}
 use Rattle.std.specs.List.{All, AllPairs, flat_map, range_with_len}
@@ -16,17 +16,18 @@ use Rattle.ent_shared.specs.Record.{opened, opened_records}
 use Rattle.ent_shared.specs.Phase.{Shared, Reserver, IsOf, records_of}
 use Rattle.ent_shared.specs.Order.{reservations_of, history_of, Respects}
 use Rattle.ent_queue.specs.Command.{Command}
+use Rattle.ent_queue.specs.Reserving.{Gains}
 use Rattle.ent_world.specs.World.{World}
 use Rattle.ent_world.specs.OpenWorld.{OpenWorld, View}
-use Rattle.ent_claims.specs.Claims.{Claims, Claimer, HaveEnded, IsOf as IsClaimerOf}
+use Rattle.ent_claims.specs.Claims.{Claims, Claimer, HaveEnded, AreFirst, IsOf as IsClaimerOf}
 use Rattle.ent_runner.specs.declared.worker.Issued.{Issued}
 use Rattle.ent_runner.specs.declared.worker.Worker.{Worker}
-use Rattle.ent_runner.specs.Frame.{IsFrame, view_of, world_of, reserved_by}
-use Rattle.ent_runner.specs.Worker.{HasWorked, HaveWorked, HasClaimed, IsUnused, IsFresh, systems_of, all_records}
+use Rattle.ent_runner.specs.Frame.{IsFrame, IsBrokenOff, MayIssue, MayHaveIssued, view_of, world_of, reserved_by}
+use Rattle.ent_runner.specs.Worker.{HasWorked, HaveWorked, HaveRunFirst, HasClaimed, IsUnused, IsFresh, systems_of, commands_in, all_records}
 use Rattle.ent_runner.specs.Placing.{placed}
 use Rattle.ent_runner.proofs.Lists.{all_from_each, each_of_all, mapped_at, same_flat}
 use Rattle.ent_runner.proofs.Placed.{length_placed}
-use Rattle.ent_runner.proofs.Framed.{Did, frame_is, full}
+use Rattle.ent_runner.proofs.Framed.{Did, frame_is, broken_off, full}
 
 -- a slice of the same length that was written back
 pub written_back : {X : Type 0} (n : ℕ) (old new : List X) → n ≡ length old → length new ≡ length old → take n (new ++ drop (length new) old) ≡ new
@@ -51,11 +52,17 @@ pub records_are : (ws : List Worker) → records_of (map (λ (w : Worker). w.res
 records_are [] = refl
 records_are (w ∷ ws) = ap (λ rs. w.reserver.own ∷ rs) (records_are ws)
 
-module _ {S : Type 0} (may : S → View → List Command → Type 0) (systems : List S) (world : OpenWorld) (claims : Claims) where
+-- what the worker of this number gained, and what holds of each queue that it kept
+record Gained (P : Issued → Type 0) (world : OpenWorld) (k : ℕ) (w : Worker) : Type 0 where
+  pub gains : Gains (opened world.shared.start k) (commands_in w.issued.items) w.reserver.own
+  pub each : All P w.issued.items
+  pub claims : systems_of w.issued.items ≡ w.claimer.own.claims
+
+module _ {S : Type 0} (may leave : S → View → List Command → Type 0) (systems : List S) (world : OpenWorld) (claims : Claims) where
   -- each began as it was opened
   pub have_worked : (view : View) (old team : List Worker) → view ≡ view_of (world_of world) → all_records old ≡ opened_records world.shared.start 0 world.shared.count → length old ≡ world.shared.count → length team ≡ length old
-      → ((k : ℕ) (d : Worker) → k < length old → HasWorked may world.shared claims systems view (get_or old k d).reserver.own (get_or team k d))
-      → HaveWorked may systems world claims team
+      → ((k : ℕ) (d : Worker) → k < length old → HasWorked may leave world.shared claims systems view (get_or old k d).reserver.own (get_or team k d))
+      → HaveWorked may leave systems world claims team
   have_worked view old team seen unused many back each = record {
     count = back ∙ many;
     each = λ k w at.
@@ -64,53 +71,64 @@ module _ {S : Type 0} (may : S → View → List Command → Type 0) (systems : 
         let f : Worker → Record = λ (w : Worker). w.reserver.own in
         let began : (get_or old k w).reserver.own ≡ opened world.shared.start k =
         sym (get_or-map f old k w (f w) within) ∙ (ap (λ rs. get_or rs k (f w)) unused ∙ (opened_at world.shared.start 0 world.shared.count k (f w) less ∙ ap (opened world.shared.start) (omega arith))) in
-        subst (λ v. HasWorked may world.shared claims systems v (opened world.shared.start k) w) seen
-        (subst (λ b. HasWorked may world.shared claims systems view b w) began
-        (subst (HasWorked may world.shared claims systems view (get_or old k w).reserver.own) (get_or_from_slice_get team k w w at) (each k w within)));
+        subst (λ v. HasWorked may leave world.shared claims systems v (opened world.shared.start k) w) seen
+        (subst (λ b. HasWorked may leave world.shared claims systems view b w) began
+        (subst (HasWorked may leave world.shared claims systems view (get_or old k w).reserver.own) (get_or_from_slice_get team k w w at) (each k w within)));
   }
 
-  module _ (team : List Worker) (done : HaveWorked may systems world claims team) (numbers : claims.numbers ≡ length systems) where
+  module _ (team : List Worker) (done : HaveWorked may leave systems world claims team) (numbers : claims.numbers ≡ length systems) where
     pub all_claimed : All (HasClaimed world.shared claims) team
     all_claimed = all_from_each (HasClaimed world.shared claims) team (λ k w at.
         let d = done.each k w at in record {
           reserver = d.reserver;
           claimer = d.claimer;
           inside = subst (λ n. All (λ (i : Issued). i.system < n) w.issued.items) (sym numbers) d.inside;
-          ran = λ goes. (d.ran goes).claims;
+          ran = d.ran_some.claims;
           ended = d.ended;
         })
 
-    module _ (going : All (λ (w : Worker). w.stopped ≡ false) team)
-        (once : IsPermutation (flat_map (λ (w : Worker). systems_of w.issued.items) team) (range_with_len 0 claims.numbers))
-      where
-        goes : (k : ℕ) (w : Worker) → slice_get team k ≡ Some w → w.stopped ≡ false
-        goes k w at = each_of_all (λ (w : Worker). w.stopped ≡ false) team k w going at
+    module _ (P : Issued → Type 0) (each : (k : ℕ) (w : Worker) → slice_get team k ≡ Some w → Gained P world k w) where
+      did : (k : ℕ) (r : Record) (mine : List Issued) → slice_get (all_records team) k ≡ Some r → slice_get (map issued_by team) k ≡ Some mine → Did P (world_of world) k r mine
+      did k r mine at_r at_mine =
+          let two = mapped_at (λ (w : Worker). w.reserver.own) team k r at_r in
+          let w : Worker = two.0 in
+          let three = mapped_at issued_by team k mine at_mine in
+          let same_w : three.0 ≡ w = let e = three.1 in let f = two.1 in cc in
+          let is_mine : w.issued.items ≡ mine = ap issued_by (sym same_w) ∙ three.2 in
+          let d = done.each k w two.1 in
+          let g = each k w two.1 in
+          subst (λ is. Did P (world_of world) k r is) is_mine
+          (subst (λ r. Did P (world_of world) k r w.issued.items) two.2
+          (record { gains = g.gains; each = g.each; rising = subst (AllPairs (λ m n. m < n)) (sym g.claims) d.claimer.rises }))
 
-        each_once : IsPermutation (flat_map systems_of (map issued_by team)) (range_with_len 0 (length systems))
-        each_once = subst (λ ns. IsPermutation ns (range_with_len 0 (length systems))) (sym (flat_map-map systems_of issued_by team)) (subst (λ m. IsPermutation (flat_map (λ (w : Worker). systems_of w.issued.items) team) (range_with_len 0 m)) numbers once)
+    mine_flat : flat_map (λ mine. mine) (map issued_by team) ≡ flat_map issued_by team
+    mine_flat = flat_map-map (λ mine. mine) issued_by team
 
-        did : (k : ℕ) (r : Record) (mine : List Issued) → slice_get (all_records team) k ≡ Some r → slice_get (map issued_by team) k ≡ Some mine → Did may systems (world_of world) k r mine
-        did k r mine at_r at_mine =
-            let two = mapped_at (λ (w : Worker). w.reserver.own) team k r at_r in
-            let w : Worker = two.0 in
-            let three = mapped_at issued_by team k mine at_mine in
-            let same_w : three.0 ≡ w = let e = three.1 in let f = two.1 in cc in
-            let is_mine : w.issued.items ≡ mine = ap issued_by (sym same_w) ∙ three.2 in
-            let d = done.each k w two.1 in
-            let ran = d.ran (goes k w two.1) in
-            subst (λ is. Did may systems (world_of world) k r is) is_mine
-            (subst (λ r. Did may systems (world_of world) k r w.issued.items) two.2
-            (record { gains = ran.gains; each = ran.each; rising = subst (AllPairs (λ m n. m < n)) (sym ran.claims) d.claimer.rises }))
+    systems_flat : flat_map systems_of (map issued_by team) ≡ flat_map (λ (w : Worker). systems_of w.issued.items) team
+    systems_flat = flat_map-map systems_of issued_by team
 
-        pub is_frame : (queues : List (List Command)) → IsLegal world.shared.start (history_of (all_records team)) → All (Respects (reservations_of (all_records team))) (all_records team)
-            → map Some queues ≡ placed (flat_map (λ (w : Worker). w.issued.items) team) (replicate claims.numbers None)
-            → IsFrame may systems world.shared.count (world_of world) queues (history_of (all_records team))
-        is_frame queues legal respects places =
-            frame_is may systems (world_of world) world.shared.count (all_records team) (map issued_by team) queues
-            (length-map team (λ (w : Worker). w.reserver.own) ∙ done.count)
-            (length-map team issued_by ∙ done.count)
-            did each_once legal respects
-            (places ∙ (ap (λ n. placed (flat_map issued_by team) (replicate n None)) numbers ∙ ap (λ is. placed is (replicate (length systems) None)) (sym (flat_map-map (λ mine. mine) issued_by team))))
+    module _ (legal : IsLegal world.shared.start (history_of (all_records team))) (respects : All (Respects (reservations_of (all_records team))) (all_records team)) where
+      pub is_frame : All (λ (w : Worker). w.stopped ≡ false) team
+          → IsPermutation (flat_map (λ (w : Worker). systems_of w.issued.items) team) (range_with_len 0 claims.numbers)
+          → (queues : List (List Command)) → map Some queues ≡ placed (flat_map (λ (w : Worker). w.issued.items) team) (replicate claims.numbers None)
+          → IsFrame may systems world.shared.count (world_of world) queues (history_of (all_records team))
+      is_frame going once queues places =
+          let P : Issued → Type 0 = λ (i : Issued). MayIssue may systems (view_of (world_of world)) i.system i.queue in
+          frame_is may systems (world_of world) world.shared.count (all_records team) (map issued_by team)
+          (length-map team (λ (w : Worker). w.reserver.own) ∙ done.count) (length-map team issued_by ∙ done.count) legal respects queues
+          (did P (λ k w at. let ran = (done.each k w at).ran (each_of_all (λ (w : Worker). w.stopped ≡ false) team k w going at) in record { gains = ran.gains; each = ran.each; claims = ran.claims }))
+          (subst (λ ns. IsPermutation ns (range_with_len 0 (length systems))) (sym systems_flat) (subst (λ m. IsPermutation (flat_map (λ (w : Worker). systems_of w.issued.items) team) (range_with_len 0 m)) numbers once))
+          (places ∙ (ap (λ n. placed (flat_map issued_by team) (replicate n None)) numbers ∙ ap (λ is. placed is (replicate (length systems) None)) (sym mine_flat)))
+
+      pub is_broken_off : HaveRunFirst claims.numbers team → IsBrokenOff may leave systems world.shared.count (world_of world) (history_of (all_records team))
+      is_broken_off first =
+          let P : Issued → Type 0 = λ (i : Issued). MayHaveIssued may leave systems (view_of (world_of world)) i.system i.queue in
+          broken_off may systems (world_of world) world.shared.count (all_records team) (map issued_by team)
+          (length-map team (λ (w : Worker). w.reserver.own) ∙ done.count) (length-map team issued_by ∙ done.count) legal respects leave
+          first.count (subst (λ n. first.count ≤ n) numbers first.within)
+          (did P (λ k w at. let ran = (done.each k w at).ran_some in record { gains = ran.gains; each = ran.each; claims = ran.claims }))
+          (λ k mine at. let there = mapped_at issued_by team k mine at in subst (AllPairs (λ (i later : Issued). MayIssue may systems (view_of (world_of world)) i.system i.queue)) there.2 (done.each k there.0 there.1).ran_some.ended)
+          (subst (λ ns. IsPermutation ns (range_with_len 0 first.count)) (sym systems_flat) first.once)
 
 -- What is known once all claims are closed.
 module _ (shared : Shared) (claims : Claims) (team : List Worker) (each : All (HasClaimed shared claims) team) where
@@ -123,21 +141,20 @@ module _ (shared : Shared) (claims : Claims) (team : List Worker) (each : All (H
   pub all_inside : All (λ (w : Worker). All (λ (i : Issued). i.system < claims.numbers) w.issued.items) team
   all_inside = All-weaker (HasClaimed shared claims) (λ (w : Worker). All (λ (i : Issued). i.system < claims.numbers) w.issued.items) (λ w d. d.inside) team each
 
+  -- the systems that they ran are those that they claimed
+  pub ran_claims : flat_map (λ (w : Worker). systems_of w.issued.items) team ≡ flat_map (λ (c : Claimer). c.own.claims) (map (λ (w : Worker). w.claimer) team)
+  ran_claims =
+      same_flat (λ (w : Worker). systems_of w.issued.items) (λ (w : Worker). w.claimer.own.claims) team (λ k d within. (each k d within).ran)
+      ∙ sym (flat_map-map (λ (c : Claimer). c.own.claims) (λ (w : Worker). w.claimer) team)
+
   module _ (going : All (λ (w : Worker). w.stopped ≡ false) team)
       (once : HaveEnded (map (λ (w : Worker). w.claimer) team) → IsPermutation (flat_map (λ (c : Claimer). c.own.claims) (map (λ (w : Worker). w.claimer) team)) (range_with_len 0 claims.numbers))
     where
       ended : HaveEnded (map (λ (w : Worker). w.claimer) team)
       ended = All-map (λ (c : Claimer). c.own.ended ≡ true) (λ (w : Worker). w.claimer) team (λ k d within. (each k d within).ended (going k d within))
 
-      ran_claims : All (λ (w : Worker). systems_of w.issued.items ≡ w.claimer.own.claims) team
-      ran_claims k d within = (each k d within).ran (going k d within)
-
       once_each : IsPermutation (flat_map (λ (w : Worker). systems_of w.issued.items) team) (range_with_len 0 claims.numbers)
-      once_each =
-          let same : flat_map (λ (w : Worker). systems_of w.issued.items) team ≡ flat_map (λ (c : Claimer). c.own.claims) (map (λ (w : Worker). w.claimer) team) =
-          same_flat (λ (w : Worker). systems_of w.issued.items) (λ (w : Worker). w.claimer.own.claims) team ran_claims
-          ∙ sym (flat_map-map (λ (c : Claimer). c.own.claims) (λ (w : Worker). w.claimer) team) in
-          subst (λ ns. IsPermutation ns (range_with_len 0 claims.numbers)) (sym same) (once ended)
+      once_each = subst (λ ns. IsPermutation ns (range_with_len 0 claims.numbers)) (sym ran_claims) (once ended)
 
 -- the same of what was seen and handed in
 pub once_closed : (shared : Shared) (claims : Claims) (team : List Worker) → All (HasClaimed shared claims) team → (seen : List Worker) → seen ≡ team → All (λ (w : Worker). w.stopped ≡ false) seen → (claimers : List Claimer) → claimers ≡ map (λ (w : Worker). w.claimer) team
@@ -146,6 +163,13 @@ pub once_closed : (shared : Shared) (claims : Claims) (team : List Worker) → A
 once_closed shared claims team each seen same going claimers theirs once =
     once_each shared claims team each (subst (All (λ (w : Worker). w.stopped ≡ false)) same going)
     (λ ended. subst (λ (cs : List Claimer). IsPermutation (flat_map (λ (c : Claimer). c.own.claims) cs) (range_with_len 0 claims.numbers)) theirs (once (subst HaveEnded (sym theirs) ended)))
+
+pub first_closed : (shared : Shared) (claims : Claims) (team : List Worker) → All (HasClaimed shared claims) team → (claimers : List Claimer) → claimers ≡ map (λ (w : Worker). w.claimer) team → AreFirst claims.numbers claimers → HaveRunFirst claims.numbers team
+first_closed shared claims team each claimers theirs first = record {
+  count = first.count;
+  within = first.within;
+  once = subst (λ ns. IsPermutation ns (range_with_len 0 first.count)) (sym (ran_claims shared claims team each ∙ ap (flat_map (λ (c : Claimer). c.own.claims)) (sym theirs))) first.once;
+}
 
 -- each place has a queue
 pub all_full : (claims : Claims) (team : List Worker) → IsPermutation (flat_map (λ (w : Worker). systems_of w.issued.items) team) (range_with_len 0 claims.numbers) → All IsSome (placed (flat_map (λ (w : Worker). w.issued.items) team) (replicate claims.numbers None))
@@ -176,14 +200,14 @@ all_ready shared claims old given fresh reservers own claimers theirs unused emp
     λ k d within. (one k d within, two k d within, record { unused = three k d within; issued = empty k d within })
 
 -- the queues, if there are any, are those of a frame
-pub framed : {S : Type 0} (may : S → View → List Command → Type 0) (systems : List S) (world : OpenWorld) (claims : Claims) (team : List Worker) → HaveWorked may systems world claims team → claims.numbers ≡ length systems → (queues : Option (Vec (List Command) Global))
+pub framed : {S : Type 0} (may leave : S → View → List Command → Type 0) (systems : List S) (world : OpenWorld) (claims : Claims) (team : List Worker) → HaveWorked may leave systems world claims team → claims.numbers ≡ length systems → (queues : Option (Vec (List Command) Global))
     → IsLegal world.shared.start (history_of (all_records team)) → All (Respects (reservations_of (all_records team))) (all_records team)
     → IfSome queues (λ q. All (λ (w : Worker). w.stopped ≡ false) team)
     → IfSome queues (λ q. IsPermutation (flat_map (λ (w : Worker). systems_of w.issued.items) team) (range_with_len 0 claims.numbers))
     → IfSome queues (λ q. map Some q.items ≡ placed (flat_map (λ (w : Worker). w.issued.items) team) (replicate claims.numbers None))
     → IfSome queues (λ q. IsFrame may systems world.shared.count (world_of world) q.items (history_of (all_records team)))
-framed may systems world claims team done numbers None legal respects going once places = tt
-framed may systems world claims team done numbers (Some q) legal respects going once places = is_frame may systems world claims team done numbers going once q.items legal respects places
+framed may leave systems world claims team done numbers None legal respects going once places = tt
+framed may leave systems world claims team done numbers (Some q) legal respects going once places = is_frame may leave systems world claims team done numbers legal respects going once q.items places
 
 -- the world that is closed has changed by the history alone
 pub closed_by : (world : OpenWorld) (after : World) (records same : List Record) → records ≡ same → after.phase ≡ world.phase → after.entities ≡ world.entities → after.allocator ≡ after_history world.shared.start (history_of records) → after ≡ reserved_by (history_of same) (world_of world)

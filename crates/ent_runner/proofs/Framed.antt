@@ -1,10 +1,10 @@
 -- What the workers did, their histories and the queues in their places are a frame.
 use Rattle.std.proofs.Common.{◌≡◌, ℕ, suc, ◌+◌, ◌<◌, List, [], ◌∷◌, length, map, get_or, refl, ap, sym, ◌∙◌, arith, subst, Option, Some, None, cond, inl, inr, Result, ne_eqb}
-use Rattle.std.specs.Prelude.{◌==◌, slice_get, replicate, IsSome, is_some}
+use Rattle.std.specs.Prelude.{◌==◌, ◌≤◌, slice_get, replicate, IsSome, is_some, unwrap_or}
 use Rattle.std.specs.List.{All, AllPairs, sum_by, flat_map, range_with_len}
 use Rattle.std.specs.List.Sorted.{IsPermutation}
 use Rattle.std.proofs.lemmas.Bool.{cases_eq}
-use Rattle.std.proofs.lemmas.Option.{slice_get_within}
+use Rattle.std.proofs.lemmas.Option.{slice_get_within, get_or_from_slice_get}
 use Rattle.std.proofs.lemmas.List.{length-replicate, get_or-map, length-map}
 use Rattle.std.proofs.lemmas.List.Folds.{flat_map-map}
 use Rattle.std.proofs.lemmas.List.Elements.{All-nil, All-cons, All-head, All-tail, All-map, All-weaker}
@@ -25,8 +25,8 @@ use Rattle.ent_queue.specs.Reserving.{requests_of, AreWithin, Gains}
 use Rattle.ent_world.specs.World.{World}
 use Rattle.ent_world.specs.OpenWorld.{View}
 use Rattle.ent_runner.specs.declared.worker.Issued.{Issued}
-use Rattle.ent_runner.specs.Frame.{IsFrame, IsWork, view_of, queue_at, commands_of, requests_by}
-use Rattle.ent_runner.specs.Worker.{MayIssue, systems_of, commands_in}
+use Rattle.ent_runner.specs.Frame.{IsFrame, IsBrokenOff, IsWork, MayIssue, MayHaveIssued, view_of, queue_at, commands_of, requests_by}
+use Rattle.ent_runner.specs.Worker.{systems_of, commands_in}
 use Rattle.ent_runner.specs.Placing.{placed}
 use Rattle.ent_runner.proofs.Placed.{is_of, times, all_placed, length_placed}
 use Rattle.ent_runner.proofs.Lists.{all_from_each, each_of_all, all_flat, flat_all, same_flat, map_flat, filter_map_is, map_map_is, sum_map, mapped_at, at_within, is_number, once_in_range, some_in_range, all_below}
@@ -97,40 +97,40 @@ module _ (count : ℕ) (work : List (List Issued)) (once : IsPermutation (flat_m
       let here : get_or (placed all (replicate count none)) i.system d ≡ Some i.queue = each_of_all (λ (i : Issued). get_or (placed all (replicate count none)) i.system d ≡ Some i.queue) all there.0 i (stand d) there.2 in
       ap is_some (ap (λ k. get_or (placed all (replicate count none)) k d) (sym there.3) ∙ here)
 
-module _ {S : Type 0} (may : S → View → List Command → Type 0) (systems : List S) (before : World) where
+module _ (P : Issued → Type 0) (before : World) where
   -- what the worker of this number did
   pub record Did (k : ℕ) (r : Record) (mine : List Issued) : Type 0 where
     pub gains : Gains (opened before.allocator k) (commands_in mine) r
-    pub each : All (λ (i : Issued). MayIssue may systems (view_of before) i.system i.queue) mine
+    pub each : All P mine
     pub rising : AllPairs (λ m n. m < n) (systems_of mine)
 
-  module _ (workers : ℕ) (records : List Record) (work : List (List Issued)) (queues : List (List Command))
+  module _ (total workers : ℕ) (records : List Record) (work : List (List Issued)) (queues : List (List Command))
       (count : length records ≡ workers) (teams : length work ≡ workers)
       (each : (k : ℕ) (r : Record) (mine : List Issued) → slice_get records k ≡ Some r → slice_get work k ≡ Some mine → Did k r mine)
-      (once : IsPermutation (flat_map systems_of work) (range_with_len 0 (length systems)))
-      (legal : IsLegal before.allocator (history_of records))
+      (once : IsPermutation (flat_map systems_of work) (range_with_len 0 total))
       (respects : All (Respects (reservations_of records)) records)
-      (places : map Some queues ≡ placed (flat_map (λ mine. mine) work) (replicate (length systems) None))
+      (places : map Some queues ≡ placed (flat_map (λ mine. mine) work) (replicate total None))
     where
       abbrev mine_all : List Issued
       mine_all = flat_map (λ mine. mine) work
 
-      abbrev places0 : List (Option (List Command))
-      places0 = replicate (length systems) None
-
-      long : length queues ≡ length systems
-      long = sym (length-map queues Some) ∙ (ap length places ∙ (length_placed mine_all (replicate (length systems) None) ∙ length-replicate (length systems) None))
+      pub long : length queues ≡ total
+      long = sym (length-map queues Some) ∙ (ap length places ∙ (length_placed mine_all (replicate total None) ∙ length-replicate total None))
 
       queue_is : All (λ (i : Issued). queue_at queues i.system ≡ i.queue) mine_all
-      queue_is = both mine_all (inside (length systems) work once) (stand (length systems) work once (Some []))
+      queue_is = both mine_all (inside total work once) (stand total work once (Some []))
         where
-          both : (is : List Issued) → All (λ (i : Issued). i.system < length systems) is → All (λ (i : Issued). get_or (placed mine_all (replicate (length systems) None)) i.system (Some []) ≡ Some i.queue) is → All (λ (i : Issued). queue_at queues i.system ≡ i.queue) is
+          both : (is : List Issued) → All (λ (i : Issued). i.system < total) is → All (λ (i : Issued). get_or (placed mine_all (replicate total None)) i.system (Some []) ≡ Some i.queue) is → All (λ (i : Issued). queue_at queues i.system ≡ i.queue) is
           both [] within stand = All-nil (λ (i : Issued). queue_at queues i.system ≡ i.queue)
           both (i ∷ is) within stand =
-              let here : i.system < length queues = let w = All-head (λ (i : Issued). i.system < length systems) i is within in rw long w in
-              let at : Some (queue_at queues i.system) ≡ Some i.queue = sym (get_or-map Some queues i.system [] (Some []) here) ∙ (ap (λ ps. get_or ps i.system (Some [])) places ∙ All-head (λ (i : Issued). get_or (placed mine_all (replicate (length systems) None)) i.system (Some []) ≡ Some i.queue) i is stand) in
+              let here : i.system < length queues = let w = All-head (λ (i : Issued). i.system < total) i is within in rw long w in
+              let at : Some (queue_at queues i.system) ≡ Some i.queue = sym (get_or-map Some queues i.system [] (Some []) here) ∙ (ap (λ ps. get_or ps i.system (Some [])) places ∙ All-head (λ (i : Issued). get_or (placed mine_all (replicate total None)) i.system (Some []) ≡ Some i.queue) i is stand) in
               All-cons (λ (i : Issued). queue_at queues i.system ≡ i.queue) i is (let e = at in cc)
-              (both is (All-tail (λ (i : Issued). i.system < length systems) i is within) (All-tail (λ (i : Issued). get_or (placed mine_all (replicate (length systems) None)) i.system (Some []) ≡ Some i.queue) i is stand))
+              (both is (All-tail (λ (i : Issued). i.system < total) i is within) (All-tail (λ (i : Issued). get_or (placed mine_all (replicate total None)) i.system (Some []) ≡ Some i.queue) i is stand))
+
+      -- the queues of one worker
+      pub own_queues : (k : ℕ) (mine : List Issued) → slice_get work k ≡ Some mine → All (λ (i : Issued). queue_at queues i.system ≡ i.queue) mine
+      own_queues k mine at = each_of_all (λ mine. All (λ (i : Issued). queue_at queues i.system ≡ i.queue) mine) work k mine (flat_all (λ (i : Issued). queue_at queues i.system ≡ i.queue) (λ mine. mine) work queue_is) at
 
       -- the commands of a worker's systems are those that it kept
       commands_are : (mine : List Issued) → All (λ (i : Issued). queue_at queues i.system ≡ i.queue) mine → commands_of queues (systems_of mine) ≡ commands_in mine
@@ -146,7 +146,7 @@ module _ {S : Type 0} (may : S → View → List Command → Type 0) (systems : 
           let r : Record = there.0 in
           let did = each k r mine there.1 at in
           let respect = each_of_all (Respects (reservations_of records)) records k r respects there.1 in
-          let same : commands_of queues (systems_of mine) ≡ commands_in mine = commands_are mine (each_of_all (λ mine. All (λ (i : Issued). queue_at queues i.system ≡ i.queue) mine) work k mine (flat_all (λ (i : Issued). queue_at queues i.system ≡ i.queue) (λ mine. mine) work queue_is) at) in
+          let same : commands_of queues (systems_of mine) ≡ commands_in mine = commands_are mine (own_queues k mine at) in
           let number : r.number ≡ k = did.gains.number in
           record {
             rising = did.rising;
@@ -158,8 +158,11 @@ module _ {S : Type 0} (may : S → View → List Command → Type 0) (systems : 
             within = subst (AreWithin credit) (sym same) did.gains.within;
           }
 
+      pub each_worked : (k : ℕ) (mine : List ℕ) → slice_get (map systems_of work) k ≡ Some mine → IsWork queues (history_of records) k mine
+      each_worked k mine at = let there = mapped_at systems_of work k mine at in subst (IsWork queues (history_of records) k) there.2 (worked k there.0 there.1)
+
       -- the history has no calls of others
-      ours : All (λ (call : Call). call.caller < workers) (history_of records)
+      pub ours : All (λ (call : Call). call.caller < workers) (history_of records)
       ours =
           All-map (λ (call : Call). call.caller < workers) as_call (reservations_of records)
           (all_sorted (λ (c : Reservation). c.caller < workers) (own_of_all records)
@@ -173,11 +176,14 @@ module _ {S : Type 0} (may : S → View → List Command → Type 0) (systems : 
           subst (All (λ (c : Reservation). c.caller < workers)) (sym (own_are k r there.0 did))
           (All-weaker (λ (c : Reservation). c.caller ≡ k) (λ (c : Reservation). c.caller < workers) (λ c e. let same = e in omega arith) did.gains.reservations did.gains.callers)))))
 
-      each_system : (n : ℕ) (system : S) → slice_get systems n ≡ Some system → may system (view_of before) (queue_at queues n)
-      each_system n system at =
-          let there = found_at (length systems) work once n (slice_get_within systems n system at) in
+      pub all_once : IsPermutation (flat_map (λ mine. mine) (map systems_of work)) (range_with_len 0 total)
+      all_once = subst (λ ns. IsPermutation ns (range_with_len 0 total)) (sym (flat_map-map (λ mine. mine) systems_of work)) once
+
+      -- the queue of each system that ran was kept
+      pub kept : (n : ℕ) → n < total → (i : Issued) × P i × (i.system ≡ n) × (queue_at queues n ≡ i.queue)
+      kept n less =
+          let there = found_at total work once n less in
           let i : Issued = there.1 in
-          let P : Issued → Type 0 = λ (i : Issued). MayIssue may systems (view_of before) i.system i.queue in
           let issued : All P mine_all =
           all_flat P (λ mine. mine) work
           (all_from_each (All P) work
@@ -187,16 +193,82 @@ module _ {S : Type 0} (may : S → View → List Command → Type 0) (systems : 
           (each k r.0 mine r.1 here).each)) in
           let may_it : P i = each_of_all P mine_all there.0 i issued there.2 in
           let queue : queue_at queues i.system ≡ i.queue = each_of_all (λ (i : Issued). queue_at queues i.system ≡ i.queue) mine_all there.0 i queue_is there.2 in
-          subst (λ q. may system (view_of before) q) (sym queue ∙ ap (queue_at queues) there.3) (may_it system (ap (slice_get systems) there.3 ∙ at))
+          (i, may_it, there.3, sym (ap (queue_at queues) there.3) ∙ queue)
 
-      pub frame_is : IsFrame may systems workers before queues (history_of records)
-      frame_is = record {
+-- what holds of each element that others follow, and of what it is mapped to
+pairs_mapped : {X Y : Type 0} (P : X → Type 0) (Q : Y → Type 0) (f : X → Y) (xs : List X) → All (λ x. P x → Q (f x)) xs → AllPairs (λ x later. P x) xs → AllPairs (λ y later. Q y) (map f xs)
+pairs_mapped P Q f xs go pairs i j d less within =
+    let long : length (map f xs) ≡ length xs = length-map xs f in
+    let there = at_within xs i (omega arith) in
+    let x = there.0 in
+    let at : get_or xs i x ≡ x = get_or_from_slice_get xs i x x there.1 in
+    let mapped : get_or (map f xs) i d ≡ f (get_or xs i x) = get_or-map f xs i x d (omega arith) in
+    let here : P x = subst P at (pairs i j x less (omega arith)) in
+    subst Q (sym (mapped ∙ ap f at)) (each_of_all (λ x. P x → Q (f x)) xs i x go there.1 here)
+
+unwrapped : {X : Type 0} (d : X) (os : List (Option X)) → All IsSome os → map Some (map (λ o. unwrap_or o d) os) ≡ os
+unwrapped d [] all = refl
+unwrapped d (None ∷ os) all = let none = All-head IsSome None os all in absurd (cc)
+unwrapped d (Some x ∷ os) all = ap (λ more. Some x ∷ more) (unwrapped d os (All-tail IsSome (Some x) os all))
+
+module _ {S : Type 0} (may : S → View → List Command → Type 0) (systems : List S) (before : World) where
+  abbrev May : Issued → Type 0
+  May i = MayIssue may systems (view_of before) i.system i.queue
+
+  module _ (workers : ℕ) (records : List Record) (work : List (List Issued))
+      (count : length records ≡ workers) (teams : length work ≡ workers)
+      (legal : IsLegal before.allocator (history_of records))
+      (respects : All (Respects (reservations_of records)) records)
+    where
+      pub frame_is : (queues : List (List Command)) → ((k : ℕ) (r : Record) (mine : List Issued) → slice_get records k ≡ Some r → slice_get work k ≡ Some mine → Did May before k r mine)
+          → IsPermutation (flat_map systems_of work) (range_with_len 0 (length systems))
+          → map Some queues ≡ placed (flat_map (λ mine. mine) work) (replicate (length systems) None)
+          → IsFrame may systems workers before queues (history_of records)
+      frame_is queues each once places = record {
         legal = legal;
-        callers = ours;
+        callers = ours May before (length systems) workers records work queues count teams each once respects places;
         ran = map systems_of work;
         each_worker = length-map work systems_of ∙ teams;
-        once = subst (λ ns. IsPermutation ns (range_with_len 0 (length systems))) (sym (flat_map-map (λ mine. mine) systems_of work)) once;
-        work = λ k mine at. let there = mapped_at systems_of work k mine at in subst (IsWork queues (history_of records) k) there.2 (worked k there.0 there.1);
-        count = long;
-        each_system = each_system;
+        once = all_once May before (length systems) workers records work queues count teams each once respects places;
+        work = each_worked May before (length systems) workers records work queues count teams each once respects places;
+        count = long May before (length systems) workers records work queues count teams each once respects places;
+        each_system = λ n system at.
+            let k = kept May before (length systems) workers records work queues count teams each once respects places n (slice_get_within systems n system at) in
+            subst (may system (view_of before)) (sym k.3) (k.1 system (ap (slice_get systems) k.2 ∙ at));
       }
+
+      module _ (leave : S → View → List Command → Type 0) where
+        abbrev Left : Issued → Type 0
+        Left i = MayHaveIssued may leave systems (view_of before) i.system i.queue
+
+        pub broken_off : (total : ℕ) → total ≤ length systems → ((k : ℕ) (r : Record) (mine : List Issued) → slice_get records k ≡ Some r → slice_get work k ≡ Some mine → Did Left before k r mine)
+            → ((k : ℕ) (mine : List Issued) → slice_get work k ≡ Some mine → AllPairs (λ (i later : Issued). MayIssue may systems (view_of before) i.system i.queue) mine)
+            → IsPermutation (flat_map systems_of work) (range_with_len 0 total)
+            → IsBrokenOff may leave systems workers before (history_of records)
+        broken_off total few each ended once =
+            let places : List (Option (List Command)) = placed (flat_map (λ mine. mine) work) (replicate total None) in
+            let queues : List (List Command) = map (λ o. unwrap_or o []) places in
+            let same : map Some queues ≡ places = unwrapped [] places (full total work once) in
+            record {
+              legal = legal;
+              callers = ours Left before total workers records work queues count teams each once respects same;
+              ran = map systems_of work;
+              each_worker = length-map work systems_of ∙ teams;
+              count = total;
+              within = few;
+              once = all_once Left before total workers records work queues count teams each once respects same;
+              queues = queues;
+              each_queue = long Left before total workers records work queues count teams each once respects same;
+              each_system = λ n less.
+                  let k = kept Left before total workers records work queues count teams each once respects same n less in
+                  subst (MayHaveIssued may leave systems (view_of before) n) (sym k.3) (subst (λ m. MayHaveIssued may leave systems (view_of before) m k.0.queue) k.2 k.1);
+              work = each_worked Left before total workers records work queues count teams each once respects same;
+              ended = λ k mine at.
+                  let there = mapped_at systems_of work k mine at in
+                  let own = own_queues Left before total workers records work queues count teams each once respects same k there.0 there.1 in
+                  let Q : ℕ → Type 0 = λ n. MayIssue may systems (view_of before) n (queue_at queues n) in
+                  subst (AllPairs (λ (m later : ℕ). Q m)) there.2
+                  (pairs_mapped May Q (λ (i : Issued). i.system) there.0
+                  (All-weaker (λ (i : Issued). queue_at queues i.system ≡ i.queue) (λ (i : Issued). May i → Q i.system) (λ i e m. subst (MayIssue may systems (view_of before) i.system) (sym e) m) there.0 own)
+                  (ended k there.0 there.1));
+            }

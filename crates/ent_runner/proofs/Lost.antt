@@ -1,14 +1,16 @@
 -- What a frame leaves if no queue was applied.
-use Rattle.std.proofs.Common.{◌≡◌, ℕ, ◌≤◌, List, length, drop, refl, ap, sym, ◌∙◌, arith, subst}
+use Rattle.std.proofs.Common.{◌≡◌, ℕ, ◌≤◌, Option, Vec, Global, List, length, drop, refl, ap, sym, ◌∙◌, arith, subst}
+use Rattle.std.specs.Prelude.{IfSome}
 use Rattle.std.proofs.Math.ListN.{drop_of_length-le}
 use Rattle.ent_alloc.specs.Sequential.{Allocator, available}
 use Rattle.ent_alloc.specs.Sound.{IsSound}
-use Rattle.ent_alloc.specs.History.{Call, IsLegal, after_history, requests_of}
+use Rattle.ent_alloc.specs.History.{Call, after_history, requests_of}
 use Rattle.ent_alloc.proofs.PoolLaw.{after_takes, after_takes-sound, available-after_takes, live-after_takes, made-after_takes, length-taken}
 use Rattle.ent_alloc.proofs.Histories.{after_history-takes}
+use Rattle.ent_queue.specs.Command.{Command}
 use Rattle.ent_world.specs.World.{World}
-use Rattle.ent_world.specs.OpenWorld.{OpenWorld}
-use Rattle.ent_runner.specs.Frame.{IsLost, reserved_by, world_of}
+use Rattle.ent_world.specs.OpenWorld.{OpenWorld, View}
+use Rattle.ent_runner.specs.Frame.{IsFrame, IsLost, IsBrokenOff, reserved_by, world_of}
 
 -- a flushed allocator has all that there is to give in its pool
 flushed_pool : (s : Allocator) → IsSound s → s.asked ≡ 0 → s.pool ≡ available s
@@ -35,8 +37,22 @@ lost_after before s after sound flushed is requests taken w changed =
 pub is_lost : (before w : World) (history : List Call) → IsSound before.allocator → before.allocator.asked ≡ 0 → w ≡ reserved_by history before → IsLost before w
 is_lost before w history sound flushed changed = lost_after before before.allocator (after_history before.allocator history) sound flushed refl (requests_of history) (after_history-takes before.allocator history) w changed
 
--- the same of the world that was opened and closed again
-pub lost_again : (P : List Call → Type 0) (before after : World) (world : OpenWorld) → world_of world ≡ before → IsSound world.shared.start → before.allocator.asked ≡ 0
-    → ((history : List Call) × IsLegal world.shared.start history × (after ≡ reserved_by history (world_of world)) × P history) → IsLost before after
-lost_again P before after world same sound flushed r =
-    is_lost before after r.0 (subst IsSound (ap (λ (w : World). w.allocator) same) sound) flushed (r.2 ∙ ap (reserved_by r.0) same)
+-- What is known of a world that was opened and closed again, and of the queues, if there are any.
+abbrev pub ClosedAgain : {S : Type 0} → (S → View → List Command → Type 0) → (S → View → List Command → Type 0) → List S → OpenWorld → World → Option (Vec (List Command) Global) → Type 0
+ClosedAgain may leave systems world after got =
+    (history : List Call) × IsBrokenOff may leave systems world.shared.count (world_of world) history × (after ≡ reserved_by history (world_of world))
+    × IfSome got (λ q. IsFrame may systems world.shared.count (world_of world) q.items history)
+
+module _ {S : Type 0} (may leave : S → View → List Command → Type 0) (systems : List S) (before after : World) (world : OpenWorld) (got : Option (Vec (List Command) Global)) (same : world_of world ≡ before) (closed : ClosedAgain may leave systems world after got) where
+  abbrev changed : after ≡ reserved_by closed.0 before
+  changed = closed.2 ∙ ap (reserved_by closed.0) same
+
+  pub lost_again : IsSound world.shared.start → before.allocator.asked ≡ 0 → IsLost before after
+  lost_again sound flushed = is_lost before after closed.0 (subst IsSound (ap (λ (w : World). w.allocator) same) sound) flushed changed
+
+  pub broken_again : (workers : ℕ) → world.shared.count ≡ workers → (history : List Call) × IsBrokenOff may leave systems workers before history × (after ≡ reserved_by history before)
+  broken_again workers count = (
+    closed.0,
+    subst (λ w. IsBrokenOff may leave systems w before closed.0) count (subst (λ b. IsBrokenOff may leave systems world.shared.count b closed.0) same closed.1),
+    changed,
+  )

@@ -1,9 +1,12 @@
 -- A worker runs one system after the other.
-use Rattle.std.proofs.Common.{◌≡◌, ℕ, ◌<◌, List, [], ◌∷◌, ◌++◌, length, ap, sym, ◌∙◌, subst, append-nil}
-use Rattle.std.specs.List.{All}
+use Rattle.std.proofs.Common.{◌≡◌, ℕ, ◌<◌, List, [], ◌∷◌, ◌++◌, length, ap, sym, ◌∙◌, subst, append-nil, inl, inr, arith, get_or}
+use Rattle.std.specs.Prelude.{Result, Ok, Err, OnOk, OnErr}
+use Rattle.std.proofs.lemmas.Option.{get_or_from_slice_get}
+use Rattle.std.specs.List.{All, AllPairs}
+use Rattle.std.proofs.lemmas.List.Quantifiers.{all_pairs_push}
 use Rattle.std.proofs.lemmas.List.{map-append}
 use Rattle.std.proofs.lemmas.Grind.{flat_map-append}
-use Rattle.std.proofs.lemmas.List.Elements.{All-nil, All-cons, All-append}
+use Rattle.std.proofs.lemmas.List.Elements.{All-nil, All-cons, All-append, All-weaker}
 use Rattle.ent_shared.specs.declared.record.Record.{Record}
 use Rattle.ent_queue.specs.Command.{Command}
 use Rattle.ent_queue.specs.Reserving.{Gains}
@@ -11,7 +14,15 @@ use Rattle.ent_queue.proofs.Gaining.{gains_nothing, gains_then}
 use Rattle.ent_world.specs.OpenWorld.{View}
 use Rattle.ent_claims.specs.declared.record.Record.{Record as Claimed}
 use Rattle.ent_runner.specs.declared.worker.Issued.{Issued}
-use Rattle.ent_runner.specs.Worker.{HasRun, MayIssue, commands_in, systems_of}
+use Rattle.ent_runner.specs.Frame.{MayIssue, MayHaveIssued}
+use Rattle.ent_runner.specs.Worker.{HasRun, HasRunSome, commands_in, systems_of}
+
+-- the queues are those so far and one more
+queues_more : (issued next : List Issued) (i : Issued) → next ≡ issued ++ i ∷ [] → commands_in next ≡ commands_in issued ++ i.queue
+queues_more issued next i pushed = ap commands_in pushed ∙ (flat_map-append (λ (i : Issued). i.queue) issued (i ∷ []) ∙ ap (λ cs. commands_in issued ++ cs) (append-nil i.queue))
+
+systems_more : (issued next : List Issued) (i : Issued) (claims more : List ℕ) → next ≡ issued ++ i ∷ [] → systems_of issued ≡ claims → more ≡ claims ++ i.system ∷ [] → systems_of next ≡ more
+systems_more issued next i claims more pushed same claimed = ap systems_of pushed ∙ (map-append (λ (i : Issued). i.system) issued (i ∷ []) ∙ (ap (λ ns. ns ++ i.system ∷ []) same ∙ sym claimed))
 
 module _ {S : Type 0} (may : S → View → List Command → Type 0) (systems : List S) (view : View) where
   pub ran_nothing : (r : Record) (claims : List ℕ) (issued : List Issued) → claims ≡ [] → issued ≡ [] → HasRun may systems view r r claims issued
@@ -24,13 +35,51 @@ module _ {S : Type 0} (may : S → View → List Command → Type 0) (systems : 
   -- one system more
   pub ran_more : (a b c : Record) (claims more : List ℕ) (issued next : List Issued) (i : Issued) → HasRun may systems view a b claims issued → Gains b i.queue c → MayIssue may systems view i.system i.queue → more ≡ claims ++ i.system ∷ [] → next ≡ issued ++ i ∷ [] → HasRun may systems view a c more next
   ran_more a b c claims more issued next i ran gains may_it claimed pushed = record {
-    claims = ap systems_of pushed ∙ (map-append (λ (i : Issued). i.system) issued (i ∷ []) ∙ (ap (λ ns. ns ++ i.system ∷ []) ran.claims ∙ sym claimed));
-    gains =
-        let queues : commands_in next ≡ commands_in issued ++ i.queue =
-        ap commands_in pushed ∙ (flat_map-append (λ (i : Issued). i.queue) issued (i ∷ []) ∙ ap (λ cs. commands_in issued ++ cs) (append-nil i.queue)) in
-        subst (λ cs. Gains a cs c) (sym queues) (gains_then a b c (commands_in issued) i.queue ran.gains gains);
+    claims = systems_more issued next i claims more pushed ran.claims claimed;
+    gains = subst (λ cs. Gains a cs c) (sym (queues_more issued next i pushed)) (gains_then a b c (commands_in issued) i.queue ran.gains gains);
     each = subst (All (λ (i : Issued). MayIssue may systems view i.system i.queue)) (sym pushed) (All-append (λ (i : Issued). MayIssue may systems view i.system i.queue) issued (i ∷ []) ran.each (All-cons (λ (i : Issued). MayIssue may systems view i.system i.queue) i [] may_it (All-nil (λ (i : Issued). MayIssue may systems view i.system i.queue))));
   }
+
+  -- a worker that ran some systems, each of which ended
+  pub ran_some : (leave : S → View → List Command → Type 0) (a b : Record) (claims : List ℕ) (issued : List Issued) → HasRun may systems view a b claims issued → HasRunSome may leave systems view a b claims issued
+  ran_some leave a b claims issued ran = record {
+    claims = ran.claims;
+    gains = ran.gains;
+    each = All-weaker (λ (i : Issued). MayIssue may systems view i.system i.queue) (λ (i : Issued). MayHaveIssued may leave systems view i.system i.queue) (λ i m. inl m) issued ran.each;
+    ended = λ i j d less within. ran.each i d (omega arith);
+  }
+
+  -- and one more, which stopped
+  pub ran_last : (leave : S → View → List Command → Type 0) (a b c : Record) (claims more : List ℕ) (issued next : List Issued) (i : Issued) → HasRun may systems view a b claims issued → Gains b i.queue c → MayIssue leave systems view i.system i.queue → more ≡ claims ++ i.system ∷ [] → next ≡ issued ++ i ∷ [] → HasRunSome may leave systems view a c more next
+  ran_last leave a b c claims more issued next i ran gains left claimed pushed =
+      let P : Issued → Type 0 = λ (i : Issued). MayHaveIssued may leave systems view i.system i.queue in
+      let R : Issued → Issued → Type 0 = λ (i later : Issued). MayIssue may systems view i.system i.queue in
+      record {
+        claims = systems_more issued next i claims more pushed ran.claims claimed;
+        gains = subst (λ cs. Gains a cs c) (sym (queues_more issued next i pushed)) (gains_then a b c (commands_in issued) i.queue ran.gains gains);
+        each = subst (All P) (sym pushed) (All-append P issued (i ∷ []) (All-weaker (λ (i : Issued). MayIssue may systems view i.system i.queue) P (λ i m. inl m) issued ran.each) (All-cons P i [] (inr left) (All-nil P)));
+        ended = subst (AllPairs R) (sym pushed) (all_pairs_push R issued i (λ i j d less within. ran.each i d (omega arith)) (λ k d within. ran.each k d within));
+      }
+
+-- what a run says of the system that stands at its number
+issued_there : {S : Type 0} (may : S → View → List Command → Type 0) (systems : List S) (view : View) (n : ℕ) (d : S) (queue finished : List Command) → finished ≡ queue → may (get_or systems n d) view queue → MayIssue may systems view n finished
+issued_there may systems view n d queue finished same ran system at =
+    subst (λ q. may system view q) (sym same) (subst (λ s. may s view queue) (get_or_from_slice_get systems n system d at) ran)
+
+-- if it ended, and if it stopped
+pub issued_ok : {S A E : Type 0} (may : S → View → List Command → Type 0) (systems : List S) (view : View) (n : ℕ) (d : S) (queue finished : List Command) (r : Result A E) → finished ≡ queue → OnOk r (may (get_or systems n d) view queue) → OnOk r (MayIssue may systems view n finished)
+issued_ok may systems view n d queue finished (Ok a) same ran = issued_there may systems view n d queue finished same ran
+issued_ok may systems view n d queue finished (Err e) same ran = tt
+
+pub issued_err : {S A E : Type 0} (may : S → View → List Command → Type 0) (systems : List S) (view : View) (n : ℕ) (d : S) (queue finished : List Command) (r : Result A E) → finished ≡ queue → OnErr r (may (get_or systems n d) view queue) → OnErr r (MayIssue may systems view n finished)
+issued_err may systems view n d queue finished (Ok a) same ran = tt
+issued_err may systems view n d queue finished (Err e) same ran = issued_there may systems view n d queue finished same ran
+
+pub of_ok : {A E : Type 0} (X : Type 0) (r : Result A E) (a : A) → r ≡ Ok a → OnOk r X → X
+of_ok X r a is on = subst (λ r. OnOk r X) is on
+
+pub of_err : {A E : Type 0} (X : Type 0) (r : Result A E) (e : E) → r ≡ Err e → OnErr r X → X
+of_err X r e is on = subst (λ r. OnErr r X) is on
 
 pub inside_more : {S : Type 0} (systems : List S) (issued next : List Issued) (i : Issued) → All (λ (i : Issued). i.system < length systems) issued → i.system < length systems → next ≡ issued ++ i ∷ [] → All (λ (i : Issued). i.system < length systems) next
 inside_more systems issued next i inside here pushed = subst (All (λ (i : Issued). i.system < length systems)) (sym pushed) (All-append (λ (i : Issued). i.system < length systems) issued (i ∷ []) inside (All-cons (λ (i : Issued). i.system < length systems) i [] here (All-nil (λ (i : Issued). i.system < length systems))))

@@ -1,7 +1,7 @@
 -- A frame: systems run on workers over one shared world, each with a queue of its own, and the sync
 -- point applies the queues in the order of the systems.
 use Rattle.std.specs.Prelude.{◌≡◌, ℕ, ◌<◌, ◌≤◌, ◌==◌, List, [], length, map, filter, Result, Ok, Err}
-use Rattle.std.specs.Prelude.{slice_get, slice_index_or, Some}
+use Rattle.std.specs.Prelude.{slice_get, slice_index_or, Some, ◌⊎◌}
 use Rattle.std.specs.List.{All, AllPairs, flat_map, range_with_len}
 use Rattle.std.specs.List.Sorted.{IsPermutation}
 use Rattle.ent_handle.specs.Handle.{Handle}
@@ -72,6 +72,42 @@ pub record IsFrame {S : Type 0} (may : S → View → List Command → Type 0) (
   pub count : length queues ≡ length systems
   pub each_system : (n : ℕ) (system : S) → slice_get systems n ≡ Some system
       → may system (view_of before) (queue_at queues n)
+
+-- the system of this number may issue the commands
+abbrev pub MayIssue : {S : Type 0} → (S → View → List Command → Type 0) → List S → View → ℕ
+    → List Command → Type 0
+MayIssue {S} may systems view n queue =
+    (system : S) → slice_get systems n ≡ Some system → may system view queue
+
+-- or it may leave them in its queue, if memory was refused to it
+abbrev pub MayHaveIssued : {S : Type 0} → (S → View → List Command → Type 0)
+    → (S → View → List Command → Type 0) → List S → View → ℕ → List Command → Type 0
+MayHaveIssued may leave systems view n queue =
+    MayIssue may systems view n queue ⊎ MayIssue leave systems view n queue
+
+-- A frame that was broken off: that many workers ran some of the systems, and stopped. The history
+-- has what these systems asked for, and nothing else.
+pub record IsBrokenOff {S : Type 0} (may leave : S → View → List Command → Type 0)
+    (systems : List S) (workers : ℕ) (before : World) (history : List Call) : Type 0 where
+  pub legal : IsLegal before.allocator history
+  pub callers : All (λ (call : Call). call.caller < workers) history
+  -- for each worker the systems that it ran: together they are the first ones, each once
+  pub ran : List (List ℕ)
+  pub each_worker : length ran ≡ workers
+  pub count : ℕ
+  pub within : count ≤ length systems
+  pub once : IsPermutation (flat_map (λ mine. mine) ran) (range_with_len 0 count)
+  -- what each of them had issued when it ended or stopped
+  pub queues : List (List Command)
+  pub each_queue : length queues ≡ count
+  pub each_system : (n : ℕ) → n < count
+      → MayHaveIssued may leave systems (view_of before) n (queue_at queues n)
+  pub work : (worker : ℕ) (mine : List ℕ) → slice_get ran worker ≡ Some mine
+      → IsWork queues history worker mine
+  -- A worker ran a system after another one only if that one had ended.
+  pub ended : (worker : ℕ) (mine : List ℕ) → slice_get ran worker ≡ Some mine
+      → AllPairs (λ earlier later. MayIssue may systems (view_of before) earlier
+      (queue_at queues earlier)) mine
 
 -- The sync of the queues stands up to that handle of that command of that system, and no further.
 pub record IsHalf (queues : List (List Command)) (before : World) (system command done : ℕ)

@@ -1,6 +1,7 @@
 -- What one worker has done in a frame.
 use Rattle.std.specs.Prelude.{◌≡◌, ◌<◌, ◌≤◌, ℕ, List, [], length, map, replicate, None, vec_capacity, slice_get, Some, true, false}
-use Rattle.std.specs.List.{All, flat_map}
+use Rattle.std.specs.List.{All, AllPairs, flat_map, range_with_len}
+use Rattle.std.specs.List.Sorted.{IsPermutation}
 use Rattle.ent_shared.specs.declared.record.Record.{Record}
 use Rattle.ent_shared.specs.Phase.{Shared, IsOf}
 use Rattle.ent_queue.specs.Command.{Command}
@@ -12,13 +13,7 @@ use Rattle.ent_runner.specs.declared.worker.Issued.{Issued}
 use Rattle.ent_runner.specs.declared.worker.Worker.{Worker}
 use Rattle.ent_runner.specs.declared.crew.Room.{Room}
 use Rattle.ent_runner.specs.declared.crew.Returned.{Returned}
-use Rattle.ent_runner.specs.Frame.{view_of, world_of}
-
--- the system of this number may issue the commands
-abbrev pub MayIssue : {S : Type 0} → (S → View → List Command → Type 0) → List S → View → ℕ
-    → List Command → Type 0
-MayIssue {S} may systems view n queue =
-    (system : S) → slice_get systems n ≡ Some system → may system view queue
+use Rattle.ent_runner.specs.Frame.{MayIssue, MayHaveIssued, view_of, world_of}
 
 -- the numbers of the systems, and all their commands
 abbrev pub systems_of : List Issued → List ℕ
@@ -39,6 +34,15 @@ pub record HasRun {S : Type 0} (may : S → View → List Command → Type 0) (s
   pub gains : Gains before (commands_in issued) after
   pub each : All (λ (i : Issued). MayIssue may systems view i.system i.queue) issued
 
+-- The same of a worker that may have stopped: the last system may have stopped too.
+pub record HasRunSome {S : Type 0} (may leave : S → View → List Command → Type 0)
+    (systems : List S) (view : View) (before after : Record) (claimed : List ℕ)
+    (issued : List Issued) : Type 0 where
+  pub claims : systems_of issued ≡ claimed
+  pub gains : Gains before (commands_in issued) after
+  pub each : All (λ (i : Issued). MayHaveIssued may leave systems view i.system i.queue) issued
+  pub ended : AllPairs (λ (i later : Issued). MayIssue may systems view i.system i.queue) issued
+
 -- It has claimed nothing yet.
 abbrev pub IsUnused : Claimer → Type 0
 IsUnused c = (c.own.claims ≡ []) × (c.own.ended ≡ false)
@@ -50,12 +54,14 @@ pub record IsFresh (w : Worker) : Type 0 where
 
 -- It has run all that it claimed, until none was left, or it has stopped. Its reserver began with
 -- this record.
-pub record HasWorked {S : Type 0} (may : S → View → List Command → Type 0) (shared : Shared)
-    (claims : Claims) (systems : List S) (view : View) (before : Record) (w : Worker)
-    : Type 0 where
+pub record HasWorked {S : Type 0} (may leave : S → View → List Command → Type 0)
+    (shared : Shared) (claims : Claims) (systems : List S) (view : View) (before : Record)
+    (w : Worker) : Type 0 where
   pub reserver : IsOf shared w.reserver
   pub claimer : IsClaimerOf claims w.claimer
   pub inside : All (λ (i : Issued). i.system < length systems) w.issued.items
+  pub ran_some : HasRunSome may leave systems view before w.reserver.own w.claimer.own.claims
+      w.issued.items
   pub ran : w.stopped ≡ false → HasRun may systems view before w.reserver.own
       w.claimer.own.claims w.issued.items
   pub ended : w.stopped ≡ false → w.claimer.own.ended ≡ true
@@ -65,16 +71,23 @@ pub record HasClaimed (shared : Shared) (claims : Claims) (w : Worker) : Type 0 
   pub reserver : IsOf shared w.reserver
   pub claimer : IsClaimerOf claims w.claimer
   pub inside : All (λ (i : Issued). i.system < claims.numbers) w.issued.items
-  pub ran : w.stopped ≡ false → systems_of w.issued.items ≡ w.claimer.own.claims
+  pub ran : systems_of w.issued.items ≡ w.claimer.own.claims
   pub ended : w.stopped ≡ false → w.claimer.own.ended ≡ true
 
 -- Each of these workers has worked; the reserver of each began as it was opened.
-pub record HaveWorked {S : Type 0} (may : S → View → List Command → Type 0) (systems : List S)
-    (world : OpenWorld) (claims : Claims) (team : List Worker) : Type 0 where
+pub record HaveWorked {S : Type 0} (may leave : S → View → List Command → Type 0)
+    (systems : List S) (world : OpenWorld) (claims : Claims) (team : List Worker) : Type 0 where
   pub count : length team ≡ world.shared.count
   pub each : (k : ℕ) (w : Worker) → slice_get team k ≡ Some w
-      → HasWorked may world.shared claims systems (view_of (world_of world))
+      → HasWorked may leave world.shared claims systems (view_of (world_of world))
       (opened world.shared.start k) w
+
+-- Together these workers ran the first systems, each once.
+pub record HaveRunFirst (numbers : ℕ) (team : List Worker) : Type 0 where
+  pub count : ℕ
+  pub within : count ≤ numbers
+  pub once : IsPermutation (flat_map (λ (w : Worker). systems_of w.issued.items) team)
+      (range_with_len 0 count)
 
 -- There is room for what that many workers hand back of that many systems.
 pub record HasReturns (systems workers : ℕ) (room : Returned) : Type 0 where

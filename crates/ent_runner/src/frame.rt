@@ -9,11 +9,11 @@ ghost use Rattle.ent_shared.specs.Order.{history_of, reservations_of, Respects};
 ghost use Rattle.ent_shared.specs.Phase.{IsOf, records_of};
 ghost use Rattle.ent_claims.specs.Claims.{IsOf as IsClaimerOf};
 ghost use Rattle.ent_shared.specs.Record.{opened_records};
-ghost use Rattle.ent_runner.specs.Frame.{IsFrame, Ends, EndsInOrder, IsLost, StopsAt, IfSyncStopped};
-ghost use Rattle.ent_runner.specs.Frame.{reserved_by, world_of};
+ghost use Rattle.ent_runner.specs.Frame.{IsFrame, Ends, EndsInOrder, IsBrokenOff, IsLost, StopsAt};
+ghost use Rattle.ent_runner.specs.Frame.{IfSyncStopped, reserved_by, world_of};
 ghost use Rattle.ent_runner.specs.Placing.{placed};
 ghost use Rattle.ent_runner.specs.Worker.{HasRoom, HasReturns, HasClaimed, HaveWorked, IsFresh};
-ghost use Rattle.ent_runner.specs.Worker.{systems_of, all_records};
+ghost use Rattle.ent_runner.specs.Worker.{HaveRunFirst, systems_of, all_records};
 
 use crate::crew::{Returned, Room, disband, recruit, some_stopped};
 use crate::gate::Gate;
@@ -41,7 +41,8 @@ use std::thread::Threads;
 ///
 /// - [`FrameFault::Memory`] if memory was refused before any system ran. The world is as it was.
 /// - [`FrameFault::Lost`] if memory was refused later, or a system answered so. No command was
-///   applied. What was reserved stays so: [`World::flush`] brings it to life.
+///   applied. What the systems that ran had reserved stays reserved, and nothing else is:
+///   [`World::flush`] brings it to life.
 /// - [`FrameFault::Sync`] if all systems ran and the sync point stopped. Unless memory was refused
 ///   for the flush, the world is flushed.
 pub fn run_frame<R, S, G>(
@@ -67,7 +68,7 @@ where
     ensures flushed { OnOk result (world.new.allocator.asked ≡ 0) }
     ensures memory { IsErrOf result FrameFault.Memory → world.new ≡ world.old }
     ensures lost { IsErrOf result FrameFault.Lost → (history : List Call)
-        × IsLegal world.old.allocator history
+        × IsBrokenOff S.may_issue S.may_leave systems.now workers world.old history
         × (world.new ≡ reserved_by history world.old) }
     ensures still { IsErrOf result FrameFault.Lost → IsLost world.old world.new }
     ensures stopped { IfSyncStopped result (λ fault queues.
@@ -98,7 +99,7 @@ where
 }
 
 /// Runs the systems on the open world and closes it. There are no queues if a worker has stopped
-/// for want of memory.
+/// for want of memory. What is known of a frame that was broken off holds of a whole one too.
 fn run_open<R, S, G>(
     rt: &R,
     alloc: Global,
@@ -118,7 +119,9 @@ where
     requires own { All (IsOf opened.shared) reservers.items }
     requires unused { records_of reservers.items
         ≡ opened_records opened.shared.start 0 opened.shared.count }
-    ensures { (history : List Call) × IsLegal opened.shared.start history
+    ensures { (history : List Call)
+        × IsBrokenOff S.may_issue S.may_leave systems.now opened.shared.count (world_of opened)
+        history
         × (result.0 ≡ reserved_by history (world_of opened))
         × IfSome result.1 (λ queues. IsFrame S.may_issue systems.now opened.shared.count
         (world_of opened) queues.items history) }
@@ -155,7 +158,8 @@ where
         × IsClaimerOf claims.now w.claimer × IsFresh w) workers.old.items }
     requires unused { map (λ w. w.reserver.own) workers.old.items
         ≡ opened_records opened.now.shared.start 0 opened.now.shared.count }
-    ensures { HaveWorked S.may_issue systems.now opened.now claims.now workers.new.items }
+    ensures { HaveWorked S.may_issue S.may_leave systems.now opened.now claims.now
+        workers.new.items }
 {
     let stage = Stage {
         alloc,
@@ -184,6 +188,7 @@ fn finish(
     ensures legal { IsLegal opened.shared.start (history_of (all_records workers.items)) }
     ensures respects { let records = all_records workers.items in
         All (Respects (reservations_of records)) records }
+    ensures first { HaveRunFirst claims.numbers workers.items }
     ensures going { IfSome result.1 (λ _. All (λ w. w.stopped ≡ false) workers.items) }
     ensures once { IfSome result.1 (λ _. IsPermutation
         (flat_map (λ w. systems_of w.issued.items) workers.items)

@@ -7,9 +7,11 @@ mod frame;
 mod gate;
 mod placing;
 mod report;
+mod side;
 mod system;
 mod worker;
 
+pub use either::{Either, Left, Right};
 pub use frame::run_frame;
 pub use gate::{Gate, NoGate};
 pub use report::{FrameFault, FrameReport};

@@ -1,4 +1,4 @@
-ghost use Rattle.std.specs.Prelude.{◌≡◌, [], List, OnOk};
+ghost use Rattle.std.specs.Prelude.{◌≡◌, [], List, OnOk, OnErr};
 ghost use Rattle.ent_queue.specs.Command.{Command};
 ghost use Rattle.ent_queue.specs.Commands.{IsReady, Extends, queue_of};
 ghost use Rattle.ent_world.specs.OpenWorld.{View as Viewed};
@@ -17,14 +17,21 @@ pub trait System {
     /// empty queue on, leaves a queue of this kind.
     ghost may_issue: { Self → Viewed → List Command → Type 0 };
 
+    /// What it may leave in its queue if memory is refused to it: anything, unless the system says
+    /// more.
+    ghost may_leave: { Self → Viewed → List Command → Type 0 } = { λ _ _ _. Unit {0} };
+
     /// Runs it once.
     ///
     /// # Errors
     ///
-    /// `Memory`, if memory was refused to the system. The whole frame is then lost.
+    /// `Memory`, if memory was refused to the system. The whole frame is then lost, and what the
+    /// system had reserved stays reserved.
     fn run(&self, alloc: Global, view: &View<'_>, commands: &mut Commands<'_>) -> Result<(), Memory>
         requires { IsReady commands.old }
         ensures extends { Extends commands.old commands.new }
         ensures may { queue_of commands.old ≡ []
-            → OnOk result (may_issue self.now view.now (queue_of commands.new)) };
+            → OnOk result (may_issue self.now view.now (queue_of commands.new)) }
+        ensures leaves { queue_of commands.old ≡ []
+            → OnErr result (may_leave self.now view.now (queue_of commands.new)) };
 }

@@ -1,10 +1,11 @@
 //! Workers: each claims systems, one after the other, runs them, and keeps their queues.
-ghost use Rattle.std.specs.Prelude.{◌≡◌, ◌+◌, ◌<◌, ◌≤◌, ◌^◌, [], length, OnOk, IfOk, true};
+ghost use Rattle.std.specs.Prelude.{◌≡◌, ◌+◌, ◌<◌, ◌≤◌, ◌^◌, [], length, OnOk, OnErr, true};
 ghost use Rattle.std.specs.Prelude.{All, ℕ, slice_index_or, false};
 ghost use Rattle.ent_shared.specs.Phase.{IsOf};
 ghost use Rattle.ent_queue.specs.Reserving.{Gains};
 ghost use Rattle.ent_claims.specs.Claims.{IsOf as IsClaimerOf};
-ghost use Rattle.ent_runner.specs.Worker.{MayIssue, HasRun, IsFresh, HasWorked};
+ghost use Rattle.ent_runner.specs.Frame.{MayIssue};
+ghost use Rattle.ent_runner.specs.Worker.{HasRun, HasRunSome, IsFresh, HasWorked};
 
 use crate::gate::Gate;
 use crate::system::System;
@@ -39,33 +40,35 @@ pub(crate) struct Stage<'a, S, G> {
 pub(crate) struct Worker {
     pub(crate) reserver: Reserver,
     pub(crate) claimer: Claimer,
-    /// The queues of the systems that it ran, in the order of the claims.
+    /// The queues of the systems that it ran, in the order of the claims. If a system stopped,
+    /// its queue is the last one.
     pub(crate) issued: Vec<Issued>,
-    /// Memory was refused, so it has stopped before all systems were claimed.
+    /// Memory was refused to it or to its last system, so it has claimed no more.
     pub(crate) stopped: bool,
 }
 
 impl<S: System, G: Gate> Stage<'_, S, G> {
-    /// Runs the system of this number, and answers its queue.
-    fn issue(&self, system: usize, reserver: &mut Reserver) -> Result<CommandQueue, Memory>
+    /// Runs the system of this number. Its queue has what it issued, also if it stopped.
+    fn issue(&self, system: usize, reserver: &mut Reserver) -> (CommandQueue, Result<(), Memory>)
         requires system { system < length self.now.systems.now }
         requires reserver { IsOf self.now.shared.now reserver.old }
         ensures stays { IsOf self.now.shared.now reserver.new }
-        ensures gains { IfOk result (λ queue. Gains reserver.old.own queue reserver.new.own) }
-        ensures may { IfOk result (λ queue.
-            MayIssue S.may_issue self.now.systems.now self.now.view system queue) }
+        ensures gains { Gains reserver.old.own result.0 reserver.new.own }
+        ensures may { OnOk result.1
+            (MayIssue S.may_issue self.now.systems.now self.now.view system result.0) }
+        ensures leaves { OnErr result.1
+            (MayIssue S.may_leave self.now.systems.now self.now.view system result.0) }
     {
         self.gate.entered(system);
         let mut commands = Commands::new(self.alloc, self.shared, reserver);
         let ran = self.systems[system].run(self.alloc, &self.view, &mut commands);
-        let queue = commands.finish();
-        ran?;
-        Ok(queue)
+        (commands.finish(), ran)
     }
 }
 
 impl Worker {
-    /// Runs the systems that it claims, until none is left.
+    /// Runs the systems that it claims, until none is left. It claims one only if there is room
+    /// for its queue.
     fn work<S: System, G: Gate>(&mut self, stage: &Stage<'_, S, G>) -> Result<(), Memory>
         requires systems { stage.now.claims.now.numbers ≡ length stage.now.systems.now }
         requires reserver { IsOf stage.now.shared.now self.old.reserver }
@@ -74,15 +77,21 @@ impl Worker {
         ensures reserver { IsOf stage.now.shared.now self.new.reserver }
         ensures claimer { IsClaimerOf stage.now.claims.now self.new.claimer }
         ensures inside { All (λ i. i.system < length stage.now.systems.now) self.new.issued.items }
+        ensures ran_some { HasRunSome S.may_issue S.may_leave stage.now.systems.now stage.now.view
+            self.old.reserver.own self.new.reserver.own self.new.claimer.own.claims
+            self.new.issued.items }
         ensures ran { OnOk result (HasRun S.may_issue stage.now.systems.now stage.now.view
             self.old.reserver.own self.new.reserver.own self.new.claimer.own.claims
             self.new.issued.items) }
         ensures ended { OnOk result (self.new.claimer.own.ended ≡ true) }
         ensures stopped { self.new.stopped ≡ self.old.stopped }
     {
+        self.issued.reserve(1)?;
         while let Some(system) = stage.claims.next(&mut self.claimer) {
-            let queue = stage.issue(system, &mut self.reserver)?;
-            self.issued.push(Issued { system, queue })?;
+            let (queue, ran) = stage.issue(system, &mut self.reserver);
+            self.issued.push_reserved(Issued { system, queue });
+            ran?;
+            self.issued.reserve(1)?;
         }
         Ok(())
     }
@@ -93,7 +102,7 @@ impl Worker {
         requires reserver { IsOf stage.now.shared.now self.old.reserver }
         requires claimer { IsClaimerOf stage.now.claims.now self.old.claimer }
         requires fresh { IsFresh self.old }
-        ensures { HasWorked S.may_issue stage.now.shared.now stage.now.claims.now
+        ensures { HasWorked S.may_issue S.may_leave stage.now.shared.now stage.now.claims.now
             stage.now.systems.now stage.now.view self.old.reserver.own self.new }
     {
         self.stopped = self.work(stage).is_err();
@@ -112,8 +121,8 @@ where
         × IsClaimerOf stage.now.claims.now w.claimer × IsFresh w) workers.old }
     ensures count { length workers.new ≡ length workers.old }
     ensures each { (k : ℕ) (d : _) → k < length workers.old
-        → HasWorked S.may_issue stage.now.shared.now stage.now.claims.now stage.now.systems.now
-        stage.now.view (slice_index_or workers.old k d).reserver.own
+        → HasWorked S.may_issue S.may_leave stage.now.shared.now stage.now.claims.now
+        stage.now.systems.now stage.now.view (slice_index_or workers.old k d).reserver.own
         (slice_index_or workers.new k d) }
 {
     let threads = workers.len();

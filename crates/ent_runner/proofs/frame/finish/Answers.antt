@@ -8,7 +8,7 @@ use Rattle.ent_alloc.specs.History.{IsLegal}
 use Rattle.ent_claims.specs.Claims.{IsOf as IsClaimerOf}
 use Rattle.ent_runner.specs.declared.worker.Worker.{Worker}
 use Rattle.ent_runner.specs.Worker.{all_records}
-use Rattle.ent_runner.proofs.Conducting.{reservers_own, claimers_own, once_closed, all_full, places_back, records_are, closed_by}
+use Rattle.ent_runner.proofs.Conducting.{reservers_own, claimers_own, once_closed, first_closed, all_full, places_back, records_are, closed_by}
 use Rattle.ent_runner.proofs.frame.finish.Goals as goal
 
 pub close-requires-clause-own : goal.close-requires-clause-own
@@ -57,3 +57,9 @@ pub returns-clause-queues : goal.returns-clause-queues
 returns-clause-queues c =
     let start = c.args.returned.places in
     c.collect.ensures ∙ places_back c.args.claims.numbers start.len (flat_map (λ (w : Worker). w.issued.items) c.args.workers.items) start.items c.disband.new.places c.requires.room.places_empty start.ok.0 (c.disband.ensures.places ∙ ap (placed (flat_map (λ (w : Worker). w.issued.items) c.args.workers.items)) c.deref_mut.ensures.value)
+
+pub returns-then-stopped-clause-first : goal.returns-then-stopped-clause-first
+returns-then-stopped-clause-first c = first_closed c.args.opened.shared c.args.claims c.args.workers.items c.requires.each c.disband.new.claimers.items c.disband.ensures.claimers c.close.ensures.first
+
+pub returns-clause-first : goal.returns-clause-first
+returns-clause-first c = first_closed c.args.opened.shared c.args.claims c.args.workers.items c.requires.each c.disband.new.claimers.items c.disband.ensures.claimers c.close.ensures.first

@@ -2,7 +2,7 @@ use Rattle.std.proofs.Common.{◌∙◌, ap, sym}
 use Rattle.ent_shared.specs.Phase.{records_of}
 use Rattle.ent_shared.specs.Order.{history_of}
 use Rattle.ent_runner.specs.Worker.{all_records}
-use Rattle.ent_runner.proofs.Conducting.{all_ready, all_claimed, framed, records_are}
+use Rattle.ent_runner.proofs.Conducting.{all_ready, all_claimed, framed, is_broken_off, records_are}
 use Rattle.ent_runner.proofs.frame.run_open.Goals as goal
 
 pub work-requires-clause-ready : goal.work-requires-clause-ready
@@ -15,9 +15,13 @@ pub work-requires-clause-unused : goal.work-requires-clause-unused
 work-requires-clause-unused g c κs within = sym (records_are c.recruit.new.workers.items) ∙ (ap records_of c.recruit.ensures.reservers ∙ c.requires.unused)
 
 pub finish-requires-clause-each : goal.finish-requires-clause-each
-finish-requires-clause-each g c = all_claimed g.S.System.may_issue c.args.systems.now c.args.opened c.args.room.claims c.work.new.workers.items c.work.ensures c.requires.room.numbers
+finish-requires-clause-each g c = all_claimed g.S.System.may_issue g.S.System.may_leave c.args.systems.now c.args.opened c.args.room.claims c.work.new.workers.items c.work.ensures c.requires.room.numbers
 
 pub returns : goal.returns
 returns g c =
-    let f = c.finish.ensures in
-    (history_of (all_records c.work.new.workers.items), f.legal, f.world, framed g.S.System.may_issue c.args.systems.now c.args.opened c.args.room.claims c.work.new.workers.items c.work.ensures c.requires.room.numbers c.finish.result.1 f.legal f.respects f.going f.once f.queues)
+    let f = c.finish.ensures in (
+      history_of (all_records c.work.new.workers.items),
+      is_broken_off g.S.System.may_issue g.S.System.may_leave c.args.systems.now c.args.opened c.args.room.claims c.work.new.workers.items c.work.ensures c.requires.room.numbers f.legal f.respects f.first,
+      f.world,
+      framed g.S.System.may_issue g.S.System.may_leave c.args.systems.now c.args.opened c.args.room.claims c.work.new.workers.items c.work.ensures c.requires.room.numbers c.finish.result.1 f.legal f.respects f.going f.once f.queues,
+    )

@@ -3,7 +3,7 @@ use Rattle.ent_claims.specs.declared.record.Record.{Record}
 use Rattle.ent_claims.specs.declared.rule.Opening.{Opening}
 use Rattle.ent_claims.specs.Rule.{IsClosed}
 use Rattle.ent_claims.specs.Claims.{Claims}
-use Rattle.ent_claims.proofs.Closing.{records_of, items_all, apart, claimed, once}
+use Rattle.ent_claims.proofs.Closing.{records_of, items_all, first, apart, claimed, once}
 use Rattle.ent_claims.proofs.claims.Claims.close.Goals as goal
 
 closed : (c : goal.After-close) → IsClosed c.args.self.numbers c.args.self.workers (records_of c.args.claimers.items)
@@ -19,6 +19,9 @@ closed c =
 
 some : (c : goal.After-close) → 0 < c.args.self.workers
 some c = subst (λ (k : ℕ). 0 < k) (ap (λ (s : Claims). s.workers) c.self.view_is) c.self.invariant.some_workers
+
+pub returns-clause-first : goal.returns-clause-first
+returns-clause-first c = first _ _ c.args.claimers.items c.requires.all (closed c)
 
 pub returns-clause-apart : goal.returns-clause-apart
 returns-clause-apart c = apart _ _ c.args.claimers.items c.requires.all (closed c)

@@ -1,5 +1,5 @@
 use Rattle.std.proofs.Common.{◌≡◌, ◌-◌, ◌<◌, length}
-use Rattle.std.specs.Prelude.{All}
+use Rattle.std.specs.Prelude.{All, vec_len, vec_capacity}
 use Rattle.ent_shared.specs.Phase.{IsOf}
 use Rattle.ent_claims.specs.Claims.{IsOf as IsClaimerOf}
 use Rattle.ent_runner.specs.declared.worker.Issued.{Issued}
@@ -14,6 +14,7 @@ invariant-loop-system g l = record {
   inside : All (λ (i : Issued). i.system < length l.stage.systems.now) l.self.issued.items;
   ran : HasRun g.S.System.may_issue l.stage.systems.now l.stage.view l.initial.self.reserver.own l.self.reserver.own l.self.claimer.own.claims l.self.issued.items;
   stopped : l.self.stopped ≡ l.initial.self.stopped;
+  room : vec_len l.self.issued < vec_capacity l.self.issued;
 }
 
 -- how many numbers it may still claim
