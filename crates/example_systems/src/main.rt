@@ -11,6 +11,7 @@ mod meadow;
 
 use anyhow::Result;
 use by_hand::plant_by_hand;
+use either::{Left, Right};
 use ent_alloc::Limits;
 use ent_runner::{FrameFault, FrameReport, NoGate, run_frame};
 use ent_world::World;
@@ -20,22 +21,23 @@ use std::thread::Threads;
 fn main(rt: HostRuntime) -> Result<()> {
     let world = World::new(rt.alloc(), Limits::default_limits());
     let mut world = plant_by_hand(rt.alloc(), world)?;
-    println!(rt; "planted by hand: {} alive", world.len())?;
-    let _ = grow(&rt, &mut world)?;
-    println!(rt; "after a frame: {} alive", world.len())?;
+    println!(rt; "by hand: {} alive", world.len())?;
+    let _ = sow_and_grow(&rt, &mut world)?;
+    println!(rt; "sown and grown: {} alive", world.len())?;
     let _ = reap(&rt, &mut world)?;
     println!(rt; "reaped: {} alive", world.len())?;
     Ok(())
 }
 
-/// A frame of two workers: a plant is sown, and all others grow.
-fn grow<R>(rt: &R, world: &mut World) -> Result<FrameReport, FrameFault>
+/// A frame on two workers: a plant is sown, and those that were there grow.
+fn sow_and_grow<R>(rt: &R, world: &mut World) -> Result<FrameReport, FrameFault>
 where
     R: Threads + Sync + AllocGlobal,
     requires flushed { world.old.allocator.asked ≡ 0 }
     ensures flushed { OnOk result (world.new.allocator.asked ≡ 0) }
 {
-    run_frame(rt, rt.alloc(), world, &[Grow], 2, &NoGate)
+    let systems = [Left(Sow), Right(Grow)];
+    run_frame(rt, rt.alloc(), world, &systems, 2, &NoGate)
 }
 
 /// A frame of the reaper alone. It hands on what the reaper promises: at most one command.
