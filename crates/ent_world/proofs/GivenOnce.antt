@@ -62,16 +62,16 @@ limits-kept : (limits : Limits) → IsKept (λ w. w.allocator.limits ≡ limits)
 limits-kept limits = record { components = λ change h w there same. same; despawn = λ h w there same. same }
 
 -- A sound allocator after a flush, and its living entities.
-record IsFlushed (w : World) : Type 0 where
-  asked : w.allocator.asked ≡ 0
-  sound : IsSound w.allocator
-  living : AreLiving w.allocator w.entities
+pub record IsFlushed (w : World) : Type 0 where
+  pub asked : w.allocator.asked ≡ 0
+  pub sound : IsSound w.allocator
+  pub living : AreLiving w.allocator w.entities
 
 -- who is there is alive
 alive : (w : World) (h : Handle) → AreLiving w.allocator w.entities → lives_in w h ≡ true → IsLive w.allocator h
 alive w h living there = sym (living h) ∙ there
 
-flushed-kept : IsKept IsFlushed
+pub flushed-kept : IsKept IsFlushed
 flushed-kept = record {
   components = λ change h w there before. record {
     asked = before.asked;

@@ -2,5 +2,6 @@ pub mod World
 pub mod OpenWorld
 pub mod Command
 pub mod Sync
+pub mod Memory
 pub mod Entering
 pub mod Wrapping

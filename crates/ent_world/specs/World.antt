@@ -6,6 +6,7 @@ use Rattle.std.specs.FinMap as map
 use Rattle.ent_handle.specs.Handle.{Handle, handle_code}
 use Rattle.ent_alloc.specs.Limits.{Limits}
 use Rattle.ent_alloc.specs.Sequential.{Allocator, allocator_code, opening}
+use Rattle.ent_alloc.specs.Sound.{IsSound}
 use Rattle.ent_storage.specs.EntityMap.{EntityMap, entity_code}
 
 -- the allocator of its handles, how often it was flushed, and its living entities
@@ -21,6 +22,12 @@ first_world limits = record { allocator = opening limits; phase = 0; entities = 
 -- The entities of the map are exactly those whose handle is alive.
 abbrev pub AreLiving : Allocator → EntityMap → Type 0
 AreLiving s m = (h : Handle) → map.contains_key m h ≡ set.contains s.live h
+
+-- What is true of every world: its allocator is in a state that steps lead to, and its map has
+-- exactly those that are alive.
+pub record IsWorld (w : World) : Type 0 where
+  pub sound : IsSound w.allocator
+  pub living : AreLiving w.allocator w.entities
 
 -- the entity is there
 abbrev pub lives_in : World → Handle → Bool

@@ -1,12 +1,15 @@
 //! The commands of a sync point take effect, one by one. Each changes the world whole or not at
 //! all.
 ghost use Rattle.std.specs.Prelude.{◌≡◌, ◌<◌, ◌++◌, [], ◌∷◌, length, take, drop, max};
-ghost use Rattle.std.specs.Prelude.{OnOk, OnErr, IfErr};
+ghost use Rattle.std.specs.Prelude.{OnOk, OnErr, IfErr, slice_get, true, false};
 ghost use Rattle.ent_queue.specs.Entry.{command_of};
+ghost use Rattle.ent_world.specs.World.{lives_in};
 ghost use Rattle.ent_world.specs.Command.{applied, refused, on_entity, on_each, after_insert};
 ghost use Rattle.ent_world.specs.Command.{after_remove, after_despawn, after_command};
 ghost use Rattle.ent_world.specs.Command.{after_commands, after_queues};
 ghost use Rattle.ent_world.specs.Sync.{first_part, stops, cut_commands, cut, IsStop};
+ghost use Rattle.ent_world.specs.Memory.{insert_takes_memory, place_takes_memory, takes_memory, TakesMemoryIn};
+ghost use Rattle.ent_world.specs.Memory.{TakesMemoryAt};
 
 use crate::fault::{Fault, FaultKind};
 use crate::world::World;
@@ -39,6 +42,8 @@ impl World {
             (applied self.old faults.old.items)) }
         ensures stop { IfErr result (λ stop.
             IsStop stop.system stop.command stop.done queues.now) }
+        ensures memory { IfErr result (λ stop.
+            TakesMemoryAt self.new stop.system stop.command stop.done queues.now) }
     {
         for (system, queue) in queues.iter().enumerate() {
             if let Err((command, done)) = self.apply_queue(system, queue, items, faults) {
@@ -69,6 +74,7 @@ impl World {
             ≡ after_commands system 0 (cut_commands stop.0 stop.1 queue.now)
             (applied self.old faults.old.items)) }
         ensures stop { IfErr result (λ stop. stop.1 < stops (drop stop.0 queue.now)) }
+        ensures memory { IfErr result (λ stop. TakesMemoryIn self.new stop.0 stop.1 queue.now) }
     {
         let mut entries = queue.entries();
         for command in 0..queue.len() {
@@ -100,6 +106,8 @@ impl World {
             ≡ after_commands system command (first_part done (command_of entry.entry ∷ []))
             (applied self.old faults.old.items)) }
         ensures stop { IfErr result (λ done. done < stops (command_of entry.entry ∷ [])) }
+        ensures memory { IfErr result (λ done.
+            takes_memory self.new done (command_of entry.entry) ≡ true) }
     {
         match entry {
             Entry::Spawn(handle, bundle) => self
@@ -142,7 +150,12 @@ impl World {
             ≡ on_each system command (after_insert bundle.entry) (take done handles.entry)
             (applied self.old faults.old.items)) }
         ensures stop { IfErr result (λ done. done < max 1 (length handles.entry)) }
+        ensures memory { IfErr result (λ done.
+            place_takes_memory self.new bundle.entry (slice_get handles.entry done) ≡ true) }
     {
+        if handles.is_empty() {
+            return Ok(());
+        }
         if read_bundle(items, bundle).is_err() {
             return Err(0);
         }
@@ -178,6 +191,7 @@ impl World {
             (applied self.old faults.old.items)) }
         ensures err { OnErr result (applied self.new faults.new.items
             ≡ applied self.old faults.old.items) }
+        ensures memory { OnErr result (insert_takes_memory self.new bundle.entry handle ≡ true) }
     {
         read_bundle(items, bundle)?;
         self.insert_items(system, command, handle, items, faults)
@@ -198,6 +212,7 @@ impl World {
             (applied self.old faults.old.items)) }
         ensures err { OnErr result (applied self.new faults.new.items
             ≡ applied self.old faults.old.items) }
+        ensures memory { OnErr result (insert_takes_memory self.new items.now handle ≡ true) }
     {
         let alive = self.contains(handle);
         if !alive {
@@ -224,6 +239,7 @@ impl World {
             (applied self.old faults.old.items)) }
         ensures err { OnErr result (applied self.new faults.new.items
             ≡ applied self.old faults.old.items) }
+        ensures memory { OnErr result (lives_in self.new handle ≡ false) }
     {
         if self.storage.remove(handle, id).is_err() {
             return add_fault(faults, system, command, FaultKind::NotAlive(handle));
@@ -258,7 +274,8 @@ impl World {
 
 /// The components of a bundle, in place of what `items` had. After an `Err` it has nothing.
 fn read_bundle(items: &mut Vec<(ComponentId, i64)>, bundle: BundleRef<'_>) -> Result<(), Memory>
-    ensures { OnOk result (items.new.items ≡ bundle.entry) }
+    ensures ok { OnOk result (items.new.items ≡ bundle.entry) }
+    ensures memory { OnErr result (0 < length bundle.entry) }
 {
     items.clear();
     items.reserve(bundle.len())?;

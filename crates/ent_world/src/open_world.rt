@@ -8,7 +8,8 @@ ghost use Rattle.ent_alloc.specs.Sound.{IsLive};
 ghost use Rattle.ent_shared.specs.Record.{requested_by};
 ghost use Rattle.ent_shared.specs.Phase.{IsOf, records_of, after_loss};
 ghost use Rattle.ent_shared.specs.Order.{reservations_of, history_of, handles_given, Respects};
-ghost use Rattle.ent_world.specs.World.{AreLiving};
+ghost use Rattle.ent_world.specs.World.{IsWorld};
+ghost use Rattle.ent_world.specs.OpenWorld.{IsOpenWorld};
 
 use crate::view::View;
 use crate::world::World;
@@ -27,8 +28,7 @@ pub struct OpenWorld {
 }
 
 impl Model for OpenWorld {
-    ghost use Rattle.ent_world.specs.World.{AreLiving};
-    ghost use Rattle.ent_world.specs.OpenWorld.{OpenWorld, open_world_code};
+    ghost use Rattle.ent_world.specs.OpenWorld.{OpenWorld, open_world_code, IsOpenWorld};
 
     ghost Value = { OpenWorld };
 
@@ -40,12 +40,17 @@ impl Model for OpenWorld {
       entities = w.storage.entities;
     } };
 
-    ghost invariant = { λ w. AreLiving w.shared.start w.storage.entities };
+    ghost invariant = { λ w. IsOpenWorld (record {
+      shared = w.shared;
+      phase = w.phase;
+      entities = w.storage.entities;
+    }) };
 }
 
 impl OpenWorld {
     pub(crate) fn new(alloc: Global, shared: Shared, storage: Storage, phase: u64) -> Self
-        requires { AreLiving shared.start storage.entities }
+        requires { IsOpenWorld
+            (record { shared = shared; phase = phase; entities = storage.entities }) }
         ensures { result
             ≡ record { shared = shared; phase = phase; entities = storage.entities } }
     {
@@ -79,6 +84,7 @@ impl OpenWorld {
         requires own { All (IsOf self.shared) reservers.items }
         ensures phase { result.phase ≡ self.phase }
         ensures entities { result.entities ≡ self.entities }
+        ensures world { IsWorld result }
 
         // All reservations stand in one history that is legal and respects every reserver.
         ensures legal { IsLegal self.shared.start (history_of (records_of reservers.items)) }
@@ -123,6 +129,7 @@ impl OpenWorld {
         requires { All (IsOf self.shared) reservers.items }
         ensures phase { result.phase ≡ self.phase }
         ensures entities { result.entities ≡ self.entities }
+        ensures world { IsWorld result }
         ensures after { result.allocator ≡ after_loss self.shared.start result.allocator.asked }
 
         // It counts what the reservers that are here have requested, and of the others no more than

@@ -10,9 +10,10 @@ ghost use Rattle.ent_shared.specs.Record.{opened_records};
 ghost use Rattle.ent_shared.specs.Phase.{IsOf, records_of};
 ghost use Rattle.ent_storage.specs.EntityMap.{birth_of, components_of, value_of};
 ghost use Rattle.ent_storage.specs.BirthOrder.{ListsAll};
-ghost use Rattle.ent_world.specs.World.{first_world, AreLiving, lives_in};
+ghost use Rattle.ent_world.specs.World.{first_world, AreLiving, IsWorld, lives_in};
 ghost use Rattle.ent_world.specs.Command.{after_spawn, after_despawn};
 ghost use Rattle.ent_world.specs.Sync.{after_births, sync, sync_until, IsStop, IfStopped};
+ghost use Rattle.ent_world.specs.Memory.{TakesMemoryAt};
 
 use crate::births::{enter_listed, enter_others};
 use crate::fault::{SyncFault, SyncReport};
@@ -39,7 +40,7 @@ pub struct World {
 }
 
 impl Model for World {
-    ghost use Rattle.ent_world.specs.World.{World, world_code, AreLiving};
+    ghost use Rattle.ent_world.specs.World.{World, world_code, IsWorld};
 
     ghost Value = { World };
 
@@ -51,16 +52,24 @@ impl Model for World {
       entities = w.storage.entities;
     } };
 
-    ghost invariant = { λ w. AreLiving w.entities w.storage.entities };
+    ghost invariant = { λ w. IsWorld (record {
+      allocator = w.entities;
+      phase = w.phase;
+      entities = w.storage.entities;
+    }) };
 }
 
 impl World {
     /// A world without entities. It takes no memory, whatever the limits are.
     pub fn new(alloc: Global, limits: Limits) -> Self
-        ensures { result ≡ first_world limits }
+        ensures value { result ≡ first_world limits }
+        ensures world { IsWorld result }
     {
+        let entities = Entities::new(alloc, limits);
+        // Whatever the limits are, it begins in a state that steps lead to, as `cursor` promises.
+        prove_eq!(entities.cursor(), 0);
         World {
-            entities: Entities::new(alloc, limits),
+            entities,
             storage: Storage::new(alloc),
             phase: 0,
             alloc,
@@ -150,6 +159,8 @@ impl World {
         ensures ok { OnOk result (self.new ≡ after_births [] self.old) }
         ensures flushed { OnOk result (self.new.allocator.asked ≡ 0) }
         ensures err { OnErr result (self.new ≡ self.old) }
+        ensures memory { OnErr result (0 < length self.old.allocator.taken) }
+        ensures world { IsWorld self.new }
     {
         let _ = self.bring_to_life(&[])?;
         Ok(())
@@ -172,6 +183,7 @@ impl World {
         ensures space { IsErrOf result AllocFault.Space
             ↔ ((self.old.allocator.asked ≡ 0) × (self.old.allocator.pool ≡ [])) }
         ensures err { OnErr result (self.new ≡ self.old) }
+        ensures world { IsWorld self.new }
     {
         let handle = next_handle(&self.entities)?;
         make(&mut self.storage, handle, birth, bundle.items())?;
@@ -198,6 +210,7 @@ impl World {
         ensures not_alive { IsErrOf result FreeFault.NotAlive
             ↔ ((self.old.allocator.asked ≡ 0) × (lives_in self.old handle ≡ false)) }
         ensures err { OnErr result (self.new ≡ self.old) }
+        ensures world { IsWorld self.new }
     {
         let freed = self.entities.free(handle)?;
         let _ = self.storage.despawn(handle);
@@ -223,8 +236,11 @@ impl World {
         ensures faults { IfOk result (λ report.
             report.faults.items ≡ (sync queues.now self.old).faults) }
         ensures flushed { OnOk result (self.new.allocator.asked ≡ 0) }
+        ensures world { IsWorld self.new }
 
         ensures flush_memory { IsErrOf result SyncFault.FlushMemory → self.new ≡ self.old }
+        ensures flush_reserved { IsErrOf result SyncFault.FlushMemory
+            → 0 < length self.old.allocator.taken }
 
         // What stands after it stopped at a command.
         ensures stop { IfStopped result (λ system command done _.
@@ -236,6 +252,8 @@ impl World {
             so_far.born.items ≡ born self.old.allocator) }
         ensures stopped_faults { IfStopped result (λ system command done so_far.
             so_far.faults.items ≡ (sync_until system command done queues.now self.old).faults) }
+        ensures stopped_memory { IfStopped result (λ system command done _.
+            TakesMemoryAt self.new system command done queues.now) }
     {
         let Ok(born) = self.bring_to_life(queues) else {
             return Err(SyncFault::FlushMemory);
@@ -266,6 +284,7 @@ impl World {
         ensures shared { IfOk result (λ made.
             (made.0.shared.start ≡ self.allocator) × (made.0.shared.count ≡ n)) }
         ensures sound { IfOk result (λ made. IsSound made.0.shared.start) }
+        ensures living { IfOk result (λ made. AreLiving made.0.shared.start made.0.entities) }
         ensures phase { IfOk result (λ made. made.0.phase ≡ self.phase) }
         ensures entities { IfOk result (λ made. made.0.entities ≡ self.entities) }
         ensures count { IfOk result (λ made. length made.1.items ≡ n) }
@@ -274,6 +293,7 @@ impl World {
         ensures unused { IfOk result (λ made. All (λ r. r.own.entries ≡ []) made.1.items) }
         ensures own { IfOk result (λ made. All (IsOf made.0.shared) made.1.items) }
         ensures err { IfErr result (λ refused. refused.0 ≡ self) }
+        ensures world { IfErr result (λ refused. IsWorld refused.0) }
     {
         let World {
             entities,
@@ -304,9 +324,9 @@ impl World {
         ensures ok { OnOk result (self.new ≡ after_births queues.now self.old) }
         ensures born { IfOk result (λ handles. handles.items ≡ born self.old.allocator) }
         ensures err { OnErr result (self.new ≡ self.old) }
+        ensures memory { OnErr result (0 < length self.old.allocator.taken) }
+        ensures world { IsWorld self.new }
     {
-        // What is true of every allocator is promised with its cursor.
-        let _ = self.entities.cursor();
         let mut handles = Vec::new(self.alloc);
         self.storage.reserve(self.entities.reserved() as usize)?;
         self.entities.flush(&mut handles)?;

@@ -1,8 +1,15 @@
 use Rattle.ent_shared.specs.Phase.{records_of}
 use Rattle.ent_shared.specs.Order.{history_of}
-use Rattle.ent_world.proofs.Living.{living-history}
+use Rattle.ent_world.specs.World.{World}
+use Rattle.ent_world.proofs.Worlds.{after_history-world}
 use Rattle.ent_world.proofs.open_world.OpenWorld.close.Goals as goal
 
 pub invariant_of-result : goal.invariant_of-result
 invariant_of-result c =
-    living-history c.self.inside.shared.start c.close.result (history_of (records_of c.args.reservers.items)) c.self.inside.storage.entities c.self.invariant c.close.ensures.after
+    let w : World = record { allocator = c.self.inside.shared.start; phase = c.self.inside.phase; entities = c.self.inside.storage.entities } in
+    rw c.close.ensures.after (after_history-world (history_of (records_of c.args.reservers.items)) w c.self.invariant.world)
+
+pub returns-clause-world : goal.returns-clause-world
+returns-clause-world c =
+    let w : World = record { allocator = c.self.inside.shared.start; phase = c.self.inside.phase; entities = c.self.inside.storage.entities } in
+    rw c.close.ensures.after (after_history-world (history_of (records_of c.args.reservers.items)) w c.self.invariant.world)

@@ -3,6 +3,7 @@ use Rattle.ent_queue.specs.Entry.{command_of}
 use Rattle.ent_world.specs.Command.{applied, after_command, after_commands}
 use Rattle.ent_world.specs.Sync.{first_part}
 use Rattle.ent_world.proofs.Folds.{next_left, some_left, after_commands-next, stopped_command}
+use Rattle.ent_world.proofs.TakesMemory.{takes_memory_in}
 use Rattle.ent_world.proofs.world.World.apply_queue.Goals as goal
 
 pub unreachable-requires : goal.unreachable-requires
@@ -18,6 +19,11 @@ returns-in-Err-clause-err c =
     c.in-Err.ensures.err
     ∙ ap (after_commands c.args.system c.loop-command.command (first_part c.in-Err.done (command ∷ []))) c.loop-command.invariant.so_far
     ∙ sym (stopped_command c.args.system c.args.queue.now c.next.new.self c.loop-command.command c.in-Err.done command (applied c.args.self.now c.args.faults.now.items) left)
+
+pub returns-in-Err-clause-memory : goal.returns-in-Err-clause-memory
+returns-in-Err-clause-memory c =
+    let left = sym c.loop-command.invariant.left ∙ c.in-Some.ensures.steps in
+    takes_memory_in c.apply_command.new.self c.args.queue.now c.next.new.self c.loop-command.command c.in-Err.done (command_of c.in-Some.entry) left c.in-Err.ensures.memory
 
 -- one command more
 pub loop-command-preserved : goal.loop-command-preserved

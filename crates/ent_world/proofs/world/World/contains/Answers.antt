@@ -7,4 +7,4 @@ use Rattle.ent_world.proofs.world.World.contains.Goals as goal
 pub returns-in-Alive : goal.returns-in-Alive
 returns-in-Alive c =
     let alive = alive_by_state c.self.inside.entities c.args.handle (sym c.state.ensures ∙ c.in-Alive.is) in
-    sym (ap (λ (w : World). lives_in w c.args.handle) (sym c.self.view_is) ∙ c.self.invariant c.args.handle ∙ alive)
+    sym (ap (λ (w : World). lives_in w c.args.handle) (sym c.self.view_is) ∙ c.self.invariant.living c.args.handle ∙ alive)

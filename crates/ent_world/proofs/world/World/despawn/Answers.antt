@@ -1,13 +1,27 @@
-use Rattle.std.proofs.Common.{◌∙◌}
-use Rattle.ent_world.proofs.Living.{keys-remove}
+use Rattle.std.proofs.Common.{◌≡◌, ◌<◌, ◌∙◌, arith}
+use Rattle.ent_world.specs.World.{World}
 use Rattle.ent_world.proofs.Answers.{taken_out}
+use Rattle.ent_world.proofs.Worlds.{after_despawn-world}
 use Rattle.ent_world.proofs.world.World.despawn.Goals as goal
 
 pub invariant_of-self-2 : goal.invariant_of-self-2
 invariant_of-self-2 c =
-    let s = c.self.inside.entities in
     let m = c.self.inside.storage.entities in
     let h = c.args.handle in
-    let was = c.self.invariant in
-    let gone = taken_out m c.despawn.new.self.entities h c.despawn.result (was h ∙ c.in_ok-freed.ensures.lived) c.despawn.ensures.ok c.despawn.ensures.absent.0 c.despawn.ensures.only_absent in
-    rw (gone, c.in_ok-freed.ensures.ok) (keys-remove s.live m h was)
+    let w : World = record { allocator = c.self.inside.entities; phase = c.self.inside.phase; entities = m } in
+    let lived = c.self.invariant.living h ∙ c.in_ok-freed.ensures.lived in
+    let gone = taken_out m c.despawn.new.self.entities h c.despawn.result lived c.despawn.ensures.ok c.despawn.ensures.absent.0 c.despawn.ensures.only_absent in
+    let none : 0 < c.self.inside.entities.asked → ⊥ = λ some. let refused = c.in_ok-freed.ensures.needs_flush.1 some in cc in
+    let flushed : c.self.inside.entities.asked ≡ 0 = omega arith in
+    rw (gone, c.in_ok-freed.ensures.ok) (after_despawn-world h w c.self.invariant flushed lived)
+
+pub returns-clause-world : goal.returns-clause-world
+returns-clause-world c =
+    let m = c.self.inside.storage.entities in
+    let h = c.args.handle in
+    let w : World = record { allocator = c.self.inside.entities; phase = c.self.inside.phase; entities = m } in
+    let lived = c.self.invariant.living h ∙ c.in_ok-freed.ensures.lived in
+    let gone = taken_out m c.despawn.new.self.entities h c.despawn.result lived c.despawn.ensures.ok c.despawn.ensures.absent.0 c.despawn.ensures.only_absent in
+    let none : 0 < c.self.inside.entities.asked → ⊥ = λ some. let refused = c.in_ok-freed.ensures.needs_flush.1 some in cc in
+    let flushed : c.self.inside.entities.asked ≡ 0 = omega arith in
+    rw (gone, c.in_ok-freed.ensures.ok) (after_despawn-world h w c.self.invariant flushed lived)

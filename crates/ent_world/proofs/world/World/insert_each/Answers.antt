@@ -1,7 +1,9 @@
-use Rattle.std.proofs.Common.{◌<◌, sym, ap, ◌∙◌, length, arith}
+use Rattle.std.proofs.Common.{◌≡◌, ◌<◌, [], true, sym, ap, ◌∙◌, length, arith}
 use Rattle.ent_world.specs.Command.{applied, on_entity, after_insert}
-use Rattle.ent_world.proofs.Making.{on_ok}
+use Rattle.ent_world.specs.Memory.{insert_takes_memory}
+use Rattle.ent_world.proofs.Making.{on_ok, on_err}
 use Rattle.ent_world.proofs.Folds.{next_left, some_left, on_each-next}
+use Rattle.ent_world.proofs.TakesMemory.{first_takes_memory, next_takes_memory}
 use Rattle.ent_world.proofs.world.World.insert_each.Goals as goal
 
 pub unreachable-requires : goal.unreachable-requires
@@ -14,7 +16,7 @@ pub loop-done-preserved : goal.loop-done-preserved
 loop-done-preserved c =
     let left = sym c.loop-done.invariant.left ∙ c.in-Some.ensures.steps in
     let before = applied c.loop-done.self c.loop-done.faults.items in
-    let read = on_ok c.read_bundle.result (sym c.is_err.ensures.value ∙ c.if-is_err.false) c.read_bundle.ensures in
+    let read = on_ok c.read_bundle.result (sym c.is_err.ensures.value ∙ c.if-is_err.false) c.read_bundle.ensures.ok in
     let one = on_ok c.insert_items.result (sym c.is_err-in-loop-done.ensures.value ∙ c.if-is_err-2.false) c.insert_items.ensures.ok in
     record {
       flushed = c.insert_items.ensures.flushed;
@@ -24,3 +26,20 @@ loop-done-preserved c =
           ∙ ap (on_entity c.args.system c.args.command (after_insert c.args.bundle) c.in-Some.handle) c.loop-done.invariant.so_far
           ∙ sym (on_each-next c.args.system c.args.command (after_insert c.args.bundle) c.args.handles c.next.new.self c.loop-done.done c.in-Some.handle (applied c.args.self.now c.args.faults.now.items) left);
     }
+
+-- no room for the components
+pub returns-then-is_err-clause-memory : goal.returns-then-is_err-clause-memory
+returns-then-is_err-clause-memory c =
+    let refused = on_err c.read_bundle.result (sym c.is_err.ensures.value ∙ c.if-is_err.true) c.read_bundle.ensures.memory in
+    let tested = c.if-is_empty.false in
+    first_takes_memory c.args.self.now c.args.bundle c.args.handles (λ none. let empty = c.is_empty.ensures.1 none in cc) refused
+
+-- it stopped at this handle
+pub returns-then-is_err-2-clause-memory : goal.returns-then-is_err-2-clause-memory
+returns-then-is_err-2-clause-memory c =
+    let left = sym c.loop-done.invariant.left ∙ c.in-Some.ensures.steps in
+    let read = on_ok c.read_bundle.result (sym c.is_err.ensures.value ∙ c.if-is_err.false) c.read_bundle.ensures.ok in
+    let takes = on_err c.insert_items.result (sym c.is_err-in-loop-done.ensures.value ∙ c.if-is_err-2.true) c.insert_items.ensures.memory in
+    let world = c.insert_items.new.self in
+    let same : insert_takes_memory world c.args.bundle c.in-Some.handle ≡ true = ap (λ items. insert_takes_memory world items c.in-Some.handle) (sym (c.deref.ensures.value ∙ read)) ∙ takes in
+    next_takes_memory world c.args.bundle c.args.handles c.next.new.self c.loop-done.done c.in-Some.handle left same

@@ -1,0 +1,37 @@
+-- Which commands may take memory, so that a sync point may stop there.
+use Rattle.std.specs.Prelude.{◌≡◌, ℕ, ◌||◌, Bool, true, not, nat_lt, List, length, slice_get}
+use Rattle.std.specs.Prelude.{Option, None, Some, false, IsSomeAnd}
+use Rattle.ent_handle.specs.Handle.{Handle}
+use Rattle.ent_queue.specs.Command.{Bundle, Command, Spawn, SpawnMany, Insert, Remove}
+use Rattle.ent_queue.specs.Command.{Despawn, Refused}
+use Rattle.ent_world.specs.World.{World, lives_in}
+
+-- The entity is given components, or it is not alive, which is a fault to be listed.
+abbrev pub insert_takes_memory : World → Bundle → Handle → Bool
+insert_takes_memory w items h = nat_lt 0 (length items) || not (lives_in w h)
+
+-- the same of one of many, if there is one at that place
+abbrev pub place_takes_memory : World → Bundle → Option Handle → Bool
+place_takes_memory w items None = false
+place_takes_memory w items (Some h) = insert_takes_memory w items h
+
+-- The command may take memory in this world, at that of its handles: it gives an entity components,
+-- frees a handle, or lists a fault. No other takes any: no spawn of nobody, no empty bundle for who
+-- lives, no component that is taken away from who lives.
+abbrev pub takes_memory : World → ℕ → Command → Bool
+takes_memory w done (Spawn h items) = insert_takes_memory w items h
+takes_memory w done (SpawnMany hs items) = place_takes_memory w items (slice_get hs done)
+takes_memory w done (Insert h items) = insert_takes_memory w items h
+takes_memory w done (Remove h id) = not (lives_in w h)
+takes_memory w done (Despawn h) = true
+takes_memory w done (Refused wanted why) = true
+
+-- The queue has that command, and there it may take memory.
+abbrev pub TakesMemoryIn : World → ℕ → ℕ → List Command → Type 0
+TakesMemoryIn w command done queue =
+    IsSomeAnd (slice_get queue command) (λ c. takes_memory w done c ≡ true)
+
+-- The queues have that command of that system, and there it may take memory.
+abbrev pub TakesMemoryAt : World → ℕ → ℕ → ℕ → List (List Command) → Type 0
+TakesMemoryAt w system command done queues =
+    IsSomeAnd (slice_get queues system) (λ queue. TakesMemoryIn w command done queue)
