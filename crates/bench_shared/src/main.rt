@@ -68,6 +68,48 @@ struct Run {
     together: f64,
 }
 
+/// What some threads gave together, the first start and the last end, and from when to when all of
+/// them ran.
+#[derive(Clone, Copy)]
+struct Laps {
+    given: u64,
+    first: f64,
+    last: f64,
+    all_from: f64,
+    all_to: f64,
+}
+
+impl Laps {
+    fn none() -> Self {
+        Laps {
+            given: 0,
+            first: f64::MAX,
+            last: f64::MIN,
+            all_from: f64::MIN,
+            all_to: f64::MAX,
+        }
+    }
+
+    /// These and one more.
+    fn and(self, lap: Lap) -> Self {
+        Laps {
+            given: self.given.wrapping_add(lap.given),
+            first: self.first.min(lap.from),
+            last: self.last.max(lap.to),
+            all_from: self.all_from.max(lap.from),
+            all_to: self.all_to.min(lap.to),
+        }
+    }
+
+    fn run(self) -> Run {
+        Run {
+            given: self.given,
+            seconds: self.last - self.first,
+            together: self.all_to - self.all_from,
+        }
+    }
+}
+
 fn main(rt: HostRuntime) -> io::Result<()> {
     let mut words = env::args(&rt)?;
     let _ = words.next();
@@ -87,14 +129,21 @@ fn main(rt: HostRuntime) -> io::Result<()> {
 
 fn print_counts<R: Clock + Print + Threads + Sync + AllocGlobal>(rt: &R) -> io::Result<()> {
     for case in &CASES {
-        let Case { threads, requested } = *case;
-        let reserved = reserve(rt, *case, FEW)?.given;
-        let subtracted = subtract(rt, *case, FEW)?.given;
-        println!(rt;
-            "threads {threads} requested {requested} reserved {reserved} subtracted {subtracted}"
-        )?;
+        print_count(rt, *case)?;
     }
     Ok(())
+}
+
+fn print_count<R>(rt: &R, case: Case) -> io::Result<()>
+where
+    R: Clock + Print + Threads + Sync + AllocGlobal,
+{
+    let Case { threads, requested } = case;
+    let reserved = reserve(rt, case, FEW)?.given;
+    let subtracted = subtract(rt, case, FEW)?.given;
+    println!(rt;
+        "threads {threads} requested {requested} reserved {reserved} subtracted {subtracted}"
+    )
 }
 
 /// A line for each pair: the case, the steps of all threads, and of each kind the seconds and those in which all threads ran.
@@ -160,24 +209,14 @@ where
 
 /// The laps of all threads in one.
 fn run_of(laps: &[Option<Lap>]) -> io::Result<Run> {
-    let mut given: u64 = 0;
-    let (mut first, mut last) = (f64::MAX, f64::MIN);
-    let (mut all_from, mut all_to) = (f64::MIN, f64::MAX);
+    let mut all = Laps::none();
     for lap in laps {
-        let Some(lap) = lap else {
-            return Err(io::ErrorKind::Unsupported.into());
-        };
-        given = given.wrapping_add(lap.given);
-        first = first.min(lap.from);
-        last = last.max(lap.to);
-        all_from = all_from.max(lap.from);
-        all_to = all_to.min(lap.to);
+        match lap {
+            Some(lap) => all = all.and(*lap),
+            None => return Err(io::ErrorKind::Unsupported.into()),
+        }
     }
-    Ok(Run {
-        given,
-        seconds: last - first,
-        together: all_to - all_from,
-    })
+    Ok(all.run())
 }
 
 /// The lap of a thread that reserves, or nothing if the clock fails.
