@@ -50,7 +50,8 @@ IsClaimedBy claimers n k =
 pub record AreFirst (numbers : ℕ) (claimers : List Claimer) : Type 0 where
   pub count : ℕ
   pub within : count ≤ numbers
-  pub once : IsPermutation (flat_map (λ (c : Claimer). c.own.claims) claimers) (range_with_len 0 count)
+  pub once : IsPermutation (flat_map (λ (c : Claimer). c.own.claims) claimers)
+      (range_with_len 0 count)
   -- all of them, if one of the claimers has found that no number is left
   pub whole : (k : ℕ) (c : Claimer) → slice_get claimers k ≡ Some c → c.own.ended ≡ true
       → count ≡ numbers
