@@ -1,6 +1,7 @@
 -- A frame: systems run on workers over one shared world, each with a queue of its own, and the sync
 -- point applies the queues in the order of the systems.
-use Rattle.std.specs.Prelude.{◌≡◌, ℕ, ◌<◌, ◌≤◌, ◌==◌, List, [], length, map, filter, Result, Ok, Err}
+use Rattle.std.specs.Prelude.{◌≡◌, ℕ, ◌<◌, ◌≤◌, ◌==◌, List, [], length, map, filter}
+use Rattle.std.specs.Prelude.{Result, Ok, Err}
 use Rattle.std.specs.Prelude.{slice_get, slice_index_or, Some, ◌⊎◌}
 use Rattle.std.specs.List.{All, AllPairs, flat_map, range_with_len}
 use Rattle.std.specs.List.Sorted.{IsPermutation}
@@ -79,7 +80,7 @@ abbrev pub MayIssue : {S : Type 0} → (S → View → List Command → Type 0) 
 MayIssue {S} may systems view n queue =
     (system : S) → slice_get systems n ≡ Some system → may system view queue
 
--- or it may leave them in its queue, if memory was refused to it
+-- or leave them in its queue, if memory was refused to it
 abbrev pub MayHaveIssued : {S : Type 0} → (S → View → List Command → Type 0)
     → (S → View → List Command → Type 0) → List S → View → ℕ → List Command → Type 0
 MayHaveIssued may leave systems view n queue =

@@ -1,7 +1,7 @@
 //! The workers of a frame are made before it and taken apart after it, in room that was asked for
 //! before the phase was opened.
-ghost use Rattle.std.specs.Prelude.{◌≡◌, ◌<◌, ◌≤◌, ◌^◌, [], length, map, reverse, replicate, All, IfOk};
-ghost use Rattle.std.specs.Prelude.{None, false, flat_map, vec_capacity};
+ghost use Rattle.std.specs.Prelude.{◌≡◌, ◌<◌, ◌≤◌, ◌^◌, [], length, map, reverse, replicate, All};
+ghost use Rattle.std.specs.Prelude.{IfOk, None, false, flat_map, vec_capacity};
 ghost use Rattle.ent_runner.specs.Placing.{placed};
 ghost use Rattle.ent_runner.specs.Worker.{HasRoom, HasReturns};
 
