@@ -48,7 +48,7 @@ impl System for Work {
 impl System for Empty {
     ghost may_issue = { λ _ _ _. Unit {0} };
 
-    #[tactic(auto, using(ent_runner::proofs::Issuing::extends_nothing))]
+    #[tactic(auto, using(ent_queue::proofs::Extending::extends_nothing))]
     fn run(
         &self,
         _alloc: Global,

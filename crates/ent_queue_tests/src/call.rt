@@ -68,7 +68,8 @@ fn done(answer: Result<(), Memory>) -> Result<Given, QueueFault> {
     }
 }
 
-fn handle(rt: &impl Abort, (index, generation): Entity) -> Handle {
+/// The entity's handle.
+pub fn handle(rt: &impl Abort, (index, generation): Entity) -> Handle {
     Handle::new(index, generation).expect(rt, "a handle in range")
 }
 

@@ -6,6 +6,10 @@ mod bundles;
 #[cfg(test)]
 mod call;
 #[cfg(test)]
+mod faults;
+#[cfg(test)]
+mod long;
+#[cfg(test)]
 mod memory;
 #[cfg(test)]
 mod phase;

@@ -3,7 +3,6 @@ pub mod Lists
 pub mod Framed
 pub mod Lost
 pub mod Alone
-pub mod Issuing
 pub mod Conducting
 pub mod Running
 pub mod Disbanding

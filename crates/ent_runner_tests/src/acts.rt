@@ -30,7 +30,7 @@ pub enum Act {
 impl System for Act {
     ghost may_issue = { λ system view queue. Unit {0} };
 
-    #[tactic(auto, using(ent_runner::proofs::Issuing::extends_then))]
+    #[tactic(auto, using(ent_queue::proofs::Extending::extends_then))]
     fn run(
         &self,
         alloc: Global,
@@ -59,7 +59,7 @@ pub struct Count<'a> {
 impl System for Count<'_> {
     ghost may_issue = { λ system view queue. Unit {0} };
 
-    #[tactic(auto, using(ent_runner::proofs::Issuing::extends_then))]
+    #[tactic(auto, using(ent_queue::proofs::Extending::extends_then))]
     fn run(
         &self,
         alloc: Global,
@@ -101,7 +101,7 @@ fn insert(
     commands.insert(handle, bundle)
 }
 
-#[tactic(auto, using(ent_runner::proofs::Issuing::extends_then))]
+#[tactic(auto, using(ent_queue::proofs::Extending::extends_then))]
 fn copy_hp(alloc: Global, view: &View<'_>, commands: &mut Commands<'_>) -> Result<(), Memory>
     requires { IsReady commands.old }
     ensures { Extends commands.old commands.new }

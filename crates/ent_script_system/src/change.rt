@@ -24,7 +24,7 @@ pub(crate) enum Change<'a> {
 
 impl Change<'_> {
     /// Issues the change for each handle of the target, in order.
-    #[tactic(auto, using(ent_runner::proofs::Issuing::extends_then))]
+    #[tactic(auto, using(ent_queue::proofs::Extending::extends_then))]
     pub(crate) fn on_target(
         self,
         alloc: Global,
@@ -46,7 +46,7 @@ impl Change<'_> {
     }
 
     /// Issues the change for each of the handles, in order.
-    #[tactic(auto, using(ent_runner::proofs::Issuing::extends_then))]
+    #[tactic(auto, using(ent_queue::proofs::Extending::extends_then))]
     fn on_each(
         self,
         alloc: Global,

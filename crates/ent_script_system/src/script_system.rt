@@ -41,7 +41,7 @@ impl<'a> ScriptSystem<'a> {
 impl System for ScriptSystem<'_> {
     ghost may_issue = { MayIssue };
 
-    #[tactic(auto, using(ent_runner::proofs::Issuing::extends_then))]
+    #[tactic(auto, using(ent_queue::proofs::Extending::extends_then))]
     fn run(
         &self,
         alloc: Global,

@@ -44,7 +44,7 @@ pub struct Age {
 impl System for Age {
     ghost may_issue = { λ _ view queue. All (IsOnProjectile view) queue };
 
-    #[tactic(auto, using(ent_runner::proofs::Issuing::extends_then))]
+    #[tactic(auto, using(ent_queue::proofs::Extending::extends_then))]
     fn run(
         &self,
         alloc: Global,

@@ -2,7 +2,7 @@ use Rattle.std.proofs.Common.{◌≡◌, ◌∙◌, ◌++◌, ◌∷◌, [], ◌
 use Rattle.std.proofs.lemmas.List.{map-append, take_more}
 use Rattle.ent_queue.specs.Command.{Command}
 use Rattle.ent_queue.specs.Commands.{queue_of}
-use Rattle.ent_runner.proofs.Issuing.{extends_then}
+use Rattle.ent_queue.proofs.Extending.{extends_then}
 use Rattle.ent_handle.specs.Handle.{Handle}
 use Rattle.ent_script_system.specs.Parts.{command_on}
 use Rattle.ent_script_system.proofs.change.Change.on_each.Goals as goal

@@ -1,7 +1,7 @@
 use Rattle.std.proofs.Common.{◌≡◌, ◌∙◌, [], List, drop, subst}
 use Rattle.std.proofs.lemmas.List.{drop_all}
 use Rattle.ent_queue.specs.Commands.{queue_of}
-use Rattle.ent_runner.proofs.Issuing.{extends_then}
+use Rattle.ent_queue.proofs.Extending.{extends_then}
 use Rattle.ent_script.specs.declared.operation.Operation.{Operation}
 use Rattle.ent_script_system.specs.Issuing.{MayIssue}
 use Rattle.ent_script_system.proofs.Running.{has_gone_on, has_ended}

@@ -1,0 +1,69 @@
+//! Queues that are long, or have a long command. Memory is refused to none of them.
+use crate::bundles::all_components;
+use crate::call::handle;
+use crate::phase::opened;
+use ent_handle::ComponentId;
+use ent_queue::{Bundle, Commands, Entry};
+
+#[test]
+fn an_insertion_of_all_components(rt: HostRuntime) {
+    let alloc = rt.alloc();
+    let (shared, mut reserver) = opened(&rt, alloc, 1);
+    let mut commands = Commands::new(alloc, &shared, &mut reserver);
+    let answer = commands.insert(handle(&rt, (0, 1)), all_components(&rt, alloc));
+    answer.expect(&rt, "memory for the insertion");
+    let queue = commands.finish();
+    let Some(Entry::Insert(_, bundle)) = queue.entries().next() else {
+        panic!(rt; "an insertion")
+    };
+    let mut items = bundle.iter();
+    for number in 0..=255 {
+        assert!(rt; items.next() == Some((ComponentId(number), i64::from(number))));
+    }
+    assert!(rt; items.next().is_none());
+}
+
+/// How many commands the long queue has.
+const LONG: u32 = 2000;
+
+#[test]
+fn a_long_queue(rt: HostRuntime) {
+    let alloc = rt.alloc();
+    let (shared, mut reserver) = opened(&rt, alloc, 1);
+    let mut commands = Commands::new(alloc, &shared, &mut reserver);
+    for index in 0..LONG {
+        let answer = commands.despawn(handle(&rt, (index, 1)));
+        answer.expect(&rt, "memory for the despawn");
+    }
+    let queue = commands.finish();
+    let mut entries = queue.entries();
+    for index in 0..LONG {
+        let Some(Entry::Despawn(entity)) = entries.next() else {
+            panic!(rt; "a despawn")
+        };
+        assert!(rt; entity == handle(&rt, (index, 1)));
+    }
+    assert_eq!(rt; entries.len(), 0);
+}
+
+/// How many handles the great reservation requests.
+const MANY: u32 = 1_000_001;
+
+#[test]
+fn a_spawn_of_a_million(rt: HostRuntime) {
+    let alloc = rt.alloc();
+    let (shared, mut reserver) = opened(&rt, alloc, MANY);
+    let mut commands = Commands::new(alloc, &shared, &mut reserver);
+    let handles = commands
+        .spawn_many(MANY, Bundle::new(alloc))
+        .expect(&rt, "the handles");
+    let queue = commands.finish();
+    let Some(Entry::SpawnMany(kept, _)) = queue.entries().next() else {
+        panic!(rt; "a spawn of many")
+    };
+    let mut kept = kept.iter();
+    for handle in handles {
+        assert!(rt; kept.next() == Some(handle));
+    }
+    assert_eq!(rt; kept.len(), 0);
+}
