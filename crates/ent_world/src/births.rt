@@ -81,8 +81,8 @@ fn enter_entry(storage: &mut Storage, entities: &Entities, birth: Birth, entry: 
     ensures next { result ≡ birth_after birth (listed_by (command_of entry.entry)) }
 {
     match entry {
-        Entry::Spawn(handle, _) => {
-            enter(storage, entities, handle, birth);
+        Entry::Spawn(only, _) => {
+            enter(storage, entities, only, birth);
             next_birth(birth)
         }
         Entry::SpawnMany(handles, _) => enter_handles(storage, entities, birth, handles.iter()),

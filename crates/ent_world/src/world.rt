@@ -80,7 +80,7 @@ impl World {
     pub fn len(&self) -> usize
         ensures value { result ≡ map.len self.now.entities }
 
-        // What is true of every world: its map has exactly those that are alive.
+        // A part of what is true of every world, for who was lent one.
         ensures living { AreLiving self.now.allocator self.now.entities }
     {
         self.storage.len()
@@ -154,7 +154,7 @@ impl World {
     ///
     /// # Errors
     ///
-    /// `Memory`, and then nothing has changed.
+    /// `Memory`, only if something is reserved. Nothing has changed then.
     pub fn flush(&mut self) -> Result<(), Memory>
         ensures ok { OnOk result (self.new ≡ after_births [] self.old) }
         ensures flushed { OnOk result (self.new.allocator.asked ≡ 0) }
@@ -226,9 +226,11 @@ impl World {
     ///
     /// # Errors
     ///
-    /// - `FlushMemory`: nothing was done, and the call may be made again.
+    /// - `FlushMemory`, only if something is reserved: nothing was done, and the call may be made
+    ///   again.
     /// - `Memory`: it stopped before a command, or at a spawn of many before one of its handles.
-    ///   All births stand, and of the commands just those before.
+    ///   That command would there give an entity components, free a handle or list a fault: no
+    ///   other takes memory. All births stand, and of the commands just those before.
     pub fn apply(&mut self, queues: &[CommandQueue]) -> Result<SyncReport, SyncFault>
         requires { length queues.now ≤ 2 ^ 16 }
         ensures ok { OnOk result (self.new ≡ (sync queues.now self.old).world) }

@@ -24,6 +24,10 @@ pub enum Call {
     Spawn(Items),
     SpawnMany(u32, Items),
     Insert(Entity, Items),
+    /// A spawn with all components, a spawn of many, and an insertion of them.
+    SpawnFull,
+    SpawnManyFull(u32),
+    InsertFull(Entity),
     Remove(Entity, u8),
     Despawn(Entity),
 }
@@ -49,6 +53,22 @@ pub fn bundle(rt: &impl Abort, alloc: Global, items: &[(u8, i64)]) -> Bundle {
         }
     }
     bundle
+}
+
+/// A bundle of all 256 components.
+pub fn full_bundle(rt: &impl Abort, alloc: Global) -> Bundle {
+    let mut bundle = Bundle::new(alloc);
+    for number in 0..=u8::MAX {
+        bundle
+            .put(ComponentId(number), full_value(number))
+            .expect(rt, "memory for a bundle");
+    }
+    bundle
+}
+
+/// The value of a component in a bundle of all of them.
+pub fn full_value(number: u8) -> i64 {
+    i64::from(number) * 3 - 100
 }
 
 /// The world in a phase, with two reservers.
@@ -132,6 +152,15 @@ fn issue(
         Call::Insert(entity, items) => {
             let answer = commands.insert(handle(rt, entity), bundle(rt, alloc, items));
             return done(answer);
+        }
+        Call::SpawnFull => {
+            let _ = commands.spawn(full_bundle(rt, alloc))?;
+        }
+        Call::SpawnManyFull(n) => {
+            let _ = commands.spawn_many(n, full_bundle(rt, alloc))?;
+        }
+        Call::InsertFull(entity) => {
+            return done(commands.insert(handle(rt, entity), full_bundle(rt, alloc)));
         }
         Call::Remove(entity, id) => {
             return done(commands.remove(handle(rt, entity), ComponentId(id)));

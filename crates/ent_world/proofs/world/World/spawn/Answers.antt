@@ -42,7 +42,7 @@ invariant_of-self-in_default c =
     let fronts : Some c.in_default.field-0 ≡ Some h = sym c.in_default.ensures.front ∙ c.in_ok-handle.ensures.front in
     let same : c.in_default.field-0 ≡ h = cc in
     rw (c.in_ok-make.ensures.ok, c.in_default.ensures.ok, same)
-        (after_spawn-world c.args.birth c.items.result.now h w c.self.invariant c.in_ok-handle.ensures.flushed c.in_ok-handle.ensures.front)
+    (after_spawn-world c.args.birth c.items.result.now h w c.self.invariant c.in_ok-handle.ensures.flushed c.in_ok-handle.ensures.front)
 
 pub returns-in-Err-clause-world : goal.returns-in-Err-clause-world
 returns-in-Err-clause-world c =
@@ -63,4 +63,4 @@ returns-clause-world c =
     let fronts : Some c.in_default.field-0 ≡ Some h = sym c.in_default.ensures.front ∙ c.in_ok-handle.ensures.front in
     let same : c.in_default.field-0 ≡ h = cc in
     rw (c.in_ok-make.ensures.ok, c.in_default.ensures.ok, same)
-        (after_spawn-world c.args.birth c.items.result.now h w c.self.invariant c.in_ok-handle.ensures.flushed c.in_ok-handle.ensures.front)
+    (after_spawn-world c.args.birth c.items.result.now h w c.self.invariant c.in_ok-handle.ensures.flushed c.in_ok-handle.ensures.front)
