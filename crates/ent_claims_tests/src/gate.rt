@@ -1,7 +1,9 @@
 use std::sync::atomic::{AtomicU32, Ordering};
+use std::thread;
 
-/// How often a thread looks for the others before it goes on without them.
-const TURNS: u32 = 200_000_000;
+/// How often a thread looks for the others before it goes on without them. It lets another thread
+/// run each time, so that all get on also if the processors are busy.
+const TURNS: u32 = 10_000_000;
 
 /// Where threads look for one another before they claim, so that they do overlap.
 #[derive(Drop)]
@@ -21,6 +23,12 @@ impl Gate {
     /// Enters, and waits until all have entered, though not for ever. Answers whether it saw them.
     pub fn enter(&self) -> bool {
         self.entered.fetch_add(1, Ordering::SeqCst);
-        (0..TURNS).any(|_| self.entered.load(Ordering::SeqCst) == self.threads)
+        for _ in 0..TURNS {
+            if self.entered.load(Ordering::SeqCst) == self.threads {
+                return true;
+            }
+            thread::yield_now();
+        }
+        false
     }
 }

@@ -1,6 +1,11 @@
 //! Claimers that claim in turn.
+ghost use Rattle.std.specs.Prelude.{All};
+ghost use Rattle.ent_claims.specs.Claims.{IsOf};
+
 use crate::opening::{last, opened};
 use crate::worker::Worker;
+use ent_claims::{Claimer, Claims};
+use std::process::Abort;
 
 #[test]
 fn one_worker_gets_all_in_order(rt: HostRuntime) {
@@ -41,11 +46,38 @@ fn no_numbers_for_many_workers(rt: HostRuntime) {
 #[test]
 fn as_many_numbers_as_there_may_be(rt: HostRuntime) {
     let alloc = rt.alloc();
-    let (claims, mut claimers) = opened(&rt, alloc, 65_536, 1);
-    let only = Worker::new(alloc, last(&rt, &claims, &mut claimers)).alone(&claims, 65_536);
-    assert_eq!(rt; only.claimed.len(), 65_536);
-    assert_eq!(rt;
-        (only.claimed.first(), only.claimed.last()),
-        (Some(&0), Some(&65_535))
-    );
+    for workers in [1, 64] {
+        let (claims, mut claimers) = opened(&rt, alloc, 65_536, workers);
+        let only = Worker::new(alloc, last(&rt, &claims, &mut claimers)).alone(&claims, 65_536);
+        assert_all(&rt, &only.claimed, 65_536);
+    }
+}
+
+/// The numbers below that one, in order.
+fn assert_all(rt: &impl Abort, claimed: &[usize], numbers: usize) {
+    assert_eq!(rt; claimed.len(), numbers);
+    for (number, claim) in claimed.iter().enumerate() {
+        assert!(rt; *claim == number);
+    }
+}
+
+/// Each worker claims one number, and all but those are left.
+#[test]
+fn each_number_of_workers(rt: HostRuntime) {
+    let alloc = rt.alloc();
+    for workers in 1..=64 {
+        let (claims, claimers) = opened(&rt, alloc, 65_536, workers);
+        assert_eq!(rt; claimers.len(), workers);
+        assert_in_turn(&rt, &claims, claimers);
+    }
+}
+
+/// One number for each claimer, in their order.
+fn assert_in_turn(rt: &impl Abort, claims: &Claims, mut claimers: Vec<Claimer>)
+    requires { All (IsOf claims.now) claimers.items }
+{
+    for number in 0..claimers.len() {
+        let mut claimer = last(rt, claims, &mut claimers);
+        assert!(rt; claims.next(&mut claimer) == Some(number));
+    }
 }

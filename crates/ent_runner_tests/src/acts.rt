@@ -2,12 +2,14 @@
 ghost use Rattle.std.specs.Prelude.{List};
 ghost use Rattle.ent_queue.specs.Commands.{IsReady, Extends};
 
+use crate::counts::Counts;
 use crate::meeting::Meeting;
 use ent_handle::{ComponentId, Handle, Memory};
 use ent_queue::{Bundle, Commands, QueueFault};
 use ent_runner::System;
 use ent_world::View;
 use std::alloc::Global;
+use std::process::Abort;
 
 pub const HP: ComponentId = ComponentId(0);
 
@@ -16,8 +18,13 @@ pub const MP: ComponentId = ComponentId(1);
 /// A system that does one thing.
 #[derive(Clone, Copy)]
 pub enum Act {
+    Nothing,
     /// Spawns one entity with this `HP`.
     Spawn(i64),
+    /// Spawns so many entities, each with its ordinal as `HP`.
+    SpawnEach(u32),
+    /// Spawns one entity with this `HP`, also if memory is refused to it once.
+    SpawnSurely(i64),
     /// Spawns one entity with this `HP`, and then answers that memory was refused.
     SpawnAndStop(i64),
     Despawn(Handle),
@@ -30,7 +37,7 @@ pub enum Act {
 impl System for Act {
     ghost may_issue = { λ system view queue. Unit {0} };
 
-    #[tactic(auto, using(ent_queue::proofs::Extending::extends_then))]
+    #[tactic(auto, using(ent_queue::proofs::Extending::extends_nothing, ent_queue::proofs::Extending::extends_then))]
     fn run(
         &self,
         alloc: Global,
@@ -38,7 +45,10 @@ impl System for Act {
         commands: &mut Commands<'_>,
     ) -> Result<(), Memory> {
         match self {
+            Act::Nothing => Ok(()),
             Act::Spawn(value) => spawn(alloc, commands, *value),
+            Act::SpawnEach(count) => spawn_each(alloc, commands, *count),
+            Act::SpawnSurely(value) => spawn_surely(alloc, commands, *value),
             Act::SpawnAndStop(value) => {
                 spawn(alloc, commands, *value)?;
                 Err(Memory)
@@ -70,6 +80,52 @@ impl System for Count<'_> {
     }
 }
 
+/// A system that is counted each time that it runs.
+#[derive(Clone, Copy)]
+pub struct Counted<'a> {
+    counts: &'a Counts,
+    number: usize,
+    act: Act,
+}
+
+impl System for Counted<'_> {
+    ghost may_issue = { λ system view queue. Unit {0} };
+
+    fn run(
+        &self,
+        alloc: Global,
+        view: &View<'_>,
+        commands: &mut Commands<'_>,
+    ) -> Result<(), Memory> {
+        self.counts.runs(self.number);
+        self.act.run(alloc, view, commands)
+    }
+}
+
+/// These systems, counted.
+pub fn all_counted<'a>(
+    rt: &impl Abort,
+    alloc: Global,
+    counts: &'a Counts,
+    acts: &[Act],
+) -> Vec<Counted<'a>> {
+    let made = match Vec::with_capacity(alloc, acts.len()) {
+        Err(_) => Vec::with_capacity(alloc, acts.len()),
+        made => made,
+    };
+    let mut systems = made.expect(rt, "memory for the systems");
+    for (number, act) in acts.iter().enumerate() {
+        let act = *act;
+        let pushed = systems.push(Counted {
+            counts,
+            number,
+            act,
+        });
+        assert!(rt; pushed.is_ok());
+    }
+    systems
+}
+
 fn one(alloc: Global, id: ComponentId, value: i64) -> Result<Bundle, Memory> {
     let mut bundle = Bundle::new(alloc);
     bundle.put(id, value)?;
@@ -84,6 +140,28 @@ fn spawn(alloc: Global, commands: &mut Commands<'_>, value: i64) -> Result<(), M
     match commands.spawn(bundle) {
         Err(QueueFault::Memory) => Err(Memory),
         _ => Ok(()),
+    }
+}
+
+#[tactic(auto, using(ent_queue::proofs::Extending::extends_then))]
+fn spawn_each(alloc: Global, commands: &mut Commands<'_>, count: u32) -> Result<(), Memory>
+    requires { IsReady commands.old }
+    ensures { Extends commands.old commands.new }
+{
+    for ordinal in 0..count {
+        spawn(alloc, commands, i64::from(ordinal))?;
+    }
+    Ok(())
+}
+
+#[tactic(auto, using(ent_queue::proofs::Extending::extends_then))]
+fn spawn_surely(alloc: Global, commands: &mut Commands<'_>, value: i64) -> Result<(), Memory>
+    requires { IsReady commands.old }
+    ensures { Extends commands.old commands.new }
+{
+    match spawn(alloc, commands, value) {
+        Err(Memory) => spawn(alloc, commands, value),
+        done => done,
     }
 }
 

@@ -1,4 +1,5 @@
 //! Frames, with what they require tested before.
+use ent_handle::Handle;
 use ent_runner::{FrameFault, FrameReport, Gate, System, run_frame};
 use ent_world::World;
 use std::alloc::Global;
@@ -43,4 +44,9 @@ where
         panic!(rt; "memory for a frame")
     };
     report
+}
+
+/// The first handle of a slot.
+pub fn first(rt: &impl Abort, index: u32) -> Handle {
+    Handle::new(index, 1).expect(rt, "a handle in range")
 }

@@ -7,12 +7,22 @@ mod acts;
 #[cfg(test)]
 mod beside;
 #[cfg(test)]
+mod counts;
+#[cfg(test)]
+mod entered;
+#[cfg(test)]
 mod frames;
+#[cfg(test)]
+mod leaks;
+#[cfg(test)]
+mod limits;
 #[cfg(test)]
 mod meeting;
 #[cfg(test)]
 mod memory;
 #[cfg(test)]
 mod shown;
+#[cfg(test)]
+mod texts;
 #[cfg(test)]
 mod worked;

@@ -1,8 +1,10 @@
 use ent_runner::Gate;
-use std::sync::atomic::{AtomicU32, Ordering};
+use std::sync::atomic::{AtomicBool, AtomicU32, Ordering};
+use std::thread;
 
-/// How often a system looks for the others before it goes on without them.
-const TURNS: u32 = 200_000_000;
+/// How often a system looks for the others before it goes on without them. It lets another thread
+/// run each time, so that all get on also if they are more than the processors.
+const TURNS: u32 = 10_000_000;
 
 /// A gate at which the first systems of a frame wait until all have entered, though not for ever.
 #[derive(Drop)]
@@ -13,6 +15,8 @@ pub struct Meeting {
     waiting: usize,
     entered: AtomicU32,
     saw_all: AtomicU32,
+    /// A system has waited in vain, so no other one waits for long.
+    in_vain: AtomicBool,
 }
 
 impl Meeting {
@@ -22,6 +26,7 @@ impl Meeting {
             waiting,
             entered: AtomicU32::new(0),
             saw_all: AtomicU32::new(0),
+            in_vain: AtomicBool::new(false),
         }
     }
 
@@ -34,12 +39,27 @@ impl Meeting {
     pub fn saw_all(&self) -> u32 {
         self.saw_all.load(Ordering::SeqCst)
     }
+
+    /// Waits until all have entered. Answers whether it saw that.
+    fn sees_all(&self) -> bool {
+        for _ in 0..TURNS {
+            if self.entered() == self.systems {
+                return true;
+            }
+            if self.in_vain.load(Ordering::SeqCst) {
+                return false;
+            }
+            thread::yield_now();
+        }
+        self.in_vain.store(true, Ordering::SeqCst);
+        false
+    }
 }
 
 impl Gate for Meeting {
     fn entered(&self, system: usize) {
         self.entered.fetch_add(1, Ordering::SeqCst);
-        if system < self.waiting && (0..TURNS).any(|_| self.entered() == self.systems) {
+        if system < self.waiting && self.sees_all() {
             self.saw_all.fetch_add(1, Ordering::SeqCst);
         }
     }

@@ -1,6 +1,7 @@
 //! Memory that is refused. Each test passes whichever single allocation is refused:
 //! `rt try --test --fail-alloc N -- refused_memory` refuses the Nth.
-use crate::acts::Act;
+use crate::acts::{Act, all_counted};
+use crate::counts::Counts;
 use crate::frames::{frame, tried};
 use crate::shown::births;
 use ent_alloc::Limits;
@@ -128,4 +129,28 @@ fn refused_memory_of_one_worker(rt: HostRuntime) {
 #[test]
 fn refused_memory_of_two_workers(rt: HostRuntime) {
     frame_at_last(&rt, rt.alloc(), 2);
+}
+
+/// Systems that do not fail, as no more than one allocation is refused.
+const SURE: [Act; 2] = [Act::SpawnSurely(5), Act::SpawnSurely(7)];
+
+/// One worker runs systems that do not fail. So the entries of the gate tell where memory was
+/// refused: before the first system, between the two, in the list of what the worker ran, or after
+/// both. Each system that was entered has reserved one handle.
+#[test]
+fn refused_memory_and_what_was_entered(rt: HostRuntime) {
+    let alloc = rt.alloc();
+    let counts = Counts::new(&rt, alloc, 2);
+    let systems = all_counted(&rt, alloc, &counts, &SURE);
+    let mut world = World::new(alloc, Limits::default_limits());
+    let entered = match tried(&rt, alloc, &mut world, &systems, 1, &counts) {
+        Err(FrameFault::Memory) => 0,
+        Err(FrameFault::Lost) => 1,
+        _ => 2,
+    };
+    counts.assert_first(&rt, entered, 1);
+    if world.needs_flush() {
+        world.flush().expect(&rt, "memory for the flush");
+    }
+    assert_eq!(rt; world.len(), entered);
 }

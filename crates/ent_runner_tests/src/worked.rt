@@ -1,16 +1,10 @@
 //! Worked frames.
 use crate::acts::Act;
-use crate::frames::{frame, tried};
+use crate::frames::{first, frame, tried};
 use crate::shown::{births, faults, handles};
 use ent_alloc::Limits;
-use ent_handle::Handle;
 use ent_runner::{FrameFault, NoGate};
 use ent_world::World;
-use std::process::Abort;
-
-fn first(rt: &impl Abort, index: u32) -> Handle {
-    Handle::new(index, 1).expect(rt, "a handle in range")
-}
 
 #[test]
 fn a_frame_without_systems(rt: HostRuntime) {

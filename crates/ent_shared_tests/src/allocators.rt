@@ -30,6 +30,24 @@ pub fn with_freed(rt: &impl Abort, alloc: Global, n: u32) -> Entities
     entities
 }
 
+/// An allocator that may make `slots` slots and has made `made` of them. The first `freed` ones
+/// wait for their next occupant, and in the others somebody lives.
+pub fn with_made(rt: &impl Abort, alloc: Global, slots: u32, made: u32, freed: u32) -> Entities
+    ensures { result.asked ≡ 0 }
+{
+    let mut entities = with_slots(rt, alloc, slots);
+    for _ in 0..made {
+        entities.alloc().expect(rt, "memory for a slot");
+    }
+    for index in 0..freed {
+        entities
+            .free(first(rt, index))
+            .expect(rt, "memory for a slot");
+    }
+    assert!(rt; !entities.needs_flush());
+    entities
+}
+
 /// The first handle of a slot.
 pub fn first(rt: &impl Abort, index: u32) -> Handle {
     Handle::new(index, 1).expect(rt, "a handle in range")
@@ -74,4 +92,12 @@ pub fn next(rt: &impl Abort, entities: &mut Entities) -> Handle {
         given => given,
     };
     given.expect(rt, "memory for a slot")
+}
+
+/// Compares handles with the second ones of the first `n` slots, the last slot first.
+pub fn assert_freed(rt: &impl Abort, given: &[Handle], n: u32) {
+    assert!(rt; given.len() == n as usize);
+    for (index, handle) in (0..n).zip(given.iter().rev()) {
+        assert!(rt; *handle == second(rt, index));
+    }
 }

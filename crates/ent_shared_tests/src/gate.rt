@@ -1,7 +1,9 @@
 use std::sync::atomic::{AtomicU32, Ordering};
+use std::thread;
 
-/// How often a thread looks for the others before it goes on without them.
-const TURNS: u32 = 200_000_000;
+/// How often a thread looks for the others before it goes on without them. It lets another thread
+/// run each time, so that all get on also if the processors are busy.
+const TURNS: u32 = 10_000_000;
 
 /// Where threads look for one another before they reserve, so that they do overlap.
 #[derive(Drop)]
@@ -25,6 +27,7 @@ impl Gate {
             if self.entered.load(Ordering::SeqCst) == self.threads {
                 return true;
             }
+            thread::yield_now();
         }
         false
     }

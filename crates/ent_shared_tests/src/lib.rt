@@ -10,10 +10,14 @@ mod gate;
 #[cfg(test)]
 mod in_turn;
 #[cfg(test)]
+mod limits;
+#[cfg(test)]
 mod lost;
 #[cfg(test)]
 mod memory;
 #[cfg(test)]
 mod phase;
+#[cfg(test)]
+mod texts;
 #[cfg(test)]
 mod threads;

@@ -1,7 +1,9 @@
 //! Phases that end although reservers may be lost.
 ghost use Rattle.std.specs.Prelude.{◌≡◌};
 
-use crate::allocators::{assert_cursor, assert_handles, flushed, with_freed, with_slots};
+use crate::allocators::{
+    assert_cursor, assert_handles, flushed, with_freed, with_made, with_slots,
+};
 use crate::phase::{closed, give_back, last, opened};
 use ent_alloc::Entities;
 use ent_shared::Refused;
@@ -128,4 +130,62 @@ fn a_lost_reserver_counts(rt: HostRuntime) {
             assert!(rt; flushed(&rt, alloc, &mut entities).len() == alive);
         }
     }
+}
+
+/// Three reservers of five slots request so many handles, one after the other, and all are lost. If
+/// too few are left for one of them, all that the pool had counts, though nobody got some of it: a
+/// flush brings it to life, fresh handles first.
+#[test]
+fn three_are_lost_after_a_refused_request(rt: HostRuntime) {
+    let alloc = rt.alloc();
+    let cases: [(u32, u32, [u32; 3], i64, &[(u32, u32)]); 5] = [
+        (
+            0,
+            0,
+            [2, 4, 1],
+            -7,
+            &[(0, 1), (1, 1), (2, 1), (3, 1), (4, 1)],
+        ),
+        (
+            0,
+            0,
+            [6, 1, 1],
+            -8,
+            &[(0, 1), (1, 1), (2, 1), (3, 1), (4, 1)],
+        ),
+        (
+            3,
+            3,
+            [1, 5, 1],
+            -4,
+            &[(3, 1), (4, 1), (0, 2), (1, 2), (2, 2)],
+        ),
+        (5, 3, [1, 3, 1], -2, &[(0, 2), (1, 2), (2, 2)]),
+        (5, 0, [1, 1, 1], -3, &[]),
+    ];
+    for (made, freed, requests, cursor, alive) in cases {
+        let entities = with_made(&rt, alloc, 5, made, freed);
+        let mut entities = after_all_are_lost(&rt, alloc, entities, requests);
+        assert_cursor(&rt, &entities, cursor);
+        assert_handles(&rt, &flushed(&rt, alloc, &mut entities), alive);
+    }
+}
+
+/// The allocator after a phase of three reservers that request so many handles, one after the
+/// other, and are lost.
+fn after_all_are_lost(
+    rt: &impl Abort,
+    alloc: Global,
+    entities: Entities,
+    requests: [u32; 3],
+) -> Entities
+    requires { entities.asked ≡ 0 }
+{
+    let (shared, mut reservers) = opened(rt, alloc, entities, 3);
+    for n in requests {
+        let mut caller = last(rt, alloc, &shared, &mut reservers);
+        caller.at_once(&shared, n);
+    }
+    assert!(rt; reservers.is_empty());
+    shared.close_lost(reservers)
 }

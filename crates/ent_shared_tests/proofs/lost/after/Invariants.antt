@@ -1,4 +1,3 @@
-use Rattle.std.proofs.Common.{All}
 use Rattle.ent_shared.specs.Phase.{IsOf}
 use Rattle.ent_shared_tests.proofs.lost.after.Given as goal
 
