@@ -1,7 +1,7 @@
-ghost use Rattle.std.specs.Prelude.{◌≡◌, OnOk};
-ghost use Rattle.ent_queue.specs.Commands.{IsReady, Extends};
-ghost use Rattle.ent_script_system.specs.Issuing.{MayIssue};
-ghost use Rattle.ent_script_system.specs.Parts.{HasIssued};
+ghost use Rattle.std.specs.Prelude.{◌≡◌, [], OnOk, OnErr};
+ghost use Rattle.ent_queue.specs.Commands.{IsReady, Extends, queue_of};
+ghost use Rattle.ent_script_system.specs.Issuing.{MayIssue, MayStop};
+ghost use Rattle.ent_script_system.specs.Parts.{HasIssued, HasStopped};
 
 use crate::change::Change;
 use crate::names::Names;
@@ -41,13 +41,19 @@ impl<'a> ScriptSystem<'a> {
 impl System for ScriptSystem<'_> {
     ghost may_issue = { MayIssue };
 
+    /// # Errors
+    ///
+    /// `Memory`, if memory was refused to one of the operations, and for no other reason. A spawn
+    /// that is refused for want of slots or credit is a command of the queue, and the run goes on.
     #[tactic(auto, using(ent_runner::proofs::Issuing::extends_then))]
-    fn run(
-        &self,
-        alloc: Global,
-        view: &View<'_>,
-        commands: &mut Commands<'_>,
-    ) -> Result<(), Memory> {
+    fn run(&self, alloc: Global, view: &View<'_>, commands: &mut Commands<'_>) -> Result<(), Memory>
+        requires { IsReady commands.old }
+        ensures extends { Extends commands.old commands.new }
+        ensures may { queue_of commands.old ≡ []
+            → OnOk result (MayIssue self.now view.now (queue_of commands.new)) }
+        ensures stopped { queue_of commands.old ≡ []
+            → OnErr result (MayStop self.now view.now (queue_of commands.new)) }
+    {
         let mut names = Names::new(alloc);
         for operation in self.system.operations() {
             issue(alloc, view, operation, &mut names, commands)?;
@@ -68,6 +74,8 @@ fn issue(
     ensures extends { Extends commands.old commands.new }
     ensures issued { OnOk result (HasIssued view.now operation.now
         commands.old commands.new names.old names.new) }
+    ensures stopped { OnErr result (HasStopped view.now operation.now
+        commands.old commands.new names.old) }
 {
     match operation {
         Operation::Spawn { bundle, binds } => spawn(alloc, bundle, *binds, names, commands),
