@@ -1,7 +1,7 @@
 -- What a value means is in the ranges of a script.
-use Rattle.std.proofs.Common.{◌≡◌, ℕ, ℤ, pos, negsuc, ◌+◌, ◌<◌, ◌≤◌, suc, Bool, true, false, ◌&&◌, cond}
-use Rattle.std.proofs.Common.{List, [], ◌∷◌, length, take, Option, Some, None, option_map, option_and_then, ok_or}
-use Rattle.std.proofs.Common.{Result, Ok, Err, IfSome, bytes_eq, codes, refl, subst, arith, lit≤, leb-true}
+use Rattle.std.proofs.Common.{◌≡◌, ℕ, ℤ, pos, negsuc, ◌+◌, ◌<◌, ◌≤◌, zero, suc, Bool, true, false, ◌&&◌, cond}
+use Rattle.std.proofs.Common.{List, [], ◌∷◌, ◌++◌, length, length-append, take, Option, Some, None, option_map, option_and_then, ok_or}
+use Rattle.std.proofs.Common.{Result, Ok, Err, IfSome, is_some, unwrap_or, bytes_eq, codes, refl, subst, arith, lit≤, leb-true}
 use Rattle.std.specs.Prelude.{IfOk, nat_le}
 use Rattle.std.specs.declared.cmp.Ordering.{Ordering}
 use Rattle.std.specs.declared.cmp.Ordering.TheVariants.{Less, Equal, Greater}
@@ -20,6 +20,7 @@ use Rattle.ent_script.specs.declared.cause.Cause.{Cause}
 use Rattle.ent_script.specs.declared.cause.Cause.TheVariants as cause
 use Rattle.ent_script.specs.declared.cause.ScriptCause.{ScriptCause}
 use Rattle.ent_script.specs.declared.cause.ScriptCause.TheVariants as script_cause
+use Rattle.ent_script.specs.declared.operation.Operation.{Operation}
 use Rattle.ent_script.specs.declared.kind.Kind.{Kind}
 use Rattle.ent_script.specs.declared.kind.Kind.TheVariants as kinds
 use Rattle.ent_script.specs.declared.read_fault.ReadFault.{ReadFault}
@@ -27,9 +28,10 @@ use Rattle.ent_script.specs.declared.read_fault.ReadFault.TheVariants as fault
 use Rattle.ent_script.specs.declared.target.Target.{Target}
 use Rattle.ent_script.specs.declared.target.Target.TheVariants as target
 use Rattle.ent_script.specs.Json.{elements, at_most, members, keys_among, whole, in_range, whole_within}
-use Rattle.ent_script.specs.Names.{place_of, names_in}
+use Rattle.ent_script.specs.Names.{name_of, place_of, with_part, names_in}
 use Rattle.ent_script.specs.Script.{Script}
-use Rattle.ent_script.specs.Ranges.{IsBundleOf, IsTargetOf, IsOperationOf, IsSystemOf, IsFrameOf, IsScript}
+use Rattle.ent_script.specs.Ranges.{IsBundleOf, IsBindingAt, IsTargetAt, IsOperationAt, AreOperationsFrom}
+use Rattle.ent_script.specs.Ranges.{IsSystemOf, IsFrameOf, IsScript}
 use Rattle.ent_script.specs.Reading.{◌>>=◌, test, numbered, or_absent, component_of, item_of, items_of}
 use Rattle.ent_script.specs.Reading.{bundle_of, with_of, count_of, binding_of, removed_of, only, target_handle}
 use Rattle.ent_script.specs.Reading.{target_at, target_of, kind_of, of_kind, operation_of, at_operation, operation_at, bound_name}
@@ -181,54 +183,92 @@ removed_in components part =
     then_ok (λ _. Unit {0}) (ComponentIn (length components)) (ok_or (option_and_then as_str part) cause.Component) _ (always (ok_or (option_and_then as_str part) cause.Component))
     (λ text _. or_cause (ComponentIn (length components)) (component_of components text) cause.Component (component_in components text))
 
+-- ---- names
+
+below_more_names : (found : Option ℕ) (n most : ℕ) → n ≤ most → IfSome found (λ p. p < n) → IfSome found (λ p. p < most)
+below_more_names None n most few h = tt
+below_more_names (Some p) n most few h = omega (arith, few, h)
+
+or_next : (found : Option ℕ) (n most : ℕ) → n ≤ most → IfSome found (λ p. p < n) → unwrap_or found n ≤ most
+or_next None n most few h = few
+or_next (Some p) n most few h = omega (arith, few, h)
+
+binding_in : (bound : List (List ℕ)) (most : ℕ) → length bound ≤ most → (part : Option Data) → IfOk (binding_of bound part) (IsBindingAt most)
+unfolding binding_of
+binding_in bound most few None = tt
+binding_in bound most few (Some d) =
+    then_ok (λ _. Unit {0}) (IsBindingAt most) (ok_or (name_of d) cause.Name) _ (always (ok_or (name_of d) cause.Name))
+    (λ name _. or_next (place_of name bound) (length bound) most few (place_of_within name bound))
+
+one_more : (b : Bool) (names : List (List ℕ)) (name : List ℕ) → length (cond b names (names ++ name ∷ [])) ≤ length names + 1
+one_more true names name = omega arith
+one_more false names name = omega (arith, length-append names (name ∷ []))
+
+part_more : (names : List (List ℕ)) (found : Option (List ℕ)) → length (with_part names found) ≤ length names + 1
+part_more names None = omega arith
+part_more names (Some name) = one_more (is_some (place_of name names)) names name
+
+names_from : (f : Data → Option (List ℕ)) (i : ℕ) (names : List (List ℕ)) (ds : List Data)
+    → length (fold (λ names d. with_part names (f d)) names (take i ds)) ≤ length names + i
+names_from f zero names ds = omega arith
+names_from f (suc i) names [] = omega arith
+names_from f (suc i) names (d ∷ ds) = omega (arith, names_from f i (with_part names (f d)) ds, part_more names (f d))
+
+-- at most as many names as operations
+few_names : (i : ℕ) (ds : List Data) → length (names_in bound_name (take i ds)) ≤ i
+few_names i ds = omega (arith, names_from bound_name i [] ds)
+
 -- ---- targets and operations
 
-handle_in : (n : ℕ) (text : List ℕ) → IfOk (target_handle text) (IsTargetOf n)
-handle_in n text = handle_by n (handle_of text)
+handle_in : (components most : ℕ) (text : List ℕ) → IfOk (target_handle text) (IsTargetAt components most)
+handle_in components most text = handle_by components most (handle_of text)
   where
-    handle_by : (n : ℕ) (r : Result Handle TextFault) → IfOk {T = Target} {E = Cause} (elim r [ Ok h ↦ Ok (target.Handle h) | Err e ↦ Err cause.Handle ]) (IsTargetOf n)
-    handle_by n (Ok h) = tt
-    handle_by n (Err e) = tt
+    handle_by : (components most : ℕ) (r : Result Handle TextFault) → IfOk {T = Target} {E = Cause} (elim r [ Ok h ↦ Ok (target.Handle h) | Err e ↦ Err cause.Handle ]) (IsTargetAt components most)
+    handle_by components most (Ok h) = tt
+    handle_by components most (Err e) = tt
 
-target_at_in : (components bound : List (List ℕ)) (key text : List ℕ) → IfOk (target_at components bound key text) (IsTargetOf (length components))
-unfolding target_at
-target_at_in components bound key text =
-    either (IsTargetOf (length components)) (bytes_eq key (codes "name")) _ _
-    (or_cause (IsTargetOf (length components)) (option_map target.Name (place_of text bound)) cause.Name (mapped (IsTargetOf (length components)) target.Name (place_of text bound) (always_some (place_of text bound))))
-    (either (IsTargetOf (length components)) (bytes_eq key (codes "handle")) _ _ (handle_in (length components) text)
-    (either (IsTargetOf (length components)) (bytes_eq key (codes "each")) _ _
-    (or_cause (IsTargetOf (length components)) (option_map target.Each (component_of components text)) cause.Component (mapped (IsTargetOf (length components)) target.Each (component_of components text) (component_in components text)))
-    tt))
+module _ (components bound : List (List ℕ)) (most : ℕ) (few_bound : length bound ≤ most) where
+  target_at_in : (key text : List ℕ) → IfOk (target_at components bound key text) (IsTargetAt (length components) most)
+  unfolding target_at
+  target_at_in key text =
+      either (IsTargetAt (length components) most) (bytes_eq key (codes "name")) _ _
+      (or_cause (IsTargetAt (length components) most) (option_map target.Name (place_of text bound)) cause.Name
+      (mapped (IsTargetAt (length components) most) target.Name (place_of text bound) (below_more_names (place_of text bound) (length bound) most few_bound (place_of_within text bound))))
+      (either (IsTargetAt (length components) most) (bytes_eq key (codes "handle")) _ _ (handle_in (length components) most text)
+      (either (IsTargetAt (length components) most) (bytes_eq key (codes "each")) _ _
+      (or_cause (IsTargetAt (length components) most) (option_map target.Each (component_of components text)) cause.Component
+      (mapped (IsTargetAt (length components) most) target.Each (component_of components text) (component_in components text)))
+      tt))
 
-target_in : (components bound : List (List ℕ)) (part : Option Data) → IfOk (target_of components bound part) (IsTargetOf (length components))
-unfolding target_of
-target_in components bound part =
-    then_ok (λ _. Unit {0}) (IsTargetOf (length components)) (ok_or (option_and_then only (option_and_then members part)) cause.Target) _ (always (ok_or (option_and_then only (option_and_then members part)) cause.Target))
-    (λ member _. then_ok (λ _. Unit {0}) (IsTargetOf (length components)) (ok_or (as_str member.1) cause.Target) _ (always (ok_or (as_str member.1) cause.Target))
-    (λ text _. target_at_in components bound member.0 text))
+  target_in : (part : Option Data) → IfOk (target_of components bound part) (IsTargetAt (length components) most)
+  unfolding target_of
+  target_in part =
+      then_ok (λ _. Unit {0}) (IsTargetAt (length components) most) (ok_or (option_and_then only (option_and_then members part)) cause.Target) _ (always (ok_or (option_and_then only (option_and_then members part)) cause.Target))
+      (λ member _. then_ok (λ _. Unit {0}) (IsTargetAt (length components) most) (ok_or (as_str member.1) cause.Target) _ (always (ok_or (as_str member.1) cause.Target))
+      (λ text _. target_at_in member.0 text))
 
-of_kind_in : (components bound : List (List ℕ)) (d : Data) (kind : Kind) → IfOk (of_kind components bound d kind) (IsOperationOf (length components))
-unfolding of_kind
-of_kind_in components bound d kinds.Spawn =
-    then_ok (IsBundleOf (length components)) (IsOperationOf (length components)) (bundle_of components (get (codes "spawn") d)) _ (bundle_in components (get (codes "spawn") d))
-    (λ bundle h. then_ok (λ _. Unit {0}) (IsOperationOf (length components)) (binding_of bound (get (codes "as") d)) _ (always (binding_of bound (get (codes "as") d))) (λ binds _. h))
-of_kind_in components bound d kinds.SpawnMany =
-    then_ok (λ n. n ≤ 65536) (IsOperationOf (length components)) (count_of (get (codes "spawn_many") d)) _ (count_in (get (codes "spawn_many") d))
-    (λ count k. then_ok (IsBundleOf (length components)) (IsOperationOf (length components)) (with_of components (get (codes "with") d)) _ (with_in components (get (codes "with") d))
-    (λ bundle h. then_ok (λ _. Unit {0}) (IsOperationOf (length components)) (binding_of bound (get (codes "as") d)) _ (always (binding_of bound (get (codes "as") d))) (λ binds _. (k, h))))
-of_kind_in components bound d kinds.Insert =
-    then_ok (IsBundleOf (length components)) (IsOperationOf (length components)) (bundle_of components (get (codes "insert") d)) _ (bundle_in components (get (codes "insert") d))
-    (λ bundle h. then_ok (IsTargetOf (length components)) (IsOperationOf (length components)) (target_of components bound (get (codes "on") d)) _ (target_in components bound (get (codes "on") d)) (λ on k. (h, k)))
-of_kind_in components bound d kinds.Remove =
-    then_ok (ComponentIn (length components)) (IsOperationOf (length components)) (removed_of components (get (codes "remove") d)) _ (removed_in components (get (codes "remove") d))
-    (λ c h. then_ok (IsTargetOf (length components)) (IsOperationOf (length components)) (target_of components bound (get (codes "on") d)) _ (target_in components bound (get (codes "on") d)) (λ on k. (h, k)))
-of_kind_in components bound d kinds.Despawn =
-    then_ok (IsTargetOf (length components)) (IsOperationOf (length components)) (target_of components bound (get (codes "despawn") d)) _ (target_in components bound (get (codes "despawn") d)) (λ on k. k)
+  of_kind_in : (d : Data) (kind : Kind) → IfOk (of_kind components bound d kind) (IsOperationAt (length components) most)
+  unfolding of_kind
+  of_kind_in d kinds.Spawn =
+      then_ok (IsBundleOf (length components)) (IsOperationAt (length components) most) (bundle_of components (get (codes "spawn") d)) _ (bundle_in components (get (codes "spawn") d))
+      (λ bundle h. then_ok (IsBindingAt most) (IsOperationAt (length components) most) (binding_of bound (get (codes "as") d)) _ (binding_in bound most few_bound (get (codes "as") d)) (λ binds b. (h, b)))
+  of_kind_in d kinds.SpawnMany =
+      then_ok (λ n. n ≤ 65536) (IsOperationAt (length components) most) (count_of (get (codes "spawn_many") d)) _ (count_in (get (codes "spawn_many") d))
+      (λ count k. then_ok (IsBundleOf (length components)) (IsOperationAt (length components) most) (with_of components (get (codes "with") d)) _ (with_in components (get (codes "with") d))
+      (λ bundle h. then_ok (IsBindingAt most) (IsOperationAt (length components) most) (binding_of bound (get (codes "as") d)) _ (binding_in bound most few_bound (get (codes "as") d)) (λ binds b. (k, h, b))))
+  of_kind_in d kinds.Insert =
+      then_ok (IsBundleOf (length components)) (IsOperationAt (length components) most) (bundle_of components (get (codes "insert") d)) _ (bundle_in components (get (codes "insert") d))
+      (λ bundle h. then_ok (IsTargetAt (length components) most) (IsOperationAt (length components) most) (target_of components bound (get (codes "on") d)) _ (target_in (get (codes "on") d)) (λ on k. (h, k)))
+  of_kind_in d kinds.Remove =
+      then_ok (ComponentIn (length components)) (IsOperationAt (length components) most) (removed_of components (get (codes "remove") d)) _ (removed_in components (get (codes "remove") d))
+      (λ c h. then_ok (IsTargetAt (length components) most) (IsOperationAt (length components) most) (target_of components bound (get (codes "on") d)) _ (target_in (get (codes "on") d)) (λ on k. (h, k)))
+  of_kind_in d kinds.Despawn =
+      then_ok (IsTargetAt (length components) most) (IsOperationAt (length components) most) (target_of components bound (get (codes "despawn") d)) _ (target_in (get (codes "despawn") d)) (λ on k. k)
 
-operation_in : (components bound : List (List ℕ)) (d : Data) → IfOk (operation_of components bound d) (IsOperationOf (length components))
-unfolding operation_of
-operation_in components bound d =
-    then_ok (λ _. Unit {0}) (IsOperationOf (length components)) (ok_or (kind_of d) cause.Shape) _ (always (ok_or (kind_of d) cause.Shape)) (λ kind _. of_kind_in components bound d kind)
+  operation_in : (d : Data) → IfOk (operation_of components bound d) (IsOperationAt (length components) most)
+  unfolding operation_of
+  operation_in d =
+      then_ok (λ _. Unit {0}) (IsOperationAt (length components) most) (ok_or (kind_of d) cause.Shape) _ (always (ok_or (kind_of d) cause.Shape)) (λ kind _. of_kind_in d kind)
 
 -- ---- systems, frames and the whole
 
@@ -236,12 +276,28 @@ at_in : {A : Type 0} (P : A → Type 0) (f s o : ℕ) (r : Result A Cause) → I
 at_in P f s o (Ok x) h = h
 at_in P f s o (Err c) h = tt
 
+abbrev AreFrom : ℕ → ℕ → ℕ → List Operation → Type 0
+AreFrom components n most ops = (length ops ≤ most) × AreOperationsFrom components n ops
+
+operations_in : {E : Type 0} (components : ℕ) (f : ℕ → Data → Result Operation E) (n : ℕ) (ds : List Data)
+    → ((i : ℕ) (d : Data) → IfOk (f i d) (IsOperationAt components i)) → IfOk (numbered f n ds) (AreFrom components n (length ds))
+operations_in components f n [] each = (omega arith, tt)
+operations_in components f n (d ∷ ds) each =
+    then_ok (IsOperationAt components n) (AreFrom components n (suc (length ds))) (f n d) _ (each n d)
+    (λ op holds. then_ok (AreFrom components (n + 1) (length ds)) (AreFrom components n (suc (length ds)))
+    (numbered f (n + 1) ds) _ (operations_in components f (n + 1) ds each)
+    (λ ops rest. (omega (arith, rest.0), (holds, rest.1))))
+
+few_operations : {E : Type 0} (components : ℕ) (r : Result (List Operation) E) (n most : ℕ) → n ≤ most → IfOk r (AreFrom components 0 n) → IfOk r (AreFrom components 0 most)
+few_operations components (Ok ops) n most h k = (omega (arith, h, k.0), k.1)
+few_operations components (Err e) n most h k = tt
+
 system_in : (components : List (List ℕ)) (frame number : ℕ) (d : Data) → IfOk (system_of components frame number d) (IsSystemOf (length components))
 unfolding system_of
 system_in components frame number d =
     then_ok (AtMost 10000) (IsSystemOf (length components)) (ok_or (at_most 10000 d) (fault.System frame number)) _ (or_cause (AtMost 10000) (at_most 10000 d) (fault.System frame number) (few 10000 d))
-    (λ ds short. loosened (IsOperationOf (length components)) (numbered (operation_at components frame number ds) 0 ds) (length ds) 10000 short
-    (numbered_each (IsOperationOf (length components)) (operation_at components frame number ds) 0 ds (λ i e. at_in (IsOperationOf (length components)) frame number i _ (operation_in components (names_in bound_name (take i ds)) e))))
+    (λ ds short. few_operations (length components) (numbered (operation_at components frame number ds) 0 ds) (length ds) 10000 short
+    (operations_in (length components) (operation_at components frame number ds) 0 ds (λ i e. at_in (IsOperationAt (length components) i) frame number i _ (operation_in components (names_in bound_name (take i ds)) i (few_names i ds) e))))
 
 frame_in : (components : List (List ℕ)) (number : ℕ) (d : Data) → IfOk (frame_of components number d) (IsFrameOf (length components))
 unfolding frame_of

@@ -264,6 +264,50 @@ first_of_two : script_of_text (codes "{\"components\":[],\"frames\":[[],[[],[{\"
 unfolding script_on_literals
 first_of_two = refl
 
+-- ---- numbers and texts at the edge of JSON
+
+abbrev one_value : List ℕ → List ℕ
+one_value number = codes "{\"components\":[\"hp\"],\"frames\":[[[{\"spawn\":{\"hp\":" ++ number ++ codes "}}]]]}"
+
+-- a number that no float holds is no JSON
+too_large_for_a_float : script_of_text (one_value (codes "1e400")) ≡ Err fault.Json
+unfolding script_on_literals
+too_large_for_a_float = refl
+
+minus_zero_as_value : script_of_text (one_value (codes "-0")) ≡ refused_operation 0 0 0 cause.Value
+unfolding script_on_literals
+minus_zero_as_value = refl
+
+minus_zero_as_count : script_of_text (codes "{\"components\":[],\"frames\":[[[{\"spawn_many\":-0}]]]}") ≡ refused_operation 0 0 0 cause.Count
+unfolding script_on_literals
+minus_zero_as_count = refl
+
+-- 2^63, 2^64 and -2^63 - 1
+above_signed : script_of_text (one_value (codes "9223372036854775808")) ≡ refused_operation 0 0 0 cause.Value
+unfolding script_on_literals
+above_signed = refl
+
+above_unsigned : script_of_text (one_value (codes "18446744073709551616")) ≡ refused_operation 0 0 0 cause.Value
+unfolding script_on_literals
+above_unsigned = refl
+
+below_signed : script_of_text (one_value (codes "-9223372036854775809")) ≡ refused_operation 0 0 0 cause.Value
+unfolding script_on_literals
+below_signed = refl
+
+byte_order_mark : script_of_text (239 ∷ 187 ∷ 191 ∷ codes "{\"components\":[],\"frames\":[]}") ≡ Err fault.Json
+unfolding script_on_literals
+byte_order_mark = refl
+
+half_surrogate : script_of_text (codes "{\"components\":[\"\\ud800\"],\"frames\":[]}") ≡ Err fault.Json
+unfolding script_on_literals
+half_surrogate = refl
+
+-- both halves are one character, and no name
+both_halves : script_of_text (codes "{\"components\":[\"\\ud83d\\ude00\"],\"frames\":[]}") ≡ refused_script script_cause.Components
+unfolding script_on_literals
+both_halves = refl
+
 -- ---- the lines
 
 line_of_json : refusal_line fault.Json ≡ codes "refused json\n"

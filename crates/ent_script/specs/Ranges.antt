@@ -1,5 +1,5 @@
 -- The ranges of what a script says.
-use Rattle.std.specs.Prelude.{ℕ, ◌<◌, ◌≤◌, ℤ, List, length}
+use Rattle.std.specs.Prelude.{ℕ, ◌+◌, ◌<◌, ◌≤◌, ℤ, List, [], ◌∷◌, length, Option, Some, None}
 use Rattle.std.specs.List.{AllByRecursion}
 use Rattle.ent_alloc.specs.Limits.{AreLimits}
 use Rattle.ent_handle.specs.declared.component.ComponentId.{ComponentId}
@@ -13,23 +13,39 @@ use Rattle.ent_script.specs.declared.target.Target.TheVariants as target
 abbrev pub IsBundleOf : ℕ → List (ComponentId × ℤ) → Type 0
 IsBundleOf components bundle = AllByRecursion (λ item. item.0.0 < components) bundle
 
-abbrev pub IsTargetOf : ℕ → Target → Type 0
-IsTargetOf components (target.Name n) = Unit {0}
-IsTargetOf components (target.Handle h) = Unit {0}
-IsTargetOf components (target.Each c) = c.0 < components
+-- ---- names: before the operation at place n of a system, at most n names are bound
 
-abbrev pub IsOperationOf : ℕ → Operation → Type 0
-IsOperationOf components (operation.Spawn bundle binds) = IsBundleOf components bundle
-IsOperationOf components (operation.SpawnMany count bundle binds) =
-    (count ≤ 65536) × IsBundleOf components bundle
-IsOperationOf components (operation.Insert bundle on) =
-    IsBundleOf components bundle × IsTargetOf components on
-IsOperationOf components (operation.Remove c on) = (c.0 < components) × IsTargetOf components on
-IsOperationOf components (operation.Despawn on) = IsTargetOf components on
+-- one of these, or the next
+abbrev pub IsBindingAt : ℕ → Option ℕ → Type 0
+IsBindingAt n None = Unit {0}
+IsBindingAt n (Some name) = name ≤ n
+
+abbrev pub IsTargetAt : ℕ → ℕ → Target → Type 0
+IsTargetAt components n (target.Name name) = name < n
+IsTargetAt components n (target.Handle h) = Unit {0}
+IsTargetAt components n (target.Each c) = c.0 < components
+
+-- the operation at place n of its system
+abbrev pub IsOperationAt : ℕ → ℕ → Operation → Type 0
+IsOperationAt components n (operation.Spawn bundle binds) =
+    IsBundleOf components bundle × IsBindingAt n binds
+IsOperationAt components n (operation.SpawnMany count bundle binds) =
+    (count ≤ 65536) × IsBundleOf components bundle × IsBindingAt n binds
+IsOperationAt components n (operation.Insert bundle on) =
+    IsBundleOf components bundle × IsTargetAt components n on
+IsOperationAt components n (operation.Remove c on) =
+    (c.0 < components) × IsTargetAt components n on
+IsOperationAt components n (operation.Despawn on) = IsTargetAt components n on
+
+-- those from place n on
+abbrev pub AreOperationsFrom : ℕ → ℕ → List Operation → Type 0
+AreOperationsFrom components n [] = Unit {0}
+AreOperationsFrom components n (op ∷ ops) =
+    IsOperationAt components n op × AreOperationsFrom components (n + 1) ops
 
 abbrev pub IsSystemOf : ℕ → List Operation → Type 0
 IsSystemOf components operations =
-    (length operations ≤ 10000) × AllByRecursion (IsOperationOf components) operations
+    (length operations ≤ 10000) × AreOperationsFrom components 0 operations
 
 abbrev pub IsFrameOf : ℕ → List (List Operation) → Type 0
 IsFrameOf components systems =

@@ -1,5 +1,5 @@
 -- Worked examples of what a system may issue.
-use Rattle.std.proofs.Common.{refl, [], ◌∷◌, Some, pos, List, ℤ}
+use Rattle.std.proofs.Common.{refl, [], ◌∷◌, Some, pos, List, ℤ, inl, inr}
 use Rattle.ent_handle.specs.Handle.{Handle}
 use Rattle.ent_handle.specs.declared.component.ComponentId.{ComponentId}
 use Rattle.ent_shared.specs.declared.refused.Refused.{Refused as Refusal}
@@ -7,7 +7,7 @@ use Rattle.ent_queue.specs.Command.{Spawn, SpawnMany, Remove, Despawn, Refused}
 use Rattle.ent_world.specs.OpenWorld.{View}
 use Rattle.ent_script.specs.declared.operation.Operation.TheVariants as operation
 use Rattle.ent_script.specs.declared.target.Target.TheVariants as target
-use Rattle.ent_script_system.specs.Issuing.{MayIssue}
+use Rattle.ent_script_system.specs.Issuing.{MayIssue, MayStop}
 
 hp : ComponentId
 hp = record { 0 = 0 }
@@ -60,3 +60,18 @@ module _ (view : View) (h k : Handle) (why : Refusal) where
       ),
     ),
   )
+
+  -- memory was refused to the second operation: the first has issued its command
+  stopped : MayStop (operation.Spawn one_hp (Some 0) ∷ operation.Despawn (target.Name 0) ∷ []) view (Spawn h one_hp ∷ [])
+  stopped = inr (
+    Spawn h one_hp ∷ [],
+    [],
+    refl,
+    refl,
+    inl (inr (record { done = []; missing = h; others = []; target = refl; commands = refl })),
+  )
+
+  -- a spawn that is refused for want of slots is not where a system stops
+  refused_goes_on : MayStop (operation.Spawn one_hp (Some 0) ∷ []) view (Refused 1 why ∷ []) → ⊥
+  refused_goes_on (inl none) = cc
+  refused_goes_on (inr (issued, rest, queue, may, stops)) = stops

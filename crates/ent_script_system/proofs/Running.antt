@@ -1,6 +1,6 @@
 -- A system whose first operations have run.
 use Rattle.std.proofs.Common.{◌≡◌, refl, ap, sym, subst, ◌∙◌, ℕ, ◌+◌, ◌<◌, List, [], ◌∷◌, ◌++◌}
-use Rattle.std.proofs.Common.{length, get_or, drop}
+use Rattle.std.proofs.Common.{length, get_or, drop, inr}
 use Rattle.std.proofs.Common.{append_assoc, append-nil}
 use Rattle.std.proofs.lemmas.List.{drop_more}
 use Rattle.ent_handle.specs.Handle.{Handle}
@@ -8,7 +8,7 @@ use Rattle.ent_queue.specs.Command.{Command}
 use Rattle.ent_queue.specs.Commands.{Issued, queue_of}
 use Rattle.ent_world.specs.OpenWorld.{View}
 use Rattle.ent_script.specs.declared.operation.Operation.{Operation}
-use Rattle.ent_script_system.specs.Issuing.{Names, unbound, IssuesAll, MayIssue}
+use Rattle.ent_script_system.specs.Issuing.{Names, unbound, IssuesAll, MayIssue, StopsAmong}
 use Rattle.ent_script_system.specs.Parts.{names_of, HasIssued}
 
 -- The first i operations have issued what was added; whatever the others may issue, all may issue
@@ -17,11 +17,17 @@ pub record HasRun (view : View) (ops : List Operation) (i : ℕ) (names : Names)
   pub added : List Command
   pub queue : now ≡ start ++ added
   pub rest : (cs : List Command) → IssuesAll view names (drop i ops) cs → IssuesAll view unbound ops (added ++ cs)
+  pub stop : (cs : List Command) → StopsAmong view names (drop i ops) cs → StopsAmong view unbound ops (added ++ cs)
 
 pub has_begun : (view : View) (ops : List Operation) (start : List Command) (lists : List (List Handle)) → lists ≡ [] → HasRun view ops 0 (names_of lists) start start
 has_begun view ops start lists none =
     let names : names_of lists ≡ unbound = ap names_of none in
-    record { added = []; queue = sym (append-nil start); rest = λ cs may. subst (λ (n : Names). IssuesAll view n ops cs) names may }
+    record {
+      added = [];
+      queue = sym (append-nil start);
+      rest = λ cs may. subst (λ (n : Names). IssuesAll view n ops cs) names may;
+      stop = λ cs may. subst (λ (n : Names). StopsAmong view n ops cs) names may;
+    }
 
 pub has_gone_on : (view : View) (ops : List Operation) (i : ℕ) (op : Operation) (start : List Command) (before after : Issued) (lists lists_after : List (List Handle)) → i < length ops → op ≡ get_or ops i op → HasRun view ops i (names_of lists) start (queue_of before) → HasIssued view op before after lists lists_after → HasRun view ops (i + 1) (names_of lists_after) start (queue_of after)
 has_gone_on view ops i op start before after lists lists_after within is run step =
@@ -33,6 +39,10 @@ has_gone_on view ops i op start before after lists lists_after within is run ste
           let names = subst (λ (n : Names). IssuesAll view n (drop (i + 1) ops) cs) step.names may in
           subst (λ (q : List Command). IssuesAll view unbound ops q) (sym (append_assoc run.added step.issued cs))
           (run.rest (step.issued ++ cs) (subst (λ (os : List Operation). IssuesAll view (names_of lists) os (step.issued ++ cs)) (sym from) (step.issued, cs, refl, step.may, names)));
+      stop = λ cs may.
+          let names = subst (λ (n : Names). StopsAmong view n (drop (i + 1) ops) cs) step.names may in
+          subst (λ (q : List Command). StopsAmong view unbound ops q) (sym (append_assoc run.added step.issued cs))
+          (run.stop (step.issued ++ cs) (subst (λ (os : List Operation). StopsAmong view (names_of lists) os (step.issued ++ cs)) (sym from) (inr (step.issued, cs, refl, step.may, names))));
     }
 
 pub has_ended : (view : View) (ops : List Operation) (i : ℕ) (names : Names) (start now : List Command) → drop i ops ≡ [] → HasRun view ops i names start now → start ≡ [] → MayIssue ops view now

@@ -1,5 +1,5 @@
 -- What a system of a script may issue.
-use Rattle.std.specs.Prelude.{◌≡◌, ℕ, ℤ, List, [], ◌∷◌, ◌++◌, length, map, Some, ◌==◌}
+use Rattle.std.specs.Prelude.{◌≡◌, ℕ, ℤ, List, [], ◌∷◌, ◌++◌, length, map, Some, ◌==◌, ◌⊎◌}
 use Rattle.std.specs.Prelude.{if◌then◌else◌}
 use Rattle.ent_handle.specs.declared.component.ComponentId.{ComponentId}
 use Rattle.ent_handle.specs.Handle.{Handle}
@@ -69,3 +69,46 @@ IssuesAll view names (op ∷ ops) queue =
 -- A system begins with no names bound.
 abbrev pub MayIssue : List Operation → View → List Command → Type 0
 MayIssue ops view queue = IssuesAll view unbound ops queue
+
+-- ---- want of memory
+
+-- The target means these handles and more: the command for at least one of it is missing.
+pub record IsCutShort (view : View) (names : Names) (on : Target) (command : Handle → Command)
+    (issued : List Command) : Type 0 where
+  pub done : List Handle
+  pub missing : Handle
+  pub others : List Handle
+  pub target : IsTargeted view names on (done ++ missing ∷ others)
+  pub commands : issued ≡ map command done
+
+-- the list of an `each` takes memory before the first command
+abbrev pub IsUnlisted : Target → List Command → Type 0
+IsUnlisted (target.Name n) issued = ⊥
+IsUnlisted (target.Handle h) issued = ⊥
+IsUnlisted (target.Each id) issued = issued ≡ []
+
+abbrev pub StopsOnEach : View → Names → Target → (Handle → Command) → List Command → Type 0
+StopsOnEach view names on command issued =
+    IsUnlisted on issued ⊎ IsCutShort view names on command issued
+
+-- One operation may have issued these commands when memory was refused to it: a spawn none.
+abbrev pub Stops : View → Names → Operation → List Command → Type 0
+Stops view names (operation.Spawn bundle binds) issued = issued ≡ []
+Stops view names (operation.SpawnMany count bundle binds) issued = issued ≡ []
+Stops view names (operation.Insert bundle on) issued =
+    StopsOnEach view names on (λ h. Insert h bundle) issued
+Stops view names (operation.Remove id on) issued =
+    StopsOnEach view names on (λ h. Remove h id) issued
+Stops view names (operation.Despawn on) issued = StopsOnEach view names on Despawn issued
+
+-- Memory may have been refused to one of the operations, after those before it.
+abbrev pub StopsAmong : View → Names → List Operation → List Command → Type 0
+StopsAmong view names [] queue = ⊥
+StopsAmong view names (op ∷ ops) queue =
+    Stops view names op queue
+    ⊎ ((issued rest : List Command) × (queue ≡ issued ++ rest) × Issues view names op issued
+    × StopsAmong view (names_after names op issued) ops rest)
+
+-- A system may have issued these commands when memory was refused to it.
+abbrev pub MayStop : List Operation → View → List Command → Type 0
+MayStop ops view queue = StopsAmong view unbound ops queue

@@ -1,5 +1,5 @@
 -- What the parts of a run issue, and how the lists of names are kept.
-use Rattle.std.specs.Prelude.{◌≡◌, List, [], ◌++◌, slice_index_or}
+use Rattle.std.specs.Prelude.{◌≡◌, List, [], ◌∷◌, ◌++◌, map, slice_index_or}
 use Rattle.ent_handle.specs.Handle.{Handle}
 use Rattle.ent_queue.specs.Command.{Command, Insert, Remove, Despawn}
 use Rattle.ent_queue.specs.Commands.{Issued, queue_of}
@@ -8,7 +8,7 @@ use Rattle.ent_script.specs.declared.operation.Operation.{Operation}
 use Rattle.ent_script.specs.declared.target.Target.{Target}
 use Rattle.ent_script_system.specs.declared.change.Change.{Change}
 use Rattle.ent_script_system.specs.declared.change.Change.TheVariants as change
-use Rattle.ent_script_system.specs.Issuing.{Names, names_after, OnEach, Issues}
+use Rattle.ent_script_system.specs.Issuing.{Names, names_after, OnEach, Issues, StopsOnEach, Stops}
 
 -- Each list of handles stands at the number of its name. Nothing is bound to a number past the end.
 abbrev pub names_of : List (List Handle) → Names
@@ -34,3 +34,26 @@ pub record HasIssued (view : View) (op : Operation) (before after : Issued)
   pub queue : queue_of after ≡ queue_of before ++ issued
   pub may : Issues view (names_of lists) op issued
   pub names : names_of lists_after ≡ names_after (names_of lists) op issued
+
+-- ---- memory was refused
+
+-- The change was issued for some first handles, and not for all.
+pub record HasStoppedAmong (handles : List Handle) (command : Handle → Command)
+    (before after : Issued) : Type 0 where
+  pub done : List Handle
+  pub missing : Handle
+  pub others : List Handle
+  pub all : done ++ missing ∷ others ≡ handles
+  pub queue : queue_of after ≡ queue_of before ++ map command done
+
+pub record HasStoppedOn (view : View) (names : Names) (on : Target) (command : Handle → Command)
+    (before after : Issued) : Type 0 where
+  pub issued : List Command
+  pub queue : queue_of after ≡ queue_of before ++ issued
+  pub may : StopsOnEach view names on command issued
+
+pub record HasStopped (view : View) (op : Operation) (before after : Issued)
+    (lists : List (List Handle)) : Type 0 where
+  pub issued : List Command
+  pub queue : queue_of after ≡ queue_of before ++ issued
+  pub may : Stops view (names_of lists) op issued

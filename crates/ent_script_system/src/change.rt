@@ -1,7 +1,8 @@
-ghost use Rattle.std.specs.Prelude.{◌≡◌, ◌++◌, ◌∷◌, [], map, OnOk};
+ghost use Rattle.std.specs.Prelude.{◌≡◌, ◌++◌, ◌∷◌, [], map, OnOk, OnErr};
 ghost use Rattle.ent_queue.specs.Commands.{IsReady, Extends, queue_of};
 ghost use Rattle.ent_script_system.specs.Issuing.{OnEach};
 ghost use Rattle.ent_script_system.specs.Parts.{names_of, command_on, HasIssuedOn};
+ghost use Rattle.ent_script_system.specs.Parts.{HasStoppedAmong, HasStoppedOn};
 
 use crate::bundle::bundle_of;
 use crate::names::Names;
@@ -37,6 +38,8 @@ impl Change<'_> {
         ensures extends { Extends commands.old commands.new }
         ensures issued { OnOk result (HasIssuedOn view.now (names_of names.now) target
             (command_on self.entry) commands.old commands.new) }
+        ensures stopped { OnErr result (HasStoppedOn view.now (names_of names.now) target
+            (command_on self.entry) commands.old commands.new) }
     {
         match target {
             Target::Name(name) => self.on_each(alloc, names.get(name), commands),
@@ -57,6 +60,8 @@ impl Change<'_> {
         ensures extends { Extends commands.old commands.new }
         ensures ok { OnOk result (queue_of commands.new
             ≡ queue_of commands.old ++ map (command_on self.entry) handles.now) }
+        ensures stopped { OnErr result (HasStoppedAmong handles.now (command_on self.entry)
+            commands.old commands.new) }
     {
         for handle in handles {
             self.on_one(alloc, *handle, commands)?;
@@ -75,6 +80,7 @@ impl Change<'_> {
         ensures extends { Extends commands.old commands.new }
         ensures ok { OnOk result (queue_of commands.new
             ≡ queue_of commands.old ++ command_on self.entry handle ∷ []) }
+        ensures err { OnErr result (queue_of commands.new ≡ queue_of commands.old) }
     {
         match self {
             Change::Insert(bundle) => commands.insert(handle, bundle_of(alloc, bundle)?),

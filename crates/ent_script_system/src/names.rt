@@ -1,4 +1,4 @@
-ghost use Rattle.std.specs.Prelude.{◌≡◌, ◌≤◌, [], length, OnOk};
+ghost use Rattle.std.specs.Prelude.{◌≡◌, ◌<◌, [], length, OnOk};
 ghost use Rattle.ent_script_system.specs.Issuing.{bound};
 ghost use Rattle.ent_script_system.specs.Parts.{names_of};
 
@@ -43,27 +43,22 @@ impl Names {
         }
     }
 
-    /// Binds the name to the list, in place of what was bound to it.
-    pub(crate) fn bind(&mut self, name: usize, list: Vec<Handle>) -> Result<(), Memory>
-        ensures { OnOk result (names_of self.new ≡ bound name list.items (names_of self.old)) }
+    /// Makes a place for the name. A list that is added is empty.
+    pub(crate) fn reach(&mut self, name: usize) -> Result<(), Memory>
+        ensures same { OnOk result (names_of self.new ≡ names_of self.old) }
+        ensures long { OnOk result (name < length self.new) }
     {
-        self.reach(name)?;
-        if name < self.lists.len() {
-            self.lists[name] = list;
-        } else {
-            self.lists.push(list)?;
+        while self.lists.len() <= name {
+            self.lists.push(Vec::new(self.alloc))?;
         }
         Ok(())
     }
 
-    /// Makes a place for each name below this one. A list that is added is empty.
-    fn reach(&mut self, name: usize) -> Result<(), Memory>
-        ensures same { OnOk result (names_of self.new ≡ names_of self.old) }
-        ensures long { OnOk result (name ≤ length self.new) }
+    /// Binds the name, which has a place, to the list, in place of what was bound to it.
+    pub(crate) fn bind(&mut self, name: usize, list: Vec<Handle>)
+        requires { name < length self.old }
+        ensures { names_of self.new ≡ bound name list.items (names_of self.old) }
     {
-        for _place in self.lists.len()..name {
-            self.lists.push(Vec::new(self.alloc))?;
-        }
-        Ok(())
+        self.lists[name] = list;
     }
 }

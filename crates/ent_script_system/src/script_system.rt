@@ -1,7 +1,7 @@
-ghost use Rattle.std.specs.Prelude.{◌≡◌, OnOk};
-ghost use Rattle.ent_queue.specs.Commands.{IsReady, Extends};
-ghost use Rattle.ent_script_system.specs.Issuing.{MayIssue};
-ghost use Rattle.ent_script_system.specs.Parts.{HasIssued};
+ghost use Rattle.std.specs.Prelude.{◌≡◌, [], OnOk, OnErr};
+ghost use Rattle.ent_queue.specs.Commands.{IsReady, Extends, queue_of};
+ghost use Rattle.ent_script_system.specs.Issuing.{MayIssue, MayStop};
+ghost use Rattle.ent_script_system.specs.Parts.{HasIssued, HasStopped};
 
 use crate::change::Change;
 use crate::names::Names;
@@ -41,6 +41,12 @@ impl<'a> ScriptSystem<'a> {
 impl System for ScriptSystem<'_> {
     ghost may_issue = { MayIssue };
 
+    ghost may_leave = { MayStop };
+
+    /// # Errors
+    ///
+    /// `Memory`, if memory was refused to one of the operations, and for no other reason. A spawn
+    /// that is refused for want of slots or credit is a command of the queue, and the run goes on.
     #[tactic(auto, using(ent_queue::proofs::Extending::extends_then))]
     fn run(
         &self,
@@ -68,6 +74,8 @@ fn issue(
     ensures extends { Extends commands.old commands.new }
     ensures issued { OnOk result (HasIssued view.now operation.now
         commands.old commands.new names.old names.new) }
+    ensures stopped { OnErr result (HasStopped view.now operation.now
+        commands.old commands.new names.old) }
 {
     match operation {
         Operation::Spawn { bundle, binds } => spawn(alloc, bundle, *binds, names, commands),

@@ -4,7 +4,7 @@ use Rattle.ent_storage.specs.BirthOrder.{ListsWith}
 use Rattle.ent_script.specs.declared.target.Target.{Target}
 use Rattle.ent_script_system.specs.Issuing.{IsTargeted}
 use Rattle.ent_script_system.specs.Parts.{names_of}
-use Rattle.ent_script_system.proofs.Targeted.{issued_on}
+use Rattle.ent_script_system.proofs.Targeted.{issued_on, stopped_on}
 use Rattle.ent_script_system.proofs.change.Change.on_target.Goals as goal
 
 pub returns-in-Handle-clause-issued : goal.returns-in-Handle-clause-issued
@@ -23,3 +23,13 @@ returns-in_ok-with-in-Each-clause-issued c =
     issued_on _ _ _ _ _ _ hs _
     (subst (λ (on : Target). IsTargeted view (names_of c.args.names.now) on hs) (sym c.in-Each.is) lists)
     c.on_each-in-Each.ensures.ok
+
+pub returns-in_ok-with-in-Each-clause-stopped : goal.returns-in_ok-with-in-Each-clause-stopped
+returns-in_ok-with-in-Each-clause-stopped c =
+    let view = c.args.view.now in
+    let hs = c.deref.result.now in
+    let lists : ListsWith c.in-Each.id view.entities hs =
+    subst (λ (xs : List Handle). ListsWith c.in-Each.id view.entities xs) (sym c.deref.ensures.value) c.in_ok-with-in-Each.ensures in
+    stopped_on _ _ _ _ _ _ hs _
+    (subst (λ (on : Target). IsTargeted view (names_of c.args.names.now) on hs) (sym c.in-Each.is) lists)
+    c.on_each-in-Each.ensures.stopped

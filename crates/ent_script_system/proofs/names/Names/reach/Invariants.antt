@@ -1,9 +1,9 @@
-use Rattle.std.proofs.Common.{◌≡◌, ◌≤◌, map, length}
+use Rattle.std.proofs.Common.{◌≡◌, ◌+◌, ◌-◌, map, length}
 use Rattle.ent_script_system.specs.Parts.{names_of}
 use Rattle.ent_script_system.proofs.names.Names.reach.Given as goal
 
-abbrev pub invariant-loop-place : goal.invariant-loop-place
-invariant-loop-place l = record {
-  same : names_of (map (λ list. list.items) l.self-inside.lists.items) ≡ names_of l.fn.self;
-  long : l._place ≤ length l.self-inside.lists.items;
-}
+abbrev pub invariant-loop-self : goal.invariant-loop-self
+invariant-loop-self l = names_of (map (λ list. list.items) l.self-inside.lists.items) ≡ names_of l.fn.self
+
+abbrev pub decreases-loop-self : goal.decreases-loop-self
+decreases-loop-self l = l.name + 1 - length l.self-inside.lists.items
