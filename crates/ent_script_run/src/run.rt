@@ -86,7 +86,8 @@ where
     requires few { workers ≤ 64 }
     ensures report { IfOk result (λ text. IsReport script.now workers show text.items) }
 
-    // One worker has no other report.
+    // The other two are laws of the definitions: they follow from `report` and `ranges`, so a body
+    // that meets `report` meets them. One worker has no other report.
     ensures only { workers ≡ 1 → IfOk result (λ text. (other : List ℕ)
         → IsReport script.now workers show other → text.items ≡ other) }
 

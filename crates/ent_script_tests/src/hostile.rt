@@ -1,4 +1,4 @@
-use crate::line::has_line;
+use crate::line::{has_line, repeated};
 use std::alloc::Global;
 use std::test::Fail;
 
@@ -40,13 +40,31 @@ fn nested_arrays(rt: HostRuntime) -> Result<(), Fail> {
     Ok(())
 }
 
-const TEXTS: [(&[u8], &[u8]); 9] = [
+const TEXTS: [(&[u8], &[u8]); 13] = [
     (
         b"{\"components\":[\"h\xff\"],\"frames\":[]}",
         b"refused json\n",
     ),
     (
         b"{\"components\":[\"h\\ud800\"],\"frames\":[]}",
+        b"refused json\n",
+    ),
+    (
+        b"{\"components\":[\"h\\udc00\"],\"frames\":[]}",
+        b"refused json\n",
+    ),
+    (
+        b"{\"components\":[],\"frames\":[[[{\"spawn\":{},\"as\":\"\\ud800\"}]]]}",
+        b"refused json\n",
+    ),
+    // Both halves are one character, and no name.
+    (
+        b"{\"components\":[\"\\ud83d\\ude00\"],\"frames\":[]}",
+        b"refused script components\n",
+    ),
+    // A byte order mark.
+    (
+        b"\xef\xbb\xbf{\"components\":[],\"frames\":[]}",
         b"refused json\n",
     ),
     (
@@ -74,6 +92,71 @@ const TEXTS: [(&[u8], &[u8]); 9] = [
 #[test]
 fn texts(rt: HostRuntime) -> Result<(), Fail> {
     for (text, line) in TEXTS {
+        assert!(rt; has_line(rt.alloc(), text, line)?, "at {text:?}");
+    }
+    Ok(())
+}
+
+// Numbers, and the line of a script that has one as the value of a component.
+const NUMBERS: [(&[u8], &[u8]); 12] = [
+    (b"0", b"read\n"),
+    (b"-9223372036854775808", b"read\n"),
+    (b"9223372036854775807", b"read\n"),
+    (b"-0", b"refused operation 0 0 0 value\n"),
+    (b"-0.0", b"refused operation 0 0 0 value\n"),
+    (b"-9223372036854775809", b"refused operation 0 0 0 value\n"),
+    (b"9223372036854775808", b"refused operation 0 0 0 value\n"),
+    (b"18446744073709551615", b"refused operation 0 0 0 value\n"),
+    (b"18446744073709551616", b"refused operation 0 0 0 value\n"),
+    (b"1e-400", b"refused operation 0 0 0 value\n"),
+    // There is no float as large as these.
+    (b"1e400", b"refused json\n"),
+    (b"-1e400", b"refused json\n"),
+];
+
+#[test]
+fn numbers(rt: HostRuntime) -> Result<(), Fail> {
+    for (number, line) in NUMBERS {
+        let front = b"{\"components\":[\"hp\"],\"frames\":[[[{\"spawn\":{\"hp\":";
+        let text = repeated(rt.alloc(), front, number, 1, b"}}]]]}")?;
+        assert!(rt; has_line(rt.alloc(), &text, line)?, "at {number:?}");
+    }
+    Ok(())
+}
+
+// Numbers at other places.
+const PLACES: [(&[u8], &[u8]); 7] = [
+    (
+        b"{\"components\":[],\"frames\":[[[{\"spawn_many\":-0}]]]}",
+        b"refused operation 0 0 0 count\n",
+    ),
+    (
+        b"{\"components\":[],\"frames\":[[[{\"spawn_many\":18446744073709551616}]]]}",
+        b"refused operation 0 0 0 count\n",
+    ),
+    (
+        b"{\"components\":[],\"frames\":[],\"slots\":18446744073709551616}",
+        b"refused script slots\n",
+    ),
+    (
+        b"{\"components\":[],\"frames\":[],\"slots\":-0}",
+        b"refused script slots\n",
+    ),
+    (
+        b"{\"components\":[],\"frames\":[],\"generations\":-0}",
+        b"refused script generations\n",
+    ),
+    (
+        b"{\"components\":[],\"frames\":[],\"format\":18446744073709551617}",
+        b"refused script format\n",
+    ),
+    // It is no JSON, so no other test counts.
+    (b"[1e400]", b"refused json\n"),
+];
+
+#[test]
+fn numbers_at_other_places(rt: HostRuntime) -> Result<(), Fail> {
+    for (text, line) in PLACES {
         assert!(rt; has_line(rt.alloc(), text, line)?, "at {text:?}");
     }
     Ok(())
