@@ -11,6 +11,7 @@ mod output;
 mod program;
 mod replaying;
 mod running;
+mod starting;
 mod status;
 mod task;
 
@@ -19,5 +20,6 @@ pub use input::{INPUT_LIMIT, InputFault, read_all};
 pub use program::{execute, refuse_words};
 pub use replaying::replay;
 pub use running::run;
+pub use starting::start;
 pub use status::Status;
 pub use task::{LineFault, Task, command_line};

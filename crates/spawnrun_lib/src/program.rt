@@ -1,7 +1,7 @@
 //! The program: what its words ask for, done between two devices, and what it says on the error
 //! stream.
 ghost use Rattle.std.specs.Prelude.{◌≡◌, ◌≢◌, ◌≤◌, ◌+◌, ◌⊎◌, min, map, length, codes, true, OnErr};
-ghost use Rattle.std.specs.Prelude.{IfSome};
+ghost use Rattle.std.specs.Prelude.{IfOk, IfSome, OnOk, string_bytes};
 ghost use Rattle.std.specs.IoError.{error_kind};
 ghost use Rattle.std.specs.Io.KnownBytes.{Appends};
 ghost use Rattle.clap.specs.Words.{takes};
@@ -16,7 +16,7 @@ use crate::replaying::replay;
 use crate::running::run;
 use crate::status::Status;
 use crate::task::{LineFault, Task, command_line};
-use std::alloc::Global;
+use std::alloc::{AllocError, Global};
 use std::convert::AsStr;
 use std::io;
 use std::io::ErrorKind;
@@ -92,14 +92,26 @@ where
             };
             finish(errors, status)
         }
-        Err(LineFault::Line(error)) => match format!(in alloc; "{error}") {
-            Ok(text) => {
-                let _ = errors.put(text.as_bytes());
-                LINE_FAULT
-            }
-            Err(_) => finish(errors, Status::Memory),
-        },
+        Err(LineFault::Line(error)) => refuse_line(format!(in alloc; "{error}"), errors),
         Err(LineFault::Memory) => finish(errors, Status::Memory),
+    }
+}
+
+// Ends the program with clap's text on words that are no command line, if there was memory for it.
+fn refuse_line<E: Sink>(text: Result<String, AllocError>, errors: &mut E) -> u8
+    ensures status { OnOk text (result ≡ 2) }
+    ensures text_said { IfOk text (λ text. E.failures errors.new ≡ E.failures errors.old
+        → Appends (E.written errors.old) (E.written errors.new) (string_bytes text)) }
+    ensures memory { OnErr text (result ≡ 3) }
+    ensures memory_said { OnErr text (E.failures errors.new ≡ E.failures errors.old
+        → Appends (E.written errors.old) (E.written errors.new) (codes "memory\n")) }
+{
+    match text {
+        Ok(text) => {
+            let _ = errors.put(text.as_bytes());
+            LINE_FAULT
+        }
+        Err(AllocError) => finish(errors, Status::Memory),
     }
 }
 

@@ -4,21 +4,23 @@ use std::io;
 use std::io::{ErrorKind, Read, Write};
 use std::test::Fail;
 
-// A reader and writer of single bytes. A signal interrupts every second call, and it fails after `calls`
-// calls that aren't interrupted.
+// A reader and writer of single bytes. A signal interrupts this many calls before each that goes on, and
+// it fails after `calls` calls that went on.
 #[derive(Drop)]
 struct Choppy {
     bytes: Vec<u8>,
-    is_interrupted: bool,
+    interruptions: u32,
+    left: u32,
     calls: u64,
 }
 
 impl Choppy {
     fn next_call(&mut self) -> io::Result<()> {
-        self.is_interrupted = !self.is_interrupted;
-        if self.is_interrupted {
+        if self.left > 0 {
+            self.left -= 1;
             return Err(io::Error::from(ErrorKind::Interrupted));
         }
+        self.left = self.interruptions;
         if self.calls == 0 {
             return Err(io::Error::from(ErrorKind::BrokenPipe));
         }
@@ -55,11 +57,12 @@ impl Write for Choppy {
     }
 }
 
-/// A device of these bytes, that fails after `calls` calls.
-fn device_of(bytes: Vec<u8>, calls: u64) -> Counted<Choppy> {
+/// A device of these bytes, that is interrupted so often before each call, and fails after `calls` calls.
+fn device_of(bytes: Vec<u8>, interruptions: u32, calls: u64) -> Counted<Choppy> {
     Counted::new(Choppy {
         bytes,
-        is_interrupted: false,
+        interruptions,
+        left: interruptions,
         calls,
     })
 }
@@ -73,21 +76,65 @@ fn taken(counted: &mut Counted<Choppy>) -> Result<(usize, u8), Failed> {
 
 #[test]
 fn interruptions_are_no_failures(rt: HostRuntime) {
-    let mut counted = device_of(Vec::new(rt.alloc()), NEVER);
-    assert!(rt; counted.put(b"flush\n") == Ok(()));
-    for byte in b"flush\n" {
-        assert!(rt; taken(&mut counted) == Ok((1, *byte)));
+    for interruptions in [0, 1, 100] {
+        let mut counted = device_of(Vec::new(rt.alloc()), interruptions, NEVER);
+        assert!(rt; counted.put(b"ab") == Ok(()), "at {interruptions}");
+        for wanted in [(1, b'a'), (1, b'b'), (0, 0)] {
+            assert!(rt; taken(&mut counted) == Ok(wanted), "at {interruptions}");
+        }
     }
-    assert!(rt; taken(&mut counted) == Ok((0, 0)));
 }
 
 #[test]
 fn a_failure_comes_once(rt: HostRuntime) -> Result<(), Fail> {
-    let mut counted = device_of(vec![in rt.alloc(); b'a', b'b']?, 1);
+    let mut counted = device_of(vec![in rt.alloc(); b'a', b'b']?, 1, 1);
     assert!(rt; taken(&mut counted) == Ok((1, b'a')));
     assert!(rt; taken(&mut counted) == Err(Failed));
     assert!(rt; counted.put(b"c") == Err(Failed));
     Ok(())
+}
+
+// A reader and writer that would block at its first call. From then on it is at its end, and takes all.
+#[derive(Drop)]
+struct Blocked {
+    is_called: bool,
+}
+
+impl Blocked {
+    fn next_call(&mut self) -> io::Result<()> {
+        if self.is_called {
+            return Ok(());
+        }
+        self.is_called = true;
+        Err(io::Error::from(ErrorKind::WouldBlock))
+    }
+}
+
+impl Read for Blocked {
+    fn read(&mut self, _buffer: &mut [u8]) -> io::Result<usize> {
+        self.next_call()?;
+        Ok(0)
+    }
+}
+
+impl Write for Blocked {
+    fn write(&mut self, piece: &[u8]) -> io::Result<usize> {
+        self.next_call()?;
+        Ok(piece.len())
+    }
+
+    fn flush(&mut self) -> io::Result<()> {
+        Ok(())
+    }
+}
+
+#[test]
+fn a_call_that_would_block_is_a_failure(rt: HostRuntime) {
+    let mut buffer = [0; 8];
+    let mut source = Counted::new(Blocked { is_called: false });
+    assert!(rt; source.take(&mut buffer) == Err(Failed));
+    let mut sink = Counted::new(Blocked { is_called: false });
+    assert!(rt; sink.put(b"born\n") == Err(Failed));
 }
 
 // A writer that takes all that it is given and can't flush it.

@@ -21,6 +21,16 @@ fn reads_in_pieces(rt: HostRuntime) -> Result<(), Fail> {
 }
 
 #[test]
+fn reads_byte_by_byte(rt: HostRuntime) -> Result<(), Fail> {
+    let mut text = Vec::new(rt.alloc());
+    text.resize(70_000, b'a')?;
+    let mut source = MemorySource::new(&text, 1, NEVER);
+    let bytes = read_all(rt.alloc(), &mut source, INPUT_LIMIT)?;
+    assert!(rt; bytes.as_slice() == text.as_slice());
+    Ok(())
+}
+
+#[test]
 fn takes_one_byte_past_the_limit(rt: HostRuntime) {
     let mut source = MemorySource::new(b"alloc\nflush\n", 5, NEVER);
     assert!(rt; fault_of(rt.alloc(), &mut source, 8) == Some(InputFault::TooLong));

@@ -4,6 +4,8 @@
 #[cfg(test)]
 mod counted;
 #[cfg(test)]
+mod faults;
+#[cfg(test)]
 mod inputs;
 #[cfg(test)]
 mod memory;

@@ -13,15 +13,23 @@ struct Ending<'a> {
     errors: &'a str,
 }
 
-const HELP: Ending<'static> = Ending {
-    status: 2,
-    output: "",
-    errors: "Runs the schedule of allocator events on standard input\n\n\
-             Usage: spawnrun replay [OPTIONS]\n\nOptions:\n      \
-             --slots <N>        How many slots may be made [default: 4294967295]\n      \
-             --generations <N>  The last generation of a slot [default: 2147483647]\n  \
-             -h, --help             Print help\n",
-};
+const RUN_HELP: &str = "Runs the script of frames on standard input\n\n\
+     Usage: spawnrun run [OPTIONS]\n\nOptions:\n      \
+     --workers <N>  How many workers run the systems of a frame [default: 1]\n      \
+     --show <WHAT>  What names an entity [default: births] [possible values: births, handles]\n  \
+     -h, --help         Print help\n";
+
+const REPLAY_HELP: &str = "Runs the schedule of allocator events on standard input\n\n\
+     Usage: spawnrun replay [OPTIONS]\n\nOptions:\n      \
+     --slots <N>        How many slots may be made [default: 4294967295]\n      \
+     --generations <N>  The last generation of a slot [default: 2147483647]\n  \
+     -h, --help             Print help\n";
+
+const HELP: &str = "Runs schedules and scripts over Bevy's entity allocator\n\n\
+     Usage: spawnrun <COMMAND>\n\nCommands:\n  \
+     replay  Runs the schedule of allocator events on standard input\n  \
+     run     Runs the script of frames on standard input\n\nOptions:\n  \
+     -h, --help  Print help\n";
 
 // Runs the program on these words and this input, and compares how it ends. Its output fails after `puts`
 // calls that succeed.
@@ -98,17 +106,61 @@ fn scripts_are_run(rt: HostRuntime) {
     ends(&rt, &["run"], script, 0, failed);
 }
 
+// Words that ask for no task, and clap's text on them.
+const NO_TASK: [(&[&str], &str); 4] = [
+    (
+        &[],
+        "error: 'spawnrun' requires a subcommand but one was not provided\n  \
+         [subcommands: replay, run]\n\nUsage: spawnrun <COMMAND>\n\n\
+         For more information, try '--help'.\n",
+    ),
+    (&["--help"], HELP),
+    (&["run", "--help"], RUN_HELP),
+    (&["replay", "--help"], REPLAY_HELP),
+];
+
 #[test]
-fn faulty_words_use_no_device(rt: HostRuntime) {
-    let none = Ending {
-        status: 2,
-        output: "",
-        errors: "error: 'spawnrun' requires a subcommand but one was not provided\n  \
-                 [subcommands: replay, run]\n\nUsage: spawnrun <COMMAND>\n\n\
-                 For more information, try '--help'.\n",
-    };
-    ends(&rt, &[], "alloc\n", 0, none);
-    ends(&rt, &["replay", "--help"], "alloc\n", 0, HELP);
+fn words_that_ask_for_no_task_use_no_device(rt: HostRuntime) {
+    for (words, errors) in NO_TASK {
+        let ending = Ending {
+            status: 2,
+            output: "",
+            errors,
+        };
+        ends(&rt, words, "alloc\n", 0, ending);
+    }
+}
+
+// The exit status on these words and this input, if the error stream fails. The output fails after `puts`
+// calls that succeed.
+fn status_unheard(
+    rt: &(impl Threads + Sync + AllocGlobal),
+    words: &[&str],
+    input: &str,
+    puts: u64,
+) -> u8 {
+    let mut source = MemorySource::new(input.as_bytes(), 7, NEVER);
+    let mut sink = MemorySink::new(rt.alloc(), puts);
+    let mut errors = MemorySink::new(rt.alloc(), 0);
+    execute(rt, rt.alloc(), words, &mut source, &mut sink, &mut errors)
+}
+
+#[test]
+fn a_failing_error_stream_changes_no_status(rt: HostRuntime) {
+    for (words, _) in NO_TASK {
+        assert!(rt; status_unheard(&rt, words, "", 0) == 2);
+    }
+    let cases = [
+        ("alloc\n", NEVER, 0),
+        ("alloc_\n", NEVER, 1),
+        ("alloc\n", 0, 4),
+    ];
+    for (schedule, puts, status) in cases {
+        assert!(rt;
+            status_unheard(&rt, &["replay"], schedule, puts) == status,
+            "at {status}"
+        );
+    }
 }
 
 #[test]
@@ -136,15 +188,14 @@ fn refused_memory_is_told_in_place_of_help(rt: HostRuntime) {
     let mut sink = MemorySink::new(rt.alloc(), NEVER);
     let mut errors = MemorySink::new(rt.alloc(), NEVER);
     // With this room the devices take no memory.
-    if errors.bytes.reserve(1_000).is_err() {
+    if errors.bytes.reserve(2_000).is_err() {
         return;
     }
     let words = ["replay", "--help"];
     let status = execute(&rt, rt.alloc(), &words, &mut source, &mut sink, &mut errors);
     let said = errors.bytes.as_slice();
     assert!(rt;
-        (status, said) == (HELP.status, HELP.errors.as_bytes())
-            || (status, said) == (3, b"memory\n")
+        (status, said) == (2, REPLAY_HELP.as_bytes()) || (status, said) == (3, b"memory\n")
     );
     assert!(rt; sink.bytes.is_empty());
 }

@@ -98,22 +98,6 @@ fn faults_are_shown_by_clap(rt: HostRuntime) -> Result<(), Fail> {
             "error: unexpected argument '--slots' found\n\nUsage: spawnrun run [OPTIONS]\n\n\
              For more information, try '--help'.\n",
         ),
-        (
-            ["run", "--help"].as_slice(),
-            "Runs the script of frames on standard input\n\n\
-             Usage: spawnrun run [OPTIONS]\n\nOptions:\n      \
-             --workers <N>  How many workers run the systems of a frame [default: 1]\n      \
-             --show <WHAT>  What names an entity [default: births] [possible values: births, handles]\n  \
-             -h, --help         Print help\n",
-        ),
-        (
-            ["replay", "--help"].as_slice(),
-            "Runs the schedule of allocator events on standard input\n\n\
-             Usage: spawnrun replay [OPTIONS]\n\nOptions:\n      \
-             --slots <N>        How many slots may be made [default: 4294967295]\n      \
-             --generations <N>  The last generation of a slot [default: 2147483647]\n  \
-             -h, --help             Print help\n",
-        ),
     ];
     for (words, text) in cases {
         assert!(rt; shows(rt.alloc(), words, text)?);

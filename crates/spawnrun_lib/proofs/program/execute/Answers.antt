@@ -2,5 +2,5 @@ use Rattle.clap.specs.Words.{kind_of}
 use Rattle.spawnrun_lib.proofs.program.execute.Goals as goal
 
 -- clap's error is of a kind that its rules find
-pub returns-in-Ok-format-clause-faulty : goal.returns-in-Ok-format-clause-faulty
-returns-in-Ok-format-clause-faulty g c = λ _. (kind_of c.in-Err-Line.error, rw c.in-Err-Line.field-0-is at c.in-Err-Line.ensures.fault)
+pub returns-in-Err-Line-clause-faulty : goal.returns-in-Err-Line-clause-faulty
+returns-in-Err-Line-clause-faulty g c = λ _. (kind_of c.in-Err-Line.error, rw c.in-Err-Line.field-0-is at c.in-Err-Line.ensures.fault)

@@ -1,0 +1,37 @@
+//! The program on the words that it was started with.
+ghost use Rattle.std.specs.Prelude.{◌≤◌};
+
+use crate::device::Counted;
+use crate::program::{execute, refuse_words};
+use std::env::Env;
+use std::io::{Read, Write};
+use std::thread::Threads;
+use std::{env, io};
+
+/// Runs the program on the words that it was started with, and answers its exit status: that of
+/// `execute`, or of `refuse_words` if the words can't be read.
+pub fn start<R, I: Read + Drop, O: Write + Drop, E: Write + Drop>(
+    rt: &R,
+    input: I,
+    output: O,
+    errors: E,
+) -> u8
+where
+    R: Threads + Sync + Env + AllocGlobal,
+    ensures { result ≤ 4 }
+{
+    let mut input = Counted::new(input);
+    let mut output = Counted::new(output);
+    let mut errors = Counted::new(errors);
+    match words(rt) {
+        Ok(words) => execute(rt, rt.alloc(), &words, &mut input, &mut output, &mut errors),
+        Err(error) => refuse_words(&error, &mut errors),
+    }
+}
+
+// The words after the program's name.
+fn words(rt: &(impl Env + AllocGlobal)) -> io::Result<Vec<String>> {
+    let mut words = env::args(rt)?;
+    let _ = words.next();
+    Ok(words.collect(rt.alloc())?)
+}

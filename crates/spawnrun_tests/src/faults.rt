@@ -1,0 +1,50 @@
+use ent_replay::{Cause as LineCause, ReadFault as ScheduleFault};
+use ent_script::{Cause, ReadFault, ScriptCause};
+use std::test::Fail;
+
+// Why a text is no script, and how that is printed.
+const SCRIPT_FAULTS: [(ReadFault, &str); 6] = [
+    (ReadFault::Json, "no JSON text"),
+    (ReadFault::Script(ScriptCause::Slots), "no script"),
+    (ReadFault::Frame { frame: 7 }, "no frame at 7"),
+    (
+        ReadFault::System {
+            frame: 8,
+            system: 9,
+        },
+        "no system at 8 9",
+    ),
+    (
+        ReadFault::Operation {
+            frame: 10,
+            system: 11,
+            operation: 12,
+            cause: Cause::Count,
+        },
+        "no operation at 10 11 12",
+    ),
+    (ReadFault::Memory, "out of memory"),
+];
+
+#[test]
+fn a_fault_of_a_script_is_printed(rt: HostRuntime) -> Result<(), Fail> {
+    for (fault, text) in SCRIPT_FAULTS {
+        assert!(rt;
+            format!(in rt.alloc(); "{fault}")?.as_str() == text,
+            "at {text}"
+        );
+    }
+    Ok(())
+}
+
+#[test]
+fn a_fault_of_a_schedule_is_printed(rt: HostRuntime) -> Result<(), Fail> {
+    let line = ScheduleFault::Line {
+        line: 13,
+        cause: LineCause::Number,
+    };
+    assert!(rt; format!(in rt.alloc(); "{line}")?.as_str() == "line 13 names no event");
+    let memory = ScheduleFault::Memory;
+    assert!(rt; format!(in rt.alloc(); "{memory}")?.as_str() == "out of memory");
+    Ok(())
+}
