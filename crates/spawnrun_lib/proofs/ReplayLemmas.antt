@@ -1,6 +1,6 @@
 -- The text that is written of an input.
 use Rattle.std.proofs.Common.{◌≡◌, ◌≢◌, ◌∙◌, List, ℕ, Option, Some, None, length, ◌<◌, sym, subst}
-use Rattle.std.proofs.Common.{refl, IfSome, IfOk, OnErr}
+use Rattle.std.proofs.Common.{refl, IfSome, IfOk, OnOk, OnErr}
 use Rattle.std.specs.Prelude.{Result, Ok, Err}
 use Rattle.spawnrun_lib.specs.Device.{Writes}
 use Rattle.spawnrun_lib.specs.declared.status.Status.{Status}
@@ -40,3 +40,15 @@ is_longer None limit bytes longer is = cc
 is_longer (Some all) limit bytes longer is =
     let same : all ≡ bytes = cc in
     subst (λ known. limit < length known) same longer
+
+-- what was said of an input is said of what the source tells
+pub advised : (P : List ℕ → List ℕ → Type 0) (told : Option (List ℕ)) (text : List ℕ) (old new : Option (List ℕ))
+    → ((bytes : List ℕ) → told ≡ Some bytes → P bytes text) → Appends old new text → Writes P told old new
+advised P None text old new stands said = tt
+advised P (Some bytes) text old new stands said = (text, stands bytes refl, said)
+
+-- a run that ends as its line was to end had memory for the line
+pub had_memory : (Kept X : Type 0) (status result : Status) (line : Result (Vec ℕ) NoMemory) → status ≢ Memory → OnOk line X
+    → OnErr line ((result ≡ Memory) × Kept) → result ≡ status → X
+had_memory Kept X status result (Ok line) differs holds refused same = holds
+had_memory Kept X status result (Err e) differs holds refused same = absurd (differs (sym same ∙ refused.0))

@@ -67,12 +67,16 @@ run_command names =
     with_rule (with_rule (new_app (codes "run")) workers_option) (show_option names)
 
 -- the words begin after the program's name, and name one of its subcommands
-abbrev pub program_of : Bor (List (Bor Text)) → App
-program_of names = with_subcommand (with_subcommand (on_top (λ top. record top {
+abbrev pub top_command : App
+top_command = on_top (λ top. record top {
   no_binary_name = true;
   disable_help_subcommand = true;
   subcommand_required = true;
-}) (new_app (codes "spawnrun"))) replay_command.top) (run_command names).top
+}) (new_app (codes "spawnrun"))
+
+abbrev pub program_of : Bor (List (Bor Text)) → App
+program_of names =
+    with_subcommand (with_subcommand top_command replay_command.top) (run_command names).top
 
 -- references to these texts, all to one place: clap reads the texts alone
 abbrev pub placed : List Text → Bor (List (Bor Text))

@@ -1,6 +1,7 @@
 pub mod Device
 pub mod Counted
 pub mod CommandLine
+pub mod Advice
 pub mod Program
 pub mod Status
 pub mod Replay

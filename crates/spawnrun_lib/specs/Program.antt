@@ -4,7 +4,9 @@ use Rattle.clap.specs.Words.{Text}
 use Rattle.spawnrun_lib.specs.declared.status.Status.{Status}
 use Rattle.spawnrun_lib.specs.declared.task.Task.{Task}
 use Rattle.spawnrun_lib.specs.declared.task.Task.TheVariants.{Replay, Run}
+use Rattle.spawnrun_lib.specs.Advice.{AdvisesOnSchedule, AdvisesOnScript}
 use Rattle.spawnrun_lib.specs.CommandLine.{AsksFor}
+use Rattle.spawnrun_lib.specs.Device.{Writes}
 use Rattle.spawnrun_lib.specs.Replay.{HasWritten}
 use Rattle.spawnrun_lib.specs.Running.{HasGiven}
 
@@ -12,6 +14,11 @@ use Rattle.spawnrun_lib.specs.Running.{HasGiven}
 abbrev pub HasDone : Task → Status → Option (List ℕ) → Option (List ℕ) → Option (List ℕ) → Type 0
 HasDone (Replay limits) status = HasWritten limits status
 HasDone (Run workers show) status = HasGiven workers show status
+
+-- a task that refuses its input has told the error stream why, if the devices tell
+abbrev pub HasAdvised : Task → Option (List ℕ) → Option (List ℕ) → Option (List ℕ) → Type 0
+HasAdvised (Replay limits) = Writes AdvisesOnSchedule
+HasAdvised (Run workers show) = Writes AdvisesOnScript
 
 -- the words ask for a task of which this holds
 abbrev pub AsksTo : List Text → (Task → Type 0) → Type 0

@@ -1,8 +1,9 @@
 //! The program `spawnrun` but for its `main`: devices, the whole input, the command line, and the
 //! runs of schedules and of scripts.
 //!
-//! `main` hands its arguments and the standard streams to `execute`. All that it does from then on
-//! has a contract, over any devices, so that tests can put devices in memory in their place.
+//! `main` is one call of `start`, which hands the arguments and the standard streams to `execute`.
+//! All that happens from then on has a contract, over any devices, so that tests can put devices in
+//! memory in their place.
 #![tactic(auto)]
 
 mod device;

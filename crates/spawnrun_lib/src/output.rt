@@ -1,5 +1,5 @@
 //! What the run of an input writes, after all of it is made.
-ghost use Rattle.std.specs.Prelude.{◌≡◌, ◌≢◌, ◌+◌, ◌⊎◌, IfOk, OnErr, OnOk};
+ghost use Rattle.std.specs.Prelude.{◌≡◌, ◌≢◌, ◌+◌, ◌⊎◌, ◌++◌, codes, IfOk, OnErr, OnOk};
 ghost use Rattle.std.specs.Io.KnownBytes.{Appends};
 ghost use Rattle.spawnrun_lib.specs.Replay.{size_line};
 
@@ -30,6 +30,46 @@ pub(crate) fn write<O: Sink>(
         },
         Err(Memory) => Status::Memory,
     }
+}
+
+/// Writes the line that refuses an input, if there was memory for it. If the line went out, the error
+/// stream is told what the test wants that failed, and what it found.
+pub(crate) fn refuse<O: Sink, E: Sink>(
+    output: &mut O,
+    errors: &mut E,
+    line: Result<Vec<u8>, Memory>,
+    wants: &str,
+    found: &str,
+) -> Status
+    ensures ends { OnOk line ((result ≡ Status.Refused) ⊎ (result ≡ Status.Device)) }
+    ensures written { IfOk line (λ bytes. result ≡ Status.Refused
+        → Appends (O.written output.old) (O.written output.new) bytes.items) }
+    ensures memory { OnErr line ((result ≡ Status.Memory) × (output.new ≡ output.old)) }
+    ensures failed { result ≡ Status.Device
+        → O.failures output.new ≡ O.failures output.old + 1 }
+    ensures unfailed { result ≢ Status.Device → O.failures output.new ≡ O.failures output.old }
+    ensures advised { result ≡ Status.Refused → E.failures errors.new ≡ E.failures errors.old
+        → Appends (E.written errors.old) (E.written errors.new)
+        (wants.now ++ found.now ++ codes "\n") }
+    ensures quiet { result ≢ Status.Refused → errors.new ≡ errors.old }
+{
+    let status = write(output, line, Status::Refused);
+    if status == Status::Refused {
+        // If the error stream fails, there is nobody left to tell.
+        let _ = advise(errors, wants, found);
+    }
+    status
+}
+
+// Says in one line what a test wants, and what it found.
+fn advise<E: Sink>(errors: &mut E, wants: &str, found: &str) -> Result<(), Failed>
+    ensures said { OnOk result (Appends (E.written errors.old) (E.written errors.new)
+        (wants.now ++ found.now ++ codes "\n")) }
+    ensures failed { OnErr result (E.failures errors.new ≡ E.failures errors.old + 1) }
+{
+    errors.put(wants.as_bytes())?;
+    errors.put(found.as_bytes())?;
+    errors.put(b"\n")
 }
 
 /// The line on an input that is too long.

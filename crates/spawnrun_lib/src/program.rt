@@ -9,7 +9,7 @@ ghost use Rattle.spawnrun_lib.specs.CommandLine.{IsFaulty, program};
 ghost use Rattle.spawnrun_lib.specs.Device.{OneFails, Takes, TakesAtMost};
 ghost use Rattle.spawnrun_lib.specs.Replay.{input_limit};
 ghost use Rattle.spawnrun_lib.specs.Status.{exit_number, said, words_status};
-ghost use Rattle.spawnrun_lib.specs.Program.{AsksTo, HasDone};
+ghost use Rattle.spawnrun_lib.specs.Program.{AsksTo, HasAdvised, HasDone};
 
 use crate::device::{Sink, Source};
 use crate::replaying::replay;
@@ -30,7 +30,7 @@ const LINE_FAULT: u8 = 2;
 /// | Status | Meaning | On the error stream |
 /// |---|---|---|
 /// | 0 | The task was done. | nothing |
-/// | 1 | The input was refused. One line of output says why. | nothing |
+/// | 1 | The input was refused. One line of output names the test. | what the test wants, and finds |
 /// | 2 | The words are no command line, or ask for help. No device was used. | clap's text |
 /// | 3 | Memory ran out. Nothing was written. | `memory` |
 /// | 4 | A call of the input or the output failed. | `device` |
@@ -78,7 +78,10 @@ where
         → TakesAtMost (I.remaining input.old) (I.remaining input.new) (input_limit + 1) }
 
     // What the error stream tells.
-    ensures quiet { result ≤ 1 → errors.new ≡ errors.old }
+    ensures quiet { result ≡ 0 → errors.new ≡ errors.old }
+    ensures advised { result ≡ 1 → E.failures errors.new ≡ E.failures errors.old
+        → AsksTo (map S.text words.now) (λ task. HasAdvised task
+        (I.remaining input.old) (E.written errors.old) (E.written errors.new)) }
     ensures memory_said { result ≡ 3 → E.failures errors.new ≡ E.failures errors.old
         → Appends (E.written errors.old) (E.written errors.new) (codes "memory\n") }
     ensures device_said { result ≡ 4 → E.failures errors.new ≡ E.failures errors.old
@@ -87,8 +90,10 @@ where
     match command_line(alloc, words) {
         Ok(task) => {
             let status = match task {
-                Task::Replay(limits) => replay(alloc, input, output, limits),
-                Task::Run { workers, show } => run(rt, alloc, input, output, workers, show),
+                Task::Replay(limits) => replay(alloc, input, output, errors, limits),
+                Task::Run { workers, show } => {
+                    run(rt, alloc, input, output, errors, workers, show)
+                }
             };
             finish(errors, status)
         }

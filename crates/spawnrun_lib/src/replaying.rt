@@ -1,18 +1,20 @@
 //! The run of a schedule: bytes in, bytes out.
 ghost use Rattle.std.specs.Prelude.{◌≡◌, ◌≢◌, ◌+◌, min, length, All, Err, IfOk, IfSome};
 ghost use Rattle.ent_replay.specs.Schedule.{outcomes_of, starting};
-ghost use Rattle.spawnrun_lib.specs.Device.{Takes, TakesAtMost, OneFails};
+ghost use Rattle.spawnrun_lib.specs.Advice.{AdvisesOnSchedule};
+ghost use Rattle.spawnrun_lib.specs.Device.{Takes, TakesAtMost, OneFails, Writes};
 ghost use Rattle.spawnrun_lib.specs.Replay.{HasWritten, input_limit, outcome_lines, refused_line};
 
 use crate::device::{Sink, Source};
 use crate::input::{INPUT_LIMIT, InputFault, read_all};
-use crate::output::{size_line, write};
+use crate::output::{refuse, size_line, write};
 use crate::status::Status;
 use ent_alloc::Limits;
 use ent_handle::Memory;
 use ent_replay::{
     Cause, Event, Machine, Outcome, ReadFault, ReplayFault, read_schedule, write_outcome,
 };
+use spawnrun_advice::{line_wants, schedule_found, size_wants};
 use std::alloc::Global;
 
 /// Runs the schedule that the input spells over an empty allocator of these limits, and writes a
@@ -24,10 +26,14 @@ use std::alloc::Global;
 ///
 /// After `Memory`, or a failure of the input, the output is as it was. `Device` is one failed call
 /// of one of the two devices.
-pub fn replay<I: Source, O: Sink>(
+///
+/// The error stream is told of a refused input alone: what the test wants that it fails, and what
+/// was found. Its failure changes nothing else.
+pub fn replay<I: Source, O: Sink, E: Sink>(
     alloc: Global,
     input: &mut I,
     output: &mut O,
+    errors: &mut E,
     limits: Limits,
 ) -> Status
     ensures done { result ≡ Status.Done → HasWritten limits Status.Done
@@ -45,6 +51,12 @@ pub fn replay<I: Source, O: Sink>(
         → O.failures output.new ≡ O.failures output.old }
     ensures unread { I.failures input.new ≢ I.failures input.old → output.new ≡ output.old }
 
+    // What the error stream tells.
+    ensures quiet { result ≢ Status.Refused → errors.new ≡ errors.old }
+    ensures advised { result ≡ Status.Refused → E.failures errors.new ≡ E.failures errors.old
+        → Writes AdvisesOnSchedule (I.remaining input.old) (E.written errors.old)
+        (E.written errors.new) }
+
     // What is taken of an input that didn't fail: all of it, or one byte more than the limit.
     ensures reads { I.failures input.new ≡ I.failures input.old → result ≢ Status.Memory
         → IfSome (I.remaining input.old) (λ all.
@@ -57,11 +69,13 @@ pub fn replay<I: Source, O: Sink>(
         Ok(bytes) => match read_schedule(alloc, &bytes) {
             Ok(events) => write(output, outcome_text(alloc, limits, &events), Status::Done),
             Err(ReadFault::Line { line, cause }) => {
-                write(output, refused_line(alloc, line, cause), Status::Refused)
+                let text = refused_line(alloc, line, cause);
+                let found = schedule_found(&bytes, line);
+                refuse(output, errors, text, line_wants(cause), found.as_str())
             }
             Err(ReadFault::Memory) => Status::Memory,
         },
-        Err(InputFault::TooLong) => write(output, size_line(alloc), Status::Refused),
+        Err(InputFault::TooLong) => refuse(output, errors, size_line(alloc), size_wants(), ""),
         Err(InputFault::Memory) => Status::Memory,
         Err(InputFault::Device) => Status::Device,
     }

@@ -1,18 +1,20 @@
 //! The run of a script: bytes in, bytes out.
 ghost use Rattle.std.specs.Prelude.{◌≡◌, ◌≢◌, ◌+◌, ◌<◌, ◌≤◌, min, length, IfOk, IfSome, OnOk};
 ghost use Rattle.ent_script.specs.Refusal.{refusal_line};
-ghost use Rattle.spawnrun_lib.specs.Device.{Takes, TakesAtMost, OneFails};
+ghost use Rattle.spawnrun_lib.specs.Advice.{AdvisesOnScript};
+ghost use Rattle.spawnrun_lib.specs.Device.{Takes, TakesAtMost, OneFails, Writes};
 ghost use Rattle.spawnrun_lib.specs.Replay.{input_limit};
 ghost use Rattle.spawnrun_lib.specs.Running.{HasGiven};
 
 use crate::device::{Sink, Source};
 use crate::input::{INPUT_LIMIT, InputFault, read_all};
-use crate::output::{size_line, write};
+use crate::output::{refuse, size_line, write};
 use crate::status::Status;
 use ent_handle::Memory;
 use ent_script::{ReadFault, read_script, write_refusal};
 use ent_script_report::Show;
 use ent_script_run::run_script;
+use spawnrun_advice::{script_found, script_wants, size_wants};
 use std::alloc::Global;
 use std::thread::Threads;
 
@@ -25,11 +27,15 @@ use std::thread::Threads;
 ///
 /// After `Memory`, or a failure of the input, the output is as it was. `Device` is one failed call
 /// of one of the two devices.
-pub fn run<R, I: Source, O: Sink>(
+///
+/// The error stream is told of a refused input alone: what the test wants that it fails, and what
+/// was found. Its failure changes nothing else.
+pub fn run<R, I: Source, O: Sink, E: Sink>(
     rt: &R,
     alloc: Global,
     input: &mut I,
     output: &mut O,
+    errors: &mut E,
     workers: usize,
     show: Show,
 ) -> Status
@@ -53,6 +59,12 @@ where
         → O.failures output.new ≡ O.failures output.old }
     ensures unread { I.failures input.new ≢ I.failures input.old → output.new ≡ output.old }
 
+    // What the error stream tells.
+    ensures quiet { result ≢ Status.Refused → errors.new ≡ errors.old }
+    ensures advised { result ≡ Status.Refused → E.failures errors.new ≡ E.failures errors.old
+        → Writes AdvisesOnScript (I.remaining input.old) (E.written errors.old)
+        (E.written errors.new) }
+
     // What is taken of an input that didn't fail: all of it, or one byte more than the limit.
     ensures reads { I.failures input.new ≡ I.failures input.old → result ≢ Status.Memory
         → IfSome (I.remaining input.old) (λ all.
@@ -67,9 +79,13 @@ where
                 let report = run_script(rt, alloc, &script, workers, show);
                 write(output, report, Status::Done)
             }
-            Err(fault) => write(output, refusal_line(alloc, fault), Status::Refused),
+            Err(fault) => {
+                let line = refusal_line(alloc, fault);
+                let found = script_found(alloc, &bytes, fault);
+                refuse(output, errors, line, script_wants(fault), found.as_str())
+            }
         },
-        Err(InputFault::TooLong) => write(output, size_line(alloc), Status::Refused),
+        Err(InputFault::TooLong) => refuse(output, errors, size_line(alloc), size_wants(), ""),
         Err(InputFault::Memory) => Status::Memory,
         Err(InputFault::Device) => Status::Device,
     }

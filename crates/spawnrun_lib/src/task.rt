@@ -6,7 +6,7 @@ ghost use Rattle.ent_alloc.specs.Limits.{AreLimits};
 ghost use Rattle.spawnrun_lib.specs.CommandLine.{AreWorkers, AsksFor, HasNumber, HasShow, IsFaultIn};
 ghost use Rattle.spawnrun_lib.specs.CommandLine.{given, name_option, number_of, number_option};
 ghost use Rattle.spawnrun_lib.specs.CommandLine.{program, program_of, replay_command, run_command};
-ghost use Rattle.spawnrun_lib.specs.CommandLine.{show_text};
+ghost use Rattle.spawnrun_lib.specs.CommandLine.{show_text, top_command};
 
 use clap::error::ErrorKind;
 use clap::{Arg, ArgMatches, Command};
@@ -17,6 +17,23 @@ use std::convert::AsStr;
 
 // The values of `--show`.
 static SHOWN: [&str; 2] = ["births", "handles"];
+
+// What help ends with.
+const PROGRAM_END: &str = "A script of one line, for 'spawnrun run':\n  \
+     {\"components\":[\"hp\"],\"frames\":[[[{\"spawn\":{\"hp\":20}}]]]}\n\n\
+     Exit status:\n  \
+     0  the input was accepted, and all of the output was written\n  \
+     1  the input was refused: one line of output names the test that it fails\n  \
+     2  the words are no command line, or ask for help\n  \
+     3  memory ran out, and nothing was written\n  \
+     4  reading or writing failed";
+
+const RUN_END: &str = "A script of one line:\n  \
+     {\"components\":[\"hp\"],\"frames\":[[[{\"spawn\":{\"hp\":20}}]]]}\n\n\
+     'spawnrun --help' names the exit statuses.";
+
+const REPLAY_END: &str =
+    "A schedule of one line:\n  alloc\n\n'spawnrun --help' names the exit statuses.";
 
 /// What the program is asked to do.
 #[derive(Clone, Copy, Debug, PartialEq, Eq)]
@@ -124,6 +141,7 @@ fn replay_command<'a>(alloc: Global) -> Result<Command<'a>, AllocError>
     );
     Command::new(alloc, "replay")
         .about("Runs the schedule of allocator events on standard input")
+        .after_help(REPLAY_END)
         .arg(slots)?
         .arg(generations)
 }
@@ -142,8 +160,21 @@ fn run_command<'a>(alloc: Global, shown: &'a [&'a str]) -> Result<Command<'a>, A
     let show = name_option(alloc, "show", shown, "births", "What names an entity");
     Command::new(alloc, "run")
         .about("Runs the script of frames on standard input")
+        .after_help(RUN_END)
         .arg(workers)?
         .arg(show)
+}
+
+// The program without its subcommands.
+fn top_command<'a>(alloc: Global) -> Command<'a>
+    ensures { app_of result ≡ top_command }
+{
+    Command::new(alloc, "spawnrun")
+        .about("Runs schedules and scripts over Bevy's entity allocator")
+        .after_help(PROGRAM_END)
+        .no_binary_name(true)
+        .disable_help_subcommand(true)
+        .subcommand_required(true)
 }
 
 fn program<'a>(alloc: Global, shown: &'a [&'a str]) -> Result<Command<'a>, AllocError>
@@ -151,11 +182,7 @@ fn program<'a>(alloc: Global, shown: &'a [&'a str]) -> Result<Command<'a>, Alloc
 {
     let replay = replay_command(alloc)?;
     let run = run_command(alloc, shown)?;
-    Command::new(alloc, "spawnrun")
-        .about("Runs schedules and scripts over Bevy's entity allocator")
-        .no_binary_name(true)
-        .disable_help_subcommand(true)
-        .subcommand_required(true)
+    top_command(alloc)
         .subcommand(replay)?
         .subcommand(run)?
         .bin_name("spawnrun")

@@ -17,19 +17,31 @@ const RUN_HELP: &str = "Runs the script of frames on standard input\n\n\
      Usage: spawnrun run [OPTIONS]\n\nOptions:\n      \
      --workers <N>  How many workers run the systems of a frame [default: 1]\n      \
      --show <WHAT>  What names an entity [default: births] [possible values: births, handles]\n  \
-     -h, --help         Print help\n";
+     -h, --help         Print help\n\n\
+     A script of one line:\n  \
+     {\"components\":[\"hp\"],\"frames\":[[[{\"spawn\":{\"hp\":20}}]]]}\n\n\
+     'spawnrun --help' names the exit statuses.\n";
 
 const REPLAY_HELP: &str = "Runs the schedule of allocator events on standard input\n\n\
      Usage: spawnrun replay [OPTIONS]\n\nOptions:\n      \
      --slots <N>        How many slots may be made [default: 4294967295]\n      \
      --generations <N>  The last generation of a slot [default: 2147483647]\n  \
-     -h, --help             Print help\n";
+     -h, --help             Print help\n\n\
+     A schedule of one line:\n  alloc\n\n'spawnrun --help' names the exit statuses.\n";
 
 const HELP: &str = "Runs schedules and scripts over Bevy's entity allocator\n\n\
      Usage: spawnrun <COMMAND>\n\nCommands:\n  \
      replay  Runs the schedule of allocator events on standard input\n  \
      run     Runs the script of frames on standard input\n\nOptions:\n  \
-     -h, --help  Print help\n";
+     -h, --help  Print help\n\n\
+     A script of one line, for 'spawnrun run':\n  \
+     {\"components\":[\"hp\"],\"frames\":[[[{\"spawn\":{\"hp\":20}}]]]}\n\n\
+     Exit status:\n  \
+     0  the input was accepted, and all of the output was written\n  \
+     1  the input was refused: one line of output names the test that it fails\n  \
+     2  the words are no command line, or ask for help\n  \
+     3  memory ran out, and nothing was written\n  \
+     4  reading or writing failed\n";
 
 // Runs the program on these words and this input, and compares how it ends. Its output fails after `puts`
 // calls that succeed.
@@ -66,7 +78,7 @@ fn tasks_are_done(rt: HostRuntime) {
     let refused = Ending {
         status: 1,
         output: "refused line 1 word\n",
-        errors: "",
+        errors: "a line must be alloc, free H, flush, begin C N, step C or answer C, for a handle H, a caller C and a count N; found \"alloc_\" at line 1 (counted from 1)\n",
     };
     ends(&rt, &["replay"], "alloc_\n", NEVER, refused);
     let failed = Ending {
@@ -95,7 +107,7 @@ fn scripts_are_run(rt: HostRuntime) {
     let refused = Ending {
         status: 1,
         output: "refused script top\n",
-        errors: "",
+        errors: "a script must be an object with the keys 'components' and 'frames'; found []\n",
     };
     ends(&rt, &["run"], "[]", NEVER, refused);
     let failed = Ending {

@@ -1,6 +1,7 @@
 use crate::memory::{EndlessSource, MemorySink, MemorySource, NEVER};
 use ent_alloc::Limits;
 use spawnrun_lib::{Status, replay};
+use std::alloc::{AllocError, Global};
 use std::process::Abort;
 use std::test::Fail;
 
@@ -20,7 +21,8 @@ fn replays(
     let limits = Limits::new(slots, generations).expect(rt, "limits");
     let mut source = MemorySource::new(schedule.as_bytes(), 7, NEVER);
     let mut sink = MemorySink::new(rt.alloc(), NEVER);
-    let ended = replay(rt.alloc(), &mut source, &mut sink, limits);
+    let mut errors = MemorySink::new(rt.alloc(), NEVER);
+    let ended = replay(rt.alloc(), &mut source, &mut sink, &mut errors, limits);
     assert!(rt; ended == status, "at {schedule}");
     assert!(rt; sink.bytes.as_slice() == output.as_bytes(), "at {schedule}");
 }
@@ -124,12 +126,22 @@ fn worked_schedules(rt: HostRuntime) {
     }
 }
 
-#[test]
-fn credit_ends_and_returns_with_a_flush(rt: HostRuntime) -> Result<(), Fail> {
-    let mut schedule = String::new(rt.alloc());
-    let mut output = String::new(rt.alloc());
-    for call in 1..257u64 {
+// Requests until a caller's credit is used up, and one above it. Then the flush renews it.
+fn credit_schedule(alloc: Global) -> Result<String, AllocError> {
+    let mut schedule = String::new(alloc);
+    for _ in 1..257 {
         schedule.push_str("begin 1 4294967295\nstep 1\nanswer 1\n")?;
+    }
+    schedule.push_str(
+        "begin 1 257\nbegin 1 256\nstep 1\nanswer 1\nbegin 1 1\nbegin 1 0\nstep 1\nanswer 1\nflush\n",
+    )?;
+    Ok(schedule)
+}
+
+// What it writes over one slot: each request counts, also one that is refused.
+fn credit_output(alloc: Global) -> Result<String, AllocError> {
+    let mut output = String::new(alloc);
+    for call in 1..257u64 {
         let asked = call * 4_294_967_295;
         let left = if call == 1 { 1 } else { 0 };
         writeln!(
@@ -137,28 +149,23 @@ fn credit_ends_and_returns_with_a_flush(rt: HostRuntime) -> Result<(), Fail> {
             "open\ncursor -{asked}\nspace wanted 4294967295 left {left}"
         )?;
     }
-    schedule.push_str("begin 1 257\nbegin 1 256\nstep 1\nanswer 1\nbegin 1 1\nbegin 1 0\n")?;
-    schedule.push_str("step 1\nanswer 1\nflush\n")?;
-    output.push_str("quota left 256\nopen\ncursor -1099511627776\nspace wanted 256 left 0\n")?;
-    output.push_str("quota left 0\nopen\ncursor -1099511627776\n\nborn\n")?;
-    assert!(rt;
-        output
-            .as_str()
-            .contains("cursor -8589934590\nspace wanted 4294967295 left 0\n")
-    );
-    assert!(rt;
-        output
-            .as_str()
-            .contains("cursor -1099511627520\nspace wanted 4294967295 left 0\n")
-    );
-    replays(
-        &rt,
-        1,
-        GENERATIONS,
-        schedule.as_str(),
-        Status::Done,
-        output.as_str(),
-    );
+    output.push_str(
+        "quota left 256\nopen\ncursor -1099511627776\nspace wanted 256 left 0\nquota left 0\nopen\n\
+         cursor -1099511627776\n\nborn\n",
+    )?;
+    Ok(output)
+}
+
+#[test]
+fn credit_ends_and_returns_with_a_flush(rt: HostRuntime) -> Result<(), Fail> {
+    let schedule = credit_schedule(rt.alloc())?;
+    let output = credit_output(rt.alloc())?;
+    let (schedule, output) = (schedule.as_str(), output.as_str());
+    for asked in ["8589934590", "1099511627520"] {
+        let refused = format!(in rt.alloc(); "cursor -{asked}\nspace wanted 4294967295 left 0\n")?;
+        assert!(rt; output.contains(refused.as_str()), "at {asked}");
+    }
+    replays(&rt, 1, GENERATIONS, schedule, Status::Done, output);
     Ok(())
 }
 
@@ -179,8 +186,15 @@ fn no_schedule_is_refused_with_its_line(rt: HostRuntime) {
 #[test]
 fn an_input_without_end_is_refused(rt: HostRuntime) {
     let mut sink = MemorySink::new(rt.alloc(), NEVER);
+    let mut errors = MemorySink::new(rt.alloc(), NEVER);
     let limits = Limits::default_limits();
-    let status = replay(rt.alloc(), &mut EndlessSource, &mut sink, limits);
+    let status = replay(
+        rt.alloc(),
+        &mut EndlessSource,
+        &mut sink,
+        &mut errors,
+        limits,
+    );
     assert!(rt; status == Status::Refused);
     assert!(rt; sink.bytes.as_slice() == b"refused size\n".as_slice());
 }
@@ -189,22 +203,30 @@ fn an_input_without_end_is_refused(rt: HostRuntime) {
 fn each_read_and_the_write_fails_in_turn(rt: HostRuntime) {
     let schedule = b"alloc\nalloc\nfree 0v1\nflush\n";
     let limits = Limits::default_limits();
+    let mut errors = MemorySink::new(rt.alloc(), NEVER);
     for calls in 0..5 {
         let mut source = MemorySource::new(schedule, 7, calls);
         let mut sink = MemorySink::new(rt.alloc(), NEVER);
-        let status = replay(rt.alloc(), &mut source, &mut sink, limits);
+        let status = replay(rt.alloc(), &mut source, &mut sink, &mut errors, limits);
         assert!(rt; status == Status::Device, "after {calls} reads");
         assert!(rt; sink.bytes.is_empty());
     }
     for text in [schedule.as_slice(), b"al\n".as_slice()] {
         let mut source = MemorySource::new(text, 7, NEVER);
         let mut sink = MemorySink::new(rt.alloc(), 0);
-        let status = replay(rt.alloc(), &mut source, &mut sink, limits);
+        let status = replay(rt.alloc(), &mut source, &mut sink, &mut errors, limits);
         assert!(rt; status == Status::Device);
     }
     let mut sink = MemorySink::new(rt.alloc(), 0);
-    let status = replay(rt.alloc(), &mut EndlessSource, &mut sink, limits);
+    let status = replay(
+        rt.alloc(),
+        &mut EndlessSource,
+        &mut sink,
+        &mut errors,
+        limits,
+    );
     assert!(rt; status == Status::Device);
+    assert!(rt; errors.bytes.is_empty());
 }
 
 /// Passes whichever single allocation is refused, be it the run's or its sink's.
@@ -214,8 +236,9 @@ fn refused_memory_writes_nothing(rt: HostRuntime) {
     let output = b"0v1\n1v1\nfreed 0v1 next 0v2\nopen\ncursor -1\n0v2 2v1\nborn 2v1 0v2\n";
     let mut source = MemorySource::new(schedule, 7, NEVER);
     let mut sink = MemorySink::new(rt.alloc(), NEVER);
+    let mut errors = MemorySink::new(rt.alloc(), NEVER);
     let limits = Limits::default_limits();
-    match replay(rt.alloc(), &mut source, &mut sink, limits) {
+    match replay(rt.alloc(), &mut source, &mut sink, &mut errors, limits) {
         Status::Memory | Status::Device => assert!(rt; sink.bytes.is_empty()),
         status => {
             assert!(rt; status == Status::Done);
@@ -224,29 +247,24 @@ fn refused_memory_writes_nothing(rt: HostRuntime) {
     }
 }
 
+// The handles of that many fresh slots, with a space before each but the first.
+fn fresh_handles(alloc: Global, count: u32) -> Result<String, AllocError> {
+    let mut text = String::from_str(alloc, "0v1")?;
+    for index in 1..count {
+        write!(text, " {index}v1")?;
+    }
+    Ok(text)
+}
+
 // A reply of more than 65,536 handles, and an output of more than 1 MB.
 #[test]
 fn long_lines(rt: HostRuntime) -> Result<(), Fail> {
-    let mut answer = String::new(rt.alloc());
-    let mut born = String::new(rt.alloc());
-    for index in 0..100_000u32 {
-        if index > 0 {
-            answer.push_str(" ")?;
-        }
-        write!(answer, "{index}v1")?;
-        write!(born, " {index}v1")?;
-    }
-    assert!(rt; answer.len() > 500_000 && born.len() > 500_000);
-    let (answer, born) = (answer.as_str(), born.as_str());
-    let output = format!(in rt.alloc(); "open\ncursor -100000\n{answer}\nborn{born}\n")?;
+    let handles = fresh_handles(rt.alloc(), 100_000)?;
+    let handles = handles.as_str();
+    assert!(rt; handles.len() > 500_000);
+    let output = format!(in rt.alloc(); "open\ncursor -100000\n{handles}\nborn {handles}\n")?;
     let schedule = "begin 1 100000\nstep 1\nanswer 1\nflush\n";
-    replays(
-        &rt,
-        SLOTS,
-        GENERATIONS,
-        schedule,
-        Status::Done,
-        output.as_str(),
-    );
+    let output = output.as_str();
+    replays(&rt, SLOTS, GENERATIONS, schedule, Status::Done, output);
     Ok(())
 }

@@ -30,7 +30,16 @@ where
 {
     let mut source = MemorySource::new(script, 7, NEVER);
     let mut sink = MemorySink::new(rt.alloc(), NEVER);
-    let ended = run(rt, rt.alloc(), &mut source, &mut sink, workers, show);
+    let mut errors = MemorySink::new(rt.alloc(), NEVER);
+    let ended = run(
+        rt,
+        rt.alloc(),
+        &mut source,
+        &mut sink,
+        &mut errors,
+        workers,
+        show,
+    );
     assert!(rt; ended == status);
     assert!(rt; sink.bytes.as_slice() == output.as_bytes());
 }
@@ -193,7 +202,16 @@ where
     R: Threads + Sync + Abort + AllocGlobal,
 {
     let mut sink = MemorySink::new(rt.alloc(), NEVER);
-    let status = run(rt, rt.alloc(), source, &mut sink, 1, Show::Births);
+    let mut errors = MemorySink::new(rt.alloc(), NEVER);
+    let status = run(
+        rt,
+        rt.alloc(),
+        source,
+        &mut sink,
+        &mut errors,
+        1,
+        Show::Births,
+    );
     assert!(rt; status == Status::Refused);
     assert!(rt; sink.bytes.as_slice() == line);
 }
@@ -216,17 +234,34 @@ fn an_input_without_end_is_refused(rt: HostRuntime) {
 #[test]
 fn each_read_and_the_write_fails_in_turn(rt: HostRuntime) {
     let script = TWO_SPAWNERS.as_bytes();
+    let mut errors = MemorySink::new(rt.alloc(), NEVER);
     for calls in 0..script.len() as u64 / 7 + 1 {
         let mut source = MemorySource::new(script, 7, calls);
         let mut sink = MemorySink::new(rt.alloc(), NEVER);
-        let status = run(&rt, rt.alloc(), &mut source, &mut sink, 1, Show::Births);
+        let status = run(
+            &rt,
+            rt.alloc(),
+            &mut source,
+            &mut sink,
+            &mut errors,
+            1,
+            Show::Births,
+        );
         assert!(rt; status == Status::Device, "after {calls} reads");
         assert!(rt; sink.bytes.is_empty());
     }
     for text in [script, b"[]".as_slice()] {
         let mut source = MemorySource::new(text, 7, NEVER);
         let mut sink = MemorySink::new(rt.alloc(), 0);
-        let status = run(&rt, rt.alloc(), &mut source, &mut sink, 1, Show::Births);
+        let status = run(
+            &rt,
+            rt.alloc(),
+            &mut source,
+            &mut sink,
+            &mut errors,
+            1,
+            Show::Births,
+        );
         assert!(rt; status == Status::Device);
     }
     let mut sink = MemorySink::new(rt.alloc(), 0);
@@ -235,10 +270,12 @@ fn each_read_and_the_write_fails_in_turn(rt: HostRuntime) {
         rt.alloc(),
         &mut EndlessSource,
         &mut sink,
+        &mut errors,
         1,
         Show::Births,
     );
     assert!(rt; status == Status::Device);
+    assert!(rt; errors.bytes.is_empty());
 }
 
 /// Passes whichever single allocation is refused, be it the run's or its sink's.
@@ -246,7 +283,16 @@ fn each_read_and_the_write_fails_in_turn(rt: HostRuntime) {
 fn refused_memory_of_a_run_writes_nothing(rt: HostRuntime) {
     let mut source = MemorySource::new(TARGETS.as_bytes(), 64, NEVER);
     let mut sink = MemorySink::new(rt.alloc(), NEVER);
-    match run(&rt, rt.alloc(), &mut source, &mut sink, 2, Show::Births) {
+    let mut errors = MemorySink::new(rt.alloc(), NEVER);
+    match run(
+        &rt,
+        rt.alloc(),
+        &mut source,
+        &mut sink,
+        &mut errors,
+        2,
+        Show::Births,
+    ) {
         Status::Memory | Status::Device => assert!(rt; sink.bytes.is_empty()),
         status => {
             assert!(rt; status == Status::Done);

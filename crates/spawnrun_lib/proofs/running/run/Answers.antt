@@ -3,9 +3,10 @@ use Rattle.std.specs.Prelude.{Ok, Err}
 use Rattle.ent_script.specs.Reading.{ReadsAs, script_of_text}
 use Rattle.spawnrun_lib.specs.declared.status.Status.TheVariants.{Done, Refused}
 use Rattle.spawnrun_lib.specs.declared.input.InputFault.{InputFault}
+use Rattle.spawnrun_lib.specs.Advice.{AdvisesOnScript, script_long, script_none}
 use Rattle.spawnrun_lib.specs.Replay.{input_limit, size_line}
 use Rattle.spawnrun_lib.specs.Running.{Gives, IsOutput, runs, is_too_long, means_none}
-use Rattle.spawnrun_lib.proofs.ReplayLemmas.{is_longer, reported, told_is, written}
+use Rattle.spawnrun_lib.proofs.ReplayLemmas.{advised, had_memory, is_longer, reported, told_is, written}
 use Rattle.spawnrun_lib.proofs.RunningLemmas.{IsRefusal, fault_read, made, refusal}
 use Rattle.spawnrun_lib.proofs.running.run.Goals as goal
 
@@ -29,18 +30,38 @@ returns-in-Ok-clause-refused g c =
     let fits : length c.in-Ok.bytes.items ≤ input_limit = omega (arith, c.in-Ok.bytes.ok.0, c.in-Ok.ensures.within) in
     let read : ReadsAs (Err fault) (script_of_text c.in-Ok.bytes.items) =
     subst (λ known. ReadsAs (Err fault) (script_of_text known)) c.deref.ensures.value c.in-Err.ensures.exact in
-    written _ (λ bytes text. Gives c.args.workers c.args.show bytes Refused text) (IsRefusal fault) input Refused c.write-in-Err.result c.refusal_line.result
+    written _ (λ bytes text. Gives c.args.workers c.args.show bytes Refused text) (IsRefusal fault) input Refused c.refuse.result c.refusal_line-line.result
     _ _ (λ e. cc)
     (λ bytes lines told line. let same = told_is input c.in-Ok.bytes.items bytes c.in-Ok.ensures.whole told in
     subst (Gives c.args.workers c.args.show bytes Refused) (sym line.1)
     (means_none fault (subst (λ known. length known ≤ input_limit) same fits)
     (subst (λ known. script_of_text known ≡ Err fault) same (fault_read fault _ line.0 read))))
-    (refusal fault c.refusal_line.result c.refusal_line.ensures.refused c.refusal_line.ensures.line)
-    c.write-in-Err.ensures.written c.write-in-Err.ensures.memory
+    (refusal fault c.refusal_line-line.result c.refusal_line-line.ensures.refused c.refusal_line-line.ensures.line)
+    c.refuse.ensures.written c.refuse.ensures.memory
+
+pub returns-in-Ok-clause-advised : goal.returns-in-Ok-clause-advised
+returns-in-Ok-clause-advised g c = λ refused same.
+    let input = g.I.Source.remaining c.args.input.now in
+    let fault = c.in-Err.fault in
+    let fits : length c.in-Ok.bytes.items ≤ input_limit = omega (arith, c.in-Ok.bytes.ok.0, c.in-Ok.ensures.within) in
+    let read : ReadsAs (Err fault) (script_of_text c.in-Ok.bytes.items) =
+    subst (λ known. ReadsAs (Err fault) (script_of_text known)) c.deref.ensures.value c.in-Err.ensures.exact in
+    let other = had_memory _ _ Refused c.refuse.result c.refusal_line-line.result (λ e. cc) c.refusal_line-line.ensures.refused c.refuse.ensures.memory refused in
+    advised AdvisesOnScript input _ _ _
+    (λ bytes told. let is = told_is input c.in-Ok.bytes.items bytes c.in-Ok.ensures.whole told in
+    script_none fault _ (subst (λ known. length known ≤ input_limit) is fits)
+    (subst (λ known. script_of_text known ≡ Err fault) is (fault_read fault _ other read)))
+    (rw c.script_wants.ensures at c.refuse.ensures.advised refused same)
 
 pub returns-in-Err-TooLong-clause-refused : goal.returns-in-Err-TooLong-clause-refused
 returns-in-Err-TooLong-clause-refused g c =
-    reported _ (λ bytes text. Gives c.args.workers c.args.show bytes Refused text) (g.I.Source.remaining c.args.input.now) Refused c.write-in-Err-TooLong.result c.size_line.result
+    reported _ (λ bytes text. Gives c.args.workers c.args.show bytes Refused text) (g.I.Source.remaining c.args.input.now) Refused c.refuse-in-Err-TooLong.result c.size_line.result
     size_line _ _ (λ e. cc)
     (λ bytes told. is_too_long (is_longer _ input_limit bytes (c.in-Err-TooLong.ensures.too_long (ap (λ (fault : InputFault). Err fault) c.in-Err-TooLong.field-0-is)) told))
-    c.size_line.ensures c.write-in-Err-TooLong.ensures.written c.write-in-Err-TooLong.ensures.memory
+    c.size_line.ensures c.refuse-in-Err-TooLong.ensures.written c.refuse-in-Err-TooLong.ensures.memory
+
+pub returns-in-Err-TooLong-clause-advised : goal.returns-in-Err-TooLong-clause-advised
+returns-in-Err-TooLong-clause-advised g c = λ refused same.
+    advised AdvisesOnScript (g.I.Source.remaining c.args.input.now) _ _ _
+    (λ bytes told. script_long (is_longer _ input_limit bytes (c.in-Err-TooLong.ensures.too_long (ap (λ (fault : InputFault). Err fault) c.in-Err-TooLong.field-0-is)) told))
+    (rw c.size_wants.ensures at c.refuse-in-Err-TooLong.ensures.advised refused same)
