@@ -68,7 +68,15 @@ fn report_of_operations(alloc: Global) -> Result<String, AllocError> {
 #[test]
 fn operations_of_distinct_names(rt: HostRuntime) -> Result<(), Fail> {
     let alloc = rt.alloc();
-    assert!(rt; reports(&rt, alloc, &operations(alloc)?, 1, &report_of_operations(alloc)?)?);
+    assert!(rt;
+        reports(
+            &rt,
+            alloc,
+            &operations(alloc)?,
+            1,
+            &report_of_operations(alloc)?
+        )?
+    );
     Ok(())
 }
 
@@ -112,6 +120,14 @@ fn report_of_components(alloc: Global) -> Result<String, AllocError> {
 #[test]
 fn a_bundle_of_all_components(rt: HostRuntime) -> Result<(), Fail> {
     let alloc = rt.alloc();
-    assert!(rt; reports(&rt, alloc, &components(alloc)?, 1, &report_of_components(alloc)?)?);
+    assert!(rt;
+        reports(
+            &rt,
+            alloc,
+            &components(alloc)?,
+            1,
+            &report_of_components(alloc)?
+        )?
+    );
     Ok(())
 }
