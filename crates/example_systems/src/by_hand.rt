@@ -15,8 +15,8 @@ pub fn plant_by_hand(alloc: Global, world: World) -> Result<World>
     ensures flushed { IfOk result (λ world. world.allocator.asked ≡ 0) }
 {
     match world.open(1) {
-        Ok((open, mut reservers)) => match reservers.pop() {
-            Some(reserver) => phase(alloc, open, reserver),
+        Ok((opened, mut reservers)) => match reservers.pop() {
+            Some(reserver) => phase(alloc, opened, reserver),
             None => Err(anyhow!("no reserver")),
         },
         Err((_, memory)) => Err(memory.into()),
@@ -24,13 +24,13 @@ pub fn plant_by_hand(alloc: Global, world: World) -> Result<World>
 }
 
 /// One system's commands, and the sync point.
-fn phase(alloc: Global, open: OpenWorld, mut reserver: Reserver) -> Result<World>
-    requires alone { open.shared.count ≡ 1 }
-    requires own { IsOf open.shared reserver }
+fn phase(alloc: Global, opened: OpenWorld, mut reserver: Reserver) -> Result<World>
+    requires alone { opened.shared.count ≡ 1 }
+    requires own { IsOf opened.shared reserver }
     ensures flushed { IfOk result (λ world. world.allocator.asked ≡ 0) }
 {
     // Each spawn reserves its handle at once.
-    let mut commands = Commands::new(alloc, open.shared(), &mut reserver);
+    let mut commands = Commands::new(alloc, opened.shared(), &mut reserver);
     let oak = commands.spawn(Bundle::of(alloc, &[(AGE, 1)])?)?;
     let ash = commands.spawn(Bundle::new(alloc))?;
     commands.insert(oak, Bundle::of(alloc, &[(AGE, 2)])?)?;
@@ -38,7 +38,7 @@ fn phase(alloc: Global, open: OpenWorld, mut reserver: Reserver) -> Result<World
     let queue = commands.finish();
 
     // First what was reserved comes to life, then the commands take effect.
-    let mut world = open.close(Vec::from_array(alloc, [reserver])?);
+    let mut world = opened.close(Vec::from_array(alloc, [reserver])?);
     let report = world.apply(&[queue])?;
     if !report.faults.is_empty() {
         return Err(anyhow!("a command had no effect"));
