@@ -1,9 +1,12 @@
 //! Queues that are long, or have a long command. Memory is refused to none of them.
 use crate::bundles::all_components;
-use crate::call::handle;
-use crate::phase::opened;
+use crate::call::{Call, handle};
+use crate::phase::{issued, opened};
+use crate::shown::text;
 use ent_handle::ComponentId;
-use ent_queue::{Bundle, Commands, Entry};
+use ent_queue::{Bundle, CommandQueue, Commands, Entry};
+use std::alloc::Global;
+use std::process::Abort;
 
 #[test]
 fn an_insertion_of_all_components(rt: HostRuntime) {
@@ -30,20 +33,32 @@ const LONG: u32 = 2000;
 fn a_long_queue(rt: HostRuntime) {
     let alloc = rt.alloc();
     let (shared, mut reserver) = opened(&rt, alloc, 1);
-    let mut commands = Commands::new(alloc, &shared, &mut reserver);
+    let calls = despawns(&rt, alloc);
+    let mut answers = text(&rt, alloc);
+    let queue = issued(&rt, alloc, &shared, &mut reserver, &calls, &mut answers);
+    assert_despawns(&rt, &queue);
+}
+
+/// A despawn of each of that many entities.
+fn despawns(rt: &impl Abort, alloc: Global) -> Vec<Call> {
+    let mut calls = Vec::new(alloc);
     for index in 0..LONG {
-        let answer = commands.despawn(handle(&rt, (index, 1)));
-        answer.expect(&rt, "memory for the despawn");
+        calls
+            .push(Call::Despawn((index, 1)))
+            .expect(rt, "memory for the calls");
     }
-    let queue = commands.finish();
+    calls
+}
+
+fn assert_despawns(rt: &impl Abort, queue: &CommandQueue) {
+    assert_eq!(rt; queue.len(), LONG as usize);
     let mut entries = queue.entries();
     for index in 0..LONG {
         let Some(Entry::Despawn(entity)) = entries.next() else {
             panic!(rt; "a despawn")
         };
-        assert!(rt; entity == handle(&rt, (index, 1)));
+        assert!(rt; entity == handle(rt, (index, 1)));
     }
-    assert_eq!(rt; entries.len(), 0);
 }
 
 /// How many handles the great reservation requests.
