@@ -6,12 +6,16 @@
 //! Without a word it does so with few entities and few rounds, and prints no seconds.
 #![tactic(auto)]
 
+ghost use Rattle.std.specs.Prelude.{◌≡◌};
+ghost use Rattle.ent_shared.specs.Phase.{IsOf};
+
 mod work;
 
 use ent_alloc::Limits;
 use ent_handle::Birth;
 use ent_queue::Bundle;
-use ent_world::World;
+use ent_shared::Reserver;
+use ent_world::{OpenWorld, World};
 use std::rt::Clock;
 use std::time::Instant;
 use std::{env, io};
@@ -90,16 +94,31 @@ where
     if world.needs_flush() {
         return Err(io::ErrorKind::Unsupported.into());
     }
-    let Ok((open, mut reservers)) = world.open(1) else {
+    let Ok((opened, mut reservers)) = world.open(1) else {
         return Err(io::ErrorKind::OutOfMemory.into());
     };
-    let Some(mut reserver) = reservers.pop() else {
+    let Some(reserver) = reservers.pop() else {
         return Err(io::ErrorKind::Unsupported.into());
     };
-    let queue = issued(rt.alloc(), open.shared(), &mut reserver, work);
+    synced(rt, opened, reserver, work)
+}
+
+/// The one system's queue, and the sync point.
+fn synced<R>(
+    rt: &R,
+    opened: OpenWorld,
+    mut reserver: Reserver,
+    work: Work,
+) -> io::Result<(World, f64)>
+where
+    R: Clock + AllocGlobal,
+    requires alone { opened.shared.count ≡ 1 }
+    requires own { IsOf opened.shared reserver }
+{
+    let queue = issued(rt.alloc(), opened.shared(), &mut reserver, work);
     let reservers = Vec::from_array(rt.alloc(), [reserver])?;
     let queues = Vec::from_array(rt.alloc(), [queue])?;
-    let mut world = open.close(reservers);
+    let mut world = opened.close(reservers);
     let start = Instant::now(rt)?;
     let applied = world.apply(&queues);
     let seconds = start.elapsed(rt)?.as_secs_f64();

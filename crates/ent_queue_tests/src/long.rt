@@ -50,14 +50,22 @@ fn despawns(rt: &impl Abort, alloc: Global) -> Vec<Call> {
     calls
 }
 
+/// Each entry is a despawn, of rising slots.
 fn assert_despawns(rt: &impl Abort, queue: &CommandQueue) {
     assert_eq!(rt; queue.len(), LONG as usize);
-    let mut entries = queue.entries();
-    for index in 0..LONG {
-        let Some(Entry::Despawn(entity)) = entries.next() else {
-            panic!(rt; "a despawn")
-        };
-        assert!(rt; entity == handle(rt, (index, 1)));
+    let mut index = 0;
+    for entry in queue.entries() {
+        assert!(rt; despawned(&entry) == Some(index));
+        index = index.wrapping_add(1);
+    }
+    assert_eq!(rt; index, LONG);
+}
+
+/// The slot of the entity that the entry despawns.
+fn despawned(entry: &Entry<'_>) -> Option<u32> {
+    match entry {
+        Entry::Despawn(entity) => Some(entity.index()),
+        _ => None,
     }
 }
 
