@@ -1,13 +1,13 @@
 #!/bin/sh
 # Shows that a program which closes a `Shared` while it holds a reply of it doesn't compile: keeps a reply in a copy of
-# crates/own_threads, uses it after the close, and fails unless the compiler refuses the move. It proves nothing, and needs `rt`,
-# `git` and `patch` on the path.
+# crates/own_threads, uses it after the close, and fails unless the compiler refuses the move. It proves nothing, and needs `rt`
+# and `patch` on the path.
 set -eu
 top=$(cd "$(dirname "$0")/.." && pwd)
 copy=$(mktemp -d)
 trap 'rm -rf "$copy"' EXIT
 
-git -C "$top" archive HEAD crates crates.txt HANDLES | tar -x -C "$copy"
+tar -C "$top" --exclude=out -c crates crates.txt HANDLES | tar -x -C "$copy"
 cd "$copy/crates/own_threads"
 patch --quiet -p1 <<'PATCH'
 --- a/src/main.rt
