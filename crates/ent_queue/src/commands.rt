@@ -15,7 +15,8 @@ use std::alloc::Global;
 
 /// Issues the commands of one system. They take effect when the queue is applied.
 ///
-/// A spawn reserves its handle at once, so a system knows what it will have spawned. `Q` is the queue that is filled.
+/// A spawn reserves its handle at once, so a system knows what it will have spawned. `Q` is the
+/// queue that is filled.
 #[derive(Drop)]
 pub struct Commands<'a, Q = CommandQueue> {
     reserver: &'a mut Reserver,
@@ -48,19 +49,23 @@ impl<'a> Commands<'a> {
     ///
     /// # Errors
     ///
-    /// [`QueueFault::Memory`], and then neither the queue nor the reserver has changed. [`QueueFault::Space`] and
-    /// [`QueueFault::Quota`] as [`Shared::reserve`] answers them; the queue then keeps the refusal, and
-    /// [`QueueFault::or_memory`] lets a system go on. After any of them the bundle is dropped.
+    /// [`QueueFault::Memory`], and then neither the queue nor the reserver has changed.
+    /// [`QueueFault::Space`] and [`QueueFault::Quota`] as [`Shared::reserve`] answers them; the
+    /// queue then keeps the refusal, and [`QueueFault::or_memory`] lets a system go on. After any
+    /// of them the bundle is dropped.
     pub fn spawn(&mut self, bundle: Bundle) -> Result<Handle, QueueFault>
         requires { IsReady self.old }
         ensures extends { Extends self.old self.new }
-        ensures ok { IfOk result (λ handle. queue_of self.new ≡ queue_of self.old ++ Spawn handle bundle ∷ []) }
-        ensures refused { IfErr result (λ fault. queue_of self.new ≡ queue_of self.old ++ refused_by 1 fault) }
+        ensures ok { IfOk result (λ handle.
+            queue_of self.new ≡ queue_of self.old ++ Spawn handle bundle ∷ []) }
+        ensures refused { IfErr result (λ fault.
+            queue_of self.new ≡ queue_of self.old ++ refused_by 1 fault) }
         ensures memory { IsErrOf result QueueFault.Memory → reserver_of self.new ≡ reserver_of self.old }
 
         // Anything but Memory is the answer of a reservation.
         ensures answers { (answer : Result HandleValue Refusal) → result ≡ queued answer
-            → Answers (shared_of self.new) (reserver_of self.old) (reserver_of self.new) 1 (listed_alone answer) }
+            → Answers (shared_of self.new) (reserver_of self.old) (reserver_of self.new) 1
+            (listed_alone answer) }
     {
         self.queue.spawn(self.shared, self.reserver, bundle.items())
     }
@@ -73,9 +78,11 @@ impl<'a> Commands<'a> {
     pub fn spawn_many(&mut self, n: u32, bundle: Bundle) -> Result<Vec<Handle>, QueueFault>
         requires { IsReady self.old }
         ensures extends { Extends self.old self.new }
-        ensures ok { IfOk result (λ handles. queue_of self.new ≡ queue_of self.old ++ SpawnMany handles.items bundle ∷ []) }
+        ensures ok { IfOk result (λ handles.
+            queue_of self.new ≡ queue_of self.old ++ SpawnMany handles.items bundle ∷ []) }
         ensures length { IfOk result (λ handles. length handles.items ≡ n) }
-        ensures refused { IfErr result (λ fault. queue_of self.new ≡ queue_of self.old ++ refused_by n fault) }
+        ensures refused { IfErr result (λ fault.
+            queue_of self.new ≡ queue_of self.old ++ refused_by n fault) }
         ensures memory { IsErrOf result QueueFault.Memory → reserver_of self.new ≡ reserver_of self.old }
 
         // Anything but Memory is the answer of a reservation.
