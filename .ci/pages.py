@@ -116,7 +116,8 @@ def faults_of_refusals():
 
 def main():
     faults, count = [], 0
-    pages = [pathlib.Path("README.md"), *sorted(pathlib.Path("docs").rglob("*.md"))]
+    pages = [pathlib.Path("README.md"), *sorted(pathlib.Path("docs").glob("*.md"))]
+    pages += sorted(pathlib.Path("crates").glob("*/README.md"))
     for page in pages:
         for at, mark, block in blocks_of(page):
             count += 1

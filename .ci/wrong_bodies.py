@@ -1,6 +1,6 @@
 #!/usr/bin/env python3
 """Says whether the wrong bodies that the gate doesn't try still fit the code: each text that one replaces must stand there exactly once.
-It runs at the top of the repository. `wrong_bodies/try.sh` tries them."""
+It runs at the top of the repository. `./try_wrong_bodies.sh` tries them."""
 
 import pathlib
 import sys
@@ -24,8 +24,8 @@ def fault_of(edit, crate):
 
 
 def main():
-    edits = sorted(pathlib.Path("wrong_bodies").glob("*/*.edit"))
-    faults = [(it, fault_of(it, pathlib.Path("crates") / it.parent.name)) for it in edits]
+    edits = sorted(pathlib.Path("crates").glob("*/wrong_bodies/*.edit"))
+    faults = [(it, fault_of(it, it.parent.parent)) for it in edits]
     faults = [f"{edit}: {fault}" for edit, fault in faults if fault]
     print(*faults, f"wrong bodies outside the gate: {len(edits)}, {len(faults)} don't fit", sep="\n")
     return 1 if faults else 0

@@ -1,6 +1,6 @@
 #!/bin/sh
 # Shows that a program which closes a `Shared` while it holds a reply of it doesn't compile: keeps a reply in a copy of
-# crates/own_threads, uses it after the close, and fails unless the compiler refuses the move. It proves nothing, and needs `rt`
+# crates/example_threads, uses it after the close, and fails unless the compiler refuses the move. It proves nothing, and needs `rt`
 # and `patch` on the path.
 set -eu
 top=$(cd "$(dirname "$0")/.." && pwd)
@@ -8,7 +8,7 @@ copy=$(mktemp -d)
 trap 'rm -rf "$copy"' EXIT
 
 tar -C "$top" --exclude=out -c crates crates.txt HANDLES | tar -x -C "$copy"
-cd "$copy/crates/own_threads"
+cd "$copy/crates/example_threads"
 patch --quiet -p1 <<'PATCH'
 --- a/src/main.rt
 +++ b/src/main.rt

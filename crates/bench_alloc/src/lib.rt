@@ -1,4 +1,4 @@
-//! Work for an allocator, exported so that `bench/alloc` can time it.
+//! Work for an allocator, exported so that `run.sh` can time it.
 //!
 //! Each export works on `handles` handles: first once, which makes the slots, and then in `rounds`
 //! rounds. It answers a sum of the handles that it was given.

@@ -1,4 +1,4 @@
-//! Work for a queue of commands, exported so that `bench/queue` can time it.
+//! Work for a queue of commands, exported so that `run.sh` can time it.
 //!
 //! Each export makes a queue of `spawns` spawns of one component each, over a new allocator.
 #![tactic(auto)]

@@ -1,4 +1,4 @@
-//! Frames for `bench/runner` to time.
+//! Frames for `run.sh` to time.
 //!
 //! `bench_runner ROUNDS` runs each case that often, in turns, and prints a line for each run: the
 //! case, how many systems and workers there are, and microseconds. Without a word it prints what

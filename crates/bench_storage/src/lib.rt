@@ -1,4 +1,4 @@
-//! Work for a storage, exported so that `bench/storage` can time it.
+//! Work for a storage, exported so that `run.sh` can time it.
 //!
 //! Each export makes a storage of `entities` entities. The i-th measured call is on the entity whose
 //! handle has the index `i * stride % entities`, so a stride of 1 goes through them in order, and a

@@ -1,4 +1,4 @@
-//! Sync points for `bench/world` to time.
+//! Sync points for `run.sh` to time.
 //!
 //! `bench_world ENTITIES` applies queues of 25,000 rounds to worlds of that many entities. It
 //! prints a line for each: the order, the kind of its commands, how many commands it has, the

@@ -1,0 +1,25 @@
+#!/bin/sh
+# Builds the program of crates/spawnrun, runs `spawnrun replay` on schedules of several lengths and shapes, and prints
+# the table of times and memory. An outcome that is not what the model in schedule.py says ends it.
+# It needs `rt` and `python3` on the path, the /proc of Linux, and 70 MB for temporary files.
+set -eu
+here=$(cd "$(dirname "$0")" && pwd)
+crate=$here/../..
+out=$(mktemp -d)
+trap 'rm -rf "$out"' EXIT
+
+row() {
+    python3 "$here/schedule.py" "$2" "$1" --outcomes "$out/outcomes" >"$out/schedule"
+    python3 "$here/measure.py" "$crate/out/spawnrun" "$1" "$out/schedule" "$out/outcomes"
+}
+
+(cd "$crate" && rt run -- replay </dev/null >"$out/log" 2>&1) || { tail -5 "$out/log"; exit 1; }
+echo "| Schedule | Lines | Input bytes | Output bytes | ms | ns a line | Peak MiB | Peak bytes a line |"
+echo "|---|---|---|---|---|---|---|---|"
+row mixed 10000
+row mixed 100000
+row mixed 1000000
+# The look-up of a caller's call is no scan, and nothing walks the list of the slots that wait.
+row callers-16 1000000
+row callers-1024 1000000
+row waiting 1000000

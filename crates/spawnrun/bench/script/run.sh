@@ -1,0 +1,31 @@
+#!/bin/sh
+# Builds the program of crates/spawnrun, runs `spawnrun run` on scripts of several lengths and shapes, and prints the
+# table of times and memory. A report that is not what the model in script.py says ends it.
+# It needs `rt` and `python3` on the path, Linux, and 100 MB for temporary files.
+set -eu
+here=$(cd "$(dirname "$0")" && pwd)
+crate=$here/../..
+out=$(mktemp -d)
+trap 'rm -rf "$out"' EXIT
+
+# A shape, how many commands at least, and the numbers of workers.
+row() {
+    shape=$1 least=$2
+    shift 2
+    commands=$(python3 "$here/script.py" "$least" "$shape" --report "$out/report" 2>&1 >"$out/script")
+    for workers; do
+        python3 "$here/measure.py" "$crate/out/spawnrun" "$shape" "$workers" "$commands" "$out/script" "$out/report"
+    done
+}
+
+echo '{"components":[],"frames":[]}' >"$out/empty"
+(cd "$crate" && rt run -- run <"$out/empty" >"$out/log" 2>&1) || { tail -5 "$out/log"; exit 1; }
+echo "| Script | Workers | Commands | Input bytes | Output bytes | ms | ns a command | Peak MiB | Peak bytes a command |"
+echo "|---|---|---|---|---|---|---|---|---|"
+row mixed 10000 1
+row mixed 100000 1
+row mixed 1000000 1 2 4
+# Texts of one command an operation, of a thousand commands an operation, and a world of half a million.
+row names 1000000 1
+row each 1000000 1
+row crowd 1000000 1 4

@@ -1,0 +1,27 @@
+#!/bin/sh
+# Tries the wrong bodies of crates/*/wrong_bodies: the prover has to refuse each, as it refuses those of crates/*/must-fail. They are
+# apart from the gate because it has to end within 45 minutes, and what stays in it says most about the contracts. One takes 10 to 35
+# processor seconds, by crate, and before its first a crate is checked, and the crates below it are built if they aren't yet. The arguments
+# are crates, as in `./try_wrong_bodies.sh ent_storage`; without one, all crates that have such a folder are tried. It works on a
+# temporary copy of the repository, and ends with 0 exactly if all were refused. It needs `rt` on the path.
+set -eu
+top=$(cd "$(dirname "$0")" && pwd)
+copy=$(mktemp -d)
+trap 'rm -rf "$copy"' EXIT
+trap 'exit 1' HUP INT TERM
+
+# The out/ folders go with it, so that nothing is proved anew.
+cp -a "$top/." "$copy"
+cd "$copy/crates"
+[ $# -gt 0 ] || set -- */wrong_bodies
+for crate in "$@"; do
+    crate=${crate%/wrong_bodies}
+    [ -d "$crate/wrong_bodies" ] || { echo "no wrong bodies in crates/$crate" >&2; exit 1; }
+    rm -rf "$crate/must-fail"
+    mv "$crate/wrong_bodies" "$crate/must-fail"
+    shift
+    set -- "$@" "$crate"
+done
+
+cd ..
+rt must-fail "$@"
