@@ -20,7 +20,7 @@ use Rattle.ent_alloc.specs.Limits.{Limits}
 use Rattle.ent_alloc.specs.Sequential.{fresh, next}
 use Rattle.ent_alloc.specs.declared.slot_record.SlotRecord.{SlotRecord}
 use Rattle.ent_alloc.specs.declared.slot_record.Occupancy.TheVariants.{Pending}
-use Rattle.ent_alloc.specs.Slots.{occupants, is_alive, row_of, record_at, blank, new_record}
+use Rattle.ent_alloc.specs.Slots.{occupants, is_alive, row_of, record_at, no_slot, new_record}
 use Rattle.ent_alloc.specs.Slots.{handle_at, rows_from, reuse, reused, roster_of, AreLinked}
 use Rattle.ent_alloc.proofs.FreshHandles.{length-fresh}
 use Rattle.ent_alloc.proofs.Occupants.{is_occupant, has_occupant, row_at, contains_occupants}
@@ -167,13 +167,13 @@ module _ (limits : Limits) (records : List SlotRecord) (pending : List ℕ) (liv
   grown = records ++ replicate count new_record
 
   old_stays : (index : ℕ) → index < length records → record_at grown index ≡ record_at records index
-  old_stays index made = get_or_append_left records (replicate count new_record) blank index made
+  old_stays index made = get_or_append_left records (replicate count new_record) no_slot index made
 
   new_is : (index : ℕ) → length records ≤ index → index < length grown → record_at grown index ≡ new_record
   new_is index past within =
       let below : index - length records < count = omega (arith, length-append records (replicate count new_record), length-replicate count new_record) in
-      get_or-append_right records (replicate count new_record) (length records) index blank refl past
-      ∙ get_or-replicate count (index - length records) new_record blank below
+      get_or-append_right records (replicate count new_record) (length records) index no_slot refl past
+      ∙ get_or-replicate count (index - length records) new_record no_slot below
 
   waits_in_old : (index position : ℕ) → index < length grown → (record_at grown index).occupancy ≡ Pending position → index < length records
   waits_in_old index position within is =
@@ -238,7 +238,7 @@ pub occupant_made : (records : List SlotRecord) (h : Handle) → is_occupant rec
 occupant_made records h is =
     elim (cases_lt h.index (length records)) [
       | inl made ↦ made
-      | inr past ↦ absurd (false≢true (sym (ap (λ (r : SlotRecord). has_occupant r h.generation) (get_or_past records h.index blank past)) ∙ is))
+      | inr past ↦ absurd (false≢true (sym (ap (λ (r : SlotRecord). has_occupant r h.generation) (get_or_past records h.index no_slot past)) ∙ is))
     ]
 
 pub occupant_alive : (records : List SlotRecord) (h : Handle) → is_occupant records h ≡ true → is_alive (record_at records h.index).occupancy ≡ true
@@ -292,10 +292,10 @@ module _ (limits : Limits) (records : List SlotRecord) (pending : List ℕ) (liv
       false≢true (sym waits ∙ alive)
 
   other : (at : ℕ) → at ≢ h.index → record_at released at ≡ record_at records at
-  other at ne = get_or-set_other records h.index at vacant blank ne
+  other at ne = get_or-set_other records h.index at vacant no_slot ne
 
   same : record_at released h.index ≡ vacant
-  same = get_or-set_same records h.index vacant blank made_slot
+  same = get_or-set_same records h.index vacant no_slot made_slot
 
   same_at : (at : ℕ) → at ≡ h.index → record_at released at ≡ vacant
   same_at at e = ap (record_at released) e ∙ same

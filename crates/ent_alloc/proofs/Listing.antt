@@ -7,11 +7,11 @@ use Rattle.std.proofs.lemmas.Option.{get_or_from_slice_get}
 use Rattle.ent_handle.specs.Handle.{Handle}
 use Rattle.ent_alloc.specs.Roster.{Roster}
 use Rattle.ent_alloc.specs.Sequential.{fresh}
-use Rattle.ent_alloc.specs.Reserved.{handles_of, IsInRange}
+use Rattle.ent_alloc.specs.Reserved.{reserved_handles, IsInRange}
 use Rattle.ent_alloc.proofs.FreshHandles.{length-fresh, fresh-next, fresh-none}
 
-pub length-handles_of : (r : Roster) (position end index index_end left : ℕ) → IsInRange r position end index index_end left → length (handles_of r position end index index_end) ≡ left
-length-handles_of r position end index index_end left range =
+pub length-reserved_handles : (r : Roster) (position end index index_end left : ℕ) → IsInRange r position end index index_end left → length (reserved_handles r position end index index_end) ≡ left
+length-reserved_handles r position end index index_end left range =
     let positions = range.positions in
     let within = range.within in
     length-append (take (end - position) (drop position r.pending)) (fresh index (index_end - index))
@@ -24,22 +24,22 @@ drop_at hs k h below at =
     drop_more hs k h below ∙ ap (λ x. x ∷ drop (k + 1) hs) (get_or_from_slice_get hs k h h at)
 
 -- the handle that waits at the position comes first
-pub handles_of-pending : (r : Roster) (position end index index_end : ℕ) (h : Handle) → end ≤ length r.pending → position < end → slice_get r.pending position ≡ Some h → handles_of r position end index index_end ≡ h ∷ handles_of r (position + 1) end index index_end
-handles_of-pending r position end index index_end h within below at =
+pub reserved_handles-pending : (r : Roster) (position end index index_end : ℕ) (h : Handle) → end ≤ length r.pending → position < end → slice_get r.pending position ≡ Some h → reserved_handles r position end index index_end ≡ h ∷ reserved_handles r (position + 1) end index index_end
+reserved_handles-pending r position end index index_end h within below at =
     let more : end - position ≡ suc (end - (position + 1)) = omega arith in
     λ i. take (more i) (drop_at r.pending position h (omega arith) at i) ++ fresh index (index_end - index)
 
 -- else the first fresh one
-pub handles_of-fresh : (r : Roster) (position end index index_end : ℕ) → end ≤ position → index < index_end → handles_of r position end index index_end ≡ record { index = index; generation = 1 } ∷ handles_of r position end (index + 1) index_end
-handles_of-fresh r position end index index_end past below =
+pub reserved_handles-fresh : (r : Roster) (position end index index_end : ℕ) → end ≤ position → index < index_end → reserved_handles r position end index index_end ≡ record { index = index; generation = 1 } ∷ reserved_handles r position end (index + 1) index_end
+reserved_handles-fresh r position end index index_end past below =
     let none : end - position ≡ 0 = omega arith in
     let more : index_end - index ≡ suc (index_end - (index + 1)) = omega arith in
     (λ i. take (none i) (drop position r.pending) ++ (ap (fresh index) more ∙ fresh-next index (index_end - (index + 1))) i)
     ∙ ap (λ rest. record { index = index; generation = 1 } ∷ rest) (λ i. take (sym none i) (drop position r.pending) ++ fresh (index + 1) (index_end - (index + 1)))
 
 -- else none
-pub handles_of-none : (r : Roster) (position end index index_end : ℕ) → end ≤ position → index_end ≤ index → handles_of r position end index index_end ≡ []
-handles_of-none r position end index index_end past passed =
+pub reserved_handles-none : (r : Roster) (position end index index_end : ℕ) → end ≤ position → index_end ≤ index → reserved_handles r position end index index_end ≡ []
+reserved_handles-none r position end index index_end past passed =
     let none : end - position ≡ 0 = omega arith in
     let no_fresh : index_end - index ≡ 0 = omega arith in
     λ i. take (none i) (drop position r.pending) ++ (ap (fresh index) no_fresh ∙ fresh-none index) i

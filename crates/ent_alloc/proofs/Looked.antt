@@ -21,7 +21,7 @@ use Rattle.ent_alloc.specs.declared.slot_record.SlotRecord.{SlotRecord}
 use Rattle.ent_alloc.specs.declared.slot_record.Occupancy.{Occupancy}
 use Rattle.ent_alloc.specs.declared.slot_record.Occupancy.TheVariants.{Alive, AliveWithRow, Pending}
 use Rattle.ent_alloc.specs.Slots.{occupants, occupancy_of, is_alive, lives, row_of, row_kept}
-use Rattle.ent_alloc.specs.Slots.{record_at, blank, handle_at, rows_from, is_pending_from}
+use Rattle.ent_alloc.specs.Slots.{record_at, no_slot, handle_at, rows_from, is_pending_from}
 use Rattle.ent_alloc.specs.Slots.{waits_from, roster_of, AreLinked}
 use Rattle.ent_alloc.proofs.HandleSets.{Contains-from_stands_in, stands_in-from_Contains}
 use Rattle.ent_alloc.proofs.FreshHandles.{length-fresh, get_or-fresh}
@@ -70,10 +70,10 @@ module _ (records : List SlotRecord) (h : Handle) where
   abbrev found_record : SlotRecord
   found_record = record_at records h.index
 
-  absent : ltb h.index (length records) ≡ false → found_record ≡ blank
+  absent : ltb h.index (length records) ≡ false → found_record ≡ no_slot
   absent is = elim (cases_lt h.index (length records)) [
     | inl made ↦ absurd (false≢true (sym is ∙ lt-ltb h.index (length records) made))
-    | inr past ↦ get_or_past records h.index blank past
+    | inr past ↦ get_or_past records h.index no_slot past
   ]
 
   pub is_occupant-occupancy : is_occupant records h ≡ lives (occupancy_of records h)
@@ -194,10 +194,10 @@ module _ (limits : Limits) (records : List SlotRecord) (pending : List ℕ) (liv
   slot_made = occupant_made records h lives
 
   others : (at : ℕ) → at ≢ h.index → record_at relabelled at ≡ record_at records at
-  others at ne = get_or-set_other records h.index at labelled blank ne
+  others at ne = get_or-set_other records h.index at labelled no_slot ne
 
   itself : (at : ℕ) → at ≡ h.index → record_at relabelled at ≡ labelled
-  itself at e = ap (record_at relabelled) e ∙ get_or-set_same records h.index labelled blank slot_made
+  itself at e = ap (record_at relabelled) e ∙ get_or-set_same records h.index labelled no_slot slot_made
 
   generations : (at : ℕ) → (record_at relabelled at).generation ≡ (record_at records at).generation
   generations at =

@@ -36,7 +36,7 @@ use Rattle.ent_alloc.proofs.FreshHandles.{drop_joined, old_of_joined, fresh_of_j
 use Rattle.ent_alloc.proofs.FreshHandles.{all_old_are_old, no_fresh_is_old, no_old_is_fresh}
 use Rattle.ent_alloc.proofs.FreshHandles.{all_fresh_are_fresh}
 use Rattle.ent_alloc.proofs.ListLaws.{take-append}
-use Rattle.ent_alloc.specs.Reserved.{handles_of}
+use Rattle.ent_alloc.specs.Reserved.{reserved_handles}
 use Rattle.ent_alloc.proofs.HandleSets.{contains-union_list, same_handle}
 use Rattle.ent_alloc.proofs.LaidOut.{old_ones_below}
 use Rattle.ent_alloc.proofs.Soundness.{after_take-sound}
@@ -382,7 +382,7 @@ middle total asked n hs =
     ∙ (λ i. take (front - sym start i) (drop (sym start i) hs))
 
 -- what a served reply lists
-pub listed_is : (r : Roster) (asked n : ℕ) → All (λ h. h.index < r.made) (reverse r.pending) → asked + n ≤ length r.pending + (r.limits.slots - r.made) → listed r.made (take n (drop asked (idle r))) ≡ handles_of r (length r.pending - (asked + n)) (length r.pending - asked) (r.made + (asked - length r.pending)) (r.made + (asked + n - length r.pending))
+pub listed_is : (r : Roster) (asked n : ℕ) → All (λ h. h.index < r.made) (reverse r.pending) → asked + n ≤ length r.pending + (r.limits.slots - r.made) → listed r.made (take n (drop asked (idle r))) ≡ reserved_handles r (length r.pending - (asked + n)) (length r.pending - asked) (r.made + (asked - length r.pending)) (r.made + (asked + n - length r.pending))
 listed_is r asked n below enough =
     let front = length r.pending - asked in
     let old = drop asked (reverse r.pending) in
@@ -414,7 +414,7 @@ listed_is r asked n below enough =
     (λ i. reverse (old_part i) ++ fresh_part i) ∙ (λ i. turned i ++ fresh at (count i))
 
 -- the reply where there is enough, and where there isn't
-pub reply_served : (r : Roster) (asked n : ℕ) → All (λ h. h.index < r.made) (reverse r.pending) → asked + n ≤ length r.pending + (r.limits.slots - r.made) → Ok (handles_of r (length r.pending - (asked + n)) (length r.pending - asked) (r.made + (asked - length r.pending)) (r.made + (asked + n - length r.pending))) ≡ reply_from r.made (drop asked (idle r)) n
+pub reply_served : (r : Roster) (asked n : ℕ) → All (λ h. h.index < r.made) (reverse r.pending) → asked + n ≤ length r.pending + (r.limits.slots - r.made) → Ok (reserved_handles r (length r.pending - (asked + n)) (length r.pending - asked) (r.made + (asked - length r.pending)) (r.made + (asked + n - length r.pending))) ≡ reply_from r.made (drop asked (idle r)) n
 reply_served r asked n below enough =
     let fits : nat_le n (length (drop asked (idle r))) ≡ true = le-leb n (length (drop asked (idle r))) (omega (arith, length_left r asked)) in
     ap Ok (sym (listed_is r asked n below enough)) ∙ sym (cond-true (nat_le n (length (drop asked (idle r)))) _ _ fits)

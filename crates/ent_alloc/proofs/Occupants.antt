@@ -15,7 +15,7 @@ use Rattle.ent_handle.specs.Handle.{Handle, handle_cmp, handle_cmp_total}
 use Rattle.ent_handle.specs.Handle.{handle_cmp-IsAntisymmetric}
 use Rattle.ent_alloc.proofs.ListLaws.{eqb_sym}
 use Rattle.ent_alloc.specs.declared.slot_record.SlotRecord.{SlotRecord}
-use Rattle.ent_alloc.specs.Slots.{occupants, record_at, blank, is_alive, row_of, rows_from}
+use Rattle.ent_alloc.specs.Slots.{occupants, record_at, no_slot, is_alive, row_of, rows_from}
 use Rattle.ent_alloc.specs.Slots.{with_row, new_record}
 use Rattle.ent_alloc.specs.Sequential.{fresh}
 use Rattle.std.specs.FinMap.{find}
@@ -61,7 +61,7 @@ and-false false = refl
 
 -- what stands in the list of the occupants from an index on
 abbrev at_from : ℕ → List SlotRecord → Handle → Bool
-at_from index records q = leb index q.index && has_occupant (get_or records (q.index - index) blank) q.generation
+at_from index records q = leb index q.index && has_occupant (get_or records (q.index - index) no_slot) q.generation
 
 one_occupant : (alive : Bool) (rest : List Handle) (h q : Handle) → list_any (eq_by_cmp handle_cmp q) (cond alive (h ∷ rest) rest) ≡ ((alive && eq_by_cmp handle_cmp q h) || list_any (eq_by_cmp handle_cmp q) rest)
 one_occupant true rest h q = refl
@@ -86,8 +86,8 @@ after false a h g e = e
 at_head : (index : ℕ) (r : SlotRecord) (records : List SlotRecord) (q : Handle) → ((is_alive r.occupancy && (eqb q.index index && eqb q.generation r.generation)) || at_from (index + 1) records q) ≡ at_from index (r ∷ records) q
 at_head index r records q =
     let alive = is_alive r.occupancy in
-    let later = has_occupant (get_or records (q.index - (index + 1)) blank) q.generation in
-    let now = has_occupant (get_or (r ∷ records) (q.index - index) blank) q.generation in
+    let later = has_occupant (get_or records (q.index - (index + 1)) no_slot) q.generation in
+    let now = has_occupant (get_or (r ∷ records) (q.index - index) no_slot) q.generation in
     elim (cases_order q.index index) [
       | inl e ↦
           let E : eqb q.index index ≡ true = eq-eqb q.index index e in
@@ -96,7 +96,7 @@ at_head index r records q =
           let zero_off : q.index - index ≡ 0 = omega arith in
           (λ i. (alive && (E i && eqb q.generation r.generation)) || (L i && later))
           ∙ here alive (eqb q.generation r.generation) (eqb r.generation q.generation) later (eqb_sym q.generation r.generation)
-          ∙ sym (λ i. M i && has_occupant (get_or (r ∷ records) (zero_off i) blank) q.generation)
+          ∙ sym (λ i. M i && has_occupant (get_or (r ∷ records) (zero_off i) no_slot) q.generation)
       | inr (inl l) ↦
           let E : eqb q.index index ≡ false = ne_eqb q.index index (λ e. absurd (omega arith)) in
           let L : leb (index + 1) q.index ≡ false = lt-leb (index + 1) q.index (omega arith) in
@@ -111,7 +111,7 @@ at_head index r records q =
           let off : q.index - index ≡ suc (q.index - (index + 1)) = omega arith in
           (λ i. (alive && (E i && eqb q.generation r.generation)) || (L i && later))
           ∙ after alive (eqb q.generation r.generation) later later refl
-          ∙ sym (λ i. M i && has_occupant (get_or (r ∷ records) (off i) blank) q.generation)
+          ∙ sym (λ i. M i && has_occupant (get_or (r ∷ records) (off i) no_slot) q.generation)
     ]
 
 list_any-occupants : (index : ℕ) (records : List SlotRecord) (q : Handle) → list_any (eq_by_cmp handle_cmp q) (occupants index records) ≡ at_from index records q
@@ -125,7 +125,7 @@ from_zero : (records : List SlotRecord) (q : Handle) → at_from 0 records q ≡
 from_zero records q =
     let all : leb 0 q.index ≡ true = le-leb 0 q.index (omega arith) in
     let off : q.index - 0 ≡ q.index = omega arith in
-    λ i. all i && has_occupant (get_or records (off i) blank) q.generation
+    λ i. all i && has_occupant (get_or records (off i) no_slot) q.generation
 
 -- the set of the occupants holds just these
 pub contains_occupants : (records : List SlotRecord) (q : Handle) → sets.contains {R = handle_cmp} (sets.from_list (occupants 0 records)) q ≡ is_occupant records q
@@ -135,7 +135,7 @@ absent_below : (index : ℕ) (records : List SlotRecord) (generation : ℕ) → 
 absent_below index records generation =
     sets.contains-from_list handle_cmp_total (occupants (index + 1) records) (record { index = index; generation = generation })
     ∙ list_any-occupants (index + 1) records (record { index = index; generation = generation })
-    ∙ (λ i. lt-leb (index + 1) index (omega arith) i && has_occupant (get_or records (index - (index + 1)) blank) generation)
+    ∙ (λ i. lt-leb (index + 1) index (omega arith) i && has_occupant (get_or records (index - (index + 1)) no_slot) generation)
 
 one_more : (alive : Bool) (h : Handle) (rest : List Handle) → sets.contains {R = handle_cmp} (sets.from_list rest) h ≡ false → sets.len {R = handle_cmp} (sets.from_list rest) ≡ length rest → sets.len {R = handle_cmp} (sets.from_list (cond alive (h ∷ rest) rest)) ≡ length (cond alive (h ∷ rest) rest)
 one_more true h rest absent known =
@@ -154,14 +154,14 @@ len_occupants index (r ∷ records) =
 pub record-set : (records : List SlotRecord) (index : ℕ) (r : SlotRecord) (at : ℕ) → index < length records → record_at (set records index r) at ≡ cond (eqb at index) r (record_at records at)
 record-set records index r at within =
     elim (cases_eq at index) [
-      | inl e ↦ ap (λ n. record_at (set records index r) n) e ∙ get_or-set_same records index r blank within ∙ sym (cond-true (eqb at index) r (record_at records at) (eq-eqb at index e))
-      | inr ne ↦ get_or-set_other records index at r blank ne ∙ sym (cond-false (eqb at index) r (record_at records at) (ne_eqb at index ne))
+      | inl e ↦ ap (λ n. record_at (set records index r) n) e ∙ get_or-set_same records index r no_slot within ∙ sym (cond-true (eqb at index) r (record_at records at) (eq-eqb at index e))
+      | inr ne ↦ get_or-set_other records index at r no_slot ne ∙ sym (cond-false (eqb at index) r (record_at records at) (ne_eqb at index ne))
     ]
 
 -- ---- the rows
 
 abbrev row_from : ℕ → List SlotRecord → Handle → Option ℕ
-row_from index records q = cond (leb index q.index) (row_in (get_or records (q.index - index) blank) q.generation) None
+row_from index records q = cond (leb index q.index) (row_in (get_or records (q.index - index) no_slot) q.generation) None
 
 abbrev nothing : Option ℕ
 nothing = None
@@ -195,27 +195,27 @@ row_head index r records q =
           let L : leb (index + 1) q.index ≡ false = lt-leb (index + 1) q.index (omega arith) in
           let M : leb index q.index ≡ true = le-leb index q.index (omega arith) in
           let zero_off : q.index - index ≡ 0 = omega arith in
-          let gone : row_from (index + 1) records q ≡ None = λ i. cond (L i) (row_in (get_or records (q.index - (index + 1)) blank) q.generation) None in
+          let gone : row_from (index + 1) records q ≡ None = λ i. cond (L i) (row_in (get_or records (q.index - (index + 1)) no_slot) q.generation) None in
           (λ i. cond (E i && eqb q.generation r.generation) (cond (is_some (row_of r.occupancy)) (row_of r.occupancy) (gone i)) (gone i))
           ∙ row_split (eqb q.generation r.generation) (row_of r.occupancy)
           ∙ (λ i. cond (eqb_sym q.generation r.generation i) (row_of r.occupancy) None)
-          ∙ sym (λ i. cond (M i) (row_in (get_or (r ∷ records) (zero_off i) blank) q.generation) None)
+          ∙ sym (λ i. cond (M i) (row_in (get_or (r ∷ records) (zero_off i) no_slot) q.generation) None)
       | inr (inl l) ↦
           let E : eqb q.index index ≡ false = ne_eqb q.index index (λ e. absurd (omega arith)) in
           let L : leb (index + 1) q.index ≡ false = lt-leb (index + 1) q.index (omega arith) in
           let M : leb index q.index ≡ false = lt-leb index q.index (omega arith) in
-          let gone : row_from (index + 1) records q ≡ None = λ i. cond (L i) (row_in (get_or records (q.index - (index + 1)) blank) q.generation) None in
+          let gone : row_from (index + 1) records q ≡ None = λ i. cond (L i) (row_in (get_or records (q.index - (index + 1)) no_slot) q.generation) None in
           (λ i. cond (E i && eqb q.generation r.generation) (cond (is_some (row_of r.occupancy)) (row_of r.occupancy) (row_from (index + 1) records q)) (row_from (index + 1) records q))
           ∙ gone
-          ∙ sym (λ i. cond (M i) (row_in (get_or (r ∷ records) (q.index - index) blank) q.generation) None)
+          ∙ sym (λ i. cond (M i) (row_in (get_or (r ∷ records) (q.index - index) no_slot) q.generation) None)
       | inr (inr g) ↦
           let E : eqb q.index index ≡ false = ne_eqb q.index index (λ e. absurd (omega arith)) in
           let L : leb (index + 1) q.index ≡ true = le-leb (index + 1) q.index (omega arith) in
           let M : leb index q.index ≡ true = le-leb index q.index (omega arith) in
           let off : q.index - index ≡ suc (q.index - (index + 1)) = omega arith in
           (λ i. cond (E i && eqb q.generation r.generation) (cond (is_some (row_of r.occupancy)) (row_of r.occupancy) (row_from (index + 1) records q)) (row_from (index + 1) records q))
-          ∙ (λ i. cond (L i) (row_in (get_or records (q.index - (index + 1)) blank) q.generation) None)
-          ∙ sym (λ i. cond (M i) (row_in (get_or (r ∷ records) (off i) blank) q.generation) None)
+          ∙ (λ i. cond (L i) (row_in (get_or records (q.index - (index + 1)) no_slot) q.generation) None)
+          ∙ sym (λ i. cond (M i) (row_in (get_or (r ∷ records) (off i) no_slot) q.generation) None)
     ]
 
 find-rows_from : (index : ℕ) (records : List SlotRecord) (q : Handle) → find handle_cmp q (rows_from index records) ≡ row_from index records q
@@ -230,7 +230,7 @@ pub get_rows : (records : List SlotRecord) (q : Handle) → maps.get {R = handle
 get_rows records q =
     let all : leb 0 q.index ≡ true = le-leb 0 q.index (omega arith) in
     let off : q.index - 0 ≡ q.index = omega arith in
-    maps.get-from_entries handle_cmp_total (rows_from 0 records) q ∙ find-rows_from 0 records q ∙ (λ i. cond (all i) (row_in (get_or records (off i) blank) q.generation) None)
+    maps.get-from_entries handle_cmp_total (rows_from 0 records) q ∙ find-rows_from 0 records q ∙ (λ i. cond (all i) (row_in (get_or records (off i) no_slot) q.generation) None)
 
 -- ---- one record set
 

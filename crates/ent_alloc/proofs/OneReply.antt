@@ -6,8 +6,8 @@ use Rattle.ent_handle.specs.Handle.{Handle}
 use Rattle.ent_alloc.specs.Roster.{Roster}
 use Rattle.ent_alloc.specs.Sequential.{Allocator, reply_from, pool_at}
 use Rattle.ent_alloc.specs.Entities.{idle, allocator_of, beneath, AreReserved}
-use Rattle.ent_alloc.specs.Reserved.{handles_of}
-use Rattle.ent_alloc.proofs.Listing.{handles_of-pending, handles_of-fresh, handles_of-none}
+use Rattle.ent_alloc.specs.Reserved.{reserved_handles}
+use Rattle.ent_alloc.proofs.Listing.{reserved_handles-pending, reserved_handles-fresh, reserved_handles-none}
 use Rattle.ent_alloc.proofs.Meaning.{asked_at-is, pool_at_is, pending_below, reply_served}
 use Rattle.ent_alloc.proofs.Meaning.{reply_refused, length_left}
 
@@ -22,9 +22,9 @@ module _ (r : Roster) (asked given : ℕ) (high : ℤ) (s : Allocator) (reserved
   pub several : (n position end index index_end : ℕ) → beneath r high + n ≤ length r.pending + (r.limits.slots - r.made)
       → position ≡ length r.pending - (beneath r high + n) → end ≡ length r.pending - beneath r high
       → index ≡ r.made + (beneath r high - length r.pending) → index_end ≡ r.made + (beneath r high + n - length r.pending)
-      → Ok (handles_of r position end index index_end) ≡ reply_from s.made (pool_at s high) n
+      → Ok (reserved_handles r position end index index_end) ≡ reply_from s.made (pool_at s high) n
   several n position end index index_end enough position_is end_is index_is index_end_is =
-      (λ i. Ok (handles_of r (position_is i) (end_is i) (index_is i) (index_end_is i)))
+      (λ i. Ok (reserved_handles r (position_is i) (end_is i) (index_is i) (index_end_is i)))
       ∙ reply_served r (beneath r high) n (pending_below r asked given reserved.given_least reserved.sound) enough
       ∙ replied n
 
@@ -44,7 +44,7 @@ module _ (r : Roster) (asked given : ℕ) (high : ℤ) (s : Allocator) (reserved
 
   -- what one handle's reply lists
   listed_one : (h : Handle) → beneath r high + 1 ≤ length r.pending + (r.limits.slots - r.made)
-      → handles_of r (length r.pending - (beneath r high + 1)) (length r.pending - beneath r high) (r.made + (beneath r high - length r.pending)) (r.made + (beneath r high + 1 - length r.pending)) ≡ h ∷ []
+      → reserved_handles r (length r.pending - (beneath r high + 1)) (length r.pending - beneath r high) (r.made + (beneath r high - length r.pending)) (r.made + (beneath r high + 1 - length r.pending)) ≡ h ∷ []
       → Ok (h ∷ []) ≡ reply_from s.made (pool_at s high) 1
   listed_one h enough lists =
       ap Ok (sym lists) ∙ several 1 _ _ _ _ enough refl refl refl refl
@@ -56,9 +56,9 @@ module _ (r : Roster) (asked given : ℕ) (high : ℤ) (s : Allocator) (reserved
       let below : beneath r high + (position + 1) ≡ length r.pending = omega (arith, ints) in
       let here : position ≡ length r.pending - (beneath r high + 1) = omega arith in
       listed_one h (omega arith)
-      (handles_of-pending r _ (length r.pending - beneath r high) (r.made + (beneath r high - length r.pending)) (r.made + (beneath r high + 1 - length r.pending)) h (omega arith) (omega arith)
+      (reserved_handles-pending r _ (length r.pending - beneath r high) (r.made + (beneath r high - length r.pending)) (r.made + (beneath r high + 1 - length r.pending)) h (omega arith) (omega arith)
       (ap (slice_get r.pending) (sym here) ∙ waits)
-      ∙ ap (λ rest. h ∷ rest) (handles_of-none r _ (length r.pending - beneath r high) (r.made + (beneath r high - length r.pending)) (r.made + (beneath r high + 1 - length r.pending)) (omega arith) (omega arith)))
+      ∙ ap (λ rest. h ∷ rest) (reserved_handles-none r _ (length r.pending - beneath r high) (r.made + (beneath r high - length r.pending)) (r.made + (beneath r high + 1 - length r.pending)) (omega arith) (omega arith)))
 
   -- from 0 on it is the first occupant of a new slot
   pub one_fresh : (index : ℕ) → high ≤ℤ pos (length r.pending) → pos index ≡ pos r.made -ℤ high → r.made ≤ index → index < r.limits.slots → Ok (record { index = index; generation = 1 } ∷ []) ≡ reply_from s.made (pool_at s high) 1
@@ -67,8 +67,8 @@ module _ (r : Roster) (asked given : ℕ) (high : ℤ) (s : Allocator) (reserved
       let past : beneath r high + r.made ≡ length r.pending + index = omega (arith, ints) in
       let here : index ≡ r.made + (beneath r high - length r.pending) = omega arith in
       listed_one (record { index = index; generation = 1 }) (omega arith)
-      (handles_of-fresh r _ (length r.pending - beneath r high) (r.made + (beneath r high - length r.pending)) (r.made + (beneath r high + 1 - length r.pending)) (omega arith) (omega arith)
-      ∙ (λ i. record { index = sym here i; generation = 1 } ∷ handles_of-none r (length r.pending - (beneath r high + 1)) (length r.pending - beneath r high) (r.made + (beneath r high - length r.pending) + 1) (r.made + (beneath r high + 1 - length r.pending)) (omega arith) (omega arith) i))
+      (reserved_handles-fresh r _ (length r.pending - beneath r high) (r.made + (beneath r high - length r.pending)) (r.made + (beneath r high + 1 - length r.pending)) (omega arith) (omega arith)
+      ∙ (λ i. record { index = sym here i; generation = 1 } ∷ reserved_handles-none r (length r.pending - (beneath r high + 1)) (length r.pending - beneath r high) (r.made + (beneath r high - length r.pending) + 1) (r.made + (beneath r high + 1 - length r.pending)) (omega arith) (omega arith) i))
 
   -- past the last slot there is none
   pub one_refused : (index : ℕ) → high ≤ℤ pos (length r.pending) → pos index ≡ pos r.made -ℤ high → r.limits.slots ≤ index → r.made ≤ r.limits.slots → Err (record { wanted = 1; left = 0 }) ≡ reply_from s.made (pool_at s high) 1

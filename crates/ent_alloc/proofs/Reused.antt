@@ -14,7 +14,7 @@ use Rattle.ent_alloc.proofs.ListLaws.{eqb_sym}
 use Rattle.ent_alloc.specs.declared.slot_record.SlotRecord.{SlotRecord}
 use Rattle.ent_alloc.specs.declared.slot_record.Occupancy.{Occupancy}
 use Rattle.ent_alloc.specs.declared.slot_record.Occupancy.TheVariants.{Alive, AliveWithRow, Pending}
-use Rattle.ent_alloc.specs.Slots.{occupants, record_at, blank, is_alive, row_of, rows_from, reuse}
+use Rattle.ent_alloc.specs.Slots.{occupants, record_at, no_slot, is_alive, row_of, rows_from, reuse}
 use Rattle.ent_alloc.specs.Slots.{reused, handle_at}
 use Rattle.ent_alloc.proofs.Occupants.{is_occupant, has_occupant, contains_occupants}
 use Rattle.ent_alloc.proofs.Occupants.{is_occupant-set, length-occupants-set, rows_from-set, ties}
@@ -40,7 +40,7 @@ Wait-rest records from index indices wait = record {
       let apart : get_or indices k 0 ≢ index =
       λ e. let same : Pending (from + suc k) ≡ Pending (from + 0) = sym there ∙ ap (λ n. (record_at records n).occupancy) e ∙ here in
       let clash : from + suc k ≡ from + 0 = ap position_of same in absurd (omega arith) in
-      ap (λ (r : SlotRecord). r.occupancy) (get_or-set_other records index (get_or indices k 0) (reuse (record_at records index)) blank apart)
+      ap (λ (r : SlotRecord). r.occupancy) (get_or-set_other records index (get_or indices k 0) (reuse (record_at records index)) no_slot apart)
       ∙ there
       ∙ ap Pending (omega arith);
 }
@@ -56,9 +56,9 @@ generation-reuse records index at within =
     elim (cases_eq at index) [
       | inl e ↦
           ap (λ n. (record_at (set records index (reuse (record_at records index))) n).generation) e
-          ∙ ap (λ (r : SlotRecord). r.generation) (get_or-set_same records index (reuse (record_at records index)) blank within)
+          ∙ ap (λ (r : SlotRecord). r.generation) (get_or-set_same records index (reuse (record_at records index)) no_slot within)
           ∙ ap (λ n. (record_at records n).generation) (sym e)
-      | inr ne ↦ ap (λ (r : SlotRecord). r.generation) (get_or-set_other records index at (reuse (record_at records index)) blank ne)
+      | inr ne ↦ ap (λ (r : SlotRecord). r.generation) (get_or-set_other records index at (reuse (record_at records index)) no_slot ne)
     ]
 
 pub generation-reused : (records : List SlotRecord) (from : ℕ) (indices : List ℕ) (at : ℕ) → Wait records from indices → (record_at (reused records indices) at).generation ≡ (record_at records at).generation
@@ -76,7 +76,7 @@ waiting-reused records from (index ∷ indices) at position wait is below =
     λ e. let same : Pending position ≡ Pending (from + 0) = sym is ∙ ap (λ n. (record_at records n).occupancy) e ∙ here in
     let clash : position ≡ from + 0 = ap position_of same in absurd (omega arith) in
     waiting-reused (set records index (reuse (record_at records index))) (from + 1) indices at position (Wait-rest records from index indices wait)
-    (ap (λ (r : SlotRecord). r.occupancy) (get_or-set_other records index at (reuse (record_at records index)) blank apart) ∙ is)
+    (ap (λ (r : SlotRecord). r.occupancy) (get_or-set_other records index at (reuse (record_at records index)) no_slot apart) ∙ is)
     (omega arith)
 
 -- one that waits now waited before, and is none of these
@@ -92,10 +92,10 @@ waited-reused records from [] at position wait is = record { before = is; apart 
 waited-reused records from (index ∷ indices) at position wait is =
     let later = waited-reused (set records index (reuse (record_at records index))) (from + 1) indices at position (Wait-rest records from index indices wait) is in
     let woke : (record_at (set records index (reuse (record_at records index))) index).occupancy ≡ Alive =
-    ap (λ (r : SlotRecord). r.occupancy) (get_or-set_same records index (reuse (record_at records index)) blank (wait.made 0 (omega arith))) in
+    ap (λ (r : SlotRecord). r.occupancy) (get_or-set_same records index (reuse (record_at records index)) no_slot (wait.made 0 (omega arith))) in
     let apart : index ≢ at = λ e. Alive≢Pending (sym woke ∙ ap (λ n. (record_at (set records index (reuse (record_at records index))) n).occupancy) e ∙ later.before) in
     record {
-      before = sym (ap (λ (r : SlotRecord). r.occupancy) (get_or-set_other records index at (reuse (record_at records index)) blank (λ e. apart (sym e)))) ∙ later.before;
+      before = sym (ap (λ (r : SlotRecord). r.occupancy) (get_or-set_other records index at (reuse (record_at records index)) no_slot (λ e. apart (sym e)))) ∙ later.before;
       apart = λ k within. each k within apart later.apart;
     }
   where

@@ -1,6 +1,7 @@
 -- Histories: the reservations of many callers in one order, and what the sequential allocator says
 -- to them.
-use Rattle.std.specs.Prelude.{◌≡◌, ℕ, ◌<◌, List, [], ◌∷◌, ◌++◌, map, Result, Ok, Err}
+use Rattle.std.specs.Prelude.{◌≡◌, ◌≢◌, ℕ, ◌<◌, List, [], ◌∷◌, ◌++◌, map, Result, Ok, Err}
+use Rattle.std.specs.List.{AllPairs}
 use Rattle.ent_handle.specs.Handle.{Handle}
 use Rattle.ent_alloc.specs.declared.space.Space.{Space}
 use Rattle.ent_alloc.specs.Sequential.{Allocator, after_take, reply_to}
@@ -33,6 +34,10 @@ handles_in (Err space) = []
 abbrev pub given_in : List Call → List Handle
 given_in [] = []
 given_in (call ∷ calls) = handles_in call.reply ++ given_in calls
+
+-- no handle is given twice
+abbrev pub AreGivenOnce : List Handle → Type 0
+AreGivenOnce handles = AllPairs (λ g h. g ≢ h) handles
 
 -- how much was asked for in all
 abbrev pub requests_of : List Call → List ℕ

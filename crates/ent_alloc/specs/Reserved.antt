@@ -6,8 +6,8 @@ use Rattle.ent_alloc.specs.Sequential.{fresh}
 
 -- the handles that wait at the positions from one to another, and the first occupants of the slots
 -- between two indexes
-abbrev pub handles_of : Roster → ℕ → ℕ → ℕ → ℕ → List Handle
-handles_of r position end index index_end =
+abbrev pub reserved_handles : Roster → ℕ → ℕ → ℕ → ℕ → List Handle
+reserved_handles r position end index index_end =
     take (end - position) (drop position r.pending) ++ fresh index (index_end - index)
 
 -- the positions are pending, the indexes are those of handles, and so many of both are left

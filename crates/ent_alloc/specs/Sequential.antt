@@ -84,9 +84,9 @@ reply_from made pool n =
     else Err (record { wanted = n; left = length pool })
 
 -- a single handle, as a list
-abbrev pub listed_alone : Result Handle Space → Result (List Handle) Space
+abbrev pub listed_alone : {E : Type 0} → Result Handle E → Result (List Handle) E
 listed_alone (Ok handle) = Ok (handle ∷ [])
-listed_alone (Err space) = Err space
+listed_alone (Err refused) = Err refused
 
 abbrev pub reply_to : Allocator → ℕ → Result (List Handle) Space
 reply_to s n = reply_from s.made s.pool n

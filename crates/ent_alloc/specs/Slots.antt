@@ -44,8 +44,8 @@ waits_from None from = false
 waits_from (Some o) from = is_pending_from o from
 
 -- what stands past the last record
-abbrev pub blank : SlotRecord
-blank = record { generation = 0; occupancy = Pending 0 }
+abbrev pub no_slot : SlotRecord
+no_slot = record { generation = 0; occupancy = Pending 0 }
 
 -- the record of a new slot, with its first occupant
 abbrev pub new_record : SlotRecord
@@ -53,7 +53,7 @@ new_record = record { generation = 1; occupancy = Alive }
 
 -- the record of a slot
 abbrev pub record_at : List SlotRecord → ℕ → SlotRecord
-record_at records index = slice_index_or records index blank
+record_at records index = slice_index_or records index no_slot
 
 -- the handle that a slot's record speaks of
 abbrev pub handle_at : List SlotRecord → ℕ → Handle

@@ -31,16 +31,16 @@ impl<'a> Model for Reserved<'a> {
 
     ghost coded = { coded_list handle_code };
 
-    ghost use Rattle.ent_alloc.specs.Reserved.{handles_of, IsInRange};
+    ghost use Rattle.ent_alloc.specs.Reserved.{reserved_handles, IsInRange};
 
-    ghost view = { λ r. handles_of r.slots.now r.position r.end r.index r.index_end };
+    ghost view = { λ r. reserved_handles r.slots.now r.position r.end r.index r.index_end };
 
     ghost invariant = { λ r.
         IsInRange r.slots.now r.position r.end r.index r.index_end r.left };
 }
 
 impl<'a> Reserved<'a> {
-    ghost use Rattle.ent_alloc.specs.Reserved.{handles_of, IsInRange};
+    ghost use Rattle.ent_alloc.specs.Reserved.{reserved_handles, IsInRange};
 
     /// The handles that wait from `position` up to, not including, `end`, and the first occupants
     /// of the slots from `index` up to, not including, `index_end`: `left` in all. Who asks for the
@@ -54,7 +54,7 @@ impl<'a> Reserved<'a> {
         left: usize,
     ) -> Self
         requires { IsInRange slots.now position end index index_end left }
-        ensures { result ≡ handles_of slots.now position end index index_end }
+        ensures { result ≡ reserved_handles slots.now position end index index_end }
     {
         Reserved {
             slots,

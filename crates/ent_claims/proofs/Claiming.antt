@@ -7,9 +7,9 @@ use Rattle.std.specs.List.{All, AllPairs}
 use Rattle.std.proofs.lemmas.List.Elements.{All-head, All-tail, All-push}
 use Rattle.std.proofs.lemmas.List.Quantifiers.{all_pairs_push}
 use Rattle.atomic_table.specs.Seated.{TableId}
-use Rattle.ent_claims.specs.declared.record.Record.{Record}
-use Rattle.ent_claims.specs.Record.{after_claim, own_of}
-use Rattle.ent_claims.specs.Claims.{Claims, Claimer, IsOf}
+use Rattle.ent_claims.specs.declared.record.ClaimRecord.{ClaimRecord}
+use Rattle.ent_claims.specs.Record.{after_claim, claims_of}
+use Rattle.ent_claims.specs.Claims.{Claims, Claimer, IsClaimerOf}
 
 -- numbers from low on that rise and are below n are no more than there are
 rising_from : (low n : ℕ) (xs : List ℕ) → low ≤ n → All (λ x. low ≤ x) xs → AllPairs (λ x y. x < y) xs → All (λ x. x < n) xs → low + length xs ≤ n
@@ -26,8 +26,8 @@ rising_fit n xs rises below =
     let fit = rising_from 0 n xs (omega arith) (λ k d lt. omega arith) rises below in
     omega arith
 
-of_claimed : (claims : Claims) (c : Claimer) (n : ℕ) → IsOf claims c → n < claims.numbers → All (λ m. m < n) c.own.claims
-    → IsOf claims (record c { own = record c.own { claims = c.own.claims ++ n ∷ [] } })
+of_claimed : (claims : Claims) (c : Claimer) (n : ℕ) → IsClaimerOf claims c → n < claims.numbers → All (λ m. m < n) c.own.claims
+    → IsClaimerOf claims (record c { own = record c.own { claims = c.own.claims ++ n ∷ [] } })
 of_claimed claims c n of within above =
     let below : All (λ m. m < claims.numbers) (c.own.claims ++ n ∷ []) = All-push (λ m. m < claims.numbers) c.own.claims n of.below within in
     let rises : AllPairs (λ x y. x < y) (c.own.claims ++ n ∷ []) = all_pairs_push (λ x y. x < y) c.own.claims n of.rises above in
@@ -39,13 +39,13 @@ of_claimed claims c n of within above =
       fits = rising_fit claims.numbers (c.own.claims ++ n ∷ []) rises below;
     }
 
-pub claimed_on : (claims : Claims) (views after : List (List Record)) (was now : TableId) (old : Claimer) (n : ℕ) → record { word = was; own = own_of views } ≡ old → IsOf claims old → now ≡ was
-    → after ≡ (after_claim (own_of views) n ∷ []) ∷ [] → n < claims.numbers → All (λ m. m < n) (own_of views).claims → IsOf claims (record { word = now; own = own_of after })
+pub claimed_on : (claims : Claims) (views after : List (List ClaimRecord)) (was now : TableId) (old : Claimer) (n : ℕ) → record { word = was; own = claims_of views } ≡ old → IsClaimerOf claims old → now ≡ was
+    → after ≡ (after_claim (claims_of views) n ∷ []) ∷ [] → n < claims.numbers → All (λ m. m < n) (claims_of views).claims → IsClaimerOf claims (record { word = now; own = claims_of after })
 claimed_on claims views after was now old n view of same is within above =
     let limit : old.own.numbers ≡ claims.numbers = of.numbers in
     let step : after_claim old.own n ≡ record old.own { claims = old.own.claims ++ n ∷ [] } =
     ap (λ (b : Bool). if b then record old.own { claims = old.own.claims ++ n ∷ [] } else record old.own { ended = true }) (lt-ltb n old.own.numbers (omega arith)) in
-    let own : own_of after ≡ record old.own { claims = old.own.claims ++ n ∷ [] } = ap own_of is ∙ (ap (λ (c : Claimer). after_claim c.own n) view ∙ step) in
+    let own : claims_of after ≡ record old.own { claims = old.own.claims ++ n ∷ [] } = ap claims_of is ∙ (ap (λ (c : Claimer). after_claim c.own n) view ∙ step) in
     let word : now ≡ old.word = same ∙ ap (λ (c : Claimer). c.word) view in
     let above_old : All (λ m. m < n) old.own.claims = subst (λ (c : Claimer). All (λ m. m < n) c.own.claims) view above in
-    subst (IsOf claims) (sym (λ i. record { word = word i; own = own i })) (of_claimed claims old n of within above_old)
+    subst (IsClaimerOf claims) (sym (λ i. record { word = word i; own = own i })) (of_claimed claims old n of within above_old)

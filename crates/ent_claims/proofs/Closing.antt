@@ -10,23 +10,23 @@ use Rattle.std.specs.Prelude.{true, slice_get, Some}
 use Rattle.std.specs.List.{sum_by, All, Contains, range_with_len}
 use Rattle.std.proofs.lemmas.List.Elements.{All-head, All-tail}
 use Rattle.std.proofs.lemmas.List.Sums.{sum_by-cons, sum_by-append}
-use Rattle.ent_claims.specs.declared.record.Record.{Record}
-use Rattle.ent_claims.specs.Rule.{weigh, IsKept, IsClosed}
+use Rattle.ent_claims.specs.declared.record.ClaimRecord.{ClaimRecord}
+use Rattle.ent_claims.specs.Rule.{weigh_claims, IsClaimKept, AreClaimsClosed}
 use Rattle.ent_claims.specs.Claims.{Claimer, IsClaimedBy, HaveEnded, AreFirst}
 use Rattle.ent_claims.proofs.Counting.{is, found_in, inside, in_range, weigh_same}
 
-abbrev pub records_of : List Claimer → List Record
+abbrev pub records_of : List Claimer → List ClaimRecord
 records_of claimers = map (λ (c : Claimer). c.own) claimers
 
 -- their claims, each of them weighed
 abbrev weight : (ℕ → ℕ) → List Claimer → ℕ
 weight f claimers = sum_by (λ (c : Claimer). sum_by f c.own.claims) claimers
 
-weigh-records_of : (f : ℕ → ℕ) (cs : List Claimer) → weigh f (records_of cs) ≡ weight f cs
-weigh-records_of f [] = refl
-weigh-records_of f (c ∷ cs) =
-    let rest = weigh-records_of f cs in
-    let a : weigh f (c.own ∷ records_of cs) ≡ sum_by f c.own.claims + weigh f (records_of cs) = sum_by-cons (λ (r : Record). sum_by f r.claims) c.own (records_of cs) in
+weigh_claims-records_of : (f : ℕ → ℕ) (cs : List Claimer) → weigh_claims f (records_of cs) ≡ weight f cs
+weigh_claims-records_of f [] = refl
+weigh_claims-records_of f (c ∷ cs) =
+    let rest = weigh_claims-records_of f cs in
+    let a : weigh_claims f (c.own ∷ records_of cs) ≡ sum_by f c.own.claims + weigh_claims f (records_of cs) = sum_by-cons (λ (r : ClaimRecord). sum_by f r.claims) c.own (records_of cs) in
     let b : weight f (c ∷ cs) ≡ sum_by f c.own.claims + weight f cs = sum_by-cons (λ (x : Claimer). sum_by f x.own.claims) c cs in
     omega arith
 
@@ -87,22 +87,22 @@ holder n (x ∷ cs) some =
     (cases_lt 0 (sum_by (is n) x.own.claims))
 
 -- one that has ended found all numbers claimed
-all_claimed : (numbers claimed : ℕ) (cs : List Claimer) → 0 < length cs → All (IsKept numbers claimed) (records_of cs) → HaveEnded cs → claimed ≡ numbers
+all_claimed : (numbers claimed : ℕ) (cs : List Claimer) → 0 < length cs → All (IsClaimKept numbers claimed) (records_of cs) → HaveEnded cs → claimed ≡ numbers
 all_claimed numbers claimed [] some each ended = absurd (omega arith)
 all_claimed numbers claimed (c ∷ cs) some each ended =
-    (All-head (IsKept numbers claimed) c.own (records_of cs) each).ends (All-head (λ (x : Claimer). x.own.ended ≡ true) c cs ended)
+    (All-head (IsClaimKept numbers claimed) c.own (records_of cs) each).ends (All-head (λ (x : Claimer). x.own.ended ≡ true) c cs ended)
 
-one_ended : (numbers claimed : ℕ) (cs : List Claimer) → All (IsKept numbers claimed) (records_of cs) → (k : ℕ) (c : Claimer) → slice_get cs k ≡ Some c → c.own.ended ≡ true → claimed ≡ numbers
+one_ended : (numbers claimed : ℕ) (cs : List Claimer) → All (IsClaimKept numbers claimed) (records_of cs) → (k : ℕ) (c : Claimer) → slice_get cs k ≡ Some c → c.own.ended ≡ true → claimed ≡ numbers
 one_ended numbers claimed [] each k c at ended = absurd (none-some c at)
 one_ended numbers claimed (x ∷ cs) each zero c at ended =
     let same : x ≡ c = ap (λ (o : Option Claimer). unwrap_or o x) at in
-    (All-head (IsKept numbers claimed) x.own (records_of cs) each).ends (ap (λ (y : Claimer). y.own.ended) same ∙ ended)
+    (All-head (IsClaimKept numbers claimed) x.own (records_of cs) each).ends (ap (λ (y : Claimer). y.own.ended) same ∙ ended)
 one_ended numbers claimed (x ∷ cs) each (suc k) c at ended =
-    one_ended numbers claimed cs (All-tail (IsKept numbers claimed) x.own (records_of cs) each) k c at ended
+    one_ended numbers claimed cs (All-tail (IsClaimKept numbers claimed) x.own (records_of cs) each) k c at ended
 
-module _ (numbers workers : ℕ) (cs : List Claimer) (all : length cs ≡ workers) (closed : IsClosed numbers workers (records_of cs)) where
+module _ (numbers workers : ℕ) (cs : List Claimer) (all : length cs ≡ workers) (closed : AreClaimsClosed numbers workers (records_of cs)) where
   weights : (f : ℕ → ℕ) → weight f cs ≡ sum_by f (range_with_len 0 closed.claimed)
-  weights f = sym (weigh-records_of f cs) ∙ closed.all (length-records_of cs ∙ all) f
+  weights f = sym (weigh_claims-records_of f cs) ∙ closed.all (length-records_of cs ∙ all) f
 
   pub first : AreFirst numbers cs
   first = record {

@@ -19,13 +19,13 @@ use Rattle.std.proofs.lemmas.List.Folds.{sum_by-replicate}
 use mathlib.Core.Option.{some}
 use lib.ListN.{get_elem?}
 use Rattle.atomic_table.specs.Table.{State, Me, keeps, Allows, Splits, Joins, Enters, opening}
-use Rattle.ent_claims.specs.declared.record.Record.{Record}
-use Rattle.ent_claims.specs.Record.{opened, after_claim}
-use Rattle.ent_claims.specs.Rule.{weigh, ended_in, IsKept, IsRuled, AfterClaim, ClaimTells}
-use Rattle.ent_claims.specs.Rule.{IsClosed}
+use Rattle.ent_claims.specs.declared.record.ClaimRecord.{ClaimRecord}
+use Rattle.ent_claims.specs.Record.{nothing_claimed, after_claim}
+use Rattle.ent_claims.specs.Rule.{weigh_claims, ended_in, IsClaimKept, AreClaimsRuled, AfterClaim, ClaimTells}
+use Rattle.ent_claims.specs.Rule.{AreClaimsClosed}
 use Rattle.ent_claims.proofs.Weighing.{all_one, sum_at, all_at, only_at}
 
-abbrev first_or : Record → List Record → Record
+abbrev first_or : ClaimRecord → List ClaimRecord → ClaimRecord
 first_or r [] = r
 first_or r (x ∷ xs) = x
 
@@ -40,36 +40,36 @@ range_more n =
     ap (range_with_len 0) on ∙ range_last 0 n n (omega arith)
 
 -- what a record weighs after one more claim
-weigh-one : (f : ℕ → ℕ) (r : Record) → weigh f (r ∷ []) ≡ sum_by f r.claims
-weigh-one f r = (let e : weigh f (r ∷ []) ≡ sum_by f r.claims + 0 = sum_by-cons (λ (x : Record). sum_by f x.claims) r [] in omega arith)
+weigh_claims-one : (f : ℕ → ℕ) (r : ClaimRecord) → weigh_claims f (r ∷ []) ≡ sum_by f r.claims
+weigh_claims-one f r = (let e : weigh_claims f (r ∷ []) ≡ sum_by f r.claims + 0 = sum_by-cons (λ (x : ClaimRecord). sum_by f x.claims) r [] in omega arith)
 
-ended-one : (r : Record) → ended_in (r ∷ []) ≡ cond {A = ℕ} r.ended 1 0
-ended-one r = (let e : ended_in (r ∷ []) ≡ cond {A = ℕ} r.ended 1 0 + 0 = sum_by-cons (λ (x : Record). cond {A = ℕ} x.ended 1 0) r [] in omega arith)
+ended-one : (r : ClaimRecord) → ended_in (r ∷ []) ≡ cond {A = ℕ} r.ended 1 0
+ended-one r = (let e : ended_in (r ∷ []) ≡ cond {A = ℕ} r.ended 1 0 + 0 = sum_by-cons (λ (x : ClaimRecord). cond {A = ℕ} x.ended 1 0) r [] in omega arith)
 
 at_most_one : (b : Bool) → cond {A = ℕ} b 1 0 ≤ 1
 at_most_one true = omega arith
 at_most_one false = omega arith
 
-ended-le : (v : List Record) → ended_in v ≤ length v
+ended-le : (v : List ClaimRecord) → ended_in v ≤ length v
 ended-le [] = omega arith
 ended-le (r ∷ v) =
-    let e : ended_in (r ∷ v) ≡ cond {A = ℕ} r.ended 1 0 + ended_in v = sum_by-cons (λ (x : Record). cond {A = ℕ} x.ended 1 0) r v in
+    let e : ended_in (r ∷ v) ≡ cond {A = ℕ} r.ended 1 0 + ended_in v = sum_by-cons (λ (x : ClaimRecord). cond {A = ℕ} x.ended 1 0) r v in
     let one = at_most_one r.ended in
     let rest = ended-le v in
     omega arith
 
-abbrev with_claim : Record → ℕ → Record
+abbrev with_claim : ClaimRecord → ℕ → ClaimRecord
 with_claim r n = record r { claims = r.claims ++ n ∷ [] }
 
-abbrev with_end : Record → Record
+abbrev with_end : ClaimRecord → ClaimRecord
 with_end r = record r { ended = true }
 
 module _ (numbers workers : ℕ) where
   abbrev St : Type 0
-  St = State (Unit {0}) (List Record)
+  St = State (Unit {0}) (List ClaimRecord)
 
   abbrev Rule : St → Type 0
-  Rule = IsRuled numbers workers
+  Rule = AreClaimsRuled numbers workers
 
   word_small : (s : St) (k : Rule s) → k.word ≤ 2 ^ 16 + 64
   word_small s k =
@@ -99,7 +99,7 @@ module _ (numbers workers : ℕ) where
       (cases_lt k.claimed numbers)
 
   -- a record that stays as it was, while another one claims
-  kept_on : (claimed : ℕ) (r : Record) → claimed < numbers → IsKept numbers claimed r → IsKept numbers (claimed + 1) r
+  kept_on : (claimed : ℕ) (r : ClaimRecord) → claimed < numbers → IsClaimKept numbers claimed r → IsClaimKept numbers (claimed + 1) r
   kept_on claimed r left kept = record {
     numbers_is = kept.numbers_is;
     below = All-weaker (λ n. n < claimed) (λ n. n < claimed + 1) (λ n lt. omega arith) r.claims kept.below;
@@ -107,7 +107,7 @@ module _ (numbers workers : ℕ) where
     ends = λ ended. absurd (let all = kept.ends ended in omega arith);
   }
 
-  kept_claim : (claimed : ℕ) (r : Record) → claimed < numbers → IsKept numbers claimed r → IsKept numbers (claimed + 1) (with_claim r claimed)
+  kept_claim : (claimed : ℕ) (r : ClaimRecord) → claimed < numbers → IsClaimKept numbers claimed r → IsClaimKept numbers (claimed + 1) (with_claim r claimed)
   kept_claim claimed r left kept = record {
     numbers_is = kept.numbers_is;
     below = All-push (λ n. n < claimed + 1) r.claims claimed (All-weaker (λ n. n < claimed) (λ n. n < claimed + 1) (λ n lt. omega arith) r.claims kept.below) (omega arith);
@@ -115,15 +115,15 @@ module _ (numbers workers : ℕ) where
     ends = λ ended. absurd (let all = kept.ends ended in omega arith);
   }
 
-  after_number : (s : St) (k : Rule s) (id : ℕ) (r : Record) (words : List ℕ) → get_elem? s.views id ≡ some (r ∷ []) → k.word < numbers → words ≡ (k.word + 1) ∷ []
+  after_number : (s : St) (k : Rule s) (id : ℕ) (r : ClaimRecord) (words : List ℕ) → get_elem? s.views id ≡ some (r ∷ []) → k.word < numbers → words ≡ (k.word + 1) ∷ []
       → Rule (record { words = words; homes = s.homes; views = set s.views id (with_claim r k.claimed ∷ []) })
   after_number s k id r words at below now =
       let is = word_is s k below in
       let left : k.claimed < numbers = omega arith in
-      let w : List Record = with_claim r k.claimed ∷ [] in
-      let K : List Record → Type 0 = All (IsKept numbers (k.claimed + 1)) in
-      let mine : IsKept numbers k.claimed r = All-head (IsKept numbers k.claimed) r [] (all_at (All (IsKept numbers k.claimed)) s.views id (r ∷ []) at k.each) in
-      let others : All K s.views = All-weaker (All (IsKept numbers k.claimed)) K (λ v. All-weaker (IsKept numbers k.claimed) (IsKept numbers (k.claimed + 1)) (λ x. kept_on k.claimed x left) v) s.views k.each in
+      let w : List ClaimRecord = with_claim r k.claimed ∷ [] in
+      let K : List ClaimRecord → Type 0 = All (IsClaimKept numbers (k.claimed + 1)) in
+      let mine : IsClaimKept numbers k.claimed r = All-head (IsClaimKept numbers k.claimed) r [] (all_at (All (IsClaimKept numbers k.claimed)) s.views id (r ∷ []) at k.each) in
+      let others : All K s.views = All-weaker (All (IsClaimKept numbers k.claimed)) K (λ v. All-weaker (IsClaimKept numbers k.claimed) (IsClaimKept numbers (k.claimed + 1)) (λ x. kept_on k.claimed x left) v) s.views k.each in
       let ended = sum_at ended_in s.views id (r ∷ []) w at in
       let ended_was = ended-one r in
       let ended_is : ended_in w ≡ cond {A = ℕ} r.ended 1 0 = ended-one (with_claim r k.claimed) in
@@ -139,24 +139,24 @@ module _ (numbers workers : ℕ) where
         counts = omega arith;
         none_early = λ _. omega arith;
         partition = λ f.
-            let changed = sum_at (weigh f) s.views id (r ∷ []) w at in
-            let before = weigh-one f r in
-            let after : weigh f w ≡ sum_by f (r.claims ++ k.claimed ∷ []) = weigh-one f (with_claim r k.claimed) in
+            let changed = sum_at (weigh_claims f) s.views id (r ∷ []) w at in
+            let before = weigh_claims-one f r in
+            let after : weigh_claims f w ≡ sum_by f (r.claims ++ k.claimed ∷ []) = weigh_claims-one f (with_claim r k.claimed) in
             let more : sum_by f (r.claims ++ k.claimed ∷ []) ≡ sum_by f r.claims + f k.claimed = sum_by_push f r.claims k.claimed in
             let was = k.partition f in
             let range : sum_by f (range_with_len 0 (k.claimed + 1)) ≡ sum_by f (range_with_len 0 k.claimed) + f k.claimed = ap (sum_by f) (range_more k.claimed) ∙ sum_by_push f (range_with_len 0 k.claimed) k.claimed in
             omega arith;
         records = (let changed : sum_by length (set s.views id w) + 1 ≡ sum_by length s.views + 1 = sum_at length s.views id (r ∷ []) w at in let was = k.records in omega arith);
-        each = All-set K s.views id w (all_one (IsKept numbers (k.claimed + 1)) (with_claim r k.claimed) (kept_claim k.claimed r left mine)) others;
+        each = All-set K s.views id w (all_one (IsClaimKept numbers (k.claimed + 1)) (with_claim r k.claimed) (kept_claim k.claimed r left mine)) others;
       }
 
-  after_end : (s : St) (k : Rule s) (id : ℕ) (r : Record) (words : List ℕ) → get_elem? s.views id ≡ some (r ∷ []) → r.ended ≡ false → numbers ≤ k.word → words ≡ (k.word + 1) ∷ []
+  after_end : (s : St) (k : Rule s) (id : ℕ) (r : ClaimRecord) (words : List ℕ) → get_elem? s.views id ≡ some (r ∷ []) → r.ended ≡ false → numbers ≤ k.word → words ≡ (k.word + 1) ∷ []
       → Rule (record { words = words; homes = s.homes; views = set s.views id (with_end r ∷ []) })
   after_end s k id r words at going above now =
       let all = all_claimed s k above in
-      let w : List Record = with_end r ∷ [] in
-      let K : List Record → Type 0 = All (IsKept numbers k.claimed) in
-      let mine : IsKept numbers k.claimed r = All-head (IsKept numbers k.claimed) r [] (all_at K s.views id (r ∷ []) at k.each) in
+      let w : List ClaimRecord = with_end r ∷ [] in
+      let K : List ClaimRecord → Type 0 = All (IsClaimKept numbers k.claimed) in
+      let mine : IsClaimKept numbers k.claimed r = All-head (IsClaimKept numbers k.claimed) r [] (all_at K s.views id (r ∷ []) at k.each) in
       let ended = sum_at ended_in s.views id (r ∷ []) w at in
       let nought : ended_in (r ∷ []) ≡ 0 = ended-one r ∙ ap (λ (b : Bool). cond {A = ℕ} b 1 0) going in
       let one : ended_in w ≡ 1 = ended-one (with_end r) in
@@ -171,16 +171,16 @@ module _ (numbers workers : ℕ) where
         counts = omega arith;
         none_early = λ left. absurd (omega arith);
         partition = λ f.
-            let changed = sum_at (weigh f) s.views id (r ∷ []) w at in
-            let before = weigh-one f r in
-            let after : weigh f w ≡ sum_by f r.claims = weigh-one f (with_end r) in
+            let changed = sum_at (weigh_claims f) s.views id (r ∷ []) w at in
+            let before = weigh_claims-one f r in
+            let after : weigh_claims f w ≡ sum_by f r.claims = weigh_claims-one f (with_end r) in
             let was = k.partition f in
             omega arith;
         records = (let changed : sum_by length (set s.views id w) + 1 ≡ sum_by length s.views + 1 = sum_at length s.views id (r ∷ []) w at in let was = k.records in omega arith);
-        each = All-set K s.views id w (all_one (IsKept numbers k.claimed) (with_end r) (record { numbers_is = mine.numbers_is; below = mine.below; rises = mine.rises; ends = λ _. all })) k.each;
+        each = All-set K s.views id w (all_one (IsClaimKept numbers k.claimed) (with_end r) (record { numbers_is = mine.numbers_is; below = mine.below; rises = mine.rises; ends = λ _. all })) k.each;
       }
 
-  pub claims : (slots id : ℕ) (r : Record) → r.ended ≡ false
+  pub claims : (slots id : ℕ) (r : ClaimRecord) → r.ended ≡ false
       → Allows Rule slots id (r ∷ [], []) 0 (λ word. (word + 1) % 2 ^ 64) (ClaimTells (r ∷ [], []))
   claims slots id r going s k _ at _ =
       let word : ℕ = k.word in
@@ -188,15 +188,15 @@ module _ (numbers workers : ℕ) where
       let small = word_small s k in
       let next : (get_or s.words 0 0 + 1) % 2 ^ 64 ≡ word + 1 = ap (λ (x : ℕ). (x + 1) % 2 ^ 64) found ∙ mod-eq_of_lt (omega arith) in
       let now : set s.words 0 ((get_or s.words 0 0 + 1) % 2 ^ 64) ≡ (word + 1) ∷ [] = ap (λ (ws : List ℕ). set ws 0 ((get_or s.words 0 0 + 1) % 2 ^ 64)) k.words ∙ ap (λ (x : ℕ). x ∷ []) next in
-      let w : Record = after_claim r word in
-      let mine : IsKept numbers k.claimed r = All-head (IsKept numbers k.claimed) r [] (all_at (All (IsKept numbers k.claimed)) s.views id (r ∷ []) at k.each) in
+      let w : ClaimRecord = after_claim r word in
+      let mine : IsClaimKept numbers k.claimed r = All-head (IsClaimKept numbers k.claimed) r [] (all_at (All (IsClaimKept numbers k.claimed)) s.views id (r ∷ []) at k.each) in
       let limit : r.numbers ≡ numbers = mine.numbers_is in
       let counts = k.counts in
       let told : AfterClaim r (get_or s.words 0 0) (w ∷ []) = subst (λ (z : ℕ). AfterClaim r z (w ∷ [])) (sym found) (record {
         above = All-weaker (λ n. n < k.claimed) (λ n. n < word) (λ n lt. omega arith) r.claims mine.below;
         after = refl;
       }) in
-      let R : Record → Type 0 = λ x. Rule (record { words = set s.words 0 ((get_or s.words 0 0 + 1) % 2 ^ 64); homes = s.homes; views = set s.views id (x ∷ []) }) in
+      let R : ClaimRecord → Type 0 = λ x. Rule (record { words = set s.words 0 ((get_or s.words 0 0 + 1) % 2 ^ 64); homes = s.homes; views = set s.views id (x ∷ []) }) in
       let ruled : R w = ⊎_elim
       (λ (below : word < numbers).
       let claimed_is : with_claim r word ≡ with_claim r k.claimed = ap (with_claim r) (word_is s k below) in
@@ -210,24 +210,24 @@ module _ (numbers workers : ℕ) where
         keeps,
         tt,
         ruled,
-        (refl, λ x is _. subst (λ (y : Record). AfterClaim y (get_or s.words 0 0) (w ∷ [])) (ap (first_or r) is) told),
+        (refl, λ x is _. subst (λ (y : ClaimRecord). AfterClaim y (get_or s.words 0 0) (w ∷ [])) (ap (first_or r) is) told),
       )
 
-  pub claims_at : (slots id : ℕ) (me : Me (Unit {0}) (List Record)) (r : Record) (n : ℕ) → me.0 ≡ r ∷ [] → me.1 ≡ [] → n ≡ 1 → r.ended ≡ false
+  pub claims_at : (slots id : ℕ) (me : Me (Unit {0}) (List ClaimRecord)) (r : ClaimRecord) (n : ℕ) → me.0 ≡ r ∷ [] → me.1 ≡ [] → n ≡ 1 → r.ended ≡ false
       → Allows Rule slots id me 0 (λ word. (word + n) % 2 ^ 64) (ClaimTells me)
   claims_at slots id me r n view bare one going =
-      let A : Me (Unit {0}) (List Record) × ℕ → Type 0 = λ p. Allows Rule slots id p.0 0 (λ word. (word + p.1) % 2 ^ 64) (ClaimTells p.0) in
+      let A : Me (Unit {0}) (List ClaimRecord) × ℕ → Type 0 = λ p. Allows Rule slots id p.0 0 (λ word. (word + p.1) % 2 ^ 64) (ClaimTells p.0) in
       subst A (λ i. ((sym view i, sym bare i), sym one i)) (claims slots id r going)
 
   -- one view becomes two, which weigh together what it weighed
-  splits : (id : ℕ) (v left right : List Record)
-      → ((f : ℕ → ℕ) → weigh f left + weigh f right ≡ weigh f v) → length left + length right ≡ length v → ended_in left + ended_in right ≡ ended_in v
-      → ((P : Record → Type 0) → All P v → All P left × All P right) → Splits Rule id v left right
+  splits : (id : ℕ) (v left right : List ClaimRecord)
+      → ((f : ℕ → ℕ) → weigh_claims f left + weigh_claims f right ≡ weigh_claims f v) → length left + length right ≡ length v → ended_in left + ended_in right ≡ ended_in v
+      → ((P : ClaimRecord → Type 0) → All P v → All P left × All P right) → Splits Rule id v left right
   splits id v left right weights lengths ends parts s k at =
-      let views : List (List Record) = set s.views id left in
-      let sum_of = λ (g : List Record → ℕ). sum_by_push g views right in
-      let P : List Record → Type 0 = All (IsKept numbers k.claimed) in
-      let both = parts (IsKept numbers k.claimed) (all_at P s.views id v at k.each) in
+      let views : List (List ClaimRecord) = set s.views id left in
+      let sum_of = λ (g : List ClaimRecord → ℕ). sum_by_push g views right in
+      let P : List ClaimRecord → Type 0 = All (IsClaimKept numbers k.claimed) in
+      let both = parts (IsClaimKept numbers k.claimed) (all_at P s.views id v at k.each) in
       let ended : sum_by ended_in (views ++ right ∷ []) ≡ sum_by ended_in s.views = (let sums = sum_of ended_in in let changed = sum_at ended_in s.views id v left at in omega arith) in
       record {
         few_numbers = k.few_numbers;
@@ -238,18 +238,18 @@ module _ (numbers workers : ℕ) where
         within = k.within;
         counts = (let was = k.counts in omega arith);
         none_early = λ early. ended ∙ k.none_early early;
-        partition = λ f. (let sums = sum_of (weigh f) in let changed = sum_at (weigh f) s.views id v left at in let was = k.partition f in let w = weights f in omega arith);
+        partition = λ f. (let sums = sum_of (weigh_claims f) in let changed = sum_at (weigh_claims f) s.views id v left at in let was = k.partition f in let w = weights f in omega arith);
         records = (let sums = sum_of length in let changed = sum_at length s.views id v left at in let was = k.records in omega arith);
         each = All-push P views right (All-set P s.views id left both.0 k.each) both.1;
       }
 
-  weigh_two : (f : ℕ → ℕ) (v w : List Record) → weigh f (v ++ w) ≡ weigh f v + weigh f w
-  weigh_two f v w = sum_by-append (λ (r : Record). sum_by f r.claims) v w
+  weigh_two : (f : ℕ → ℕ) (v w : List ClaimRecord) → weigh_claims f (v ++ w) ≡ weigh_claims f v + weigh_claims f w
+  weigh_two f v w = sum_by-append (λ (r : ClaimRecord). sum_by f r.claims) v w
 
-  ended_two : (v w : List Record) → ended_in (v ++ w) ≡ ended_in v + ended_in w
-  ended_two v w = sum_by-append (λ (r : Record). cond {A = ℕ} r.ended 1 0) v w
+  ended_two : (v w : List ClaimRecord) → ended_in (v ++ w) ≡ ended_in v + ended_in w
+  ended_two v w = sum_by-append (λ (r : ClaimRecord). cond {A = ℕ} r.ended 1 0) v w
 
-  pub splits_first : (id : ℕ) (v : List Record) → Splits Rule id v (drop 1 v) (take 1 v)
+  pub splits_first : (id : ℕ) (v : List ClaimRecord) → Splits Rule id v (drop 1 v) (take 1 v)
   splits_first id [] = splits id [] [] [] (λ f. refl) refl refl (λ P all. (all, all))
   splits_first id (r ∷ v) = splits id (r ∷ v) v (r ∷ [])
       (λ f. let e = weigh_two f (r ∷ []) v in omega arith)
@@ -258,11 +258,11 @@ module _ (numbers workers : ℕ) where
       (λ P all. (All-tail P r v all, all_one P r (All-head P r v all)))
 
   -- two views become one, which weighs what they weighed
-  pub merges : (id other : ℕ) (v w : List Record) → Joins Rule id v other w (v ++ w) []
+  pub merges : (id other : ℕ) (v w : List ClaimRecord) → Joins Rule id v other w (v ++ w) []
   merges id other v w s k at apart there =
-      let both : List Record = v ++ w in
-      let views : List (List Record) = set s.views id both in
-      let P : List Record → Type 0 = All (IsKept numbers k.claimed) in
+      let both : List ClaimRecord = v ++ w in
+      let views : List (List ClaimRecord) = set s.views id both in
+      let P : List ClaimRecord → Type 0 = All (IsClaimKept numbers k.claimed) in
       let between : get_elem? s.views other ≡ some w = sym (set_else s.views id other both apart) ∙ there in
       let mine : P v = all_at P s.views id v at k.each in
       let theirs : P w = all_at P s.views other w between k.each in
@@ -276,15 +276,15 @@ module _ (numbers workers : ℕ) where
         within = k.within;
         counts = (let was = k.counts in omega arith);
         none_early = λ early. ended ∙ k.none_early early;
-        partition = λ f. (let first = sum_at (weigh f) s.views id v both at in let second = sum_at (weigh f) views other w [] there in let was = k.partition f in let two = weigh_two f v w in omega arith);
+        partition = λ f. (let first = sum_at (weigh_claims f) s.views id v both at in let second = sum_at (weigh_claims f) views other w [] there in let was = k.partition f in let two = weigh_two f v w in omega arith);
         records = (let first = sum_at length s.views id v both at in let second = sum_at length views other w [] there in let was = k.records in let two = length-append v w in omega arith);
-        each = All-set P views other [] (All-nil (IsKept numbers k.claimed)) (All-set P s.views id both (All-append (IsKept numbers k.claimed) v w mine theirs) k.each);
+        each = All-set P views other [] (All-nil (IsClaimKept numbers k.claimed)) (All-set P s.views id both (All-append (IsClaimKept numbers k.claimed) v w mine theirs) k.each);
       }
 
   pub enters : (slots : ℕ) → Enters Rule slots 0 (λ word view. view ≡ [])
   enters slots s k _ _ =
-      let P : List Record → Type 0 = All (IsKept numbers k.claimed) in
-      let sum_of = λ (g : List Record → ℕ). sum_by_push g s.views [] in
+      let P : List ClaimRecord → Type 0 = All (IsClaimKept numbers k.claimed) in
+      let sum_of = λ (g : List ClaimRecord → ℕ). sum_by_push g s.views [] in
       let ended : sum_by ended_in (s.views ++ [] ∷ []) ≡ sum_by ended_in s.views = (let sums = sum_of ended_in in omega arith) in (
         [],
         record {
@@ -296,15 +296,15 @@ module _ (numbers workers : ℕ) where
           within = k.within;
           counts = (let was = k.counts in omega arith);
           none_early = λ early. ended ∙ k.none_early early;
-          partition = λ f. (let sums = sum_of (weigh f) in let was = k.partition f in omega arith);
+          partition = λ f. (let sums = sum_of (weigh_claims f) in let was = k.partition f in omega arith);
           records = (let sums = sum_of length in let was = k.records in omega arith);
-          each = All-push P s.views [] k.each (All-nil (IsKept numbers k.claimed));
+          each = All-push P s.views [] k.each (All-nil (IsClaimKept numbers k.claimed));
         },
         refl,
       )
 
   -- before the first step
-  kept-opened : IsKept numbers 0 (opened numbers)
+  kept-opened : IsClaimKept numbers 0 (nothing_claimed numbers)
   kept-opened = record {
     numbers_is = refl;
     below = All-nil (λ n. n < 0);
@@ -312,11 +312,11 @@ module _ (numbers workers : ℕ) where
     ends = λ ended. absurd (true≢false (sym ended));
   }
 
-  pub begins : numbers ≤ 2 ^ 16 → workers ≤ 64 → Rule (opening (0 ∷ []) [] (replicate workers (opened numbers)))
+  pub begins : numbers ≤ 2 ^ 16 → workers ≤ 64 → Rule (opening (0 ∷ []) [] (replicate workers (nothing_claimed numbers)))
   begins few_numbers few_workers =
-      let v : List Record = replicate workers (opened numbers) in
-      let sum_of = λ (g : List Record → ℕ). sum_by-cons g v [] in
-      let ended : sum_by ended_in (v ∷ []) ≡ 0 = (let sums = sum_of ended_in in let none : ended_in v ≡ workers * 0 = sum_by-replicate (λ (r : Record). cond {A = ℕ} r.ended 1 0) workers (opened numbers) in omega arith) in
+      let v : List ClaimRecord = replicate workers (nothing_claimed numbers) in
+      let sum_of = λ (g : List ClaimRecord → ℕ). sum_by-cons g v [] in
+      let ended : sum_by ended_in (v ∷ []) ≡ 0 = (let sums = sum_of ended_in in let none : ended_in v ≡ workers * 0 = sum_by-replicate (λ (r : ClaimRecord). cond {A = ℕ} r.ended 1 0) workers (nothing_claimed numbers) in omega arith) in
       record {
         few_numbers = few_numbers;
         few_workers = few_workers;
@@ -326,23 +326,23 @@ module _ (numbers workers : ℕ) where
         within = omega arith;
         counts = omega arith;
         none_early = λ _. ended;
-        partition = λ f. (let sums = sum_of (weigh f) in let none : weigh f v ≡ workers * 0 = sum_by-replicate (λ (r : Record). sum_by f r.claims) workers (opened numbers) in omega arith);
-        records = (let sums = sum_of length in let n = length-replicate workers (opened numbers) in omega arith);
-        each = all_one (All (IsKept numbers 0)) v (All-replicate (IsKept numbers 0) workers (opened numbers) kept-opened);
+        partition = λ f. (let sums = sum_of (weigh_claims f) in let none : weigh_claims f v ≡ workers * 0 = sum_by-replicate (λ (r : ClaimRecord). sum_by f r.claims) workers (nothing_claimed numbers) in omega arith);
+        records = (let sums = sum_of length in let n = length-replicate workers (nothing_claimed numbers) in omega arith);
+        each = all_one (All (IsClaimKept numbers 0)) v (All-replicate (IsClaimKept numbers 0) workers (nothing_claimed numbers) kept-opened);
       }
 
   -- after the last step
-  none_weigh : (f : ℕ → ℕ) (v : List Record) → length v ≡ 0 → weigh f v ≡ 0
+  none_weigh : (f : ℕ → ℕ) (v : List ClaimRecord) → length v ≡ 0 → weigh_claims f v ≡ 0
   none_weigh f [] e = refl
   none_weigh f (r ∷ v) e = absurd (omega arith)
 
-  pub ends : (s : St) (k : Rule s) (id : ℕ) (v : List Record) → get_elem? s.views id ≡ some v → IsClosed numbers workers v
+  pub ends : (s : St) (k : Rule s) (id : ℕ) (v : List ClaimRecord) → get_elem? s.views id ≡ some v → AreClaimsClosed numbers workers v
   ends s k id v there =
       record {
         claimed = k.claimed;
         within = k.within;
-        each = all_at (All (IsKept numbers k.claimed)) s.views id v there k.each;
+        each = all_at (All (IsClaimKept numbers k.claimed)) s.views id v there k.each;
         all = λ whole f.
-            let only = only_at length (weigh f) s.views id v [] there refl refl (none_weigh f) (k.records ∙ sym whole) in
+            let only = only_at length (weigh_claims f) s.views id v [] there refl refl (none_weigh f) (k.records ∙ sym whole) in
             sym only ∙ k.partition f;
       }

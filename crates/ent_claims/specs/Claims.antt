@@ -4,10 +4,10 @@ use Rattle.std.specs.Prelude.{Bool, true, slice_get, Some, refl, flat_map, IsPer
 use Rattle.std.specs.List.{range_with_len}
 use Rattle.std.specs.Coded.{Coded, code_by, coded×, coded_ℕ}
 use Rattle.atomic_table.specs.Seated.{TableId, table_id_coded}
-use Rattle.ent_claims.specs.contracts.record.Record as recorded
-use Rattle.ent_claims.specs.declared.record.Record.{Record}
+use Rattle.ent_claims.specs.contracts.record.ClaimRecord as recorded
+use Rattle.ent_claims.specs.declared.record.ClaimRecord.{ClaimRecord}
 use Rattle.ent_claims.specs.declared.rule.Opening.{Opening}
-use Rattle.ent_claims.specs.Record.{own_of}
+use Rattle.ent_claims.specs.Record.{claims_of}
 
 -- which atomic word it is, the numbers below what can be claimed, and how many workers claim them
 pub record Claims : Type 0 where
@@ -18,7 +18,7 @@ pub record Claims : Type 0 where
 -- which word it claims from, and what it has claimed
 pub record Claimer : Type 0 where
   pub word : TableId
-  pub own : Record
+  pub own : ClaimRecord
 
 abbrev pub claims_code : Coded Claims
 claims_code =
@@ -28,11 +28,11 @@ claims_code =
 
 abbrev pub claimer_code : Coded Claimer
 claimer_code =
-    code_by (TableId × Record) (coded× table_id_coded recorded.the_row.coded)
+    code_by (TableId × ClaimRecord) (coded× table_id_coded recorded.the_row.coded)
     (λ c. (c.word, c.own)) (λ p. record { word = p.0; own = p.1 }) (λ _. refl)
 
 -- The claimer is one of those that came with these claims.
-pub record IsOf (claims : Claims) (c : Claimer) : Type 0 where
+pub record IsClaimerOf (claims : Claims) (c : Claimer) : Type 0 where
   pub word : c.word ≡ claims.word
   pub numbers : c.own.numbers ≡ claims.numbers
   -- what it has claimed is below the count, and rises
@@ -61,9 +61,9 @@ abbrev pub HaveEnded : List Claimer → Type 0
 HaveEnded claimers = All (λ (c : Claimer). c.own.ended ≡ true) claimers
 
 -- A claimer's field says what its record says.
-pub record IsSeated (views : List (List Record)) (ended : Bool) : Type 0 where
-  pub views_is : views ≡ (own_of views ∷ []) ∷ []
-  pub ended_is : ended ≡ (own_of views).ended
+pub record IsClaimerSeated (views : List (List ClaimRecord)) (ended : Bool) : Type 0 where
+  pub views_is : views ≡ (claims_of views ∷ []) ∷ []
+  pub ended_is : ended ≡ (claims_of views).ended
 
 -- the numbers lie beside the word
 pub record IsOpen (numbers workers : ℕ) (key : Opening) (word : TableId) : Type 0 where

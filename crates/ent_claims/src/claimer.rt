@@ -15,25 +15,25 @@ pub struct Claimer {
 }
 
 impl Model for Claimer {
-    ghost use Rattle.ent_claims.specs.Record.{own_of};
-    ghost use Rattle.ent_claims.specs.Claims.{Claimer, claimer_code, IsSeated};
+    ghost use Rattle.ent_claims.specs.Record.{claims_of};
+    ghost use Rattle.ent_claims.specs.Claims.{Claimer, claimer_code, IsClaimerSeated};
 
     ghost Value = { Claimer };
 
     ghost coded = { claimer_code };
 
-    ghost view = { λ c. record { word = c.badge.table_id; own = own_of c.badge.views } };
+    ghost view = { λ c. record { word = c.badge.table_id; own = claims_of c.badge.views } };
 
-    ghost invariant = { λ c. IsSeated c.badge.views c.ended };
+    ghost invariant = { λ c. IsClaimerSeated c.badge.views c.ended };
 }
 
 impl Claimer {
-    ghost use Rattle.ent_claims.specs.Record.{own_of};
-    ghost use Rattle.ent_claims.specs.Claims.{IsSeated};
+    ghost use Rattle.ent_claims.specs.Record.{claims_of};
+    ghost use Rattle.ent_claims.specs.Claims.{IsClaimerSeated};
 
     pub(crate) fn new(badge: Badge<SeatRecords>) -> Self
-        requires { IsSeated badge.views false }
-        ensures { result ≡ record { word = badge.table_id; own = own_of badge.views } }
+        requires { IsClaimerSeated badge.views false }
+        ensures { result ≡ record { word = badge.table_id; own = claims_of badge.views } }
     {
         Claimer {
             badge,

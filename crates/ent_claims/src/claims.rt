@@ -1,7 +1,7 @@
 ghost use Rattle.std.specs.Prelude.{◌≡◌, ◌<◌, ◌≤◌, ◌^◌, ℕ, [], ◌∷◌, ◌++◌, length, All, flat_map};
 ghost use Rattle.std.specs.Prelude.{IsPermutation, IfOk, IfSome, IfNone, None, true, false};
 ghost use Rattle.std.specs.List.{range_with_len};
-ghost use Rattle.ent_claims.specs.Claims.{IsOpen, IsOf, IsClaimedBy, HaveEnded, AreFirst};
+ghost use Rattle.ent_claims.specs.Claims.{IsOpen, IsClaimerOf, IsClaimedBy, HaveEnded, AreFirst};
 
 use crate::claimer::Claimer;
 use crate::rule::Opening;
@@ -53,7 +53,7 @@ impl Claims {
         ensures numbers { IfOk result (λ made. made.0.numbers ≡ numbers) }
         ensures workers { IfOk result (λ made. made.0.workers ≡ workers) }
         ensures count { IfOk result (λ made. length made.1.items ≡ workers) }
-        ensures own { IfOk result (λ made. All (IsOf made.0) made.1.items) }
+        ensures own { IfOk result (λ made. All (IsClaimerOf made.0) made.1.items) }
         ensures unused { IfOk result (λ made. All (λ c.
             (c.own.claims ≡ []) × (c.own.ended ≡ false)) made.1.items) }
     {
@@ -70,8 +70,8 @@ impl Claims {
     /// no number is left, and the claimer has ended: from then on it answers `None` without a step.
     /// It takes no memory and waits for nobody.
     pub fn next(&self, claimer: &mut Claimer) -> Option<usize>
-        requires { IsOf self.now claimer.old }
-        ensures stays { IsOf self.now claimer.new }
+        requires { IsClaimerOf self.now claimer.old }
+        ensures stays { IsClaimerOf self.now claimer.new }
 
         // A number is below the count, and above all that this claimer had claimed before.
         ensures below { IfSome result (λ n. n < self.now.numbers) }
@@ -99,7 +99,7 @@ impl Claims {
     /// Ends the claiming, with all its claimers. It takes no memory.
     pub fn close(self, claimers: Vec<Claimer>)
         requires all { length claimers.items ≡ self.workers }
-        requires own { All (IsOf self) claimers.items }
+        requires own { All (IsClaimerOf self) claimers.items }
 
         // No number is claimed by two claimers.
         ensures apart { (n j k : ℕ) → IsClaimedBy claimers.items n j

@@ -9,4 +9,4 @@ mod word;
 
 pub use claimer::Claimer;
 pub use claims::Claims;
-pub use record::Record;
+pub use record::ClaimRecord;

@@ -3,7 +3,7 @@
 use std::collections::LinkedList;
 
 /// One claimer's record.
-pub struct Record {
+pub struct ClaimRecord {
     /// The numbers below this one can be claimed.
     pub numbers: u64,
     /// The numbers that it has claimed, in order.

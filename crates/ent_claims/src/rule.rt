@@ -1,14 +1,14 @@
 //! The rule over the claim word and the records of all claimers, and what its steps tell.
-ghost use Rattle.ent_claims.specs.Rule.{IsRuled, ClaimTells};
-ghost use Rattle.ent_claims.specs.Record.{opened};
+ghost use Rattle.ent_claims.specs.Rule.{AreClaimsRuled, ClaimTells};
+ghost use Rattle.ent_claims.specs.Record.{nothing_claimed};
 ghost use Rattle.std.specs.Prelude.{◌≡◌, List, [], ◌∷◌, ◌++◌, take, drop, replicate};
 
-use crate::record::Record;
+use crate::record::ClaimRecord;
 use atomic_table::{Join, Play, Split, TableRule};
 use std::collections::LinkedList;
 
 /// What a seat knows: the records of the claimers that it stands for.
-pub(crate) type SeatRecords = LinkedList<Record>;
+pub(crate) type SeatRecords = LinkedList<ClaimRecord>;
 
 /// How many numbers there are to claim, and how many claimers.
 #[derive(Drop)]
@@ -20,9 +20,9 @@ pub(crate) struct Opening {
 pub(crate) struct Numbers;
 
 impl TableRule<(), SeatRecords, Opening> for Numbers {
-    ghost holds = { λ opening. IsRuled opening.numbers opening.workers };
+    ghost holds = { λ opening. AreClaimsRuled opening.numbers opening.workers };
 
-    ghost first = { λ opening. replicate opening.workers (opened opening.numbers) };
+    ghost first = { λ opening. replicate opening.workers (nothing_claimed opening.numbers) };
 }
 
 /// A claim.

@@ -1,10 +1,10 @@
 //! The claim word: what each kind of step does to the word and to the records.
 ghost use Rattle.std.specs.Prelude.{◌≡◌, ◌<◌, ◌≤◌, ◌^◌, List, [], ◌∷◌, ◌++◌, take, drop, All};
 ghost use Rattle.std.specs.Prelude.{IfOk, false, replicate};
-ghost use Rattle.ent_claims.specs.Record.{opened, after_claim, own_of};
-ghost use Rattle.ent_claims.specs.Rule.{IsClosed};
+ghost use Rattle.ent_claims.specs.Record.{nothing_claimed, after_claim, claims_of};
+ghost use Rattle.ent_claims.specs.Rule.{AreClaimsClosed};
 ghost use Rattle.ent_claims.specs.Claims.{IsOpen};
-ghost use Rattle.ent_claims.specs.declared.record.Record.{Record};
+ghost use Rattle.ent_claims.specs.declared.record.ClaimRecord.{ClaimRecord};
 
 use crate::rule::{Claim, Merge, NewSeat, Numbers, Opening, SeatRecords, SplitFirst};
 use atomic_table::{Badge, Seat, Table};
@@ -23,7 +23,7 @@ pub(crate) fn open(alloc: Global, opening: &Opening) -> Result<(Word, WordSeat),
     ensures word { IfOk result (λ made. IsOpen opening.now.numbers opening.now.workers
         made.0.shared.key made.0.shared.table_id) }
     ensures seat { IfOk result (λ made. (made.1.table_id ≡ made.0.shared.table_id)
-        × (made.1.me ≡ (replicate opening.now.workers (opened opening.now.numbers), []))) }
+        × (made.1.me ≡ (replicate opening.now.workers (nothing_claimed opening.now.numbers), []))) }
 {
     Table::of_words(alloc, &[0], opening)
 }
@@ -44,12 +44,12 @@ pub(crate) fn split_first(word: &Word, all: &mut WordSeat) -> Badge<SeatRecords>
 pub(crate) fn claim(word: &Word, badge: &mut Badge<SeatRecords>) -> u64
     requires word { (word.now.shared.table_id.words ≡ 1)
         × (badge.old.table_id ≡ word.now.shared.table_id) }
-    requires alone { badge.old.views ≡ (own_of badge.old.views ∷ []) ∷ [] }
-    requires goes_on { (own_of badge.old.views).ended ≡ false }
+    requires alone { badge.old.views ≡ (claims_of badge.old.views ∷ []) ∷ [] }
+    requires goes_on { (claims_of badge.old.views).ended ≡ false }
     ensures same { badge.new.table_id ≡ badge.old.table_id }
     ensures claims { badge.new.views
-        ≡ (after_claim (own_of badge.old.views) result ∷ []) ∷ [] }
-    ensures above { All (λ n. n < result) (own_of badge.old.views).claims }
+        ≡ (after_claim (claims_of badge.old.views) result ∷ []) ∷ [] }
+    ensures above { All (λ n. n < result) (claims_of badge.old.views).claims }
 {
     let mut seat = mem::replace(badge, Badge::blank()).into_seat();
     let found = word.shared.fetch_add::<Claim>(&mut seat, 0, 1);
@@ -71,9 +71,9 @@ pub(crate) fn merge(word: &Word, all: &mut WordSeat, badge: Badge<SeatRecords>)
         × (all.old.table_id ≡ word.now.shared.table_id)
         × (badge.table_id ≡ word.now.shared.table_id)
         × (all.old.me.1 ≡ []) }
-    requires one { (records : List Record) × (badge.views ≡ records ∷ []) }
+    requires one { (records : List ClaimRecord) × (badge.views ≡ records ∷ []) }
     ensures kept { all.new.table_id ≡ all.old.table_id }
-    ensures merges { (all.new.me.1 ≡ []) × ((records : List Record) → badge.views ≡ records ∷ []
+    ensures merges { (all.new.me.1 ≡ []) × ((records : List ClaimRecord) → badge.views ≡ records ∷ []
         → all.new.me.0 ≡ all.old.me.0 ++ records) }
 {
     word.shared.join_seat::<Merge>(all, badge.into_seat());
@@ -83,7 +83,7 @@ pub(crate) fn merge(word: &Word, all: &mut WordSeat, badge: Badge<SeatRecords>)
 pub(crate) fn close(word: Word, all: WordSeat)
     requires word { (word.shared.table_id.words ≡ 1) × (word.shared.table_id.slots ≡ 0)
         × (all.table_id ≡ word.shared.table_id) }
-    ensures { IsClosed word.shared.key.numbers word.shared.key.workers all.me.0 }
+    ensures { AreClaimsClosed word.shared.key.numbers word.shared.key.workers all.me.0 }
 {
     word.close_with(all).free();
 }

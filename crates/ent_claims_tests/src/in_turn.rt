@@ -1,6 +1,6 @@
 //! Claimers that claim in turn.
 ghost use Rattle.std.specs.Prelude.{All};
-ghost use Rattle.ent_claims.specs.Claims.{IsOf};
+ghost use Rattle.ent_claims.specs.Claims.{IsClaimerOf};
 
 use crate::opening::{last, opened};
 use crate::worker::Worker;
@@ -74,7 +74,7 @@ fn each_number_of_workers(rt: HostRuntime) {
 
 /// One number for each claimer, in their order.
 fn assert_in_turn(rt: &impl Abort, claims: &Claims, mut claimers: Vec<Claimer>)
-    requires { All (IsOf claims.now) claimers.items }
+    requires { All (IsClaimerOf claims.now) claimers.items }
 {
     for number in 0..claimers.len() {
         let mut claimer = last(rt, claims, &mut claimers);

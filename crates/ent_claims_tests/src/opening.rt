@@ -1,6 +1,6 @@
 //! The beginning and the end of the claiming.
 ghost use Rattle.std.specs.Prelude.{◌≡◌, ◌<◌, ◌≤◌, ◌^◌, All, length};
-ghost use Rattle.ent_claims.specs.Claims.{IsOf};
+ghost use Rattle.ent_claims.specs.Claims.{IsClaimerOf};
 
 use crate::worker::Worker;
 use ent_claims::{Claimer, Claims};
@@ -20,16 +20,16 @@ pub fn opened(
     ensures numbers { result.0.numbers ≡ numbers }
     ensures workers { result.0.workers ≡ workers }
     ensures count { length result.1.items ≡ workers }
-    ensures own { All (IsOf result.0) result.1.items }
+    ensures own { All (IsClaimerOf result.0) result.1.items }
 {
     Claims::open(alloc, numbers, workers).expect(rt, "memory for the claimers")
 }
 
 /// The last claimer of a list.
 pub fn last(rt: &impl Abort, claims: &Claims, claimers: &mut Vec<Claimer>) -> Claimer
-    requires { All (IsOf claims.now) claimers.old.items }
-    ensures rest { All (IsOf claims.now) claimers.new.items }
-    ensures last { IsOf claims.now result }
+    requires { All (IsClaimerOf claims.now) claimers.old.items }
+    ensures rest { All (IsClaimerOf claims.now) claimers.new.items }
+    ensures last { IsClaimerOf claims.now result }
 {
     let _claims = claims;
     claimers.pop().expect(rt, "a claimer for each")
@@ -42,9 +42,9 @@ pub fn workers(
     claims: &Claims,
     mut claimers: Vec<Claimer>,
 ) -> Vec<Worker>
-    requires { All (IsOf claims.now) claimers.items }
+    requires { All (IsClaimerOf claims.now) claimers.items }
     ensures count { length result.items ≡ length claimers.items }
-    ensures own { All (λ w. IsOf claims.now w.claimer) result.items }
+    ensures own { All (λ w. IsClaimerOf claims.now w.claimer) result.items }
 {
     let mut workers = Vec::new(alloc);
     for _ in 0..claimers.len() {
@@ -58,9 +58,9 @@ pub fn workers(
 
 /// The last worker of a list.
 fn last_worker(rt: &impl Abort, claims: &Claims, workers: &mut Vec<Worker>) -> Worker
-    requires { All (λ w. IsOf claims.now w.claimer) workers.old.items }
-    ensures rest { All (λ w. IsOf claims.now w.claimer) workers.new.items }
-    ensures last { IsOf claims.now result.claimer }
+    requires { All (λ w. IsClaimerOf claims.now w.claimer) workers.old.items }
+    ensures rest { All (λ w. IsClaimerOf claims.now w.claimer) workers.new.items }
+    ensures last { IsClaimerOf claims.now result.claimer }
 {
     let _claims = claims;
     workers.pop().expect(rt, "a worker for each")
@@ -74,7 +74,7 @@ pub fn closed(
     mut workers: Vec<Worker>,
 ) -> Vec<usize>
     requires all { length workers.items ≡ claims.workers }
-    requires own { All (λ w. IsOf claims w.claimer) workers.items }
+    requires own { All (λ w. IsClaimerOf claims w.claimer) workers.items }
 {
     let mut claimers = Vec::new(alloc);
     let mut claimed = Vec::new(alloc);

@@ -1,6 +1,6 @@
 //! Threads that claim side by side.
 ghost use Rattle.std.specs.Prelude.{◌≡◌, All, length, true};
-ghost use Rattle.ent_claims.specs.Claims.{IsOf};
+ghost use Rattle.ent_claims.specs.Claims.{IsClaimerOf};
 
 use crate::gate::Gate;
 use crate::opening::{closed, opened, workers};
@@ -18,9 +18,9 @@ fn all_beside<R: Threads + Sync + Abort>(
     numbers: usize,
 ) -> Vec<Worker>
     requires numbers { claims.now.numbers ≡ numbers }
-    requires own { All (λ w. IsOf claims.now w.claimer) workers.items }
+    requires own { All (λ w. IsClaimerOf claims.now w.claimer) workers.items }
     ensures count { length result.items ≡ length workers.items }
-    ensures own { All (λ w. IsOf claims.now w.claimer) result.items }
+    ensures own { All (λ w. IsClaimerOf claims.now w.claimer) result.items }
     ensures ended { All (λ w. w.claimer.own.ended ≡ true) result.items }
 {
     map_vec(rt, workers, &|worker| worker.beside(claims, gate, numbers)).expect(

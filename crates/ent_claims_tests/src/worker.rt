@@ -1,5 +1,5 @@
 ghost use Rattle.std.specs.Prelude.{◌≡◌, true};
-ghost use Rattle.ent_claims.specs.Claims.{IsOf};
+ghost use Rattle.ent_claims.specs.Claims.{IsClaimerOf};
 
 use crate::gate::Gate;
 use ent_claims::{Claimer, Claims};
@@ -27,8 +27,8 @@ impl Worker {
     /// Claims until it has ended, once all threads have entered.
     pub fn beside(mut self, claims: &Claims, gate: &Gate, numbers: usize) -> Worker
         requires numbers { claims.now.numbers ≡ numbers }
-        requires own { IsOf claims.now self.claimer }
-        ensures own { IsOf claims.now result.claimer }
+        requires own { IsClaimerOf claims.now self.claimer }
+        ensures own { IsClaimerOf claims.now result.claimer }
         ensures ended { result.claimer.own.ended ≡ true }
     {
         self.saw_all = gate.enter();
@@ -38,8 +38,8 @@ impl Worker {
     /// Claims until it has ended.
     pub fn alone(mut self, claims: &Claims, numbers: usize) -> Worker
         requires numbers { claims.now.numbers ≡ numbers }
-        requires own { IsOf claims.now self.claimer }
-        ensures own { IsOf claims.now result.claimer }
+        requires own { IsClaimerOf claims.now self.claimer }
+        ensures own { IsClaimerOf claims.now result.claimer }
         ensures ended { result.claimer.own.ended ≡ true }
     {
         for _ in 0..=numbers {

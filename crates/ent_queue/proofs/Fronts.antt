@@ -7,11 +7,11 @@ use Rattle.ent_queue.specs.Command.{Bundle, Command, Spawn, SpawnMany, Insert, R
 use Rattle.ent_queue.specs.Command.{Refused, IsBundle, IsRefusal, IsCommand}
 use Rattle.ent_queue.specs.Packing.{bytes_4, handle_bytes, bundle_bytes, refusal_bytes}
 use Rattle.ent_queue.specs.Packing.{command_bytes}
-use Rattle.ent_queue.specs.Unpacking.{number_2, number_4, handle_in, handles_in, bundle_in}
-use Rattle.ent_queue.specs.Unpacking.{refusal_in, after_command, BeginsWith}
+use Rattle.ent_queue.specs.Unpacking.{number_2, number_4, unpacked_handle, unpacked_handles, unpacked_bundle}
+use Rattle.ent_queue.specs.Unpacking.{unpacked_refusal, after_first, BeginsWith}
 use Rattle.ent_queue.proofs.Parts.{BundleBegins}
 use Rattle.ent_queue.proofs.Queues.{WithBundle, with_bundle, with_handles, with_component}
-use Rattle.ent_queue.proofs.Queues.{handle_alone, with_reason, after_command-bytes}
+use Rattle.ent_queue.proofs.Queues.{handle_alone, with_reason, after_first-bytes}
 
 -- some command stands at the front
 abbrev pub Begins : List ℕ → Type 0
@@ -20,7 +20,7 @@ Begins bytes = (c : Command) × (rest : List ℕ) × BeginsWith c bytes rest
 pub record BundleAt (bytes rest : List ℕ) : Type 0 where
   pub header : 2 ≤ length bytes
   pub items : 2 + 9 * number_2 bytes ≤ length bytes
-  pub is : IsBundle (bundle_in bytes)
+  pub is : IsBundle (unpacked_bundle bytes)
   pub rest_is : drop (9 * number_2 bytes) (drop 2 bytes) ≡ rest
 
 bundle_at : (items : Bundle) (bytes rest : List ℕ) → IsBundle items → BundleBegins items bytes rest → BundleAt bytes rest
@@ -33,30 +33,30 @@ bundle_at items bytes rest is begins = record {
 
 pub record HandleAndBundle (parts rest : List ℕ) : Type 0 where
   pub long : 8 ≤ length parts
-  pub is : IsHandle (handle_in parts)
+  pub is : IsHandle (unpacked_handle parts)
   pub bundle : BundleAt (drop 8 parts) rest
 
 pub record HandlesAndBundle (parts rest : List ℕ) : Type 0 where
   pub header : 4 ≤ length parts
   pub long : 8 * number_4 parts ≤ length (drop 4 parts)
-  pub each : All IsHandle (handles_in (number_4 parts) (drop 4 parts))
+  pub each : All IsHandle (unpacked_handles (number_4 parts) (drop 4 parts))
   pub bundle : BundleAt (drop (8 * number_4 parts) (drop 4 parts)) rest
 
 pub record HandleAndComponent (parts rest : List ℕ) : Type 0 where
   pub long : 8 ≤ length parts
-  pub is : IsHandle (handle_in parts)
+  pub is : IsHandle (unpacked_handle parts)
   pub more : 1 ≤ length (drop 8 parts)
   pub rest_is : drop 1 (drop 8 parts) ≡ rest
 
 pub record OneHandle (parts rest : List ℕ) : Type 0 where
   pub long : 8 ≤ length parts
-  pub is : IsHandle (handle_in parts)
+  pub is : IsHandle (unpacked_handle parts)
   pub rest_is : drop 8 parts ≡ rest
 
 pub record Reason (parts rest : List ℕ) : Type 0 where
   pub header : 4 ≤ length parts
   pub long : 9 ≤ length (drop 4 parts)
-  pub is : IsRefusal (number_4 parts) (refusal_in (number_4 parts) (drop 4 parts))
+  pub is : IsRefusal (number_4 parts) (unpacked_refusal (number_4 parts) (drop 4 parts))
   pub rest_is : drop 8 (drop 1 (drop 4 parts)) ≡ rest
 
 handle_and_bundle : (h : Handle) (items : Bundle) (parts rest : List ℕ) → IsHandle h → IsBundle items → WithBundle h items parts rest → HandleAndBundle parts rest
@@ -92,7 +92,7 @@ kinds (SpawnMany hs items) rest is =
     let many : HandlesAndBundle parts rest = record {
       header = omega (arith, w.length_is);
       long = omega (arith, w.length_is, w.count, length-drop 4 parts);
-      each = subst (λ n. All IsHandle (handles_in n (drop 4 parts))) (sym w.count) (subst (All IsHandle) (sym w.handles) is.1);
+      each = subst (λ n. All IsHandle (unpacked_handles n (drop 4 parts))) (sym w.count) (subst (All IsHandle) (sym w.handles) is.1);
       bundle = subst (λ n. BundleAt (drop (8 * n) (drop 4 parts)) rest) (sym w.count) (bundle_at items (drop (8 * length hs) (drop 4 parts)) rest is.2 w.bundle);
     } in
     record {
@@ -151,7 +151,7 @@ kinds (Refused wanted why) rest is =
     let reason : Reason parts rest = record {
       header = omega (arith, w.length_is);
       long = omega (arith, w.length_is, length-drop 4 parts);
-      is = subst (λ n. IsRefusal n (refusal_in n (drop 4 parts))) (sym w.wanted_is) (subst (IsRefusal wanted) (sym w.why_is) is.1);
+      is = subst (λ n. IsRefusal n (unpacked_refusal n (drop 4 parts))) (sym w.wanted_is) (subst (IsRefusal wanted) (sym w.why_is) is.1);
       rest_is = w.rest_is;
     } in
     record {
@@ -164,9 +164,9 @@ kinds (Refused wanted why) rest is =
     }
 
 -- the same of any bytes that begin with a command
-pub begins_kinds : (bytes : List ℕ) → Begins bytes → Kinds (slice_index bytes 0) (drop 1 bytes) (after_command bytes)
+pub begins_kinds : (bytes : List ℕ) → Begins bytes → Kinds (slice_index bytes 0) (drop 1 bytes) (after_first bytes)
 begins_kinds bytes b =
     let front = command_bytes b.0 ++ b.1 in
-    let here : Kinds (slice_index front 0) (drop 1 front) (after_command front) =
-    subst (λ rest. Kinds (slice_index front 0) (drop 1 front) rest) (sym (after_command-bytes b.0 b.1 b.2.is)) (kinds b.0 b.1 b.2.is) in
-    subst (λ bs. Kinds (slice_index bs 0) (drop 1 bs) (after_command bs)) (sym b.2.bytes_are) here
+    let here : Kinds (slice_index front 0) (drop 1 front) (after_first front) =
+    subst (λ rest. Kinds (slice_index front 0) (drop 1 front) rest) (sym (after_first-bytes b.0 b.1 b.2.is)) (kinds b.0 b.1 b.2.is) in
+    subst (λ bs. Kinds (slice_index bs 0) (drop 1 bs) (after_first bs)) (sym b.2.bytes_are) here

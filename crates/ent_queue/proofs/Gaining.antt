@@ -16,9 +16,10 @@ use Rattle.ent_shared.specs.declared.refused.Refused.{Refused as Refusal}
 use Rattle.ent_shared.specs.declared.refused.Refused.TheVariants.{Space, Quota}
 use Rattle.ent_shared.specs.Phase.{Shared, Reserver}
 use Rattle.ent_shared.specs.Record.{after_reservation, reservation_at}
-use Rattle.ent_shared.specs.Replies.{Reserves, listed_alone}
+use Rattle.ent_alloc.specs.Sequential.{listed_alone}
+use Rattle.ent_shared.specs.Replies.{Reserves}
 use Rattle.ent_queue.specs.Command.{Command, Refused, HasRange, IsRefusal}
-use Rattle.ent_queue.specs.Reserving.{requests_of, cost, IsWithin, AreWithin, Gains, Answers}
+use Rattle.ent_queue.specs.Reserving.{stands_for, cost, FitsCredit, FitCredit, Gains, IsReply}
 use Rattle.ent_queue.specs.Reserving.{as_fault, refused_by}
 
 pub gains_nothing : (r : Record) → Gains r [] r
@@ -34,7 +35,7 @@ gains_nothing r = record {
 }
 
 -- a command that stands for no reservation
-pub gains_none : (r : Record) (c : Command) → requests_of c ≡ [] → IsWithin r.left c → Gains r (c ∷ []) r
+pub gains_none : (r : Record) (c : Command) → stands_for c ≡ [] → FitsCredit r.left c → Gains r (c ∷ []) r
 gains_none r c none within = record {
   start = refl;
   number = refl;
@@ -47,7 +48,7 @@ gains_none r c none within = record {
 }
 
 -- a command that stands for one reservation
-pub gains_one : (r : Record) (high : ℤ) (n : ℕ) (c : Command) → n ≤ r.left → requests_of c ≡ (n, (reservation_at r high n).reply) ∷ [] → IsWithin r.left c → Gains r (c ∷ []) (after_reservation r high n)
+pub gains_one : (r : Record) (high : ℤ) (n : ℕ) (c : Command) → n ≤ r.left → stands_for c ≡ (n, (reservation_at r high n).reply) ∷ [] → FitsCredit r.left c → Gains r (c ∷ []) (after_reservation r high n)
 gains_one r high n c enough one within = record {
   start = refl;
   number = refl;
@@ -59,20 +60,20 @@ gains_one r high n c enough one within = record {
   within = (within, tt);
 }
 
-requests_both : (cs ds : List Command) → flat_map requests_of (cs ++ ds) ≡ flat_map requests_of cs ++ flat_map requests_of ds
+requests_both : (cs ds : List Command) → flat_map stands_for (cs ++ ds) ≡ flat_map stands_for cs ++ flat_map stands_for ds
 requests_both [] ds = refl
 requests_both (c ∷ cs) ds =
-    ap (λ rs. requests_of c ++ rs) (requests_both cs ds) ∙ sym (append_assoc (requests_of c) (flat_map requests_of cs) (flat_map requests_of ds))
+    ap (λ rs. stands_for c ++ rs) (requests_both cs ds) ∙ sym (append_assoc (stands_for c) (flat_map stands_for cs) (flat_map stands_for ds))
 
 map_both : {X Y : Type 0} (f : X → Y) (xs ys : List X) → map f (xs ++ ys) ≡ map f xs ++ map f ys
 map_both f [] ys = refl
 map_both f (x ∷ xs) ys = ap (λ zs. f x ∷ zs) (map_both f xs ys)
 
-within_both : (left : ℕ) (cs ds : List Command) → AreWithin left cs → AreWithin (left - sum_by cost cs) ds → AreWithin left (cs ++ ds)
-within_both left [] ds first second = let same : left - sum_by cost [] ≡ left = omega arith in subst (λ n. AreWithin n ds) same second
+within_both : (left : ℕ) (cs ds : List Command) → FitCredit left cs → FitCredit (left - sum_by cost cs) ds → FitCredit left (cs ++ ds)
+within_both left [] ds first second = let same : left - sum_by cost [] ≡ left = omega arith in subst (λ n. FitCredit n ds) same second
 within_both left (c ∷ cs) ds first second =
     let rest : left - sum_by cost (c ∷ cs) ≡ left - cost c - sum_by cost cs = omega (arith, sum_by-cons cost c cs) in
-    (first.0, within_both (left - cost c) cs ds first.1 (subst (λ n. AreWithin n ds) rest second))
+    (first.0, within_both (left - cost c) cs ds first.1 (subst (λ n. FitCredit n ds) rest second))
 
 -- The commands of two queues, one after the other: so many queues of one reserver are added up.
 pub gains_then : (a b c : Record) (cs ds : List Command) → Gains a cs b → Gains b ds c → Gains a (cs ++ ds) c
@@ -86,19 +87,19 @@ gains_then a b c cs ds first second =
       requests = map_both asked first.reservations second.reservations ∙ (λ i. first.requests i ++ second.requests i) ∙ sym (requests_both cs ds);
       callers = All-append (λ (r : Reservation). r.caller ≡ a.number) first.reservations second.reservations first.callers (subst (λ n. All (λ (r : Reservation). r.caller ≡ n) second.reservations) first.number second.callers);
       left = omega (arith, first.left, second.left, sum_by-append cost cs ds);
-      within = within_both a.left cs ds first.within (subst (λ n. AreWithin n ds) (omega (arith, first.left)) second.within);
+      within = within_both a.left cs ds first.within (subst (λ n. FitCredit n ds) (omega (arith, first.left)) second.within);
     }
 
 module _ (shared : Shared) (before after : Reserver) (n : ℕ) where
   -- what was given
-  pub served_gains : (hs : List Handle) (c : Command) → Answers shared before after n (Ok hs) → (0 < n → requests_of c ≡ (n, Ok hs) ∷ []) → (n ≡ 0 → hs ≡ [] → requests_of c ≡ []) → (n ≤ before.own.left → IsWithin before.own.left c) → Gains before.own (c ∷ []) after.own
+  pub served_gains : (hs : List Handle) (c : Command) → IsReply shared before after n (Ok hs) → (0 < n → stands_for c ≡ (n, Ok hs) ∷ []) → (n ≡ 0 → hs ≡ [] → stands_for c ≡ []) → (n ≤ before.own.left → FitsCredit before.own.left c) → Gains before.own (c ∷ []) after.own
   served_gains hs c answers one none within =
       elim (cases_lt before.own.left n) [
         | inl short ↦ let no = (answers.quota short).0 in absurd (cc)
         | inr enough ↦ elim (cases_lt 0 n) [
           | inl some ↦
               let g = answers.gains some enough in
-              let asks : requests_of c ≡ (n, (reservation_at before.own g.high n).reply) ∷ [] = one some ∙ ap (λ r. (n, r) ∷ []) (sym g.recorded) in
+              let asks : stands_for c ≡ (n, (reservation_at before.own g.high n).reply) ∷ [] = one some ∙ ap (λ r. (n, r) ∷ []) (sym g.recorded) in
               subst (λ (r : Reserver). Gains before.own (c ∷ []) r.own) (sym g.after) (gains_one before.own g.high n c enough asks (within enough))
           | inr nothing ↦
               let empty = answers.nothing (omega arith) in
@@ -108,14 +109,14 @@ module _ (shared : Shared) (before after : Reserver) (n : ℕ) where
       ]
 
   -- what was refused
-  pub refused_gains : (why : Refusal) → Answers shared before after n (Err why) → Gains before.own (Refused n why ∷ []) after.own
+  pub refused_gains : (why : Refusal) → IsReply shared before after n (Err why) → Gains before.own (Refused n why ∷ []) after.own
   refused_gains (Space wanted left) answers =
       elim (cases_lt before.own.left n) [
         | inl short ↦ let no = (answers.quota short).0 in absurd (cc)
         | inr enough ↦ elim (cases_lt 0 n) [
           | inl some ↦
               let g = answers.gains some enough in
-              let asks : requests_of (Refused n (Space wanted left)) ≡ (n, (reservation_at before.own g.high n).reply) ∷ [] = ap (λ r. (n, r) ∷ []) (sym g.recorded) in
+              let asks : stands_for (Refused n (Space wanted left)) ≡ (n, (reservation_at before.own g.high n).reply) ∷ [] = ap (λ r. (n, r) ∷ []) (sym g.recorded) in
               subst (λ (r : Reserver). Gains before.own (Refused n (Space wanted left) ∷ []) r.own) (sym g.after) (gains_one before.own g.high n (Refused n (Space wanted left)) enough asks enough)
           | inr nothing ↦ let no = (answers.nothing (omega arith)).0 in absurd (cc)
         ]
@@ -133,7 +134,7 @@ module _ (shared : Shared) (before after : Reserver) (n : ℕ) where
       ]
 
 -- what one reservation of a single handle says
-pub answers_alone : (shared : Shared) (before after : Reserver) (result : Result Handle Refusal) → (before.own.left ≡ 0 → (result ≡ Err (Quota 0)) × (after ≡ before)) → (0 < before.own.left → Reserves shared before after 1 (listed_alone result)) → Answers shared before after 1 (listed_alone result)
+pub answers_alone : (shared : Shared) (before after : Reserver) (result : Result Handle Refusal) → (before.own.left ≡ 0 → (result ≡ Err (Quota 0)) × (after ≡ before)) → (0 < before.own.left → Reserves shared before after 1 (listed_alone result)) → IsReply shared before after 1 (listed_alone result)
 answers_alone shared before after result quota gains = record {
   quota = λ short. let none : before.own.left ≡ 0 = omega arith in (ap listed_alone (quota none).0 ∙ ap (λ n. Err (Quota n)) (sym none), (quota none).1);
   nothing = λ e. absurd (omega arith);
@@ -148,7 +149,7 @@ space_wanted made pool n wanted left e = by (nat_le n (length pool)) e
     by false e = let same : ◌≡◌ {A = OutOfSpace} (record { wanted = n; left = length pool }) (record { wanted = wanted; left = left }) = cc in sym (ap (λ (s : OutOfSpace). s.wanted) same)
 
 -- a refusal by the pool says how many handles were requested
-pub is_refusal : (shared : Shared) (before after : Reserver) (n : ℕ) (why : Refusal) → Answers shared before after n (Err why) → HasRange why → IsRefusal n why
+pub is_refusal : (shared : Shared) (before after : Reserver) (n : ℕ) (why : Refusal) → IsReply shared before after n (Err why) → HasRange why → IsRefusal n why
 is_refusal shared before after n (Space wanted left) answers range =
     elim (cases_lt before.own.left n) [
       | inl short ↦ let no = (answers.quota short).0 in absurd (cc)

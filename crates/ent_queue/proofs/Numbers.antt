@@ -5,7 +5,7 @@ use Rattle.std.proofs.lemmas.Nat.{from_le_bytes-to_le_bytes_2, from_le_bytes-to_
 use Rattle.std.proofs.lemmas.Nat.{from_le_bytes-to_le_bytes_8, shr_high, mod_low}
 use Rattle.ent_handle.specs.Handle.{Handle, IsHandle, bits}
 use Rattle.ent_queue.specs.Packing.{bytes_2, bytes_4, bytes_8, handle_bytes}
-use Rattle.ent_queue.specs.Unpacking.{number_2, number_4, number_8, handle_of, handle_in}
+use Rattle.ent_queue.specs.Unpacking.{number_2, number_4, number_8, handle_of_bits, unpacked_handle}
 
 pub length-bytes_2 : (n : ℕ) → length (bytes_2 n) ≡ 2
 unfolding bytes_2
@@ -54,15 +54,15 @@ number_8-alone n h = from_le_bytes-to_le_bytes_8 n h
 pub bits_below : (h : Handle) → IsHandle h → bits h < 2 ^ 64
 bits_below h is = omega (arith, is.index, is.greatest)
 
-pub handle_of-bits : (h : Handle) → IsHandle h → handle_of (bits h) ≡ h
-handle_of-bits h is =
+pub handle_of_bits-bits : (h : Handle) → IsHandle h → handle_of_bits (bits h) ≡ h
+handle_of_bits-bits h is =
     let below : h.index < 2 ^ 32 = omega (arith, is.index) in
     let index = mod_low h.generation 32 h.index below in
     let generation = shr_high h.generation 32 h.index below in
     λ i. record { index = index i; generation = generation i }
 
-pub handle_in-bytes : (h : Handle) (rest : List ℕ) → IsHandle h → handle_in (handle_bytes h ++ rest) ≡ h
-handle_in-bytes h rest is = ap handle_of (number_8-bytes (bits h) rest (bits_below h is)) ∙ handle_of-bits h is
+pub unpacked_handle-bytes : (h : Handle) (rest : List ℕ) → IsHandle h → unpacked_handle (handle_bytes h ++ rest) ≡ h
+unpacked_handle-bytes h rest is = ap handle_of_bits (number_8-bytes (bits h) rest (bits_below h is)) ∙ handle_of_bits-bits h is
 
-pub handle_in-alone : (h : Handle) → IsHandle h → handle_in (handle_bytes h) ≡ h
-handle_in-alone h is = ap handle_of (number_8-alone (bits h) (bits_below h is)) ∙ handle_of-bits h is
+pub unpacked_handle-alone : (h : Handle) → IsHandle h → unpacked_handle (handle_bytes h) ≡ h
+unpacked_handle-alone h is = ap handle_of_bits (number_8-alone (bits h) (bits_below h is)) ∙ handle_of_bits-bits h is

@@ -13,19 +13,19 @@ use Rattle.ent_handle.specs.declared.component.ComponentId.{ComponentId}
 use Rattle.ent_handle.specs.Handle.{Handle, IsHandle, bits}
 use Rattle.ent_queue.specs.Command.{Bundle, IsItem}
 use Rattle.ent_queue.specs.Packing.{bytes_2, handle_bytes, item_bytes, bundle_bytes}
-use Rattle.ent_queue.specs.Unpacking.{number_2, handles_in, item_in, bundle_in}
+use Rattle.ent_queue.specs.Unpacking.{number_2, unpacked_handles, unpacked_item, unpacked_bundle}
 use Rattle.ent_queue.proofs.Numbers.{length-bytes_2, length-bytes_8, number_2-bytes, number_8-alone}
-use Rattle.ent_queue.proofs.Numbers.{drop-bytes_2, drop-bytes_8, take-bytes_8, handle_in-alone}
+use Rattle.ent_queue.proofs.Numbers.{drop-bytes_2, drop-bytes_8, take-bytes_8, unpacked_handle-alone}
 
 pub length-handles : (hs : List Handle) → length (flat_map handle_bytes hs) ≡ 8 * length hs
 length-handles [] = refl
 length-handles (h ∷ hs) =
     length-append (handle_bytes h) (flat_map handle_bytes hs) ∙ omega (arith, length-bytes_8 (bits h), length-handles hs)
 
-pub handles_in-bytes : (hs : List Handle) (rest : List ℕ) → All IsHandle hs → handles_in (length hs) (flat_map handle_bytes hs ++ rest) ≡ hs
-handles_in-bytes [] rest all = refl
-handles_in-bytes (h ∷ hs) rest all =
-    rw (append_assoc (handle_bytes h) (flat_map handle_bytes hs) rest, take-bytes_8, drop-bytes_8, handle_in-alone h (All-head IsHandle h hs all), handles_in-bytes hs rest (All-tail IsHandle h hs all)) refl
+pub unpacked_handles-bytes : (hs : List Handle) (rest : List ℕ) → All IsHandle hs → unpacked_handles (length hs) (flat_map handle_bytes hs ++ rest) ≡ hs
+unpacked_handles-bytes [] rest all = refl
+unpacked_handles-bytes (h ∷ hs) rest all =
+    rw (append_assoc (handle_bytes h) (flat_map handle_bytes hs) rest, take-bytes_8, drop-bytes_8, unpacked_handle-alone h (All-head IsHandle h hs all), unpacked_handles-bytes hs rest (All-tail IsHandle h hs all)) refl
 
 pub drop-handles : (hs : List Handle) (rest : List ℕ) → drop (8 * length hs) (flat_map handle_bytes hs ++ rest) ≡ rest
 drop-handles hs rest =
@@ -40,8 +40,8 @@ drop-item item rest = drop-bytes_8 (cast_unsigned w64 item.1) rest
 pub unsigned_below : (z : ℤ) → FitsSigned w64 z → cast_unsigned w64 z < 2 ^ 64
 unsigned_below z fits = Fits-lt-pow (Fits-of_z fits)
 
-item_in-alone : (item : ComponentId × ℤ) → IsItem item → item_in (item_bytes item) ≡ item
-item_in-alone item is =
+unpacked_item-alone : (item : ComponentId × ℤ) → IsItem item → unpacked_item (item_bytes item) ≡ item
+unpacked_item-alone item is =
     let value = ap (cast_signed w64) (number_8-alone (cast_unsigned w64 item.1) (unsigned_below item.1 is.value)) ∙ to_z-of_z w64 item.1 is.value in
     λ i. (item.0, value i)
 
@@ -50,14 +50,14 @@ length-items [] = refl
 length-items (item ∷ items) =
     length-append (item_bytes item) (flat_map item_bytes items) ∙ omega (arith, length-bytes_8 (cast_unsigned w64 item.1), length-items items)
 
-pub items_in-bytes : (items : Bundle) (rest : List ℕ) → All IsItem items → map item_in (first_chunks 9 (length items) (flat_map item_bytes items ++ rest)) ≡ items
+pub items_in-bytes : (items : Bundle) (rest : List ℕ) → All IsItem items → map unpacked_item (first_chunks 9 (length items) (flat_map item_bytes items ++ rest)) ≡ items
 items_in-bytes [] rest all = refl
 items_in-bytes (item ∷ items) rest all =
     let more = flat_map item_bytes items ++ rest in
     let regroup : flat_map item_bytes (item ∷ items) ++ rest ≡ item_bytes item ++ more = append_assoc (item_bytes item) (flat_map item_bytes items) rest in
-    let first : item_in (take 9 (item_bytes item ++ more)) ≡ item = ap item_in (take-item item more) ∙ item_in-alone item (All-head IsItem item items all) in
-    let others : map item_in (first_chunks 9 (length items) (drop 9 (item_bytes item ++ more))) ≡ items = ap (λ bytes. map item_in (first_chunks 9 (length items) bytes)) (drop-item item more) ∙ items_in-bytes items rest (All-tail IsItem item items all) in
-    ap (λ bytes. map item_in (first_chunks 9 (suc (length items)) bytes)) regroup ∙ (λ i. first i ∷ others i)
+    let first : unpacked_item (take 9 (item_bytes item ++ more)) ≡ item = ap unpacked_item (take-item item more) ∙ unpacked_item-alone item (All-head IsItem item items all) in
+    let others : map unpacked_item (first_chunks 9 (length items) (drop 9 (item_bytes item ++ more))) ≡ items = ap (λ bytes. map unpacked_item (first_chunks 9 (length items) bytes)) (drop-item item more) ∙ items_in-bytes items rest (All-tail IsItem item items all) in
+    ap (λ bytes. map unpacked_item (first_chunks 9 (suc (length items)) bytes)) regroup ∙ (λ i. first i ∷ others i)
 
 pub drop-items : (items : Bundle) (rest : List ℕ) → drop (9 * length items) (flat_map item_bytes items ++ rest) ≡ rest
 drop-items items rest =
@@ -70,7 +70,7 @@ length-bundle items =
 -- What a bundle's bytes say of the bytes that begin with them.
 pub record BundleBegins (items : Bundle) (bytes rest : List ℕ) : Type 0 where
   pub count : number_2 bytes ≡ length items
-  pub items_are : bundle_in bytes ≡ items
+  pub items_are : unpacked_bundle bytes ≡ items
   pub length_is : length bytes ≡ 2 + 9 * length items + length rest
   pub rest_is : drop (9 * length items) (drop 2 bytes) ≡ rest
 

@@ -7,8 +7,8 @@ use Rattle.ent_handle.specs.Handle.{Handle}
 use Rattle.ent_queue.specs.Command.{Command, Bundle, Spawn, SpawnMany, Insert, Remove, Despawn}
 use Rattle.ent_queue.specs.Command.{Refused, IsCommand}
 use Rattle.ent_queue.specs.Packing.{command_bytes, queue_bytes, bytes_4, handle_bytes, bundle_bytes}
-use Rattle.ent_queue.specs.Unpacking.{commands_in, ArePacked}
-use Rattle.ent_queue.proofs.Queues.{commands_in-bytes, are_packed, length_of_commands}
+use Rattle.ent_queue.specs.Unpacking.{unpacked_commands, ArePacked}
+use Rattle.ent_queue.proofs.Queues.{unpacked_commands-bytes, are_packed, length_of_commands}
 
 queue_bytes-push : (cs : List Command) (c : Command) → queue_bytes (cs ++ c ∷ []) ≡ queue_bytes cs ++ command_bytes c
 queue_bytes-push [] c = append-nil (command_bytes c)
@@ -18,17 +18,17 @@ queue_bytes-push (d ∷ cs) c =
 -- The bytes of some commands, and then those of one more, are those of one more command.
 pub record Pushed (count : ℕ) (bytes : List ℕ) (c : Command) : Type 0 where
   pub packed : ArePacked (count + 1) (bytes ++ command_bytes c)
-  pub commands : commands_in (count + 1) (bytes ++ command_bytes c) ≡ commands_in count bytes ++ c ∷ []
+  pub commands : unpacked_commands (count + 1) (bytes ++ command_bytes c) ≡ unpacked_commands count bytes ++ c ∷ []
 
 pub pushed : (count : ℕ) (bytes : List ℕ) (c : Command) → ArePacked count bytes → IsCommand c → Pushed count bytes c
 pushed count bytes c packed is =
-    let cs = commands_in count bytes in
+    let cs = unpacked_commands count bytes in
     let all : All IsCommand (cs ++ c ∷ []) = All-push IsCommand cs c packed.each is in
     let whole : queue_bytes (cs ++ c ∷ []) ≡ bytes ++ command_bytes c = queue_bytes-push cs c ∙ ap (λ bs. bs ++ command_bytes c) (sym packed.bytes_are) in
     let number : length (cs ++ c ∷ []) ≡ count + 1 = length-append cs (c ∷ []) ∙ ap (λ n. n + 1) (length_of_commands count bytes) in
     record {
       packed = subst (λ n. ArePacked n (bytes ++ command_bytes c)) number (subst (ArePacked (length (cs ++ c ∷ []))) whole (are_packed (cs ++ c ∷ []) all));
-      commands = ap (λ n. commands_in n (bytes ++ command_bytes c)) (sym number) ∙ ap (commands_in (length (cs ++ c ∷ []))) (sym whole) ∙ commands_in-bytes (cs ++ c ∷ []) all;
+      commands = ap (λ n. unpacked_commands n (bytes ++ command_bytes c)) (sym number) ∙ ap (unpacked_commands (length (cs ++ c ∷ []))) (sym whole) ∙ unpacked_commands-bytes (cs ++ c ∷ []) all;
     }
 
 some_bytes : (c : Command) → 1 ≤ length (command_bytes c)
@@ -46,7 +46,7 @@ counted (c ∷ cs) = omega (arith, length-append (command_bytes c) (queue_bytes 
 -- there are no more commands than bytes
 pub count_le_bytes : (count : ℕ) (bytes : List ℕ) → ArePacked count bytes → count ≤ length bytes
 count_le_bytes count bytes packed =
-    omega (arith, counted (commands_in count bytes), length_of_commands count bytes, ap length packed.bytes_are)
+    omega (arith, counted (unpacked_commands count bytes), length_of_commands count bytes, ap length packed.bytes_are)
 
 pub nothing_packed : ArePacked 0 []
 nothing_packed = are_packed [] (All-nil IsCommand)

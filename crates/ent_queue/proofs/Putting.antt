@@ -7,12 +7,12 @@ use Rattle.std.specs.FinMap.Entries.{find-put, length-put, is_sorted-put}
 use Rattle.std.specs.Ordering.{eq_by_cmp}
 use Rattle.ent_handle.specs.declared.component.ComponentId.{ComponentId}
 use Rattle.ent_handle.specs.Component.{component_cmp, component_cmp_total}
-use Rattle.ent_queue.specs.Command.{Bundle, with_items, bundle_of}
+use Rattle.ent_queue.specs.Command.{Bundle, with_put, bundle_of}
 
 -- A later item counts before an earlier one, and before what was held.
 find_with : (id : ComponentId) (held earlier items : List (ComponentId × ℤ))
     → find component_cmp id held ≡ find component_cmp id earlier
-    → find component_cmp id (with_items held items)
+    → find component_cmp id (with_put held items)
     ≡ find component_cmp id (reverse_aux items earlier)
 find_with id held earlier [] same = same
 find_with id held earlier (item ∷ items) same =
@@ -45,7 +45,7 @@ module _ (id : ComponentId) (value : ℤ) (held : Bundle)
 
 -- No component is lost.
 no_shorter : (held : Bundle) (items : List (ComponentId × ℤ)) → T (is_sorted component_cmp held)
-    → length held ≤ length (with_items held items)
+    → length held ≤ length (with_put held items)
 no_shorter held [] rising = omega arith
 no_shorter held (item ∷ items) rising =
     let one = no_shorter_by_one item.0 item.1 held rising in
@@ -57,7 +57,7 @@ no_shorter held (item ∷ items) rising =
 pub more_than_four : (held : Bundle) (id : ComponentId) (value : ℤ)
     (items : List (ComponentId × ℤ)) → T (is_sorted component_cmp held)
     → 4 ≤ length held → find component_cmp id held ≡ None
-    → 4 < length (with_items (put component_cmp id value held) items)
+    → 4 < length (with_put (put component_cmp id value held) items)
 more_than_four held id value items rising full absent =
     let one : length (put component_cmp id value held) ≡ length held + 1 =
     grown id value held rising

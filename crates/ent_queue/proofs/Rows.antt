@@ -7,8 +7,8 @@ use Rattle.ent_shared.specs.declared.refused.Refused.TheVariants.{Space, Quota}
 use Rattle.ent_queue.specs.Command.{bundle_of, Command, Spawn, SpawnMany, Insert, Remove, Despawn}
 use Rattle.ent_queue.specs.Command.{Refused}
 use Rattle.ent_queue.specs.Packing.{bytes_2, bytes_4, bytes_8, queue_bytes}
-use Rattle.ent_queue.specs.Unpacking.{commands_in, number_2, number_4, number_8}
-use Rattle.ent_queue.specs.Reserving.{requests_of, cost, AreWithin}
+use Rattle.ent_queue.specs.Unpacking.{unpacked_commands, number_2, number_4, number_8}
+use Rattle.ent_queue.specs.Reserving.{stands_for, cost, FitCredit}
 
 -- a handle, as its text reads
 infix 70 ◌v◌
@@ -45,8 +45,8 @@ unfolding bytes_2 bytes_8
 two_packed = refl
 
 -- the same bytes read back
-two_read : commands_in 2 bytes_of_two ≡ spawn_and_despawn
-unfolding commands_in number_2 number_8 bytes_2 bytes_8
+two_read : unpacked_commands 2 bytes_of_two ≡ spawn_and_despawn
+unfolding unpacked_commands number_2 number_8 bytes_2 bytes_8
 two_read = refl
 
 -- A queue over two slots: its second command is a spawn of two that was refused.
@@ -66,18 +66,18 @@ five_packed : queue_bytes with_refusal ≡ bytes_of_five
 unfolding bytes_2 bytes_4 bytes_8
 five_packed = refl
 
-five_read : commands_in 5 bytes_of_five ≡ with_refusal
-unfolding commands_in number_2 number_4 number_8 bytes_2 bytes_4 bytes_8
+five_read : unpacked_commands 5 bytes_of_five ≡ with_refusal
+unfolding unpacked_commands number_2 number_4 number_8 bytes_2 bytes_4 bytes_8
 five_read = refl
 
 -- It stands for two reservations, which cost three handles of the credit.
-five_requests : flat_map requests_of with_refusal ≡ (1, Ok (0 v 1 ∷ [])) ∷ (2, Err (record { wanted = 2; left = 1 })) ∷ []
+five_requests : flat_map stands_for with_refusal ≡ (1, Ok (0 v 1 ∷ [])) ∷ (2, Err (record { wanted = 2; left = 1 })) ∷ []
 five_requests = refl
 
 five_cost : sum_by cost with_refusal ≡ 3
 five_cost = refl
 
-five_within : AreWithin (2 ^ 40) with_refusal
+five_within : FitCredit (2 ^ 40) with_refusal
 five_within = (omega arith, (omega arith, (tt, (tt, (tt, tt)))))
 
 -- a spawn of many, and a refusal for want of credit

@@ -34,13 +34,13 @@ pub record IsBundle (items : Bundle) : Type 0 where
   pub each : All IsItem items
 
 -- the bundle after each of the items was put into it, the first item first
-abbrev pub with_items : Bundle → List (ComponentId × ℤ) → Bundle
-with_items held [] = held
-with_items held (item ∷ items) = with_items (put component_cmp item.0 item.1 held) items
+abbrev pub with_put : Bundle → List (ComponentId × ℤ) → Bundle
+with_put held [] = held
+with_put held (item ∷ items) = with_put (put component_cmp item.0 item.1 held) items
 
 -- the bundle of these components: of one that stands there twice the last value
 abbrev pub bundle_of : List (ComponentId × ℤ) → Bundle
-bundle_of items = with_items [] items
+bundle_of items = with_put [] items
 
 -- the ranges of what a refusal says
 abbrev pub HasRange : Refusal → Type 0

@@ -17,34 +17,34 @@ use Rattle.ent_queue.specs.declared.fault.QueueFault.TheVariants as fault
 use Rattle.ent_queue.specs.Command.{Command, Spawn, SpawnMany, Insert, Remove, Despawn, Refused}
 
 -- the reservations for which a command stands: how many handles were requested, and the reply
-abbrev pub requests_of : Command → List (ℕ × Result (List Handle) OutOfSpace)
-requests_of (Spawn h items) = (1, Ok (h ∷ [])) ∷ []
-requests_of (SpawnMany [] items) = []
-requests_of (SpawnMany (h ∷ hs) items) = (length (h ∷ hs), Ok (h ∷ hs)) ∷ []
-requests_of (Insert h items) = []
-requests_of (Remove h id) = []
-requests_of (Despawn h) = []
-requests_of (Refused wanted (Space same left)) = (wanted, Err (record { wanted = same; left = left })) ∷ []
-requests_of (Refused wanted (Quota left)) = []
+abbrev pub stands_for : Command → List (ℕ × Result (List Handle) OutOfSpace)
+stands_for (Spawn h items) = (1, Ok (h ∷ [])) ∷ []
+stands_for (SpawnMany [] items) = []
+stands_for (SpawnMany (h ∷ hs) items) = (length (h ∷ hs), Ok (h ∷ hs)) ∷ []
+stands_for (Insert h items) = []
+stands_for (Remove h id) = []
+stands_for (Despawn h) = []
+stands_for (Refused wanted (Space same left)) = (wanted, Err (record { wanted = same; left = left })) ∷ []
+stands_for (Refused wanted (Quota left)) = []
 
 -- how much credit it has cost
 abbrev pub cost : Command → ℕ
-cost c = sum_by (λ (request : ℕ × Result (List Handle) OutOfSpace). request.0) (requests_of c)
+cost c = sum_by (λ (request : ℕ × Result (List Handle) OutOfSpace). request.0) (stands_for c)
 
 -- It fits the credit that was left; a refusal for want of credit says what was left, and more was wanted.
-abbrev pub IsWithin : ℕ → Command → Type 0
-IsWithin left (Refused wanted (Quota rest)) = (rest ≡ left) × (left < wanted)
-IsWithin left (Refused wanted (Space same rest)) = wanted ≤ left
-IsWithin left (Spawn h items) = 1 ≤ left
-IsWithin left (SpawnMany hs items) = length hs ≤ left
-IsWithin left (Insert h items) = Unit {0}
-IsWithin left (Remove h id) = Unit {0}
-IsWithin left (Despawn h) = Unit {0}
+abbrev pub FitsCredit : ℕ → Command → Type 0
+FitsCredit left (Refused wanted (Quota rest)) = (rest ≡ left) × (left < wanted)
+FitsCredit left (Refused wanted (Space same rest)) = wanted ≤ left
+FitsCredit left (Spawn h items) = 1 ≤ left
+FitsCredit left (SpawnMany hs items) = length hs ≤ left
+FitsCredit left (Insert h items) = Unit {0}
+FitsCredit left (Remove h id) = Unit {0}
+FitsCredit left (Despawn h) = Unit {0}
 
 -- each command at its turn
-abbrev pub AreWithin : ℕ → List Command → Type 0
-AreWithin left [] = Unit {0}
-AreWithin left (c ∷ cs) = IsWithin left c × AreWithin (left - cost c) cs
+abbrev pub FitCredit : ℕ → List Command → Type 0
+FitCredit left [] = Unit {0}
+FitCredit left (c ∷ cs) = FitsCredit left c × FitCredit (left - cost c) cs
 
 -- The reserver has gained the reservations of these commands and no others, in order.
 pub record Gains (before : Record) (commands : List Command) (after : Record) : Type 0 where
@@ -52,10 +52,10 @@ pub record Gains (before : Record) (commands : List Command) (after : Record) : 
   pub number : after.number ≡ before.number
   pub reservations : List Reservation
   pub entries : after.entries ≡ before.entries ++ map Own reservations
-  pub requests : map (λ (r : Reservation). (r.requested, r.reply)) reservations ≡ flat_map requests_of commands
+  pub requests : map (λ (r : Reservation). (r.requested, r.reply)) reservations ≡ flat_map stands_for commands
   pub callers : All (λ (r : Reservation). r.caller ≡ before.number) reservations
   pub left : after.left + sum_by cost commands ≡ before.left
-  pub within : AreWithin before.left commands
+  pub within : FitCredit before.left commands
 
 -- a refusal as a fault of the queue
 abbrev pub as_fault : Refusal → QueueFault
@@ -68,9 +68,9 @@ queued (Ok x) = Ok x
 queued (Err why) = Err (as_fault why)
 
 -- the same with the handles in a vector
-abbrev pub listed : Result (Vec Handle Global) QueueFault → Result (List Handle) QueueFault
-listed (Ok handles) = Ok handles.items
-listed (Err fault) = Err fault
+abbrev pub as_list : Result (Vec Handle Global) QueueFault → Result (List Handle) QueueFault
+as_list (Ok handles) = Ok handles.items
+as_list (Err fault) = Err fault
 
 -- what stands in the queue after a fault
 abbrev pub refused_by : ℕ → QueueFault → List Command
@@ -79,7 +79,7 @@ refused_by wanted (fault.Quota left) = Refused wanted (Quota left) ∷ []
 refused_by wanted fault.Memory = []
 
 -- The answer is that of a reservation of n handles.
-pub record Answers (shared : Shared) (before after : Reserver) (n : ℕ) (answer : Result (List Handle) Refusal) : Type 0 where
+pub record IsReply (shared : Shared) (before after : Reserver) (n : ℕ) (answer : Result (List Handle) Refusal) : Type 0 where
   pub quota : before.own.left < n → (answer ≡ Err (Quota before.own.left)) × (after ≡ before)
   pub nothing : n ≡ 0 → (answer ≡ Ok []) × (after ≡ before)
   pub gains : 0 < n → n ≤ before.own.left → Reserves shared before after n answer

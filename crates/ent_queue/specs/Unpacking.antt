@@ -23,52 +23,52 @@ unfoldable pub number_8 : List ℕ → ℕ
 number_8 bytes = from_le_bytes w64 (take 8 bytes)
 
 -- the handle of these bits
-abbrev pub handle_of : ℕ → Handle
-handle_of n = record { index = n % 2 ^ 32; generation = n / 2 ^ 32 }
+abbrev pub handle_of_bits : ℕ → Handle
+handle_of_bits n = record { index = n % 2 ^ 32; generation = n / 2 ^ 32 }
 
 -- what the bytes begin with
-abbrev pub handle_in : List ℕ → Handle
-handle_in bytes = handle_of (number_8 bytes)
+abbrev pub unpacked_handle : List ℕ → Handle
+unpacked_handle bytes = handle_of_bits (number_8 bytes)
 
-abbrev pub handles_in : ℕ → List ℕ → List Handle
-handles_in count bytes = map handle_in (first_chunks 8 count bytes)
+abbrev pub unpacked_handles : ℕ → List ℕ → List Handle
+unpacked_handles count bytes = map unpacked_handle (first_chunks 8 count bytes)
 
-abbrev pub item_in : List ℕ → ComponentId × ℤ
-item_in bytes = (record { 0 = slice_index bytes 0 }, cast_signed w64 (number_8 (drop 1 bytes)))
+abbrev pub unpacked_item : List ℕ → ComponentId × ℤ
+unpacked_item bytes = (record { 0 = slice_index bytes 0 }, cast_signed w64 (number_8 (drop 1 bytes)))
 
-abbrev pub bundle_in : List ℕ → Bundle
-bundle_in bytes = map item_in (first_chunks 9 (number_2 bytes) (drop 2 bytes))
+abbrev pub unpacked_bundle : List ℕ → Bundle
+unpacked_bundle bytes = map unpacked_item (first_chunks 9 (number_2 bytes) (drop 2 bytes))
 
-abbrev pub refusal_in : ℕ → List ℕ → Refusal
-refusal_in wanted bytes =
+abbrev pub unpacked_refusal : ℕ → List ℕ → Refusal
+unpacked_refusal wanted bytes =
     if slice_index bytes 0 == 1 then Space wanted (number_8 (drop 1 bytes)) else Quota (number_8 (drop 1 bytes))
 
 -- the command whose parts follow the byte for its kind
 abbrev pub command_of_kind : ℕ → List ℕ → Command
 command_of_kind kind parts =
-    if kind == 0 then Spawn (handle_in parts) (bundle_in (drop 8 parts))
-    else (if kind == 1 then SpawnMany (handles_in (number_4 parts) (drop 4 parts)) (bundle_in (drop (8 * number_4 parts) (drop 4 parts)))
-    else (if kind == 2 then Insert (handle_in parts) (bundle_in (drop 8 parts))
-    else (if kind == 3 then Remove (handle_in parts) (record { 0 = slice_index (drop 8 parts) 0 })
-    else (if kind == 4 then Despawn (handle_in parts)
-    else Refused (number_4 parts) (refusal_in (number_4 parts) (drop 4 parts))))))
+    if kind == 0 then Spawn (unpacked_handle parts) (unpacked_bundle (drop 8 parts))
+    else (if kind == 1 then SpawnMany (unpacked_handles (number_4 parts) (drop 4 parts)) (unpacked_bundle (drop (8 * number_4 parts) (drop 4 parts)))
+    else (if kind == 2 then Insert (unpacked_handle parts) (unpacked_bundle (drop 8 parts))
+    else (if kind == 3 then Remove (unpacked_handle parts) (record { 0 = slice_index (drop 8 parts) 0 })
+    else (if kind == 4 then Despawn (unpacked_handle parts)
+    else Refused (number_4 parts) (unpacked_refusal (number_4 parts) (drop 4 parts))))))
 
-abbrev pub command_in : List ℕ → Command
-command_in bytes = command_of_kind (slice_index bytes 0) (drop 1 bytes)
+abbrev pub unpacked_command : List ℕ → Command
+unpacked_command bytes = command_of_kind (slice_index bytes 0) (drop 1 bytes)
 
 -- the bytes after the first command
-abbrev pub after_command : List ℕ → List ℕ
-after_command bytes = drop (length (command_bytes (command_in bytes))) bytes
+abbrev pub after_first : List ℕ → List ℕ
+after_first bytes = drop (length (command_bytes (unpacked_command bytes))) bytes
 
 -- that many commands, one after the other
-unfoldable pub commands_in : ℕ → List ℕ → List Command
-commands_in zero bytes = []
-commands_in (suc count) bytes = command_in bytes ∷ commands_in count (after_command bytes)
+unfoldable pub unpacked_commands : ℕ → List ℕ → List Command
+unpacked_commands zero bytes = []
+unpacked_commands (suc count) bytes = unpacked_command bytes ∷ unpacked_commands count (after_first bytes)
 
 -- The bytes are the packing of that many commands.
 pub record ArePacked (count : ℕ) (bytes : List ℕ) : Type 0 where
-  pub bytes_are : bytes ≡ queue_bytes (commands_in count bytes)
-  pub each : All IsCommand (commands_in count bytes)
+  pub bytes_are : bytes ≡ queue_bytes (unpacked_commands count bytes)
+  pub each : All IsCommand (unpacked_commands count bytes)
 
 -- the bytes begin with a command
 pub record BeginsWith (c : Command) (bytes rest : List ℕ) : Type 0 where

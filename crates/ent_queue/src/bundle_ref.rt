@@ -6,7 +6,7 @@ ghost use Rattle.std.specs.Iterator.{YieldsFirst, UpTo, item_count};
 ghost use Rattle.std.specs.Iterator.SizeHint.{IsWithinCount};
 ghost use Rattle.ent_handle.specs.Component.{component_cmp};
 ghost use Rattle.ent_queue.specs.Command.{IsBundle};
-ghost use Rattle.ent_queue.specs.Unpacking.{number_2, bundle_in, item_in};
+ghost use Rattle.ent_queue.specs.Unpacking.{number_2, unpacked_bundle, unpacked_item};
 
 use crate::reading::{read_u8, read_u16, read_u64};
 use ent_handle::ComponentId;
@@ -28,11 +28,11 @@ impl<'a> Model for BundleRef<'a> {
     ghost Value = { List (ComponentId × ℤ) };
 
     ghost use Rattle.ent_queue.specs.Command.{IsBundle};
-    ghost use Rattle.ent_queue.specs.Unpacking.{item_in};
+    ghost use Rattle.ent_queue.specs.Unpacking.{unpacked_item};
 
-    ghost view = { λ b. map item_in b.items.now };
+    ghost view = { λ b. map unpacked_item b.items.now };
 
-    ghost invariant = { λ b. IsBundle (map item_in b.items.now) };
+    ghost invariant = { λ b. IsBundle (map unpacked_item b.items.now) };
 }
 
 impl<'a> BundleRef<'a> {
@@ -40,8 +40,8 @@ impl<'a> BundleRef<'a> {
     pub(crate) fn read(bytes: &'a [u8]) -> (Self, &'a [u8])
         requires header { 2 ≤ length bytes.now }
         requires items { 2 + 9 * number_2 bytes.now ≤ length bytes.now }
-        requires is { IsBundle (bundle_in bytes.now) }
-        ensures value { result.0 ≡ bundle_in bytes.now }
+        requires is { IsBundle (unpacked_bundle bytes.now) }
+        ensures value { result.0 ≡ unpacked_bundle bytes.now }
         ensures rest { result.1.now ≡ drop (9 * number_2 bytes.now) (drop 2 bytes.now) }
     {
         let (count, bytes) = read_u16(bytes);
@@ -85,9 +85,9 @@ impl<'a> Model for BundleItems<'a> {
 
     ghost Value = { List (ComponentId × ℤ) };
 
-    ghost use Rattle.ent_queue.specs.Unpacking.{item_in};
+    ghost use Rattle.ent_queue.specs.Unpacking.{unpacked_item};
 
-    ghost view = { λ b. map item_in b.left.now };
+    ghost view = { λ b. map unpacked_item b.left.now };
 }
 
 impl Iterator for BundleItems<'_> {
@@ -120,7 +120,7 @@ impl ExactSizeIterator for BundleItems<'_> {
 
 /// The component and its value.
 fn item_of(bytes: &[u8; ITEM]) -> (ComponentId, i64)
-    ensures { result ≡ item_in bytes.now }
+    ensures { result ≡ unpacked_item bytes.now }
 {
     let (id, value) = read_u8(bytes);
     let (value, _) = read_u64(value);

@@ -3,7 +3,7 @@ ghost use Rattle.std.specs.Prelude.{Result, List};
 ghost use Rattle.ent_handle.specs.Handle.{Handle as HandleValue};
 ghost use Rattle.ent_shared.specs.declared.refused.Refused.{Refused as Refusal};
 ghost use Rattle.ent_shared.specs.Phase.{IsOf};
-ghost use Rattle.ent_shared.specs.Replies.{listed_alone};
+ghost use Rattle.ent_alloc.specs.Sequential.{listed_alone};
 ghost use Rattle.ent_queue.specs.Command.{Spawn, SpawnMany, Insert, Remove, Despawn};
 
 use crate::bundle::Bundle;
@@ -27,7 +27,7 @@ pub struct Commands<'a, Q = CommandQueue> {
 
 impl<'a> Commands<'a> {
     ghost use Rattle.ent_queue.specs.Commands.{IsReady, Extends, queue_of, reserver_of, shared_of};
-    ghost use Rattle.ent_queue.specs.Reserving.{Answers, refused_by, queued, listed};
+    ghost use Rattle.ent_queue.specs.Reserving.{IsReply, refused_by, queued, as_list};
 
     /// Begins with an empty queue. The reserver is one of those that came with the allocator.
     pub fn new(alloc: Global, shared: &'a Shared, reserver: &'a mut Reserver) -> Self
@@ -64,7 +64,7 @@ impl<'a> Commands<'a> {
 
         // Anything but Memory is the answer of a reservation.
         ensures answers { (answer : Result HandleValue Refusal) → result ≡ queued answer
-            → Answers (shared_of self.new) (reserver_of self.old) (reserver_of self.new) 1
+            → IsReply (shared_of self.new) (reserver_of self.old) (reserver_of self.new) 1
             (listed_alone answer) }
     {
         self.queue.spawn(self.shared, self.reserver, bundle.items())
@@ -86,8 +86,8 @@ impl<'a> Commands<'a> {
         ensures memory { IsErrOf result QueueFault.Memory → reserver_of self.new ≡ reserver_of self.old }
 
         // Anything but Memory is the answer of a reservation.
-        ensures answers { (answer : Result (List HandleValue) Refusal) → listed result ≡ queued answer
-            → Answers (shared_of self.new) (reserver_of self.old) (reserver_of self.new) n answer }
+        ensures answers { (answer : Result (List HandleValue) Refusal) → as_list result ≡ queued answer
+            → IsReply (shared_of self.new) (reserver_of self.old) (reserver_of self.new) n answer }
     {
         self.queue
             .spawn_many(self.alloc, self.shared, self.reserver, n, bundle.items())

@@ -3,8 +3,8 @@ ghost use Rattle.std.specs.Iterator.{YieldsFirstBy, UpTo, item_count};
 ghost use Rattle.std.specs.Iterator.SizeHint.{IsWithinCount};
 ghost use Rattle.ent_queue.specs.Command.{Command, IsRefusal};
 ghost use Rattle.ent_queue.specs.Entry.{command_of};
-ghost use Rattle.ent_queue.specs.Unpacking.{command_in, after_command, BeginsWith, ArePacked};
-ghost use Rattle.ent_queue.specs.Unpacking.{commands_in, refusal_in};
+ghost use Rattle.ent_queue.specs.Unpacking.{unpacked_command, after_first, BeginsWith, ArePacked};
+ghost use Rattle.ent_queue.specs.Unpacking.{unpacked_commands, unpacked_refusal};
 ghost use Rattle.std.specs.Prelude.{List, ℕ};
 
 use crate::bundle_ref::BundleRef;
@@ -29,9 +29,9 @@ impl<'a> Model for Entries<'a> {
 
     ghost Value = { List Command };
 
-    ghost use Rattle.ent_queue.specs.Unpacking.{commands_in, ArePacked};
+    ghost use Rattle.ent_queue.specs.Unpacking.{unpacked_commands, ArePacked};
 
-    ghost view = { λ e. commands_in e.left e.bytes.now };
+    ghost view = { λ e. unpacked_commands e.left e.bytes.now };
 
     ghost invariant = { λ e. ArePacked e.left e.bytes.now };
 }
@@ -40,7 +40,7 @@ impl<'a> Entries<'a> {
     /// That many commands, of which these are the bytes.
     pub(crate) fn new(left: usize, bytes: &'a [u8]) -> Self
         requires { ArePacked left bytes.now }
-        ensures { result ≡ commands_in left bytes.now }
+        ensures { result ≡ unpacked_commands left bytes.now }
     {
         Entries { left, bytes }
     }
@@ -83,8 +83,8 @@ impl ExactSizeIterator for Entries<'_> {
 /// The command at the front of the bytes, and the bytes after it.
 fn read_entry(bytes: &[u8]) -> (Entry<'_>, &[u8])
     requires { (c : Command) × (rest : List ℕ) × BeginsWith c bytes.now rest }
-    ensures entry { command_of result.0 ≡ command_in bytes.now }
-    ensures rest { result.1.now ≡ after_command bytes.now }
+    ensures entry { command_of result.0 ≡ unpacked_command bytes.now }
+    ensures rest { result.1.now ≡ after_first bytes.now }
 {
     let (kind, parts) = read_u8(bytes);
     match kind {
@@ -124,8 +124,8 @@ fn read_entry(bytes: &[u8]) -> (Entry<'_>, &[u8])
 /// Why that many handles were refused, and the bytes after it.
 fn read_reason(wanted: u32, bytes: &[u8]) -> (Refused, &[u8])
     requires long { 9 ≤ length bytes.now }
-    requires is { IsRefusal wanted (refusal_in wanted bytes.now) }
-    ensures why { result.0 ≡ refusal_in wanted bytes.now }
+    requires is { IsRefusal wanted (unpacked_refusal wanted bytes.now) }
+    ensures why { result.0 ≡ unpacked_refusal wanted bytes.now }
     ensures rest { result.1.now ≡ drop 8 (drop 1 bytes.now) }
 {
     let (kind, bytes) = read_u8(bytes);

@@ -3,7 +3,7 @@ ghost use Rattle.std.specs.List.{All};
 ghost use Rattle.std.specs.Iterator.{YieldsFirst, UpTo, item_count};
 ghost use Rattle.std.specs.Iterator.SizeHint.{IsWithinCount};
 ghost use Rattle.ent_handle.specs.Handle.{IsHandle};
-ghost use Rattle.ent_queue.specs.Unpacking.{handles_in, handle_in};
+ghost use Rattle.ent_queue.specs.Unpacking.{unpacked_handles, unpacked_handle};
 
 use crate::reading::read_handle;
 use ent_handle::Handle;
@@ -28,19 +28,19 @@ impl<'a> Model for HandlesRef<'a> {
 
     ghost coded = { coded_list handle_code };
 
-    ghost use Rattle.ent_queue.specs.Unpacking.{handle_in};
+    ghost use Rattle.ent_queue.specs.Unpacking.{unpacked_handle};
 
-    ghost view = { λ h. map handle_in h.handles.now };
+    ghost view = { λ h. map unpacked_handle h.handles.now };
 
-    ghost invariant = { λ h. All IsHandle (map handle_in h.handles.now) };
+    ghost invariant = { λ h. All IsHandle (map unpacked_handle h.handles.now) };
 }
 
 impl<'a> HandlesRef<'a> {
     /// That many handles at the front of the bytes, and the bytes after them.
     pub(crate) fn read(bytes: &'a [u8], count: u32) -> (Self, &'a [u8])
         requires long { 8 * count ≤ length bytes.now }
-        requires each { All IsHandle (handles_in count bytes.now) }
-        ensures value { result.0 ≡ handles_in count bytes.now }
+        requires each { All IsHandle (unpacked_handles count bytes.now) }
+        ensures value { result.0 ≡ unpacked_handles count bytes.now }
         ensures rest { result.1.now ≡ drop (8 * count) bytes.now }
     {
         let (handles, rest) = bytes.split_at(HANDLE * count as usize);
@@ -86,11 +86,11 @@ impl<'a> Model for Handles<'a> {
 
     ghost coded = { coded_list handle_code };
 
-    ghost use Rattle.ent_queue.specs.Unpacking.{handle_in};
+    ghost use Rattle.ent_queue.specs.Unpacking.{unpacked_handle};
 
-    ghost view = { λ h. map handle_in h.left.now };
+    ghost view = { λ h. map unpacked_handle h.left.now };
 
-    ghost invariant = { λ h. All IsHandle (map handle_in h.left.now) };
+    ghost invariant = { λ h. All IsHandle (map unpacked_handle h.left.now) };
 }
 
 impl Iterator for Handles<'_> {
@@ -123,8 +123,8 @@ impl ExactSizeIterator for Handles<'_> {
 
 /// The handle that these bytes are.
 fn handle_of(bytes: &[u8; HANDLE]) -> Handle
-    requires { IsHandle (handle_in bytes.now) }
-    ensures { result ≡ handle_in bytes.now }
+    requires { IsHandle (unpacked_handle bytes.now) }
+    ensures { result ≡ unpacked_handle bytes.now }
 {
     read_handle(bytes).0
 }

@@ -3,7 +3,7 @@ ghost use Rattle.std.specs.Prelude.{IfOk, IfErr, IsErrOf, Result, List, All};
 ghost use Rattle.ent_handle.specs.Handle.{Handle as HandleValue};
 ghost use Rattle.ent_shared.specs.declared.refused.Refused.{Refused as Refusal};
 ghost use Rattle.ent_shared.specs.Phase.{IsOf};
-ghost use Rattle.ent_shared.specs.Replies.{listed_alone};
+ghost use Rattle.ent_alloc.specs.Sequential.{listed_alone};
 ghost use Rattle.ent_queue.specs.Command.{IsBundle, IsCommand};
 ghost use Rattle.ent_queue.specs.Command.{Spawn, SpawnMany, Insert, Remove, Despawn};
 ghost use Rattle.ent_queue.specs.Packing.{queue_bytes};
@@ -37,15 +37,15 @@ impl Model for CommandQueue {
 
     ghost Value = { List Command };
 
-    ghost use Rattle.ent_queue.specs.Unpacking.{commands_in, ArePacked};
+    ghost use Rattle.ent_queue.specs.Unpacking.{unpacked_commands, ArePacked};
 
-    ghost view = { λ q. commands_in q.count q.bytes.items };
+    ghost view = { λ q. unpacked_commands q.count q.bytes.items };
 
     ghost invariant = { λ q. ArePacked q.count q.bytes.items };
 }
 
 impl CommandQueue {
-    ghost use Rattle.ent_queue.specs.Reserving.{Answers, refused_by, queued, listed};
+    ghost use Rattle.ent_queue.specs.Reserving.{IsReply, refused_by, queued, as_list};
 
     pub(crate) fn new(alloc: Global) -> Self
         ensures { result ≡ [] }
@@ -115,7 +115,7 @@ impl CommandQueue {
         ensures refused { IfErr result (λ fault. self.new ≡ self.old ++ refused_by 1 fault) }
         ensures memory { IsErrOf result QueueFault.Memory → reserver.new ≡ reserver.old }
         ensures answers { (answer : Result HandleValue Refusal) → result ≡ queued answer
-            → Answers shared.now reserver.old reserver.new 1 (listed_alone answer) }
+            → IsReply shared.now reserver.old reserver.new 1 (listed_alone answer) }
     {
         let own = 11 + 9 * items.len();
         self.bytes.reserve(own.max(REFUSAL))?;
@@ -149,8 +149,8 @@ impl CommandQueue {
         ensures length { IfOk result (λ handles. length handles.items ≡ n) }
         ensures refused { IfErr result (λ fault. self.new ≡ self.old ++ refused_by n fault) }
         ensures memory { IsErrOf result QueueFault.Memory → reserver.new ≡ reserver.old }
-        ensures answers { (answer : Result (List HandleValue) Refusal) → listed result ≡ queued answer
-            → Answers shared.now reserver.old reserver.new n answer }
+        ensures answers { (answer : Result (List HandleValue) Refusal) → as_list result ≡ queued answer
+            → IsReply shared.now reserver.old reserver.new n answer }
     {
         let mut handles = Vec::with_capacity(alloc, n as usize)?;
         let own = 7 + 8 * n as usize + 9 * items.len();

@@ -1,7 +1,7 @@
 //! Numbers, handles and lists at the front of packed bytes, each with the bytes after it.
 ghost use Rattle.std.specs.Prelude.{◌≡◌, ◌+◌, ◌*◌, ◌≤◌, drop, length, slice_index};
 ghost use Rattle.ent_handle.specs.Handle.{IsHandle};
-ghost use Rattle.ent_queue.specs.Unpacking.{number_2, number_4, number_8, handle_of, handle_in};
+ghost use Rattle.ent_queue.specs.Unpacking.{number_2, number_4, number_8, handle_of_bits, unpacked_handle};
 
 use ent_handle::Handle;
 
@@ -45,18 +45,18 @@ pub(crate) fn read_u64(bytes: &[u8]) -> (u64, &[u8])
 
 pub(crate) fn read_handle(bytes: &[u8]) -> (Handle, &[u8])
     requires long { 8 ≤ length bytes.now }
-    requires is { IsHandle (handle_in bytes.now) }
-    ensures value { result.0 ≡ handle_in bytes.now }
+    requires is { IsHandle (unpacked_handle bytes.now) }
+    ensures value { result.0 ≡ unpacked_handle bytes.now }
     ensures rest { result.1.now ≡ drop 8 bytes.now }
 {
     let (bits, rest) = read_u64(bytes);
-    (handle_of(bits), rest)
+    (handle_of_bits(bits), rest)
 }
 
 /// The handle of these bits, which are a handle's.
-pub(crate) fn handle_of(bits: u64) -> Handle
-    requires { IsHandle (handle_of bits) }
-    ensures { result ≡ handle_of bits }
+pub(crate) fn handle_of_bits(bits: u64) -> Handle
+    requires { IsHandle (handle_of_bits bits) }
+    ensures { result ≡ handle_of_bits bits }
 {
     Handle::from_parts((bits & 0xffff_ffff) as u32, (bits >> 32) as u32)
 }

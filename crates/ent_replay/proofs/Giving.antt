@@ -29,7 +29,8 @@ use Rattle.ent_replay.specs.declared.fault.ReplayFault.{ReplayFault}
 use Rattle.ent_replay.specs.Schedule.{MachineState, OpenCall, Reply, Answered, on_event, outcome_of}
 use Rattle.ent_replay.specs.Schedule.{after_event, outcomes_of, reported, callers, wraps}
 use Rattle.ent_replay.specs.Held.{joined, held_by, held, all_held}
-use Rattle.ent_replay.specs.Histories.{given_by, given_in, has_wrapped, NoneWrapped, AreGivenOnce}
+use Rattle.ent_replay.specs.Histories.{given_by, given_by_all, has_wrapped, NoneWrapped}
+use Rattle.ent_alloc.specs.History.{AreGivenOnce}
 use Rattle.ent_replay.proofs.Maps.{get-inserted, get-insert_other, get-removed, get-remove_other}
 use Rattle.ent_replay.proofs.Moves.{Move, move, stays, allocates, frees, flushes, begins, steps}
 use Rattle.ent_replay.proofs.Moves.{answers}
@@ -191,11 +192,11 @@ all_held-next s e r t is fresh sound once =
 
 -- ---- whole runs
 
-given_run : (s : MachineState) (events : List Event) (given : List Handle) → IsGiven s given → NoneWrapped (outcomes_of s events) → AllPairs (λ g h. g ≢ h) (given ++ given_in (outcomes_of s events))
+given_run : (s : MachineState) (events : List Event) (given : List Handle) → IsGiven s given → NoneWrapped (outcomes_of s events) → AllPairs (λ g h. g ≢ h) (given ++ given_by_all (outcomes_of s events))
 given_run s [] given h fresh = subst (AllPairs (λ g h. g ≢ h)) (sym (append-nil given)) (AllPairs-left (λ g h. g ≢ h) given (all_held s.calls) h.once.distinct)
 given_run s (e ∷ events) given h fresh =
-    subst (AllPairs (λ g h. g ≢ h)) (append_assoc given (given_by (outcome_of s e)) (given_in (outcomes_of (after_event s e) events)))
+    subst (AllPairs (λ g h. g ≢ h)) (append_assoc given (given_by (outcome_of s e)) (given_by_all (outcomes_of (after_event s e) events)))
     (given_run (after_event s e) events (given ++ given_by (outcome_of s e)) (given-next s e given h fresh.0 (move s e)) fresh.1)
 
-pub given_once : (s : MachineState) (events : List Event) → IsSound s.allocator → spent.AreSpent s.allocator (all_held s.calls) → NoneWrapped (outcomes_of s events) → AreGivenOnce (outcomes_of s events)
+pub given_once : (s : MachineState) (events : List Event) → IsSound s.allocator → spent.AreSpent s.allocator (all_held s.calls) → NoneWrapped (outcomes_of s events) → AreGivenOnce (given_by_all (outcomes_of s events))
 given_once s events sound once fresh = given_run s events [] (record { sound = sound; once = once }) fresh

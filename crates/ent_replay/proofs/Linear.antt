@@ -19,8 +19,8 @@ use Rattle.ent_replay.specs.declared.outcome.Outcome.{Outcome}
 use Rattle.ent_replay.specs.declared.fault.ReplayFault.{ReplayFault}
 use Rattle.ent_replay.specs.Schedule.{MachineState, OpenCall, Reply, outcome_of, after_event}
 use Rattle.ent_replay.specs.Schedule.{outcomes_of, reported}
-use Rattle.ent_replay.specs.Histories.{reserved, reservations, Phase, next_phase, last_of, TellsOf}
-use Rattle.ent_replay.specs.Histories.{Tells, StandInHistory, IsAtRest, new_phase}
+use Rattle.ent_replay.specs.Histories.{reserved_by_request, reservations, Phase, phase_after, last_of, TellsOf}
+use Rattle.ent_replay.specs.Histories.{TellsReply, StandInHistory, IsAtRest, new_phase}
 use Rattle.ent_replay.proofs.Maps.{get-inserted, get-insert_other, get-removed, get-remove_other}
 use Rattle.ent_replay.proofs.Conditions.{when, unless}
 use Rattle.ent_replay.proofs.Moves.{Move, move, stays, allocates, frees, flushes, begins, steps}
@@ -133,7 +133,7 @@ module _ (p : Phase) (s : MachineState) (e : Event) (h : IsFollowed p s) where
       subst NothingTold (sym t) (on_removed (λ q. RequestedNone) s.calls caller (λ q call r _. still q call r))
 
   -- a step of some request, as the request is
-  after_step : (caller n : ℕ) → IsFollowed (record { start = p.start; calls = p.calls ++ reserved s caller n None })
+  after_step : (caller n : ℕ) → IsFollowed (record { start = p.start; calls = p.calls ++ reserved_by_request s caller n None })
       (record s { allocator = after_take s.allocator n; calls = finite.insert s.calls caller (record { requested = n; reply = Some (reply_to s.allocator n) }) })
   after_step caller zero = record {
     legal = subst (IsLegal p.start) (sym (append-nil p.calls)) h.legal;
@@ -190,10 +190,10 @@ module _ (p : Phase) (s : MachineState) (e : Event) (h : IsFollowed p s) where
         open_calls = on_removed (IsOfHistory p.calls) s.calls caller (λ q call r _. h.open_calls q call r);
       }))
 
-  pub followed-next : IsFollowed (next_phase p s e) (after_event s e)
+  pub followed-next : IsFollowed (phase_after p s e) (after_event s e)
   followed-next = go ((after_event s e).allocator.asked == 0) refl
     where
-      go : (b : Bool) → ((after_event s e).allocator.asked == 0) ≡ b → IsFollowed (next_phase p s e) (after_event s e)
+      go : (b : Bool) → ((after_event s e).allocator.asked == 0) ≡ b → IsFollowed (phase_after p s e) (after_event s e)
       go true is =
           let zero_asked : (after_event s e).allocator.asked ≡ 0 = grind (arith, nat_tests) in
           let quiet = at_rest (move s e) zero_asked in
@@ -207,7 +207,7 @@ module _ (p : Phase) (s : MachineState) (e : Event) (h : IsFollowed p s) where
 
 -- ---- what an answer tells
 
-told_by : (p : Phase) (s : MachineState) (caller : ℕ) → IsFollowed p s → (r : Result Outcome ReplayFault) → outcome_of s (event.Answer caller) ≡ r → Tells s p.calls (event.Answer caller) r
+told_by : (p : Phase) (s : MachineState) (caller : ℕ) → IsFollowed p s → (r : Result Outcome ReplayFault) → outcome_of s (event.Answer caller) ≡ r → TellsReply s p.calls (event.Answer caller) r
 told_by p s caller h (Err why) result = tt
 told_by p s caller h (Ok told) result = go (move s (event.Answer caller))
   where
@@ -228,7 +228,7 @@ told_by p s caller h (Ok told) result = go (move s (event.Answer caller))
         ] in
         (call, here, tells)
 
-tells : (p : Phase) (s : MachineState) (e : Event) → IsFollowed p s → Tells s p.calls e (outcome_of s e)
+tells : (p : Phase) (s : MachineState) (e : Event) → IsFollowed p s → TellsReply s p.calls e (outcome_of s e)
 tells p s event.Alloc h = tt
 tells p s (event.Free x) h = tt
 tells p s event.Flush h = tt
@@ -242,7 +242,7 @@ follows : (p : Phase) (s : MachineState) (events : List Event) → IsFollowed p 
 follows p s [] h = tt
 follows p s (e ∷ events) h =
     let then = followed-next p s e h in
-    (tells p s e h, then.legal, then.reached, follows (next_phase p s e) (after_event s e) events then)
+    (tells p s e h, then.legal, then.reached, follows (phase_after p s e) (after_event s e) events then)
 
 pub linear : (s : MachineState) (events : List Event) → IsAtRest s → StandInHistory (new_phase s) s events (outcomes_of s events)
 linear s events rest = follows (new_phase s) s events (record {

@@ -38,14 +38,14 @@ use Rattle.ent_replay.specs.declared.fault.ReplayFault.TheVariants as fault
 use Rattle.ent_replay.specs.Schedule.{MachineState, OpenCall, Answered, starting, is_busy, on_alloc}
 use Rattle.ent_replay.specs.Schedule.{on_free, on_flush, on_begin, on_step, on_answer, alloc_front}
 use Rattle.ent_replay.specs.Schedule.{begin_with, step_with, step_open, answer_with, answer_open}
-use Rattle.ent_replay.specs.Schedule.{takes_memory, left_of, callers, reported, wraps}
-use Rattle.ent_replay.specs.Totals.{total}
+use Rattle.ent_replay.specs.Schedule.{event_takes_memory, left_of, callers, reported, wraps}
+use Rattle.ent_replay.specs.Totals.{sum_below}
 use Rattle.ent_replay.specs.Held.{all_held}
 use Rattle.ent_replay.specs.Machine.{map_values, open_call_of, machine_state, unasked, awaited}
 use Rattle.ent_replay.specs.Machine.{AreConsistent, Makes}
 use Rattle.ent_replay.proofs.Conditions.{when, unless}
 use Rattle.ent_replay.proofs.Giving.{all_held-none, all_held-next, given-none, not_wrapped-reported}
-use Rattle.ent_replay.proofs.Totals.{total-changed, total-bound, total-part, total-none}
+use Rattle.ent_replay.proofs.Totals.{sum_below-changed, sum_below-bound, sum_below-part, sum_below-none}
 use Rattle.ent_replay.proofs.Maps.{no_test, maps_alike, get-inserted, get-insert_other, get-removed}
 use Rattle.ent_replay.proofs.Maps.{get-remove_other, get-map_values, map_values-insert}
 use Rattle.ent_replay.proofs.Maps.{map_values-remove, map_values-empty}
@@ -59,8 +59,8 @@ done on inside now view result answer is after next is_next step =
     inl (is ∙ ap (λ p. p.0) (sym step) ∙ ap (λ v. (on v).0) view, is_next ∙ ap (λ p. p.1) (sym step) ∙ ap (λ v. (on v).1) view)
 
 pub refused : (on : MachineState → Answered) (inside now : MachineState) → inside ≡ now → (result : Result Outcome ReplayFault) → result ≡ Err fault.Memory → (after : MachineState) → after ≡ inside
-    → takes_memory inside (on inside).0 ≡ true → Makes (on now) now result after
-refused on inside now view result is after unchanged takes = inr (is, unchanged ∙ view, ap (λ v. takes_memory v (on v).0) (sym view) ∙ takes)
+    → event_takes_memory inside (on inside).0 ≡ true → Makes (on now) now result after
+refused on inside now view result is after unchanged takes = inr (is, unchanged ∙ view, ap (λ v. event_takes_memory v (on v).0) (sym view) ∙ takes)
 
 -- two tests that say the same are one
 pub same_test : (b : Bool) (m n : ℕ) → (IsTrue b → m ≡ n) × (m ≡ n → IsTrue b) → b ≡ (m == n)
@@ -115,7 +115,7 @@ front_is_fresh made pool h rest is none = go (is_old made h) refl
     go false fresh = grind (arith, nat_tests)
 
 -- to take the front of a pool takes memory if it makes a slot
-front_takes_memory : (s : MachineState) (pool : List Handle) → ¬ (pool ≡ []) → length (filter (is_old s.allocator.made) pool) ≡ 0 → takes_memory s (alloc_front s pool).0 ≡ true
+front_takes_memory : (s : MachineState) (pool : List Handle) → ¬ (pool ≡ []) → length (filter (is_old s.allocator.made) pool) ≡ 0 → event_takes_memory s (alloc_front s pool).0 ≡ true
 front_takes_memory s [] some none = absurd (some refl)
 front_takes_memory s (h ∷ rest) some none = front_is_fresh s.allocator.made (h ∷ rest) h rest refl none
 
@@ -124,7 +124,7 @@ some_handles : (hs : List Handle) → 0 < length hs → nat_lt 0 (length hs) ≡
 some_handles hs some = grind (arith, nat_tests)
 
 -- to list such a reply takes memory
-pub listed-takes_memory : (s : MachineState) (hs : List Handle) → 0 < length hs → takes_memory s (Ok (outcome.Handles hs)) ≡ true
+pub listed-takes_memory : (s : MachineState) (hs : List Handle) → 0 < length hs → event_takes_memory s (Ok (outcome.Handles hs)) ≡ true
 listed-takes_memory s hs some = some_handles hs some
 
 not_false : (b : Bool) → ¬ (b ≡ false) → b ≡ true
@@ -173,11 +173,11 @@ module _ (s : Allocator) (spent : FinMap nat_cmp ℕ) (calls : FinMap nat_cmp St
       absent q call is = let nothing : finite.get calls q ≡ None = ap (λ m. finite.get m q) none ∙ get-empty nat_cmp q in cc
 
   -- what was asked for, and what is still to be, is within what a span can have
-  pub asked-bound : AreConsistent s spent calls → s.asked + total (λ q. awaited (finite.get calls q)) callers ≤ 2 ^ 50
+  pub asked-bound : AreConsistent s spent calls → s.asked + sum_below (λ q. awaited (finite.get calls q)) callers ≤ 2 ^ 50
   unfolding credit
   asked-bound h =
       let before = h.asked in
-      let bound : total (λ q. unwrap_or (finite.get spent q) 0) callers ≤ callers * credit = total-bound (λ q. unwrap_or (finite.get spent q) 0) credit callers h.credit in
+      let bound : sum_below (λ q. unwrap_or (finite.get spent q) 0) callers ≤ callers * credit = sum_below-bound (λ q. unwrap_or (finite.get spent q) 0) credit callers h.credit in
       omega arith
 
   -- ---- events that need the allocator to themselves
@@ -207,11 +207,11 @@ module _ (s : Allocator) (spent : FinMap nat_cmp ℕ) (calls : FinMap nat_cmp St
         ∙ ap (λ m. (Ok (outcome.Handle h), record { allocator = after_alloc s h; spent = spent; calls = m })) (quiet_calls none (after_alloc s h))
 
     -- if no old slot waits, the front of the pool makes a slot
-    pub alloc-takes_memory : IsSound s → ¬ (0 < s.asked) → ¬ (s.pool ≡ []) → top s ≡ 0 → takes_memory (machine_state s spent calls) (on_alloc (machine_state s spent calls)).0 ≡ true
+    pub alloc-takes_memory : IsSound s → ¬ (0 < s.asked) → ¬ (s.pool ≡ []) → top s ≡ 0 → event_takes_memory (machine_state s spent calls) (on_alloc (machine_state s spent calls)).0 ≡ true
     alloc-takes_memory sound rest some none_old =
         let nothing : s.asked ≡ 0 = flushed rest in
         let pool : s.pool ≡ available s = sound.pool ∙ ap (λ n. drop n (available s)) nothing in
-        ap (λ p. takes_memory (machine_state s spent calls) p.0) (alloc-flushed rest)
+        ap (λ p. event_takes_memory (machine_state s spent calls) p.0) (alloc-flushed rest)
         ∙ front_takes_memory (machine_state s spent calls) s.pool some (ap (λ hs. length (filter (is_old s.made) hs)) pool ∙ none_old)
 
     pub alloc-consistent : (h : Handle) → AreConsistent s spent calls → ¬ (0 < s.asked) → slice_get s.pool 0 ≡ Some h → AreConsistent (after_alloc s h) spent calls
@@ -235,8 +235,8 @@ module _ (s : Allocator) (spent : FinMap nat_cmp ℕ) (calls : FinMap nat_cmp St
         ∙ ap (λ m. (Ok (outcome.Freed h (next s.limits h) (wraps s.limits h)), record { allocator = after_free s h; spent = spent; calls = m })) (quiet_calls none (after_free s h))
 
     -- to free what lives takes memory
-    pub free-takes_memory : (h : Handle) → ¬ (0 < s.asked) → ¬ (set.contains s.live h ≡ false) → takes_memory (machine_state s spent calls) (on_free (machine_state s spent calls) h).0 ≡ true
-    free-takes_memory h rest lives = ap (λ p. takes_memory (machine_state s spent calls) p.0) (free-freed h rest (not_false (set.contains s.live h) lives))
+    pub free-takes_memory : (h : Handle) → ¬ (0 < s.asked) → ¬ (set.contains s.live h ≡ false) → event_takes_memory (machine_state s spent calls) (on_free (machine_state s spent calls) h).0 ≡ true
+    free-takes_memory h rest lives = ap (λ p. event_takes_memory (machine_state s spent calls) p.0) (free-freed h rest (not_false (set.contains s.live h) lives))
 
     pub free-consistent : (h : Handle) → AreConsistent s spent calls → ¬ (0 < s.asked) → set.contains s.live h ≡ true → AreConsistent (after_free s h) spent calls
     free-consistent h played rest lives =
@@ -249,17 +249,17 @@ module _ (s : Allocator) (spent : FinMap nat_cmp ℕ) (calls : FinMap nat_cmp St
         ∙ ap (λ m. (Ok (outcome.Born (born s)), record { allocator = after_flush s; spent = finite.empty; calls = m })) (quiet_calls none (after_flush s))
 
     -- to bring handles to life takes memory
-    pub flush-takes_memory : 0 < length s.taken → takes_memory (machine_state s spent calls) (on_flush (machine_state s spent calls)).0 ≡ true
+    pub flush-takes_memory : 0 < length s.taken → event_takes_memory (machine_state s spent calls) (on_flush (machine_state s spent calls)).0 ≡ true
     flush-takes_memory some =
         let long : length (born s) ≡ length s.taken = length_permutation s.taken (born s) (born-IsPermutation s) in
-        ap (λ p. takes_memory (machine_state s spent calls) p.0) flush-flushed ∙ some_handles (born s) (omega arith)
+        ap (λ p. event_takes_memory (machine_state s spent calls) p.0) flush-flushed ∙ some_handles (born s) (omega arith)
 
     pub flush-consistent : AreConsistent s spent calls → AreConsistent (after_flush s) finite.empty calls
     flush-consistent played = record {
       sound = after_flush-sound s played.sound;
       credit = λ q. let nothing : unwrap_or (finite.get (finite.empty {X = ℕ} {R = nat_cmp}) q) 0 ≡ 0 = ap (λ o. unwrap_or o 0) (get-empty nat_cmp q) in omega arith;
       asked =
-          let waits : total (λ q. awaited (finite.get calls q)) callers ≡ 0 = total-none (λ q. awaited (finite.get calls q)) callers (λ q. ap (λ m. awaited (finite.get m q)) none ∙ ap awaited (get-empty nat_cmp q)) in
+          let waits : sum_below (λ q. awaited (finite.get calls q)) callers ≡ 0 = sum_below-none (λ q. awaited (finite.get calls q)) callers (λ q. ap (λ m. awaited (finite.get m q)) none ∙ ap awaited (get-empty nat_cmp q)) in
           omega arith;
       requests = played.requests;
       spans = λ q call span is _. absurd (absent q call is);
@@ -291,7 +291,7 @@ module _ (s : Allocator) (spent : FinMap nat_cmp ℕ) (calls : FinMap nat_cmp St
     pub awaited-bound : AreConsistent s spent calls → (call : StoredCall) → finite.get calls caller ≡ Some call → s.asked + unasked call.requested call.span ≤ 2 ^ 50
     awaited-bound h call is =
         let all = asked-bound h in
-        let one : awaited (finite.get calls caller) ≤ total (λ q. awaited (finite.get calls q)) callers = total-part (λ q. awaited (finite.get calls q)) caller callers below in
+        let one : awaited (finite.get calls caller) ≤ sum_below (λ q. awaited (finite.get calls q)) callers = sum_below-part (λ q. awaited (finite.get calls q)) caller callers below in
         let here = ap awaited is in
         omega arith
 
@@ -334,9 +334,9 @@ module _ (s : Allocator) (spent : FinMap nat_cmp ℕ) (calls : FinMap nat_cmp St
       ];
       asked =
           let before = h.asked in
-          let waits = total-changed (λ q. awaited (finite.get calls q)) (λ q. awaited (finite.get (finite.insert calls caller (begun n)) q)) caller callers below
+          let waits = sum_below-changed (λ q. awaited (finite.get calls q)) (λ q. awaited (finite.get (finite.insert calls caller (begun n)) q)) caller callers below
           (λ q other. ap awaited (sym (get-insert_other calls caller (begun n) q other))) in
-          let spends = total-changed (λ q. unwrap_or (finite.get spent q) 0) (λ q. unwrap_or (finite.get (finite.insert spent caller (more n)) q) 0) caller callers below
+          let spends = sum_below-changed (λ q. unwrap_or (finite.get spent q) 0) (λ q. unwrap_or (finite.get (finite.insert spent caller (more n)) q) 0) caller callers below
           (λ q other. ap (λ o. unwrap_or o 0) (sym (get-insert_other spent caller (more n) q other))) in
           let waited : awaited (finite.get calls caller) ≡ 0 = ap awaited is in
           let waits_now : awaited (finite.get (finite.insert calls caller (begun n)) caller) ≡ n = ap awaited (get-inserted calls caller (begun n)) in
@@ -403,7 +403,7 @@ module _ (s : Allocator) (spent : FinMap nat_cmp ℕ) (calls : FinMap nat_cmp St
         credit = h.credit;
         asked =
             let before = h.asked in
-            let all = total-changed (λ q. awaited (finite.get calls q)) (λ q. awaited (finite.get (finite.insert calls caller stepped) q)) caller callers below
+            let all = sum_below-changed (λ q. awaited (finite.get calls q)) (λ q. awaited (finite.get (finite.insert calls caller stepped) q)) caller callers below
             (λ q other. ap awaited (sym (get-insert_other calls caller stepped q other))) in
             let waited : awaited (finite.get calls caller) ≡ call.requested = ap awaited is ∙ ap (unasked call.requested) waits in
             let waits_now : awaited (finite.get (finite.insert calls caller stepped) caller) ≡ 0 = ap awaited (get-inserted calls caller stepped) in
@@ -455,7 +455,7 @@ module _ (s : Allocator) (spent : FinMap nat_cmp ℕ) (calls : FinMap nat_cmp St
         credit = h.credit;
         asked =
             let before = h.asked in
-            let all = total-changed (λ q. awaited (finite.get calls q)) (λ q. awaited (finite.get (finite.remove calls caller) q)) caller callers below
+            let all = sum_below-changed (λ q. awaited (finite.get calls q)) (λ q. awaited (finite.get (finite.remove calls caller) q)) caller callers below
             (λ q other. ap awaited (sym (get-remove_other calls caller q other))) in
             let waited : awaited (finite.get calls caller) ≡ 0 = ap awaited is ∙ ap (unasked call.requested) passed in
             let waits_now : awaited (finite.get (finite.remove calls caller) caller) ≡ 0 = ap awaited (get-removed calls caller) in
@@ -487,7 +487,7 @@ starting-consistent limits h = record {
   sound = h;
   credit = λ q. let nothing : unwrap_or (finite.get (finite.empty {X = ℕ} {R = nat_cmp}) q) 0 ≡ 0 = ap (λ o. unwrap_or o 0) (get-empty nat_cmp q) in omega arith;
   asked =
-      let waits : total (λ q. awaited (finite.get (finite.empty {X = StoredCall} {R = nat_cmp}) q)) callers ≡ 0 = total-none (λ q. awaited (finite.get finite.empty q)) callers (λ q. ap awaited (get-empty nat_cmp q)) in
+      let waits : sum_below (λ q. awaited (finite.get (finite.empty {X = StoredCall} {R = nat_cmp}) q)) callers ≡ 0 = sum_below-none (λ q. awaited (finite.get finite.empty q)) callers (λ q. ap awaited (get-empty nat_cmp q)) in
       omega arith;
   requests = λ q call at. absurd (absent q call at);
   spans = λ q call span at _. absurd (absent q call at);

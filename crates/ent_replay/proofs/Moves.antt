@@ -20,7 +20,7 @@ use Rattle.ent_replay.specs.Schedule.{MachineState, OpenCall, Reply, is_busy, on
 use Rattle.ent_replay.specs.Schedule.{after_event, outcomes_of, alloc_front, begin_with, step_with}
 use Rattle.ent_replay.specs.Schedule.{step_open, answer_with, answer_open, spent_by, left_of}
 use Rattle.ent_replay.specs.Schedule.{callers, reported, wraps}
-use Rattle.ent_replay.specs.Histories.{reserved, reserved_by, reservations, given_by}
+use Rattle.ent_replay.specs.Histories.{reserved_by_request, reserved_by_call, reservations, given_by}
 use Rattle.std.proofs.lemmas.List.Elements.{All-nil, All-cons}
 use Rattle.ent_replay.proofs.Maps.{no_test}
 use Rattle.ent_replay.proofs.Conditions.{when, unless}
@@ -43,7 +43,7 @@ pub data Move (s : MachineState) (e : Event) : Type 0 where
       → caller < callers → finite.get s.calls caller ≡ None → e ≡ event.Begin caller n → Move s e
   steps : (caller : ℕ) (call : OpenCall)
       → on_event s e ≡ (Ok (outcome.Cursor (cursor (after_take s.allocator call.requested))), record s { allocator = after_take s.allocator call.requested; calls = finite.insert s.calls caller (record { requested = call.requested; reply = Some (reply_to s.allocator call.requested) }) })
-      → caller < callers → finite.get s.calls caller ≡ Some call → call.reply ≡ None → reservations s e ≡ reserved s caller call.requested None → e ≡ event.Step caller → Move s e
+      → caller < callers → finite.get s.calls caller ≡ Some call → call.reply ≡ None → reservations s e ≡ reserved_by_request s caller call.requested None → e ≡ event.Step caller → Move s e
   answers : (caller : ℕ) (call : OpenCall) (reply : Reply) → on_event s e ≡ (Ok (reported reply), record s { calls = finite.remove s.calls caller })
       → caller < callers → finite.get s.calls caller ≡ Some call → call.reply ≡ Some reply → e ≡ event.Answer caller → Move s e
 
@@ -115,14 +115,14 @@ begin_by s caller n false above = faulty s (event.Begin caller n) fault.Caller r
 step_call : (s : MachineState) (caller : ℕ) → nat_lt caller callers ≡ true → (call : OpenCall) → finite.get s.calls caller ≡ Some call → (o : Option Reply) → call.reply ≡ o → Move s (event.Step caller)
 step_call s caller below call some None waits =
     steps caller call (when (nat_lt caller callers) _ _ below ∙ ap (step_open s caller) some ∙ ap (step_with s caller call.requested) waits) (grind (arith, nat_tests)) some waits
-    (when (nat_lt caller callers) _ _ below ∙ ap (reserved_by s caller) some ∙ ap (reserved s caller call.requested) waits) refl
+    (when (nat_lt caller callers) _ _ below ∙ ap (reserved_by_call s caller) some ∙ ap (reserved_by_request s caller call.requested) waits) refl
 step_call s caller below call some (Some reply) stepped =
     faulty s (event.Step caller) fault.AlreadyStepped refl (when (nat_lt caller callers) _ _ below ∙ ap (step_open s caller) some ∙ ap (step_with s caller call.requested) stepped)
-    (when (nat_lt caller callers) _ _ below ∙ ap (reserved_by s caller) some ∙ ap (reserved s caller call.requested) stepped)
+    (when (nat_lt caller callers) _ _ below ∙ ap (reserved_by_call s caller) some ∙ ap (reserved_by_request s caller call.requested) stepped)
 
 step_at : (s : MachineState) (caller : ℕ) → nat_lt caller callers ≡ true → (o : Option OpenCall) → finite.get s.calls caller ≡ o → Move s (event.Step caller)
 step_at s caller below None none =
-    faulty s (event.Step caller) fault.NotOpen refl (when (nat_lt caller callers) _ _ below ∙ ap (step_open s caller) none) (when (nat_lt caller callers) _ _ below ∙ ap (reserved_by s caller) none)
+    faulty s (event.Step caller) fault.NotOpen refl (when (nat_lt caller callers) _ _ below ∙ ap (step_open s caller) none) (when (nat_lt caller callers) _ _ below ∙ ap (reserved_by_call s caller) none)
 step_at s caller below (Some call) some = step_call s caller below call some call.reply refl
 
 step_by : (s : MachineState) (caller : ℕ) (b : Bool) → nat_lt caller callers ≡ b → Move s (event.Step caller)

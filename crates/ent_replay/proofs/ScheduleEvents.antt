@@ -26,8 +26,8 @@ use Rattle.ent_replay.specs.declared.event.Event.TheVariants.{Alloc, Free, Flush
 use Rattle.ent_replay.specs.declared.event.Event.TheVariants.{Answer}
 use Rattle.ent_replay.specs.declared.read_fault.Cause.{Cause}
 use Rattle.ent_replay.specs.declared.read_fault.Cause.TheVariants as cause
-use Rattle.ent_replay.specs.ScheduleText.{◌>>=◌, event_text, IsEvent, words_of, or_cause, number}
-use Rattle.ent_replay.specs.ScheduleText.{handle, none, one, two, begin_of, event_with, event_of}
+use Rattle.ent_replay.specs.ScheduleText.{◌>>=◌, event_text, IsEvent, words_of, or_cause, number_word}
+use Rattle.ent_replay.specs.ScheduleText.{handle_word, none, one, two, begin_of, event_with, event_of}
 
 -- ---- steps that did not fail
 
@@ -78,18 +78,18 @@ number_is_small word n e =
       ]
     ]
 
-number_ok : (word : List ℕ) (n : ℕ) → number word ≡ Ok n → (n < 2 ^ 32) × (word ≡ decimal n)
+number_ok : (word : List ℕ) (n : ℕ) → number_word word ≡ Ok n → (n < 2 ^ 32) × (word ≡ decimal n)
 number_ok word n e =
     let f = or_cause_ok cause.Number (number_of word) n e in
     (number_is_small word n f, number_found word (Ok n) (sym f))
 
-handle_ok : (word : List ℕ) (h : Handle) → handle word ≡ Ok h → IsHandle h × (word ≡ handle_text h)
+handle_ok : (word : List ℕ) (h : Handle) → handle_word word ≡ Ok h → IsHandle h × (word ≡ handle_text h)
 handle_ok word h e = handle_found word (Ok h) (sym (or_cause_ok cause.Handle (handle_of word) h e))
 
-number_again : (n : ℕ) → n < 2 ^ 32 → number (decimal n) ≡ Ok n
+number_again : (n : ℕ) → n < 2 ^ 32 → number_word (decimal n) ≡ Ok n
 number_again n small = ap (or_cause cause.Number) (number_of-decimal n small)
 
-handle_again : (h : Handle) → IsHandle h → handle (handle_text h) ≡ Ok h
+handle_again : (h : Handle) → IsHandle h → handle_word (handle_text h) ≡ Ok h
 handle_again h is = ap (or_cause cause.Handle) (handle_of_text h is)
 
 -- ---- bytes that a text lacks
@@ -164,20 +164,20 @@ alone_found word others event e is fits h =
     let p = none_ok event others e h in
     subst (λ (x : Event). IsRead (word ∷ others) x) p.1 (fits, ap (λ (ws : List (List ℕ)). joined (word ∷ ws)) p.0 ∙ is)
 
-free_found : (word : List ℕ) (others : List (List ℕ)) (e : Event) → word ≡ codes "free" → (one others >>= handle >>= λ h. Ok (Free h)) ≡ Ok e → IsRead (word ∷ others) e
+free_found : (word : List ℕ) (others : List (List ℕ)) (e : Event) → word ≡ codes "free" → (one others >>= handle_word >>= λ h. Ok (Free h)) ≡ Ok e → IsRead (word ∷ others) e
 free_found word others e is h =
-    let b = bind_ok (one others >>= handle) (λ h. Ok (Free h)) e h in
-    let a = bind_ok (one others) handle b.0 b.1 in
+    let b = bind_ok (one others >>= handle_word) (λ h. Ok (Free h)) e h in
+    let a = bind_ok (one others) handle_word b.0 b.1 in
     let p = handle_ok a.0 b.0 a.2 in
     subst (λ (x : Event). IsRead (word ∷ others) x) (ok_is (Free b.0) e b.2)
     (p.0, ap (λ (ws : List (List ℕ)). joined (word ∷ ws)) (one_ok others a.0 a.1) ∙ ap (λ (w : List ℕ). w ++ 32 ∷ a.0) is ∙ ap (λ (w : List ℕ). codes "free " ++ w) p.1)
 
 -- a keyword with one number after it
 caller_found : (make : ℕ → Event) (keyword : List ℕ) → ((n : ℕ) → n < 2 ^ 32 → IsEvent (make n)) → ((n : ℕ) → event_text (make n) ≡ keyword ++ 32 ∷ decimal n)
-    → (word : List ℕ) (others : List (List ℕ)) (e : Event) → word ≡ keyword → (one others >>= number >>= λ caller. Ok (make caller)) ≡ Ok e → IsRead (word ∷ others) e
+    → (word : List ℕ) (others : List (List ℕ)) (e : Event) → word ≡ keyword → (one others >>= number_word >>= λ caller. Ok (make caller)) ≡ Ok e → IsRead (word ∷ others) e
 caller_found make keyword fits text word others e is h =
-    let b = bind_ok (one others >>= number) (λ caller. Ok (make caller)) e h in
-    let a = bind_ok (one others) number b.0 b.1 in
+    let b = bind_ok (one others >>= number_word) (λ caller. Ok (make caller)) e h in
+    let a = bind_ok (one others) number_word b.0 b.1 in
     let p = number_ok a.0 b.0 a.2 in
     subst (λ (x : Event). IsRead (word ∷ others) x) (ok_is (make b.0) e b.2)
     (fits b.0 p.0, ap (λ (ws : List (List ℕ)). joined (word ∷ ws)) (one_ok others a.0 a.1) ∙ ap (λ (w : List ℕ). w ++ 32 ∷ a.0) is ∙ ap (λ (w : List ℕ). keyword ++ 32 ∷ w) p.1 ∙ sym (text b.0))
@@ -185,9 +185,9 @@ caller_found make keyword fits text word others e is h =
 begin_found : (word : List ℕ) (others : List (List ℕ)) (e : Event) → word ≡ codes "begin" → begin_of others ≡ Ok e → IsRead (word ∷ others) e
 unfolding begin_of
 begin_found word others e is h =
-    let a = bind_ok (two others) (λ pair. number pair.0 >>= λ caller. number pair.1 >>= λ n. Ok (Begin caller n)) e h in
-    let b = bind_ok (number a.0.0) (λ caller. number a.0.1 >>= λ n. Ok (Begin caller n)) e a.2 in
-    let c = bind_ok (number a.0.1) (λ n. Ok (Begin b.0 n)) e b.2 in
+    let a = bind_ok (two others) (λ pair. number_word pair.0 >>= λ caller. number_word pair.1 >>= λ n. Ok (Begin caller n)) e h in
+    let b = bind_ok (number_word a.0.0) (λ caller. number_word a.0.1 >>= λ n. Ok (Begin caller n)) e a.2 in
+    let c = bind_ok (number_word a.0.1) (λ n. Ok (Begin b.0 n)) e b.2 in
     let p = number_ok a.0.0 b.0 b.1 in
     let q = number_ok a.0.1 c.0 c.1 in
     subst (λ (x : Event). IsRead (word ∷ others) x) (ok_is (Begin b.0 c.0) e c.2) (

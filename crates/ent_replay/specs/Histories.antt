@@ -1,8 +1,8 @@
 -- Runs of a schedule as histories: the calls between two flushes in the order of their steps, and
 -- the handles that are given.
-use Rattle.std.specs.Prelude.{◌≡◌, ◌≢◌, ℕ, zero, suc, Bool, false, nat_lt, ◌==◌, if◌then◌else◌}
+use Rattle.std.specs.Prelude.{◌≡◌, ℕ, zero, suc, Bool, false, nat_lt, ◌==◌, if◌then◌else◌}
 use Rattle.std.specs.Prelude.{List, [], ◌∷◌, ◌++◌, Option, Some, None, Result, Ok, ◌⊎◌}
-use Rattle.std.specs.List.{AllPairs, AllByRecursion, flat_map}
+use Rattle.std.specs.List.{AllByRecursion, flat_map}
 use Rattle.std.specs.Option.{option_or}
 use Rattle.std.specs.FinMap as map
 use Rattle.ent_handle.specs.Handle.{Handle}
@@ -18,20 +18,20 @@ use Rattle.ent_replay.specs.Schedule.{MachineState, OpenCall, Reply, after_event
 -- ---- the history of steps
 
 -- a first step for some handles is a reservation; a request for none is none
-abbrev pub reserved : MachineState → ℕ → ℕ → Option Reply → List Call
-reserved s caller n (Some reply) = []
-reserved s caller zero None = []
-reserved s caller (suc n) None =
+abbrev pub reserved_by_request : MachineState → ℕ → ℕ → Option Reply → List Call
+reserved_by_request s caller n (Some reply) = []
+reserved_by_request s caller zero None = []
+reserved_by_request s caller (suc n) None =
     record { caller = caller; requested = suc n; reply = reply_to s.allocator (suc n) } ∷ []
 
-abbrev pub reserved_by : MachineState → ℕ → Option OpenCall → List Call
-reserved_by s caller None = []
-reserved_by s caller (Some call) = reserved s caller call.requested call.reply
+abbrev pub reserved_by_call : MachineState → ℕ → Option OpenCall → List Call
+reserved_by_call s caller None = []
+reserved_by_call s caller (Some call) = reserved_by_request s caller call.requested call.reply
 
 -- the reservation that the event makes, if it makes one
 abbrev pub reservations : MachineState → Event → List Call
 reservations s (event.Step caller) =
-    if nat_lt caller callers then reserved_by s caller (map.get s.calls caller) else []
+    if nat_lt caller callers then reserved_by_call s caller (map.get s.calls caller) else []
 reservations s other = []
 
 -- the allocator as it was when last nothing was asked for, and the reservations since then
@@ -40,8 +40,8 @@ pub record Phase : Type 0 where
   pub calls : List Call
 
 -- the phase after an event: a new one begins wherever nothing is asked for
-abbrev pub next_phase : Phase → MachineState → Event → Phase
-next_phase p s e =
+abbrev pub phase_after : Phase → MachineState → Event → Phase
+phase_after p s e =
     if (after_event s e).allocator.asked == 0
     then record { start = (after_event s e).allocator; calls = [] }
     else record { start = p.start; calls = p.calls ++ reservations s e }
@@ -61,11 +61,11 @@ TellsOf calls caller requested told =
     × (told ≡ reported call.reply))
 
 -- An answer tells of the request of the caller's open call.
-abbrev pub Tells : MachineState → List Call → Event → Result Outcome ReplayFault → Type 0
-Tells s calls (event.Answer caller) (Ok told) =
+abbrev pub TellsReply : MachineState → List Call → Event → Result Outcome ReplayFault → Type 0
+TellsReply s calls (event.Answer caller) (Ok told) =
     (call : OpenCall) × (map.get s.calls caller ≡ Some call)
     × TellsOf calls caller call.requested told
-Tells s calls e result = Unit {0}
+TellsReply s calls e result = Unit {0}
 
 -- After each event the reservations of the phase, in the order of their steps, are a legal history
 -- that leads from its start to the allocator, and each answer tells a reply of that history: so it
@@ -75,11 +75,11 @@ abbrev pub StandInHistory : Phase → MachineState → List Event
 StandInHistory p s [] results = Unit {0}
 StandInHistory p s (e ∷ events) [] = ⊥
 StandInHistory p s (e ∷ events) (result ∷ results) =
-    Tells s p.calls e result
-    × IsLegal (next_phase p s e).start (next_phase p s e).calls
-    × (after_history (next_phase p s e).start (next_phase p s e).calls
+    TellsReply s p.calls e result
+    × IsLegal (phase_after p s e).start (phase_after p s e).calls
+    × (after_history (phase_after p s e).start (phase_after p s e).calls
     ≡ (after_event s e).allocator)
-    × StandInHistory (next_phase p s e) (after_event s e) events results
+    × StandInHistory (phase_after p s e) (after_event s e) events results
 
 -- no call is open, and nothing is asked for
 pub record IsAtRest (s : MachineState) : Type 0 where
@@ -99,8 +99,8 @@ given_by (Ok (outcome.Handles handles)) = handles
 given_by other = []
 
 -- what all outcomes give
-abbrev pub given_in : List (Result Outcome ReplayFault) → List Handle
-given_in results = flat_map given_by results
+abbrev pub given_by_all : List (Result Outcome ReplayFault) → List Handle
+given_by_all results = flat_map given_by results
 
 -- the generations of a slot began anew
 abbrev pub has_wrapped : Result Outcome ReplayFault → Bool
@@ -109,7 +109,3 @@ has_wrapped other = false
 
 abbrev pub NoneWrapped : List (Result Outcome ReplayFault) → Type 0
 NoneWrapped results = AllByRecursion (λ r. has_wrapped r ≡ false) results
-
--- no handle is given twice
-abbrev pub AreGivenOnce : List (Result Outcome ReplayFault) → Type 0
-AreGivenOnce results = AllPairs (λ g h. g ≢ h) (given_in results)

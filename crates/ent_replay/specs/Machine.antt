@@ -13,8 +13,8 @@ use Rattle.ent_replay.specs.declared.stored_call.StoredCall.{StoredCall}
 use Rattle.ent_replay.specs.declared.outcome.Outcome.{Outcome}
 use Rattle.ent_replay.specs.declared.fault.ReplayFault.{ReplayFault}
 use Rattle.ent_replay.specs.declared.fault.ReplayFault.TheVariants as fault
-use Rattle.ent_replay.specs.Schedule.{MachineState, OpenCall, Answered, takes_memory, callers}
-use Rattle.ent_replay.specs.Totals.{total}
+use Rattle.ent_replay.specs.Schedule.{MachineState, OpenCall, Answered, event_takes_memory, callers}
+use Rattle.ent_replay.specs.Totals.{sum_below}
 use Rattle.ent_replay.specs.Held.{all_held}
 
 -- the same keys, with f of each value
@@ -54,8 +54,8 @@ pub record AreConsistent (s : Allocator) (spent : finite.FinMap nat_cmp ℕ)
     (calls : finite.FinMap nat_cmp StoredCall) : Type 0 where
   pub sound : IsSound s
   pub credit : (q : ℕ) → unwrap_or (finite.get spent q) 0 ≤ credit
-  pub asked : s.asked + total (λ q. awaited (finite.get calls q)) callers
-      ≤ total (λ q. unwrap_or (finite.get spent q) 0) callers
+  pub asked : s.asked + sum_below (λ q. awaited (finite.get calls q)) callers
+      ≤ sum_below (λ q. unwrap_or (finite.get spent q) 0) callers
   pub requests : (q : ℕ) (call : StoredCall) → finite.get calls q ≡ Some call
       → call.requested < 2 ^ 32
   pub spans : (q : ℕ) (call : StoredCall) (span : Span) → finite.get calls q ≡ Some call
@@ -67,4 +67,4 @@ pub record AreConsistent (s : Allocator) (spent : finite.FinMap nat_cmp ℕ)
 abbrev pub Makes : Answered → MachineState → Result Outcome ReplayFault → MachineState → Type 0
 Makes step before result after =
     ((result ≡ step.0) × (after ≡ step.1))
-    ⊎ ((result ≡ Err fault.Memory) × (after ≡ before) × (takes_memory before step.0 ≡ true))
+    ⊎ ((result ≡ Err fault.Memory) × (after ≡ before) × (event_takes_memory before step.0 ≡ true))

@@ -41,20 +41,20 @@ outcome_text (outcomes.Handles handles) = handles_text handles
 outcome_text (outcomes.Space wanted left) = space_text wanted left
 
 -- want of memory has no text, since no line is written of it
-abbrev pub fault_text : ReplayFault → List ℕ
-fault_text faults.Busy = codes "busy"
-fault_text faults.NotOpen = codes "not open"
-fault_text faults.AlreadyOpen = codes "already open"
-fault_text faults.NotStepped = codes "not stepped"
-fault_text faults.AlreadyStepped = codes "already stepped"
-fault_text (faults.Quota left) = codes "quota left " ++ decimal left
-fault_text faults.Caller = codes "caller"
-fault_text faults.Memory = []
+abbrev pub replay_fault_text : ReplayFault → List ℕ
+replay_fault_text faults.Busy = codes "busy"
+replay_fault_text faults.NotOpen = codes "not open"
+replay_fault_text faults.AlreadyOpen = codes "already open"
+replay_fault_text faults.NotStepped = codes "not stepped"
+replay_fault_text faults.AlreadyStepped = codes "already stepped"
+replay_fault_text (faults.Quota left) = codes "quota left " ++ decimal left
+replay_fault_text faults.Caller = codes "caller"
+replay_fault_text faults.Memory = []
 
 -- the text, and a line feed
 abbrev pub line_of : Result Outcome ReplayFault → List ℕ
 line_of (Ok outcome) = outcome_text outcome ++ 10 ∷ []
-line_of (Err fault) = fault_text fault ++ 10 ∷ []
+line_of (Err fault) = replay_fault_text fault ++ 10 ∷ []
 
 -- the outcome lists handles, so its line may be long
 abbrev pub lists_handles : Outcome → Bool

@@ -57,13 +57,13 @@ say s what = (Ok what, s)
 -- An event with this outcome may take memory: it makes a slot, frees one, brings handles to life,
 -- opens a call, or lists what a call was given. No other event takes any: no fault, no handle of an
 -- old slot, no empty list.
-abbrev pub takes_memory : MachineState → Result Outcome ReplayFault → Bool
-takes_memory s (Ok (outcome.Handle h)) = is_fresh s.allocator.made h
-takes_memory s (Ok (outcome.Freed h after wrapped)) = true
-takes_memory s (Ok (outcome.Born handles)) = nat_lt 0 (length handles)
-takes_memory s (Ok outcome.Open) = true
-takes_memory s (Ok (outcome.Handles handles)) = nat_lt 0 (length handles)
-takes_memory s other = false
+abbrev pub event_takes_memory : MachineState → Result Outcome ReplayFault → Bool
+event_takes_memory s (Ok (outcome.Handle h)) = is_fresh s.allocator.made h
+event_takes_memory s (Ok (outcome.Freed h after wrapped)) = true
+event_takes_memory s (Ok (outcome.Born handles)) = nat_lt 0 (length handles)
+event_takes_memory s (Ok outcome.Open) = true
+event_takes_memory s (Ok (outcome.Handles handles)) = nat_lt 0 (length handles)
+event_takes_memory s other = false
 
 -- ---- events that need the allocator to themselves
 
@@ -72,8 +72,8 @@ abbrev pub is_busy : MachineState → Bool
 is_busy s = not (map.len s.calls == 0)
 
 -- handles were asked for since the last flush
-abbrev pub needs_flush : MachineState → Bool
-needs_flush s = nat_lt 0 s.allocator.asked
+abbrev pub state_needs_flush : MachineState → Bool
+state_needs_flush s = nat_lt 0 s.allocator.asked
 
 abbrev pub alloc_front : MachineState → List Handle → Answered
 alloc_front s [] = say s (outcome.Space 1 0)
@@ -83,7 +83,7 @@ alloc_front s (h ∷ rest) =
 abbrev pub on_alloc : MachineState → Answered
 on_alloc s =
     if is_busy s then refuse s fault.Busy else
-    (if needs_flush s then say s outcome.NeedsFlush else alloc_front s s.allocator.pool)
+    (if state_needs_flush s then say s outcome.NeedsFlush else alloc_front s s.allocator.pool)
 
 -- the generation of this handle is the last, so that its slot begins anew
 abbrev pub wraps : Limits → Handle → Bool
@@ -92,7 +92,7 @@ wraps limits h = h.generation == limits.generations
 abbrev pub on_free : MachineState → Handle → Answered
 on_free s h =
     if is_busy s then refuse s fault.Busy else
-    (if needs_flush s then say s outcome.NeedsFlush else
+    (if state_needs_flush s then say s outcome.NeedsFlush else
     (if set.contains s.allocator.live h
     then (
       Ok (outcome.Freed h (next s.allocator.limits h) (wraps s.allocator.limits h)),
@@ -210,7 +210,7 @@ after_events s (e ∷ events) = after_events (after_event s e) events
 -- and there was no room to list the outcomes.
 abbrev pub RunsOutAt : MachineState → List Event → ℕ → Type 0
 RunsOutAt s events done = (done ≡ 0) ⊎ IsSomeAnd (slice_get events done) (λ e.
-    takes_memory (after_events s (take done events))
+    event_takes_memory (after_events s (take done events))
     (outcome_of (after_events s (take done events)) e) ≡ true)
 
 -- an open call is stored as the pair of its fields

@@ -75,11 +75,11 @@ abbrev pub or_cause : {A : Type 0} → Cause → Result A TextFault → Result A
 or_cause c (Ok x) = Ok x
 or_cause c (Err fault) = Err c
 
-abbrev pub number : List ℕ → Result ℕ Cause
-number word = or_cause cause.Number (number_of word)
+abbrev pub number_word : List ℕ → Result ℕ Cause
+number_word word = or_cause cause.Number (number_of word)
 
-abbrev pub handle : List ℕ → Result Handle Cause
-handle word = or_cause cause.Handle (handle_of word)
+abbrev pub handle_word : List ℕ → Result Handle Cause
+handle_word word = or_cause cause.Handle (handle_of word)
 
 -- as many words as an event has after its first
 abbrev pub none : {A : Type 0} → A → List (List ℕ) → Result A Cause
@@ -97,8 +97,8 @@ two _ = Err cause.Count
 unfoldable pub begin_of : List (List ℕ) → Result Event Cause
 begin_of words = do
   pair ← two words
-  caller ← number pair.0
-  n ← number pair.1
+  caller ← number_word pair.0
+  n ← number_word pair.1
   Ok (Begin caller n)
 
 -- the event of a first word and those after it, or the first test that they fail:
@@ -107,12 +107,12 @@ unfoldable pub event_with : List ℕ → List (List ℕ) → Result Event Cause
 event_with word others =
     if bytes_eq word (codes "alloc") then none Alloc others
     else (if bytes_eq word (codes "flush") then none Flush others
-    else (if bytes_eq word (codes "free") then (one others >>= handle >>= λ h. Ok (Free h))
+    else (if bytes_eq word (codes "free") then (one others >>= handle_word >>= λ h. Ok (Free h))
     else (if bytes_eq word (codes "begin") then begin_of others
     else (if bytes_eq word (codes "step")
-    then (one others >>= number >>= λ caller. Ok (Step caller))
+    then (one others >>= number_word >>= λ caller. Ok (Step caller))
     else (if bytes_eq word (codes "answer")
-    then (one others >>= number >>= λ caller. Ok (Answer caller))
+    then (one others >>= number_word >>= λ caller. Ok (Answer caller))
     else Err cause.Word)))))
 
 -- the event of a line's words
@@ -137,11 +137,11 @@ abbrev pub schedule_of : List ℕ → Result (List Event) ReadFault
 schedule_of text = events_of 1 (lines_of text)
 
 -- the word that names a cause
-abbrev pub cause_text : Cause → List ℕ
-cause_text cause.Word = codes "word"
-cause_text cause.Count = codes "count"
-cause_text cause.Number = codes "number"
-cause_text cause.Handle = codes "handle"
+abbrev pub line_cause_text : Cause → List ℕ
+line_cause_text cause.Word = codes "word"
+line_cause_text cause.Count = codes "count"
+line_cause_text cause.Number = codes "number"
+line_cause_text cause.Handle = codes "handle"
 
 -- ---- what the reader's parts give
 
@@ -151,15 +151,15 @@ words_after None = []
 words_after (Some others) = words_of others
 
 -- what was returned, seen by view, is this
-abbrev pub Gives : {X Y : Type 0} → (X → Y) → Result X Cause → Result Y Cause → Type 0
-Gives view (Ok x) read = read ≡ Ok (view x)
-Gives view (Err c) read = read ≡ Err c
+abbrev pub ReadsAsView : {X Y : Type 0} → (X → Y) → Result X Cause → Result Y Cause → Type 0
+ReadsAsView view (Ok x) read = read ≡ Ok (view x)
+ReadsAsView view (Err c) read = read ≡ Err c
 
 -- what reading returned is this, unless memory ran out
-abbrev pub ReadsAs : Result (Vec Event) ReadFault → Result (List Event) ReadFault → Type 0
-ReadsAs (Ok events) read = read ≡ Ok events.items
-ReadsAs (Err (Line line c)) read = read ≡ Err (Line line c)
-ReadsAs (Err Memory) read = Unit {0}
+abbrev pub ReadsAsSchedule : Result (Vec Event) ReadFault → Result (List Event) ReadFault → Type 0
+ReadsAsSchedule (Ok events) read = read ≡ Ok events.items
+ReadsAsSchedule (Err (Line line c)) read = read ≡ Err (Line line c)
+ReadsAsSchedule (Err Memory) read = Unit {0}
 
 -- the lines before this one name events, and this one names none, for this cause
 pub record IsFirstFault (text : List ℕ) (line : ℕ) (c : Cause) : Type 0 where

@@ -2,12 +2,13 @@ ghost use Rattle.std.specs.Prelude.{◌≡◌, ◌<◌, ◌↔◌, true, IsTrue,
 ghost use Rattle.std.specs.Prelude.{IfOk, OnOk, IfErr, OnErr, Ok};
 ghost use Rattle.ent_replay.specs.Schedule.{starting, outcome_of, after_event, outcomes_of};
 ghost use Rattle.ent_replay.specs.Schedule.{after_events};
-ghost use Rattle.ent_replay.specs.Schedule.{takes_memory, RunsOutAt};
+ghost use Rattle.ent_replay.specs.Schedule.{event_takes_memory, RunsOutAt};
 ghost use Rattle.ent_replay.specs.Schedule.{on_alloc, on_free, on_flush, on_begin, on_step};
 ghost use Rattle.ent_replay.specs.Schedule.{on_answer};
 ghost use Rattle.ent_replay.specs.Machine.{Makes};
 ghost use Rattle.ent_replay.specs.Histories.{IsAtRest, new_phase, StandInHistory};
-ghost use Rattle.ent_replay.specs.Histories.{NoneWrapped, AreGivenOnce};
+ghost use Rattle.ent_replay.specs.Histories.{NoneWrapped, given_by_all};
+ghost use Rattle.ent_alloc.specs.History.{AreGivenOnce};
 
 use crate::by_caller::ByCaller;
 use crate::event::Event;
@@ -98,7 +99,7 @@ impl Machine {
             → self.new ≡ after_event self.old event }
         ensures memory { result ≡ Err ReplayFault.Memory → self.new ≡ self.old }
         ensures grows { result ≡ Err ReplayFault.Memory
-            → takes_memory self.old (outcome_of self.old event) ≡ true }
+            → event_takes_memory self.old (outcome_of self.old event) ≡ true }
     {
         match event {
             Event::Alloc => self.alloc(),
@@ -128,7 +129,7 @@ impl Machine {
         ensures history { IfOk result (λ outcomes. IsAtRest self.old
             → StandInHistory (new_phase self.old) self.old events.now outcomes.items) }
         ensures given_once { IfOk result (λ outcomes.
-            NoneWrapped outcomes.items → AreGivenOnce outcomes.items) }
+            NoneWrapped outcomes.items → AreGivenOnce (given_by_all outcomes.items)) }
 
         ensures cut { IfErr result (λ memory. memory.done < length events.now) }
         ensures cut_state { IfErr result (λ memory.

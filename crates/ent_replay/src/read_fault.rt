@@ -1,5 +1,5 @@
 ghost use Rattle.std.specs.Prelude.{◌≡◌};
-ghost use Rattle.ent_replay.specs.ScheduleText.{cause_text};
+ghost use Rattle.ent_replay.specs.ScheduleText.{line_cause_text};
 ghost use Rattle.ent_replay.specs.declared.read_fault.ReadFault.TheVariants.{Memory};
 
 use std::alloc::{AllocError, AllocFailed};
@@ -21,7 +21,7 @@ pub enum Cause {
 impl Cause {
     /// The word that names it: `word`, `count`, `number` or `handle`.
     pub fn text(self) -> &'static str
-        ensures { result.now ≡ cause_text self }
+        ensures { result.now ≡ line_cause_text self }
     {
         match self {
             Cause::Word => "word",

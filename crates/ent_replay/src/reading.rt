@@ -1,7 +1,7 @@
 ghost use Rattle.std.specs.Prelude.{◌≡◌, ◌<◌, ◌∷◌, List, length, option_copied, IfOk, IfErr, Ok};
-ghost use Rattle.ent_replay.specs.ScheduleText.{lines_of, words_of, words_after, Gives, number};
-ghost use Rattle.ent_replay.specs.ScheduleText.{handle, none, one, two, begin_of, event_of};
-ghost use Rattle.ent_replay.specs.ScheduleText.{AreEvents, Spells, ReadsAs, ExplainsFault};
+ghost use Rattle.ent_replay.specs.ScheduleText.{lines_of, words_of, words_after, ReadsAsView, number_word};
+ghost use Rattle.ent_replay.specs.ScheduleText.{handle_word, none, one, two, begin_of, event_of};
+ghost use Rattle.ent_replay.specs.ScheduleText.{AreEvents, Spells, ReadsAsSchedule, ExplainsFault};
 ghost use Rattle.ent_replay.specs.ScheduleText.{schedule_of};
 ghost use Rattle.ent_replay.specs.declared.event.Event.{Event};
 
@@ -39,7 +39,7 @@ fn no_word(event: Event, others: Option<&[u8]>) -> Result<Event, Cause>
 }
 
 fn one_word(others: Option<&[u8]>) -> Result<&[u8], Cause>
-    ensures { Gives (λ word. word.now) result (one (words_after (option_copied others.entry))) }
+    ensures { ReadsAsView (λ word. word.now) result (one (words_after (option_copied others.entry))) }
 {
     match first_word(others.ok_or(Cause::Count)?) {
         (word, None) => Ok(word),
@@ -48,7 +48,7 @@ fn one_word(others: Option<&[u8]>) -> Result<&[u8], Cause>
 }
 
 fn two_words(others: Option<&[u8]>) -> Result<(&[u8], &[u8]), Cause>
-    ensures { Gives (λ words. (words.0.now, words.1.now)) result
+    ensures { ReadsAsView (λ words. (words.0.now, words.1.now)) result
         (two (words_after (option_copied others.entry))) }
 {
     let (first, others) = first_word(others.ok_or(Cause::Count)?);
@@ -56,13 +56,13 @@ fn two_words(others: Option<&[u8]>) -> Result<(&[u8], &[u8]), Cause>
 }
 
 fn read_number(word: &[u8]) -> Result<u32, Cause>
-    ensures { result ≡ number word.now }
+    ensures { result ≡ number_word word.now }
 {
     read_decimal(word).map_err(|_| Cause::Number)
 }
 
 fn read_handle(word: &[u8]) -> Result<Handle, Cause>
-    ensures { result ≡ handle word.now }
+    ensures { result ≡ handle_word word.now }
 {
     Handle::read_text(word).map_err(|_| Cause::Handle)
 }
@@ -116,12 +116,12 @@ pub fn read_schedule(alloc: Global, text: &[u8]) -> Result<Vec<Event>, ReadFault
     ensures found { IfOk result (λ events. AreEvents events.items × Spells events.items text.now) }
     // A spelled schedule is never refused but for memory.
     ensures only { (events : List Event)
-        → AreEvents events → Spells events text.now → ReadsAs result (Ok events) }
+        → AreEvents events → Spells events text.now → ReadsAsSchedule result (Ok events) }
     // A refused text has events up to the line that is named.
     ensures refused { IfErr result (ExplainsFault text.now) }
 
     // All of it, as a function of the text.
-    ensures exact { ReadsAs result (schedule_of text.now) }
+    ensures exact { ReadsAsSchedule result (schedule_of text.now) }
 {
     let mut events = Vec::new(alloc);
     let mut rest = text;

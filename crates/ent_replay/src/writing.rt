@@ -4,7 +4,7 @@ ghost use Rattle.std.specs.Prelude.{Err, OnOk, OnErr, vec_len, vec_capacity};
 ghost use Rattle.ent_handle.specs.Text.{handle_text};
 ghost use Rattle.ent_replay.specs.OutcomeText.{spaced, handles_text, born_text, freed_text};
 ghost use Rattle.ent_replay.specs.OutcomeText.{space_text};
-ghost use Rattle.ent_replay.specs.OutcomeText.{outcome_text, fault_text, lists_handles, line_of};
+ghost use Rattle.ent_replay.specs.OutcomeText.{outcome_text, replay_fault_text, lists_handles, line_of};
 
 use crate::fault::ReplayFault;
 use crate::handle_list::HandleList;
@@ -165,10 +165,10 @@ fn write_text(outcome: &Outcome, out: &mut Vec<u8>) -> Result<(), Memory>
 
 fn write_fault(fault: ReplayFault, out: &mut Vec<u8>) -> Result<(), Memory>
     requires { fault ≢ ReplayFault.Memory }
-    ensures ok { OnOk result (out.new.items ≡ out.old.items ++ fault_text fault) }
+    ensures ok { OnOk result (out.new.items ≡ out.old.items ++ replay_fault_text fault) }
     ensures kept { OnErr result (take (vec_len out.old) out.new.items ≡ out.old.items) }
     ensures full { OnErr result (vec_capacity out.old
-        < vec_len out.old + length (fault_text fault)) }
+        < vec_len out.old + length (replay_fault_text fault)) }
     ensures capacity { vec_capacity out.old ≤ vec_capacity out.new }
 {
     match fault {

@@ -12,12 +12,12 @@ use Rattle.ent_handle.specs.Handle.{Handle}
 use Rattle.ent_alloc.specs.Sequential.{born}
 use Rattle.ent_alloc.specs.History.{Call, IsLegal, after_history}
 use Rattle.ent_queue.specs.Command.{Command}
-use Rattle.ent_queue.specs.Reserving.{requests_of}
+use Rattle.ent_queue.specs.Reserving.{stands_for}
 use Rattle.ent_world.specs.World.{World}
 use Rattle.ent_world.specs.Sync.{sync}
-use Rattle.ent_world.specs.OpenWorld.{OpenWorld, View}
+use Rattle.ent_world.specs.OpenWorld.{OpenWorld, View, world_at_start}
 use Rattle.ent_world.specs.declared.fault.Fault.{Fault}
-use Rattle.ent_runner.specs.Frame.{IsFrame, Ends, EndsInOrder, queue_at, commands_of, requests_by, first_call, calls_in_order, reserved_by, world_of}
+use Rattle.ent_runner.specs.Frame.{IsFrame, Ends, EndsInOrder, queue_at, commands_of, requests_by, first_call, calls_in_order, reserved_by}
 use Rattle.ent_runner.proofs.Lost.{ClosedAgain}
 use Rattle.ent_runner.proofs.Lists.{at_within, all_below}
 
@@ -78,7 +78,7 @@ module _ {S : Type 0} (may : S → View → List Command → Type 0) (systems : 
       let count : length mine ≡ length queues = long ∙ sym frame.count in
       let commands : commands_of queues mine ≡ flat_map (λ queue. queue) queues = ap (commands_of queues) (whole ∙ ap (range_with_len 0) count) ∙ queues_in_order queues [] queues 0 refl refl in
       let callers : All (λ (call : Call). call.caller < 1) history = subst (λ w. All (λ (call : Call). call.caller < w) history) one frame.callers in
-      sym (calls_back history callers) ∙ ap (map first_call) (work.calls ∙ ap (flat_map requests_of) commands)
+      sym (calls_back history callers) ∙ ap (map first_call) (work.calls ∙ ap (flat_map stands_for) commands)
     where
       alone : (ran : List (List ℕ)) (mine : List ℕ) → length ran ≡ 1 → slice_get ran 0 ≡ Some mine → ran ≡ mine ∷ []
       alone [] mine e at = absurd (omega arith)
@@ -96,17 +96,17 @@ module _ {S : Type 0} (may : S → View → List Command → Type 0) (systems : 
       }
 
 -- a world that was opened is the one before
-pub same_world : (world : OpenWorld) (before : World) (closed : World) → closed ≡ before → world.shared.start ≡ closed.allocator → world.phase ≡ closed.phase → world.entities ≡ closed.entities → world_of world ≡ before
+pub same_world : (world : OpenWorld) (before : World) (closed : World) → closed ≡ before → world.shared.start ≡ closed.allocator → world.phase ≡ closed.phase → world.entities ≡ closed.entities → world_at_start world ≡ before
 same_world world before closed is start phase entities = (λ i. record { allocator = start i; phase = phase i; entities = entities i }) ∙ is
 
 -- the sync of the queues of a frame ends it
 pub ends : {S : Type 0} (may leave : S → View → List Command → Type 0) (systems : List S) (workers : ℕ) (before : World) (world : OpenWorld) (closed after : World) (got : Option (Vec (List Command) Global)) (queues : Vec (List Command) Global) (seen : List (List Command)) (births : List Handle) (faults : List Fault)
     → ClosedAgain may leave systems world closed got
-    → got ≡ Some queues → world_of world ≡ before → world.shared.count ≡ workers → seen ≡ queues.items
+    → got ≡ Some queues → world_at_start world ≡ before → world.shared.count ≡ workers → seen ≡ queues.items
     → after ≡ (sync seen closed).world → births ≡ born closed.allocator → faults ≡ (sync seen closed).faults
     → Ends may systems workers before queues.items after births faults
 ends may leave systems workers before world closed after got queues seen births faults r some same count shown ok born_are faults_are =
-    let frame : IsFrame may systems world.shared.count (world_of world) queues.items r.0 = subst (λ (o : Option (Vec (List Command) Global)). IfSome o (λ q. IsFrame may systems world.shared.count (world_of world) q.items r.0)) some r.3 in
+    let frame : IsFrame may systems world.shared.count (world_at_start world) queues.items r.0 = subst (λ (o : Option (Vec (List Command) Global)). IfSome o (λ q. IsFrame may systems world.shared.count (world_at_start world) q.items r.0)) some r.3 in
     let is : closed ≡ reserved_by r.0 before = r.2 ∙ ap (reserved_by r.0) same in
     record {
       history = r.0;

@@ -18,13 +18,13 @@ use Rattle.ent_shared.specs.Order.{reservations_of, history_of, Respects}
 use Rattle.ent_queue.specs.Command.{Command}
 use Rattle.ent_queue.specs.Reserving.{Gains}
 use Rattle.ent_world.specs.World.{World}
-use Rattle.ent_world.specs.OpenWorld.{OpenWorld, View}
-use Rattle.ent_claims.specs.Claims.{Claims, Claimer, HaveEnded, AreFirst, IsOf as IsClaimerOf}
-use Rattle.ent_runner.specs.declared.worker.Issued.{Issued}
+use Rattle.ent_world.specs.OpenWorld.{OpenWorld, View, world_at_start}
+use Rattle.ent_claims.specs.Claims.{Claims, Claimer, HaveEnded, AreFirst, IsClaimerOf as IsClaimerOf}
+use Rattle.ent_runner.specs.declared.worker.SystemQueue.{SystemQueue}
 use Rattle.ent_runner.specs.declared.worker.Worker.{Worker}
-use Rattle.ent_runner.specs.Frame.{IsFrame, IsBrokenOff, MayIssue, MayHaveIssued, view_of, world_of, reserved_by}
-use Rattle.ent_runner.specs.Worker.{HasWorked, HaveWorked, HaveRunFirst, HasClaimed, IsUnused, IsFresh, systems_of, commands_in, all_records}
-use Rattle.ent_runner.specs.Placing.{placed}
+use Rattle.ent_runner.specs.Frame.{IsFrame, IsBrokenOff, SystemMayIssue, SystemMayHaveIssued, view_of, reserved_by}
+use Rattle.ent_runner.specs.Worker.{HasWorked, HaveWorked, HaveRunFirst, HasClaimed, IsUnused, IsFresh, systems_of, commands_issued, all_records}
+use Rattle.ent_runner.specs.Placing.{queues_placed}
 use Rattle.ent_runner.proofs.Lists.{all_from_each, each_of_all, mapped_at, same_flat}
 use Rattle.ent_runner.proofs.Placed.{length_placed}
 use Rattle.ent_runner.proofs.Framed.{Did, frame_is, broken_off, full}
@@ -45,7 +45,7 @@ opened_at start number zero k d less = absurd (omega arith)
 opened_at start number (suc count) zero d less = ap (opened start) (omega arith)
 opened_at start number (suc count) (suc k) d less = opened_at start (number + 1) count k d (omega arith) ∙ ap (opened start) (omega arith)
 
-abbrev issued_by : Worker → List Issued
+abbrev issued_by : Worker → List SystemQueue
 issued_by w = w.issued.items
 
 pub records_are : (ws : List Worker) → records_of (map (λ (w : Worker). w.reserver) ws) ≡ all_records ws
@@ -53,14 +53,14 @@ records_are [] = refl
 records_are (w ∷ ws) = ap (λ rs. w.reserver.own ∷ rs) (records_are ws)
 
 -- what the worker of this number gained, and what holds of each queue that it kept
-record Gained (P : Issued → Type 0) (world : OpenWorld) (k : ℕ) (w : Worker) : Type 0 where
-  pub gains : Gains (opened world.shared.start k) (commands_in w.issued.items) w.reserver.own
+record Gained (P : SystemQueue → Type 0) (world : OpenWorld) (k : ℕ) (w : Worker) : Type 0 where
+  pub gains : Gains (opened world.shared.start k) (commands_issued w.issued.items) w.reserver.own
   pub each : All P w.issued.items
   pub claims : systems_of w.issued.items ≡ w.claimer.own.claims
 
 module _ {S : Type 0} (may leave : S → View → List Command → Type 0) (systems : List S) (world : OpenWorld) (claims : Claims) where
   -- each began as it was opened
-  pub have_worked : (view : View) (old team : List Worker) → view ≡ view_of (world_of world) → all_records old ≡ opened_records world.shared.start 0 world.shared.count → length old ≡ world.shared.count → length team ≡ length old
+  pub have_worked : (view : View) (old team : List Worker) → view ≡ view_of (world_at_start world) → all_records old ≡ opened_records world.shared.start 0 world.shared.count → length old ≡ world.shared.count → length team ≡ length old
       → ((k : ℕ) (d : Worker) → k < length old → HasWorked may leave world.shared claims systems view (get_or old k d).reserver.own (get_or team k d))
       → HaveWorked may leave systems world claims team
   have_worked view old team seen unused many back each = record {
@@ -82,13 +82,13 @@ module _ {S : Type 0} (may leave : S → View → List Command → Type 0) (syst
         let d = done.each k w at in record {
           reserver = d.reserver;
           claimer = d.claimer;
-          inside = subst (λ n. All (λ (i : Issued). i.system < n) w.issued.items) (sym numbers) d.inside;
+          inside = subst (λ n. All (λ (i : SystemQueue). i.system < n) w.issued.items) (sym numbers) d.inside;
           ran = d.ran_some.claims;
           ended = d.ended;
         })
 
-    module _ (P : Issued → Type 0) (each : (k : ℕ) (w : Worker) → slice_get team k ≡ Some w → Gained P world k w) where
-      did : (k : ℕ) (r : Record) (mine : List Issued) → slice_get (all_records team) k ≡ Some r → slice_get (map issued_by team) k ≡ Some mine → Did P (world_of world) k r mine
+    module _ (P : SystemQueue → Type 0) (each : (k : ℕ) (w : Worker) → slice_get team k ≡ Some w → Gained P world k w) where
+      did : (k : ℕ) (r : Record) (mine : List SystemQueue) → slice_get (all_records team) k ≡ Some r → slice_get (map issued_by team) k ≡ Some mine → Did P (world_at_start world) k r mine
       did k r mine at_r at_mine =
           let two = mapped_at (λ (w : Worker). w.reserver.own) team k r at_r in
           let w : Worker = two.0 in
@@ -97,8 +97,8 @@ module _ {S : Type 0} (may leave : S → View → List Command → Type 0) (syst
           let is_mine : w.issued.items ≡ mine = ap issued_by (sym same_w) ∙ three.2 in
           let d = done.each k w two.1 in
           let g = each k w two.1 in
-          subst (λ is. Did P (world_of world) k r is) is_mine
-          (subst (λ r. Did P (world_of world) k r w.issued.items) two.2
+          subst (λ is. Did P (world_at_start world) k r is) is_mine
+          (subst (λ r. Did P (world_at_start world) k r w.issued.items) two.2
           (record { gains = g.gains; each = g.each; rising = subst (AllPairs (λ m n. m < n)) (sym g.claims) d.claimer.rises }))
 
     mine_flat : flat_map (λ mine. mine) (map issued_by team) ≡ flat_map issued_by team
@@ -110,24 +110,24 @@ module _ {S : Type 0} (may leave : S → View → List Command → Type 0) (syst
     module _ (legal : IsLegal world.shared.start (history_of (all_records team))) (respects : All (Respects (reservations_of (all_records team))) (all_records team)) where
       pub is_frame : All (λ (w : Worker). w.stopped ≡ false) team
           → IsPermutation (flat_map (λ (w : Worker). systems_of w.issued.items) team) (range_with_len 0 claims.numbers)
-          → (queues : List (List Command)) → map Some queues ≡ placed (flat_map (λ (w : Worker). w.issued.items) team) (replicate claims.numbers None)
-          → IsFrame may systems world.shared.count (world_of world) queues (history_of (all_records team))
+          → (queues : List (List Command)) → map Some queues ≡ queues_placed (flat_map (λ (w : Worker). w.issued.items) team) (replicate claims.numbers None)
+          → IsFrame may systems world.shared.count (world_at_start world) queues (history_of (all_records team))
       is_frame going once queues places =
-          let P : Issued → Type 0 = λ (i : Issued). MayIssue may systems (view_of (world_of world)) i.system i.queue in
-          frame_is may systems (world_of world) world.shared.count (all_records team) (map issued_by team)
+          let P : SystemQueue → Type 0 = λ (i : SystemQueue). SystemMayIssue may systems (view_of (world_at_start world)) i.system i.queue in
+          frame_is may systems (world_at_start world) world.shared.count (all_records team) (map issued_by team)
           (length-map team (λ (w : Worker). w.reserver.own) ∙ done.count) (length-map team issued_by ∙ done.count) legal respects queues
           (did P (λ k w at. let ran = (done.each k w at).ran (each_of_all (λ (w : Worker). w.stopped ≡ false) team k w going at) in record { gains = ran.gains; each = ran.each; claims = ran.claims }))
           (subst (λ ns. IsPermutation ns (range_with_len 0 (length systems))) (sym systems_flat) (subst (λ m. IsPermutation (flat_map (λ (w : Worker). systems_of w.issued.items) team) (range_with_len 0 m)) numbers once))
-          (places ∙ (ap (λ n. placed (flat_map issued_by team) (replicate n None)) numbers ∙ ap (λ is. placed is (replicate (length systems) None)) (sym mine_flat)))
+          (places ∙ (ap (λ n. queues_placed (flat_map issued_by team) (replicate n None)) numbers ∙ ap (λ is. queues_placed is (replicate (length systems) None)) (sym mine_flat)))
 
-      pub is_broken_off : HaveRunFirst claims.numbers team → IsBrokenOff may leave systems world.shared.count (world_of world) (history_of (all_records team))
+      pub is_broken_off : HaveRunFirst claims.numbers team → IsBrokenOff may leave systems world.shared.count (world_at_start world) (history_of (all_records team))
       is_broken_off first =
-          let P : Issued → Type 0 = λ (i : Issued). MayHaveIssued may leave systems (view_of (world_of world)) i.system i.queue in
-          broken_off may systems (world_of world) world.shared.count (all_records team) (map issued_by team)
+          let P : SystemQueue → Type 0 = λ (i : SystemQueue). SystemMayHaveIssued may leave systems (view_of (world_at_start world)) i.system i.queue in
+          broken_off may systems (world_at_start world) world.shared.count (all_records team) (map issued_by team)
           (length-map team (λ (w : Worker). w.reserver.own) ∙ done.count) (length-map team issued_by ∙ done.count) legal respects leave
           first.count (subst (λ n. first.count ≤ n) numbers first.within)
           (did P (λ k w at. let ran = (done.each k w at).ran_some in record { gains = ran.gains; each = ran.each; claims = ran.claims }))
-          (λ k mine at. let there = mapped_at issued_by team k mine at in subst (AllPairs (λ (i later : Issued). MayIssue may systems (view_of (world_of world)) i.system i.queue)) there.2 (done.each k there.0 there.1).ran_some.ended)
+          (λ k mine at. let there = mapped_at issued_by team k mine at in subst (AllPairs (λ (i later : SystemQueue). SystemMayIssue may systems (view_of (world_at_start world)) i.system i.queue)) there.2 (done.each k there.0 there.1).ran_some.ended)
           (subst (λ ns. IsPermutation ns (range_with_len 0 first.count)) (sym systems_flat) first.once)
 
 -- What is known once all claims are closed.
@@ -138,8 +138,8 @@ module _ (shared : Shared) (claims : Claims) (team : List Worker) (each : All (H
   pub claimers_own : All (IsClaimerOf claims) (map (λ (w : Worker). w.claimer) team)
   claimers_own = All-map (IsClaimerOf claims) (λ (w : Worker). w.claimer) team (All-weaker (HasClaimed shared claims) (λ (w : Worker). IsClaimerOf claims w.claimer) (λ w d. d.claimer) team each)
 
-  pub all_inside : All (λ (w : Worker). All (λ (i : Issued). i.system < claims.numbers) w.issued.items) team
-  all_inside = All-weaker (HasClaimed shared claims) (λ (w : Worker). All (λ (i : Issued). i.system < claims.numbers) w.issued.items) (λ w d. d.inside) team each
+  pub all_inside : All (λ (w : Worker). All (λ (i : SystemQueue). i.system < claims.numbers) w.issued.items) team
+  all_inside = All-weaker (HasClaimed shared claims) (λ (w : Worker). All (λ (i : SystemQueue). i.system < claims.numbers) w.issued.items) (λ w d. d.inside) team each
 
   -- the systems that they ran are those that they claimed
   pub ran_claims : flat_map (λ (w : Worker). systems_of w.issued.items) team ≡ flat_map (λ (c : Claimer). c.own.claims) (map (λ (w : Worker). w.claimer) team)
@@ -172,16 +172,16 @@ first_closed shared claims team each claimers theirs first = record {
 }
 
 -- each place has a queue
-pub all_full : (claims : Claims) (team : List Worker) → IsPermutation (flat_map (λ (w : Worker). systems_of w.issued.items) team) (range_with_len 0 claims.numbers) → All IsSome (placed (flat_map (λ (w : Worker). w.issued.items) team) (replicate claims.numbers None))
+pub all_full : (claims : Claims) (team : List Worker) → IsPermutation (flat_map (λ (w : Worker). systems_of w.issued.items) team) (range_with_len 0 claims.numbers) → All IsSome (queues_placed (flat_map (λ (w : Worker). w.issued.items) team) (replicate claims.numbers None))
 all_full claims team once =
-    subst (λ is. All IsSome (placed is (replicate claims.numbers None))) (flat_map-map (λ mine. mine) issued_by team)
+    subst (λ is. All IsSome (queues_placed is (replicate claims.numbers None))) (flat_map-map (λ mine. mine) issued_by team)
     (full claims.numbers (map issued_by team) (subst (λ ns. IsPermutation ns (range_with_len 0 claims.numbers)) (sym (flat_map-map systems_of issued_by team)) once))
 
 -- the places after all queues were put in, as they are written back
-pub places_back : (count n : ℕ) (issued : List Issued) (start new : List (Option (List Command))) → start ≡ replicate count None → n ≡ length start → new ≡ placed issued start → take n (new ++ drop (length new) start) ≡ placed issued (replicate count None)
+pub places_back : (count n : ℕ) (issued : List SystemQueue) (start new : List (Option (List Command))) → start ≡ replicate count None → n ≡ length start → new ≡ queues_placed issued start → take n (new ++ drop (length new) start) ≡ queues_placed issued (replicate count None)
 places_back count n issued start new empty n_is put =
     let same : length new ≡ length start = ap length put ∙ length_placed issued start in
-    written_back n start new n_is same ∙ (put ∙ ap (placed issued) empty)
+    written_back n start new n_is same ∙ (put ∙ ap (queues_placed issued) empty)
 
 unmapped : {X Y : Type 0} (P : Y → Type 0) (f : X → Y) (xs : List X) → All P (map f xs) → All (λ x. P (f x)) xs
 unmapped P f [] all = All-nil (λ x. P (f x))
@@ -204,16 +204,16 @@ pub framed : {S : Type 0} (may leave : S → View → List Command → Type 0) (
     → IsLegal world.shared.start (history_of (all_records team)) → All (Respects (reservations_of (all_records team))) (all_records team)
     → IfSome queues (λ q. All (λ (w : Worker). w.stopped ≡ false) team)
     → IfSome queues (λ q. IsPermutation (flat_map (λ (w : Worker). systems_of w.issued.items) team) (range_with_len 0 claims.numbers))
-    → IfSome queues (λ q. map Some q.items ≡ placed (flat_map (λ (w : Worker). w.issued.items) team) (replicate claims.numbers None))
-    → IfSome queues (λ q. IsFrame may systems world.shared.count (world_of world) q.items (history_of (all_records team)))
+    → IfSome queues (λ q. map Some q.items ≡ queues_placed (flat_map (λ (w : Worker). w.issued.items) team) (replicate claims.numbers None))
+    → IfSome queues (λ q. IsFrame may systems world.shared.count (world_at_start world) q.items (history_of (all_records team)))
 framed may leave systems world claims team done numbers None legal respects going once places = tt
 framed may leave systems world claims team done numbers (Some q) legal respects going once places = is_frame may leave systems world claims team done numbers legal respects going once q.items places
 
 -- the world that is closed has changed by the history alone
-pub closed_by : (world : OpenWorld) (after : World) (records same : List Record) → records ≡ same → after.phase ≡ world.phase → after.entities ≡ world.entities → after.allocator ≡ after_history world.shared.start (history_of records) → after ≡ reserved_by (history_of same) (world_of world)
+pub closed_by : (world : OpenWorld) (after : World) (records same : List Record) → records ≡ same → after.phase ≡ world.phase → after.entities ≡ world.entities → after.allocator ≡ after_history world.shared.start (history_of records) → after ≡ reserved_by (history_of same) (world_at_start world)
 closed_by world after records same is phase entities allocator =
     let changed : after.allocator ≡ after_history world.shared.start (history_of same) = allocator ∙ ap (λ rs. after_history world.shared.start (history_of rs)) is in
     (λ i. record { allocator = changed i; phase = phase i; entities = entities i })
 
-pub view_is : (world : OpenWorld) (view : View) → view.phase ≡ world.phase → view.entities ≡ world.entities → view ≡ view_of (world_of world)
+pub view_is : (world : OpenWorld) (view : View) → view.phase ≡ world.phase → view.entities ≡ world.entities → view ≡ view_of (world_at_start world)
 view_is world view phase entities = (λ i. record { phase = phase i; entities = entities i })

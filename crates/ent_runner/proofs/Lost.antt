@@ -9,8 +9,8 @@ use Rattle.ent_alloc.proofs.PoolLaw.{after_takes, after_takes-sound, available-a
 use Rattle.ent_alloc.proofs.Histories.{after_history-takes}
 use Rattle.ent_queue.specs.Command.{Command}
 use Rattle.ent_world.specs.World.{World}
-use Rattle.ent_world.specs.OpenWorld.{OpenWorld, View}
-use Rattle.ent_runner.specs.Frame.{IsFrame, IsLost, IsBrokenOff, reserved_by, world_of}
+use Rattle.ent_world.specs.OpenWorld.{OpenWorld, View, world_at_start}
+use Rattle.ent_runner.specs.Frame.{IsFrame, IsLost, IsBrokenOff, reserved_by}
 
 -- a flushed allocator has all that there is to give in its pool
 flushed_pool : (s : Allocator) → IsSound s → s.asked ≡ 0 → s.pool ≡ available s
@@ -40,10 +40,10 @@ is_lost before w history sound flushed changed = lost_after before before.alloca
 -- What is known of a world that was opened and closed again, and of the queues, if there are any.
 abbrev pub ClosedAgain : {S : Type 0} → (S → View → List Command → Type 0) → (S → View → List Command → Type 0) → List S → OpenWorld → World → Option (Vec (List Command) Global) → Type 0
 ClosedAgain may leave systems world after got =
-    (history : List Call) × IsBrokenOff may leave systems world.shared.count (world_of world) history × (after ≡ reserved_by history (world_of world))
-    × IfSome got (λ q. IsFrame may systems world.shared.count (world_of world) q.items history)
+    (history : List Call) × IsBrokenOff may leave systems world.shared.count (world_at_start world) history × (after ≡ reserved_by history (world_at_start world))
+    × IfSome got (λ q. IsFrame may systems world.shared.count (world_at_start world) q.items history)
 
-module _ {S : Type 0} (may leave : S → View → List Command → Type 0) (systems : List S) (before after : World) (world : OpenWorld) (got : Option (Vec (List Command) Global)) (same : world_of world ≡ before) (closed : ClosedAgain may leave systems world after got) where
+module _ {S : Type 0} (may leave : S → View → List Command → Type 0) (systems : List S) (before after : World) (world : OpenWorld) (got : Option (Vec (List Command) Global)) (same : world_at_start world ≡ before) (closed : ClosedAgain may leave systems world after got) where
   abbrev changed : after ≡ reserved_by closed.0 before
   changed = closed.2 ∙ ap (reserved_by closed.0) same
 

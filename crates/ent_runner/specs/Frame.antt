@@ -11,9 +11,9 @@ use Rattle.ent_alloc.specs.Limits.{credit}
 use Rattle.ent_alloc.specs.Sequential.{available, born}
 use Rattle.ent_alloc.specs.History.{Call, IsLegal, after_history}
 use Rattle.ent_queue.specs.Command.{Command}
-use Rattle.ent_queue.specs.Reserving.{requests_of, AreWithin}
+use Rattle.ent_queue.specs.Reserving.{stands_for, FitCredit}
 use Rattle.ent_world.specs.World.{World}
-use Rattle.ent_world.specs.OpenWorld.{OpenWorld, View}
+use Rattle.ent_world.specs.OpenWorld.{View}
 use Rattle.ent_world.specs.Sync.{sync, sync_until, IsStop}
 use Rattle.ent_world.specs.declared.fault.Fault.{Fault}
 use Rattle.ent_world.specs.declared.fault.SyncFault.{SyncFault}
@@ -29,10 +29,6 @@ view_of w = record { phase = w.phase; entities = w.entities }
 -- the world after these calls have reserved from its allocator
 abbrev pub reserved_by : List Call → World → World
 reserved_by history w = record w { allocator = after_history w.allocator history }
-
--- a world that is open, as it was closed before
-abbrev pub world_of : OpenWorld → World
-world_of w = record { allocator = w.shared.start; phase = w.phase; entities = w.entities }
 
 -- the queue of a system
 abbrev pub queue_at : List (List Command) → ℕ → List Command
@@ -53,8 +49,8 @@ requests_by caller history =
 pub record IsWork (queues : List (List Command)) (history : List Call) (worker : ℕ)
     (systems : List ℕ) : Type 0 where
   pub rising : AllPairs (λ m n. m < n) systems
-  pub calls : requests_by worker history ≡ flat_map requests_of (commands_of queues systems)
-  pub within : AreWithin credit (commands_of queues systems)
+  pub calls : requests_by worker history ≡ flat_map stands_for (commands_of queues systems)
+  pub within : FitCredit credit (commands_of queues systems)
 
 -- The queues are what the systems may issue if that many workers run them, and the history has the
 -- calls of these workers and no others.
@@ -75,16 +71,16 @@ pub record IsFrame {S : Type 0} (may : S → View → List Command → Type 0) (
       → may system (view_of before) (queue_at queues n)
 
 -- the system of this number may issue the commands
-abbrev pub MayIssue : {S : Type 0} → (S → View → List Command → Type 0) → List S → View → ℕ
+abbrev pub SystemMayIssue : {S : Type 0} → (S → View → List Command → Type 0) → List S → View → ℕ
     → List Command → Type 0
-MayIssue {S} may systems view n queue =
+SystemMayIssue {S} may systems view n queue =
     (system : S) → slice_get systems n ≡ Some system → may system view queue
 
 -- or leave them in its queue, if memory was refused to it
-abbrev pub MayHaveIssued : {S : Type 0} → (S → View → List Command → Type 0)
+abbrev pub SystemMayHaveIssued : {S : Type 0} → (S → View → List Command → Type 0)
     → (S → View → List Command → Type 0) → List S → View → ℕ → List Command → Type 0
-MayHaveIssued may leave systems view n queue =
-    MayIssue may systems view n queue ⊎ MayIssue leave systems view n queue
+SystemMayHaveIssued may leave systems view n queue =
+    SystemMayIssue may systems view n queue ⊎ SystemMayIssue leave systems view n queue
 
 -- A frame that was broken off: that many workers ran some of the systems, and stopped. The history
 -- has what these systems asked for, and nothing else.
@@ -102,12 +98,12 @@ pub record IsBrokenOff {S : Type 0} (may leave : S → View → List Command →
   pub queues : List (List Command)
   pub each_queue : length queues ≡ count
   pub each_system : (n : ℕ) → n < count
-      → MayHaveIssued may leave systems (view_of before) n (queue_at queues n)
+      → SystemMayHaveIssued may leave systems (view_of before) n (queue_at queues n)
   pub work : (worker : ℕ) (mine : List ℕ) → slice_get ran worker ≡ Some mine
       → IsWork queues history worker mine
   -- A worker ran a system after another one only if that one had ended.
   pub ended : (worker : ℕ) (mine : List ℕ) → slice_get ran worker ≡ Some mine
-      → AllPairs (λ earlier later. MayIssue may systems (view_of before) earlier
+      → AllPairs (λ earlier later. SystemMayIssue may systems (view_of before) earlier
       (queue_at queues earlier)) mine
 
 -- The sync of the queues stands up to that handle of that command of that system, and no further.
@@ -135,7 +131,7 @@ first_call request = record { caller = 0; requested = request.0; reply = request
 
 -- the reservations of all queues, one queue after the other
 abbrev pub calls_in_order : List (List Command) → List Call
-calls_in_order queues = map first_call (flat_map requests_of (flat_map (λ queue. queue) queues))
+calls_in_order queues = map first_call (flat_map stands_for (flat_map (λ queue. queue) queues))
 
 -- With one worker the reservations stand in the order of the systems. So what the frame ends with
 -- follows from the queues.

@@ -8,20 +8,20 @@ use Rattle.ent_shared.specs.Phase.{Shared, IsOf}
 use Rattle.ent_queue.specs.Command.{Command}
 use Rattle.ent_queue.specs.Reserving.{Gains}
 use Rattle.ent_shared.specs.Record.{opened}
-use Rattle.ent_world.specs.OpenWorld.{OpenWorld, View}
-use Rattle.ent_claims.specs.Claims.{Claims, Claimer, IsOf as IsClaimerOf}
-use Rattle.ent_runner.specs.declared.worker.Issued.{Issued}
+use Rattle.ent_world.specs.OpenWorld.{OpenWorld, View, world_at_start}
+use Rattle.ent_claims.specs.Claims.{Claims, Claimer, IsClaimerOf as IsClaimerOf}
+use Rattle.ent_runner.specs.declared.worker.SystemQueue.{SystemQueue}
 use Rattle.ent_runner.specs.declared.worker.Worker.{Worker}
 use Rattle.ent_runner.specs.declared.crew.Room.{Room}
 use Rattle.ent_runner.specs.declared.crew.Returned.{Returned}
-use Rattle.ent_runner.specs.Frame.{MayIssue, MayHaveIssued, view_of, world_of}
+use Rattle.ent_runner.specs.Frame.{SystemMayIssue, SystemMayHaveIssued, view_of}
 
 -- the numbers of the systems, and all their commands
-abbrev pub systems_of : List Issued → List ℕ
-systems_of issued = map (λ (i : Issued). i.system) issued
+abbrev pub systems_of : List SystemQueue → List ℕ
+systems_of issued = map (λ (i : SystemQueue). i.system) issued
 
-abbrev pub commands_in : List Issued → List Command
-commands_in issued = flat_map (λ (i : Issued). i.queue) issued
+abbrev pub commands_issued : List SystemQueue → List Command
+commands_issued issued = flat_map (λ (i : SystemQueue). i.queue) issued
 
 -- what their reservers have done
 abbrev pub all_records : List Worker → List Record
@@ -30,19 +30,19 @@ all_records workers = map (λ (w : Worker). w.reserver.own) workers
 -- It ran the systems that it claimed and no others, in the order of the claims, and its reserver
 -- has gained their reservations and no others.
 pub record HasRun {S : Type 0} (may : S → View → List Command → Type 0) (systems : List S)
-    (view : View) (before after : Record) (claimed : List ℕ) (issued : List Issued) : Type 0 where
+    (view : View) (before after : Record) (claimed : List ℕ) (issued : List SystemQueue) : Type 0 where
   pub claims : systems_of issued ≡ claimed
-  pub gains : Gains before (commands_in issued) after
-  pub each : All (λ (i : Issued). MayIssue may systems view i.system i.queue) issued
+  pub gains : Gains before (commands_issued issued) after
+  pub each : All (λ (i : SystemQueue). SystemMayIssue may systems view i.system i.queue) issued
 
 -- The same of a worker that may have stopped: the last system may have stopped too.
 pub record HasRunSome {S : Type 0} (may leave : S → View → List Command → Type 0)
     (systems : List S) (view : View) (before after : Record) (claimed : List ℕ)
-    (issued : List Issued) : Type 0 where
+    (issued : List SystemQueue) : Type 0 where
   pub claims : systems_of issued ≡ claimed
-  pub gains : Gains before (commands_in issued) after
-  pub each : All (λ (i : Issued). MayHaveIssued may leave systems view i.system i.queue) issued
-  pub ended : AllPairs (λ (i later : Issued). MayIssue may systems view i.system i.queue) issued
+  pub gains : Gains before (commands_issued issued) after
+  pub each : All (λ (i : SystemQueue). SystemMayHaveIssued may leave systems view i.system i.queue) issued
+  pub ended : AllPairs (λ (i later : SystemQueue). SystemMayIssue may systems view i.system i.queue) issued
 
 -- It has claimed nothing yet.
 abbrev pub IsUnused : Claimer → Type 0
@@ -60,7 +60,7 @@ pub record HasWorked {S : Type 0} (may leave : S → View → List Command → T
     (w : Worker) : Type 0 where
   pub reserver : IsOf shared w.reserver
   pub claimer : IsClaimerOf claims w.claimer
-  pub inside : All (λ (i : Issued). i.system < length systems) w.issued.items
+  pub inside : All (λ (i : SystemQueue). i.system < length systems) w.issued.items
   pub ran_some : HasRunSome may leave systems view before w.reserver.own w.claimer.own.claims
       w.issued.items
   pub ran : w.stopped ≡ false → HasRun may systems view before w.reserver.own
@@ -71,7 +71,7 @@ pub record HasWorked {S : Type 0} (may leave : S → View → List Command → T
 pub record HasClaimed (shared : Shared) (claims : Claims) (w : Worker) : Type 0 where
   pub reserver : IsOf shared w.reserver
   pub claimer : IsClaimerOf claims w.claimer
-  pub inside : All (λ (i : Issued). i.system < claims.numbers) w.issued.items
+  pub inside : All (λ (i : SystemQueue). i.system < claims.numbers) w.issued.items
   pub ran : systems_of w.issued.items ≡ w.claimer.own.claims
   pub ended : w.stopped ≡ false → w.claimer.own.ended ≡ true
 
@@ -80,7 +80,7 @@ pub record HaveWorked {S : Type 0} (may leave : S → View → List Command → 
     (systems : List S) (world : OpenWorld) (claims : Claims) (team : List Worker) : Type 0 where
   pub count : length team ≡ world.shared.count
   pub each : (k : ℕ) (w : Worker) → slice_get team k ≡ Some w
-      → HasWorked may leave world.shared claims systems (view_of (world_of world))
+      → HasWorked may leave world.shared claims systems (view_of (world_at_start world))
       (opened world.shared.start k) w
 
 -- Together these workers ran the first systems, each once.
@@ -101,7 +101,7 @@ pub record HasReturns (systems workers : ℕ) (room : Returned) : Type 0 where
   pub queues_fit : systems ≤ vec_capacity room.queues
 
 -- There is room for that many systems and workers, and a claimer for each worker.
-pub record HasRoom (systems workers : ℕ) (room : Room) : Type 0 where
+pub record IsRoomFor (systems workers : ℕ) (room : Room) : Type 0 where
   pub numbers : room.claims.numbers ≡ systems
   pub claimed_by : room.claims.workers ≡ workers
   pub unused_count : length room.unused.items ≡ workers

@@ -2,8 +2,8 @@
 //! before the phase was opened.
 ghost use Rattle.std.specs.Prelude.{◌≡◌, ◌<◌, ◌≤◌, ◌^◌, [], length, map, reverse, replicate, All};
 ghost use Rattle.std.specs.Prelude.{IfOk, None, false, flat_map, vec_capacity};
-ghost use Rattle.ent_runner.specs.Placing.{placed};
-ghost use Rattle.ent_runner.specs.Worker.{HasRoom, HasReturns};
+ghost use Rattle.ent_runner.specs.Placing.{queues_placed};
+ghost use Rattle.ent_runner.specs.Worker.{IsRoomFor, HasReturns};
 
 use crate::placing::place;
 use crate::worker::Worker;
@@ -37,7 +37,7 @@ impl Room {
         requires systems { systems ≤ 2 ^ 16 }
         requires some { 0 < workers }
         requires few { workers ≤ 64 }
-        ensures { IfOk result (HasRoom systems workers) }
+        ensures { IfOk result (IsRoomFor systems workers) }
     {
         let (claims, unused) = Claims::open(alloc, systems, workers)?;
         Ok(Room {
@@ -121,7 +121,7 @@ pub(crate) fn disband(
     ensures reservers { reservers.new.items ≡ map (λ w. w.reserver) workers.items }
     ensures claimers { claimers.new.items ≡ map (λ w. w.claimer) workers.items }
     ensures places { places.new
-        ≡ placed (flat_map (λ w. w.issued.items) workers.items) places.old }
+        ≡ queues_placed (flat_map (λ w. w.issued.items) workers.items) places.old }
 {
     for worker in workers {
         reservers.push_reserved(worker.reserver);

@@ -7,12 +7,13 @@ ghost use Rattle.std.specs.List.{range_with_len};
 ghost use Rattle.ent_alloc.specs.History.{Call, IsLegal};
 ghost use Rattle.ent_shared.specs.Order.{history_of, reservations_of, Respects};
 ghost use Rattle.ent_shared.specs.Phase.{IsOf, records_of};
-ghost use Rattle.ent_claims.specs.Claims.{IsOf as IsClaimerOf};
+ghost use Rattle.ent_claims.specs.Claims.{IsClaimerOf as IsClaimerOf};
 ghost use Rattle.ent_shared.specs.Record.{opened_records};
 ghost use Rattle.ent_runner.specs.Frame.{IsFrame, Ends, EndsInOrder, IsBrokenOff, IsLost, StopsAt};
-ghost use Rattle.ent_runner.specs.Frame.{IfSyncStopped, reserved_by, world_of};
-ghost use Rattle.ent_runner.specs.Placing.{placed};
-ghost use Rattle.ent_runner.specs.Worker.{HasRoom, HasReturns, HasClaimed, HaveWorked, IsFresh};
+ghost use Rattle.ent_world.specs.OpenWorld.{world_at_start};
+ghost use Rattle.ent_runner.specs.Frame.{IfSyncStopped, reserved_by};
+ghost use Rattle.ent_runner.specs.Placing.{queues_placed};
+ghost use Rattle.ent_runner.specs.Worker.{IsRoomFor, HasReturns, HasClaimed, HaveWorked, IsFresh};
 ghost use Rattle.ent_runner.specs.Worker.{HaveRunFirst, systems_of, all_records};
 
 use crate::crew::{Returned, Room, disband, recruit, some_stopped};
@@ -113,18 +114,18 @@ where
     R: Threads + Sync,
     S: System + Sync,
     G: Gate + Sync,
-    requires room { HasRoom (length systems.now) opened.shared.count room }
+    requires room { IsRoomFor (length systems.now) opened.shared.count room }
     requires some { 0 < opened.shared.count }
     requires count { length reservers.items ≡ opened.shared.count }
     requires own { All (IsOf opened.shared) reservers.items }
     requires unused { records_of reservers.items
         ≡ opened_records opened.shared.start 0 opened.shared.count }
     ensures { (history : List Call)
-        × IsBrokenOff S.may_issue S.may_leave systems.now opened.shared.count (world_of opened)
+        × IsBrokenOff S.may_issue S.may_leave systems.now opened.shared.count (world_at_start opened)
         history
-        × (result.0 ≡ reserved_by history (world_of opened))
+        × (result.0 ≡ reserved_by history (world_at_start opened))
         × IfSome result.1 (λ queues. IsFrame S.may_issue systems.now opened.shared.count
-        (world_of opened) queues.items history) }
+        (world_at_start opened) queues.items history) }
 {
     let Room {
         claims,
@@ -184,7 +185,7 @@ fn finish(
     requires claims { claims.workers ≡ opened.shared.count }
     requires room { HasReturns claims.numbers opened.shared.count returned }
     ensures world { result.0
-        ≡ reserved_by (history_of (all_records workers.items)) (world_of opened) }
+        ≡ reserved_by (history_of (all_records workers.items)) (world_at_start opened) }
     ensures legal { IsLegal opened.shared.start (history_of (all_records workers.items)) }
     ensures respects { let records = all_records workers.items in
         All (Respects (reservations_of records)) records }
@@ -194,7 +195,7 @@ fn finish(
         (flat_map (λ w. systems_of w.issued.items) workers.items)
         (range_with_len 0 claims.numbers)) }
     ensures queues { IfSome result.1 (λ queues. map Some queues.items
-        ≡ placed (flat_map (λ w. w.issued.items) workers.items)
+        ≡ queues_placed (flat_map (λ w. w.issued.items) workers.items)
         (replicate claims.numbers None)) }
 {
     let stopped = some_stopped(&workers);

@@ -2,26 +2,26 @@
 ghost use Rattle.std.specs.Prelude.{◌≡◌, ◌<◌, ◌≤◌, length, map, All, Some, IsSome, List, Option};
 ghost use Rattle.std.specs.Prelude.{[], vec_capacity, slice_set};
 ghost use Rattle.ent_queue.specs.Command.{Command};
-ghost use Rattle.ent_runner.specs.Placing.{placed};
+ghost use Rattle.ent_runner.specs.Placing.{queues_placed};
 
-use crate::worker::Issued;
+use crate::worker::SystemQueue;
 use ent_queue::CommandQueue;
 
 /// Puts each queue in the place of its system.
-pub(crate) fn place(issued: Vec<Issued>, places: &mut [Option<CommandQueue>])
+pub(crate) fn place(issued: Vec<SystemQueue>, places: &mut [Option<CommandQueue>])
     requires { All (λ i. i.system < length places.old) issued.items }
-    ensures { places.new ≡ placed issued.items places.old }
+    ensures { places.new ≡ queues_placed issued.items places.old }
 {
     for one in issued {
         put(one, places);
     }
 }
 
-fn put(issued: Issued, places: &mut [Option<CommandQueue>])
+fn put(issued: SystemQueue, places: &mut [Option<CommandQueue>])
     requires { issued.system < length places.old }
     ensures { places.new ≡ slice_set places.old issued.system (Some issued.queue) }
 {
-    let Issued { system, queue } = issued;
+    let SystemQueue { system, queue } = issued;
     places[system] = Some(queue);
 }
 

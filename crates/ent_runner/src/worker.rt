@@ -3,8 +3,8 @@ ghost use Rattle.std.specs.Prelude.{◌≡◌, ◌+◌, ◌<◌, ◌≤◌, ◌^
 ghost use Rattle.std.specs.Prelude.{All, ℕ, slice_index_or, false};
 ghost use Rattle.ent_shared.specs.Phase.{IsOf};
 ghost use Rattle.ent_queue.specs.Reserving.{Gains};
-ghost use Rattle.ent_claims.specs.Claims.{IsOf as IsClaimerOf};
-ghost use Rattle.ent_runner.specs.Frame.{MayIssue};
+ghost use Rattle.ent_claims.specs.Claims.{IsClaimerOf as IsClaimerOf};
+ghost use Rattle.ent_runner.specs.Frame.{SystemMayIssue};
 ghost use Rattle.ent_runner.specs.Worker.{HasRun, HasRunSome, IsFresh, HasWorked};
 
 use crate::gate::Gate;
@@ -19,7 +19,7 @@ use std::thread::{Threads, for_each_mut};
 
 /// The queue that a system has issued.
 #[derive(Drop)]
-pub(crate) struct Issued {
+pub(crate) struct SystemQueue {
     pub(crate) system: usize,
     pub(crate) queue: CommandQueue,
 }
@@ -42,7 +42,7 @@ pub(crate) struct Worker {
     pub(crate) claimer: Claimer,
     /// The queues of the systems that it ran, in the order of the claims. If a system stopped,
     /// its queue is the last one.
-    pub(crate) issued: Vec<Issued>,
+    pub(crate) issued: Vec<SystemQueue>,
     /// Memory was refused to it or to its last system, so it has claimed no more.
     pub(crate) stopped: bool,
 }
@@ -55,9 +55,9 @@ impl<S: System, G: Gate> Stage<'_, S, G> {
         ensures stays { IsOf self.now.shared.now reserver.new }
         ensures gains { Gains reserver.old.own result.0 reserver.new.own }
         ensures may { OnOk result.1
-            (MayIssue S.may_issue self.now.systems.now self.now.view system result.0) }
+            (SystemMayIssue S.may_issue self.now.systems.now self.now.view system result.0) }
         ensures leaves { OnErr result.1
-            (MayIssue S.may_leave self.now.systems.now self.now.view system result.0) }
+            (SystemMayIssue S.may_leave self.now.systems.now self.now.view system result.0) }
     {
         self.gate.entered(system);
         let mut commands = Commands::new(self.alloc, self.shared, reserver);
@@ -89,7 +89,7 @@ impl Worker {
         self.issued.reserve(1)?;
         while let Some(system) = stage.claims.next(&mut self.claimer) {
             let (queue, ran) = stage.issue(system, &mut self.reserver);
-            self.issued.push_reserved(Issued { system, queue });
+            self.issued.push_reserved(SystemQueue { system, queue });
             ran?;
             self.issued.reserve(1)?;
         }

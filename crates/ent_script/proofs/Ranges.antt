@@ -28,14 +28,14 @@ use Rattle.ent_script.specs.declared.read_fault.ReadFault.TheVariants as fault
 use Rattle.ent_script.specs.declared.target.Target.{Target}
 use Rattle.ent_script.specs.declared.target.Target.TheVariants as target
 use Rattle.ent_script.specs.Json.{elements, at_most, members, keys_among, whole, in_range, whole_within}
-use Rattle.ent_script.specs.Names.{name_of, place_of, with_part, names_in}
+use Rattle.ent_script.specs.Names.{as_name, number_among, with_part, names_in}
 use Rattle.ent_script.specs.Script.{Script}
 use Rattle.ent_script.specs.Ranges.{IsBundleOf, IsBindingAt, IsTargetAt, IsOperationAt, AreOperationsFrom}
 use Rattle.ent_script.specs.Ranges.{IsSystemOf, IsFrameOf, IsScript}
 use Rattle.ent_script.specs.Reading.{◌>>=◌, test, numbered, or_absent, component_of, item_of, items_of}
-use Rattle.ent_script.specs.Reading.{bundle_of, with_of, count_of, binding_of, removed_of, only, target_handle}
+use Rattle.ent_script.specs.Reading.{read_bundle, with_of, count_of, binding_of, removed_of, only, target_handle}
 use Rattle.ent_script.specs.Reading.{target_at, target_of, kind_of, of_kind, operation_of, at_operation, operation_at, bound_name}
-use Rattle.ent_script.specs.Reading.{system_of, frame_of, component_at, components_of, limits_of, in_script, script_of}
+use Rattle.ent_script.specs.Reading.{system_of, frame_of, component_at, component_names, limits_of, in_script, script_of}
 use Rattle.ent_script.specs.Reading.{script_keys, ReadsAs}
 use Rattle.ent_script.proofs.NamesLaws.{place_of_within}
 
@@ -125,7 +125,7 @@ few most d = chained (AtMost most) _ (elements d) (λ ds. few_by (nat_le (length
 -- ---- components and bundles
 
 component_in : (components : List (List ℕ)) (text : List ℕ) → IfSome (component_of components text) (λ c. c.0 < length components)
-component_in components text = mapped (ComponentIn (length components)) (λ (n : ℕ). record { 0 = n }) (place_of text components) (place_of_within text components)
+component_in components text = mapped (ComponentIn (length components)) (λ (n : ℕ). record { 0 = n }) (number_among text components) (place_of_within text components)
 
 item_in : (components : List (List ℕ)) (m : List ℕ × Data) → IfOk (item_of components m) (λ item. item.0.0 < length components)
 item_in components m =
@@ -158,8 +158,8 @@ fold_in n bundle [] h all = h
 fold_in n bundle (item ∷ items) h all =
     fold_in n (insert_entry component_cmp bundle item.0 item.1) items (insert_in n bundle item.0 item.1 all.0 h) all.1
 
-bundle_in : (components : List (List ℕ)) (part : Option Data) → IfOk (bundle_of components part) (IsBundleOf (length components))
-unfolding bundle_of
+bundle_in : (components : List (List ℕ)) (part : Option Data) → IfOk (read_bundle components part) (IsBundleOf (length components))
+unfolding read_bundle
 bundle_in components part =
     then_ok (λ _. Unit {0}) (IsBundleOf (length components)) (ok_or (option_and_then members part) cause.Bundle) _ (always (ok_or (option_and_then members part) cause.Bundle))
     (λ ms _. then_ok (IsBundleOf (length components)) (IsBundleOf (length components)) (items_of components ms) _ (items_in components ms)
@@ -197,8 +197,8 @@ binding_in : (bound : List (List ℕ)) (most : ℕ) → length bound ≤ most �
 unfolding binding_of
 binding_in bound most few None = tt
 binding_in bound most few (Some d) =
-    then_ok (λ _. Unit {0}) (IsBindingAt most) (ok_or (name_of d) cause.Name) _ (always (ok_or (name_of d) cause.Name))
-    (λ name _. or_next (place_of name bound) (length bound) most few (place_of_within name bound))
+    then_ok (λ _. Unit {0}) (IsBindingAt most) (ok_or (as_name d) cause.Name) _ (always (ok_or (as_name d) cause.Name))
+    (λ name _. or_next (number_among name bound) (length bound) most few (place_of_within name bound))
 
 one_more : (b : Bool) (names : List (List ℕ)) (name : List ℕ) → length (cond b names (names ++ name ∷ [])) ≤ length names + 1
 one_more true names name = omega arith
@@ -206,7 +206,7 @@ one_more false names name = omega (arith, length-append names (name ∷ []))
 
 part_more : (names : List (List ℕ)) (found : Option (List ℕ)) → length (with_part names found) ≤ length names + 1
 part_more names None = omega arith
-part_more names (Some name) = one_more (is_some (place_of name names)) names name
+part_more names (Some name) = one_more (is_some (number_among name names)) names name
 
 names_from : (f : Data → Option (List ℕ)) (i : ℕ) (names : List (List ℕ)) (ds : List Data)
     → length (fold (λ names d. with_part names (f d)) names (take i ds)) ≤ length names + i
@@ -232,8 +232,8 @@ module _ (components bound : List (List ℕ)) (most : ℕ) (few_bound : length b
   unfolding target_at
   target_at_in key text =
       either (IsTargetAt (length components) most) (bytes_eq key (codes "name")) _ _
-      (or_cause (IsTargetAt (length components) most) (option_map target.Name (place_of text bound)) cause.Name
-      (mapped (IsTargetAt (length components) most) target.Name (place_of text bound) (below_more_names (place_of text bound) (length bound) most few_bound (place_of_within text bound))))
+      (or_cause (IsTargetAt (length components) most) (option_map target.Name (number_among text bound)) cause.Name
+      (mapped (IsTargetAt (length components) most) target.Name (number_among text bound) (below_more_names (number_among text bound) (length bound) most few_bound (place_of_within text bound))))
       (either (IsTargetAt (length components) most) (bytes_eq key (codes "handle")) _ _ (handle_in (length components) most text)
       (either (IsTargetAt (length components) most) (bytes_eq key (codes "each")) _ _
       (or_cause (IsTargetAt (length components) most) (option_map target.Each (component_of components text)) cause.Component
@@ -250,14 +250,14 @@ module _ (components bound : List (List ℕ)) (most : ℕ) (few_bound : length b
   of_kind_in : (d : Data) (kind : Kind) → IfOk (of_kind components bound d kind) (IsOperationAt (length components) most)
   unfolding of_kind
   of_kind_in d kinds.Spawn =
-      then_ok (IsBundleOf (length components)) (IsOperationAt (length components) most) (bundle_of components (get (codes "spawn") d)) _ (bundle_in components (get (codes "spawn") d))
+      then_ok (IsBundleOf (length components)) (IsOperationAt (length components) most) (read_bundle components (get (codes "spawn") d)) _ (bundle_in components (get (codes "spawn") d))
       (λ bundle h. then_ok (IsBindingAt most) (IsOperationAt (length components) most) (binding_of bound (get (codes "as") d)) _ (binding_in bound most few_bound (get (codes "as") d)) (λ binds b. (h, b)))
   of_kind_in d kinds.SpawnMany =
       then_ok (λ n. n ≤ 65536) (IsOperationAt (length components) most) (count_of (get (codes "spawn_many") d)) _ (count_in (get (codes "spawn_many") d))
       (λ count k. then_ok (IsBundleOf (length components)) (IsOperationAt (length components) most) (with_of components (get (codes "with") d)) _ (with_in components (get (codes "with") d))
       (λ bundle h. then_ok (IsBindingAt most) (IsOperationAt (length components) most) (binding_of bound (get (codes "as") d)) _ (binding_in bound most few_bound (get (codes "as") d)) (λ binds b. (k, h, b))))
   of_kind_in d kinds.Insert =
-      then_ok (IsBundleOf (length components)) (IsOperationAt (length components) most) (bundle_of components (get (codes "insert") d)) _ (bundle_in components (get (codes "insert") d))
+      then_ok (IsBundleOf (length components)) (IsOperationAt (length components) most) (read_bundle components (get (codes "insert") d)) _ (bundle_in components (get (codes "insert") d))
       (λ bundle h. then_ok (IsTargetAt (length components) most) (IsOperationAt (length components) most) (target_of components bound (get (codes "on") d)) _ (target_in (get (codes "on") d)) (λ on k. (h, k)))
   of_kind_in d kinds.Remove =
       then_ok (ComponentIn (length components)) (IsOperationAt (length components) most) (removed_of components (get (codes "remove") d)) _ (removed_in components (get (codes "remove") d))
@@ -306,8 +306,8 @@ frame_in components number d =
     (λ ds short. loosened (IsSystemOf (length components)) (numbered (system_of components number) 0 ds) (length ds) 256 short
     (numbered_each (IsSystemOf (length components)) (system_of components number) 0 ds (λ i e. system_in components number i e)))
 
-components_in : (part : Option Data) → IfOk (components_of part) (λ names. length names ≤ 256)
-unfolding components_of
+components_in : (part : Option Data) → IfOk (component_names part) (λ names. length names ≤ 256)
+unfolding component_names
 components_in part =
     then_ok (AtMost 256) (AtMost 256) (ok_or (option_and_then (at_most 256) part) script_cause.Components) _
     (or_cause (AtMost 256) (option_and_then (at_most 256) part) script_cause.Components (chained (AtMost 256) (at_most 256) part (few 256)))
@@ -340,8 +340,8 @@ pub script_in : (d : Data) → IfOk (script_of d) IsScript
 unfolding script_of
 script_in d =
     then_ok AreLimits IsScript (in_script (limits_of d)) _ (in_top AreLimits (limits_of d) (limits_in d))
-    (λ limits l. then_ok (AtMost 256) IsScript (in_script (components_of (get (codes "components") d))) _
-    (in_top (AtMost 256) (components_of (get (codes "components") d)) (components_in (get (codes "components") d)))
+    (λ limits l. then_ok (AtMost 256) IsScript (in_script (component_names (get (codes "components") d))) _
+    (in_top (AtMost 256) (component_names (get (codes "components") d)) (components_in (get (codes "components") d)))
     (λ components c. then_ok (AtMost 1000) IsScript (ok_or (option_and_then (at_most 1000) (get (codes "frames") d)) (fault.Script script_cause.Frames)) _
     (or_cause (AtMost 1000) (option_and_then (at_most 1000) (get (codes "frames") d)) (fault.Script script_cause.Frames) (chained (AtMost 1000) (at_most 1000) (get (codes "frames") d) (few 1000)))
     (λ ds short. then_ok (λ frames. (length frames ≤ 1000) × AllByRecursion (IsFrameOf (length components)) frames) IsScript

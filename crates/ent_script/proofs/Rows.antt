@@ -17,15 +17,15 @@ use Rattle.ent_script.specs.declared.read_fault.ReadFault.{ReadFault}
 use Rattle.ent_script.specs.declared.read_fault.ReadFault.TheVariants as fault
 use Rattle.ent_script.specs.declared.target.Target.TheVariants as target
 use Rattle.ent_script.specs.Script.{Script}
-use Rattle.ent_script.specs.Reading.{script_of_text, script_of, limits_of, components_of, frame_of}
+use Rattle.ent_script.specs.Reading.{script_of_text, script_of, limits_of, component_names, frame_of}
 use Rattle.ent_script.specs.Reading.{system_of, operation_of, of_kind, has_keys, is_spawn}
-use Rattle.ent_script.specs.Reading.{is_spawn_many, is_insert, is_remove, is_despawn, bundle_of}
+use Rattle.ent_script.specs.Reading.{is_spawn_many, is_insert, is_remove, is_despawn, read_bundle}
 use Rattle.ent_script.specs.Reading.{count_of, binding_of, removed_of, target_of, target_at}
 use Rattle.ent_script.specs.Refusal.{refusal_line}
 
 -- what a row unfolds to compute the script of a text
 unfoldable script_on_literals : ⊤
-unfolding serde_json_on_literals is_utf8 chars script_of limits_of components_of frame_of system_of operation_of of_kind has_keys is_spawn is_spawn_many is_insert is_remove is_despawn bundle_of count_of binding_of removed_of target_of target_at
+unfolding serde_json_on_literals is_utf8 chars script_of limits_of component_names frame_of system_of operation_of of_kind has_keys is_spawn is_spawn_many is_insert is_remove is_despawn read_bundle count_of binding_of removed_of target_of target_at
 script_on_literals = tt
 
 abbrev number : ℕ → ComponentId

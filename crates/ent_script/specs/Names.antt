@@ -17,18 +17,18 @@ abbrev pub is_name : List ℕ → Bool
 is_name text = nat_le 1 (length text) && nat_le (length text) 32 && list_all is_name_byte text
 
 -- the name that a value is
-abbrev pub name_of : Data → Option (List ℕ)
-name_of d = option_and_then (λ text. if is_name text then Some text else None) (as_str d)
+abbrev pub as_name : Data → Option (List ℕ)
+as_name d = option_and_then (λ text. if is_name text then Some text else None) (as_str d)
 
 -- the place at which a name stands among others
-abbrev pub place_of : List ℕ → List (List ℕ) → Option ℕ
-place_of name [] = None
-place_of name (first ∷ others) =
-    if bytes_eq first name then Some 0 else option_map (λ n. n + 1) (place_of name others)
+abbrev pub number_among : List ℕ → List (List ℕ) → Option ℕ
+number_among name [] = None
+number_among name (first ∷ others) =
+    if bytes_eq first name then Some 0 else option_map (λ n. n + 1) (number_among name others)
 
 -- the names with this one, which goes last unless it is there
 abbrev pub with_name : List (List ℕ) → List ℕ → List (List ℕ)
-with_name names name = if is_some (place_of name names) then names else names ++ name ∷ []
+with_name names name = if is_some (number_among name names) then names else names ++ name ∷ []
 
 abbrev pub with_part : List (List ℕ) → Option (List ℕ) → List (List ℕ)
 with_part names None = names

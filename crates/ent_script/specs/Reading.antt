@@ -14,7 +14,7 @@ use Rattle.ent_handle.specs.declared.component.ComponentId.{ComponentId}
 use Rattle.ent_handle.specs.Component.{component_cmp}
 use Rattle.ent_handle.specs.Text.{handle_of}
 use Rattle.ent_script.specs.Json.{at_most, members, keys_among, whole, whole_within}
-use Rattle.ent_script.specs.Names.{name_of, place_of, names_in}
+use Rattle.ent_script.specs.Names.{as_name, number_among, names_in}
 use Rattle.ent_script.specs.Script.{Script}
 use Rattle.ent_script.specs.declared.cause.Cause.{Cause}
 use Rattle.ent_script.specs.declared.cause.Cause.TheVariants as cause
@@ -60,7 +60,7 @@ or_absent absent means (Some d) = means d
 
 -- the number of the component of this name
 abbrev pub component_of : List (List ℕ) → List ℕ → Option ComponentId
-component_of components text = option_map (λ n. record { 0 = n }) (place_of text components)
+component_of components text = option_map (λ n. record { 0 = n }) (number_among text components)
 
 abbrev pub item_of : List (List ℕ) → List ℕ × Data → Result (ComponentId × ℤ) Cause
 item_of components member = do
@@ -85,15 +85,15 @@ bundle_by components ms = do
   items ← items_of components ms
   Ok (by_number items)
 
-unfoldable pub bundle_of : List (List ℕ) → Option Data → Result (List (ComponentId × ℤ)) Cause
-bundle_of components part = do
+unfoldable pub read_bundle : List (List ℕ) → Option Data → Result (List (ComponentId × ℤ)) Cause
+read_bundle components part = do
   ms ← ok_or (option_and_then members part) cause.Bundle
   bundle_by components ms
 
 -- an absent bundle is the empty one
 abbrev pub with_of : List (List ℕ) → Option Data → Result (List (ComponentId × ℤ)) Cause
 with_of components None = Ok []
-with_of components (Some d) = bundle_of components (Some d)
+with_of components (Some d) = read_bundle components (Some d)
 
 unfoldable pub count_of : Option Data → Result ℕ Cause
 count_of part = ok_or (option_and_then (whole_within 0 65536) part) cause.Count
@@ -102,8 +102,8 @@ count_of part = ok_or (option_and_then (whole_within 0 65536) part) cause.Count
 unfoldable pub binding_of : List (List ℕ) → Option Data → Result (Option ℕ) Cause
 binding_of bound None = Ok None
 binding_of bound (Some d) = do
-  name ← ok_or (name_of d) cause.Name
-  Ok (Some (unwrap_or (place_of name bound) (length bound)))
+  name ← ok_or (as_name d) cause.Name
+  Ok (Some (unwrap_or (number_among name bound) (length bound)))
 
 unfoldable pub removed_of : List (List ℕ) → Option Data → Result ComponentId Cause
 removed_of components part = do
@@ -122,7 +122,7 @@ target_handle text =
 unfoldable pub target_at : List (List ℕ) → List (List ℕ) → List ℕ → List ℕ → Result Target Cause
 target_at components bound key text =
     if bytes_eq key (codes "name")
-    then ok_or (option_map target.Name (place_of text bound)) cause.Name
+    then ok_or (option_map target.Name (number_among text bound)) cause.Name
     else (if bytes_eq key (codes "handle") then target_handle text
     else (if bytes_eq key (codes "each")
     then ok_or (option_map target.Each (component_of components text)) cause.Component
@@ -169,7 +169,7 @@ kind_of d =
 
 unfoldable pub of_kind : List (List ℕ) → List (List ℕ) → Data → Kind → Result Operation Cause
 of_kind components bound d kinds.Spawn = do
-  bundle ← bundle_of components (get (codes "spawn") d)
+  bundle ← read_bundle components (get (codes "spawn") d)
   binds ← binding_of bound (get (codes "as") d)
   Ok (operation.Spawn bundle binds)
 of_kind components bound d kinds.SpawnMany = do
@@ -178,7 +178,7 @@ of_kind components bound d kinds.SpawnMany = do
   binds ← binding_of bound (get (codes "as") d)
   Ok (operation.SpawnMany count bundle binds)
 of_kind components bound d kinds.Insert = do
-  bundle ← bundle_of components (get (codes "insert") d)
+  bundle ← read_bundle components (get (codes "insert") d)
   on ← target_of components bound (get (codes "on") d)
   Ok (operation.Insert bundle on)
 of_kind components bound d kinds.Remove = do
@@ -197,7 +197,7 @@ operation_of components bound d = do
 
 -- the name that an operation binds
 abbrev pub bound_name : Data → Option (List ℕ)
-bound_name d = option_and_then name_of (get (codes "as") d)
+bound_name d = option_and_then as_name (get (codes "as") d)
 
 -- ---- systems, frames and the whole
 
@@ -224,15 +224,15 @@ frame_of components number d = do
 -- the name that a value is, if it is none of these
 abbrev pub new_name : List (List ℕ) → Data → Option (List ℕ)
 new_name names d =
-    option_and_then (λ name. if is_some (place_of name names) then None else Some name) (name_of d)
+    option_and_then (λ name. if is_some (number_among name names) then None else Some name) (as_name d)
 
 -- an element is a name that no element before it is
 abbrev pub component_at : List Data → ℕ → Data → Result (List ℕ) ScriptCause
 component_at ds number d =
-    ok_or (new_name (names_in name_of (take number ds)) d) script_cause.Components
+    ok_or (new_name (names_in as_name (take number ds)) d) script_cause.Components
 
-unfoldable pub components_of : Option Data → Result (List (List ℕ)) ScriptCause
-components_of part = do
+unfoldable pub component_names : Option Data → Result (List (List ℕ)) ScriptCause
+component_names part = do
   ds ← ok_or (option_and_then (at_most 256) part) script_cause.Components
   numbered (component_at ds) 0 ds
 
@@ -262,7 +262,7 @@ in_script (Err c) = Err (fault.Script c)
 unfoldable pub script_of : Data → Result Script ReadFault
 script_of d = do
   limits ← in_script (limits_of d)
-  components ← in_script (components_of (get (codes "components") d))
+  components ← in_script (component_names (get (codes "components") d))
   ds ← ok_or (option_and_then (at_most 1000) (get (codes "frames") d))
       (fault.Script script_cause.Frames)
   frames ← numbered (frame_of components) 0 ds

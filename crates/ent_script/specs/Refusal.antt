@@ -17,15 +17,15 @@ script_cause_text script_cause.Generations = codes "generations"
 script_cause_text script_cause.Components = codes "components"
 script_cause_text script_cause.Frames = codes "frames"
 
-abbrev pub cause_text : Cause → List ℕ
-cause_text cause.Shape = codes "shape"
-cause_text cause.Bundle = codes "bundle"
-cause_text cause.Component = codes "component"
-cause_text cause.Value = codes "value"
-cause_text cause.Count = codes "count"
-cause_text cause.Name = codes "name"
-cause_text cause.Target = codes "target"
-cause_text cause.Handle = codes "handle"
+abbrev pub operation_cause_text : Cause → List ℕ
+operation_cause_text cause.Shape = codes "shape"
+operation_cause_text cause.Bundle = codes "bundle"
+operation_cause_text cause.Component = codes "component"
+operation_cause_text cause.Value = codes "value"
+operation_cause_text cause.Count = codes "count"
+operation_cause_text cause.Name = codes "name"
+operation_cause_text cause.Target = codes "target"
+operation_cause_text cause.Handle = codes "handle"
 
 -- a space, and the decimal of a number
 abbrev pub place : ℕ → List ℕ
@@ -33,7 +33,7 @@ place n = 32 ∷ decimal n
 
 -- where an operation stands, and what is wrong with it
 abbrev pub operation_place : ℕ → ℕ → ℕ → Cause → List ℕ
-operation_place f s o c = place f ++ place s ++ place o ++ 32 ∷ cause_text c
+operation_place f s o c = place f ++ place s ++ place o ++ 32 ∷ operation_cause_text c
 
 -- want of memory has no text, since no line is written of it
 abbrev pub refusal_text : ReadFault → List ℕ

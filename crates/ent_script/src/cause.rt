@@ -1,5 +1,5 @@
 ghost use Rattle.std.specs.Prelude.{◌≡◌};
-ghost use Rattle.ent_script.specs.Refusal.{cause_text, script_cause_text};
+ghost use Rattle.ent_script.specs.Refusal.{operation_cause_text, script_cause_text};
 
 /// What is wrong with a script outside its frames: the first of these that is.
 #[derive(Clone, Copy, Debug, PartialEq, Eq, Hash)]
@@ -61,7 +61,7 @@ pub enum Cause {
 impl Cause {
     /// The word that names it, as `shape` or `component`.
     pub fn text(self) -> &'static str
-        ensures { result.now ≡ cause_text self }
+        ensures { result.now ≡ operation_cause_text self }
     {
         match self {
             Cause::Shape => "shape",

@@ -4,7 +4,7 @@ ghost use Rattle.std.specs.BTreeMap.{keys};
 ghost use Rattle.std.specs.Str.{bytes_eq};
 ghost use Rattle.serde_json.specs.View.{view};
 ghost use Rattle.ent_script.specs.Json.{elements, at_most, members, keys_among, whole_within};
-ghost use Rattle.ent_script.specs.Names.{name_of};
+ghost use Rattle.ent_script.specs.Names.{as_name};
 
 use crate::names::is_name;
 use serde_json::{Map, Value};
@@ -68,7 +68,7 @@ pub(crate) fn whole_within(value: &Value, low: u32, high: u32) -> Option<u32>
 
 /// The name that it is.
 pub(crate) fn name(value: &Value) -> Option<&str>
-    ensures { option_map (λ text. text.now) result ≡ name_of (view value.now) }
+    ensures { option_map (λ text. text.now) result ≡ as_name (view value.now) }
 {
     let text = value.as_str()?;
     if is_name(text) { Some(text) } else { None }

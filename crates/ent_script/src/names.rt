@@ -1,6 +1,6 @@
 ghost use Rattle.std.specs.Prelude.{◌≡◌, ◌<◌, [], length, map, OnOk, IfSome, IsTrue};
 ghost use Rattle.std.specs.List.{list_all};
-ghost use Rattle.ent_script.specs.Names.{is_name_byte, is_name, place_of, with_name};
+ghost use Rattle.ent_script.specs.Names.{is_name_byte, is_name, number_among, with_name};
 
 use ent_handle::Memory;
 use std::alloc::Global;
@@ -59,7 +59,7 @@ impl<'a> Names<'a> {
 
     /// The place of a name.
     pub(crate) fn find(&self, name: &str) -> Option<usize>
-        ensures value { result ≡ place_of name.now self.now }
+        ensures value { result ≡ number_among name.now self.now }
         ensures within { IfSome result (λ place. place < length self.now) }
     {
         self.places.get(name).copied()

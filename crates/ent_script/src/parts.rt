@@ -1,7 +1,7 @@
 ghost use Rattle.std.specs.Prelude.{◌≡◌, ℕ, ◌≤◌, List, length, map, option_map, string_bytes};
 ghost use Rattle.serde_json.specs.Data.{Data};
 ghost use Rattle.serde_json.specs.View.{view};
-ghost use Rattle.ent_script.specs.Reading.{component_of, item_of, bundle_by, bundle_of, with_of};
+ghost use Rattle.ent_script.specs.Reading.{component_of, item_of, bundle_by, read_bundle, with_of};
 ghost use Rattle.ent_script.specs.Reading.{removed_of, target_at, target_of, count_of};
 ghost use Rattle.ent_script.specs.Reading.{binding_of, only, ReadsPart};
 
@@ -137,14 +137,14 @@ fn items(
 }
 
 /// Components and their values.
-#[tactic(auto, unfolding(crate::specs::Reading::bundle_of))]
+#[tactic(auto, unfolding(crate::specs::Reading::read_bundle))]
 pub(crate) fn bundle(
     alloc: Global,
     components: &Names<'_>,
     part: Option<&Value>,
 ) -> Result<Bundle, PartFault>
     requires { length components.now ≤ 256 }
-    ensures { ReadsPart result (bundle_of components.now
+    ensures { ReadsPart result (read_bundle components.now
         (option_map (λ v. view v.now) part.entry)) }
 {
     let found = members(part.ok_or(Cause::Bundle)?).ok_or(Cause::Bundle)?;

@@ -4,7 +4,7 @@ ghost use Rattle.ent_script.specs.declared.read_fault.ReadFault.TheVariants.{Mem
 ghost use Rattle.serde_json.specs.View.{view};
 ghost use Rattle.ent_script.specs.Json.{whole_within as whole_of};
 ghost use Rattle.ent_script.specs.Ranges.{IsScript};
-ghost use Rattle.ent_script.specs.Reading.{or_absent, new_name, component_at, components_of};
+ghost use Rattle.ent_script.specs.Reading.{or_absent, new_name, component_at, component_names};
 ghost use Rattle.ent_script.specs.Reading.{limits_of, numbered, in_script, script_of};
 ghost use Rattle.ent_script.specs.Reading.{script_of_text};
 ghost use Rattle.ent_script.specs.Reading.{ReadsAs};
@@ -76,9 +76,9 @@ fn different_names<'a>(alloc: Global, values: &'a [Value]) -> Result<Names<'a>, 
 }
 
 /// The names of the components.
-#[tactic(auto, unfolding(crate::specs::Reading::components_of))]
+#[tactic(auto, unfolding(crate::specs::Reading::component_names))]
 fn components<'a>(alloc: Global, part: Option<&'a Value>) -> Result<Names<'a>, ReadFault>
-    ensures names { ReadsAs result (in_script (components_of
+    ensures names { ReadsAs result (in_script (component_names
         (option_map (λ v. view v.now) part.entry))) }
     ensures few { IfOk result (λ names. length names ≤ 256) }
 {

@@ -1,6 +1,6 @@
 ghost use Rattle.std.specs.Prelude.{◌≡◌, ◌≢◌, ◌+◌, ◌<◌, ◌≤◌, ◌∷◌, ◌++◌, length, take, codes};
 ghost use Rattle.std.specs.Prelude.{OnOk, OnErr, vec_len, vec_capacity};
-ghost use Rattle.ent_script.specs.Refusal.{cause_text, script_cause_text, place};
+ghost use Rattle.ent_script.specs.Refusal.{operation_cause_text, script_cause_text, place};
 ghost use Rattle.ent_script.specs.Refusal.{operation_place, refusal_text, refusal_line};
 
 use crate::cause::{Cause, ScriptCause};
@@ -42,10 +42,10 @@ fn append_system(out: &mut Vec<u8>, frame: usize, system: usize) -> Result<(), M
 
 fn append_cause(out: &mut Vec<u8>, operation: usize, cause: Cause) -> Result<(), Memory>
     ensures ok { OnOk result (out.new.items
-        ≡ out.old.items ++ place operation ++ 32 ∷ cause_text cause) }
+        ≡ out.old.items ++ place operation ++ 32 ∷ operation_cause_text cause) }
     ensures kept { OnErr result (take (vec_len out.old) out.new.items ≡ out.old.items) }
     ensures full { OnErr result (vec_capacity out.old
-        < vec_len out.old + length (place operation ++ 32 ∷ cause_text cause)) }
+        < vec_len out.old + length (place operation ++ 32 ∷ operation_cause_text cause)) }
     ensures capacity { vec_capacity out.old ≤ vec_capacity out.new }
 {
     append_place(out, operation)?;

@@ -21,12 +21,12 @@ abbrev pub birth_text : Birth → List ℕ
 birth_text b = decimal b.frame ++ place_text b
 
 -- the name at the component's place in the list; nothing if the list is too short
-abbrev pub name_of : List (List ℕ) → ComponentId → List ℕ
-name_of names id = unwrap_or (slice_get names id.0) []
+abbrev pub component_name : List (List ℕ) → ComponentId → List ℕ
+component_name names id = unwrap_or (slice_get names id.0) []
 
 -- a space, the component's name, `=`, and its value
 abbrev pub item_text : List (List ℕ) → ComponentId × ℤ → List ℕ
-item_text names item = codes " " ++ name_of names item.0 ++ codes "=" ++ signed_decimal item.1
+item_text names item = codes " " ++ component_name names item.0 ++ codes "=" ++ signed_decimal item.1
 
 -- the birth, the handle if handles are shown, and the components by rising number
 abbrev pub entity_line : List (List ℕ) → Show → Handle → Birth → List (ComponentId × ℤ) → List ℕ

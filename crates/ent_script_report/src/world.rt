@@ -1,7 +1,7 @@
 ghost use Rattle.std.specs.Prelude.{◌≡◌, ◌++◌, ℕ, List, map, take, string_bytes};
 ghost use Rattle.std.specs.Prelude.{OnOk, OnErr, vec_len, codes};
 ghost use Rattle.std.specs.List.{flat_map};
-ghost use Rattle.ent_script_report.specs.WorldText.{place_text, birth_text, name_of, item_text};
+ghost use Rattle.ent_script_report.specs.WorldText.{place_text, birth_text, component_name, item_text};
 ghost use Rattle.ent_script_report.specs.WorldText.{entity_line, line_in, alive_line, IsWorldText};
 
 use crate::bytes::{append, append_labelled, append_number, append_shown};
@@ -30,7 +30,7 @@ fn append_birth(out: &mut Vec<u8>, birth: Birth) -> Result<(), Memory>
 /// Appends a space and the name of a component, if it has one.
 fn append_name(out: &mut Vec<u8>, names: &[String], id: ComponentId) -> Result<(), Memory>
     ensures ok { OnOk result (out.new.items
-        ≡ out.old.items ++ codes " " ++ name_of (map string_bytes names.now) id) }
+        ≡ out.old.items ++ codes " " ++ component_name (map string_bytes names.now) id) }
     ensures kept { OnErr result (take (vec_len out.old) out.new.items ≡ out.old.items) }
 {
     append(out, b" ")?;

@@ -26,7 +26,7 @@ use Rattle.ent_shared.specs.declared.refused.Refused.TheVariants.{Space}
 use Rattle.ent_storage.specs.BirthOrder.{ListsAll, birth_order}
 use Rattle.ent_storage.specs.EntityMap.{Entity, EntityMap, newborn}
 use Rattle.ent_queue.specs.Command.{Command, Spawn, Despawn, Refused}
-use Rattle.ent_queue.specs.Reserving.{AreWithin}
+use Rattle.ent_queue.specs.Reserving.{FitCredit}
 use Rattle.ent_world.specs.declared.fault.Fault.{Fault}
 use Rattle.ent_world.specs.declared.fault.FaultKind.{FaultKind}
 use Rattle.ent_world.specs.declared.fault.FaultKind.TheVariants as kind
@@ -189,7 +189,7 @@ abbrev alone : List Command → Execution
 alone queue = record { queues = queue ∷ []; history = calls_in_order (queue ∷ []) }
 
 module _ (w : World) (ops : List Operation) (queue : List Command) where
-  its_work : AreWithin credit (queue ++ []) → (worker : ℕ) (mine : List ℕ) → slice_get ((0 ∷ []) ∷ []) worker ≡ Some mine
+  its_work : FitCredit credit (queue ++ []) → (worker : ℕ) (mine : List ℕ) → slice_get ((0 ∷ []) ∷ []) worker ≡ Some mine
       → IsWork (alone queue).queues (alone queue).history worker mine
   its_work within zero mine e =
       let same : 0 ∷ [] ≡ mine = cc e in
@@ -204,7 +204,7 @@ module _ (w : World) (ops : List Operation) (queue : List Command) where
       subst (λ (s : List Operation). MayIssue s (view_of w) queue) same may
   its_issue may (suc n) system e = absurd (cc e)
 
-  on_one_worker : IsLegal w.allocator (alone queue).history → AreWithin credit (queue ++ []) → MayIssue ops (view_of w) queue
+  on_one_worker : IsLegal w.allocator (alone queue).history → FitCredit credit (queue ++ []) → MayIssue ops (view_of w) queue
       → IsFrame MayIssue (ops ∷ []) 1 w (alone queue).queues (alone queue).history
   on_one_worker legal within may = record {
     legal = legal;

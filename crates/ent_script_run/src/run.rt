@@ -2,7 +2,8 @@
 ghost use Rattle.std.specs.Prelude.{◌≡◌, ◌<◌, ◌≤◌, ℕ, List, IfOk};
 ghost use Rattle.ent_script.specs.Ranges.{IsScript};
 ghost use Rattle.ent_script_run.specs.Course.{AreFew, HaveGone};
-ghost use Rattle.ent_script_run.specs.Given.{NoneWrapped, AreGivenOnce};
+ghost use Rattle.ent_script_run.specs.Given.{NeverWraps, handles_in_run};
+ghost use Rattle.ent_alloc.specs.History.{AreGivenOnce};
 ghost use Rattle.ent_script_run.specs.Report.{Execution, IsReport, IsReportOf};
 ghost use Rattle.ent_world.specs.World.{first_world};
 
@@ -94,7 +95,7 @@ where
     // However the frames went.
     ensures given_once { IfOk result (λ text. (executions : List Execution)
         → IsReportOf script.now workers show executions text.items
-        → NoneWrapped (first_world script.now.limits) executions → AreGivenOnce executions) }
+        → NeverWraps (first_world script.now.limits) executions → AreGivenOnce (handles_in_run executions)) }
 {
     report(rt, alloc, script, workers, show)
 }

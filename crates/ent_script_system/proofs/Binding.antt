@@ -4,10 +4,10 @@ use Rattle.std.proofs.Common.{length}
 use Rattle.std.proofs.Common.{set, cond, arith}
 use Rattle.std.proofs.Math.Dec.{eqb-suc-zero, eqb-zero-suc, eqb-suc-suc}
 use Rattle.ent_handle.specs.Handle.{Handle}
-use Rattle.ent_script_system.specs.Issuing.{Names, bound}
+use Rattle.ent_script_system.specs.Issuing.{Bindings, bound}
 use Rattle.ent_script_system.specs.Parts.{names_of}
 
-pub same_names : (f g : Names) → ((n : ℕ) → f n ≡ g n) → f ≡ g
+pub same_names : (f g : Bindings) → ((n : ℕ) → f n ≡ g n) → f ≡ g
 same_names f g e = λ i n. e n i
 
 -- an empty list that is added binds nothing

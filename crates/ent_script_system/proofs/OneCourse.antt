@@ -32,7 +32,7 @@ use Rattle.ent_script.specs.declared.operation.Operation.{Operation}
 use Rattle.ent_script.specs.declared.operation.Operation.TheVariants as operation
 use Rattle.ent_script.specs.declared.target.Target.{Target}
 use Rattle.ent_script.specs.declared.target.Target.TheVariants as target
-use Rattle.ent_script_system.specs.Issuing.{Names, unbound, names_after, IsTargeted, OnEach}
+use Rattle.ent_script_system.specs.Issuing.{Bindings, unbound, names_after, IsTargeted, OnEach}
 use Rattle.ent_script_system.specs.Issuing.{IsSpawn, IsSpawnMany, Issues, IssuesAll, MayIssue}
 use Rattle.ent_script_system.proofs.RisingLists.{one_rising}
 use Rattle.ent_script_system.proofs.Served.{calls_of, IsServed, state_after, left_after}
@@ -83,15 +83,15 @@ module _ (s : Allocator) (left : ℕ) (bundle : List (ComponentId × ℤ)) where
   many_is count _ is served = absurd is
 
 -- a target means one list of handles
-same_targets : (view : View) (names : Names) (on : Target) (hs ks : List Handle) → IsTargeted view names on hs → IsTargeted view names on ks → hs ≡ ks
+same_targets : (view : View) (names : Bindings) (on : Target) (hs ks : List Handle) → IsTargeted view names on hs → IsTargeted view names on ks → hs ≡ ks
 same_targets view names (target.Name n) hs ks a b = a ∙ sym b
 same_targets view names (target.Handle h) hs ks a b = a ∙ sym b
 same_targets view names (target.Each id) hs ks a b = one_list_with id view.entities hs ks a b
 
-same_on_each : (view : View) (names : Names) (on : Target) (command : Handle → Command) (cs ds : List Command) → OnEach view names on command cs → OnEach view names on command ds → cs ≡ ds
+same_on_each : (view : View) (names : Bindings) (on : Target) (command : Handle → Command) (cs ds : List Command) → OnEach view names on command cs → OnEach view names on command ds → cs ≡ ds
 same_on_each view names on command cs ds a b = a.2 ∙ ap (map command) (same_targets view names on a.0 b.0 a.1 b.1) ∙ sym b.2
 
-same_operation : (view : View) (names : Names) (op : Operation) (s : Allocator) (left : ℕ) (cs ds : List Command) → Issues view names op cs → Issues view names op ds → IsServed s left cs → IsServed s left ds → cs ≡ ds
+same_operation : (view : View) (names : Bindings) (op : Operation) (s : Allocator) (left : ℕ) (cs ds : List Command) → Issues view names op cs → Issues view names op ds → IsServed s left cs → IsServed s left ds → cs ≡ ds
 same_operation view names (operation.Spawn bundle binds) s left cs ds a b p q = spawn_is s left bundle cs a p ∙ sym (spawn_is s left bundle ds b q)
 same_operation view names (operation.SpawnMany count bundle binds) s left cs ds a b p q = many_is s left bundle count cs a p ∙ sym (many_is s left bundle count ds b q)
 same_operation view names (operation.Insert bundle on) s left cs ds a b p q = same_on_each view names on (λ h. Insert h bundle) cs ds a b
@@ -101,7 +101,7 @@ same_operation view names (operation.Despawn on) s left cs ds a b p q = same_on_
 -- ---- one system
 
 -- After the same commands the allocator, the credit and the names are the same, so the rest follows.
-same_queue : (view : View) (names : Names) (ops : List Operation) (s : Allocator) (left : ℕ) (cs ds : List Command) → IssuesAll view names ops cs → IssuesAll view names ops ds → IsServed s left cs → IsServed s left ds → cs ≡ ds
+same_queue : (view : View) (names : Bindings) (ops : List Operation) (s : Allocator) (left : ℕ) (cs ds : List Command) → IssuesAll view names ops cs → IssuesAll view names ops ds → IsServed s left cs → IsServed s left ds → cs ≡ ds
 same_queue view names [] s left cs ds a b p q = a ∙ sym b
 same_queue view names (op ∷ ops) s left cs ds (first, rest, cs_are, may, others) (first', rest', ds_are, may', others') p q =
     let served : IsServed s left (first ++ rest) = subst (IsServed s left) cs_are p in

@@ -6,17 +6,17 @@ use Rattle.std.proofs.lemmas.List.{map-append}
 use Rattle.ent_alloc.specs.Sequential.{Allocator, after_take}
 use Rattle.ent_alloc.specs.History.{Call, IsLegal, after_history}
 use Rattle.ent_queue.specs.Command.{Command}
-use Rattle.ent_queue.specs.Reserving.{requests_of, cost, AreWithin}
+use Rattle.ent_queue.specs.Reserving.{stands_for, cost, FitCredit}
 use Rattle.ent_runner.specs.Frame.{first_call}
 
 -- the calls of the first worker that has issued these commands
 abbrev pub calls_of : List Command → List Call
-calls_of commands = map first_call (flat_map requests_of commands)
+calls_of commands = map first_call (flat_map stands_for commands)
 
 -- The allocator answered the reservations of the commands, and that much credit was left before.
 pub record IsServed (s : Allocator) (left : ℕ) (commands : List Command) : Type 0 where
   pub legal : IsLegal s (calls_of commands)
-  pub within : AreWithin left commands
+  pub within : FitCredit left commands
 
 -- the allocator and the credit after the commands
 abbrev pub state_after : Allocator → List Command → Allocator
@@ -34,16 +34,16 @@ legal_rest : (s : Allocator) (calls more : List Call) → IsLegal s (calls ++ mo
 legal_rest s [] more legal = legal
 legal_rest s (call ∷ calls) more legal = legal_rest (after_take s call.requested) calls more legal.2
 
-within_first : (left : ℕ) (cs ds : List Command) → AreWithin left (cs ++ ds) → AreWithin left cs
+within_first : (left : ℕ) (cs ds : List Command) → FitCredit left (cs ++ ds) → FitCredit left cs
 within_first left [] ds within = tt
 within_first left (c ∷ cs) ds within = (within.0, within_first (left - cost c) cs ds within.1)
 
-within_rest : (left : ℕ) (cs ds : List Command) → AreWithin left (cs ++ ds) → AreWithin (left_after left cs) ds
+within_rest : (left : ℕ) (cs ds : List Command) → FitCredit left (cs ++ ds) → FitCredit (left_after left cs) ds
 within_rest left [] ds within = within
 within_rest left (c ∷ cs) ds within = within_rest (left - cost c) cs ds within.1
 
 calls_of-append : (cs ds : List Command) → calls_of (cs ++ ds) ≡ calls_of cs ++ calls_of ds
-calls_of-append cs ds = ap (map first_call) (flat_map-append requests_of cs ds) ∙ map-append first_call (flat_map requests_of cs) (flat_map requests_of ds)
+calls_of-append cs ds = ap (map first_call) (flat_map-append stands_for cs ds) ∙ map-append first_call (flat_map stands_for cs) (flat_map stands_for ds)
 
 -- what is served is served up to any command, and the others are served after it
 pub served_first : (s : Allocator) (left : ℕ) (cs ds : List Command) → IsServed s left (cs ++ ds) → IsServed s left cs

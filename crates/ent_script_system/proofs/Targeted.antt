@@ -8,15 +8,15 @@ use Rattle.ent_queue.specs.Commands.{Issued, queue_of}
 use Rattle.ent_world.specs.OpenWorld.{View}
 use Rattle.ent_script.specs.declared.operation.Operation.{Operation}
 use Rattle.ent_script.specs.declared.target.Target.{Target}
-use Rattle.ent_script_system.specs.Issuing.{Names, IsTargeted, StopsOnEach, Stops}
+use Rattle.ent_script_system.specs.Issuing.{Bindings, IsTargeted, StopsOnEach, Stops}
 use Rattle.ent_script_system.specs.Parts.{names_of, HasIssuedOn, HasStoppedAmong, HasStoppedOn, HasStopped}
 
-pub issued_on : (view : View) (names : Names) (on : Target) (command : Handle → Command) (before after : Issued) (hs : List Handle) (result : Result (Unit {0}) Memory) → IsTargeted view names on hs → OnOk result (queue_of after ≡ queue_of before ++ map command hs) → OnOk result (HasIssuedOn view names on command before after)
+pub issued_on : (view : View) (names : Bindings) (on : Target) (command : Handle → Command) (before after : Issued) (hs : List Handle) (result : Result (Unit {0}) Memory) → IsTargeted view names on hs → OnOk result (queue_of after ≡ queue_of before ++ map command hs) → OnOk result (HasIssuedOn view names on command before after)
 issued_on view names on command before after hs (Ok u) targeted queue =
     record { issued = map command hs; queue = queue; may = (hs, targeted, refl) }
 issued_on view names on command before after hs (Err e) targeted queue = tt
 
-pub stopped_on : (view : View) (names : Names) (on : Target) (command : Handle → Command) (before after : Issued) (hs : List Handle) (result : Result (Unit {0}) Memory) → IsTargeted view names on hs → OnErr result (HasStoppedAmong hs command before after) → OnErr result (HasStoppedOn view names on command before after)
+pub stopped_on : (view : View) (names : Bindings) (on : Target) (command : Handle → Command) (before after : Issued) (hs : List Handle) (result : Result (Unit {0}) Memory) → IsTargeted view names on hs → OnErr result (HasStoppedAmong hs command before after) → OnErr result (HasStoppedOn view names on command before after)
 stopped_on view names on command before after hs (Ok u) targeted stopped = tt
 stopped_on view names on command before after hs (Err e) targeted stopped = record {
   issued = map command stopped.done;

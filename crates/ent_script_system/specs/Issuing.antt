@@ -12,31 +12,31 @@ use Rattle.ent_script.specs.declared.target.Target.{Target}
 use Rattle.ent_script.specs.declared.target.Target.TheVariants as target
 
 -- what each name stands for: a list of handles, which is empty if nothing is bound to it
-abbrev pub Names : Type 0
-Names = ℕ → List Handle
+abbrev pub Bindings : Type 0
+Bindings = ℕ → List Handle
 
-abbrev pub unbound : Names
+abbrev pub unbound : Bindings
 unbound n = []
 
-abbrev pub bound : ℕ → List Handle → Names → Names
+abbrev pub bound : ℕ → List Handle → Bindings → Bindings
 bound n hs names m = if m == n then hs else names m
 
 -- what the names stand for after an operation that has issued these commands: a spawn that was
 -- served binds its name, and a refused one binds nothing
-abbrev pub names_after : Names → Operation → List Command → Names
+abbrev pub names_after : Bindings → Operation → List Command → Bindings
 names_after names (operation.Spawn bundle (Some n)) (Spawn h items ∷ []) = bound n (h ∷ []) names
 names_after names (operation.SpawnMany count bundle (Some n)) (SpawnMany hs items ∷ []) =
     bound n hs names
 names_after names _ _ = names
 
 -- The target means these handles, in this order.
-abbrev pub IsTargeted : View → Names → Target → List Handle → Type 0
+abbrev pub IsTargeted : View → Bindings → Target → List Handle → Type 0
 IsTargeted view names (target.Name n) hs = hs ≡ names n
 IsTargeted view names (target.Handle h) hs = hs ≡ h ∷ []
 IsTargeted view names (target.Each id) hs = ListsWith id view.entities hs
 
 -- one command for each handle of a target
-abbrev pub OnEach : View → Names → Target → (Handle → Command) → List Command → Type 0
+abbrev pub OnEach : View → Bindings → Target → (Handle → Command) → List Command → Type 0
 OnEach view names on command issued =
     (hs : List Handle) × IsTargeted view names on hs × (issued ≡ map command hs)
 
@@ -51,7 +51,7 @@ IsSpawnMany count bundle (Refused wanted why ∷ []) = wanted ≡ count
 IsSpawnMany count bundle _ = ⊥
 
 -- One operation may issue these commands.
-abbrev pub Issues : View → Names → Operation → List Command → Type 0
+abbrev pub Issues : View → Bindings → Operation → List Command → Type 0
 Issues view names (operation.Spawn bundle binds) issued = IsSpawn bundle issued
 Issues view names (operation.SpawnMany count bundle binds) issued = IsSpawnMany count bundle issued
 Issues view names (operation.Insert bundle on) issued =
@@ -60,7 +60,7 @@ Issues view names (operation.Remove id on) issued = OnEach view names on (λ h. 
 Issues view names (operation.Despawn on) issued = OnEach view names on Despawn issued
 
 -- The operations may issue these commands, one after the other.
-abbrev pub IssuesAll : View → Names → List Operation → List Command → Type 0
+abbrev pub IssuesAll : View → Bindings → List Operation → List Command → Type 0
 IssuesAll view names [] queue = queue ≡ []
 IssuesAll view names (op ∷ ops) queue =
     (issued rest : List Command) × (queue ≡ issued ++ rest) × Issues view names op issued
@@ -73,7 +73,7 @@ MayIssue ops view queue = IssuesAll view unbound ops queue
 -- ---- want of memory
 
 -- The target means these handles and more: the command for at least one of it is missing.
-pub record IsCutShort (view : View) (names : Names) (on : Target) (command : Handle → Command)
+pub record IsCutShort (view : View) (names : Bindings) (on : Target) (command : Handle → Command)
     (issued : List Command) : Type 0 where
   pub done : List Handle
   pub missing : Handle
@@ -87,12 +87,12 @@ IsUnlisted (target.Name n) issued = ⊥
 IsUnlisted (target.Handle h) issued = ⊥
 IsUnlisted (target.Each id) issued = issued ≡ []
 
-abbrev pub StopsOnEach : View → Names → Target → (Handle → Command) → List Command → Type 0
+abbrev pub StopsOnEach : View → Bindings → Target → (Handle → Command) → List Command → Type 0
 StopsOnEach view names on command issued =
     IsUnlisted on issued ⊎ IsCutShort view names on command issued
 
 -- One operation may have issued these commands when memory was refused to it: a spawn none.
-abbrev pub Stops : View → Names → Operation → List Command → Type 0
+abbrev pub Stops : View → Bindings → Operation → List Command → Type 0
 Stops view names (operation.Spawn bundle binds) issued = issued ≡ []
 Stops view names (operation.SpawnMany count bundle binds) issued = issued ≡ []
 Stops view names (operation.Insert bundle on) issued =
@@ -102,7 +102,7 @@ Stops view names (operation.Remove id on) issued =
 Stops view names (operation.Despawn on) issued = StopsOnEach view names on Despawn issued
 
 -- Memory may have been refused to one of the operations, after those before it.
-abbrev pub StopsAmong : View → Names → List Operation → List Command → Type 0
+abbrev pub StopsAmong : View → Bindings → List Operation → List Command → Type 0
 StopsAmong view names [] queue = ⊥
 StopsAmong view names (op ∷ ops) queue =
     Stops view names op queue

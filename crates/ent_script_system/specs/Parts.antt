@@ -8,10 +8,10 @@ use Rattle.ent_script.specs.declared.operation.Operation.{Operation}
 use Rattle.ent_script.specs.declared.target.Target.{Target}
 use Rattle.ent_script_system.specs.declared.change.Change.{Change}
 use Rattle.ent_script_system.specs.declared.change.Change.TheVariants as change
-use Rattle.ent_script_system.specs.Issuing.{Names, names_after, OnEach, Issues, StopsOnEach, Stops}
+use Rattle.ent_script_system.specs.Issuing.{Bindings, names_after, OnEach, Issues, StopsOnEach, Stops}
 
 -- Each list of handles stands at the number of its name. Nothing is bound to a number past the end.
-abbrev pub names_of : List (List Handle) → Names
+abbrev pub names_of : List (List Handle) → Bindings
 names_of lists n = slice_index_or lists n []
 
 -- the command that makes the change to one entity
@@ -21,7 +21,7 @@ command_on (change.Remove id) h = Remove h id
 command_on change.Despawn h = Despawn h
 
 -- The change was issued for each handle of the target.
-pub record HasIssuedOn (view : View) (names : Names) (on : Target) (command : Handle → Command)
+pub record HasIssuedOn (view : View) (names : Bindings) (on : Target) (command : Handle → Command)
     (before after : Issued) : Type 0 where
   pub issued : List Command
   pub queue : queue_of after ≡ queue_of before ++ issued
@@ -46,7 +46,7 @@ pub record HasStoppedAmong (handles : List Handle) (command : Handle → Command
   pub all : done ++ missing ∷ others ≡ handles
   pub queue : queue_of after ≡ queue_of before ++ map command done
 
-pub record HasStoppedOn (view : View) (names : Names) (on : Target) (command : Handle → Command)
+pub record HasStoppedOn (view : View) (names : Bindings) (on : Target) (command : Handle → Command)
     (before after : Issued) : Type 0 where
   pub issued : List Command
   pub queue : queue_of after ≡ queue_of before ++ issued

@@ -9,7 +9,7 @@ use std::alloc::Global;
 /// # Errors
 ///
 /// `Memory`, which needs more than four components.
-pub(crate) fn bundle_of(alloc: Global, said: &ent_script::Bundle) -> Result<Bundle, Memory>
+pub(crate) fn copied_bundle(alloc: Global, said: &ent_script::Bundle) -> Result<Bundle, Memory>
     ensures { IfOk result (λ bundle. bundle ≡ said.now) }
 {
     let mut bundle = Bundle::new(alloc);

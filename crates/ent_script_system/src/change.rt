@@ -4,8 +4,8 @@ ghost use Rattle.ent_script_system.specs.Issuing.{OnEach};
 ghost use Rattle.ent_script_system.specs.Parts.{names_of, command_on, HasIssuedOn};
 ghost use Rattle.ent_script_system.specs.Parts.{HasStoppedAmong, HasStoppedOn};
 
-use crate::bundle::bundle_of;
-use crate::names::Names;
+use crate::bindings::Bindings;
+use crate::bundle::copied_bundle;
 use ent_handle::{ComponentId, Handle, Memory};
 use ent_queue::Commands;
 use ent_script::{Bundle, Target};
@@ -31,7 +31,7 @@ impl Change<'_> {
         alloc: Global,
         view: &View<'_>,
         target: Target,
-        names: &Names,
+        names: &Bindings,
         commands: &mut Commands<'_>,
     ) -> Result<(), Memory>
         requires { IsReady commands.old }
@@ -83,7 +83,7 @@ impl Change<'_> {
         ensures err { OnErr result (queue_of commands.new ≡ queue_of commands.old) }
     {
         match self {
-            Change::Insert(bundle) => commands.insert(handle, bundle_of(alloc, bundle)?),
+            Change::Insert(bundle) => commands.insert(handle, copied_bundle(alloc, bundle)?),
             Change::Remove(id) => commands.remove(handle, id),
             Change::Despawn => commands.despawn(handle),
         }

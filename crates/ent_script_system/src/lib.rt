@@ -1,9 +1,9 @@
 //! Systems of scripts as systems of frames.
 #![tactic(auto)]
 
+mod bindings;
 mod bundle;
 mod change;
-mod names;
 mod script_system;
 mod spawning;
 

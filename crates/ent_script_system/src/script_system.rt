@@ -3,8 +3,8 @@ ghost use Rattle.ent_queue.specs.Commands.{IsReady, Extends, queue_of};
 ghost use Rattle.ent_script_system.specs.Issuing.{MayIssue, MayStop};
 ghost use Rattle.ent_script_system.specs.Parts.{HasIssued, HasStopped};
 
+use crate::bindings::Bindings;
 use crate::change::Change;
-use crate::names::Names;
 use crate::spawning::{spawn, spawn_many};
 use ent_handle::Memory;
 use ent_queue::Commands;
@@ -54,7 +54,7 @@ impl System for ScriptSystem<'_> {
         view: &View<'_>,
         commands: &mut Commands<'_>,
     ) -> Result<(), Memory> {
-        let mut names = Names::new(alloc);
+        let mut names = Bindings::new(alloc);
         for operation in self.system.operations() {
             issue(alloc, view, operation, &mut names, commands)?;
         }
@@ -67,7 +67,7 @@ fn issue(
     alloc: Global,
     view: &View<'_>,
     operation: &Operation,
-    names: &mut Names,
+    names: &mut Bindings,
     commands: &mut Commands<'_>,
 ) -> Result<(), Memory>
     requires { IsReady commands.old }

@@ -4,8 +4,8 @@ ghost use Rattle.ent_world.specs.OpenWorld.{View};
 ghost use Rattle.ent_script.specs.declared.operation.Operation.TheVariants.{Spawn, SpawnMany};
 ghost use Rattle.ent_script_system.specs.Parts.{HasIssued};
 
-use crate::bundle::bundle_of;
-use crate::names::Names;
+use crate::bindings::Bindings;
+use crate::bundle::copied_bundle;
 use ent_handle::Memory;
 use ent_queue::{Bundle, Commands, QueueFault};
 use std::alloc::Global;
@@ -20,7 +20,7 @@ pub(crate) fn spawn(
     alloc: Global,
     said: &ent_script::Bundle,
     binds: Option<usize>,
-    names: &mut Names,
+    names: &mut Bindings,
     commands: &mut Commands<'_>,
 ) -> Result<(), Memory>
     requires { IsReady commands.old }
@@ -29,7 +29,7 @@ pub(crate) fn spawn(
         commands.old commands.new names.old names.new) }
     ensures err { OnErr result (queue_of commands.new ≡ queue_of commands.old) }
 {
-    let bundle = bundle_of(alloc, said)?;
+    let bundle = copied_bundle(alloc, said)?;
     match binds {
         Some(name) => spawn_named(alloc, bundle, name, names, commands),
         None => match commands.spawn(bundle) {
@@ -43,7 +43,7 @@ fn spawn_named(
     alloc: Global,
     bundle: Bundle,
     name: usize,
-    names: &mut Names,
+    names: &mut Bindings,
     commands: &mut Commands<'_>,
 ) -> Result<(), Memory>
     requires { IsReady commands.old }
@@ -76,7 +76,7 @@ pub(crate) fn spawn_many(
     count: u32,
     said: &ent_script::Bundle,
     binds: Option<usize>,
-    names: &mut Names,
+    names: &mut Bindings,
     commands: &mut Commands<'_>,
 ) -> Result<(), Memory>
     requires { IsReady commands.old }
@@ -85,7 +85,7 @@ pub(crate) fn spawn_many(
         commands.old commands.new names.old names.new) }
     ensures err { OnErr result (queue_of commands.new ≡ queue_of commands.old) }
 {
-    let bundle = bundle_of(alloc, said)?;
+    let bundle = copied_bundle(alloc, said)?;
     match binds {
         Some(name) => spawn_many_named(count, bundle, name, names, commands),
         None => match commands.spawn_many(count, bundle) {
@@ -99,7 +99,7 @@ fn spawn_many_named(
     count: u32,
     bundle: Bundle,
     name: usize,
-    names: &mut Names,
+    names: &mut Bindings,
     commands: &mut Commands<'_>,
 ) -> Result<(), Memory>
     requires { IsReady commands.old }

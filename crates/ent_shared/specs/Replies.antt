@@ -1,5 +1,5 @@
 -- What a reservation answers.
-use Rattle.std.specs.Prelude.{◌≡◌, ℕ, ℤ, ◌≤ℤ◌, List, [], ◌∷◌, Result, Ok, Err}
+use Rattle.std.specs.Prelude.{◌≡◌, ℕ, ℤ, ◌≤ℤ◌, List, Result, Ok, Err}
 use Rattle.ent_handle.specs.Handle.{Handle}
 use Rattle.ent_alloc.specs.declared.space.Space.{Space}
 use Rattle.ent_alloc.specs.Sequential.{pool_at, reply_from}
@@ -13,11 +13,6 @@ abbrev pub Tells : Result (List Handle) Refused → Result (List Handle) Space �
 Tells (Ok handles) reply = reply ≡ Ok handles
 Tells (Err (OutOfSpace wanted left)) reply = reply ≡ Err (record { wanted = wanted; left = left })
 Tells (Err (Quota left)) reply = ⊥
-
--- a single handle, as a list
-abbrev pub listed_alone : Result Handle Refused → Result (List Handle) Refused
-listed_alone (Ok handle) = Ok (handle ∷ [])
-listed_alone (Err refused) = Err refused
 
 -- A reserver has made one more reservation, of n handles.
 pub record Reserves (shared : Shared) (old new : Reserver) (n : ℕ)

@@ -57,7 +57,8 @@ impl Shared {
 
 impl Shared {
     ghost use Rattle.ent_shared.specs.Phase.{IsOf, IsBelow, after_loss};
-    ghost use Rattle.ent_shared.specs.Replies.{Reserves, listed_alone};
+    ghost use Rattle.ent_alloc.specs.Sequential.{listed_alone};
+    ghost use Rattle.ent_shared.specs.Replies.{Reserves};
 
     /// How many reservers `share` made for it.
     pub fn count(&self) -> usize

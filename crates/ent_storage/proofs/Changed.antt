@@ -8,7 +8,7 @@ use Rattle.ent_handle.specs.Handle.{Handle, handle_cmp}
 use Rattle.ent_storage.specs.Components.{Components}
 use Rattle.ent_storage.specs.EntityMap.{with_components}
 use Rattle.ent_storage.specs.Living.{LivingEntity, change_at}
-use Rattle.ent_storage.specs.Indexed.{entity_of, entities_of, handles_of, counted, IsKept}
+use Rattle.ent_storage.specs.Indexed.{entity_of, entities_of, handles_by_place, counted, IsKeptIndex}
 use Rattle.ent_storage.proofs.Indexed.{some_entity, get_read, entities_changed}
 use Rattle.ent_storage.proofs.Counted.{kept_changed}
 use Rattle.ent_storage.proofs.Placed.{handles_changed}
@@ -23,7 +23,7 @@ length_changed [] i change = refl
 length_changed (e ∷ living) zero change = refl
 length_changed (e ∷ living) (suc i) change = ap suc (length_changed living i change)
 
-module _ (living : List LivingEntity) (index : FinMap handle_cmp ℕ) (room : ℕ) (kept : IsKept living index room) (h : Handle) (i : ℕ) (placed : finite.get (counted living index) h ≡ Some i) where
+module _ (living : List LivingEntity) (index : FinMap handle_cmp ℕ) (room : ℕ) (kept : IsKeptIndex living index room) (h : Handle) (i : ℕ) (placed : finite.get (counted living index) h ≡ Some i) where
   abbrev pub was : LivingEntity
   was = get_or living i (some_entity h)
 
@@ -44,9 +44,9 @@ module _ (living : List LivingEntity) (index : FinMap handle_cmp ℕ) (room : �
     changed_entities =
         ap entities_of is_set ∙ entities_changed living (counted living index) kept.indexed h i placed was read (change was.components) change refl
 
-    pub changed_handles : handles_of (change_at living i change) ≡ handles_of living
-    changed_handles = ap handles_of is_set ∙ handles_changed living i was read (change was.components)
+    pub changed_handles : handles_by_place (change_at living i change) ≡ handles_by_place living
+    changed_handles = ap handles_by_place is_set ∙ handles_changed living i was read (change was.components)
 
-    pub changed_kept : IsKept (change_at living i change) index room
+    pub changed_kept : IsKeptIndex (change_at living i change) index room
     changed_kept =
-        subst (λ es. IsKept es index room) (sym is_set) (kept_changed living index room kept h i placed was read (change was.components))
+        subst (λ es. IsKeptIndex es index room) (sym is_set) (kept_changed living index room kept h i placed was read (change was.components))

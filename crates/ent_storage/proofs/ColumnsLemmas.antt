@@ -16,7 +16,7 @@ use Rattle.std.specs.FinMap.Entries.{below_all}
 use Rattle.ent_handle.specs.declared.component.ComponentId.{ComponentId}
 use Rattle.ent_handle.specs.Component.{component_cmp, component_cmp_total as total}
 use Rattle.ent_handle.specs.Component.{component_cmp-IsAntisymmetric as same}
-use Rattle.ent_storage.specs.SparseSet.{Values, Column, no_column, HasRoom, IsMovedDown}
+use Rattle.ent_storage.specs.SparseSet.{Values, Column, no_column, HasRoomAt, IsMovedDown}
 use Rattle.ent_storage.specs.Living.{column_at, value_at, with_value, items_from, components_at}
 use Rattle.ent_storage.proofs.Rising.{remove_absent}
 use Rattle.ent_storage.proofs.Keys.{tied, apart, same_or_apart, get-insert_same, get-insert_other}
@@ -109,13 +109,13 @@ pub column_past : (columns : List Column) (n : ℕ) → length columns ≤ n →
 column_past columns n l = get_or_past columns n no_column l
 
 -- a column with room is one of the list
-pub room_inside : (columns : List Column) (n place : ℕ) → HasRoom (column_at columns n) place → n < length columns
+pub room_inside : (columns : List Column) (n place : ℕ) → HasRoomAt (column_at columns n) place → n < length columns
 room_inside columns n place room = by (cases_lt n (length columns))
   where
     by : (n < length columns) ⊎ (length columns ≤ n) → n < length columns
     by (inl l) = l
     by (inr l) =
-        let none : HasRoom no_column place = subst (λ c. HasRoom c place) (column_past columns n l) room in
+        let none : HasRoomAt no_column place = subst (λ c. HasRoomAt c place) (column_past columns n l) room in
         absurd (omega (arith, none.spare (map.get-empty nat_cmp place)))
 
 same_id : (a b : ComponentId) → a.0 ≡ b.0 → a ≡ b
@@ -151,13 +151,13 @@ module _ (old new : List Column) (place : ℕ) (id : ComponentId) (others : (n :
     pub insert_others : (p : ℕ) (q : ComponentId) → p ≢ place → value_at new p q ≡ value_at old p q
     insert_others p q far = value_elsewhere p far q (same_or_apart total same q id)
 
-    room_by : (n : ℕ) → (n ≡ id.0) ⊎ (n ≢ id.0) → HasRoom (column_at old n) place → HasRoom (column_at new n) place
+    room_by : (n : ℕ) → (n ≡ id.0) ⊎ (n ≢ id.0) → HasRoomAt (column_at old n) place → HasRoomAt (column_at new n) place
     room_by n (inl e) room =
         let there : map.get (column_at new n).values place ≡ Some v = ap (λ (k : ℕ). map.get (column_at new k).values place) e ∙ ap (λ (m : Values). map.get m place) set_to ∙ get-insert_same nat_cmp_total map.nat_cmp-IsAntisymmetric (column_at old id.0).values place v place refl in
         record { spare = λ none. absurd (none-some v (sym none ∙ there)); in_range = λ none. absurd (none-some v (sym none ∙ there)) }
-    room_by n (inr far) room = subst (λ c. HasRoom c place) (sym (others n far)) room
+    room_by n (inr far) room = subst (λ c. HasRoomAt c place) (sym (others n far)) room
 
-    pub insert_room : (n : ℕ) → HasRoom (column_at old n) place → HasRoom (column_at new n) place
+    pub insert_room : (n : ℕ) → HasRoomAt (column_at old n) place → HasRoomAt (column_at new n) place
     insert_room n = room_by n (cases_eq n id.0)
 
   -- a value is taken out at the place

@@ -21,7 +21,7 @@ use Rattle.std.specs.FinMap.{FinMap, find, is_sorted}
 use Rattle.ent_handle.specs.Handle.{Handle, handle_cmp, handle_cmp_total as total}
 use Rattle.ent_handle.specs.Handle.{handle_cmp-IsAntisymmetric as same}
 use Rattle.ent_storage.specs.Living.{LivingEntity, IsMovedInto}
-use Rattle.ent_storage.specs.Indexed.{IsIndexed, IsKept, has_handle_at, counted, Keeps, HasAll}
+use Rattle.ent_storage.specs.Indexed.{IsIndexed, IsKeptIndex, has_handle_at, counted, Keeps, HasAll}
 use Rattle.ent_storage.proofs.Keys.{tied, same_or_apart, get-insert_same, get-insert_other}
 use Rattle.ent_storage.proofs.Keys.{get-remove_same, get-remove_other}
 use Rattle.ent_storage.proofs.Indexed.{some_not_none, some_entity, indexed_set, indexed_push}
@@ -66,7 +66,7 @@ module _ (living : List LivingEntity) (index : FinMap handle_cmp ℕ) where
   counted_not q i at is =
       get_counted q ∙ ap (λ o. cond (has_handle_at living q o) o None) at ∙ ap (λ b. cond b (Some i) None) is
 
-  -- rows with an exact index are indexed by each index that has those places too
+  -- residents with an exact index are indexed by each index that has those places too
   pub indexed_counted : (exact : FinMap handle_cmp ℕ) → IsIndexed living exact → ((q : Handle) (i : ℕ) → finite.get exact q ≡ Some i → finite.get index q ≡ Some i) → IsIndexed living (counted living index)
   indexed_counted exact indexed has = record {
     each_entity = λ i l d. counted_has _ i (has _ i (indexed.each_entity i l d)) (stands_from living _ i d l refl);
@@ -111,23 +111,23 @@ pub swept_has : (living : List LivingEntity) (index : FinMap handle_cmp ℕ) →
 swept_has living index q i at =
     counted_has living (counted living index) q i at (counted_gives living index q i at).1
 
--- ---- the rows and their index, after each change
+-- ---- the residents and their index, after each change
 
-pub kept_none : (index : FinMap handle_cmp ℕ) (room : ℕ) → IsKept [] index room
+pub kept_none : (index : FinMap handle_cmp ℕ) (room : ℕ) → IsKeptIndex [] index room
 kept_none index room = record {
   indexed = indexed_counted [] index finite.empty indexed_none (λ q i at. absurd (some_not_none i _ at (finite.get-empty handle_cmp q)));
   fits = omega arith;
 }
 
-module _ (living : List LivingEntity) (index : FinMap handle_cmp ℕ) (room : ℕ) (kept : IsKept living index room) where
-  pub kept_push : (entity : LivingEntity) (new : FinMap handle_cmp ℕ) → finite.get (counted living index) entity.handle ≡ None → length living < room → finite.get new entity.handle ≡ Some (length living) → Keeps entity.handle (counted living index) new → IsKept (living ++ entity ∷ []) new room
+module _ (living : List LivingEntity) (index : FinMap handle_cmp ℕ) (room : ℕ) (kept : IsKeptIndex living index room) where
+  pub kept_push : (entity : LivingEntity) (new : FinMap handle_cmp ℕ) → finite.get (counted living index) entity.handle ≡ None → length living < room → finite.get new entity.handle ≡ Some (length living) → Keeps entity.handle (counted living index) new → IsKeptIndex (living ++ entity ∷ []) new room
   kept_push entity new none fits placed keeps = record {
     indexed = indexed_counted (living ++ entity ∷ []) new _ (indexed_push living (counted living index) kept.indexed entity none) (put_has (counted living index) new entity.handle (length living) placed keeps);
     fits = omega (arith, length_push living entity, fits);
   }
 
   module _ (h : Handle) (i : ℕ) (placed : finite.get (counted living index) h ≡ Some i) where
-    pub kept_changed : (entity : LivingEntity) → entity ≡ get_or living i entity → (held : Components) → IsKept (set living i (record { handle = entity.handle; birth = entity.birth; components = held })) index room
+    pub kept_changed : (entity : LivingEntity) → entity ≡ get_or living i entity → (held : Components) → IsKeptIndex (set living i (record { handle = entity.handle; birth = entity.birth; components = held })) index room
     kept_changed entity read held =
         let changed : LivingEntity = record { handle = entity.handle; birth = entity.birth; components = held } in
         let at = ap (finite.get (counted living index)) (read_handle living (counted living index) kept.indexed h i placed entity read) ∙ placed in
@@ -137,13 +137,13 @@ module _ (living : List LivingEntity) (index : FinMap handle_cmp ℕ) (room : �
         }
 
     module _ (left : List LivingEntity) (rest : IsMovedInto living i left) where
-      pub kept_moved : i < length left → (entity : LivingEntity) → entity ≡ get_or left i entity → IsKept left (finite.insert index entity.handle i) room
+      pub kept_moved : i < length left → (entity : LivingEntity) → entity ≡ get_or left i entity → IsKeptIndex left (finite.insert index entity.handle i) room
       kept_moved inside entity read = record {
         indexed = indexed_counted left (finite.insert index entity.handle i) _ (indexed_moved living (counted living index) kept.indexed h i placed left rest inside entity read) (moved_has living index h entity.handle i);
         fits = omega (arith, rest.one_less, kept.fits);
       }
 
-      pub kept_popped : length left ≤ i → IsKept left index room
+      pub kept_popped : length left ≤ i → IsKeptIndex left index room
       kept_popped last = record {
         indexed = indexed_counted left index _ (indexed_popped living (counted living index) kept.indexed h i placed left rest last) (removed_has living index h);
         fits = omega (arith, rest.one_less, kept.fits);
@@ -190,9 +190,9 @@ module _ (living : List LivingEntity) (pairs : List (Handle × ℕ)) (rising : T
       by false e = refl
       by true e =
           let one : (get_or left i unused).1 ≡ (get_or left j unused).1 = sym at_i ∙ eqb-true (get_or (map (λ e. e.1) left) i d) (get_or (map (λ e. e.1) left) j d) e ∙ at_j in
-          let row_i = (stands living (get_or left i unused).0 (get_or left i unused).1 (filter_passes (counts living) pairs i unused (omega (arith, inside)))).1 (some_entity unused.0) in
-          let row_j = (stands living (get_or left j unused).0 (get_or left j unused).1 (filter_passes (counts living) pairs j unused inside)).1 (some_entity unused.0) in
-          let keys : (get_or left i unused).0 ≡ (get_or left j unused).0 = sym row_i ∙ ap (λ n. (get_or living n (some_entity unused.0)).handle) one ∙ row_j in
+          let resident_i = (stands living (get_or left i unused).0 (get_or left i unused).1 (filter_passes (counts living) pairs i unused (omega (arith, inside)))).1 (some_entity unused.0) in
+          let resident_j = (stands living (get_or left j unused).0 (get_or left j unused).1 (filter_passes (counts living) pairs j unused inside)).1 (some_entity unused.0) in
+          let keys : (get_or left i unused).0 ≡ (get_or left j unused).0 = sym resident_i ∙ ap (λ n. (get_or living n (some_entity unused.0)).handle) one ∙ resident_j in
           let less = rising_at total left i j unused (is_sorted-filter total same (counts living) pairs rising) l inside in
           let equals : handle_cmp (get_or left i unused).0 (get_or left j unused).0 ≡ Equal = ap (handle_cmp (get_or left i unused).0) (sym keys) ∙ tied_itself total (get_or left i unused).0 in
           absurd (subst T (ap is_eq (sym equals ∙ less)) tt)
@@ -201,10 +201,10 @@ module _ (living : List LivingEntity) (pairs : List (Handle × ℕ)) (rising : T
   place_below q at =
       let unused : Handle × ℕ = (record { index = 0; generation = 0 }, q) in
       let inside : at.0 < length left = omega (arith, length-map left (λ (e : Handle × ℕ). e.1), at.1) in
-      let row = stands living _ _ (filter_passes (counts living) pairs at.0 unused inside) in
-      omega (arith, row.0, get_or-map (λ (e : Handle × ℕ). e.1) left at.0 unused q inside, at.2)
+      let resident = stands living _ _ (filter_passes (counts living) pairs at.0 unused inside) in
+      omega (arith, resident.0, get_or-map (λ (e : Handle × ℕ). e.1) left at.0 unused q inside, at.2)
 
-  -- so there are no more of them than rows
+  -- so there are no more of them than residents
   pub left_fits : length (filter (counts living) pairs) ≤ length living
   left_fits =
       let counted_places = length-le_from_distinct_below (map (λ e. e.1) left) (length living) (IsDistinct-from_apart eqb _ apart_places) (λ q any. place_below q (Contains-from_any eqb-true q _ any)) in

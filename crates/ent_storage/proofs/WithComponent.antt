@@ -18,7 +18,7 @@ use Rattle.ent_handle.specs.Handle.{handle_cmp-IsAntisymmetric}
 use Rattle.ent_storage.specs.EntityMap.{Entity, value_of}
 use Rattle.ent_storage.specs.BirthOrder.{ListsWith, IsInOrder}
 use Rattle.ent_storage.specs.Living.{LivingEntity, IsValueAt, born_at}
-use Rattle.ent_storage.specs.Indexed.{entity_of, entities_of, handles_of, IsIndexed}
+use Rattle.ent_storage.specs.Indexed.{entity_of, entities_of, handles_by_place, IsIndexed}
 use Rattle.ent_storage.proofs.Keys.{apart}
 use Rattle.ent_storage.proofs.Indexed.{some_entity, distinct, get_placed}
 use Rattle.ent_storage.proofs.Placed.{from_place}
@@ -39,10 +39,10 @@ pair_inside living id pairs has k d l =
     value_inside living pair.0 id pair.1 (has pair.0 pair.1 (k, l, get_or_default pairs k (pair.0, pair.1) d l))
 
 -- the map has at a place's handle what the entity there has
-pub same_value : (living : List LivingEntity) (index : FinMap handle_cmp ℕ) → IsIndexed living index → (id : ComponentId) (p : ℕ) → option_and_then (λ (e : LivingEntity). finite.get e.components id) (slice_get living p) ≡ option_and_then (λ (h : Handle). value_of (entities_of living) h id) (slice_get (handles_of living) p)
+pub same_value : (living : List LivingEntity) (index : FinMap handle_cmp ℕ) → IsIndexed living index → (id : ComponentId) (p : ℕ) → option_and_then (λ (e : LivingEntity). finite.get e.components id) (slice_get living p) ≡ option_and_then (λ (h : Handle). value_of (entities_of living) h id) (slice_get (handles_by_place living) p)
 same_value living index indexed id p = by (cases_lt p (length living))
   where
-    by : (p < length living) ⊎ (length living ≤ p) → option_and_then (λ (e : LivingEntity). finite.get e.components id) (slice_get living p) ≡ option_and_then (λ (h : Handle). value_of (entities_of living) h id) (slice_get (handles_of living) p)
+    by : (p < length living) ⊎ (length living ≤ p) → option_and_then (λ (e : LivingEntity). finite.get e.components id) (slice_get living p) ≡ option_and_then (λ (h : Handle). value_of (entities_of living) h id) (slice_get (handles_by_place living) p)
     by (inl l) =
         let r : LivingEntity = some_entity (record { index = 0; generation = 0 }) in
         let entity = get_or living p r in
@@ -52,7 +52,7 @@ same_value living index indexed id p = by (cases_lt p (length living))
         ∙ sym (ap (option_and_then (λ (h : Handle). value_of (entities_of living) h id)) (from_place living p r l))
     by (inr g) =
         ap (option_and_then (λ (e : LivingEntity). finite.get e.components id)) (slice_get_past living p g)
-        ∙ sym (ap (option_and_then (λ (h : Handle). value_of (entities_of living) h id)) (slice_get_past (handles_of living) p (omega (arith, length-map living (λ (e : LivingEntity). e.handle)))))
+        ∙ sym (ap (option_and_then (λ (h : Handle). value_of (entities_of living) h id)) (slice_get_past (handles_by_place living) p (omega (arith, length-map living (λ (e : LivingEntity). e.handle)))))
 
 inner : {X : Type 0} (o x : Option X) → option_map {U = Option X} Some o ≡ Some x → o ≡ x
 inner None x e = absurd (none-some x e)

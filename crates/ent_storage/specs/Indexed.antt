@@ -18,8 +18,8 @@ abbrev pub entities_of : List LivingEntity → EntityMap
 entities_of living = finite.from_entries (map (λ entity. (entity.handle, entity_of entity)) living)
 
 -- their handles, place by place
-abbrev pub handles_of : List LivingEntity → List Handle
-handles_of living = map (λ entity. entity.handle) living
+abbrev pub handles_by_place : List LivingEntity → List Handle
+handles_by_place living = map (λ entity. entity.handle) living
 
 -- the index has the place of each entity of the list, and no other place
 pub record IsIndexed (living : List LivingEntity) (index : finite.FinMap handle_cmp ℕ)
@@ -55,8 +55,8 @@ abbrev pub Keeps : Handle → finite.FinMap handle_cmp ℕ → finite.FinMap han
 Keeps h old new =
     (q : Handle) (i : ℕ) → q ≢ h → finite.get old q ≡ Some i → finite.get new q ≡ Some i
 
--- the rows and their index: the places that count are those of the rows, and there is room for them
-pub record IsKept (living : List LivingEntity) (index : finite.FinMap handle_cmp ℕ) (room : ℕ)
+-- the residents and their index: the places that count are those of the residents, and there is room for them
+pub record IsKeptIndex (living : List LivingEntity) (index : finite.FinMap handle_cmp ℕ) (room : ℕ)
     : Type 0 where
   pub indexed : IsIndexed living (counted living index)
   pub fits : length living ≤ room

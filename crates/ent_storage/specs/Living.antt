@@ -1,4 +1,4 @@
--- The living entities place by place, and the rows and columns that stand for them.
+-- The living entities place by place, and the residents and columns that stand for them.
 use Rattle.std.specs.Prelude.{◌≡◌, ◌≢◌, ◌+◌, ◌-◌, ◌<◌, ◌≤◌, ℕ, zero, suc, ℤ, List, [], ◌∷◌, length, Option, None, Some, refl}
 use Rattle.std.specs.Prelude.{slice_index_or, slice_get, option_and_then, is_some, IsTrue}
 use Rattle.std.specs.Option.{option_map}
@@ -10,7 +10,7 @@ use Rattle.ent_handle.specs.Birth.{birth_code}
 use Rattle.ent_handle.specs.Handle.{Handle, handle_code}
 use Rattle.ent_storage.specs.Components.{Components, components_code}
 use Rattle.ent_storage.specs.SparseSet.{Column, no_column}
-use Rattle.ent_storage.specs.declared.living.Row.{Row}
+use Rattle.ent_storage.specs.declared.living.Resident.{Resident}
 
 -- one living entity
 pub record LivingEntity : Type 0 where
@@ -57,15 +57,15 @@ items_from number (column ∷ columns) place =
 abbrev pub components_at : List Column → ℕ → Components
 components_at columns place = map.from_sorted (items_from 0 columns place)
 
--- the entities of the rows, if the first row is that of the place
-abbrev pub entities_from : ℕ → List Row → List Column → List LivingEntity
+-- the entities of the residents, if the first resident is that of the place
+abbrev pub entities_from : ℕ → List Resident → List Column → List LivingEntity
 entities_from place [] columns = []
-entities_from place (row ∷ rows) columns =
-    record { handle = row.handle; birth = row.birth; components = components_at columns place }
-    ∷ entities_from (suc place) rows columns
+entities_from place (resident ∷ residents) columns =
+    record { handle = resident.handle; birth = resident.birth; components = components_at columns place }
+    ∷ entities_from (suc place) residents columns
 
--- each value belongs to one of the rows, and each column to a component number
-pub record IsWithin (count : ℕ) (columns : List Column) : Type 0 where
+-- each value belongs to one of the residents, and each column to a component number
+pub record AreColumnsOf (count : ℕ) (columns : List Column) : Type 0 where
   pub none_beyond : (place : ℕ) (id : ComponentId) → count ≤ place → value_at columns place id ≡ None
   pub numbered : length columns ≤ 256
 

@@ -30,7 +30,7 @@ pub record IsDense (dense : List (ℕ × ℤ)) (sparse : List ℕ) : Type 0 wher
   pub entry : (k p : ℕ) (v : ℤ) → slice_get dense k ≡ Some (p, v) → slice_get sparse p ≡ Some k
 
 -- a value can be set at the place without memory
-pub record HasRoom (column : Column) (place : ℕ) : Type 0 where
+pub record HasRoomAt (column : Column) (place : ℕ) : Type 0 where
   pub spare : map.get column.values place ≡ None → 0 < column.spare
   pub in_range : map.get column.values place ≡ None → place < column.places
 

@@ -3,7 +3,7 @@ ghost use Rattle.std.specs.List.{All};
 ghost use Rattle.std.specs.FinMap as map;
 ghost use Rattle.ent_handle.specs.declared.component.ComponentId.{ComponentId};
 ghost use Rattle.ent_storage.specs.Components.{with_items, missing};
-ghost use Rattle.ent_storage.specs.SparseSet.{HasRoom, IsMovedDown};
+ghost use Rattle.ent_storage.specs.SparseSet.{HasRoomAt, IsMovedDown};
 ghost use Rattle.ent_storage.specs.Living.{column_at, value_at, components_at};
 
 use super::sparse_set::SparseSet;
@@ -28,7 +28,7 @@ pub fn reserve_all(
     ensures values { (number : ℕ) → (column_at columns.new.items number).values
         ≡ (column_at columns.old.items number).values }
     ensures ok { OnOk result
-        (All (λ item. HasRoom (column_at columns.new.items item.0.0) place) items.now) }
+        (All (λ item. HasRoomAt (column_at columns.new.items item.0.0) place) items.now) }
     ensures growing { OnErr result (0 < missing (components_at columns.old.items place) items.now) }
     ensures numbered { length columns.new.items ≤ 256 }
 {
@@ -48,9 +48,9 @@ fn reserve(
     requires { length columns.old.items ≤ 256 }
     ensures values { (number : ℕ) → (column_at columns.new.items number).values
         ≡ (column_at columns.old.items number).values }
-    ensures ok { OnOk result (HasRoom (column_at columns.new.items id.0) place) }
-    ensures kept { (number : ℕ) → HasRoom (column_at columns.old.items number) place
-        → HasRoom (column_at columns.new.items number) place }
+    ensures ok { OnOk result (HasRoomAt (column_at columns.new.items id.0) place) }
+    ensures kept { (number : ℕ) → HasRoomAt (column_at columns.old.items number) place
+        → HasRoomAt (column_at columns.new.items number) place }
     ensures growing { OnErr result (value_at columns.old.items place id ≡ None) }
     ensures numbered { length columns.new.items ≤ 256 }
 {
@@ -79,7 +79,7 @@ fn grow(columns: &mut Vec<SparseSet>, alloc: Global, count: usize) -> Result<(),
 
 /// Sets each of the items at the place. There has to be room for them.
 pub fn set_all(columns: &mut [SparseSet], place: usize, items: &[(ComponentId, i64)])
-    requires { All (λ item. HasRoom (column_at columns.old item.0.0) place) items.now }
+    requires { All (λ item. HasRoomAt (column_at columns.old item.0.0) place) items.now }
     ensures here { components_at columns.new place
         ≡ with_items (components_at columns.old place) items.now }
     ensures others { (other : ℕ) (id : ComponentId) → other ≢ place
@@ -93,7 +93,7 @@ pub fn set_all(columns: &mut [SparseSet], place: usize, items: &[(ComponentId, i
 
 /// Sets the value of one component at the place. There has to be room for it.
 fn set(columns: &mut [SparseSet], place: usize, item: (ComponentId, i64))
-    requires { HasRoom (column_at columns.old item.0.0) place }
+    requires { HasRoomAt (column_at columns.old item.0.0) place }
     ensures set { (column_at columns.new item.0.0).values
         ≡ map.insert (column_at columns.old item.0.0).values place item.1 }
     ensures others { (number : ℕ) → number ≢ item.0.0

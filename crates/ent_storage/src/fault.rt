@@ -18,9 +18,9 @@ pub enum StorageFault {
 
 impl fmt::Display for StorageFault {
     ghost use Rattle.std.specs.Prelude.{Some};
-    ghost use Rattle.ent_storage.specs.Fault.{fault_text};
+    ghost use Rattle.ent_storage.specs.Fault.{storage_fault_text};
 
-    ghost output = { λ fault. Some (fault_text fault) };
+    ghost output = { λ fault. Some (storage_fault_text fault) };
 
     fn fmt<W: fmt::Write>(&self, f: &mut fmt::Formatter<W>) -> fmt::Result {
         match self {

@@ -15,36 +15,36 @@ use std::marker::Model;
 
 /// What an entity has besides its components.
 #[derive(Clone, Copy)]
-pub struct Row {
+pub struct Resident {
     pub handle: Handle,
     pub birth: Birth,
 }
 
 /// The living entities, place by place.
 ///
-/// The rows have the handle and the birth of each. The columns have the components: at a
+/// The residents have the handle and the birth of each. The columns have the components: at a
 /// component's number the values of that component, by the places of the entities that have it.
 #[derive(Drop)]
 pub struct Living {
-    rows: Vec<Row>,
+    residents: Vec<Resident>,
     columns: Vec<SparseSet>,
     alloc: Global,
 }
 
 impl Model for Living {
     ghost use Rattle.std.specs.Prelude.{vec_capacity, length};
-    ghost use Rattle.ent_storage.specs.Living.{Living, living_code, entities_from, IsWithin};
+    ghost use Rattle.ent_storage.specs.Living.{Living, living_code, entities_from, AreColumnsOf};
 
     ghost Value = { Living };
 
     ghost coded = { living_code };
 
     ghost view = { λ a. record {
-      entities = entities_from 0 a.rows.items a.columns.items;
-      room = vec_capacity a.rows;
+      entities = entities_from 0 a.residents.items a.columns.items;
+      room = vec_capacity a.residents;
     } };
 
-    ghost invariant = { λ a. IsWithin (length a.rows.items) a.columns.items };
+    ghost invariant = { λ a. AreColumnsOf (length a.residents.items) a.columns.items };
 }
 
 impl Living {
@@ -53,7 +53,7 @@ impl Living {
         ensures { result ≡ record { entities = []; room = 0 } }
     {
         Living {
-            rows: Vec::new(alloc),
+            residents: Vec::new(alloc),
             columns: Vec::new(alloc),
             alloc,
         }
@@ -63,21 +63,21 @@ impl Living {
     pub fn len(&self) -> usize
         ensures { result ≡ length self.now.entities }
     {
-        self.rows.len()
+        self.residents.len()
     }
 
     /// Whether there are no entities.
     pub fn is_empty(&self) -> bool
         ensures { result ≡ (length self.now.entities == 0) }
     {
-        self.rows.is_empty()
+        self.residents.is_empty()
     }
 
     /// For how many entities there is room in all.
     pub fn capacity(&self) -> usize
         ensures { result ≡ self.now.room }
     {
-        self.rows.capacity()
+        self.residents.capacity()
     }
 
     /// Makes room for `additional` more entities. After an `Err` nothing is changed.
@@ -89,7 +89,7 @@ impl Living {
         ensures full { OnErr result (self.old.room < length self.old.entities + additional) }
         ensures err { OnErr result (self.new.room ≡ self.old.room) }
     {
-        self.rows.reserve(additional)
+        self.residents.reserve(additional)
     }
 
     /// The handle of the entity at the place.
@@ -97,7 +97,7 @@ impl Living {
         requires { place < length self.now.entities }
         ensures { HoldsAt (λ entity. result ≡ entity.handle) self.now.entities place }
     {
-        self.rows[place].handle
+        self.residents[place].handle
     }
 
     /// The birth of the entity at the place.
@@ -105,7 +105,7 @@ impl Living {
         requires { place < length self.now.entities }
         ensures { HoldsAt (λ entity. result ≡ entity.birth) self.now.entities place }
     {
-        self.rows[place].birth
+        self.residents[place].birth
     }
 
     /// The value of a component of the entity at the place, if it has the component.
@@ -131,7 +131,7 @@ impl Living {
             ++ record { handle = handle; birth = birth; components = finite.empty } ∷ [] }
         ensures room { self.new.room ≡ self.old.room }
     {
-        self.rows.push_reserved(Row { handle, birth });
+        self.residents.push_reserved(Resident { handle, birth });
     }
 
     /// Takes the entity at the place out, and moves the last one there. It takes no memory.
@@ -140,8 +140,8 @@ impl Living {
         ensures entities { IsMovedInto self.old.entities place self.new.entities }
         ensures room { self.new.room ≡ self.old.room }
     {
-        columns::swap_remove(&mut self.columns, place, self.rows.len() - 1);
-        let _ = self.rows.swap_remove(place);
+        columns::swap_remove(&mut self.columns, place, self.residents.len() - 1);
+        let _ = self.residents.swap_remove(place);
     }
 
     /// Sets each of the items of the entity at the place, the first item first. After an `Err`
@@ -176,7 +176,7 @@ impl Living {
         ensures { IfOk result (λ births. births.items
             ≡ map (λ entity. (entity.birth, entity.handle)) self.now.entities) }
     {
-        births(alloc, &self.rows)
+        births(alloc, &self.residents)
     }
 
     /// The birth and the handle of the entity at the place of each pair.
@@ -191,8 +191,8 @@ impl Living {
     {
         let mut births = Vec::new(alloc);
         for pair in pairs {
-            let row = self.rows[pair.0];
-            births.push((row.birth, row.handle))?;
+            let resident = self.residents[pair.0];
+            births.push((resident.birth, resident.handle))?;
         }
         Ok(births)
     }
@@ -212,12 +212,13 @@ impl Living {
     }
 }
 
-/// The birth and the handle of each row.
-fn births(alloc: Global, rows: &[Row]) -> Result<Vec<(Birth, Handle)>, AllocError>
-    ensures { IfOk result (λ births. births.items ≡ map (λ row. (row.birth, row.handle)) rows.now) }
+/// The birth and the handle of each resident.
+fn births(alloc: Global, residents: &[Resident]) -> Result<Vec<(Birth, Handle)>, AllocError>
+    ensures { IfOk result (λ births. births.items ≡ map (λ resident. (resident.birth, resident.handle)) residents.now) }
 {
-    rows.iter()
-        .map(|row| (row.birth, row.handle))
+    residents
+        .iter()
+        .map(|resident| (resident.birth, resident.handle))
         .collect(alloc)
 }
 
@@ -225,7 +226,7 @@ fn births(alloc: Global, rows: &[Row]) -> Result<Vec<(Birth, Handle)>, AllocErro
 pub fn has_handle_at(living: &Living, handle: Handle, place: usize) -> bool
     ensures { result ≡ has_handle_at living.now.entities handle (Some place) }
 {
-    match living.rows.get(place) {
+    match living.residents.get(place) {
         Some(entity) => entity.handle == handle,
         None => false,
     }

@@ -3,7 +3,7 @@ ghost use Rattle.std.specs.Prelude.{Contains};
 ghost use Rattle.std.specs.Ordering.{nat_cmp};
 ghost use Rattle.std.specs.List.{HoldsAt};
 ghost use Rattle.std.specs.FinMap as map;
-ghost use Rattle.ent_storage.specs.SparseSet.{no_column, IsDense, HasRoom, IsMovedDown};
+ghost use Rattle.ent_storage.specs.SparseSet.{no_column, IsDense, HasRoomAt, IsMovedDown};
 
 use std::alloc::{AllocError, Global};
 use std::marker::Model;
@@ -70,7 +70,7 @@ impl SparseSet {
 
     /// Sets the value of the place. There has to be room for it if it has none.
     pub fn set(&mut self, place: usize, value: i64)
-        requires { HasRoom self.old place }
+        requires { HasRoomAt self.old place }
         ensures { self.new.values ≡ map.insert self.old.values place value }
     {
         match position_of(&self.dense, &self.sparse, place) {
@@ -85,8 +85,8 @@ impl SparseSet {
     /// Makes room for a value of the place. After an `Err` the values are as before.
     pub fn reserve(&mut self, place: usize) -> Result<(), AllocError>
         ensures values { self.new.values ≡ self.old.values }
-        ensures ok { OnOk result (HasRoom self.new place) }
-        ensures kept { HasRoom self.old place → HasRoom self.new place }
+        ensures ok { OnOk result (HasRoomAt self.new place) }
+        ensures kept { HasRoomAt self.old place → HasRoomAt self.new place }
     {
         self.dense.reserve(1)?;
         if place < self.sparse.len() {

@@ -41,15 +41,15 @@ impl Model for Storage {
 
     ghost coded = { store_code };
 
-    ghost use Rattle.ent_storage.specs.Indexed.{entities_of, handles_of, IsKept};
+    ghost use Rattle.ent_storage.specs.Indexed.{entities_of, handles_by_place, IsKeptIndex};
 
     ghost view = { λ a. record {
       entities = entities_of a.living.entities;
-      places = handles_of a.living.entities;
+      places = handles_by_place a.living.entities;
       spare = min a.living.room a.index.room - length a.living.entities;
     } };
 
-    ghost invariant = { λ a. IsKept a.living.entities a.index.by_handle
+    ghost invariant = { λ a. IsKeptIndex a.living.entities a.index.by_handle
         (min a.living.room a.index.room) };
 }
 

@@ -20,8 +20,8 @@ use Rattle.ent_alloc.proofs.Replies.{not_apart}
 use Rattle.ent_storage.specs.EntityMap.{Entity, EntityMap, Store, newborn}
 use Rattle.ent_queue.specs.Command.{Command}
 use Rattle.ent_world.specs.World.{AreLiving}
-use Rattle.ent_world.specs.Sync.{ordinal, no_system, handles_listed, place_of, at_place, listed_birth, unlisted, unlisted_birth, birth_in, with_born}
-use Rattle.ent_world.specs.Entering.{HasRoom, first_birth, next_birth, entered, entered_queues, entered_others}
+use Rattle.ent_world.specs.Sync.{ordinal, no_system, handles_listed, ordinal_among, at_ordinal, listed_birth, unlisted, unlisted_birth, birth_in, with_born}
+use Rattle.ent_world.specs.Entering.{HasRoomForBorn, first_birth, next_birth, entered, entered_queues, entered_others}
 use Rattle.ent_world.proofs.Entered.{or_born, given, or_born-none, given-none, birth_at, next-birth_at, get-entered, birth_by_place, get-entered_queues}
 
 -- each stands there once
@@ -156,7 +156,7 @@ get-with_born birth (h ∷ hs) m q =
 listed_anyhow : (queues : List (List Command)) (phase system other : ℕ) (h : Handle) → is_none (listed_birth 0 other queues h) ≡ not (is_some (listed_birth phase system queues h))
 listed_anyhow [] phase system other h = refl
 listed_anyhow (q ∷ queues) phase system other h =
-    elim (place_of (handles_listed q) h) as (λ place. is_none (at_place 0 other place (listed_birth 0 (other + 1) queues h)) ≡ not (is_some (at_place phase system place (listed_birth phase (system + 1) queues h)))) [
+    elim (ordinal_among (handles_listed q) h) as (λ place. is_none (at_ordinal 0 other place (listed_birth 0 (other + 1) queues h)) ≡ not (is_some (at_ordinal phase system place (listed_birth phase (system + 1) queues h)))) [
       | Some k ↦ refl
       | None ↦ listed_anyhow queues phase (system + 1) (other + 1) h
     ]
@@ -287,7 +287,7 @@ module _ (s : Allocator) (m : EntityMap) (sound : IsSound s) (living : AreLiving
             ∙ of_old q none (set.contains (after_flush s).live q) refl
 
 -- a storage of that map with room for what is taken has room for what is born
-pub room-flushed : (s : Allocator) (store : Store) → IsSound s → AreLiving s store.entities → length s.taken ≤ store.spare → HasRoom (after_flush s) store
+pub room-flushed : (s : Allocator) (store : Store) → IsSound s → AreLiving s store.entities → length s.taken ≤ store.spare → HasRoomForBorn (after_flush s) store
 room-flushed s store sound living enough = record {
   waiting = born s;
   all = λ h lives absent. by_test h lives absent (stands_in (born s) h) refl;

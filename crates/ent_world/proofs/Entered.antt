@@ -13,7 +13,7 @@ use Rattle.ent_alloc.specs.Sequential.{Allocator}
 use Rattle.ent_alloc.proofs.HandleSets.{same_handle, itself}
 use Rattle.ent_storage.specs.EntityMap.{Entity, EntityMap, newborn}
 use Rattle.ent_queue.specs.Command.{Command}
-use Rattle.ent_world.specs.Sync.{ordinal, handles_listed, place_of, at_place, listed_birth}
+use Rattle.ent_world.specs.Sync.{ordinal, handles_listed, ordinal_among, at_ordinal, listed_birth}
 use Rattle.ent_world.specs.Entering.{first_birth, next_birth, birth_after, entered, entered_handles, entered_queues}
 
 -- the handles of two lists, one after the other
@@ -120,7 +120,7 @@ get-entered_handles s phase system place (h ∷ hs) m q =
 
 -- The handles that queues list.
 
-by_queue : (phase system : ℕ) (place : Option ℕ) (others : Option Birth) → at_place phase system place others ≡ first_of (birth_by_place phase system place) others
+by_queue : (phase system : ℕ) (place : Option ℕ) (others : Option Birth) → at_ordinal phase system place others ≡ first_of (birth_by_place phase system place) others
 by_queue phase system None others = refl
 by_queue phase system (Some place) others = refl
 
@@ -129,9 +129,9 @@ pub get-entered_queues : (s : Allocator) (phase system : ℕ) (queues : List (Li
 get-entered_queues s phase system [] m q = sym (ap (or_born (map.get m q)) (given-none (set.contains s.live q)) ∙ or_born-none (map.get m q))
 get-entered_queues s phase system (queue ∷ queues) m q =
     let t = set.contains s.live q in
-    let one = birth_by_place phase system (place_of (handles_listed queue) q) in
+    let one = birth_by_place phase system (ordinal_among (handles_listed queue) q) in
     let others = listed_birth phase (system + 1) queues q in
     get-entered_queues s phase (system + 1) queues (entered_handles s (first_birth phase system) (handles_listed queue) m) q
     ∙ ap (λ o. or_born o (given t others)) (get-entered_handles s phase system 0 (handles_listed queue) m q)
     ∙ or_born-twice (map.get m q) (given t one) (given t others)
-    ∙ ap (or_born (map.get m q)) (first_of-given t one others ∙ ap (given t) (sym (by_queue phase system (place_of (handles_listed queue) q) others)))
+    ∙ ap (or_born (map.get m q)) (first_of-given t one others ∙ ap (given t) (sym (by_queue phase system (ordinal_among (handles_listed queue) q) others)))

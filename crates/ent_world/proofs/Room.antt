@@ -14,7 +14,7 @@ use Rattle.ent_alloc.proofs.HandleSets.{same_handle, itself}
 use Rattle.ent_storage.specs.EntityMap.{Store, newborn}
 use Rattle.ent_storage.specs.declared.fault.StorageFault.{StorageFault}
 use Rattle.ent_storage.specs.declared.fault.StorageFault.TheVariants.{Present}
-use Rattle.ent_world.specs.Entering.{HasRoom}
+use Rattle.ent_world.specs.Entering.{HasRoomForBorn}
 use Rattle.ent_world.proofs.Living.{some_more}
 
 -- the other handles
@@ -38,9 +38,9 @@ fewer h (g ∷ hs) some =
     ] some
 
 -- one of those that wait has entered
-pub room-entered : (s : Allocator) (before after : Store) (h : Handle) (birth : Birth) → HasRoom s before
+pub room-entered : (s : Allocator) (before after : Store) (h : Handle) (birth : Birth) → HasRoomForBorn s before
     → set.contains s.live h ≡ true → map.contains_key before.entities h ≡ false
-    → after.entities ≡ map.insert before.entities h (newborn birth) → (0 < before.spare → after.spare + 1 ≡ before.spare) → HasRoom s after
+    → after.entities ≡ map.insert before.entities h (newborn birth) → (0 < before.spare → after.spare + 1 ≡ before.spare) → HasRoomForBorn s after
 room-entered s before after h birth has alive absent entered less =
     let here : stands_in has.waiting h ≡ true = has.all h alive absent in
     let few = fewer h has.waiting here in
@@ -68,16 +68,16 @@ room-entered s before after h birth has alive absent entered less =
         ] refl none
 
 -- a storage was asked to enter one that is alive
-pub room-born : {X : Type 0} (s : Allocator) (before after : Store) (h : Handle) (birth : Birth) (r : Result X StorageFault) → HasRoom s before
+pub room-born : {X : Type 0} (s : Allocator) (before after : Store) (h : Handle) (birth : Birth) (r : Result X StorageFault) → HasRoomForBorn s before
     → set.contains s.live h ≡ true
     → OnOk r (after.entities ≡ map.insert before.entities h (newborn birth)) → OnOk r (0 < before.spare → after.spare + 1 ≡ before.spare)
-    → (IsTrue (map.contains_key before.entities h) → IsErrOf r Present) → OnErr r (after ≡ before) → HasRoom s after
+    → (IsTrue (map.contains_key before.entities h) → IsErrOf r Present) → OnErr r (after ≡ before) → HasRoomForBorn s after
 room-born s before after h birth (Ok x) has alive ok less present err = room-entered s before after h birth has alive (absent (map.contains_key before.entities h) refl) ok less
   where
     absent : (b : Bool) → map.contains_key before.entities h ≡ b → b ≡ false
     absent false _ = refl
     absent true there = let refused = present there in cc
-room-born s before after h birth (Err fault) has alive ok less present err = subst (HasRoom s) (sym err) has
+room-born s before after h birth (Err fault) has alive ok less present err = subst (HasRoomForBorn s) (sym err) has
 
 -- whose state is alive lives
 pub alive_by_state : (s : Allocator) (h : Handle) → state_of s h ≡ Alive → set.contains s.live h ≡ true

@@ -8,7 +8,7 @@ use Rattle.ent_handle.specs.Handle.{Handle}
 use Rattle.ent_alloc.specs.Sequential.{Allocator, made_at_flush, is_fresh}
 use Rattle.ent_queue.specs.Command.{Bundle, Command}
 use Rattle.ent_world.specs.World.{World, lives_in}
-use Rattle.ent_world.specs.Memory.{insert_takes_memory, place_takes_memory, takes_memory, TakesMemoryIn, TakesMemoryAt}
+use Rattle.ent_world.specs.Memory.{insert_takes_memory, place_takes_memory, command_takes_memory, TakesMemoryIn, TakesMemoryAt}
 use Rattle.ent_world.proofs.Folds.{next_below}
 use Rattle.ent_world.proofs.Room.{no_more}
 
@@ -37,8 +37,8 @@ pub next_takes_memory : (w : World) (items : Bundle) (hs rest : List Handle) (k 
 next_takes_memory w items hs rest k h left takes = ap (place_takes_memory w items) (at_left hs rest k h left) ∙ takes
 
 -- at this command of a queue
-pub takes_memory_in : (w : World) (q rest : List Command) (k done : ℕ) (c : Command) → drop k q ≡ c ∷ rest → takes_memory w done c ≡ true → TakesMemoryIn w k done q
-takes_memory_in w q rest k done c left takes = subst (λ o. IsSomeAnd o (λ d. takes_memory w done d ≡ true)) (sym (at_left q rest k c left)) takes
+pub takes_memory_in : (w : World) (q rest : List Command) (k done : ℕ) (c : Command) → drop k q ≡ c ∷ rest → command_takes_memory w done c ≡ true → TakesMemoryIn w k done q
+takes_memory_in w q rest k done c left takes = subst (λ o. IsSomeAnd o (λ d. command_takes_memory w done d ≡ true)) (sym (at_left q rest k c left)) takes
 
 -- in this queue
 pub takes_memory_at : (w : World) (qs : List (List Command)) (k command done : ℕ) (q : List Command) → k < length qs → q ≡ get_or qs k q → TakesMemoryIn w command done q

@@ -53,7 +53,7 @@ entered_others s birth (h ∷ hs) m =
     else entered_others s (next_birth birth) hs (entered s h birth m)
 
 -- There is room for all that are alive and not there yet.
-pub record HasRoom (s : Allocator) (store : Store) : Type 0 where
+pub record HasRoomForBorn (s : Allocator) (store : Store) : Type 0 where
   pub waiting : List Handle
   pub all : (h : Handle) → set.contains s.live h ≡ true → map.contains_key store.entities h ≡ false
       → stands_in waiting h ≡ true

@@ -18,18 +18,18 @@ place_takes_memory w items (Some h) = insert_takes_memory w items h
 -- The command may take memory in this world, at that of its handles: it gives an entity components,
 -- frees a handle, or lists a fault. No other takes any: no spawn of nobody, no empty bundle for who
 -- lives, no component that is taken away from who lives.
-abbrev pub takes_memory : World → ℕ → Command → Bool
-takes_memory w done (Spawn h items) = insert_takes_memory w items h
-takes_memory w done (SpawnMany hs items) = place_takes_memory w items (slice_get hs done)
-takes_memory w done (Insert h items) = insert_takes_memory w items h
-takes_memory w done (Remove h id) = not (lives_in w h)
-takes_memory w done (Despawn h) = true
-takes_memory w done (Refused wanted why) = true
+abbrev pub command_takes_memory : World → ℕ → Command → Bool
+command_takes_memory w done (Spawn h items) = insert_takes_memory w items h
+command_takes_memory w done (SpawnMany hs items) = place_takes_memory w items (slice_get hs done)
+command_takes_memory w done (Insert h items) = insert_takes_memory w items h
+command_takes_memory w done (Remove h id) = not (lives_in w h)
+command_takes_memory w done (Despawn h) = true
+command_takes_memory w done (Refused wanted why) = true
 
 -- The queue has that command, and there it may take memory.
 abbrev pub TakesMemoryIn : World → ℕ → ℕ → List Command → Type 0
 TakesMemoryIn w command done queue =
-    IsSomeAnd (slice_get queue command) (λ c. takes_memory w done c ≡ true)
+    IsSomeAnd (slice_get queue command) (λ c. command_takes_memory w done c ≡ true)
 
 -- The queues have that command of that system, and there it may take memory.
 abbrev pub TakesMemoryAt : World → ℕ → ℕ → ℕ → List (List Command) → Type 0

@@ -38,19 +38,19 @@ abbrev pub ordinal : ℕ → ℕ
 ordinal place = min place (2 ^ 32 - 1)
 
 -- the first place of a handle among others, if it stands there
-abbrev pub place_of : List Handle → Handle → Option ℕ
-place_of handles h = position_from (eq_by_cmp handle_cmp h) 0 handles
+abbrev pub ordinal_among : List Handle → Handle → Option ℕ
+ordinal_among handles h = position_from (eq_by_cmp handle_cmp h) 0 handles
 
 -- the birth by the first queue that lists the handle
-abbrev pub at_place : ℕ → ℕ → Option ℕ → Option Birth → Option Birth
-at_place phase system None others = others
-at_place phase system (Some place) others =
+abbrev pub at_ordinal : ℕ → ℕ → Option ℕ → Option Birth → Option Birth
+at_ordinal phase system None others = others
+at_ordinal phase system (Some place) others =
     Some (record { frame = phase; system = system; ordinal = ordinal place })
 
 abbrev pub listed_birth : ℕ → ℕ → List (List Command) → Handle → Option Birth
 listed_birth phase system [] h = None
 listed_birth phase system (q ∷ qs) h =
-    at_place phase system (place_of (handles_listed q) h) (listed_birth phase (system + 1) qs h)
+    at_ordinal phase system (ordinal_among (handles_listed q) h) (listed_birth phase (system + 1) qs h)
 
 -- those of the handles that no queue lists
 abbrev pub unlisted : List (List Command) → List Handle → List Handle
@@ -62,7 +62,7 @@ unlisted_birth phase others h =
     record {
       frame = phase;
       system = no_system;
-      ordinal = ordinal (unwrap_or (place_of others h) 0);
+      ordinal = ordinal (unwrap_or (ordinal_among others h) 0);
     }
 
 -- the birth of a handle that is born with these

@@ -8,7 +8,7 @@ ghost use Rattle.ent_world.specs.Command.{applied, refused, on_entity, on_each, 
 ghost use Rattle.ent_world.specs.Command.{after_remove, after_despawn, after_command};
 ghost use Rattle.ent_world.specs.Command.{after_commands, after_queues};
 ghost use Rattle.ent_world.specs.Sync.{first_part, stops, cut_commands, cut, IsStop};
-ghost use Rattle.ent_world.specs.Memory.{insert_takes_memory, place_takes_memory, takes_memory, TakesMemoryIn};
+ghost use Rattle.ent_world.specs.Memory.{insert_takes_memory, place_takes_memory, command_takes_memory, TakesMemoryIn};
 ghost use Rattle.ent_world.specs.Memory.{TakesMemoryAt};
 
 use crate::fault::{Fault, FaultKind};
@@ -107,7 +107,7 @@ impl World {
             (applied self.old faults.old.items)) }
         ensures stop { IfErr result (λ done. done < stops (command_of entry.entry ∷ [])) }
         ensures memory { IfErr result (λ done.
-            takes_memory self.new done (command_of entry.entry) ≡ true) }
+            command_takes_memory self.new done (command_of entry.entry) ≡ true) }
     {
         match entry {
             Entry::Spawn(handle, bundle) => self

@@ -2,7 +2,7 @@
 ghost use Rattle.std.specs.Prelude.{◌≡◌, ◌≤◌, ◌^◌, length};
 ghost use Rattle.ent_queue.specs.Entry.{command_of};
 ghost use Rattle.ent_world.specs.Sync.{no_system, listed_by, handles_listed};
-ghost use Rattle.ent_world.specs.Entering.{first_birth, next_birth, birth_after, HasRoom};
+ghost use Rattle.ent_world.specs.Entering.{first_birth, next_birth, birth_after, HasRoomForBorn};
 ghost use Rattle.ent_world.specs.Entering.{entered, entered_handles, entered_queues};
 ghost use Rattle.ent_world.specs.Entering.{entered_others};
 
@@ -23,8 +23,8 @@ pub(crate) fn enter_listed(
     queues: &[CommandQueue],
 )
     requires few { length queues.now ≤ 2 ^ 16 }
-    requires room { HasRoom entities.now storage.old }
-    ensures room { HasRoom entities.now storage.new }
+    requires room { HasRoomForBorn entities.now storage.old }
+    ensures room { HasRoomForBorn entities.now storage.new }
     ensures entered { storage.new.entities
         ≡ entered_queues entities.now phase 0 queues.now storage.old.entities }
 {
@@ -40,7 +40,7 @@ pub(crate) fn enter_others(
     phase: u64,
     handles: &[Handle],
 )
-    requires { HasRoom entities.now storage.old }
+    requires { HasRoomForBorn entities.now storage.old }
     ensures { storage.new.entities ≡ entered_others
         entities.now (first_birth phase no_system) handles.now storage.old.entities }
 {
@@ -61,8 +61,8 @@ fn enter_queue(
     system: u32,
     queue: &CommandQueue,
 )
-    requires { HasRoom entities.now storage.old }
-    ensures room { HasRoom entities.now storage.new }
+    requires { HasRoomForBorn entities.now storage.old }
+    ensures room { HasRoomForBorn entities.now storage.new }
     ensures entered { storage.new.entities ≡ entered_handles
         entities.now (first_birth phase system) (handles_listed queue.now) storage.old.entities }
 {
@@ -74,8 +74,8 @@ fn enter_queue(
 
 /// Enters the handles of one command, from this birth on, and answers the birth of the next handle.
 fn enter_entry(storage: &mut Storage, entities: &Entities, birth: Birth, entry: Entry<'_>) -> Birth
-    requires { HasRoom entities.now storage.old }
-    ensures room { HasRoom entities.now storage.new }
+    requires { HasRoomForBorn entities.now storage.old }
+    ensures room { HasRoomForBorn entities.now storage.new }
     ensures entered { storage.new.entities ≡ entered_handles
         entities.now birth (listed_by (command_of entry.entry)) storage.old.entities }
     ensures next { result ≡ birth_after birth (listed_by (command_of entry.entry)) }
@@ -97,8 +97,8 @@ fn enter_handles(
     first: Birth,
     handles: Handles<'_>,
 ) -> Birth
-    requires { HasRoom entities.now storage.old }
-    ensures room { HasRoom entities.now storage.new }
+    requires { HasRoomForBorn entities.now storage.old }
+    ensures room { HasRoomForBorn entities.now storage.new }
     ensures entered { storage.new.entities
         ≡ entered_handles entities.now first handles.entry storage.old.entities }
     ensures next { result ≡ birth_after first handles.entry }
@@ -113,8 +113,8 @@ fn enter_handles(
 
 /// Enters the entity, if it is alive and not there yet.
 fn enter(storage: &mut Storage, entities: &Entities, handle: Handle, birth: Birth)
-    requires { HasRoom entities.now storage.old }
-    ensures room { HasRoom entities.now storage.new }
+    requires { HasRoomForBorn entities.now storage.old }
+    ensures room { HasRoomForBorn entities.now storage.new }
     ensures entered { storage.new.entities
         ≡ entered entities.now handle birth storage.old.entities }
 {

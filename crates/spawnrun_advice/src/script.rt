@@ -154,7 +154,7 @@ fn operation_part<'a>(script: &'a Value, operation: &'a Value, cause: Cause) -> 
     match cause {
         Cause::Shape => Part::Refused(operation),
         Cause::Count => Part::of(operation.get("spawn_many")),
-        Cause::Bundle => Part::of(bundle_of(operation)),
+        Cause::Bundle => Part::of(bundle_part(operation)),
         Cause::Component => component_part(script, operation),
         Cause::Value => value_part(operation),
         Cause::Name => Part::of(operation.get("as").or(target_at(operation, "name"))),
@@ -163,7 +163,7 @@ fn operation_part<'a>(script: &'a Value, operation: &'a Value, cause: Cause) -> 
     }
 }
 
-fn bundle_of(operation: &Value) -> Option<&Value> {
+fn bundle_part(operation: &Value) -> Option<&Value> {
     operation
         .get("spawn")
         .or(operation.get("with"))
@@ -185,7 +185,7 @@ fn component_part<'a>(script: &'a Value, operation: &'a Value) -> Part<'a> {
         Some(list) => list.as_slice(),
         None => &[],
     };
-    let bundle = bundle_of(operation).and_then(Value::as_object);
+    let bundle = bundle_part(operation).and_then(Value::as_object);
     if let Some(key) = bundle.and_then(|members| unlisted_key(members, listed)) {
         return Part::Key(key);
     }
@@ -214,7 +214,7 @@ fn unlisted_key<'a>(members: &'a Map<String, Value>, listed: &[Value]) -> Option
 
 // The first member of the bundle whose value is no whole number.
 fn value_part(operation: &Value) -> Part<'_> {
-    let Some(members) = bundle_of(operation).and_then(Value::as_object) else {
+    let Some(members) = bundle_part(operation).and_then(Value::as_object) else {
         return Part::Absent;
     };
     for (key, value) in members {

@@ -40,7 +40,7 @@ use Rattle.clap.specs.Words.{App, found_of, first_of, first_value, takes}
 use Rattle.clap.specs.Takes.{built_takes, entered_passes, level_passes}
 use Rattle.clap.specs.Kinds.{Kinds}
 use Rattle.clap.specs.Walk.{texts}
-use Rattle.spawnrun_lib.specs.CommandLine.{IsFaultIn, IsFaultOf, HasNumber, HasShow, number_of, placed}
+use Rattle.spawnrun_lib.specs.CommandLine.{IsFaultIn, IsFaultOf, HasNumber, HasShow, option_number, placed_texts}
 use Rattle.spawnrun_lib.specs.CommandLine.{number_option, generations_option, program, slots_option}
 use Rattle.spawnrun_lib.specs.CommandLine.{program_of, show_option, show_text, shown, workers_option}
 use Rattle.spawnrun_lib.proofs.MovedNames.{level_fault-moved, level_passes-moved, moved_shape, rows_after-moved}
@@ -61,7 +61,7 @@ abbrev workers_rule : Rule
 workers_rule = filled workers_option
 
 abbrev show_rule : Rule
-show_rule = filled (show_option (placed shown))
+show_rule = filled (show_option (placed_texts shown))
 
 abbrev run_rules : List Rule
 run_rules = workers_rule ∷ show_rule ∷ filled help_rule ∷ []
@@ -163,7 +163,7 @@ number_gives bits text r = ParsesUnsigned bits 10 text r × ExplainsUnsignedErro
 -- the number that the getter of an option in range reads
 pub number_read : (bits : ℕ) (option : Text) (most : ℕ) (found : Found) (r : Option ℕ) → most < 2 ^ bits → HasNumber option most (rows_of found)
     → ((text : Text) → one_text found option ≡ Some text → ReadsOne (number_gives bits) text r)
-    → (n : ℕ) × (r ≡ Some n) × (1 ≤ n) × (n ≤ most) × (number_of option (rows_of found) ≡ Some n)
+    → (n : ℕ) × (r ≡ Some n) × (1 ≤ n) × (n ≤ most) × (option_number option (rows_of found) ≡ Some n)
 number_read bits option most found r fits number reads =
     let read = reads (without_minus number.text) (one_text-rows found option ∙ number.is) in
     let known = signed_reads _ (number_gives bits) bits 1 most number.text r read (λ text given gives. gives.0) fits number.within in
@@ -205,13 +205,13 @@ subcommand_name-rows m = go (out-ArgMatches m).subcommand
 
 -- ---- the place of the names
 
-abbrev Names : Type 0
-Names = Bor (List (Bor Text))
+abbrev TextRefs : Type 0
+TextRefs = Bor (List (Bor Text))
 
-abbrev run_shape_of : Names → Shape
+abbrev run_shape_of : TextRefs → Shape
 run_shape_of names = slice_index_or (built (program_of names)).subs 1 (new_shape [])
 
-entered-moved : (names : Names) (stop : Option (Text × List Text)) → entered (built (program_of (placed (texts names.now)))) stop ≡ entered (built (program_of names)) stop
+entered-moved : (names : TextRefs) (stop : Option (Text × List Text)) → entered (built (program_of (placed_texts (texts names.now)))) stop ≡ entered (built (program_of names)) stop
 entered-moved names None = refl
 entered-moved names (Some p) = go (answers_to p.0 (label_of replay_shape)) (answers_to p.0 (label_of run_shape))
   where
@@ -223,8 +223,8 @@ entered-moved names (Some p) = go (answers_to p.0 (label_of replay_shape)) (answ
     go false true = ap (λ rows. Some (codes "run", rows)) (rows_after-moved (run_shape_of names).rules [] p.1)
     go false false = refl
 
-entered_fault-moved : (names : Names) (stop : Option (Text × List Text))
-    → entered_fault (built (program_of (placed (texts names.now)))) stop ≡ entered_fault (built (program_of names)) stop
+entered_fault-moved : (names : TextRefs) (stop : Option (Text × List Text))
+    → entered_fault (built (program_of (placed_texts (texts names.now)))) stop ≡ entered_fault (built (program_of names)) stop
 entered_fault-moved names None = refl
 entered_fault-moved names (Some p) = go (answers_to p.0 (label_of replay_shape)) (answers_to p.0 (label_of run_shape))
   where
@@ -237,16 +237,16 @@ entered_fault-moved names (Some p) = go (answers_to p.0 (label_of replay_shape))
     go false true = level_fault-moved (run_shape_of names) [] nothing_held p.1 false []
     go false false = refl
 
-fault_of-moved : (names : Names) (words : List Text) → fault_of (program_of (placed (texts names.now))) words ≡ fault_of (program_of names) words
+fault_of-moved : (names : TextRefs) (words : List Text) → fault_of (program_of (placed_texts (texts names.now))) words ≡ fault_of (program_of names) words
 fault_of-moved names words =
     let app = built (program_of names) in
     let stop = stop_after app.top.rules (names_of app) words in
     ap (λ (met : Option (Text × List Row)). level_fault app.top (names_of app) nothing_held words (is_some met)
-    (entered_fault (built (program_of (placed (texts names.now)))) stop)) (entered-moved names stop)
+    (entered_fault (built (program_of (placed_texts (texts names.now)))) stop)) (entered-moved names stop)
     ∙ ap (level_fault app.top (names_of app) nothing_held words (is_some (entered app stop))) (entered_fault-moved names stop)
 
-entered_passes-moved : (names : Names) (stop : Option (Text × List Text))
-    → entered_passes (built (program_of (placed (texts names.now)))) stop ≡ entered_passes (built (program_of names)) stop
+entered_passes-moved : (names : TextRefs) (stop : Option (Text × List Text))
+    → entered_passes (built (program_of (placed_texts (texts names.now)))) stop ≡ entered_passes (built (program_of names)) stop
 entered_passes-moved names None = refl
 entered_passes-moved names (Some p) = go (answers_to p.0 (label_of replay_shape)) (answers_to p.0 (label_of run_shape))
   where
@@ -259,13 +259,13 @@ entered_passes-moved names (Some p) = go (answers_to p.0 (label_of replay_shape)
     go false true = level_passes-moved (run_shape_of names) [] nothing_held p.1 false
     go false false = refl
 
-built_takes-moved : (names : Names) (words : List Text)
-    → built_takes (built (program_of (placed (texts names.now)))) nothing_held words ≡ built_takes (built (program_of names)) nothing_held words
+built_takes-moved : (names : TextRefs) (words : List Text)
+    → built_takes (built (program_of (placed_texts (texts names.now)))) nothing_held words ≡ built_takes (built (program_of names)) nothing_held words
 built_takes-moved names words =
     let app = built (program_of names) in
     let stop = stop_after app.top.rules (names_of app) words in
     ap (λ test. test && level_passes app.top (names_of app) nothing_held words
-    (is_some (entered (built (program_of (placed (texts names.now)))) stop))) (entered_passes-moved names stop)
+    (is_some (entered (built (program_of (placed_texts (texts names.now)))) stop))) (entered_passes-moved names stop)
     ∙ ap (λ (met : Option (Text × List Row)). entered_passes app stop && level_passes app.top (names_of app) nothing_held words (is_some met))
     (entered-moved names stop)
 
@@ -277,29 +277,29 @@ pub record IsProgram (app : App) : Type 0 where
   pub subcommand : (words : List Text) → subcommand_of app words ≡ subcommand_of program words
   pub taken : (words : List Text) → takes program words ≡ true → takes app words ≡ true
 
-program_of-simple : (names : Names) → is_simple (program_of names) ≡ true
+program_of-simple : (names : TextRefs) → is_simple (program_of names) ≡ true
 unfolding clap_on_literals
 program_of-simple names = refl
 
-program_of-free : (names : Names) → is_simple_and_free (program_of names) ≡ true
+program_of-free : (names : TextRefs) → is_simple_and_free (program_of names) ≡ true
 unfolding clap_on_literals
 program_of-free names = refl
 
-program_of-takes : (names : Names) (words : List Text) → takes (program_of names) words ≡ built_takes (built (program_of names)) nothing_held words
+program_of-takes : (names : TextRefs) (words : List Text) → takes (program_of names) words ≡ built_takes (built (program_of names)) nothing_held words
 program_of-takes names words = ap (λ simple. simple && built_takes (built (program_of names)) nothing_held words) (program_of-simple names)
 
-program_of-IsProgram : (names : Names) → texts names.now ≡ shown → IsProgram (program_of names)
+program_of-IsProgram : (names : TextRefs) → texts names.now ≡ shown → IsProgram (program_of names)
 program_of-IsProgram names same = record {
   simple = program_of-simple names;
   free = program_of-free names;
-  fault = λ words. sym (fault_of-moved names words) ∙ ap (λ known. fault_of (program_of (placed known)) words) same;
+  fault = λ words. sym (fault_of-moved names words) ∙ ap (λ known. fault_of (program_of (placed_texts known)) words) same;
   subcommand = λ words. sym (entered-moved names (stop_after (built (program_of names)).top.rules (names_of (built (program_of names))) words))
-      ∙ ap (λ known. subcommand_of (program_of (placed known)) words) same;
+      ∙ ap (λ known. subcommand_of (program_of (placed_texts known)) words) same;
   taken = λ words yes. program_of-takes names words ∙ (sym (built_takes-moved names words)
-      ∙ (sym (program_of-takes (placed (texts names.now)) words) ∙ (ap (λ known. takes (program_of (placed known)) words) same ∙ yes)));
+      ∙ (sym (program_of-takes (placed_texts (texts names.now)) words) ∙ (ap (λ known. takes (program_of (placed_texts known)) words) same ∙ yes)));
 }
 
-pub IsProgram-names : (app : App) (names : Names) → app ≡ program_of names → texts names.now ≡ shown → IsProgram app
+pub IsProgram-names : (app : App) (names : TextRefs) → app ≡ program_of names → texts names.now ≡ shown → IsProgram app
 IsProgram-names app names is same = subst IsProgram (sym is) (program_of-IsProgram names same)
 
 -- what a parse by the program's command met

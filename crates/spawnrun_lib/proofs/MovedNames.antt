@@ -33,12 +33,12 @@ use Rattle.clap.specs.declared.builder.value_parser.ValueParser.{ValueParser}
 use Rattle.clap.specs.declared.builder.value_parser.ValueParser.TheVariants as vp
 use Rattle.clap.specs.declared.error.ErrorKind.TheVariants.{InvalidValue}
 use Rattle.clap.proofs.WalkLemmas.{find-map, list_any-map}
-use Rattle.spawnrun_lib.specs.CommandLine.{placed}
+use Rattle.spawnrun_lib.specs.CommandLine.{placed_texts}
 
 -- ---- arguments whose names have moved
 
 abbrev pub moved : ValueParser → ValueParser
-moved (vp.Names names) = vp.Names (placed (texts names.now))
+moved (vp.Names names) = vp.Names (placed_texts (texts names.now))
 moved parser = parser
 
 abbrev pub moved_rule : Rule → Rule
@@ -69,7 +69,7 @@ reading-moved (Some (vp.Names names)) = refl
 reading-moved (Some (vp.Values values)) = refl
 
 pub any_name-moved : (ignore_case : Bool) (names : List (Bor Text)) (text : Text)
-    → list_any (λ name. same_text ignore_case name.now text) (placed (texts names)).now ≡ list_any (λ name. same_text ignore_case name.now text) names
+    → list_any (λ name. same_text ignore_case name.now text) (placed_texts (texts names)).now ≡ list_any (λ name. same_text ignore_case name.now text) names
 any_name-moved ignore_case [] text = refl
 any_name-moved ignore_case (name ∷ names) text = ap (λ rest. same_text ignore_case name.now text || rest) (any_name-moved ignore_case names text)
 

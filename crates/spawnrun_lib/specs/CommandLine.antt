@@ -79,22 +79,22 @@ program_of names =
     with_subcommand (with_subcommand top_command replay_command.top) (run_command names).top
 
 -- references to these texts, all to one place: clap reads the texts alone
-abbrev pub placed : List Text → Bor (List (Bor Text))
-placed texts = record {
+abbrev pub placed_texts : List Text → Bor (List (Bor Text))
+placed_texts texts = record {
   ref_ptr = (0, 0);
   now = map (λ text. record { ref_ptr = (0, 0); now = text }) texts;
 }
 
 abbrev pub program : App
-program = program_of (placed shown)
+program = program_of (placed_texts shown)
 
 -- what clap's matches have for each option
 abbrev pub given : ArgMatches → List Row
 given matches = rows_of (found_of matches)
 
 -- the number that an option has in clap's matches
-abbrev pub number_of : Text → List Row → Option ℕ
-number_of option rows =
+abbrev pub option_number : Text → List Row → Option ℕ
+option_number option rows =
     option_map (λ text. digits_value 10 (without_leading_plus text)) (one_of option rows)
 
 -- the option's value is a whole number from 1 to `most`, which may have a sign
@@ -115,12 +115,12 @@ AreWorkers workers = (1 ≤ workers) × (workers ≤ 64)
 abbrev pub AsksFor : List Text → Task → Type 0
 AsksFor words (Replay limits) = (rows : List Row)
     × (subcommand_of program words ≡ Some (codes "replay", rows))
-    × (number_of (codes "slots") rows ≡ Some limits.slots)
-    × (number_of (codes "generations") rows ≡ Some limits.generations)
+    × (option_number (codes "slots") rows ≡ Some limits.slots)
+    × (option_number (codes "generations") rows ≡ Some limits.generations)
     × AreLimits limits
 AsksFor words (Run workers show) = (rows : List Row)
     × (subcommand_of program words ≡ Some (codes "run", rows))
-    × (number_of (codes "workers") rows ≡ Some workers) × AreWorkers workers
+    × (option_number (codes "workers") rows ≡ Some workers) × AreWorkers workers
     × (first_of (codes "show") rows ≡ Some (show_text show))
 
 -- the fault that an error of clap's is

@@ -7,13 +7,13 @@ use Rattle.spawnrun_lib.specs.declared.task.Task.TheVariants.{Replay, Run}
 use Rattle.spawnrun_lib.specs.Advice.{AdvisesOnSchedule, AdvisesOnScript}
 use Rattle.spawnrun_lib.specs.CommandLine.{AsksFor}
 use Rattle.spawnrun_lib.specs.Device.{Writes}
-use Rattle.spawnrun_lib.specs.Replay.{HasWritten}
-use Rattle.spawnrun_lib.specs.Running.{HasGiven}
+use Rattle.spawnrun_lib.specs.Replay.{HasReplayed}
+use Rattle.spawnrun_lib.specs.Running.{HasRunScript}
 
 -- a task that ends so has written what it has to, if the devices tell
 abbrev pub HasDone : Task → Status → Option (List ℕ) → Option (List ℕ) → Option (List ℕ) → Type 0
-HasDone (Replay limits) status = HasWritten limits status
-HasDone (Run workers show) status = HasGiven workers show status
+HasDone (Replay limits) status = HasReplayed limits status
+HasDone (Run workers show) status = HasRunScript workers show status
 
 -- a task that refuses its input has told the error stream why, if the devices tell
 abbrev pub HasAdvised : Task → Option (List ℕ) → Option (List ℕ) → Option (List ℕ) → Type 0

@@ -6,7 +6,7 @@ use Rattle.std.specs.List.{flat_map}
 use Rattle.ent_alloc.specs.Limits.{Limits}
 use Rattle.ent_replay.specs.OutcomeText.{line_of}
 use Rattle.ent_replay.specs.Schedule.{outcomes_of, starting}
-use Rattle.ent_replay.specs.ScheduleText.{cause_text, schedule_of}
+use Rattle.ent_replay.specs.ScheduleText.{line_cause_text, schedule_of}
 use Rattle.ent_replay.specs.declared.Cause.{Cause}
 use Rattle.ent_replay.specs.declared.Event.{Event}
 use Rattle.ent_replay.specs.declared.Outcome.{Outcome}
@@ -31,21 +31,21 @@ size_line = codes "refused size\n"
 -- the line on a text whose line of this number names no event
 abbrev pub refused_line : ℕ → Cause → List ℕ
 refused_line line cause =
-    codes "refused line " ++ decimal line ++ codes " " ++ cause_text cause ++ codes "\n"
+    codes "refused line " ++ decimal line ++ codes " " ++ line_cause_text cause ++ codes "\n"
 
 -- how the run of an input ends, and what it writes
-pub data Reports (limits : Limits) (input : List ℕ) : Status → List ℕ → Type 0 where
+pub data ReplayEnds (limits : Limits) (input : List ℕ) : Status → List ℕ → Type 0 where
   -- the outcomes of the schedule that the input spells
   runs : (events : List Event) → length input ≤ input_limit → schedule_of input ≡ Ok events
-      → Reports limits input Done (outcome_lines (outcomes_of (starting limits) events))
+      → ReplayEnds limits input Done (outcome_lines (outcomes_of (starting limits) events))
   -- the input is too long
-  is_too_long : input_limit < length input → Reports limits input Refused size_line
+  is_too_long : input_limit < length input → ReplayEnds limits input Refused size_line
   -- the input spells no schedule
   spells_none : (line : ℕ) (cause : Cause) → length input ≤ input_limit
       → schedule_of input ≡ Err (Line line cause)
-      → Reports limits input Refused (refused_line line cause)
+      → ReplayEnds limits input Refused (refused_line line cause)
 
 -- a run that ends so has written what it reports of the input, if the devices tell
-abbrev pub HasWritten : Limits → Status
+abbrev pub HasReplayed : Limits → Status
     → Option (List ℕ) → Option (List ℕ) → Option (List ℕ) → Type 0
-HasWritten limits status = Writes (λ input text. Reports limits input status text)
+HasReplayed limits status = Writes (λ input text. ReplayEnds limits input status text)

@@ -5,7 +5,8 @@ use Rattle.ent_script.specs.Refusal.{refusal_line}
 use Rattle.ent_script.specs.Script.{Script}
 use Rattle.ent_script.specs.declared.ReadFault.{ReadFault}
 use Rattle.ent_script_report.specs.declared.Show.{Show}
-use Rattle.ent_script_run.specs.Given.{AreGivenOnce, NoneWrapped}
+use Rattle.ent_alloc.specs.History.{AreGivenOnce}
+use Rattle.ent_script_run.specs.Given.{handles_in_run, NeverWraps}
 use Rattle.ent_script_run.specs.Report.{Execution, IsReport, IsReportOf}
 use Rattle.ent_world.specs.World.{first_world}
 use Rattle.spawnrun_lib.specs.Device.{Writes}
@@ -14,7 +15,7 @@ use Rattle.spawnrun_lib.specs.declared.status.Status.{Status}
 use Rattle.spawnrun_lib.specs.declared.status.Status.TheVariants.{Done, Refused}
 
 -- a report that the run of a script may write
-pub record IsOutput (script : Script) (workers : ℕ) (show : Show) (text : List ℕ) : Type 0 where
+pub record IsScriptReport (script : Script) (workers : ℕ) (show : Show) (text : List ℕ) : Type 0 where
   -- the frames may have gone so
   pub report : IsReport script workers show text
   -- one worker writes no other
@@ -22,21 +23,21 @@ pub record IsOutput (script : Script) (workers : ℕ) (show : Show) (text : List
   -- no handle was given twice, unless the generations of a slot began anew
   pub given_once : (executions : List Execution)
       → IsReportOf script workers show executions text
-      → NoneWrapped (first_world script.limits) executions → AreGivenOnce executions
+      → NeverWraps (first_world script.limits) executions → AreGivenOnce (handles_in_run executions)
 
 -- how the run of an input ends, and what it writes
-pub data Gives (workers : ℕ) (show : Show) (input : List ℕ) : Status → List ℕ → Type 0 where
+pub data RunEnds (workers : ℕ) (show : Show) (input : List ℕ) : Status → List ℕ → Type 0 where
   -- a report of the script that the input means
   runs : (script : Script) (text : List ℕ) → length input ≤ input_limit
-      → script_of_text input ≡ Ok script → IsOutput script workers show text
-      → Gives workers show input Done text
+      → script_of_text input ≡ Ok script → IsScriptReport script workers show text
+      → RunEnds workers show input Done text
   -- the input is too long
-  is_too_long : input_limit < length input → Gives workers show input Refused size_line
+  is_too_long : input_limit < length input → RunEnds workers show input Refused size_line
   -- the input means no script
   means_none : (fault : ReadFault) → length input ≤ input_limit
-      → script_of_text input ≡ Err fault → Gives workers show input Refused (refusal_line fault)
+      → script_of_text input ≡ Err fault → RunEnds workers show input Refused (refusal_line fault)
 
 -- a run that ends so has written what it gives for the input, if the devices tell
-abbrev pub HasGiven : ℕ → Show → Status
+abbrev pub HasRunScript : ℕ → Show → Status
     → Option (List ℕ) → Option (List ℕ) → Option (List ℕ) → Type 0
-HasGiven workers show status = Writes (λ input text. Gives workers show input status text)
+HasRunScript workers show status = Writes (λ input text. RunEnds workers show input status text)

@@ -3,7 +3,7 @@ ghost use Rattle.std.specs.Prelude.{◌≡◌, ◌≢◌, ◌+◌, min, length, 
 ghost use Rattle.ent_replay.specs.Schedule.{outcomes_of, starting};
 ghost use Rattle.spawnrun_lib.specs.Advice.{AdvisesOnSchedule};
 ghost use Rattle.spawnrun_lib.specs.Device.{Takes, TakesAtMost, OneFails, Writes};
-ghost use Rattle.spawnrun_lib.specs.Replay.{HasWritten, input_limit, outcome_lines, refused_line};
+ghost use Rattle.spawnrun_lib.specs.Replay.{HasReplayed, input_limit, outcome_lines, refused_line};
 
 use crate::device::{Sink, Source};
 use crate::input::{INPUT_LIMIT, InputFault, read_all};
@@ -36,9 +36,9 @@ pub fn replay<I: Source, O: Sink, E: Sink>(
     errors: &mut E,
     limits: Limits,
 ) -> Status
-    ensures done { result ≡ Status.Done → HasWritten limits Status.Done
+    ensures done { result ≡ Status.Done → HasReplayed limits Status.Done
         (I.remaining input.old) (O.written output.old) (O.written output.new) }
-    ensures refused { result ≡ Status.Refused → HasWritten limits Status.Refused
+    ensures refused { result ≡ Status.Refused → HasReplayed limits Status.Refused
         (I.remaining input.old) (O.written output.old) (O.written output.new) }
     ensures memory { result ≡ Status.Memory → output.new ≡ output.old }
 

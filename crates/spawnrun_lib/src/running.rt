@@ -4,7 +4,7 @@ ghost use Rattle.ent_script.specs.Refusal.{refusal_line};
 ghost use Rattle.spawnrun_lib.specs.Advice.{AdvisesOnScript};
 ghost use Rattle.spawnrun_lib.specs.Device.{Takes, TakesAtMost, OneFails, Writes};
 ghost use Rattle.spawnrun_lib.specs.Replay.{input_limit};
-ghost use Rattle.spawnrun_lib.specs.Running.{HasGiven};
+ghost use Rattle.spawnrun_lib.specs.Running.{HasRunScript};
 
 use crate::device::{Sink, Source};
 use crate::input::{INPUT_LIMIT, InputFault, read_all};
@@ -44,9 +44,9 @@ where
     requires some { 0 < workers }
     requires few { workers ≤ 64 }
 
-    ensures done { result ≡ Status.Done → HasGiven workers show Status.Done
+    ensures done { result ≡ Status.Done → HasRunScript workers show Status.Done
         (I.remaining input.old) (O.written output.old) (O.written output.new) }
-    ensures refused { result ≡ Status.Refused → HasGiven workers show Status.Refused
+    ensures refused { result ≡ Status.Refused → HasRunScript workers show Status.Refused
         (I.remaining input.old) (O.written output.old) (O.written output.new) }
     ensures memory { result ≡ Status.Memory → output.new ≡ output.old }
 

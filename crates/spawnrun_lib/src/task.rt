@@ -4,7 +4,7 @@ ghost use Rattle.clap.specs.Words.{app_of, fault_of, first_of, rule_of, takes};
 ghost use Rattle.clap.specs.declared.builder.Command.TheViews.{out-Command as fields_of};
 ghost use Rattle.ent_alloc.specs.Limits.{AreLimits};
 ghost use Rattle.spawnrun_lib.specs.CommandLine.{AreWorkers, AsksFor, HasNumber, HasShow, IsFaultIn};
-ghost use Rattle.spawnrun_lib.specs.CommandLine.{given, name_option, number_of, number_option};
+ghost use Rattle.spawnrun_lib.specs.CommandLine.{given, name_option, option_number, number_option};
 ghost use Rattle.spawnrun_lib.specs.CommandLine.{program, program_of, replay_command, run_command};
 ghost use Rattle.spawnrun_lib.specs.CommandLine.{show_text, top_command};
 
@@ -191,8 +191,8 @@ fn program<'a>(alloc: Global, shown: &'a [&'a str]) -> Result<Command<'a>, Alloc
 fn limits_of(options: &ArgMatches<'_>) -> Limits
     requires slots { HasNumber (codes "slots") 4294967295 (given options.now) }
     requires generations { HasNumber (codes "generations") 2147483647 (given options.now) }
-    ensures slots { number_of (codes "slots") (given options.now) ≡ Some result.slots }
-    ensures generations { number_of (codes "generations") (given options.now)
+    ensures slots { option_number (codes "slots") (given options.now) ≡ Some result.slots }
+    ensures generations { option_number (codes "generations") (given options.now)
         ≡ Some result.generations }
     ensures within { AreLimits result }
 {
@@ -203,7 +203,7 @@ fn limits_of(options: &ArgMatches<'_>) -> Limits
 
 fn workers_of(options: &ArgMatches<'_>) -> usize
     requires { HasNumber (codes "workers") 64 (given options.now) }
-    ensures number { number_of (codes "workers") (given options.now) ≡ Some result }
+    ensures number { option_number (codes "workers") (given options.now) ≡ Some result }
     ensures within { AreWorkers result }
 {
     options.get_one::<usize>("workers").unwrap()

@@ -1,6 +1,6 @@
 use Rattle.std.proofs.Common.{◌≡◌, ◌∙◌, ◌+◌, ap, sym, length, arith}
 use Rattle.std.specs.List.{flat_map}
-use Rattle.ent_runner.specs.Placing.{placed}
+use Rattle.ent_runner.specs.Placing.{queues_placed}
 use Rattle.ent_runner.specs.declared.worker.Worker.{Worker}
 use Rattle.ent_runner.proofs.Disbanding.{disbanded_on, inside_first, moved_on}
 use Rattle.ent_runner.proofs.crew.disband.Goals as goal
@@ -20,7 +20,7 @@ loop-worker-preserved c =
       all = next.all;
       reservers = moved_on (λ (w : Worker). w.reserver) c.loop-worker.yielded c.in-Some.worker c.loop-worker.reservers.items c.push_reserved.new.self.items i.reservers p.items;
       claimers = moved_on (λ (w : Worker). w.claimer) c.loop-worker.yielded c.in-Some.worker c.loop-worker.claimers.items c.push_reserved-in-loop-worker.new.self.items i.claimers q.items;
-      places = next.places_are _ (ap (λ ws. placed (flat_map (λ (w : Worker). w.issued.items) ws) c.loop-worker.places) (sym front) ∙ i.places);
+      places = next.places_are _ (ap (λ ws. queues_placed (flat_map (λ (w : Worker). w.issued.items) ws) c.loop-worker.places) (sym front) ∙ i.places);
       inside = next.inside;
       reservers_fit = omega (arith, less, p.len, p.capacity, i.reservers_fit);
       claimers_fit = omega (arith, less, q.len, q.capacity, i.claimers_fit);

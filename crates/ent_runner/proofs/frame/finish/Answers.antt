@@ -1,11 +1,11 @@
 use Rattle.std.proofs.Common.{◌≡◌, ◌∙◌, ap, sym, subst, List, map, All}
-use Rattle.ent_runner.specs.Placing.{placed}
+use Rattle.ent_runner.specs.Placing.{queues_placed}
 use Rattle.std.specs.Prelude.{IsSome, flat_map}
 use Rattle.ent_shared.specs.Phase.{IsOf, Reserver, records_of}
 use Rattle.ent_shared.specs.Order.{history_of, reservations_of, Respects}
 use Rattle.ent_shared.specs.declared.record.Record.{Record}
 use Rattle.ent_alloc.specs.History.{IsLegal}
-use Rattle.ent_claims.specs.Claims.{IsOf as IsClaimerOf}
+use Rattle.ent_claims.specs.Claims.{IsClaimerOf as IsClaimerOf}
 use Rattle.ent_runner.specs.declared.worker.Worker.{Worker}
 use Rattle.ent_runner.specs.Worker.{all_records}
 use Rattle.ent_runner.proofs.Conducting.{reservers_own, claimers_own, once_closed, first_closed, all_full, places_back, records_are, closed_by}
@@ -25,7 +25,7 @@ pub collect-requires-clause-full : goal.collect-requires-clause-full
 collect-requires-clause-full c =
     let d = c.disband.ensures in
     let start = c.args.returned.places in
-    subst (All IsSome) (sym (places_back c.args.claims.numbers start.len (flat_map (λ (w : Worker). w.issued.items) c.args.workers.items) start.items c.disband.new.places c.requires.room.places_empty start.ok.0 (d.places ∙ ap (placed (flat_map (λ (w : Worker). w.issued.items) c.args.workers.items)) c.deref_mut.ensures.value)))
+    subst (All IsSome) (sym (places_back c.args.claims.numbers start.len (flat_map (λ (w : Worker). w.issued.items) c.args.workers.items) start.items c.disband.new.places c.requires.room.places_empty start.ok.0 (d.places ∙ ap (queues_placed (flat_map (λ (w : Worker). w.issued.items) c.args.workers.items)) c.deref_mut.ensures.value)))
     (all_full c.args.claims c.args.workers.items (once_closed c.args.opened.shared c.args.claims c.args.workers.items c.requires.each c.deref.result.now c.deref.ensures.value (c.some_stopped-stopped.ensures c.if-stopped.false) c.disband.new.claimers.items c.disband.ensures.claimers c.close.ensures.once))
 
 pub returns-then-stopped-clause-world : goal.returns-then-stopped-clause-world
@@ -56,7 +56,7 @@ returns-clause-once c = once_closed c.args.opened.shared c.args.claims c.args.wo
 pub returns-clause-queues : goal.returns-clause-queues
 returns-clause-queues c =
     let start = c.args.returned.places in
-    c.collect.ensures ∙ places_back c.args.claims.numbers start.len (flat_map (λ (w : Worker). w.issued.items) c.args.workers.items) start.items c.disband.new.places c.requires.room.places_empty start.ok.0 (c.disband.ensures.places ∙ ap (placed (flat_map (λ (w : Worker). w.issued.items) c.args.workers.items)) c.deref_mut.ensures.value)
+    c.collect.ensures ∙ places_back c.args.claims.numbers start.len (flat_map (λ (w : Worker). w.issued.items) c.args.workers.items) start.items c.disband.new.places c.requires.room.places_empty start.ok.0 (c.disband.ensures.places ∙ ap (queues_placed (flat_map (λ (w : Worker). w.issued.items) c.args.workers.items)) c.deref_mut.ensures.value)
 
 pub returns-then-stopped-clause-first : goal.returns-then-stopped-clause-first
 returns-then-stopped-clause-first c = first_closed c.args.opened.shared c.args.claims c.args.workers.items c.requires.each c.disband.new.claimers.items c.disband.ensures.claimers c.close.ensures.first

@@ -4,7 +4,7 @@ use Rattle.serde_json.specs.View.{view}
 use Rattle.ent_script.specs.declared.cause.ScriptCause.TheVariants as script_cause
 use Rattle.ent_script.specs.declared.read_fault.ReadFault.{ReadFault}
 use Rattle.ent_script.specs.declared.read_fault.ReadFault.TheVariants as fault
-use Rattle.ent_script.specs.Names.{name_of, with_part}
+use Rattle.ent_script.specs.Names.{as_name, with_part}
 use Rattle.ent_script.specs.Reading.{numbered, component_at, new_name, in_script, ReadsAs}
 use Rattle.ent_script.proofs.NamesLaws.{new_name_is, with_new}
 use Rattle.ent_script.proofs.Numbering.{goes_on, stops, onto, from, names_on}
@@ -29,8 +29,8 @@ loop-value-preserved c =
       few = omega (arith, longer, length-append names (t ∷ []), c.loop-value.invariant.few);
       names = c.in_ok-add.ensures.ok
           ∙ ap (λ (o : Option (List ℕ)). with_part names o) (sym facts.0)
-          ∙ ap (λ (ns : List (List ℕ)). with_part ns (name_of (view v))) c.loop-value.invariant.names
-          ∙ sym (names_on name_of vs i v c.loop-value-test.true c.value-item.is);
+          ∙ ap (λ (ns : List (List ℕ)). with_part ns (as_name (view v))) c.loop-value.invariant.names
+          ∙ sym (names_on as_name vs i v c.loop-value-test.true c.value-item.is);
       rest = ap (λ (done : List (List ℕ)). onto done (numbered f (i + 1) (from vs (i + 1)))) added
           ∙ goes_on f vs i v names t (numbered f 0 (map view vs)) c.loop-value-test.true c.value-item.is means c.loop-value.invariant.rest;
     }

@@ -1,6 +1,6 @@
 use Rattle.std.proofs.Common.{◌≡◌, ◌≤◌, length, map}
 use Rattle.serde_json.specs.View.{view}
-use Rattle.ent_script.specs.Names.{name_of, names_in}
+use Rattle.ent_script.specs.Names.{as_name, names_in}
 use Rattle.ent_script.specs.Reading.{numbered, component_at}
 use Rattle.ent_script.proofs.Numbering.{onto, from, until}
 use Rattle.ent_script.proofs.reading.different_names.Given as goal
@@ -8,7 +8,7 @@ use Rattle.ent_script.proofs.reading.different_names.Given as goal
 abbrev pub invariant-loop-value : goal.invariant-loop-value
 invariant-loop-value l = record {
   few : length l.names ≤ l.value-index;
-  names : l.names ≡ names_in name_of (until l.values l.value-index);
+  names : l.names ≡ names_in as_name (until l.values l.value-index);
   rest : onto l.names (numbered (component_at (map view l.values)) l.value-index (from l.values l.value-index))
       ≡ numbered (component_at (map view l.values)) 0 (map view l.values);
 }

@@ -1,6 +1,6 @@
 use Rattle.std.proofs.Common.{◌≡◌, ◌≤◌, ◌<◌, ℕ, ℤ, length, get_or}
 use Rattle.ent_handle.specs.declared.component.ComponentId.{ComponentId}
-use Rattle.ent_storage.specs.SparseSet.{HasRoom}
+use Rattle.ent_storage.specs.SparseSet.{HasRoomAt}
 use Rattle.ent_storage.specs.Living.{column_at}
 use Rattle.ent_storage.proofs.columns.reserve_all.Given as goal
 
@@ -8,6 +8,6 @@ use Rattle.ent_storage.proofs.columns.reserve_all.Given as goal
 abbrev pub invariant-loop-item : goal.invariant-loop-item
 invariant-loop-item l = record {
   values : (number : ℕ) → (column_at l.columns.items number).values ≡ (column_at l.initial.columns.items number).values;
-  room : (k : ℕ) (d : ComponentId × ℤ) → k < l.item-index → HasRoom (column_at l.columns.items (get_or l.items k d).0.0) l.place;
+  room : (k : ℕ) (d : ComponentId × ℤ) → k < l.item-index → HasRoomAt (column_at l.columns.items (get_or l.items k d).0.0) l.place;
   numbered : length l.columns.items ≤ 256;
 }

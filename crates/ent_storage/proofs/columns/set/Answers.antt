@@ -2,7 +2,7 @@ use Rattle.std.proofs.Common.{ℤ, ap, sym, subst, ◌∙◌, rules, w64, SFits,
 use Rattle.std.proofs.lemmas.List.{get_or_default}
 use Rattle.std.proofs.lemmas.Int.{to_z-of_z}
 use Rattle.std.specs.FinMap as map
-use Rattle.ent_storage.specs.SparseSet.{Column, Values, HasRoom, no_column}
+use Rattle.ent_storage.specs.SparseSet.{Column, Values, HasRoomAt, no_column}
 use Rattle.ent_storage.specs.Living.{column_at}
 use Rattle.ent_storage.proofs.ColumnsLemmas.{room_inside, column_set}
 use Rattle.ent_storage.proofs.columns.set.Goals as goal
@@ -14,7 +14,7 @@ pub set-requires : goal.set-requires
 set-requires c =
     let inside = room_inside c.args.columns.now c.args.item.0.0 c.args.place c.requires in
     let was = get_or_default c.args.columns.now c.args.item.0.0 c.index-columns-item.result no_column inside in
-    subst (λ (m : Column). HasRoom m c.args.place) (sym was) c.requires
+    subst (λ (m : Column). HasRoomAt m c.args.place) (sym was) c.requires
 
 pub returns-clause-set : goal.returns-clause-set
 returns-clause-set c =

@@ -2,7 +2,7 @@ use Rattle.std.proofs.Common.{◌≡◌, ◌≢◌, ◌<◌, ℕ, length, drop, 
 use Rattle.ent_handle.specs.declared.component.ComponentId.{ComponentId}
 use Rattle.std.proofs.Common.{ℤ}
 use Rattle.ent_storage.specs.Components.{with_items}
-use Rattle.ent_storage.specs.SparseSet.{HasRoom}
+use Rattle.ent_storage.specs.SparseSet.{HasRoomAt}
 use Rattle.ent_storage.specs.Living.{column_at, value_at, components_at}
 use Rattle.ent_storage.proofs.columns.set_all.Given as goal
 
@@ -11,5 +11,5 @@ abbrev pub invariant-loop-item : goal.invariant-loop-item
 invariant-loop-item l = record {
   here : with_items (components_at l.columns l.place) (drop l.item-index l.items) ≡ with_items (components_at l.initial.columns l.place) l.items;
   others : (other : ℕ) (id : ComponentId) → other ≢ l.place → value_at l.columns other id ≡ value_at l.initial.columns other id;
-  room : (k : ℕ) (d : ComponentId × ℤ) → k < length l.items → HasRoom (column_at l.columns (get_or l.items k d).0.0) l.place;
+  room : (k : ℕ) (d : ComponentId × ℤ) → k < length l.items → HasRoomAt (column_at l.columns (get_or l.items k d).0.0) l.place;
 }

@@ -5,7 +5,7 @@ use Rattle.spawnrun_lib.specs.declared.status.Status.TheVariants.{Done, Refused}
 use Rattle.spawnrun_lib.specs.declared.input.InputFault.{InputFault}
 use Rattle.spawnrun_lib.specs.Advice.{AdvisesOnScript, script_long, script_none}
 use Rattle.spawnrun_lib.specs.Replay.{input_limit, size_line}
-use Rattle.spawnrun_lib.specs.Running.{Gives, IsOutput, runs, is_too_long, means_none}
+use Rattle.spawnrun_lib.specs.Running.{RunEnds, IsScriptReport, runs, is_too_long, means_none}
 use Rattle.spawnrun_lib.proofs.ReplayLemmas.{advised, had_memory, is_longer, reported, told_is, written}
 use Rattle.spawnrun_lib.proofs.RunningLemmas.{IsRefusal, fault_read, made, refusal}
 use Rattle.spawnrun_lib.proofs.running.run.Goals as goal
@@ -16,7 +16,7 @@ returns-in-Ok-read_script-clause-done g c =
     let script = c.in-Ok-read_script.script in
     let fits : length c.in-Ok.bytes.items ≤ input_limit = omega (arith, c.in-Ok.bytes.ok.0, c.in-Ok.ensures.within) in
     let means : script_of_text c.in-Ok.bytes.items ≡ Ok script = ap script_of_text (sym c.deref.ensures.value) ∙ c.in-Ok-read_script.ensures.exact in
-    written _ (λ bytes text. Gives c.args.workers c.args.show bytes Done text) (IsOutput script c.args.workers c.args.show) input Done c.write.result c.run_script-report.result
+    written _ (λ bytes text. RunEnds c.args.workers c.args.show bytes Done text) (IsScriptReport script c.args.workers c.args.show) input Done c.write.result c.run_script-report.result
     _ _ (λ e. cc)
     (λ bytes lines told output. let same = told_is input c.in-Ok.bytes.items bytes c.in-Ok.ensures.whole told in
     runs script lines (subst (λ known. length known ≤ input_limit) same fits) (subst (λ known. script_of_text known ≡ Ok script) same means) output)
@@ -30,10 +30,10 @@ returns-in-Ok-clause-refused g c =
     let fits : length c.in-Ok.bytes.items ≤ input_limit = omega (arith, c.in-Ok.bytes.ok.0, c.in-Ok.ensures.within) in
     let read : ReadsAs (Err fault) (script_of_text c.in-Ok.bytes.items) =
     subst (λ known. ReadsAs (Err fault) (script_of_text known)) c.deref.ensures.value c.in-Err.ensures.exact in
-    written _ (λ bytes text. Gives c.args.workers c.args.show bytes Refused text) (IsRefusal fault) input Refused c.refuse.result c.refusal_line-line.result
+    written _ (λ bytes text. RunEnds c.args.workers c.args.show bytes Refused text) (IsRefusal fault) input Refused c.refuse.result c.refusal_line-line.result
     _ _ (λ e. cc)
     (λ bytes lines told line. let same = told_is input c.in-Ok.bytes.items bytes c.in-Ok.ensures.whole told in
-    subst (Gives c.args.workers c.args.show bytes Refused) (sym line.1)
+    subst (RunEnds c.args.workers c.args.show bytes Refused) (sym line.1)
     (means_none fault (subst (λ known. length known ≤ input_limit) same fits)
     (subst (λ known. script_of_text known ≡ Err fault) same (fault_read fault _ line.0 read))))
     (refusal fault c.refusal_line-line.result c.refusal_line-line.ensures.refused c.refusal_line-line.ensures.line)
@@ -55,7 +55,7 @@ returns-in-Ok-clause-advised g c = λ refused same.
 
 pub returns-in-Err-TooLong-clause-refused : goal.returns-in-Err-TooLong-clause-refused
 returns-in-Err-TooLong-clause-refused g c =
-    reported _ (λ bytes text. Gives c.args.workers c.args.show bytes Refused text) (g.I.Source.remaining c.args.input.now) Refused c.refuse-in-Err-TooLong.result c.size_line.result
+    reported _ (λ bytes text. RunEnds c.args.workers c.args.show bytes Refused text) (g.I.Source.remaining c.args.input.now) Refused c.refuse-in-Err-TooLong.result c.size_line.result
     size_line _ _ (λ e. cc)
     (λ bytes told. is_too_long (is_longer _ input_limit bytes (c.in-Err-TooLong.ensures.too_long (ap (λ (fault : InputFault). Err fault) c.in-Err-TooLong.field-0-is)) told))
     c.size_line.ensures c.refuse-in-Err-TooLong.ensures.written c.refuse-in-Err-TooLong.ensures.memory

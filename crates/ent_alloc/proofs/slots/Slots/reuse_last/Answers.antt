@@ -5,7 +5,7 @@ use Rattle.std.proofs.lemmas.List.{get_or_read}
 use Rattle.ent_alloc.specs.declared.slot_record.SlotRecord.{SlotRecord}
 use Rattle.ent_alloc.specs.declared.slot_record.Occupancy.TheVariants.{Alive}
 use Rattle.ent_alloc.specs.Roster.{Roster}
-use Rattle.ent_alloc.specs.Slots.{roster_of, record_at, handle_at, blank}
+use Rattle.ent_alloc.specs.Slots.{roster_of, record_at, handle_at, no_slot}
 use Rattle.ent_alloc.proofs.Linked.{last_made, last_handle, reuse_last_keeps_links}
 use Rattle.ent_alloc.proofs.Linked.{roster_of-reuse_last}
 use Rattle.ent_alloc.proofs.slots.Slots.reuse_last.Goals as goal
@@ -17,7 +17,7 @@ invariant_of-self-2 c =
     let rest = c.pop.new.self.items in
     let last = c.in_ok-index.ensures.items in
     let made = last_made e.limits e.records.items e.pending.items rest e.live index c.self.invariant last in
-    let read : c.index_mut-record.result.now ≡ record_at e.records.items index = get_or_read e.records.items index c.index_mut-record.result.now made c.index_mut-record.ensures.value blank in
+    let read : c.index_mut-record.result.now ≡ record_at e.records.items index = get_or_read e.records.items index c.index_mut-record.result.now made c.index_mut-record.ensures.value no_slot in
     rw (ap (λ (r : SlotRecord). r.generation) read) (reuse_last_keeps_links e.limits e.records.items e.pending.items rest e.live index c.self.invariant last)
 
 pub returns-clause-last : goal.returns-clause-last
@@ -27,7 +27,7 @@ returns-clause-last c =
     let rest = c.pop.new.self.items in
     let last = c.in_ok-index.ensures.items in
     let made = last_made e.limits e.records.items e.pending.items rest e.live index c.self.invariant last in
-    let read : c.index_mut-record.result.now ≡ record_at e.records.items index = get_or_read e.records.items index c.index_mut-record.result.now made c.index_mut-record.ensures.value blank in
+    let read : c.index_mut-record.result.now ≡ record_at e.records.items index = get_or_read e.records.items index c.index_mut-record.result.now made c.index_mut-record.ensures.value no_slot in
     sym (ap (λ (r : Roster). slice_get r.pending (length r.pending - 1)) c.self.view_is)
     ∙ last_handle e.limits e.records.items e.pending.items rest e.live index c.self.invariant last
     ∙ (λ i. Some (record { index = index; generation = (sym read i).generation }))
@@ -40,7 +40,7 @@ returns-clause-some c =
     let rest = c.pop.new.self.items in
     let last = c.in_ok-index.ensures.items in
     let made = last_made e.limits e.records.items e.pending.items rest e.live index c.self.invariant last in
-    let read : c.index_mut-record.result.now ≡ record_at e.records.items index = get_or_read e.records.items index c.index_mut-record.result.now made c.index_mut-record.ensures.value blank in
+    let read : c.index_mut-record.result.now ≡ record_at e.records.items index = get_or_read e.records.items index c.index_mut-record.result.now made c.index_mut-record.ensures.value no_slot in
     let h : c.from_parts.result ≡ handle_at e.records.items index = c.from_parts.ensures ∙ (λ i. record { index = index; generation = (read i).generation }) in
     (λ i. roster_of e.limits (set e.records.items index (record { generation = (read i).generation; occupancy = Alive })) rest)
     ∙ roster_of-reuse_last e.limits e.records.items e.pending.items rest e.live index c.self.invariant last

@@ -1,12 +1,12 @@
 use Rattle.std.proofs.Common.{◌≡◌, ℕ, ◌<◌, ap, sym, subst, ◌∙◌, List}
-use Rattle.ent_claims.specs.declared.record.Record.{Record}
+use Rattle.ent_claims.specs.declared.record.ClaimRecord.{ClaimRecord}
 use Rattle.ent_claims.specs.declared.rule.Opening.{Opening}
-use Rattle.ent_claims.specs.Rule.{IsClosed}
+use Rattle.ent_claims.specs.Rule.{AreClaimsClosed}
 use Rattle.ent_claims.specs.Claims.{Claims}
 use Rattle.ent_claims.proofs.Closing.{records_of, items_all, first, apart, claimed, once}
 use Rattle.ent_claims.proofs.claims.Claims.close.Goals as goal
 
-closed : (c : goal.After-close) → IsClosed c.args.self.numbers c.args.self.workers (records_of c.args.claimers.items)
+closed : (c : goal.After-close) → AreClaimsClosed c.args.self.numbers c.args.self.workers (records_of c.args.claimers.items)
 closed c =
     let i = c.loop-claimer.invariant in
     let ok = c.loop-claimer.claimer-iterator.rest.ok in
@@ -15,7 +15,7 @@ closed c =
     let key = c.self.invariant.key_is in
     let numbers = ap (λ (k : Opening). k.numbers) key ∙ ap (λ (s : Claims). s.numbers) c.self.view_is in
     let workers = ap (λ (s : Claims). s.workers) c.self.view_is in
-    subst (λ (p : (ℕ × ℕ) × List Record). IsClosed p.0.0 p.0.1 p.1) (λ k. ((numbers k, workers k), records k)) c.close.ensures
+    subst (λ (p : (ℕ × ℕ) × List ClaimRecord). AreClaimsClosed p.0.0 p.0.1 p.1) (λ k. ((numbers k, workers k), records k)) c.close.ensures
 
 some : (c : goal.After-close) → 0 < c.args.self.workers
 some c = subst (λ (k : ℕ). 0 < k) (ap (λ (s : Claims). s.workers) c.self.view_is) c.self.invariant.some_workers

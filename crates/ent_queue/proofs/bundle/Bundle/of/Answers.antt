@@ -4,7 +4,7 @@ use Rattle.std.proofs.lemmas.Int.{to_z-of_z}
 use Rattle.std.proofs.lemmas.List.{drop_all, drop_more}
 use Rattle.std.specs.FinMap.{put, find, is_sorted}
 use Rattle.ent_handle.specs.Component.{component_cmp}
-use Rattle.ent_queue.specs.Command.{Bundle, with_items, bundle_of}
+use Rattle.ent_queue.specs.Command.{Bundle, with_put, bundle_of}
 use Rattle.ent_queue.proofs.Putting.{last_value, more_than_four, still_rising}
 use Rattle.ent_queue.proofs.Results.{OnErr-always}
 use Rattle.ent_queue.proofs.bundle.Bundle.of.Goals as goal
@@ -23,8 +23,8 @@ loop-id-preserved c =
     record {
       rising = subst (λ (b : Bundle). T (is_sorted component_cmp b)) (sym now_is)
           (still_rising item.0 item.1 held c.loop-id.invariant.rising);
-      left = ap (λ (b : Bundle). with_items b (drop (at + 1) items)) now_is
-          ∙ ap (with_items held) (sym next)
+      left = ap (λ (b : Bundle). with_put b (drop (at + 1) items)) now_is
+          ∙ ap (with_put held) (sym next)
           ∙ c.loop-id.invariant.left;
     }
 
@@ -38,8 +38,8 @@ returns-in_err-put-clause-memory c =
     let next = drop_more items at (record { 0 = 0 }, pos 0) c.loop-id-test.true in
     let needs = c.in_err-put.ensures.memory in
     let rising = c.loop-id.invariant.rising in
-    let whole : with_items held (item ∷ others) ≡ bundle_of items =
-    ap (with_items held) (sym next) ∙ c.loop-id.invariant.left in
+    let whole : with_put held (item ∷ others) ≡ bundle_of items =
+    ap (with_put held) (sym next) ∙ c.loop-id.invariant.left in
     OnErr-always c.from_residual.result (subst (λ (b : Bundle). 4 < length b) whole
     (more_than_four held item.0 item.1 others rising needs.0 needs.1))
 
@@ -48,5 +48,5 @@ returns-clause-last c id =
     let items = c.args.items.now in
     let done = drop_all c.loop-id.id-index items (omega arith) in
     let whole : c.loop-id.bundle ≡ bundle_of items =
-    ap (with_items c.loop-id.bundle) (sym done) ∙ c.loop-id.invariant.left in
+    ap (with_put c.loop-id.bundle) (sym done) ∙ c.loop-id.invariant.left in
     ap (find component_cmp id) whole ∙ last_value id items

@@ -1,11 +1,11 @@
 use Rattle.std.proofs.Common.{◌≡◌, T, drop}
 use Rattle.std.specs.FinMap.{is_sorted}
 use Rattle.ent_handle.specs.Component.{component_cmp}
-use Rattle.ent_queue.specs.Command.{with_items, bundle_of}
+use Rattle.ent_queue.specs.Command.{with_put, bundle_of}
 use Rattle.ent_queue.proofs.bundle.Bundle.of.Given as goal
 
 abbrev pub invariant-loop-id : goal.invariant-loop-id
 invariant-loop-id l = record {
   rising : T (is_sorted component_cmp l.bundle);
-  left : with_items l.bundle (drop l.id-index l.items) ≡ bundle_of l.items;
+  left : with_put l.bundle (drop l.id-index l.items) ≡ bundle_of l.items;
 }

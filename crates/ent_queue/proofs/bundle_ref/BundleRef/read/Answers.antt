@@ -1,7 +1,7 @@
 use Rattle.std.proofs.Common.{refl, ap, map, sym, subst, arith, ◌∙◌, ◌≡◌, ◌/◌, length, drop}
 use Rattle.std.specs.Simd.{first_chunks}
 use Rattle.ent_queue.specs.Command.{IsBundle}
-use Rattle.ent_queue.specs.Unpacking.{item_in, number_2}
+use Rattle.ent_queue.specs.Unpacking.{unpacked_item, number_2}
 use Rattle.ent_queue.proofs.Chunks.{chunks_of_front}
 use Rattle.ent_queue.proofs.bundle_ref.BundleRef.read.Goals as goal
 
@@ -13,7 +13,7 @@ chunks c =
     ∙ rw (c.from.ensures, c.read_u16-count.ensures.value, c.read_u16-count.ensures.rest) refl
 
 pub invariant_of-result : goal.invariant_of-result
-invariant_of-result c = subst (λ bytes. IsBundle (map item_in bytes)) (sym (chunks c)) c.requires.is
+invariant_of-result c = subst (λ bytes. IsBundle (map unpacked_item bytes)) (sym (chunks c)) c.requires.is
 
 pub returns-clause-value : goal.returns-clause-value
-returns-clause-value c = ap (map item_in) (chunks c)
+returns-clause-value c = ap (map unpacked_item) (chunks c)

@@ -2,7 +2,7 @@ use Rattle.std.proofs.Common.{◌≡◌, ◌+◌, ◌++◌, ◌∷◌, [], ap, s
 use Rattle.std.proofs.Math.Facts.{Fits-of_lt}
 use Rattle.ent_queue.specs.Command.{Insert}
 use Rattle.ent_queue.specs.Packing.{command_bytes}
-use Rattle.ent_queue.specs.Unpacking.{ArePacked, commands_in}
+use Rattle.ent_queue.specs.Unpacking.{ArePacked, unpacked_commands}
 use Rattle.ent_queue.proofs.Pushes.{Pushed, pushed, count_le_bytes}
 use Rattle.ent_queue.proofs.queue.CommandQueue.insert.Goals as goal
 
@@ -23,4 +23,4 @@ invariant_of-self-2 c = subst (ArePacked (c.self.inside.count + 1)) (sym (writte
 
 pub returns-clause-ok : goal.returns-clause-ok
 returns-clause-ok c =
-    ap (commands_in (c.self.inside.count + 1)) (written c) ∙ (after c).commands ∙ ap (λ commands. commands ++ Insert c.args.handle c.args.items.now ∷ []) c.self.view_is
+    ap (unpacked_commands (c.self.inside.count + 1)) (written c) ∙ (after c).commands ∙ ap (λ commands. commands ++ Insert c.args.handle c.args.items.now ∷ []) c.self.view_is

@@ -2,7 +2,7 @@ use Rattle.std.proofs.Common.{◌+◌, ◌++◌, ◌∷◌, [], Err, ap, sym, su
 use Rattle.std.proofs.Math.Facts.{Fits-of_lt}
 use Rattle.ent_queue.specs.Command.{Spawn, Refused}
 use Rattle.ent_queue.specs.Packing.{command_bytes}
-use Rattle.ent_queue.specs.Unpacking.{ArePacked, commands_in}
+use Rattle.ent_queue.specs.Unpacking.{ArePacked, unpacked_commands}
 use Rattle.ent_queue.specs.Reserving.{refused_by}
 use Rattle.ent_queue.proofs.Pushes.{pushed, count_le_bytes}
 use Rattle.ent_queue.proofs.Gaining.{answers_alone, is_refusal, refused_by_fault}
@@ -29,7 +29,7 @@ pub returns-in-Ok-clause-ok : goal.returns-in-Ok-clause-ok
 returns-in-Ok-clause-ok c =
     let command = Spawn c.in-Ok.handle c.args.items.now in
     let written = c.write_with_bundle.ensures.items ∙ ap (λ bytes. bytes ++ command_bytes command) c.in_ok-reserve.ensures.items in
-    ap (commands_in (c.self.inside.count + 1)) written ∙ (pushed c.self.inside.count c.self.inside.bytes.items command c.self.invariant (c.write_with_bundle.ensures.handle, c.requires.is)).commands ∙ ap (λ commands. commands ++ command ∷ []) c.self.view_is
+    ap (unpacked_commands (c.self.inside.count + 1)) written ∙ (pushed c.self.inside.count c.self.inside.bytes.items command c.self.invariant (c.write_with_bundle.ensures.handle, c.requires.is)).commands ∙ ap (λ commands. commands ++ command ∷ []) c.self.view_is
 
 pub invariant_of-self-in-Err : goal.invariant_of-self-in-Err
 invariant_of-self-in-Err c =
@@ -45,5 +45,5 @@ returns-in-Err-clause-refused c =
     let written = c.write_refused.ensures.items ∙ ap (λ bytes. bytes ++ command_bytes command) c.in_ok-reserve.ensures.items in
     let answers = answers_alone c.args.shared.now c.args.reserver.now c.reserve-2.new.reserver (Err c.in-Err.why) c.in-Err.ensures.quota c.in-Err.ensures.gains in
     let is = is_refusal c.args.shared.now c.args.reserver.now c.reserve-2.new.reserver 1 c.in-Err.why answers c.write_refused.ensures.why in
-    ap (commands_in (c.self.inside.count + 1)) written ∙ (pushed c.self.inside.count c.self.inside.bytes.items command c.self.invariant (c.write_refused.ensures.wanted, is)).commands
+    ap (unpacked_commands (c.self.inside.count + 1)) written ∙ (pushed c.self.inside.count c.self.inside.bytes.items command c.self.invariant (c.write_refused.ensures.wanted, is)).commands
     ∙ ap (λ commands. commands ++ command ∷ []) c.self.view_is ∙ ap (λ more. c.args.self.now ++ more) (sym (ap (refused_by 1) c.from.ensures ∙ refused_by_fault 1 c.in-Err.why))

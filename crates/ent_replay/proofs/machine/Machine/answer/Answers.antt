@@ -2,7 +2,7 @@ use Rattle.std.proofs.Common.{◌≡◌, refl, sym, ap, subst, ◌∙◌, Ok, Er
 use Rattle.std.specs.FinMap as finite
 use Rattle.std.proofs.lemmas.Int.{ints}
 use Rattle.ent_alloc.specs.Sequential.{reply_from, pool_at}
-use Rattle.ent_replay.specs.Schedule.{Reply, on_answer, takes_memory, reported}
+use Rattle.ent_replay.specs.Schedule.{Reply, on_answer, event_takes_memory, reported}
 use Rattle.ent_replay.specs.Machine.{machine_state, AreConsistent}
 use Rattle.ent_replay.specs.declared.machine.Machine.TheInside.{Inside}
 use Rattle.ent_replay.specs.declared.outcome.Outcome.{Outcome}
@@ -43,8 +43,8 @@ returns-in-Err-listed c =
     let passed = c.self.invariant.spans c.args.caller call span (sym c.get.ensures ∙ c.in-Some.is) c.in-Some-span.is in
     let says = c.reply.ensures call.requested passed.low in
     refused (λ v. on_answer v c.args.caller) before c.args.self.now c.self.view_is (Err fault.Memory) refl c.args.self.now (sym c.self.view_is)
-    (ap (λ p. takes_memory before p.0) (answer-answered e.entities e.spent e.calls c.args.caller (omega arith) call (sym c.get.ensures ∙ c.in-Some.is) span c.in-Some-span.is)
-    ∙ ap (λ (r : Reply). takes_memory before (Ok (reported r))) (sym says ∙ c.in-Ok.is)
+    (ap (λ p. event_takes_memory before p.0) (answer-answered e.entities e.spent e.calls c.args.caller (omega arith) call (sym c.get.ensures ∙ c.in-Some.is) span c.in-Some-span.is)
+    ∙ ap (λ (r : Reply). event_takes_memory before (Ok (reported r))) (sym says ∙ c.in-Ok.is)
     ∙ listed-takes_memory before _ c.in-Err-listed.ensures.memory)
 
 pub invariant_of-self : goal.invariant_of-self

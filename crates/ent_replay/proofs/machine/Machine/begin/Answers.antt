@@ -1,6 +1,6 @@
 use Rattle.std.proofs.Common.{◌≡◌, ◌+◌, ◌-◌, refl, sym, ap, subst, ◌∙◌, Ok, Err, None, arith}
 use Rattle.std.specs.FinMap as finite
-use Rattle.ent_replay.specs.Schedule.{on_begin, takes_memory, spent_by, left_of}
+use Rattle.ent_replay.specs.Schedule.{on_begin, event_takes_memory, spent_by, left_of}
 use Rattle.std.specs.Option.{unwrap_or}
 use Rattle.ent_alloc.specs.Limits.{credit}
 use Rattle.ent_replay.specs.Machine.{machine_state, AreConsistent}
@@ -48,7 +48,7 @@ returns-then-is_err c =
     let calls : c.insert.new.self ≡ e.calls = on_err c.insert.result c.if-is_err.ensures.value c.insert.ensures.err in
     refused (λ v. on_begin v c.args.caller c.args.n) before c.args.self.now c.self.view_is (Err fault.Memory) refl
     (machine_state e.entities e.spent c.insert.new.self) (ap (λ m. machine_state e.entities e.spent m) calls)
-    (ap (λ p. takes_memory before p.0) (begin-begun e.entities e.spent e.calls c.args.caller (omega arith) c.args.n none (omega arith)))
+    (ap (λ p. event_takes_memory before p.0) (begin-begun e.entities e.spent e.calls c.args.caller (omega arith) c.args.n none (omega arith)))
 
 pub invariant_of-self-then-is_err-2 : goal.invariant_of-self-then-is_err-2
 invariant_of-self-then-is_err-2 c =
@@ -71,7 +71,7 @@ returns-then-is_err-2 c =
     let old : c.unwrap_or-spent.result ≡ spent_by before c.args.caller = c.unwrap_or-spent.ensures ∙ ap (λ o. unwrap_or o 0) c.get-2.ensures in
     refused (λ v. on_begin v c.args.caller c.args.n) before c.args.self.now c.self.view_is (Err fault.Memory) refl
     (machine_state e.entities c.insert-2.new.self c.remove.new.self) (λ i. machine_state e.entities (spent i) (calls i))
-    (ap (λ p. takes_memory before p.0) (begin-begun e.entities e.spent e.calls c.args.caller (omega arith) c.args.n none (omega arith)))
+    (ap (λ p. event_takes_memory before p.0) (begin-begun e.entities e.spent e.calls c.args.caller (omega arith) c.args.n none (omega arith)))
 
 pub invariant_of-self-else-is_err-2 : goal.invariant_of-self-else-is_err-2
 unfolding credit

@@ -1,8 +1,8 @@
 use Rattle.std.proofs.Common.{◌≡◌, ◌-◌, ◌<◌, length}
 use Rattle.std.specs.Prelude.{All, vec_len, vec_capacity}
 use Rattle.ent_shared.specs.Phase.{IsOf}
-use Rattle.ent_claims.specs.Claims.{IsOf as IsClaimerOf}
-use Rattle.ent_runner.specs.declared.worker.Issued.{Issued}
+use Rattle.ent_claims.specs.Claims.{IsClaimerOf as IsClaimerOf}
+use Rattle.ent_runner.specs.declared.worker.SystemQueue.{SystemQueue}
 use Rattle.ent_runner.specs.Worker.{HasRun}
 use Rattle.ent_runner.proofs.worker.Worker.work.Given as goal
 
@@ -11,7 +11,7 @@ abbrev pub invariant-loop-system : goal.invariant-loop-system
 invariant-loop-system g l = record {
   reserver : IsOf l.stage.shared.now l.self.reserver;
   claimer : IsClaimerOf l.stage.claims.now l.self.claimer;
-  inside : All (λ (i : Issued). i.system < length l.stage.systems.now) l.self.issued.items;
+  inside : All (λ (i : SystemQueue). i.system < length l.stage.systems.now) l.self.issued.items;
   ran : HasRun g.S.System.may_issue l.stage.systems.now l.stage.view l.initial.self.reserver.own l.self.reserver.own l.self.claimer.own.claims l.self.issued.items;
   stopped : l.self.stopped ≡ l.initial.self.stopped;
   room : vec_len l.self.issued < vec_capacity l.self.issued;

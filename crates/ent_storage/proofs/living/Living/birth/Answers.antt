@@ -1,17 +1,17 @@
 use Rattle.std.proofs.Common.{get_or, ap, sym, ◌∙◌, arith}
-use Rattle.ent_storage.specs.declared.living.Row.{Row}
+use Rattle.ent_storage.specs.declared.living.Resident.{Resident}
 use Rattle.ent_storage.specs.Living.{Living}
 use Rattle.ent_storage.proofs.LivingLemmas.{birth_from, inside_from}
 use Rattle.ent_storage.proofs.living.Living.birth.Goals as goal
 
 pub index-requires : goal.index-requires
 index-requires c =
-    let inside = inside_from c.self.inside.rows.items c.self.inside.columns.items _ c.args.self.now c.args.place c.self.view_is c.requires in
-    omega (arith, inside, c.self.inside.rows.ok.0)
+    let inside = inside_from c.self.inside.residents.items c.self.inside.columns.items _ c.args.self.now c.args.place c.self.view_is c.requires in
+    omega (arith, inside, c.self.inside.residents.ok.0)
 
 pub returns : goal.returns
 returns c d =
-    let inside = inside_from c.self.inside.rows.items c.self.inside.columns.items _ c.args.self.now c.args.place c.self.view_is c.requires in
-    ap (λ (row : Row). row.birth) c.index.ensures
-    ∙ sym (birth_from c.self.inside.rows.items c.self.inside.columns.items c.args.place c.index.result.now d inside)
+    let inside = inside_from c.self.inside.residents.items c.self.inside.columns.items _ c.args.self.now c.args.place c.self.view_is c.requires in
+    ap (λ (resident : Resident). resident.birth) c.index.ensures
+    ∙ sym (birth_from c.self.inside.residents.items c.self.inside.columns.items c.args.place c.index.result.now d inside)
     ∙ ap (λ (l : Living). (get_or l.entities c.args.place d).birth) c.self.view_is

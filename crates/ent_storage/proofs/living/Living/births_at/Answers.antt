@@ -1,7 +1,7 @@
 use Rattle.std.proofs.Common.{ℕ, ℤ, [], ◌∷◌, ◌++◌, map, get_or, Some, ap, sym, ◌∙◌, arith, pos, Option}
 use Rattle.ent_handle.specs.declared.birth.Birth.{Birth}
 use Rattle.ent_handle.specs.Handle.{Handle}
-use Rattle.ent_storage.specs.declared.living.Row.{Row}
+use Rattle.ent_storage.specs.declared.living.Resident.{Resident}
 use Rattle.ent_storage.specs.Living.{Living, born_at}
 use Rattle.ent_storage.proofs.LivingLemmas.{inside_from, born_get}
 use Rattle.std.specs.Option.{option_map}
@@ -9,22 +9,22 @@ use Rattle.std.proofs.lemmas.Option.{slice_get-get_or}
 use Rattle.std.proofs.lemmas.List.{map_more, map_push}
 use Rattle.ent_storage.proofs.living.Living.births_at.Goals as goal
 
-pub index-row-requires : goal.index-row-requires
-index-row-requires c =
-    let inside = inside_from c.self.inside.rows.items c.self.inside.columns.items _ c.args.self.now _ c.self.view_is (c.requires c.loop-pair.pair-index (0, pos 0) (omega arith)) in
-    omega (arith, inside, c.self.inside.rows.ok.0)
+pub index-resident-requires : goal.index-resident-requires
+index-resident-requires c =
+    let inside = inside_from c.self.inside.residents.items c.self.inside.columns.items _ c.args.self.now _ c.self.view_is (c.requires c.loop-pair.pair-index (0, pos 0) (omega arith)) in
+    omega (arith, inside, c.self.inside.residents.ok.0)
 
 pub loop-pair-preserved : goal.loop-pair-preserved
 loop-pair-preserved c =
-    let rows = c.self.inside.rows.items in
+    let residents = c.self.inside.residents.items in
     let pairs = c.args.pairs.now in
     let i = c.loop-pair.pair-index in
     let p = (get_or pairs i (0, pos 0)).0 in
-    let row = c.index-row.result.now in
-    let born : Birth × Handle = (row.birth, row.handle) in
-    let inside = inside_from rows c.self.inside.columns.items _ c.args.self.now p c.self.view_is (c.requires i (0, pos 0) (omega arith)) in
-    let at = slice_get-get_or rows p row inside ∙ ap Some (sym c.index-row.ensures) in
-    let here = ap (λ (l : Living). born_at l.entities p) (sym c.self.view_is) ∙ born_get rows c.self.inside.columns.items 0 p ∙ ap (option_map {U = Birth × Handle} (λ (r : Row). (r.birth, r.handle))) at in
+    let resident = c.index-resident.result.now in
+    let born : Birth × Handle = (resident.birth, resident.handle) in
+    let inside = inside_from residents c.self.inside.columns.items _ c.args.self.now p c.self.view_is (c.requires i (0, pos 0) (omega arith)) in
+    let at = slice_get-get_or residents p resident inside ∙ ap Some (sym c.index-resident.ensures) in
+    let here = ap (λ (l : Living). born_at l.entities p) (sym c.self.view_is) ∙ born_get residents c.self.inside.columns.items 0 p ∙ ap (option_map {U = Birth × Handle} (λ (r : Resident). (r.birth, r.handle))) at in
     let more = map_more (λ (pair : ℕ × ℤ). born_at c.args.self.now.entities pair.0) pairs i (0, pos 0) (omega arith) in
     ap (map {B = Option (Birth × Handle)} Some) c.in_ok-push.ensures.items
     ∙ map_push {X = Birth × Handle} {Y = Option (Birth × Handle)} Some c.loop-pair.births.items born

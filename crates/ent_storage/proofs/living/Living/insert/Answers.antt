@@ -2,7 +2,7 @@ use Rattle.std.proofs.Common.{◌<◌, length, get_or, ap, sym, subst, ◌∙◌
 use Rattle.std.specs.FinMap as finite
 use Rattle.ent_storage.specs.Components.{Components, with_items, missing}
 use Rattle.ent_storage.specs.SparseSet.{Values}
-use Rattle.ent_storage.specs.declared.living.Row.{Row}
+use Rattle.ent_storage.specs.declared.living.Resident.{Resident}
 use Rattle.ent_storage.specs.Living.{Living, LivingEntity, change_at}
 use Rattle.ent_storage.proofs.ColumnsLemmas.{same_components}
 use Rattle.ent_storage.proofs.LivingLemmas.{components_from, inside_from, same_from, changed_from, changed_within, written_back}
@@ -12,25 +12,25 @@ use Rattle.ent_storage.proofs.living.Living.insert.Goals as goal
 pub returns-in_err-reserve_all-clause-err : goal.returns-in_err-reserve_all-clause-err
 returns-in_err-reserve_all-clause-err c =
     on_err _
-    (same_from 0 c.self.inside.rows.items c.self.inside.columns.items c.reserve_all.new.columns.items (λ p id _ _. ap (λ (m : Values). finite.get m p) (c.in_err-reserve_all.ensures.values id.0))
+    (same_from 0 c.self.inside.residents.items c.self.inside.columns.items c.reserve_all.new.columns.items (λ p id _ _. ap (λ (m : Values). finite.get m p) (c.in_err-reserve_all.ensures.values id.0))
     ∙ ap (λ (l : Living). l.entities) c.self.view_is)
 
 pub returns-in_err-reserve_all-clause-growing : goal.returns-in_err-reserve_all-clause-growing
 returns-in_err-reserve_all-clause-growing c =
     on_err {P = (d : LivingEntity) → 0 < missing (get_or c.args.self.now.entities c.args.place d).components c.args.items.now} _ (λ d.
-    let inside = inside_from c.self.inside.rows.items c.self.inside.columns.items _ c.args.self.now c.args.place c.self.view_is c.requires in
-    let row : Row = record { handle = d.handle; birth = d.birth } in
-    let held = sym (components_from c.self.inside.rows.items c.self.inside.columns.items c.args.place row d inside) ∙ ap (λ (l : Living). (get_or l.entities c.args.place d).components) c.self.view_is in
+    let inside = inside_from c.self.inside.residents.items c.self.inside.columns.items _ c.args.self.now c.args.place c.self.view_is c.requires in
+    let resident : Resident = record { handle = d.handle; birth = d.birth } in
+    let held = sym (components_from c.self.inside.residents.items c.self.inside.columns.items c.args.place resident d inside) ∙ ap (λ (l : Living). (get_or l.entities c.args.place d).components) c.self.view_is in
     subst (λ (m : Components). 0 < missing m c.args.items.now) held c.in_err-reserve_all.ensures.growing)
 
 pub invariant_of-self-2 : goal.invariant_of-self-2
 invariant_of-self-2 c =
     let set_all_len = rw c.deref_mut.ensures.value at c.set_all.ensures.len in
     let set_all_others = rw c.deref_mut.ensures.value at c.set_all.ensures.others in
-    let inside = inside_from c.self.inside.rows.items c.self.inside.columns.items _ c.args.self.now c.args.place c.self.view_is c.requires in
+    let inside = inside_from c.self.inside.residents.items c.self.inside.columns.items _ c.args.self.now c.args.place c.self.view_is c.requires in
     let numbered = c.in_ok-reserve_all.ensures.numbered in
     rw (written_back c.set_all.new.columns c.reserve_all.new.columns.items c.reserve_all.new.columns.len set_all_len c.reserve_all.new.columns.ok.0)
-    (changed_within (length c.self.inside.rows.items) c.args.place c.self.inside.columns.items c.set_all.new.columns inside (omega (arith, set_all_len, numbered)) (λ p id far. set_all_others p id far ∙ ap (λ (m : Values). finite.get m p) (c.in_ok-reserve_all.ensures.values id.0)) c.self.invariant)
+    (changed_within (length c.self.inside.residents.items) c.args.place c.self.inside.columns.items c.set_all.new.columns inside (omega (arith, set_all_len, numbered)) (λ p id far. set_all_others p id far ∙ ap (λ (m : Values). finite.get m p) (c.in_ok-reserve_all.ensures.values id.0)) c.self.invariant)
 
 pub returns-clause-ok : goal.returns-clause-ok
 returns-clause-ok c =
@@ -40,5 +40,5 @@ returns-clause-ok c =
     let same = same_components c.self.inside.columns.items c.reserve_all.new.columns.items c.args.place c.args.place (λ id. ap (λ (m : Values). finite.get m c.args.place) (c.in_ok-reserve_all.ensures.values id.0)) in
     let here = set_all_here ∙ ap (λ (m : Components). with_items m c.args.items.now) same in
     rw (written_back c.set_all.new.columns c.reserve_all.new.columns.items c.reserve_all.new.columns.len set_all_len c.reserve_all.new.columns.ok.0)
-    (changed_from 0 c.self.inside.rows.items c.self.inside.columns.items c.set_all.new.columns c.args.place c.args.place (λ held. with_items held c.args.items.now) (omega arith) here (λ p id far. set_all_others p id far ∙ ap (λ (m : Values). finite.get m p) (c.in_ok-reserve_all.ensures.values id.0))
+    (changed_from 0 c.self.inside.residents.items c.self.inside.columns.items c.set_all.new.columns c.args.place c.args.place (λ held. with_items held c.args.items.now) (omega arith) here (λ p id far. set_all_others p id far ∙ ap (λ (m : Values). finite.get m p) (c.in_ok-reserve_all.ensures.values id.0))
     ∙ ap (λ (l : Living). change_at l.entities c.args.place (λ held. with_items held c.args.items.now)) c.self.view_is)

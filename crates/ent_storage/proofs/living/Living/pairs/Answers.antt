@@ -4,20 +4,20 @@ use Rattle.ent_storage.proofs.ColumnsLemmas.{taken_none}
 use Rattle.std.specs.FinMap as finite
 use Rattle.ent_handle.specs.declared.component.ComponentId.{ComponentId}
 use Rattle.ent_storage.specs.SparseSet.{Column, no_column}
-use Rattle.ent_storage.specs.declared.living.Row.{Row}
-use Rattle.ent_storage.specs.Living.{Living, LivingEntity, value_at, entities_from, IsWithin}
+use Rattle.ent_storage.specs.declared.living.Resident.{Resident}
+use Rattle.ent_storage.specs.Living.{Living, LivingEntity, value_at, entities_from, AreColumnsOf}
 use Rattle.ent_storage.proofs.LivingLemmas.{value_from}
 use Rattle.ent_storage.proofs.living.Living.pairs.Goals as goal
 
 -- the entity has the value that the columns have at its place
-is_value : (rows : List Row) (columns : List Column) (room : ℕ) (living : Living) (place : ℕ) (id : ComponentId) → record { entities = entities_from 0 rows columns; room = room } ≡ living → IsWithin (length rows) columns → option_and_then (λ (e : LivingEntity). finite.get e.components id) (slice_get living.entities place) ≡ value_at columns place id
-is_value rows columns room living place id is within =
-    ap (λ (l : Living). option_and_then (λ (e : LivingEntity). finite.get e.components id) (slice_get l.entities place)) (sym is) ∙ value_from rows columns place id within
+is_value : (residents : List Resident) (columns : List Column) (room : ℕ) (living : Living) (place : ℕ) (id : ComponentId) → record { entities = entities_from 0 residents columns; room = room } ≡ living → AreColumnsOf (length residents) columns → option_and_then (λ (e : LivingEntity). finite.get e.components id) (slice_get living.entities place) ≡ value_at columns place id
+is_value residents columns room living place id is within =
+    ap (λ (l : Living). option_and_then (λ (e : LivingEntity). finite.get e.components id) (slice_get l.entities place)) (sym is) ∙ value_from residents columns place id within
 
 pub returns-in-Some-clause-has : goal.returns-in-Some-clause-has
 returns-in-Some-clause-has c place v at =
     let column = (rw c.deref.ensures.value at c.in-Some.ensures.lookup).3.1 no_column in
-    is_value c.self.inside.rows.items c.self.inside.columns.items _ c.args.self.now place c.args.id c.self.view_is c.self.invariant
+    is_value c.self.inside.residents.items c.self.inside.columns.items _ c.args.self.now place c.args.id c.self.view_is c.self.invariant
     ∙ ap (λ (m : Column). finite.get m.values place) (sym column)
     ∙ c.pairs.ensures.has place v at
 
@@ -26,7 +26,7 @@ returns-in-Some-clause-all c place v is =
     let column = (rw c.deref.ensures.value at c.in-Some.ensures.lookup).3.1 no_column in
     c.pairs.ensures.all place v
     (ap (λ (m : Column). finite.get m.values place) column
-    ∙ sym (is_value c.self.inside.rows.items c.self.inside.columns.items _ c.args.self.now place c.args.id c.self.view_is c.self.invariant) ∙ is)
+    ∙ sym (is_value c.self.inside.residents.items c.self.inside.columns.items _ c.args.self.now place c.args.id c.self.view_is c.self.invariant) ∙ is)
 
 pub returns-in-Some-clause-once : goal.returns-in-Some-clause-once
 returns-in-Some-clause-once c i j d l k e =
@@ -41,4 +41,4 @@ pub returns-in-None-clause-all : goal.returns-in-None-clause-all
 returns-in-None-clause-all c place v is =
     let past = (rw c.deref.ensures.value at c.in-None.ensures.lookup).3 in
     absurd (none-some v (sym (taken_none c.self.inside.columns.items place c.args.id past).0
-    ∙ sym (is_value c.self.inside.rows.items c.self.inside.columns.items _ c.args.self.now place c.args.id c.self.view_is c.self.invariant) ∙ is))
+    ∙ sym (is_value c.self.inside.residents.items c.self.inside.columns.items _ c.args.self.now place c.args.id c.self.view_is c.self.invariant) ∙ is))

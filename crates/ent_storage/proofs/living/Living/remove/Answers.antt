@@ -1,7 +1,7 @@
 use Rattle.std.proofs.Common.{length, get_or, ap, sym, ◌∙◌, arith}
 use Rattle.std.specs.FinMap as finite
 use Rattle.ent_storage.specs.Components.{Components}
-use Rattle.ent_storage.specs.declared.living.Row.{Row}
+use Rattle.ent_storage.specs.declared.living.Resident.{Resident}
 use Rattle.ent_storage.specs.Living.{Living, change_at}
 use Rattle.ent_storage.proofs.ColumnsLemmas.{get_components}
 use Rattle.ent_storage.proofs.LivingLemmas.{components_from, inside_from, changed_from, changed_within, written_back}
@@ -11,18 +11,18 @@ pub invariant_of-self : goal.invariant_of-self
 invariant_of-self c =
     let remove_len = rw c.deref_mut.ensures.value at c.remove.ensures.len in
     let remove_others = rw c.deref_mut.ensures.value at c.remove.ensures.others in
-    let inside = inside_from c.self.inside.rows.items c.self.inside.columns.items _ c.args.self.now c.args.place c.self.view_is c.requires in
+    let inside = inside_from c.self.inside.residents.items c.self.inside.columns.items _ c.args.self.now c.args.place c.self.view_is c.requires in
     rw (written_back c.remove.new.columns c.self.inside.columns.items c.self.inside.columns.len remove_len c.self.inside.columns.ok.0)
-    (changed_within (length c.self.inside.rows.items) c.args.place c.self.inside.columns.items c.remove.new.columns inside (omega (arith, remove_len, c.self.invariant.numbered)) remove_others c.self.invariant)
+    (changed_within (length c.self.inside.residents.items) c.args.place c.self.inside.columns.items c.remove.new.columns inside (omega (arith, remove_len, c.self.invariant.numbered)) remove_others c.self.invariant)
 
 pub returns-clause-value : goal.returns-clause-value
 returns-clause-value c d =
     let remove_value = rw c.deref_mut.ensures.value at c.remove.ensures.value in
-    let inside = inside_from c.self.inside.rows.items c.self.inside.columns.items _ c.args.self.now c.args.place c.self.view_is c.requires in
-    let row : Row = record { handle = d.handle; birth = d.birth } in
+    let inside = inside_from c.self.inside.residents.items c.self.inside.columns.items _ c.args.self.now c.args.place c.self.view_is c.requires in
+    let resident : Resident = record { handle = d.handle; birth = d.birth } in
     remove_value
     ∙ sym (get_components c.self.inside.columns.items c.args.place c.args.id)
-    ∙ ap (λ (m : Components). finite.get m c.args.id) (sym (components_from c.self.inside.rows.items c.self.inside.columns.items c.args.place row d inside))
+    ∙ ap (λ (m : Components). finite.get m c.args.id) (sym (components_from c.self.inside.residents.items c.self.inside.columns.items c.args.place resident d inside))
     ∙ ap (λ (l : Living). finite.get (get_or l.entities c.args.place d).components c.args.id) c.self.view_is
 
 pub returns-clause-entities : goal.returns-clause-entities
@@ -31,5 +31,5 @@ returns-clause-entities c =
     let remove_others = rw c.deref_mut.ensures.value at c.remove.ensures.others in
     let remove_here = rw c.deref_mut.ensures.value at c.remove.ensures.here in
     rw (written_back c.remove.new.columns c.self.inside.columns.items c.self.inside.columns.len remove_len c.self.inside.columns.ok.0)
-    (changed_from 0 c.self.inside.rows.items c.self.inside.columns.items c.remove.new.columns c.args.place c.args.place (λ held. finite.remove held c.args.id) (omega arith) remove_here (λ q id far. remove_others q id far)
+    (changed_from 0 c.self.inside.residents.items c.self.inside.columns.items c.remove.new.columns c.args.place c.args.place (λ held. finite.remove held c.args.id) (omega arith) remove_here (λ q id far. remove_others q id far)
     ∙ ap (λ (l : Living). change_at l.entities c.args.place (λ held. finite.remove held c.args.id)) c.self.view_is)

@@ -11,8 +11,8 @@ returns-clause-ok c =
 
 pub returns-clause-succeeds : goal.returns-clause-succeeds
 returns-clause-succeeds c room =
-    c.reserve.ensures.succeeds (omega (arith, room, c.self.inside.rows.ok.0, length_from 0 c.self.inside.rows.items c.self.inside.columns.items, ap (λ (l : Living). length l.entities) c.self.view_is, ap (λ (l : Living). l.room) c.self.view_is))
+    c.reserve.ensures.succeeds (omega (arith, room, c.self.inside.residents.ok.0, length_from 0 c.self.inside.residents.items c.self.inside.columns.items, ap (λ (l : Living). length l.entities) c.self.view_is, ap (λ (l : Living). l.room) c.self.view_is))
 
 pub returns-clause-full : goal.returns-clause-full
 returns-clause-full c =
-    on_err_weaker {Q = c.args.self.now.room < length c.args.self.now.entities + c.args.additional} _ (λ full. omega (arith, full, c.self.inside.rows.ok.0, length_from 0 c.self.inside.rows.items c.self.inside.columns.items, ap (λ (l : Living). length l.entities) c.self.view_is, ap (λ (l : Living). l.room) c.self.view_is)) c.reserve.ensures.full
+    on_err_weaker {Q = c.args.self.now.room < length c.args.self.now.entities + c.args.additional} _ (λ full. omega (arith, full, c.self.inside.residents.ok.0, length_from 0 c.self.inside.residents.items c.self.inside.columns.items, ap (λ (l : Living). length l.entities) c.self.view_is, ap (λ (l : Living). l.room) c.self.view_is)) c.reserve.ensures.full

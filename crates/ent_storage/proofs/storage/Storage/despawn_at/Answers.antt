@@ -5,7 +5,7 @@ use Rattle.ent_storage.specs.Places.{Places}
 use Rattle.ent_storage.specs.Living.{LivingEntity}
 use Rattle.std.proofs.lemmas.List.{length-map, get_or_default}
 use Rattle.std.proofs.lemmas.Option.{slice_get_past}
-use Rattle.ent_storage.specs.Indexed.{counted, handles_of}
+use Rattle.ent_storage.specs.Indexed.{counted, handles_by_place}
 use Rattle.ent_storage.proofs.Indexed.{some_entity, moved_is_there, entities_moved, entities_popped}
 use Rattle.ent_storage.proofs.Counted.{kept_moved, kept_popped, moved_counts}
 use Rattle.ent_storage.proofs.Placed.{placed_from_place, from_place, handles_without, at_place}
@@ -110,7 +110,7 @@ pub returns-else-place-len-clause-moved : goal.returns-else-place-len-clause-mov
 returns-else-place-len-clause-moved c =
     let left = c.swap_remove.new.self.entities in
     let last : length left ≤ c.args.place = omega arith in
-    sym (slice_get_past (handles_of left) c.args.place (omega (arith, length-map left (λ (e : LivingEntity). e.handle), last)))
+    sym (slice_get_past (handles_by_place left) c.args.place (omega (arith, length-map left (λ (e : LivingEntity). e.handle), last)))
 
 pub returns-then-place-len-clause-spare : goal.returns-then-place-len-clause-spare
 returns-then-place-len-clause-spare c =

@@ -7,7 +7,7 @@ use Rattle.ent_handle.specs.declared.component.ComponentId.{ComponentId}
 use Rattle.ent_handle.specs.Component.{component_cmp}
 use Rattle.ent_queue.specs.Command.{Bundle}
 use Rattle.ent_script_system.proofs.Bundles.{put_last}
-use Rattle.ent_script_system.proofs.bundle.bundle_of.Goals as goal
+use Rattle.ent_script_system.proofs.bundle.copied_bundle.Goals as goal
 
 pub loop-id-preserved : goal.loop-id-preserved
 loop-id-preserved c =

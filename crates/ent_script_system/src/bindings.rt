@@ -8,12 +8,12 @@ use std::marker::Model;
 
 /// The lists of handles to which the names of a system are bound, by the numbers of the names.
 #[derive(Drop)]
-pub(crate) struct Names {
+pub(crate) struct Bindings {
     lists: Vec<Vec<Handle>>,
     alloc: Global,
 }
 
-impl Model for Names {
+impl Model for Bindings {
     ghost use Rattle.std.specs.Prelude.{List, map};
     ghost use Rattle.ent_handle.specs.Handle.{Handle};
 
@@ -22,12 +22,12 @@ impl Model for Names {
     ghost view = { λ n. map (λ list. list.items) n.lists.items };
 }
 
-impl Names {
+impl Bindings {
     /// No name is bound. It takes no memory.
     pub(crate) fn new(alloc: Global) -> Self
         ensures { result ≡ [] }
     {
-        Names {
+        Bindings {
             lists: Vec::new(alloc),
             alloc,
         }

@@ -3,7 +3,7 @@ use Rattle.std.proofs.lemmas.List.{map-append}
 use Rattle.ent_handle.specs.Handle.{Handle}
 use Rattle.ent_script_system.specs.Parts.{names_of}
 use Rattle.ent_script_system.proofs.Binding.{names_added}
-use Rattle.ent_script_system.proofs.names.Names.reach.Goals as goal
+use Rattle.ent_script_system.proofs.bindings.Bindings.reach.Goals as goal
 
 abbrev items_of : Vec Handle Global → List Handle
 items_of list = list.items

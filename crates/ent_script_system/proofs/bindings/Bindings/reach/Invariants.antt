@@ -1,6 +1,6 @@
 use Rattle.std.proofs.Common.{◌≡◌, ◌+◌, ◌-◌, map, length}
 use Rattle.ent_script_system.specs.Parts.{names_of}
-use Rattle.ent_script_system.proofs.names.Names.reach.Given as goal
+use Rattle.ent_script_system.proofs.bindings.Bindings.reach.Given as goal
 
 abbrev pub invariant-loop-self : goal.invariant-loop-self
 invariant-loop-self l = names_of (map (λ list. list.items) l.self-inside.lists.items) ≡ names_of l.fn.self

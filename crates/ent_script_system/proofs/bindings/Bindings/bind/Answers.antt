@@ -4,7 +4,7 @@ use Rattle.ent_handle.specs.Handle.{Handle}
 use Rattle.ent_script_system.specs.Issuing.{bound}
 use Rattle.ent_script_system.specs.Parts.{names_of}
 use Rattle.ent_script_system.proofs.Binding.{names_set}
-use Rattle.ent_script_system.proofs.names.Names.bind.Goals as goal
+use Rattle.ent_script_system.proofs.bindings.Bindings.bind.Goals as goal
 
 abbrev items_of : Vec Handle Global → List Handle
 items_of list = list.items
