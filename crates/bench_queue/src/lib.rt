@@ -13,8 +13,8 @@ use std::alloc::Global;
 
 const VALUE: ComponentId = ComponentId(0);
 
-/// Makes the queue and reads it in every round. Answers how many commands it has, and a sum of what was
-/// read.
+/// Makes the queue and reads it in every round. Answers how many commands it has, and a sum of what
+/// was read.
 #[unsafe(no_mangle)]
 pub extern "C" fn queue_read(alloc: Global, spawns: u32, rounds: u32) -> u64 {
     let Some(queue) = spawned(alloc, spawns) else {

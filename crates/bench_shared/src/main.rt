@@ -1,7 +1,8 @@
 //! Reservations by threads beside a bare atomic subtraction, for `run.sh` to time.
 //!
 //! `bench_shared STEPS PAIRS` makes that many steps in each thread of each case, in that many pairs of runs, and prints the times of
-//! each pair. Without words it makes a few steps and prints what they gave, which is the same on every machine.
+//! each pair. Without words it makes a few steps and prints what they gave, which is the same on
+//! every machine.
 #![tactic(auto)]
 
 ghost use Rattle.ent_shared.specs.Phase.{IsOf};
@@ -146,7 +147,8 @@ where
     )
 }
 
-/// A line for each pair: the case, the steps of all threads, and of each kind the seconds and those in which all threads ran.
+/// A line for each pair: the case, the steps of all threads, and of each kind the seconds and those
+/// in which all threads ran.
 fn print_times<R>(rt: &R, steps: u32, pairs: u32) -> io::Result<()>
 where
     R: Clock + Print + Threads + Sync + AllocGlobal,

@@ -1,8 +1,8 @@
 //! Work for a storage, exported so that `run.sh` can time it.
 //!
-//! Each export makes a storage of `entities` entities. The i-th measured call is on the entity whose
-//! handle has the index `i * stride % entities`, so a stride of 1 goes through them in order, and a
-//! large prime in a scattered order. Each answers how many calls of its last round succeeded.
+//! Each export makes a storage of `entities` entities. The i-th measured call is on the entity
+//! whose handle has the index `i * stride % entities`, so a stride of 1 goes through them in order,
+//! and a large prime in a scattered order. Each answers how many calls of its last round succeeded.
 #![tactic(auto)]
 
 ghost use Rattle.std.specs.Prelude.{◌<◌, ◌≤◌};

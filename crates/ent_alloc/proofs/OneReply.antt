@@ -7,7 +7,8 @@ use Rattle.ent_alloc.specs.Roster.{Roster}
 use Rattle.ent_alloc.specs.Sequential.{Allocator, reply_from, pool_at}
 use Rattle.ent_alloc.specs.Entities.{idle, allocator_of, beneath, AreReserved}
 use Rattle.ent_alloc.specs.Reserved.{reserved_handles}
-use Rattle.ent_alloc.proofs.Listing.{reserved_handles-pending, reserved_handles-fresh, reserved_handles-none}
+use Rattle.ent_alloc.proofs.Listing.{reserved_handles-pending, reserved_handles-fresh}
+use Rattle.ent_alloc.proofs.Listing.{reserved_handles-none}
 use Rattle.ent_alloc.proofs.Meaning.{asked_at-is, pool_at_is, pending_below, reply_served}
 use Rattle.ent_alloc.proofs.Meaning.{reply_refused, length_left}
 

@@ -1,4 +1,5 @@
-//! The calls without their contracts, so that the proof of a test that makes many of them stays short.
+//! The calls without their contracts, so that the proof of a test that makes many of them stays
+//! short.
 
 ghost use Rattle.std.specs.Prelude.{◌+◌, ◌^◌, ◌≤◌};
 

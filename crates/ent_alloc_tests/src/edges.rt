@@ -65,8 +65,8 @@ fn a_flush_after_a_refused_request_alone_brings_nothing_to_life(rt: HostRuntime)
     assert_reserves(&rt, alloc, &mut entities, 2, Ok(&both));
 }
 
-// For how many slots there is room stands in no contract, so only a test sees that a flush which finds
-// room for all of them isn't refused.
+// For how many slots there is room stands in no contract, so only a test sees that a flush which
+// finds room for all of them isn't refused.
 #[test]
 fn a_flush_with_room_for_its_slots_is_not_refused(rt: HostRuntime) {
     for room in [0, 64] {

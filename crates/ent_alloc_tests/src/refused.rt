@@ -6,7 +6,8 @@ use ent_handle::{Handle, Memory};
 use std::alloc::Global;
 use std::process::Abort;
 
-// Each step is made again if its memory is refused, so the test passes whichever one allocation fails:
+// Each step is made again if its memory is refused, so the test passes whichever one allocation
+// fails:
 // `rt try --test --fail-alloc N -- refused_memory` refuses the Nth.
 #[test]
 fn refused_memory_changes_nothing(rt: HostRuntime) {

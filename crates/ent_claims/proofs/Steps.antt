@@ -21,7 +21,8 @@ use lib.ListN.{get_elem?}
 use Rattle.atomic_table.specs.Table.{State, Me, keeps, Allows, Splits, Joins, Enters, opening}
 use Rattle.ent_claims.specs.declared.record.ClaimRecord.{ClaimRecord}
 use Rattle.ent_claims.specs.Record.{nothing_claimed, after_claim}
-use Rattle.ent_claims.specs.Rule.{weigh_claims, ended_in, IsClaimKept, AreClaimsRuled, AfterClaim, ClaimTells}
+use Rattle.ent_claims.specs.Rule.{weigh_claims, ended_in, IsClaimKept, AreClaimsRuled, AfterClaim}
+use Rattle.ent_claims.specs.Rule.{ClaimTells}
 use Rattle.ent_claims.specs.Rule.{AreClaimsClosed}
 use Rattle.ent_claims.proofs.Weighing.{all_one, sum_at, all_at, only_at}
 

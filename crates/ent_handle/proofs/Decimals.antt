@@ -1,4 +1,5 @@
--- A decimal is what std's `decimal` writes of its value, and reading gives the value of nothing else.
+-- A decimal is what std's `decimal` writes of its value, and reading gives the value of nothing
+-- else.
 use Rattle.std.proofs.Common.{◌≡◌, ℕ, ◌^◌, ◌<◌, ◌≤◌, ◌↔◌, true, false, eqb, List, [], ◌∷◌, length}
 use Rattle.std.proofs.Common.{get_or, Option, Some, None, Result, Ok, Err, IsSome, IfSome, IfOk}
 use Rattle.std.proofs.Common.{IsErrOf, refl, sym, ap, subst, ◌∙◌, lit<, inl, inr, arith, rules}

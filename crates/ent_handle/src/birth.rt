@@ -8,8 +8,8 @@ use std::cmp::Ordering;
 
 /// When and by whom an entity was brought to life: a name of the entity that needs no handle.
 ///
-/// The order is by frame, then by system, then by ordinal. Births and their order are this project's
-/// own.
+/// The order is by frame, then by system, then by ordinal. Births and their order are this
+/// project's own.
 #[derive(Clone, Copy, Debug, PartialEq, Eq, Hash)]
 pub struct Birth {
     /// The number of the frame.

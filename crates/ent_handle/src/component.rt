@@ -6,7 +6,8 @@ ghost use Rattle.ent_handle.specs.Component.{component_cmp, component_cmp_total}
 
 use std::cmp::Ordering;
 
-/// The number of a component: a kind of data that an entity may have. What it means is up to its user.
+/// The number of a component: a kind of data that an entity may have. What it means is up to its
+/// user.
 ///
 /// The order is by number.
 #[derive(Clone, Copy, Debug, Default, PartialEq, Eq, Hash)]

@@ -9,13 +9,13 @@ ghost use Rattle.ent_handle.specs.Handle.{Handle, IsHandle, bits, handle_cmp, ha
 use std::cmp::Ordering;
 use std::marker::Model;
 
-/// Names one occupant of one slot: the slot's index, and a generation that tells the slot's occupants
-/// apart.
+/// Names one occupant of one slot: the slot's index, and a generation that tells the slot's
+/// occupants apart.
 ///
-/// An index is 0 to 4,294,967,294, and a generation 1 to 2,147,483,647. As in Bevy, each occupant of a
-/// slot has another generation than the one before it, so that an old handle does not name a later
-/// occupant. After the last generation they begin again at the first. The ranges are this project's
-/// own, and so is the order: by index, then by generation.
+/// An index is 0 to 4,294,967,294, and a generation 1 to 2,147,483,647. As in Bevy, each occupant
+/// of a slot has another generation than the one before it, so that an old handle does not name a
+/// later occupant. After the last generation they begin again at the first. The ranges are this
+/// project's own, and so is the order: by index, then by generation.
 #[derive(Clone, Copy, Debug, PartialEq, Eq, Hash)]
 pub struct Handle {
     index: u32,
@@ -49,8 +49,8 @@ impl Handle {
     }
 
     /// The handle of these numbers, which have to be in range: the index is 0 to 4,294,967,294, the
-    /// generation 1 to 2,147,483,647. It tests nothing when it runs, so it is for a caller that keeps
-    /// such numbers. `new` tests them.
+    /// generation 1 to 2,147,483,647. It tests nothing when it runs, so it is for a caller that
+    /// keeps such numbers. `new` tests them.
     pub fn from_parts(index: u32, generation: u32) -> Self
         requires { IsHandle (record { index = index; generation = generation }) }
         ensures { result ≡ record { index = index; generation = generation } }

@@ -7,7 +7,8 @@ use Rattle.ent_queue.specs.Command.{Bundle, Command, Spawn, SpawnMany, Insert, R
 use Rattle.ent_queue.specs.Command.{Refused, IsBundle, IsRefusal, IsCommand}
 use Rattle.ent_queue.specs.Packing.{bytes_4, handle_bytes, bundle_bytes, refusal_bytes}
 use Rattle.ent_queue.specs.Packing.{command_bytes}
-use Rattle.ent_queue.specs.Unpacking.{number_2, number_4, unpacked_handle, unpacked_handles, unpacked_bundle}
+use Rattle.ent_queue.specs.Unpacking.{number_2, number_4, unpacked_handle, unpacked_handles}
+use Rattle.ent_queue.specs.Unpacking.{unpacked_bundle}
 use Rattle.ent_queue.specs.Unpacking.{unpacked_refusal, after_first, BeginsWith}
 use Rattle.ent_queue.proofs.Parts.{BundleBegins}
 use Rattle.ent_queue.proofs.Queues.{WithBundle, with_bundle, with_handles, with_component}

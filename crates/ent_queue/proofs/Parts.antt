@@ -15,7 +15,8 @@ use Rattle.ent_queue.specs.Command.{Bundle, IsItem}
 use Rattle.ent_queue.specs.Packing.{bytes_2, handle_bytes, item_bytes, bundle_bytes}
 use Rattle.ent_queue.specs.Unpacking.{number_2, unpacked_handles, unpacked_item, unpacked_bundle}
 use Rattle.ent_queue.proofs.Numbers.{length-bytes_2, length-bytes_8, number_2-bytes, number_8-alone}
-use Rattle.ent_queue.proofs.Numbers.{drop-bytes_2, drop-bytes_8, take-bytes_8, unpacked_handle-alone}
+use Rattle.ent_queue.proofs.Numbers.{drop-bytes_2, drop-bytes_8, take-bytes_8}
+use Rattle.ent_queue.proofs.Numbers.{unpacked_handle-alone}
 
 pub length-handles : (hs : List Handle) → length (flat_map handle_bytes hs) ≡ 8 * length hs
 length-handles [] = refl

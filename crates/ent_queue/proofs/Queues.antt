@@ -12,16 +12,20 @@ use Rattle.ent_queue.specs.Command.{Bundle, Command, Spawn, SpawnMany, Insert, R
 use Rattle.ent_queue.specs.Command.{Refused, IsBundle, IsRefusal, IsCommand}
 use Rattle.ent_queue.specs.Packing.{bytes_4, bytes_8, handle_bytes, bundle_bytes, refusal_bytes}
 use Rattle.ent_queue.specs.Packing.{command_bytes, queue_bytes}
-use Rattle.ent_queue.specs.Unpacking.{number_4, number_8, unpacked_handle, unpacked_handles, unpacked_bundle}
-use Rattle.ent_queue.specs.Unpacking.{unpacked_refusal, unpacked_command, after_first, unpacked_commands, ArePacked}
+use Rattle.ent_queue.specs.Unpacking.{number_4, number_8, unpacked_handle, unpacked_handles}
+use Rattle.ent_queue.specs.Unpacking.{unpacked_bundle}
+use Rattle.ent_queue.specs.Unpacking.{unpacked_refusal, unpacked_command, after_first}
+use Rattle.ent_queue.specs.Unpacking.{unpacked_commands, ArePacked}
 use Rattle.ent_queue.specs.Unpacking.{BeginsWith}
 use Rattle.ent_queue.proofs.Numbers.{number_4-bytes, number_8-bytes, drop-bytes_4, drop-bytes_8}
 use Rattle.ent_queue.proofs.Numbers.{unpacked_handle-bytes, length-bytes_4, length-bytes_8}
-use Rattle.ent_queue.proofs.Parts.{length-handles, unpacked_handles-bytes, drop-handles, BundleBegins}
+use Rattle.ent_queue.proofs.Parts.{length-handles, unpacked_handles-bytes, drop-handles}
+use Rattle.ent_queue.proofs.Parts.{BundleBegins}
 use Rattle.ent_queue.proofs.Parts.{bundle_begins}
 use Rattle.ent_queue.proofs.Few.{few_items}
 
--- What the parts after the byte for a kind say: a handle and a bundle, many handles and a bundle, and a refusal.
+-- What the parts after the byte for a kind say: a handle and a bundle, many handles and a bundle,
+-- and a refusal.
 pub record WithBundle (h : Handle) (items : Bundle) (parts rest : List ℕ) : Type 0 where
   pub length_is : length parts ≡ 8 + length (drop 8 parts)
   pub handle : unpacked_handle parts ≡ h

@@ -22,8 +22,8 @@ shared_of c = c.shared.now
 abbrev pub IsReady : Issued → Type 0
 IsReady c = IsOf (shared_of c) (reserver_of c)
 
--- Commands were added, and the reserver has gained their reservations and no others. It is the same reserver of the same
--- allocator.
+-- Commands were added, and the reserver has gained their reservations and no others. It is the same
+-- reserver of the same allocator.
 pub record Extends (before after : Issued) : Type 0 where
   pub same : after.reserver.ghost_name ≡ before.reserver.ghost_name
   pub shared : shared_of after ≡ shared_of before

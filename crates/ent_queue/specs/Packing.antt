@@ -1,5 +1,5 @@
--- A queue as bytes: its commands one after the other, each a byte for its kind and then its parts. All numbers are
--- little endian.
+-- A queue as bytes: its commands one after the other, each a byte for its kind and then its parts.
+-- All numbers are little endian.
 use Rattle.std.specs.Prelude.{ℕ, ℤ, List, [], ◌∷◌, ◌++◌, length}
 use Rattle.std.specs.List.{flat_map}
 use Rattle.std.specs.Int.{w16, w32, w64, cast_unsigned, to_le_bytes}

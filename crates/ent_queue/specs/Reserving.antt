@@ -31,7 +31,8 @@ stands_for (Refused wanted (Quota left)) = []
 abbrev pub cost : Command → ℕ
 cost c = sum_by (λ (request : ℕ × Result (List Handle) OutOfSpace). request.0) (stands_for c)
 
--- It fits the credit that was left; a refusal for want of credit says what was left, and more was wanted.
+-- It fits the credit that was left; a refusal for want of credit says what was left, and more was
+-- wanted.
 abbrev pub FitsCredit : ℕ → Command → Type 0
 FitsCredit left (Refused wanted (Quota rest)) = (rest ≡ left) × (left < wanted)
 FitsCredit left (Refused wanted (Space same rest)) = wanted ≤ left

@@ -8,8 +8,8 @@ use thiserror::Error;
 /// Why a spawn gave no handle.
 #[derive(Clone, Copy, Debug, PartialEq, Eq, Error)]
 pub enum QueueFault {
-    /// The pool had fewer handles than were requested. The request is taken from the reserver's credit, and the pool
-    /// gives no more until the next flush. The queue keeps the refusal.
+    /// The pool had fewer handles than were requested. The request is taken from the reserver's
+    /// credit, and the pool gives no more until the next flush. The queue keeps the refusal.
     #[error("{wanted} wanted and {left} left")]
     Space {
         /// How many handles were requested.

@@ -83,9 +83,9 @@ impl CommandQueue {
 
     /// The bytes of all commands, one after the other.
     ///
-    /// Each begins with a byte for its kind. All numbers are little endian, a handle has its bits in 8 bytes and a value
-    /// 8 bytes in two's complement. A bundle is its count in 2 bytes, and for each item its component's number in 1 byte
-    /// and its value.
+    /// Each begins with a byte for its kind. All numbers are little endian, a handle has its bits
+    /// in 8 bytes and a value 8 bytes in two's complement. A bundle is its count in 2 bytes, and
+    /// for each item its component's number in 1 byte and its value.
     ///
     /// | First byte | Rest |
     /// |---|---|

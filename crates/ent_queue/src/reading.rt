@@ -1,7 +1,8 @@
 //! Numbers, handles and lists at the front of packed bytes, each with the bytes after it.
 ghost use Rattle.std.specs.Prelude.{◌≡◌, ◌+◌, ◌*◌, ◌≤◌, drop, length, slice_index};
 ghost use Rattle.ent_handle.specs.Handle.{IsHandle};
-ghost use Rattle.ent_queue.specs.Unpacking.{number_2, number_4, number_8, handle_of_bits, unpacked_handle};
+ghost use Rattle.ent_queue.specs.Unpacking.{number_2, number_4, number_8, handle_of_bits};
+ghost use Rattle.ent_queue.specs.Unpacking.{unpacked_handle};
 
 use ent_handle::Handle;
 

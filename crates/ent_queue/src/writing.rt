@@ -144,7 +144,8 @@ pub(crate) fn write_refused(bytes: &mut Vec<u8>, wanted: u32, why: Refused)
     }
 }
 
-/// The handles of a reservation, which also go to the end of `handles`, and before them their number.
+/// The handles of a reservation, which also go to the end of `handles`, and before them their
+/// number.
 pub(crate) fn write_many(
     bytes: &mut Vec<u8>,
     handles: &mut Vec<Handle>,

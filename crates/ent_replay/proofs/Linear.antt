@@ -1,4 +1,5 @@
--- The reservations of a run, in the order of their steps, are a legal history, and each answer tells a reply of it.
+-- The reservations of a run, in the order of their steps, are a legal history, and each answer
+-- tells a reply of it.
 use Rattle.std.proofs.Common.{◌≡◌, ◌≢◌, refl, sym, ap, subst, ◌∙◌, ℕ, zero, suc, ◌+◌, Bool, true}
 use Rattle.std.proofs.Common.{false, cond, List, [], ◌∷◌, ◌++◌, append-nil, Some, None, Result, Ok}
 use Rattle.std.proofs.Common.{Err, ◌⊎◌, inl, inr, arith}
@@ -19,7 +20,8 @@ use Rattle.ent_replay.specs.declared.outcome.Outcome.{Outcome}
 use Rattle.ent_replay.specs.declared.fault.ReplayFault.{ReplayFault}
 use Rattle.ent_replay.specs.Schedule.{MachineState, OpenCall, Reply, outcome_of, after_event}
 use Rattle.ent_replay.specs.Schedule.{outcomes_of, reported}
-use Rattle.ent_replay.specs.Histories.{reserved_by_request, reservations, Phase, phase_after, last_of, TellsOf}
+use Rattle.ent_replay.specs.Histories.{reserved_by_request, reservations, Phase, phase_after}
+use Rattle.ent_replay.specs.Histories.{last_of, TellsOf}
 use Rattle.ent_replay.specs.Histories.{TellsReply, StandInHistory, IsAtRest, new_phase}
 use Rattle.ent_replay.proofs.Maps.{get-inserted, get-insert_other, get-removed, get-remove_other}
 use Rattle.ent_replay.proofs.Conditions.{when, unless}
@@ -54,7 +56,8 @@ RequestedNone requested r = (requested ≡ 0) × (r ≡ Ok [])
 abbrev NothingTold : MachineState → Type 0
 NothingTold s = (q : ℕ) (call : OpenCall) (r : Reply) → finite.get s.calls q ≡ Some call → call.reply ≡ Some r → RequestedNone call.requested r
 
--- the reply was given by the caller's last reservation, of this request, or is that to a request for none
+-- the reply was given by the caller's last reservation, of this request, or is that to a request
+-- for none
 abbrev IsOfHistory : List Call → ℕ → ℕ → Reply → Type 0
 IsOfHistory calls q requested r = RequestedNone requested r ⊎ ((made : Call) × (last_of q calls ≡ Some made) × (made.requested ≡ requested) × (r ≡ made.reply))
 

@@ -45,14 +45,16 @@ use Rattle.ent_replay.specs.Machine.{map_values, open_call_of, machine_state, un
 use Rattle.ent_replay.specs.Machine.{AreConsistent, Makes}
 use Rattle.ent_replay.proofs.Conditions.{when, unless}
 use Rattle.ent_replay.proofs.Giving.{all_held-none, all_held-next, given-none, not_wrapped-reported}
-use Rattle.ent_replay.proofs.Totals.{sum_below-changed, sum_below-bound, sum_below-part, sum_below-none}
+use Rattle.ent_replay.proofs.Totals.{sum_below-changed, sum_below-bound, sum_below-part}
+use Rattle.ent_replay.proofs.Totals.{sum_below-none}
 use Rattle.ent_replay.proofs.Maps.{no_test, maps_alike, get-inserted, get-insert_other, get-removed}
 use Rattle.ent_replay.proofs.Maps.{get-remove_other, get-map_values, map_values-insert}
 use Rattle.ent_replay.proofs.Maps.{map_values-remove, map_values-empty}
 
 -- ---- answers
 
--- The machine did what the step says, or refused for want of memory: told of the values that a contract sees.
+-- The machine did what the step says, or refused for want of memory: told of the values that a
+-- contract sees.
 pub done : (on : MachineState → Answered) (inside now : MachineState) → inside ≡ now → (result answer : Result Outcome ReplayFault) → result ≡ answer → (after next : MachineState) → after ≡ next
     → on inside ≡ (answer, next) → Makes (on now) now result after
 done on inside now view result answer is after next is_next step =

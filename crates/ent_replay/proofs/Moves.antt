@@ -20,7 +20,8 @@ use Rattle.ent_replay.specs.Schedule.{MachineState, OpenCall, Reply, is_busy, on
 use Rattle.ent_replay.specs.Schedule.{after_event, outcomes_of, alloc_front, begin_with, step_with}
 use Rattle.ent_replay.specs.Schedule.{step_open, answer_with, answer_open, spent_by, left_of}
 use Rattle.ent_replay.specs.Schedule.{callers, reported, wraps}
-use Rattle.ent_replay.specs.Histories.{reserved_by_request, reserved_by_call, reservations, given_by}
+use Rattle.ent_replay.specs.Histories.{reserved_by_request, reserved_by_call, reservations}
+use Rattle.ent_replay.specs.Histories.{given_by}
 use Rattle.std.proofs.lemmas.List.Elements.{All-nil, All-cons}
 use Rattle.ent_replay.proofs.Maps.{no_test}
 use Rattle.ent_replay.proofs.Conditions.{when, unless}
@@ -30,7 +31,8 @@ abbrev pub ran_out : Result Outcome ReplayFault → Bool
 ran_out (Err fault.Memory) = true
 ran_out other = false
 
--- it leaves all as it was; it allocates, frees, flushes; it begins a call, makes its step, answers it
+-- it leaves all as it was; it allocates, frees, flushes; it begins a call, makes its step, answers
+-- it
 pub data Move (s : MachineState) (e : Event) : Type 0 where
   stays : (r : Result Outcome ReplayFault) → on_event s e ≡ (r, s) → given_by r ≡ [] → ran_out r ≡ false → ((told : Outcome) (caller : ℕ) → e ≡ event.Answer caller → r ≡ Ok told → ⊥) → reservations s e ≡ [] → Move s e
   allocates : (h : Handle) (rest : List Handle) → on_event s e ≡ (Ok (outcome.Handle h), record s { allocator = after_alloc s.allocator h })

@@ -26,8 +26,10 @@ use Rattle.ent_replay.specs.declared.event.Event.TheVariants.{Alloc, Free, Flush
 use Rattle.ent_replay.specs.declared.event.Event.TheVariants.{Answer}
 use Rattle.ent_replay.specs.declared.read_fault.Cause.{Cause}
 use Rattle.ent_replay.specs.declared.read_fault.Cause.TheVariants as cause
-use Rattle.ent_replay.specs.ScheduleText.{◌>>=◌, event_text, IsEvent, words_of, or_cause, number_word}
-use Rattle.ent_replay.specs.ScheduleText.{handle_word, none, one, two, begin_of, event_with, event_of}
+use Rattle.ent_replay.specs.ScheduleText.{◌>>=◌, event_text, IsEvent, words_of, or_cause}
+use Rattle.ent_replay.specs.ScheduleText.{number_word}
+use Rattle.ent_replay.specs.ScheduleText.{handle_word, none, one, two, begin_of, event_with}
+use Rattle.ent_replay.specs.ScheduleText.{event_of}
 
 -- ---- steps that did not fail
 

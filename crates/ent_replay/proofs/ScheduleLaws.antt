@@ -1,4 +1,5 @@
--- What is read is spelled so, what is spelled so is read, and a refused text has events up to the line that is named.
+-- What is read is spelled so, what is spelled so is read, and a refused text has events up to the
+-- line that is named.
 use Rattle.std.proofs.Common.{◌≡◌, ℕ, ◌+◌, ◌<◌, ◌⊎◌, Bool, eqb, List, [], ◌∷◌, ◌++◌, length, map}
 use Rattle.std.proofs.Common.{Result, Ok, Err, refl, sym, ap, subst, ◌∙◌, inl, inr, append_assoc}
 use Rattle.std.proofs.Common.{arith}

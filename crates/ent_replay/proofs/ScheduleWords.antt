@@ -1,4 +1,5 @@
--- Lines and words: what stands before the first separator, and then the parts of what stands after it.
+-- Lines and words: what stands before the first separator, and then the parts of what stands after
+-- it.
 use Rattle.std.proofs.Common.{◌≡◌, ◌≢◌, ℕ, ◌<◌, false, eqb, List, [], ◌∷◌, ◌++◌, length, All, Err}
 use Rattle.std.proofs.Common.{refl, ap, ◌∙◌, arith}
 use Rattle.std.specs.List.{slice_split}

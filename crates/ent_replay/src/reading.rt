@@ -1,5 +1,6 @@
 ghost use Rattle.std.specs.Prelude.{◌≡◌, ◌<◌, ◌∷◌, List, length, option_copied, IfOk, IfErr, Ok};
-ghost use Rattle.ent_replay.specs.ScheduleText.{lines_of, words_of, words_after, ReadsAsView, number_word};
+ghost use Rattle.ent_replay.specs.ScheduleText.{lines_of, words_of, words_after, ReadsAsView};
+ghost use Rattle.ent_replay.specs.ScheduleText.{number_word};
 ghost use Rattle.ent_replay.specs.ScheduleText.{handle_word, none, one, two, begin_of, event_of};
 ghost use Rattle.ent_replay.specs.ScheduleText.{AreEvents, Spells, ReadsAsSchedule, ExplainsFault};
 ghost use Rattle.ent_replay.specs.ScheduleText.{schedule_of};

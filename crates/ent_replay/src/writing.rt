@@ -4,7 +4,8 @@ ghost use Rattle.std.specs.Prelude.{Err, OnOk, OnErr, vec_len, vec_capacity};
 ghost use Rattle.ent_handle.specs.Text.{handle_text};
 ghost use Rattle.ent_replay.specs.OutcomeText.{spaced, handles_text, born_text, freed_text};
 ghost use Rattle.ent_replay.specs.OutcomeText.{space_text};
-ghost use Rattle.ent_replay.specs.OutcomeText.{outcome_text, replay_fault_text, lists_handles, line_of};
+ghost use Rattle.ent_replay.specs.OutcomeText.{outcome_text, replay_fault_text, lists_handles};
+ghost use Rattle.ent_replay.specs.OutcomeText.{line_of};
 
 use crate::fault::ReplayFault;
 use crate::handle_list::HandleList;

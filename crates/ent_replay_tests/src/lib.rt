@@ -1,4 +1,5 @@
-//! Tests of what no clause of `ent_replay` says, in a crate of their own, so that the library is proved once.
+//! Tests of what no clause of `ent_replay` says, in a crate of their own, so that the library is
+//! proved once.
 #![tactic(auto)]
 
 #[cfg(test)]

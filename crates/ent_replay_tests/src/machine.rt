@@ -49,8 +49,8 @@ fn lines_by_step(alloc: Global, limits: Limits, schedule: &[u8]) -> Result<Vec<u
     Ok(lines)
 }
 
-// The generation limit, a schedule over 3 slots, and its lines. Each outcome and fault stands here once at least,
-// but for `Quota`: it takes hundreds of calls, and the tests of the program have it.
+// The generation limit, a schedule over 3 slots, and its lines. Each outcome and fault stands here
+// once at least, but for `Quota`: it takes hundreds of calls, and the tests of the program have it.
 const SCHEDULES: [(u32, &[u8], &[u8]); 6] = [
     // It begins with the events of a call that was never begun.
     (

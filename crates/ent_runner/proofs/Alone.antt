@@ -1,5 +1,7 @@
 -- A frame of one worker: its reservations stand in the order of the systems.
-use Rattle.std.proofs.Common.{◌≡◌, ℕ, suc, ◌+◌, ◌<◌, ◌≤◌, List, [], ◌∷◌, ◌++◌, length, map, get_or, refl, ap, sym, ◌∙◌, arith, subst, Some, Bool, true, false, cond, eq-eqb, append-nil, append_assoc, Option, Vec, Global}
+use Rattle.std.proofs.Common.{◌≡◌, ℕ, suc, ◌+◌, ◌<◌, ◌≤◌, List, [], ◌∷◌, ◌++◌, length, map, get_or}
+use Rattle.std.proofs.Common.{refl, ap, sym, ◌∙◌, arith, subst, Some, Bool, true, false, cond}
+use Rattle.std.proofs.Common.{eq-eqb, append-nil, append_assoc, Option, Vec, Global}
 use Rattle.std.specs.Prelude.{◌==◌, filter, slice_get, IfSome}
 use Rattle.std.specs.List.{All, AllPairs, flat_map, range_with_len}
 use Rattle.std.specs.List.Sorted.{IsPermutation}
@@ -17,7 +19,8 @@ use Rattle.ent_world.specs.World.{World}
 use Rattle.ent_world.specs.Sync.{sync}
 use Rattle.ent_world.specs.OpenWorld.{OpenWorld, View, world_at_start}
 use Rattle.ent_world.specs.declared.fault.Fault.{Fault}
-use Rattle.ent_runner.specs.Frame.{IsFrame, Ends, EndsInOrder, queue_at, commands_of, requests_by, first_call, calls_in_order, reserved_by}
+use Rattle.ent_runner.specs.Frame.{IsFrame, Ends, EndsInOrder, queue_at, commands_of, requests_by}
+use Rattle.ent_runner.specs.Frame.{first_call, calls_in_order, reserved_by}
 use Rattle.ent_runner.proofs.Lost.{ClosedAgain}
 use Rattle.ent_runner.proofs.Lists.{at_within, all_below}
 

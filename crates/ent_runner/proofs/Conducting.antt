@@ -1,5 +1,7 @@
 -- What the workers have done together, once all of them are back.
-use Rattle.std.proofs.Common.{◌≡◌, ℕ, zero, suc, ◌+◌, ◌<◌, ◌≤◌, List, [], ◌∷◌, ◌++◌, length, map, get_or, refl, ap, sym, ◌∙◌, arith, subst, Option, Some, None, true, false, take, drop, reverse}
+use Rattle.std.proofs.Common.{◌≡◌, ℕ, zero, suc, ◌+◌, ◌<◌, ◌≤◌, List, [], ◌∷◌, ◌++◌, length, map}
+use Rattle.std.proofs.Common.{get_or, refl, ap, sym, ◌∙◌, arith, subst, Option, Some, None, true}
+use Rattle.std.proofs.Common.{false, take, drop, reverse}
 use Rattle.std.specs.Prelude.{slice_get, replicate, IsSome, IfSome}
 use Rattle.std.proofs.Common.{Vec, Global}
 use Rattle.std.specs.List.{All, AllPairs, flat_map, range_with_len}
@@ -8,7 +10,8 @@ use Rattle.std.proofs.lemmas.Option.{slice_get_within, get_or_from_slice_get}
 use Rattle.std.proofs.lemmas.List.{length-map, get_or-map}
 use Rattle.std.proofs.lemmas.List.Folds.{flat_map-map}
 use Rattle.std.proofs.lemmas.List.Sorted.{All-permutation, IsPermutation-reverse}
-use Rattle.std.proofs.lemmas.List.Elements.{All-nil, All-cons, All-head, All-tail, All-map, All-weaker}
+use Rattle.std.proofs.lemmas.List.Elements.{All-nil, All-cons, All-head, All-tail, All-map}
+use Rattle.std.proofs.lemmas.List.Elements.{All-weaker}
 use Rattle.ent_alloc.specs.History.{IsLegal, after_history}
 use Rattle.ent_alloc.specs.Sequential.{Allocator}
 use Rattle.ent_shared.specs.declared.record.Record.{Record}
@@ -19,11 +22,14 @@ use Rattle.ent_queue.specs.Command.{Command}
 use Rattle.ent_queue.specs.Reserving.{Gains}
 use Rattle.ent_world.specs.World.{World}
 use Rattle.ent_world.specs.OpenWorld.{OpenWorld, View, world_at_start}
-use Rattle.ent_claims.specs.Claims.{Claims, Claimer, HaveEnded, AreFirst, IsClaimerOf as IsClaimerOf}
+use Rattle.ent_claims.specs.Claims.{Claims, Claimer, HaveEnded, AreFirst}
+use Rattle.ent_claims.specs.Claims.{IsClaimerOf as IsClaimerOf}
 use Rattle.ent_runner.specs.declared.worker.SystemQueue.{SystemQueue}
 use Rattle.ent_runner.specs.declared.worker.Worker.{Worker}
-use Rattle.ent_runner.specs.Frame.{IsFrame, IsBrokenOff, SystemMayIssue, SystemMayHaveIssued, view_of, reserved_by}
-use Rattle.ent_runner.specs.Worker.{HasWorked, HaveWorked, HaveRunFirst, HasClaimed, IsUnused, IsFresh, systems_of, commands_issued, all_records}
+use Rattle.ent_runner.specs.Frame.{IsFrame, IsBrokenOff, SystemMayIssue, SystemMayHaveIssued}
+use Rattle.ent_runner.specs.Frame.{view_of, reserved_by}
+use Rattle.ent_runner.specs.Worker.{HasWorked, HaveWorked, HaveRunFirst, HasClaimed, IsUnused}
+use Rattle.ent_runner.specs.Worker.{IsFresh, systems_of, commands_issued, all_records}
 use Rattle.ent_runner.specs.Placing.{queues_placed}
 use Rattle.ent_runner.proofs.Lists.{all_from_each, each_of_all, mapped_at, same_flat}
 use Rattle.ent_runner.proofs.Placed.{length_placed}

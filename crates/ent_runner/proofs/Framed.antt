@@ -1,5 +1,7 @@
 -- What the workers did, their histories and the queues in their places are a frame.
-use Rattle.std.proofs.Common.{◌≡◌, ℕ, suc, ◌+◌, ◌<◌, List, [], ◌∷◌, length, map, get_or, refl, ap, sym, ◌∙◌, arith, subst, Option, Some, None, cond, inl, inr, Result, ne_eqb}
+use Rattle.std.proofs.Common.{◌≡◌, ℕ, suc, ◌+◌, ◌<◌, List, [], ◌∷◌, length, map, get_or, refl, ap}
+use Rattle.std.proofs.Common.{sym, ◌∙◌, arith, subst, Option, Some, None, cond, inl, inr, Result}
+use Rattle.std.proofs.Common.{ne_eqb}
 use Rattle.std.specs.Prelude.{◌==◌, ◌≤◌, slice_get, replicate, IsSome, is_some, unwrap_or}
 use Rattle.std.specs.List.{All, AllPairs, sum_by, flat_map, range_with_len}
 use Rattle.std.specs.List.Sorted.{IsPermutation}
@@ -7,7 +9,8 @@ use Rattle.std.proofs.lemmas.Bool.{cases_eq}
 use Rattle.std.proofs.lemmas.Option.{slice_get_within, get_or_from_slice_get}
 use Rattle.std.proofs.lemmas.List.{length-replicate, get_or-map, length-map}
 use Rattle.std.proofs.lemmas.List.Folds.{flat_map-map}
-use Rattle.std.proofs.lemmas.List.Elements.{All-nil, All-cons, All-head, All-tail, All-map, All-weaker}
+use Rattle.std.proofs.lemmas.List.Elements.{All-nil, All-cons, All-head, All-tail, All-map}
+use Rattle.std.proofs.lemmas.List.Elements.{All-weaker}
 use Rattle.std.proofs.lemmas.List.Sums.{sum_by-cons}
 use Rattle.std.proofs.lemmas.List.Sorted.{sum_by-IsPermutation, All-permutation, IsPermutation-sym}
 use Rattle.ent_handle.specs.Handle.{Handle}
@@ -18,18 +21,22 @@ use Rattle.ent_shared.specs.declared.record.Reservation.{Reservation}
 use Rattle.ent_shared.specs.declared.record.RecordEntry.TheVariants.{Own}
 use Rattle.ent_shared.specs.declared.record.Record.{Record}
 use Rattle.ent_shared.specs.Record.{opened, own_reservations}
-use Rattle.ent_shared.specs.Order.{own_of_all, reservations_of, reservations_by, history_of, as_call, Respects}
+use Rattle.ent_shared.specs.Order.{own_of_all, reservations_of, reservations_by, history_of}
+use Rattle.ent_shared.specs.Order.{as_call, Respects}
 use Rattle.ent_shared.proofs.Sorting.{all_sorted}
 use Rattle.ent_queue.specs.Command.{Command}
 use Rattle.ent_queue.specs.Reserving.{stands_for, FitCredit, Gains}
 use Rattle.ent_world.specs.World.{World}
 use Rattle.ent_world.specs.OpenWorld.{View}
 use Rattle.ent_runner.specs.declared.worker.SystemQueue.{SystemQueue}
-use Rattle.ent_runner.specs.Frame.{IsFrame, IsBrokenOff, IsWork, SystemMayIssue, SystemMayHaveIssued, view_of, queue_at, commands_of, requests_by}
+use Rattle.ent_runner.specs.Frame.{IsFrame, IsBrokenOff, IsWork, SystemMayIssue}
+use Rattle.ent_runner.specs.Frame.{SystemMayHaveIssued, view_of, queue_at, commands_of, requests_by}
 use Rattle.ent_runner.specs.Worker.{systems_of, commands_issued}
 use Rattle.ent_runner.specs.Placing.{queues_placed}
 use Rattle.ent_runner.proofs.Placed.{is_of, times, all_placed, length_placed}
-use Rattle.ent_runner.proofs.Lists.{all_from_each, each_of_all, all_flat, flat_all, same_flat, map_flat, filter_map_is, map_map_is, sum_map, mapped_at, at_within, is_number, once_in_range, some_in_range, all_below}
+use Rattle.ent_runner.proofs.Lists.{all_from_each, each_of_all, all_flat, flat_all, same_flat}
+use Rattle.ent_runner.proofs.Lists.{map_flat, filter_map_is, map_map_is, sum_map, mapped_at}
+use Rattle.ent_runner.proofs.Lists.{at_within, is_number, once_in_range, some_in_range, all_below}
 
 own_mapped : (rs : List Reservation) → own_reservations (map Own rs) ≡ rs
 own_mapped [] = refl

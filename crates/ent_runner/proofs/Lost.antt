@@ -1,11 +1,13 @@
 -- What a frame leaves if no queue was applied.
-use Rattle.std.proofs.Common.{◌≡◌, ℕ, ◌≤◌, Option, Vec, Global, List, length, drop, refl, ap, sym, ◌∙◌, arith, subst}
+use Rattle.std.proofs.Common.{◌≡◌, ℕ, ◌≤◌, Option, Vec, Global, List, length, drop, refl, ap, sym}
+use Rattle.std.proofs.Common.{◌∙◌, arith, subst}
 use Rattle.std.specs.Prelude.{IfSome}
 use Rattle.std.proofs.Math.ListN.{drop_of_length-le}
 use Rattle.ent_alloc.specs.Sequential.{Allocator, available}
 use Rattle.ent_alloc.specs.Sound.{IsSound}
 use Rattle.ent_alloc.specs.History.{Call, after_history, requests_of}
-use Rattle.ent_alloc.proofs.PoolLaw.{after_takes, after_takes-sound, available-after_takes, live-after_takes, made-after_takes, length-taken}
+use Rattle.ent_alloc.proofs.PoolLaw.{after_takes, after_takes-sound, available-after_takes}
+use Rattle.ent_alloc.proofs.PoolLaw.{live-after_takes, made-after_takes, length-taken}
 use Rattle.ent_alloc.proofs.Histories.{after_history-takes}
 use Rattle.ent_queue.specs.Command.{Command}
 use Rattle.ent_world.specs.World.{World}

@@ -1,5 +1,6 @@
 -- What one worker has done in a frame.
-use Rattle.std.specs.Prelude.{◌≡◌, ◌<◌, ◌≤◌, ℕ, List, [], length, map, replicate, None, Some, true, false}
+use Rattle.std.specs.Prelude.{◌≡◌, ◌<◌, ◌≤◌, ℕ, List, [], length, map, replicate, None, Some, true}
+use Rattle.std.specs.Prelude.{false}
 use Rattle.std.specs.Prelude.{vec_capacity, slice_get}
 use Rattle.std.specs.List.{All, AllPairs, flat_map, range_with_len}
 use Rattle.std.specs.List.Sorted.{IsPermutation}

@@ -2,7 +2,8 @@
 use Rattle.std.proofs.Common.{◌≡◌, List, Result, Err, sym, subst}
 use Rattle.std.specs.Global.{Vec}
 use Rattle.ent_script.specs.declared.read_fault.ReadFault.{ReadFault}
-use Rattle.ent_script.specs.declared.read_fault.ReadFault.TheVariants.{Json, Script, Frame, System, Operation, Memory}
+use Rattle.ent_script.specs.declared.read_fault.ReadFault.TheVariants.{Json, Script, Frame, System}
+use Rattle.ent_script.specs.declared.read_fault.ReadFault.TheVariants.{Operation, Memory}
 use Rattle.ent_script.specs.Reading.{ReadsAs, ReadsList}
 
 -- the fault of a part is the fault of the whole

@@ -1,7 +1,10 @@
 -- What a value means is in the ranges of a script.
-use Rattle.std.proofs.Common.{◌≡◌, ℕ, ℤ, pos, negsuc, ◌+◌, ◌<◌, ◌≤◌, zero, suc, Bool, true, false, ◌&&◌, cond}
-use Rattle.std.proofs.Common.{List, [], ◌∷◌, ◌++◌, length, length-append, take, Option, Some, None, option_map, option_and_then, ok_or}
-use Rattle.std.proofs.Common.{Result, Ok, Err, IfSome, is_some, unwrap_or, bytes_eq, codes, refl, subst, arith, lit≤, leb-true}
+use Rattle.std.proofs.Common.{◌≡◌, ℕ, ℤ, pos, negsuc, ◌+◌, ◌<◌, ◌≤◌, zero, suc, Bool, true, false}
+use Rattle.std.proofs.Common.{◌&&◌, cond}
+use Rattle.std.proofs.Common.{List, [], ◌∷◌, ◌++◌, length, length-append, take, Option, Some, None}
+use Rattle.std.proofs.Common.{option_map, option_and_then, ok_or}
+use Rattle.std.proofs.Common.{Result, Ok, Err, IfSome, is_some, unwrap_or, bytes_eq, codes, refl}
+use Rattle.std.proofs.Common.{subst, arith, lit≤, leb-true}
 use Rattle.std.specs.Prelude.{IfOk, nat_le}
 use Rattle.std.specs.declared.cmp.Ordering.{Ordering}
 use Rattle.std.specs.declared.cmp.Ordering.TheVariants.{Less, Equal, Greater}
@@ -27,15 +30,21 @@ use Rattle.ent_script.specs.declared.read_fault.ReadFault.{ReadFault}
 use Rattle.ent_script.specs.declared.read_fault.ReadFault.TheVariants as fault
 use Rattle.ent_script.specs.declared.target.Target.{Target}
 use Rattle.ent_script.specs.declared.target.Target.TheVariants as target
-use Rattle.ent_script.specs.Json.{elements, at_most, members, keys_among, whole, in_range, whole_within}
+use Rattle.ent_script.specs.Json.{elements, at_most, members, keys_among, whole, in_range}
+use Rattle.ent_script.specs.Json.{whole_within}
 use Rattle.ent_script.specs.Names.{as_name, number_among, with_part, names_in}
 use Rattle.ent_script.specs.Script.{Script}
-use Rattle.ent_script.specs.Ranges.{IsBundleOf, IsBindingAt, IsTargetAt, IsOperationAt, AreOperationsFrom}
+use Rattle.ent_script.specs.Ranges.{IsBundleOf, IsBindingAt, IsTargetAt, IsOperationAt}
+use Rattle.ent_script.specs.Ranges.{AreOperationsFrom}
 use Rattle.ent_script.specs.Ranges.{IsSystemOf, IsFrameOf, IsScript}
-use Rattle.ent_script.specs.Reading.{◌>>=◌, test, numbered, or_absent, component_of, item_of, items_of}
-use Rattle.ent_script.specs.Reading.{read_bundle, with_of, count_of, binding_of, removed_of, only, target_handle}
-use Rattle.ent_script.specs.Reading.{target_at, target_of, kind_of, of_kind, operation_of, at_operation, operation_at, bound_name}
-use Rattle.ent_script.specs.Reading.{system_of, frame_of, component_at, component_names, limits_of, in_script, script_of}
+use Rattle.ent_script.specs.Reading.{◌>>=◌, test, numbered, or_absent, component_of, item_of}
+use Rattle.ent_script.specs.Reading.{items_of}
+use Rattle.ent_script.specs.Reading.{read_bundle, with_of, count_of, binding_of, removed_of, only}
+use Rattle.ent_script.specs.Reading.{target_handle}
+use Rattle.ent_script.specs.Reading.{target_at, target_of, kind_of, of_kind, operation_of}
+use Rattle.ent_script.specs.Reading.{at_operation, operation_at, bound_name}
+use Rattle.ent_script.specs.Reading.{system_of, frame_of, component_at, component_names, limits_of}
+use Rattle.ent_script.specs.Reading.{in_script, script_of}
 use Rattle.ent_script.specs.Reading.{script_keys, ReadsAs}
 use Rattle.ent_script.proofs.NamesLaws.{place_of_within}
 

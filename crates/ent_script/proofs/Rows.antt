@@ -17,7 +17,8 @@ use Rattle.ent_script.specs.declared.read_fault.ReadFault.{ReadFault}
 use Rattle.ent_script.specs.declared.read_fault.ReadFault.TheVariants as fault
 use Rattle.ent_script.specs.declared.target.Target.TheVariants as target
 use Rattle.ent_script.specs.Script.{Script}
-use Rattle.ent_script.specs.Reading.{script_of_text, script_of, limits_of, component_names, frame_of}
+use Rattle.ent_script.specs.Reading.{script_of_text, script_of, limits_of, component_names}
+use Rattle.ent_script.specs.Reading.{frame_of}
 use Rattle.ent_script.specs.Reading.{system_of, operation_of, of_kind, has_keys, is_spawn}
 use Rattle.ent_script.specs.Reading.{is_spawn_many, is_insert, is_remove, is_despawn, read_bundle}
 use Rattle.ent_script.specs.Reading.{count_of, binding_of, removed_of, target_of, target_at}

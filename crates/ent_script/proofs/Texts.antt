@@ -1,6 +1,8 @@
 -- Texts: which of them are JSON, and names as texts of their own.
-use Rattle.std.proofs.Common.{◌≡◌, ℕ, ◌+◌, ◌<◌, zero, suc, List, [], ◌∷◌, ◌++◌, length, map, take, get_or}
-use Rattle.std.proofs.Common.{Bool, true, false, cond, Some, None, Bor, String, Global, string_bytes}
+use Rattle.std.proofs.Common.{◌≡◌, ℕ, ◌+◌, ◌<◌, zero, suc, List, [], ◌∷◌, ◌++◌, length, map, take}
+use Rattle.std.proofs.Common.{get_or}
+use Rattle.std.proofs.Common.{Bool, true, false, cond, Some, None, Bor, String, Global}
+use Rattle.std.proofs.Common.{string_bytes}
 use Rattle.std.proofs.Common.{refl, sym, ap, ◌∙◌, arith, add-one}
 use Rattle.std.specs.Str.{IsUtf8, is_utf8}
 use Rattle.std.proofs.lemmas.List.{map-append}

@@ -1,7 +1,8 @@
 ghost use Rattle.std.specs.Prelude.{◌≡◌, ◌++◌, ℕ, List, map, take, string_bytes};
 ghost use Rattle.std.specs.Prelude.{OnOk, OnErr, vec_len, codes};
 ghost use Rattle.std.specs.List.{flat_map};
-ghost use Rattle.ent_script_report.specs.WorldText.{place_text, birth_text, component_name, item_text};
+ghost use Rattle.ent_script_report.specs.WorldText.{place_text, birth_text, component_name};
+ghost use Rattle.ent_script_report.specs.WorldText.{item_text};
 ghost use Rattle.ent_script_report.specs.WorldText.{entity_line, line_in, alive_line, IsWorldText};
 
 use crate::bytes::{append, append_labelled, append_number, append_shown};

@@ -1,5 +1,6 @@
 -- No handle is given twice over all frames of a run, if no slot's generations begin anew.
-use Rattle.std.proofs.Common.{◌≢◌, sym, subst, ℕ, List, [], ◌∷◌, ◌++◌, append_assoc, append-nil, AllPairs}
+use Rattle.std.proofs.Common.{◌≢◌, sym, subst, ℕ, List, [], ◌∷◌, ◌++◌, append_assoc, append-nil}
+use Rattle.std.proofs.Common.{AllPairs}
 use Rattle.ent_handle.specs.Handle.{Handle}
 use Rattle.ent_alloc.specs.Given.{AreSpent}
 use Rattle.ent_alloc.specs.History.{given_in}

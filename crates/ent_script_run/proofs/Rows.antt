@@ -1,6 +1,9 @@
--- Worked runs, by the definitions alone: texts that are a report of a script, and texts that are none.
-use Rattle.std.proofs.Common.{◌≡◌, refl, sym, ◌∙◌, ap, subst, arith, cond, true, false, Bool, ℕ, zero, suc}
-use Rattle.std.proofs.Common.{◌≤◌, ◌<◌, ℤ, pos, List, [], ◌∷◌, ◌++◌, length, map, get_or, append-nil, Some}
+-- Worked runs, by the definitions alone: texts that are a report of a script, and texts that are
+-- none.
+use Rattle.std.proofs.Common.{◌≡◌, refl, sym, ◌∙◌, ap, subst, arith, cond, true, false, Bool, ℕ}
+use Rattle.std.proofs.Common.{zero, suc}
+use Rattle.std.proofs.Common.{◌≤◌, ◌<◌, ℤ, pos, List, [], ◌∷◌, ◌++◌, length, map, get_or}
+use Rattle.std.proofs.Common.{append-nil, Some}
 use Rattle.std.proofs.Common.{None, Option, IsPermutation}
 use Rattle.std.specs.Prelude.{codes, slice_get, Ok, Result, Contains, IsSomeAnd, IsTrue}
 use Rattle.std.specs.Cmp.{Equal-is}
@@ -17,7 +20,8 @@ use Rattle.std.proofs.lemmas.List.Sorted.{IsPermutation-refl}
 use Rattle.ent_handle.specs.Component.{component_cmp, component_cmp_total}
 use Rattle.ent_handle.specs.declared.birth.Birth.{Birth}
 use Rattle.ent_handle.specs.declared.component.ComponentId.{ComponentId}
-use Rattle.ent_handle.specs.Handle.{Handle, handle_cmp, handle_cmp_total, handle_cmp-IsAntisymmetric}
+use Rattle.ent_handle.specs.Handle.{Handle, handle_cmp, handle_cmp_total}
+use Rattle.ent_handle.specs.Handle.{handle_cmp-IsAntisymmetric}
 use Rattle.ent_alloc.specs.declared.space.Space.{Space as OutOfSpace}
 use Rattle.ent_alloc.specs.History.{Call, IsLegal}
 use Rattle.ent_alloc.specs.Limits.{Limits, credit}
@@ -31,7 +35,8 @@ use Rattle.ent_world.specs.declared.fault.Fault.{Fault}
 use Rattle.ent_world.specs.declared.fault.FaultKind.{FaultKind}
 use Rattle.ent_world.specs.declared.fault.FaultKind.TheVariants as kind
 use Rattle.ent_world.specs.World.{World, first_world}
-use Rattle.ent_runner.specs.Frame.{IsFrame, IsWork, view_of, queue_at, calls_in_order, first_call, requests_by}
+use Rattle.ent_runner.specs.Frame.{IsFrame, IsWork, view_of, queue_at, calls_in_order, first_call}
+use Rattle.ent_runner.specs.Frame.{requests_by}
 use Rattle.ent_script.specs.Script.{Script}
 use Rattle.ent_script.specs.declared.operation.Operation.{Operation}
 use Rattle.ent_script.specs.declared.operation.Operation.TheVariants as operation

@@ -67,8 +67,8 @@ where
 /// text of each frame and of the world that the last one leaves. The script is one that
 /// `ent_script` has read.
 ///
-/// With several workers, which entity gets which handle may differ from run to run. What a frame has
-/// done is kept as text alone, so memory grows with the world, the text and the longest frame.
+/// With several workers, which entity gets which handle may differ from run to run. What a frame
+/// has done is kept as text alone, so memory grows with the world, the text and the longest frame.
 ///
 /// # Errors
 ///

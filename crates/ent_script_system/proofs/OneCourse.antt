@@ -1,7 +1,9 @@
 -- A frame of scripted systems on one worker has one course: its queues and its history follow from
 -- the systems and the world.
-use Rattle.std.proofs.Common.{◌≡◌, refl, sym, ap, subst, ◌∙◌, arith, append-nil, eq-eqb, ℕ, ◌<◌, ◌≤◌}
-use Rattle.std.proofs.Common.{ℤ, List, [], ◌∷◌, ◌++◌, length, map, get_or, Some, Ok, Err, Result, true}
+use Rattle.std.proofs.Common.{◌≡◌, refl, sym, ap, subst, ◌∙◌, arith, append-nil, eq-eqb, ℕ, ◌<◌}
+use Rattle.std.proofs.Common.{◌≤◌}
+use Rattle.std.proofs.Common.{ℤ, List, [], ◌∷◌, ◌++◌, length, map, get_or, Some, Ok, Err, Result}
+use Rattle.std.proofs.Common.{true}
 use Rattle.std.specs.Prelude.{◌==◌, if◌then◌else◌, nat_lt, slice_get}
 use Rattle.std.specs.List.{All, AllPairs, flat_map, range_with_len}
 use Rattle.std.specs.List.Sorted.{IsPermutation}
@@ -100,7 +102,8 @@ same_operation view names (operation.Despawn on) s left cs ds a b p q = same_on_
 
 -- ---- one system
 
--- After the same commands the allocator, the credit and the names are the same, so the rest follows.
+-- After the same commands the allocator, the credit and the names are the same, so the rest
+-- follows.
 same_queue : (view : View) (names : Bindings) (ops : List Operation) (s : Allocator) (left : ℕ) (cs ds : List Command) → IssuesAll view names ops cs → IssuesAll view names ops ds → IsServed s left cs → IsServed s left ds → cs ≡ ds
 same_queue view names [] s left cs ds a b p q = a ∙ sym b
 same_queue view names (op ∷ ops) s left cs ds (first, rest, cs_are, may, others) (first', rest', ds_are, may', others') p q =

@@ -9,7 +9,8 @@ use Rattle.ent_world.specs.OpenWorld.{View}
 use Rattle.ent_script.specs.declared.operation.Operation.{Operation}
 use Rattle.ent_script.specs.declared.target.Target.{Target}
 use Rattle.ent_script_system.specs.Issuing.{Bindings, IsTargeted, StopsOnEach, Stops}
-use Rattle.ent_script_system.specs.Parts.{names_of, HasIssuedOn, HasStoppedAmong, HasStoppedOn, HasStopped}
+use Rattle.ent_script_system.specs.Parts.{names_of, HasIssuedOn, HasStoppedAmong, HasStoppedOn}
+use Rattle.ent_script_system.specs.Parts.{HasStopped}
 
 pub issued_on : (view : View) (names : Bindings) (on : Target) (command : Handle → Command) (before after : Issued) (hs : List Handle) (result : Result (Unit {0}) Memory) → IsTargeted view names on hs → OnOk result (queue_of after ≡ queue_of before ++ map command hs) → OnOk result (HasIssuedOn view names on command before after)
 issued_on view names on command before after hs (Ok u) targeted queue =

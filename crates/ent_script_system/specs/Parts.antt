@@ -8,7 +8,8 @@ use Rattle.ent_script.specs.declared.operation.Operation.{Operation}
 use Rattle.ent_script.specs.declared.target.Target.{Target}
 use Rattle.ent_script_system.specs.declared.change.Change.{Change}
 use Rattle.ent_script_system.specs.declared.change.Change.TheVariants as change
-use Rattle.ent_script_system.specs.Issuing.{Bindings, names_after, OnEach, Issues, StopsOnEach, Stops}
+use Rattle.ent_script_system.specs.Issuing.{Bindings, names_after, OnEach, Issues, StopsOnEach}
+use Rattle.ent_script_system.specs.Issuing.{Stops}
 
 -- Each list of handles stands at the number of its name. Nothing is bound to a number past the end.
 abbrev pub names_of : List (List Handle) → Bindings

@@ -9,8 +9,8 @@ use std::alloc::Global;
 use std::process::Abort;
 use std::thread::Threads;
 
-/// Runs the frames of a script on one worker, unless memory is refused. The text has the queues and the faults of each frame,
-/// and the world in the end.
+/// Runs the frames of a script on one worker, unless memory is refused. The text has the queues and
+/// the faults of each frame, and the world in the end.
 pub fn story<R>(rt: &R, alloc: Global, text: &[u8]) -> Result<String, Memory>
 where
     R: Threads + Sync + Abort,

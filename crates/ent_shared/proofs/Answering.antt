@@ -1,5 +1,6 @@
 -- What a reservation answers.
-use Rattle.std.proofs.Common.{◌≡◌, ℕ, ◌≤◌, ℤ, pos, ◌-ℤ◌, List, [], length, take, refl, sym, ap, ◌∙◌, arith, Ok, Err}
+use Rattle.std.proofs.Common.{◌≡◌, ℕ, ◌≤◌, ℤ, pos, ◌-ℤ◌, List, [], length, take, refl, sym, ap, ◌∙◌}
+use Rattle.std.proofs.Common.{arith, Ok, Err}
 use Rattle.std.specs.Prelude.{Result, OnErr, Bool, nat_le, true, false, cond}
 use Rattle.std.proofs.lemmas.Int.{ints}
 use Rattle.std.proofs.lemmas.List.{length-take-le}

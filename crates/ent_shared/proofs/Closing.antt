@@ -1,4 +1,5 @@
--- The end of a phase: the history of all records is legal, and the cursor and the least floor tell the allocator after it.
+-- The end of a phase: the history of all records is legal, and the cursor and the least floor tell
+-- the allocator after it.
 use Rattle.std.proofs.Common.{◌≡◌, ◌≢◌, ℕ, ◌+◌, ◌-◌, ◌*◌, ◌^◌, ◌<◌, ◌≤◌, ℤ, pos, ◌+ℤ◌, ◌-ℤ◌, ◌≤ℤ◌}
 use Rattle.std.proofs.Common.{◌<ℤ◌, List, [], ◌∷◌, ◌++◌, length, map, refl, sym, ap, subst, ◌∙◌}
 use Rattle.std.proofs.Common.{arith, sum, length-append, All, AllPairs, Contains, inl, inr, ◌↔◌}

@@ -1,4 +1,5 @@
--- What all records together tell once no thread steps any more: their own calls are the calls that lead from the top to the cursor.
+-- What all records together tell once no thread steps any more: their own calls are the calls that
+-- lead from the top to the cursor.
 use Rattle.std.proofs.Common.{◌≡◌, ◌≢◌, ℕ, zero, suc, ◌+◌, ◌<◌, ◌≤◌, ⊎_elim, ℤ, ◌≤ℤ◌, ◌<ℤ◌, List}
 use Rattle.std.proofs.Common.{[], ◌∷◌, length, get_or, refl, sym, ap, subst, ◌∙◌, arith, eq-eqb}
 use Rattle.std.proofs.Common.{Some}

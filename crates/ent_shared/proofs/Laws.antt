@@ -1,4 +1,5 @@
--- What crates above need to know of records: how they make up the history, what they were given, and what they have left.
+-- What crates above need to know of records: how they make up the history, what they were given,
+-- and what they have left.
 use Rattle.std.proofs.Common.{◌≡◌, ◌≢◌, ℕ, ◌+◌, ◌≤◌, ℤ, ◌<ℤ◌, List, [], ◌∷◌, ◌++◌, length, map}
 use Rattle.std.proofs.Common.{refl, sym, ap, subst, ◌∙◌, arith, sum, append_assoc, append-nil, All}
 use Rattle.std.proofs.Common.{AllPairs, Contains, IsPermutation, Ok}

@@ -1,4 +1,5 @@
--- A reserver after a reservation and after a meeting: its fields say what its record says, and it stays of its allocator.
+-- A reserver after a reservation and after a meeting: its fields say what its record says, and it
+-- stays of its allocator.
 use Rattle.std.proofs.Common.{◌≡◌, ℕ, ◌-◌, ◌≤◌, ℤ, pos, ◌-ℤ◌, ◌≤ℤ◌, List, [], ◌∷◌, ◌++◌, refl, sym}
 use Rattle.std.proofs.Common.{ap, subst, ◌∙◌}
 use Rattle.std.specs.Prelude.{Result}

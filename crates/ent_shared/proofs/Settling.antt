@@ -1,4 +1,5 @@
--- Calls that lead from the top down to the cursor are a legal history, and two numbers tell the allocator after it.
+-- Calls that lead from the top down to the cursor are a legal history, and two numbers tell the
+-- allocator after it.
 use Rattle.std.proofs.Common.{◌≡◌, ℕ, ◌+◌, ◌<◌, ◌≤◌, ⊎_elim, ℤ, pos, ◌-ℤ◌, ◌≤ℤ◌, List, [], ◌∷◌}
 use Rattle.std.proofs.Common.{◌++◌, length, map, take, drop, refl, sym, ap, subst, ◌∙◌, arith}
 use Rattle.std.proofs.Common.{le-leb, length-append}

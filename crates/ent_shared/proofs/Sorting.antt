@@ -1,4 +1,5 @@
--- The calls by falling high: a list that falls, has the same elements and weighs the same is the same list.
+-- The calls by falling high: a list that falls, has the same elements and weighs the same is the
+-- same list.
 use Rattle.std.proofs.Common.{◌≡◌, ℕ, zero, suc, ◌+◌, ◌<◌, ◌⊎◌, inl, inr, ⊎_elim, ℤ, ◌≤ℤ◌, ◌<ℤ◌}
 use Rattle.std.proofs.Common.{List, [], ◌∷◌, refl, sym, ap, subst, ◌∙◌, arith}
 use Rattle.std.specs.Prelude.{Bool, true, false, cond, int_lt}

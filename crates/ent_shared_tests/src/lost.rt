@@ -18,7 +18,8 @@ enum End {
     AllLost,
 }
 
-/// The allocator after a phase of two reservers, each of which requested these numbers of handles in turn.
+/// The allocator after a phase of two reservers, each of which requested these numbers of handles
+/// in turn.
 fn after(rt: &impl Abort, alloc: Global, entities: Entities, requests: &[u32], end: End) -> Entities
     requires { entities.asked ≡ 0 }
 {
@@ -40,8 +41,8 @@ fn after(rt: &impl Abort, alloc: Global, entities: Entities, requests: &[u32], e
     }
 }
 
-/// What was served counts although nobody is handed in: over fresh slots, over freed ones and over both. The flush lists the
-/// fresh ones first.
+/// What was served counts although nobody is handed in: over fresh slots, over freed ones and over
+/// both. The flush lists the fresh ones first.
 #[test]
 fn what_lost_reservers_were_given_counts(rt: HostRuntime) {
     let alloc = rt.alloc();
@@ -59,7 +60,8 @@ fn what_lost_reservers_were_given_counts(rt: HostRuntime) {
     }
 }
 
-/// The cursor is where `close` leaves it, and if nothing was refused, a flush brings to life the same handles.
+/// The cursor is where `close` leaves it, and if nothing was refused, a flush brings to life the
+/// same handles.
 #[test]
 fn close_lost_beside_close(rt: HostRuntime) {
     let alloc = rt.alloc();
@@ -109,7 +111,8 @@ fn a_refused_request_counts_where_reservers_are_lost(rt: HostRuntime) {
     }
 }
 
-/// One of two reservers is lost: what it requested counts, whether it was served before or after the other.
+/// One of two reservers is lost: what it requested counts, whether it was served before or after
+/// the other.
 #[test]
 fn a_lost_reserver_counts(rt: HostRuntime) {
     let alloc = rt.alloc();

@@ -1,5 +1,6 @@
 -- The components of the entity at a place are changed.
-use Rattle.std.proofs.Common.{◌≡◌, ℕ, zero, suc, ◌<◌, List, [], ◌∷◌, length, get_or, set, Some, refl}
+use Rattle.std.proofs.Common.{◌≡◌, ℕ, zero, suc, ◌<◌, List, [], ◌∷◌, length, get_or, set, Some}
+use Rattle.std.proofs.Common.{refl}
 use Rattle.std.proofs.Common.{sym, ap, subst, ◌∙◌, arith}
 use Rattle.std.proofs.lemmas.List.{get_or_default}
 use Rattle.std.specs.FinMap as finite
@@ -8,7 +9,8 @@ use Rattle.ent_handle.specs.Handle.{Handle, handle_cmp}
 use Rattle.ent_storage.specs.Components.{Components}
 use Rattle.ent_storage.specs.EntityMap.{with_components}
 use Rattle.ent_storage.specs.Living.{LivingEntity, change_at}
-use Rattle.ent_storage.specs.Indexed.{entity_of, entities_of, handles_by_place, counted, IsKeptIndex}
+use Rattle.ent_storage.specs.Indexed.{entity_of, entities_of, handles_by_place, counted}
+use Rattle.ent_storage.specs.Indexed.{IsKeptIndex}
 use Rattle.ent_storage.proofs.Indexed.{some_entity, get_read, entities_changed}
 use Rattle.ent_storage.proofs.Counted.{kept_changed}
 use Rattle.ent_storage.proofs.Placed.{handles_changed}

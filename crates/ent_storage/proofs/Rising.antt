@@ -1,4 +1,5 @@
--- Lists of pairs whose keys strictly rise: what a search finds, and what an edit at its position leaves.
+-- Lists of pairs whose keys strictly rise: what a search finds, and what an edit at its position
+-- leaves.
 use Rattle.std.proofs.Common.{◌≡◌, ℕ, zero, suc, ◌+◌, ◌-◌, ◌<◌, ◌≤◌, ◌⊎◌, inl, inr, Bool, true}
 use Rattle.std.proofs.Common.{false, cond, not, ◌&&◌}
 use Rattle.std.proofs.Common.{T, List, [], ◌∷◌, length, get_or, set, Some, None, Result, Ok, Err}

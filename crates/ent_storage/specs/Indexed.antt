@@ -55,7 +55,8 @@ abbrev pub Keeps : Handle → finite.FinMap handle_cmp ℕ → finite.FinMap han
 Keeps h old new =
     (q : Handle) (i : ℕ) → q ≢ h → finite.get old q ≡ Some i → finite.get new q ≡ Some i
 
--- the residents and their index: the places that count are those of the residents, and there is room for them
+-- the residents and their index: the places that count are those of the residents, and there is
+-- room for them
 pub record IsKeptIndex (living : List LivingEntity) (index : finite.FinMap handle_cmp ℕ) (room : ℕ)
     : Type 0 where
   pub indexed : IsIndexed living (counted living index)

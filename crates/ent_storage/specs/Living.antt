@@ -1,5 +1,6 @@
 -- The living entities place by place, and the residents and columns that stand for them.
-use Rattle.std.specs.Prelude.{◌≡◌, ◌≢◌, ◌+◌, ◌-◌, ◌<◌, ◌≤◌, ℕ, zero, suc, ℤ, List, [], ◌∷◌, length, Option, None, Some, refl}
+use Rattle.std.specs.Prelude.{◌≡◌, ◌≢◌, ◌+◌, ◌-◌, ◌<◌, ◌≤◌, ℕ, zero, suc, ℤ, List, [], ◌∷◌, length}
+use Rattle.std.specs.Prelude.{Option, None, Some, refl}
 use Rattle.std.specs.Prelude.{slice_index_or, slice_get, option_and_then, is_some, IsTrue}
 use Rattle.std.specs.Option.{option_map}
 use Rattle.std.specs.Coded.{Coded, code_by, coded×, coded_list, coded_ℕ}

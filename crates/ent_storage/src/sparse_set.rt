@@ -1,4 +1,5 @@
-ghost use Rattle.std.specs.Prelude.{◌≡◌, ◌<◌, ◌≤◌, ℕ, ℤ, OnOk, OnErr, IfSome, None, Some, slice_get, length};
+ghost use Rattle.std.specs.Prelude.{◌≡◌, ◌<◌, ◌≤◌, ℕ, ℤ, OnOk, OnErr, IfSome, None, Some};
+ghost use Rattle.std.specs.Prelude.{slice_get, length};
 ghost use Rattle.std.specs.Prelude.{Contains};
 ghost use Rattle.std.specs.Ordering.{nat_cmp};
 ghost use Rattle.std.specs.List.{HoldsAt};
@@ -122,7 +123,8 @@ impl SparseSet {
         }
     }
 
-    /// Takes the value of the place out, and moves that of the last place there. It takes no memory.
+    /// Takes the value of the place out, and moves that of the last place there. It takes no
+    /// memory.
     pub fn swap_remove(&mut self, place: usize, last: usize)
         requires { place ≤ last }
         ensures { IsMovedDown place last self.old.values self.new.values }

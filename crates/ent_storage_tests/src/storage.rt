@@ -89,8 +89,8 @@ fn mana_at(number: u32) -> Option<i64> {
     }
 }
 
-// The entities of the numbers below `size`, by birth: those of the numbers that 3 divides, if `thirds`
-// says so, and the others, if `others` does.
+// The entities of the numbers below `size`, by birth: those of the numbers that 3 divides, if
+// `thirds` says so, and the others, if `others` does.
 fn listed(alloc: Global, size: u32, thirds: bool, others: bool) -> Result<Vec<Handle>, Fail> {
     let mut list = Vec::new(alloc);
     for number in (0..size).rev() {

@@ -1,5 +1,6 @@
 -- What answers of a storage mean where some of its faults cannot come.
-use Rattle.std.proofs.Common.{◌≡◌, sym, ap, ◌∙◌, true, true≢false, Result, Ok, Err, OnOk, IfErr, None, is_some, IsErrOf}
+use Rattle.std.proofs.Common.{◌≡◌, sym, ap, ◌∙◌, true, true≢false, Result, Ok, Err, OnOk, IfErr}
+use Rattle.std.proofs.Common.{None, is_some, IsErrOf}
 use Rattle.std.specs.FinMap as map
 use Rattle.ent_handle.specs.Handle.{Handle}
 use Rattle.ent_storage.specs.EntityMap.{EntityMap}

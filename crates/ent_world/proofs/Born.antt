@@ -10,19 +10,25 @@ use Rattle.std.proofs.lemmas.List.Elements.{All-contains}
 use Rattle.std.proofs.lemmas.List.Sorted.{Contains-permutation, length_permutation}
 use Rattle.std.proofs.lemmas.Map.Views.{any-filter_same}
 use Rattle.ent_handle.specs.declared.birth.Birth.{Birth}
-use Rattle.ent_handle.specs.Handle.{Handle, handle_cmp, handle_cmp_total, handle_cmp-IsAntisymmetric}
+use Rattle.ent_handle.specs.Handle.{Handle, handle_cmp, handle_cmp_total}
+use Rattle.ent_handle.specs.Handle.{handle_cmp-IsAntisymmetric}
 use Rattle.ent_alloc.specs.Sequential.{Allocator, stands_in, born, after_flush}
 use Rattle.ent_alloc.specs.Sound.{IsSound, IsLive, AreApart}
-use Rattle.ent_alloc.proofs.HandleSets.{same_handle, itself, Contains-from_stands_in, stands_in-from_Contains}
+use Rattle.ent_alloc.proofs.HandleSets.{same_handle, itself, Contains-from_stands_in}
+use Rattle.ent_alloc.proofs.HandleSets.{stands_in-from_Contains}
 use Rattle.ent_alloc.proofs.ListLaws.{AllPairs-head, AllPairs-tail}
-use Rattle.ent_alloc.proofs.Flushes.{live-after_flush, live-stays, born-IsPermutation, born-lives, born-apart, born-not_live}
+use Rattle.ent_alloc.proofs.Flushes.{live-after_flush, live-stays, born-IsPermutation, born-lives}
+use Rattle.ent_alloc.proofs.Flushes.{born-apart, born-not_live}
 use Rattle.ent_alloc.proofs.Replies.{not_apart}
 use Rattle.ent_storage.specs.EntityMap.{Entity, EntityMap, Store, newborn}
 use Rattle.ent_queue.specs.Command.{Command}
 use Rattle.ent_world.specs.World.{AreLiving}
-use Rattle.ent_world.specs.Sync.{ordinal, no_system, handles_listed, ordinal_among, at_ordinal, listed_birth, unlisted, unlisted_birth, birth_in, with_born}
-use Rattle.ent_world.specs.Entering.{HasRoomForBorn, first_birth, next_birth, entered, entered_queues, entered_others}
-use Rattle.ent_world.proofs.Entered.{or_born, given, or_born-none, given-none, birth_at, next-birth_at, get-entered, birth_by_place, get-entered_queues}
+use Rattle.ent_world.specs.Sync.{ordinal, no_system, handles_listed, ordinal_among, at_ordinal}
+use Rattle.ent_world.specs.Sync.{listed_birth, unlisted, unlisted_birth, birth_in, with_born}
+use Rattle.ent_world.specs.Entering.{HasRoomForBorn, first_birth, next_birth, entered}
+use Rattle.ent_world.specs.Entering.{entered_queues, entered_others}
+use Rattle.ent_world.proofs.Entered.{or_born, given, or_born-none, given-none, birth_at}
+use Rattle.ent_world.proofs.Entered.{next-birth_at, get-entered, birth_by_place, get-entered_queues}
 
 -- each stands there once
 abbrev AreDistinct : List Handle → Type 0

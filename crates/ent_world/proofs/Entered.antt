@@ -1,5 +1,6 @@
 -- Entering handles one by one enters each of them with its birth.
-use Rattle.std.proofs.Common.{◌≡◌, refl, sym, ap, ◌∙◌, subst, ℕ, ◌+◌, Bool, true, false, cond, not, ◌&&◌}
+use Rattle.std.proofs.Common.{◌≡◌, refl, sym, ap, ◌∙◌, subst, ℕ, ◌+◌, Bool, true, false, cond, not}
+use Rattle.std.proofs.Common.{◌&&◌}
 use Rattle.std.proofs.Common.{List, [], ◌∷◌, ◌++◌, Option, Some, None, is_some, arith}
 use Rattle.std.specs.Ordering.{eq_by_cmp}
 use Rattle.std.specs.Option.{option_map}
@@ -14,7 +15,8 @@ use Rattle.ent_alloc.proofs.HandleSets.{same_handle, itself}
 use Rattle.ent_storage.specs.EntityMap.{Entity, EntityMap, newborn}
 use Rattle.ent_queue.specs.Command.{Command}
 use Rattle.ent_world.specs.Sync.{ordinal, handles_listed, ordinal_among, at_ordinal, listed_birth}
-use Rattle.ent_world.specs.Entering.{first_birth, next_birth, birth_after, entered, entered_handles, entered_queues}
+use Rattle.ent_world.specs.Entering.{first_birth, next_birth, birth_after, entered, entered_handles}
+use Rattle.ent_world.specs.Entering.{entered_queues}
 
 -- the handles of two lists, one after the other
 pub entered-append : (s : Allocator) (birth : Birth) (xs ys : List Handle) (m : EntityMap) → entered_handles s birth (xs ++ ys) m ≡ entered_handles s (birth_after birth xs) ys (entered_handles s birth xs m)

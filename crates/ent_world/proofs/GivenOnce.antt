@@ -1,5 +1,5 @@
--- Over the frames of a run no handle is given twice, if no slot's generations begin anew: each frame
--- keeps the list of all given handles free of repetitions.
+-- Over the frames of a run no handle is given twice, if no slot's generations begin anew: each
+-- frame keeps the list of all given handles free of repetitions.
 use Rattle.std.proofs.Common.{◌≡◌, ◌≢◌, refl, sym, ap, ◌∙◌, subst, append-nil, append_assoc, arith}
 use Rattle.std.proofs.Common.{ℕ, true, List, [], ◌∷◌, ◌++◌, Result, Ok, Err}
 use Rattle.std.proofs.lemmas.List.Elements.{All-nil}
@@ -12,7 +12,8 @@ use Rattle.ent_alloc.specs.Given.{IsSpent, AreSpent}
 use Rattle.ent_alloc.specs.History.{Call, IsLegal, after_history, handles_in, given_in}
 use Rattle.ent_alloc.proofs.HandleSets.{in_removed}
 use Rattle.ent_alloc.proofs.PoolLaw.{limits-after_take}
-use Rattle.ent_alloc.proofs.Soundness.{opening-sound, after_take-sound, after_flush-sound, after_free-sound}
+use Rattle.ent_alloc.proofs.Soundness.{opening-sound, after_take-sound, after_flush-sound}
+use Rattle.ent_alloc.proofs.Soundness.{after_free-sound}
 use Rattle.ent_alloc.proofs.GivenOnce.{take-given, refused-given, flush-given, free-given}
 use Rattle.ent_queue.specs.Command.{Command}
 use Rattle.ent_storage.specs.Components.{Components}
@@ -103,7 +104,8 @@ despawn-left h w g living left =
 abbrev LastLive : World → World → Type 0
 LastLive start w = (h : Handle) → h.generation ≡ start.allocator.limits.generations → lives_in start h ≡ true → lives_in w h ≡ true
 
--- a world on the way from the start: if no slot's generations began anew, all that was given is spent
+-- a world on the way from the start: if no slot's generations began anew, all that was given is
+-- spent
 record IsOnTheWay (start : World) (given : List Handle) (w : World) : Type 0 where
   flushed : IsFlushed w
   limits : w.allocator.limits ≡ start.allocator.limits

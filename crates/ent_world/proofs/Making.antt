@@ -1,5 +1,7 @@
 -- The handle that is given next, and an entity that is made or taken back.
-use Rattle.std.proofs.Common.{◌≡◌, refl, sym, ap, ◌∙◌, subst, ℕ, ◌<◌, ◌≤◌, Bool, true, false, cond, not, true≢false, List, [], ◌∷◌, ◌++◌, length, take, reverse, filter, slice_get, All, arith, pos, ◌-ℤ◌}
+use Rattle.std.proofs.Common.{◌≡◌, refl, sym, ap, ◌∙◌, subst, ℕ, ◌<◌, ◌≤◌, Bool, true, false, cond}
+use Rattle.std.proofs.Common.{not, true≢false, List, [], ◌∷◌, ◌++◌, length, take, reverse, filter}
+use Rattle.std.proofs.Common.{slice_get, All, arith, pos, ◌-ℤ◌}
 use Rattle.std.proofs.Common.{Option, Some, None, Result, Ok, Err, OnOk, OnErr, is_err}
 use Rattle.std.specs.Ordering.{eq_by_cmp}
 use Rattle.std.specs.Option.{option_map_or}
@@ -7,10 +9,12 @@ use Rattle.std.specs.FinSet as set
 use Rattle.std.specs.FinMap as map
 use Rattle.std.proofs.lemmas.List.Elements.{All-head}
 use Rattle.ent_handle.specs.declared.birth.Birth.{Birth}
-use Rattle.ent_handle.specs.Handle.{Handle, handle_cmp, handle_cmp_total, handle_cmp-IsAntisymmetric}
+use Rattle.ent_handle.specs.Handle.{Handle, handle_cmp, handle_cmp_total}
+use Rattle.ent_handle.specs.Handle.{handle_cmp-IsAntisymmetric}
 use Rattle.ent_alloc.specs.declared.space.Space.{Space}
 use Rattle.ent_alloc.specs.declared.span.Span.{Span}
-use Rattle.ent_alloc.specs.Sequential.{Allocator, is_old, is_fresh, listed, reply_to, reply_from, pool_at, cursor, top}
+use Rattle.ent_alloc.specs.Sequential.{Allocator, is_old, is_fresh, listed, reply_to, reply_from}
+use Rattle.ent_alloc.specs.Sequential.{pool_at, cursor, top}
 use Rattle.ent_alloc.specs.Sound.{IsSound, IsLive}
 use Rattle.ent_alloc.proofs.HandleSets.{same_handle, itself}
 use Rattle.std.proofs.lemmas.Int.{ints}

@@ -1,5 +1,6 @@
 -- Room for those that are alive and not there yet.
-use Rattle.std.proofs.Common.{◌≡◌, refl, sym, ap, ◌∙◌, subst, ◌+◌, ◌<◌, ◌≤◌, Bool, true, false, cond, not}
+use Rattle.std.proofs.Common.{◌≡◌, refl, sym, ap, ◌∙◌, subst, ◌+◌, ◌<◌, ◌≤◌, Bool, true, false}
+use Rattle.std.proofs.Common.{cond, not}
 use Rattle.std.proofs.Common.{true≢false, List, [], ◌∷◌, length, filter, is_some, arith}
 use Rattle.std.proofs.Common.{Result, Ok, Err, OnOk, OnErr, IsErrOf, IsTrue, ◌||◌}
 use Rattle.std.proofs.lemmas.Map.Views.{any-filter_same}

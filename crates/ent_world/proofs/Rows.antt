@@ -1,5 +1,6 @@
 -- Worked sync points, computed from the definitions alone.
-use Rattle.std.proofs.Common.{◌≡◌, refl, sym, ◌∙◌, ℕ, ℤ, pos, true, false, true≢false, List, [], ◌∷◌, Some, None}
+use Rattle.std.proofs.Common.{◌≡◌, refl, sym, ◌∙◌, ℕ, ℤ, pos, true, false, true≢false, List, []}
+use Rattle.std.proofs.Common.{◌∷◌, Some, None}
 use Rattle.std.specs.FinMap as map
 use Rattle.ent_handle.specs.declared.birth.Birth.{Birth}
 use Rattle.ent_handle.specs.declared.component.ComponentId.{ComponentId}
@@ -77,7 +78,8 @@ nothing_on_it : value_of unlisted.world.entities (0 v 1) (record { 0 = 0 }) ≡ 
 unfolding fresh
 nothing_on_it = simp found
 
--- an entity that is spawned and despawned at once, and its slot's next handle reserved with a fresh one
+-- an entity that is spawned and despawned at once, and its slot's next handle reserved with a fresh
+-- one
 abbrev spawned : World
 spawned = after_spawn (birth 0 0 0) (item 0 7 ∷ []) (0 v 1) (reserved 0)
 
@@ -146,7 +148,8 @@ first_with : value_of stopped.world.entities (0 v 2) (record { 0 = 0 }) ≡ Some
 unfolding fresh
 first_with = simp found
 
--- the only occupant of a slot with one generation dies: the generations begin anew, and the same handle can be given again
+-- the only occupant of a slot with one generation dies: the generations begin anew, and the same
+-- handle can be given again
 abbrev one_generation : World
 one_generation = after_spawn (birth 0 0 0) [] (0 v 1) (first_world (record { slots = 1; generations = 1 }))
 

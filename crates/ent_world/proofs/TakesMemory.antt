@@ -1,5 +1,7 @@
 -- Where a command may take memory.
-use Rattle.std.proofs.Common.{◌≡◌, sym, ap, ◌∙◌, refl, subst, ℕ, ◌+◌, ◌<◌, ◌≤◌, true, not, ◌||◌, nat_lt, List, [], ◌∷◌, length, filter, drop, get_or, slice_get, Some, arith}
+use Rattle.std.proofs.Common.{◌≡◌, sym, ap, ◌∙◌, refl, subst, ℕ, ◌+◌, ◌<◌, ◌≤◌, true, not, ◌||◌}
+use Rattle.std.proofs.Common.{nat_lt, List, [], ◌∷◌, length, filter, drop, get_or, slice_get, Some}
+use Rattle.std.proofs.Common.{arith}
 use Rattle.std.specs.Option.{IsSomeAnd}
 use Rattle.std.proofs.lemmas.Bool.Decides.{nat_tests}
 use Rattle.std.proofs.lemmas.List.{drop_more}
@@ -8,7 +10,8 @@ use Rattle.ent_handle.specs.Handle.{Handle}
 use Rattle.ent_alloc.specs.Sequential.{Allocator, made_at_flush, is_fresh}
 use Rattle.ent_queue.specs.Command.{Bundle, Command}
 use Rattle.ent_world.specs.World.{World, lives_in}
-use Rattle.ent_world.specs.Memory.{insert_takes_memory, place_takes_memory, command_takes_memory, TakesMemoryIn, TakesMemoryAt}
+use Rattle.ent_world.specs.Memory.{insert_takes_memory, place_takes_memory, command_takes_memory}
+use Rattle.ent_world.specs.Memory.{TakesMemoryIn, TakesMemoryAt}
 use Rattle.ent_world.proofs.Folds.{next_below}
 use Rattle.ent_world.proofs.Room.{no_more}
 

@@ -1,5 +1,7 @@
 -- What is true of every world is true of the first one, and stays true: each step leaves a world.
-use Rattle.std.proofs.Common.{◌≡◌, refl, sym, ap, ◌∙◌, subst, ℕ, ◌-◌, ◌++◌, ◌<◌, true, List, [], ◌∷◌, length, take, drop, slice_get, Some, All, AllPairs, filter, arith}
+use Rattle.std.proofs.Common.{◌≡◌, refl, sym, ap, ◌∙◌, subst, ℕ, ◌-◌, ◌++◌, ◌<◌, true, List, []}
+use Rattle.std.proofs.Common.{◌∷◌, length, take, drop, slice_get, Some, All, AllPairs, filter}
+use Rattle.std.proofs.Common.{arith}
 use Rattle.std.proofs.lemmas.List.{take-append-drop}
 use Rattle.ent_handle.specs.declared.birth.Birth.{Birth}
 use Rattle.ent_handle.specs.Handle.{Handle}
@@ -7,7 +9,8 @@ use Rattle.ent_alloc.specs.Limits.{Limits, AreLimits}
 use Rattle.ent_alloc.specs.Sequential.{Allocator, available, born, fresh, is_old}
 use Rattle.ent_alloc.specs.Sound.{IsSound, IsWithin, AreApart}
 use Rattle.ent_alloc.specs.History.{Call, after_history}
-use Rattle.ent_alloc.proofs.Soundness.{opening-sound, after_flush-sound, after_free-sound, after_alloc-sound}
+use Rattle.ent_alloc.proofs.Soundness.{opening-sound, after_flush-sound, after_free-sound}
+use Rattle.ent_alloc.proofs.Soundness.{after_alloc-sound}
 use Rattle.ent_shared.specs.Phase.{after_loss}
 use Rattle.ent_storage.specs.Components.{Components}
 use Rattle.ent_storage.specs.EntityMap.{with_components}
@@ -15,10 +18,12 @@ use Rattle.ent_queue.specs.Command.{Bundle, Command}
 use Rattle.ent_world.specs.World.{World, IsWorld, lives_in, first_world}
 use Rattle.ent_world.specs.Command.{Applied, after_spawn, after_despawn, after_queues, spawned}
 use Rattle.ent_world.specs.Sync.{after_births, sync, birth_in}
-use Rattle.ent_world.proofs.Living.{keys-empty, keys-insert, keys-remove, keys-components, living-history}
+use Rattle.ent_world.proofs.Living.{keys-empty, keys-insert, keys-remove, keys-components}
+use Rattle.ent_world.proofs.Living.{living-history}
 use Rattle.ent_world.proofs.Born.{living-after}
 use Rattle.ent_world.proofs.Kept.{after_queues-keeps}
-use Rattle.ent_world.proofs.GivenOnce.{IsFlushed, flushed-kept, history-sound, sync-sound, sync-living}
+use Rattle.ent_world.proofs.GivenOnce.{IsFlushed, flushed-kept, history-sound, sync-sound}
+use Rattle.ent_world.proofs.GivenOnce.{sync-living}
 
 -- nobody has lived yet
 pub first_world-world : (limits : Limits) → AreLimits limits → IsWorld (first_world limits)

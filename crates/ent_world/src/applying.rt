@@ -8,7 +8,8 @@ ghost use Rattle.ent_world.specs.Command.{applied, refused, on_entity, on_each, 
 ghost use Rattle.ent_world.specs.Command.{after_remove, after_despawn, after_command};
 ghost use Rattle.ent_world.specs.Command.{after_commands, after_queues};
 ghost use Rattle.ent_world.specs.Sync.{first_part, stops, cut_commands, cut, IsStop};
-ghost use Rattle.ent_world.specs.Memory.{insert_takes_memory, place_takes_memory, command_takes_memory, TakesMemoryIn};
+ghost use Rattle.ent_world.specs.Memory.{insert_takes_memory, place_takes_memory};
+ghost use Rattle.ent_world.specs.Memory.{command_takes_memory, TakesMemoryIn};
 ghost use Rattle.ent_world.specs.Memory.{TakesMemoryAt};
 
 use crate::fault::{Fault, FaultKind};

@@ -1,4 +1,5 @@
-//! Calls and comparisons without contracts, so that the proof of a test that makes many of them stays short.
+//! Calls and comparisons without contracts, so that the proof of a test that makes many of them
+//! stays short.
 use crate::scene::{Entity, handle};
 use crate::shown::{shown, shown_faults};
 use ent_alloc::{AllocFault, FreeFault, Freed};

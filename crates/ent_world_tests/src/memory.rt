@@ -19,7 +19,8 @@ const AFTER: &str = "0.0.0 0v1 0=10 1=5\n0.0.0 2v1 1=1 2=2\n0.0.1 3v1 1=1 2=2\n0
 
 const FAULTS: &str = "0 4 not alive 1v1\n1 1 not alive 9v1\n";
 
-/// The world and the faults before the command, or before that handle of it, at which memory ran out.
+/// The world and the faults before the command, or before that handle of it, at which memory ran
+/// out.
 fn before_stop(system: usize, command: usize, done: usize) -> (&'static str, &'static str) {
     match (system, command, done) {
         (0, 0, 0) => (
@@ -103,8 +104,8 @@ fn assert_unchanged(rt: &impl Abort, alloc: Global, world: &World) {
 }
 
 // Passes whichever single allocation is refused: `rt try --test --fail-alloc N -- refused_memory`
-// refuses the Nth. A refused flush changes nothing, and the call is made again. At a refused command
-// all births stand, and of the commands just those before.
+// refuses the Nth. A refused flush changes nothing, and the call is made again. At a refused
+// command all births stand, and of the commands just those before.
 #[test]
 fn refused_memory_stops_between_commands(rt: HostRuntime) {
     let alloc = rt.alloc();

@@ -80,7 +80,8 @@ fn a_full_world_refuses_a_spawn(rt: HostRuntime) {
     assert_len(&rt, &world, 1);
 }
 
-// A queue with a refusal, with commands on an entity that went before, and on the next occupant of its slot.
+// A queue with a refusal, with commands on an entity that went before, and on the next occupant of
+// its slot.
 #[test]
 fn faults_stand_in_order(rt: HostRuntime) {
     let alloc = rt.alloc();

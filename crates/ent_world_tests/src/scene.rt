@@ -1,5 +1,5 @@
-//! Worlds in a phase, and queues that are issued over them. Memory that is refused once is asked for
-//! again.
+//! Worlds in a phase, and queues that are issued over them. Memory that is refused once is asked
+//! for again.
 ghost use Rattle.std.specs.Prelude.{◌≡◌, [], ◌∷◌, All, IfOk, length};
 ghost use Rattle.ent_queue.specs.Commands.{IsReady, shared_of};
 ghost use Rattle.ent_shared.specs.Phase.{IsOf};

@@ -1,4 +1,5 @@
-//! One thread, an allocator and a storage: spawn, despawn, and what stands under a handle whose entity is gone.
+//! One thread, an allocator and a storage: spawn, despawn, and what stands under a handle whose
+//! entity is gone.
 #![tactic(auto)]
 
 use anyhow::Result;
@@ -49,7 +50,8 @@ fn main(rt: HostRuntime) -> Result<()> {
     print_healths(&rt, &game)
 }
 
-/// Spawns a knight and a rat, and a raven in the slot of the rat, which is gone then. Returns the handles of these two.
+/// Spawns a knight and a rat, and a raven in the slot of the rat, which is gone then. Returns the
+/// handles of these two.
 fn take_the_slot<R: Print + AllocGlobal>(rt: &R, game: &mut Game) -> Result<(Handle, Handle)> {
     let knight = game.spawn(0, &[(HEALTH, 20), (ARMOUR, 3)])?;
     let rat = game.spawn(1, &[(HEALTH, 4)])?;

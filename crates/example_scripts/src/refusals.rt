@@ -1,4 +1,5 @@
-//! Scripts that are refused, each on a line of `refusals.txt` with the line of its refusal below it.
+//! Scripts that are refused, each on a line of `refusals.txt` with the line of its refusal below
+//! it.
 
 use crate::printing::printed;
 use anyhow::Result;

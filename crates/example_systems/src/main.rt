@@ -1,6 +1,6 @@
-//! How a system is written: from eight lines that may issue anything, over refusals, loops and lists
-//! of several types, to a promise that the frame hands on. `docs/WRITING_A_SYSTEM.md` explains it
-//! step by step.
+//! How a system is written: from eight lines that may issue anything, over refusals, loops and
+//! lists of several types, to a promise that the frame hands on. `docs/WRITING_A_SYSTEM.md`
+//! explains it step by step.
 #![tactic(auto)]
 
 ghost use Rattle.std.specs.Prelude.{◌≡◌, ◌≤◌, length, IfOk, OnOk};

@@ -1,5 +1,5 @@
-//! Threads of the caller's own that reserve handles from one allocator, side by side. `phase` ensures that they were given 1,024
-//! handles, no two of them the same.
+//! Threads of the caller's own that reserve handles from one allocator, side by side. `phase`
+//! ensures that they were given 1,024 handles, no two of them the same.
 #![tactic(auto)]
 
 ghost use Rattle.std.specs.Prelude.{◌≡◌, ◌≢◌, ◌+◌, [], vec_len, AllPairs, OnOk, IfOk};
@@ -30,8 +30,8 @@ fn main(rt: HostRuntime) -> Result<()> {
     }
 }
 
-/// A whole phase: two threads reserve, one of them meets the other and reserves again, and a flush brings to life what they were
-/// given. Returns all handles that they were given.
+/// A whole phase: two threads reserve, one of them meets the other and reserves again, and a flush
+/// brings to life what they were given. Returns all handles that they were given.
 fn phase<R>(rt: &R, shared: Shared, a: Reserver, b: Reserver) -> Result<Vec<Handle>>
 where
     R: Threads + Sync + Print + AllocGlobal,
@@ -59,7 +59,8 @@ where
     end(rt, shared, a, b)
 }
 
-/// The phase ends with all its reservers, and a flush brings to life what they were given. Returns all these handles.
+/// The phase ends with all its reservers, and a flush brings to life what they were given. Returns
+/// all these handles.
 fn end<R: Print + AllocGlobal>(rt: &R, shared: Shared, a: Worker, b: Worker) -> Result<Vec<Handle>>
     requires two { shared.count ≡ 2 }
     requires first { IsOf shared a.reserver }

@@ -1,5 +1,5 @@
-//! Runs schedules of allocator events and scripts of frames: `spawnrun replay` and `spawnrun run` read one on standard input,
-//! and write what it gave.
+//! Runs schedules of allocator events and scripts of frames: `spawnrun replay` and `spawnrun run`
+//! read one on standard input, and write what it gave.
 #![tactic(auto)]
 
 use spawnrun_lib::start;

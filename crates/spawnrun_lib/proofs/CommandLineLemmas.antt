@@ -1,6 +1,7 @@
 -- What clap makes of the program's words: a subcommand, with a number in range for each option.
 use Rattle.std.proofs.Common.{◌≡◌, ◌∙◌, ◌^◌, ◌<◌, ◌≤◌, ℕ, Bool, true, false, List, [], ◌∷◌, cond}
-use Rattle.std.proofs.Common.{◌&&◌, ◌||◌, IfSome, refl, sym, ap, subst, inl, inr, codes, Option, Some, None, is_some}
+use Rattle.std.proofs.Common.{◌&&◌, ◌||◌, IfSome, refl, sym, ap, subst, inl, inr, codes, Option}
+use Rattle.std.proofs.Common.{Some, None, is_some}
 use Rattle.std.proofs.lemmas.Bool.{false≢true}
 use Rattle.std.specs.Prelude.{Box, Result, Ok, Err, IfErr, IsErrAnd, pos, option_map}
 use Rattle.std.specs.Option.{option_map_or}
@@ -40,10 +41,13 @@ use Rattle.clap.specs.Words.{App, found_of, first_of, first_value, takes}
 use Rattle.clap.specs.Takes.{built_takes, entered_passes, level_passes}
 use Rattle.clap.specs.Kinds.{Kinds}
 use Rattle.clap.specs.Walk.{texts}
-use Rattle.spawnrun_lib.specs.CommandLine.{IsFaultIn, IsFaultOf, HasNumber, HasShow, option_number, placed_texts}
+use Rattle.spawnrun_lib.specs.CommandLine.{IsFaultIn, IsFaultOf, HasNumber, HasShow, option_number}
+use Rattle.spawnrun_lib.specs.CommandLine.{placed_texts}
 use Rattle.spawnrun_lib.specs.CommandLine.{number_option, generations_option, program, slots_option}
-use Rattle.spawnrun_lib.specs.CommandLine.{program_of, show_option, show_text, shown, workers_option}
-use Rattle.spawnrun_lib.proofs.MovedNames.{level_fault-moved, level_passes-moved, moved_shape, rows_after-moved}
+use Rattle.spawnrun_lib.specs.CommandLine.{program_of, show_option, show_text, shown}
+use Rattle.spawnrun_lib.specs.CommandLine.{workers_option}
+use Rattle.spawnrun_lib.proofs.MovedNames.{level_fault-moved, level_passes-moved, moved_shape}
+use Rattle.spawnrun_lib.proofs.MovedNames.{rows_after-moved}
 use Rattle.spawnrun_lib.proofs.ParsedOptions.{none_of, Fits, HasValue, IsOption, IsRequest}
 use Rattle.spawnrun_lib.proofs.ParsedOptions.{option-has_value}
 

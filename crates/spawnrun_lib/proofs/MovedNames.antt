@@ -1,5 +1,7 @@
--- Clap reads the names that an option takes, and not the place where they stand: what it makes of words stays the same if they move.
-use Rattle.std.proofs.Common.{◌≡◌, ◌∙◌, ◌&&◌, ◌||◌, ℕ, Bool, true, false, not, List, [], ◌∷◌, cond, zero, suc, refl, sym, ap, map}
+-- Clap reads the names that an option takes, and not the place where they stand: what it makes of
+-- words stays the same if they move.
+use Rattle.std.proofs.Common.{◌≡◌, ◌∙◌, ◌&&◌, ◌||◌, ℕ, Bool, true, false, not, List, [], ◌∷◌, cond}
+use Rattle.std.proofs.Common.{zero, suc, refl, sym, ap, map}
 use Rattle.std.proofs.Common.{Option, Some, None, is_some, length}
 use Rattle.std.specs.Prelude.{encode_utf8, slice_get, drop, fold, find, option_map}
 use Rattle.std.specs.Borrow.{Bor}
@@ -12,20 +14,33 @@ use Rattle.clap.specs.Kinds.{Kinds, or_else, value_kinds, check_kinds}
 use Rattle.clap.specs.Lexer.{long_of, short_of}
 use Rattle.clap.specs.Values.{is_request, reading_of, same_text}
 use Rattle.clap.specs.ValueTests.{accepts}
-use Rattle.clap.specs.Takes.{action_passes, bundle_passes, bundle_step_passes, count_passes, default_passes, flag_word_passes, flags_pass}
-use Rattle.clap.specs.Takes.{is_given, is_valid, level_passes, long_passes, option_passes, other_passes, positional_passes, react_passes}
-use Rattle.clap.specs.Takes.{set_passes, settle_passes, short_passes, step_passes, turn_passes, use_passes, values_pass, walk_passes, word_passes}
-use Rattle.clap.specs.Walk.{Held, Names, Outcome, Step, Waiting, Walk, action_of, after_flag, after_step, arg_by_id, arg_by_index}
-use Rattle.clap.specs.Walk.{arg_by_long, arg_by_short, attached_value, bundle, bundle_met, bundle_step, default_rows, done, finished}
-use Rattle.clap.specs.Walk.{flag_met, has_row, idle, is_empty, is_multiple, is_pending, long_met, long_or_other, next}
-use Rattle.clap.specs.Walk.{next_position, nothing_held, option, option_met, option_word, plain, plain_word, positional, positional_held}
-use Rattle.clap.specs.Walk.{pushed, reacted, reading_by, refused, rows_after, settled, settled_rows, short_met, short_or_plain}
-use Rattle.clap.specs.Walk.{subcommand, subcommand_met, subcommand_or_other, takes_several, takes_values, texts, to_positional, trailing}
-use Rattle.clap.specs.Walk.{used, used_as, used_by_id, value, values_or_missing, waits, walk, walk_from, walked, walked_from, with_default}
+use Rattle.clap.specs.Takes.{action_passes, bundle_passes, bundle_step_passes, count_passes}
+use Rattle.clap.specs.Takes.{default_passes, flag_word_passes, flags_pass}
+use Rattle.clap.specs.Takes.{is_given, is_valid, level_passes, long_passes, option_passes}
+use Rattle.clap.specs.Takes.{other_passes, positional_passes, react_passes}
+use Rattle.clap.specs.Takes.{set_passes, settle_passes, short_passes, step_passes, turn_passes}
+use Rattle.clap.specs.Takes.{use_passes, values_pass, walk_passes, word_passes}
+use Rattle.clap.specs.Walk.{Held, Names, Outcome, Step, Waiting, Walk, action_of, after_flag}
+use Rattle.clap.specs.Walk.{after_step, arg_by_id, arg_by_index}
+use Rattle.clap.specs.Walk.{arg_by_long, arg_by_short, attached_value, bundle, bundle_met}
+use Rattle.clap.specs.Walk.{bundle_step, default_rows, done, finished}
+use Rattle.clap.specs.Walk.{flag_met, has_row, idle, is_empty, is_multiple, is_pending, long_met}
+use Rattle.clap.specs.Walk.{long_or_other, next}
+use Rattle.clap.specs.Walk.{next_position, nothing_held, option, option_met, option_word, plain}
+use Rattle.clap.specs.Walk.{plain_word, positional, positional_held}
+use Rattle.clap.specs.Walk.{pushed, reacted, reading_by, refused, rows_after, settled, settled_rows}
+use Rattle.clap.specs.Walk.{short_met, short_or_plain}
+use Rattle.clap.specs.Walk.{subcommand, subcommand_met, subcommand_or_other, takes_several}
+use Rattle.clap.specs.Walk.{takes_values, texts, to_positional, trailing}
+use Rattle.clap.specs.Walk.{used, used_as, used_by_id, value, values_or_missing, waits, walk}
+use Rattle.clap.specs.Walk.{walk_from, walked, walked_from, with_default}
 use Rattle.clap.specs.Walk.{word_met}
-use Rattle.clap.specs.Faults.{action_fault, bundle_fault, bundle_step_fault, check_fault, count_fault, default_fault, defaults_fault}
-use Rattle.clap.specs.Faults.{flag_word_fault, flags_fault, level_fault, long_fault, option_fault, other_fault}
-use Rattle.clap.specs.Faults.{positional_fault, react_fault, repeat_fault, set_fault, settle_fault, short_fault, step_fault, stray_fault}
+use Rattle.clap.specs.Faults.{action_fault, bundle_fault, bundle_step_fault, check_fault}
+use Rattle.clap.specs.Faults.{count_fault, default_fault, defaults_fault}
+use Rattle.clap.specs.Faults.{flag_word_fault, flags_fault, level_fault, long_fault, option_fault}
+use Rattle.clap.specs.Faults.{other_fault}
+use Rattle.clap.specs.Faults.{positional_fault, react_fault, repeat_fault, set_fault, settle_fault}
+use Rattle.clap.specs.Faults.{short_fault, step_fault, stray_fault}
 use Rattle.clap.specs.Faults.{turn_fault, use_fault, values_fault, walk_fault, word_fault}
 use Rattle.clap.specs.declared.builder.ArgAction.{ArgAction}
 use Rattle.clap.specs.declared.builder.ArgAction.TheVariants as action

@@ -32,8 +32,8 @@ pub(crate) fn write<O: Sink>(
     }
 }
 
-/// Writes the line that refuses an input, if there was memory for it. If the line went out, the error
-/// stream is told what the test wants that failed, and what it found.
+/// Writes the line that refuses an input, if there was memory for it. If the line went out, the
+/// error stream is told what the test wants that failed, and what it found.
 pub(crate) fn refuse<O: Sink, E: Sink>(
     output: &mut O,
     errors: &mut E,

@@ -3,7 +3,8 @@ ghost use Rattle.std.specs.Prelude.{◌≡◌, [], IfOk, IfErr, OnOk, map, Some,
 ghost use Rattle.clap.specs.Words.{app_of, fault_of, first_of, rule_of, takes};
 ghost use Rattle.clap.specs.declared.builder.Command.TheViews.{out-Command as fields_of};
 ghost use Rattle.ent_alloc.specs.Limits.{AreLimits};
-ghost use Rattle.spawnrun_lib.specs.CommandLine.{AreWorkers, AsksFor, HasNumber, HasShow, IsFaultIn};
+ghost use Rattle.spawnrun_lib.specs.CommandLine.{AreWorkers, AsksFor, HasNumber, HasShow};
+ghost use Rattle.spawnrun_lib.specs.CommandLine.{IsFaultIn};
 ghost use Rattle.spawnrun_lib.specs.CommandLine.{given, name_option, option_number, number_option};
 ghost use Rattle.spawnrun_lib.specs.CommandLine.{program, program_of, replay_command, run_command};
 ghost use Rattle.spawnrun_lib.specs.CommandLine.{show_text, top_command};

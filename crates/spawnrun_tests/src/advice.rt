@@ -260,8 +260,8 @@ fn a_list_that_is_too_long_is_counted(rt: HostRuntime) -> Result<(), Fail> {
     Ok(())
 }
 
-/// Passes whichever single allocation is refused: a run that is refused has its line, and says what the
-/// test wants, or it hears of the memory.
+/// Passes whichever single allocation is refused: a run that is refused has its line, and says what
+/// the test wants, or it hears of the memory.
 #[test]
 fn refused_memory_of_an_advice(rt: HostRuntime) {
     let mut source = MemorySource::new(b"{\"components\":[],\"frames\":1}", 64, NEVER);

@@ -4,8 +4,8 @@ use std::io;
 use std::io::{ErrorKind, Read, Write};
 use std::test::Fail;
 
-// A reader and writer of single bytes. A signal interrupts this many calls before each that goes on, and
-// it fails after `calls` calls that went on.
+// A reader and writer of single bytes. A signal interrupts this many calls before each that goes
+// on, and it fails after `calls` calls that went on.
 #[derive(Drop)]
 struct Choppy {
     bytes: Vec<u8>,
@@ -57,7 +57,8 @@ impl Write for Choppy {
     }
 }
 
-/// A device of these bytes, that is interrupted so often before each call, and fails after `calls` calls.
+/// A device of these bytes, that is interrupted so often before each call, and fails after `calls`
+/// calls.
 fn device_of(bytes: Vec<u8>, interruptions: u32, calls: u64) -> Counted<Choppy> {
     Counted::new(Choppy {
         bytes,
@@ -94,7 +95,8 @@ fn a_failure_comes_once(rt: HostRuntime) -> Result<(), Fail> {
     Ok(())
 }
 
-// A reader and writer that would block at its first call. From then on it is at its end, and takes all.
+// A reader and writer that would block at its first call. From then on it is at its end, and takes
+// all.
 #[derive(Drop)]
 struct Blocked {
     is_called: bool,

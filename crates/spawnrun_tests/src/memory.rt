@@ -66,8 +66,8 @@ impl Source for EndlessSource {
     }
 }
 
-/// Keeps what it is given, and fails once, after `calls` calls that succeed. From then on it tells nothing
-/// and keeps nothing.
+/// Keeps what it is given, and fails once, after `calls` calls that succeed. From then on it tells
+/// nothing and keeps nothing.
 #[derive(Drop)]
 pub struct MemorySink {
     pub bytes: Vec<u8>,

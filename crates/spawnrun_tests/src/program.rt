@@ -43,8 +43,8 @@ const HELP: &str = "Runs schedules and scripts over Bevy's entity allocator\n\n\
      3  memory ran out, and nothing was written\n  \
      4  reading or writing failed\n";
 
-// Runs the program on these words and this input, and compares how it ends. Its output fails after `puts`
-// calls that succeed.
+// Runs the program on these words and this input, and compares how it ends. Its output fails after
+// `puts` calls that succeed.
 fn ends(
     rt: &(impl Threads + Sync + Abort + AllocGlobal),
     words: &[&str],
@@ -143,8 +143,8 @@ fn words_that_ask_for_no_task_use_no_device(rt: HostRuntime) {
     }
 }
 
-// The exit status on these words and this input, if the error stream fails. The output fails after `puts`
-// calls that succeed.
+// The exit status on these words and this input, if the error stream fails. The output fails after
+// `puts` calls that succeed.
 fn status_unheard(
     rt: &(impl Threads + Sync + AllocGlobal),
     words: &[&str],
@@ -193,7 +193,8 @@ fn words_that_cannot_be_read(rt: HostRuntime) {
     }
 }
 
-/// Passes whichever single allocation is refused: what asks for help gets all of its text, or hears of the memory.
+/// Passes whichever single allocation is refused: what asks for help gets all of its text, or hears
+/// of the memory.
 #[test]
 fn refused_memory_is_told_in_place_of_help(rt: HostRuntime) {
     let mut source = MemorySource::new(b"alloc\n", 7, NEVER);

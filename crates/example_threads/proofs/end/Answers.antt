@@ -1,11 +1,13 @@
-use Rattle.std.proofs.Common.{◌≡◌, ◌≢◌, List, [], ◌∷◌, ◌++◌, map, AllPairs, sym, subst, ◌∙◌, append-nil}
+use Rattle.std.proofs.Common.{◌≡◌, ◌≢◌, List, [], ◌∷◌, ◌++◌, map, AllPairs, sym, subst, ◌∙◌}
+use Rattle.std.proofs.Common.{append-nil}
 use Rattle.ent_alloc.specs.History.{given_in}
 use Rattle.ent_shared.specs.Order.{history_of, handles_given}
 use Rattle.ent_shared.specs.Phase.{Reserver}
 use Rattle.ent_shared.proofs.Laws.{given-distinct}
 use Rattle.example_threads.proofs.end.Goals as goal
 
--- The workers have all that their reservers were given, one after the other, and no handle stands there twice.
+-- The workers have all that their reservers were given, one after the other, and no handle stands
+-- there twice.
 pub returns-clause-distinct : goal.returns-clause-distinct
 returns-clause-distinct g c =
     let a = c.args.a in

@@ -8,7 +8,8 @@ use Rattle.ent_alloc.specs.History.{IsLegal}
 use Rattle.ent_claims.specs.Claims.{IsClaimerOf as IsClaimerOf}
 use Rattle.ent_runner.specs.declared.worker.Worker.{Worker}
 use Rattle.ent_runner.specs.Worker.{all_records}
-use Rattle.ent_runner.proofs.Conducting.{reservers_own, claimers_own, once_closed, first_closed, all_full, places_back, records_are, closed_by}
+use Rattle.ent_runner.proofs.Conducting.{reservers_own, claimers_own, once_closed, first_closed}
+use Rattle.ent_runner.proofs.Conducting.{all_full, places_back, records_are, closed_by}
 use Rattle.ent_runner.proofs.frame.finish.Goals as goal
 
 pub close-requires-clause-own : goal.close-requires-clause-own

@@ -1,4 +1,5 @@
-use Rattle.std.proofs.Common.{◌≡◌, ◌+◌, ◌∙◌, ◌∷◌, ◌++◌, [], ℕ, List, length, length-append, Option, Some, None, option_map}
+use Rattle.std.proofs.Common.{◌≡◌, ◌+◌, ◌∙◌, ◌∷◌, ◌++◌, [], ℕ, List, length, length-append, Option}
+use Rattle.std.proofs.Common.{Some, None, option_map}
 use Rattle.std.proofs.Common.{Result, Err, Bor, map, ap, sym, subst, rules, ok_or, arith}
 use Rattle.serde_json.specs.View.{view}
 use Rattle.ent_script.specs.declared.cause.ScriptCause.TheVariants as script_cause

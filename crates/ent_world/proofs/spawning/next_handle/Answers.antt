@@ -1,7 +1,8 @@
 use Rattle.std.proofs.Common.{◌≡◌, refl, sym, ap, ◌∙◌, arith, pos, ◌-ℤ◌}
 use Rattle.std.proofs.lemmas.Int.{ints}
 use Rattle.ent_alloc.specs.Sequential.{cursor}
-use Rattle.ent_world.proofs.Making.{one_given, some_given, given_new, none_given, pool_some, reply_at_top}
+use Rattle.ent_world.proofs.Making.{one_given, some_given, given_new, none_given, pool_some}
+use Rattle.ent_world.proofs.Making.{reply_at_top}
 use Rattle.ent_world.proofs.spawning.next_handle.Goals as goal
 
 pub returns-in_default-clause-space : goal.returns-in_default-clause-space

@@ -6,7 +6,8 @@ use Rattle.ent_replay.specs.declared.ReadFault.TheVariants.{Line}
 use Rattle.ent_replay.specs.ScheduleText.{schedule_of}
 use Rattle.ent_replay.specs.Schedule.{outcomes_of, starting}
 use Rattle.spawnrun_lib.specs.Advice.{AdvisesOnSchedule, schedule_long, schedule_none}
-use Rattle.spawnrun_lib.specs.Replay.{ReplayEnds, runs, is_too_long, spells_none, input_limit, outcome_lines}
+use Rattle.spawnrun_lib.specs.Replay.{ReplayEnds, runs, is_too_long, spells_none, input_limit}
+use Rattle.spawnrun_lib.specs.Replay.{outcome_lines}
 use Rattle.spawnrun_lib.specs.Replay.{refused_line, size_line}
 use Rattle.spawnrun_lib.proofs.ReplayLemmas.{advised, is_longer, reported, told_is}
 use Rattle.spawnrun_lib.proofs.replaying.replay.Goals as goal

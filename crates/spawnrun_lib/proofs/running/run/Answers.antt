@@ -6,7 +6,8 @@ use Rattle.spawnrun_lib.specs.declared.input.InputFault.{InputFault}
 use Rattle.spawnrun_lib.specs.Advice.{AdvisesOnScript, script_long, script_none}
 use Rattle.spawnrun_lib.specs.Replay.{input_limit, size_line}
 use Rattle.spawnrun_lib.specs.Running.{RunEnds, IsScriptReport, runs, is_too_long, means_none}
-use Rattle.spawnrun_lib.proofs.ReplayLemmas.{advised, had_memory, is_longer, reported, told_is, written}
+use Rattle.spawnrun_lib.proofs.ReplayLemmas.{advised, had_memory, is_longer, reported, told_is}
+use Rattle.spawnrun_lib.proofs.ReplayLemmas.{written}
 use Rattle.spawnrun_lib.proofs.RunningLemmas.{IsRefusal, fault_read, made, refusal}
 use Rattle.spawnrun_lib.proofs.running.run.Goals as goal
 

@@ -2,7 +2,8 @@ use Rattle.std.proofs.Common.{◌≡◌, ◌∙◌, IfSome, ℕ, List, codes, tr
 use Rattle.clap.specs.Words.{HasKind, rows_of, found_of, takes}
 use Rattle.spawnrun_lib.specs.CommandLine.{program}
 use Rattle.spawnrun_lib.proofs.CommandLineLemmas.{IsProgram-names, MeetsTask-parse}
-use Rattle.spawnrun_lib.proofs.CommandLineLemmas.{found_fault, none_other, only_memory, replay_asked}
+use Rattle.spawnrun_lib.proofs.CommandLineLemmas.{found_fault, none_other, only_memory}
+use Rattle.spawnrun_lib.proofs.CommandLineLemmas.{replay_asked}
 use Rattle.spawnrun_lib.proofs.CommandLineLemmas.{run_asked, subcommand_met-named}
 use Rattle.spawnrun_lib.proofs.task.command_line.Goals as goal
 

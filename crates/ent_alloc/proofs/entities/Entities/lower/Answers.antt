@@ -1,4 +1,5 @@
-use Rattle.std.proofs.Common.{◌≡◌, ◌+◌, pos, ◌-ℤ◌, ap, subst, sym, ◌∙◌, arith, to_z, of_z, w64, length, inl, inr}
+use Rattle.std.proofs.Common.{◌≡◌, ◌+◌, pos, ◌-ℤ◌, ap, subst, sym, ◌∙◌, arith, to_z, of_z, w64}
+use Rattle.std.proofs.Common.{length, inl, inr}
 use Rattle.std.proofs.lemmas.Int.{ints}
 use Rattle.std.proofs.lemmas.Bool.{cases_lt}
 use Rattle.ent_alloc.specs.declared.requests.Requests.{Requests}
@@ -6,7 +7,8 @@ use Rattle.ent_alloc.specs.Sequential.{Allocator, top}
 use Rattle.ent_alloc.specs.Entities.{allocator_of, AreReserved}
 use Rattle.ent_alloc.specs.Sound.{IsSound}
 use Rattle.ent_alloc.proofs.Spans.{IsSpanOf-after_take}
-use Rattle.ent_alloc.proofs.Meaning.{top_is, length_available, served_view, served_reserved, refused_view}
+use Rattle.ent_alloc.proofs.Meaning.{top_is, length_available, served_view, served_reserved}
+use Rattle.ent_alloc.proofs.Meaning.{refused_view}
 use Rattle.ent_alloc.proofs.Meaning.{refused_reserved}
 use Rattle.ent_alloc.proofs.entities.Entities.lower.Goals as goal
 

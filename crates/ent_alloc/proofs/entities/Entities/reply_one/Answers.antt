@@ -1,4 +1,5 @@
-use Rattle.std.proofs.Common.{◌≡◌, ℕ, ◌+◌, pos, ◌-ℤ◌, ◌≤ℤ◌, nat_abs, length, sym, ap, ◌∙◌, ◌∷◌, [], Ok, arith, to_z, of_z, w64}
+use Rattle.std.proofs.Common.{◌≡◌, ℕ, ◌+◌, pos, ◌-ℤ◌, ◌≤ℤ◌, nat_abs, length, sym, ap, ◌∙◌, ◌∷◌, []}
+use Rattle.std.proofs.Common.{Ok, arith, to_z, of_z, w64}
 use Rattle.std.proofs.lemmas.Int.{ints}
 use Rattle.ent_handle.specs.Handle.{Handle}
 use Rattle.ent_alloc.specs.Limits.{Limits}

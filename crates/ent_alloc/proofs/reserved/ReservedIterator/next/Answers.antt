@@ -1,7 +1,8 @@
 use Rattle.std.proofs.Common.{◌+◌, ◌∷◌, length, sym, ap, ◌∙◌, rules}
 use Rattle.ent_handle.specs.Handle.{Handle}
 use Rattle.ent_alloc.specs.Reserved.{reserved_handles}
-use Rattle.ent_alloc.proofs.Listing.{reserved_handles-pending, reserved_handles-fresh, reserved_handles-none}
+use Rattle.ent_alloc.proofs.Listing.{reserved_handles-pending, reserved_handles-fresh}
+use Rattle.ent_alloc.proofs.Listing.{reserved_handles-none}
 use Rattle.ent_alloc.proofs.reserved.ReservedIterator.next.Goals as goal
 
 pub returns-then-self-clause-steps : goal.returns-then-self-clause-steps

@@ -10,7 +10,8 @@ use Rattle.ent_queue.specs.Command.{IsBundle}
 use Rattle.ent_queue.specs.Place.{AreRising, IsPlaceOf, IsGapFor}
 use Rattle.std.proofs.lemmas.Bool.{cases_lt, false≢true}
 use Rattle.ent_queue.proofs.Results.{OnErr-always}
-use Rattle.ent_queue.proofs.Rising.{are_rising, put_between, put_over, find_between, bundle_put, refill_whole}
+use Rattle.ent_queue.proofs.Rising.{are_rising, put_between, put_over, find_between, bundle_put}
+use Rattle.ent_queue.proofs.Rising.{refill_whole}
 use Rattle.ent_queue.proofs.bundle.Bundle.put.Goals as goal
 
 -- what is written over

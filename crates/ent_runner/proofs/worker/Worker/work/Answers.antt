@@ -1,7 +1,8 @@
 use Rattle.std.proofs.Common.{◌<◌, ◌∙◌, List, length, subst, arith}
 use Rattle.ent_runner.specs.declared.worker.SystemQueue.{SystemQueue}
 use Rattle.ent_runner.specs.Frame.{SystemMayIssue}
-use Rattle.ent_runner.proofs.Running.{ran_more, ran_some, ran_last, of_ok, of_err, inside_more, claims_more}
+use Rattle.ent_runner.proofs.Running.{ran_more, ran_some, ran_last, of_ok, of_err, inside_more}
+use Rattle.ent_runner.proofs.Running.{claims_more}
 use Rattle.ent_runner.proofs.worker.Worker.work.Goals as goal
 
 pub loop-system-preserved : goal.loop-system-preserved

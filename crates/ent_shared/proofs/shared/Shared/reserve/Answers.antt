@@ -1,4 +1,5 @@
-use Rattle.std.proofs.Common.{◌≡◌, refl, ◌-ℤ◌, pos, sym, ap, ◌∙◌, arith, to_z, of_z, w64, ◌++◌, append-nil}
+use Rattle.std.proofs.Common.{◌≡◌, refl, ◌-ℤ◌, pos, sym, ap, ◌∙◌, arith, to_z, of_z, w64, ◌++◌}
+use Rattle.std.proofs.Common.{append-nil}
 use Rattle.std.specs.Prelude.{Result}
 use Rattle.std.proofs.lemmas.Int.{ints}
 use Rattle.ent_handle.specs.Handle.{Handle}

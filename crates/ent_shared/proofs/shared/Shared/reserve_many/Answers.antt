@@ -1,4 +1,5 @@
-use Rattle.std.proofs.Common.{ℕ, ◌-◌, ◌-ℤ◌, ◌≤ℤ◌, pos, sym, arith, subst, to_z, of_z, w64, List, ◌++◌, append-nil}
+use Rattle.std.proofs.Common.{ℕ, ◌-◌, ◌-ℤ◌, ◌≤ℤ◌, pos, sym, arith, subst, to_z, of_z, w64, List}
+use Rattle.std.proofs.Common.{◌++◌, append-nil}
 use Rattle.std.specs.Prelude.{Result}
 use Rattle.ent_handle.specs.Handle.{Handle}
 use Rattle.ent_alloc.specs.declared.space.Space.{Space}

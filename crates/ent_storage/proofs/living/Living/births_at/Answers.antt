@@ -1,4 +1,5 @@
-use Rattle.std.proofs.Common.{ℕ, ℤ, [], ◌∷◌, ◌++◌, map, get_or, Some, ap, sym, ◌∙◌, arith, pos, Option}
+use Rattle.std.proofs.Common.{ℕ, ℤ, [], ◌∷◌, ◌++◌, map, get_or, Some, ap, sym, ◌∙◌, arith, pos}
+use Rattle.std.proofs.Common.{Option}
 use Rattle.ent_handle.specs.declared.birth.Birth.{Birth}
 use Rattle.ent_handle.specs.Handle.{Handle}
 use Rattle.ent_storage.specs.declared.living.Resident.{Resident}

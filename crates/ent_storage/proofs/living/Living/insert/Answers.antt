@@ -5,7 +5,8 @@ use Rattle.ent_storage.specs.SparseSet.{Values}
 use Rattle.ent_storage.specs.declared.living.Resident.{Resident}
 use Rattle.ent_storage.specs.Living.{Living, LivingEntity, change_at}
 use Rattle.ent_storage.proofs.ColumnsLemmas.{same_components}
-use Rattle.ent_storage.proofs.LivingLemmas.{components_from, inside_from, same_from, changed_from, changed_within, written_back}
+use Rattle.ent_storage.proofs.LivingLemmas.{components_from, inside_from, same_from, changed_from}
+use Rattle.ent_storage.proofs.LivingLemmas.{changed_within, written_back}
 use Rattle.ent_storage.proofs.Missing.{on_err}
 use Rattle.ent_storage.proofs.living.Living.insert.Goals as goal
 

@@ -1,4 +1,5 @@
-use Rattle.std.proofs.Common.{◌≡◌, ℕ, List, length, get_or, Some, slice_get, ap, sym, ◌∙◌, arith, option_and_then}
+use Rattle.std.proofs.Common.{◌≡◌, ℕ, List, length, get_or, Some, slice_get, ap, sym, ◌∙◌, arith}
+use Rattle.std.proofs.Common.{option_and_then}
 use Rattle.std.proofs.lemmas.Option.{slice_get-get_or, none-some}
 use Rattle.ent_storage.proofs.ColumnsLemmas.{taken_none}
 use Rattle.std.specs.FinMap as finite

@@ -4,7 +4,8 @@ use Rattle.ent_storage.specs.Components.{Components}
 use Rattle.ent_storage.specs.declared.living.Resident.{Resident}
 use Rattle.ent_storage.specs.Living.{Living, change_at}
 use Rattle.ent_storage.proofs.ColumnsLemmas.{get_components}
-use Rattle.ent_storage.proofs.LivingLemmas.{components_from, inside_from, changed_from, changed_within, written_back}
+use Rattle.ent_storage.proofs.LivingLemmas.{components_from, inside_from, changed_from}
+use Rattle.ent_storage.proofs.LivingLemmas.{changed_within, written_back}
 use Rattle.ent_storage.proofs.living.Living.remove.Goals as goal
 
 pub invariant_of-self : goal.invariant_of-self

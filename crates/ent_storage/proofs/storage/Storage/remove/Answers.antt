@@ -3,7 +3,8 @@ use Rattle.std.specs.FinMap as map
 use Rattle.ent_storage.specs.EntityMap.{Entity, Store, with_components}
 use Rattle.ent_storage.specs.Indexed.{counted}
 use Rattle.ent_storage.proofs.Indexed.{some_entity, some_not_none, get_unplaced}
-use Rattle.ent_storage.proofs.Changed.{inside, found, changed_entities, changed_handles, changed_kept, length_changed}
+use Rattle.ent_storage.proofs.Changed.{inside, found, changed_entities, changed_handles}
+use Rattle.ent_storage.proofs.Changed.{changed_kept, length_changed}
 use Rattle.ent_storage.proofs.storage.Storage.remove.Goals as goal
 
 -- the index has no place of the handle
