@@ -127,7 +127,7 @@ impl Shortest {
         whole: f64::INFINITY,
     };
 
-    /// Times the work once more. Returns what it answers.
+    /// Times the work once more. Returns what it returns.
     fn time(&mut self, handles: u32, rounds: u32, work: impl Fn(u32, u32) -> u64) -> u64 {
         let (_, before) = seconds(|| work(black_box(handles), black_box(0)));
         let (answer, whole) = seconds(|| work(black_box(handles), black_box(rounds)));

@@ -1,7 +1,7 @@
 //! Work for an allocator, exported so that `run.sh` can time it.
 //!
 //! Each export works on `handles` handles: first once, which makes the slots, and then in `rounds`
-//! rounds. It answers a sum of the handles that it was given.
+//! rounds. It returns a sum of the handles that it was given.
 #![tactic(auto)]
 
 ghost use Rattle.std.specs.Prelude.{◌≡◌, ◌+◌, ◌^◌, ◌<◌, ◌≤◌, IfOk, length, vec_len};

@@ -108,7 +108,7 @@ fn shortest(spawns: u32) -> [Times; 3] {
     least
 }
 
-/// What the work answers, and its time a command.
+/// What the work returns, and its time a command.
 fn nanoseconds(spawns: u32, work: impl Fn() -> u64) -> (u64, f64) {
     let times = (STEPS / spawns).max(1);
     let start = Instant::now();

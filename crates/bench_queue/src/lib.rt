@@ -13,7 +13,7 @@ use std::alloc::Global;
 
 const VALUE: ComponentId = ComponentId(0);
 
-/// Makes the queue and reads it in every round. Answers how many commands it has, and a sum of what
+/// Makes the queue and reads it in every round. Returns how many commands it has, and a sum of what
 /// was read.
 #[unsafe(no_mangle)]
 pub extern "C" fn queue_read(alloc: Global, spawns: u32, rounds: u32) -> u64 {

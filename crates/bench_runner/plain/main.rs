@@ -63,7 +63,7 @@ fn uneven(long: usize) -> [Work; SYSTEMS] {
     systems
 }
 
-/// Runs each system once. Answers the values of the entities in the order of the systems.
+/// Runs each system once. Returns the values of the entities in the order of the systems.
 fn frame<S: System>(start: Start, systems: &[S], workers: usize) -> Vec<i64> {
     let next = AtomicUsize::new(0);
     let mut issued = side_by_side(start, workers, &|| {
@@ -80,7 +80,7 @@ fn frame<S: System>(start: Start, systems: &[S], workers: usize) -> Vec<i64> {
     issued.into_iter().filter_map(|(_, value)| value).collect()
 }
 
-/// What all workers answer. This thread is one of them.
+/// What all workers return. This thread is one of them.
 fn side_by_side<X, F>(start: Start, workers: usize, work: &F) -> Vec<X>
 where
     X: Send,

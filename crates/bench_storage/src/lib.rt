@@ -2,7 +2,7 @@
 //!
 //! Each export makes a storage of `entities` entities. The i-th measured call is on the entity
 //! whose handle has the index `i * stride % entities`, so a stride of 1 goes through them in order,
-//! and a large prime in a scattered order. Each answers how many calls of its last round succeeded.
+//! and a large prime in a scattered order. Each returns how many calls of its last round succeeded.
 #![tactic(auto)]
 
 ghost use Rattle.std.specs.Prelude.{◌<◌, ◌≤◌};

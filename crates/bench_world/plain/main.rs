@@ -55,7 +55,7 @@ fn main() {
     }
 }
 
-/// Issues the commands and applies them. Answers the seconds of `apply`.
+/// Issues the commands and applies them. Returns the seconds of `apply`.
 fn phase(world: &mut World, entities: u32, stride: u32, kind: Kind) -> f64 {
     let queues = vec![issued(world, entities, stride, kind)];
     let start = Instant::now();

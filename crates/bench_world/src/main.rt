@@ -86,7 +86,7 @@ where
     Ok(())
 }
 
-/// Issues the commands and applies them. Answers the seconds of `apply`.
+/// Issues the commands and applies them. Returns the seconds of `apply`.
 fn phase<R>(rt: &R, world: World, work: Work) -> io::Result<(World, f64)>
 where
     R: Clock + AllocGlobal,

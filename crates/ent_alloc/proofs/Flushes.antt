@@ -17,7 +17,8 @@ use Rattle.ent_alloc.proofs.Taken.{taken-old, taken-fresh}
 use Rattle.ent_alloc.proofs.Replies.{fresh_is_not_old, apart_both, not_apart}
 
 -- who is alive after a flush was alive or was taken
-pub live-after_flush : (s : Allocator) (x : Handle) → IsLive (after_flush s) x → IsLive s x ⊎ Contains s.taken x
+pub live-after_flush : (s : Allocator) (x : Handle) → IsLive (after_flush s) x → IsLive s x
+    ⊎ Contains s.taken x
 live-after_flush s x alive = in_union_list s.live s.taken x alive
 
 -- who was alive stays so
@@ -37,26 +38,32 @@ born-IsPermutation s =
     (IsPermutation-filter_both (is_old s.made) (is_fresh s.made) (fresh_is_not_old s.made) s.taken)
     (IsPermutation-trans (old ++ new) (new ++ old) (new ++ reverse old)
     (IsPermutation-append_comm old new)
-    (IsPermutation-append new new old (reverse old) (IsPermutation-refl new) (IsPermutation-reverse old)))
+    (IsPermutation-append new new old (reverse old) (IsPermutation-refl new)
+    (IsPermutation-reverse old)))
 
 -- each that is born is alive then
 pub born-lives : (s : Allocator) → All (IsLive (after_flush s)) (born s)
-born-lives s = All-permutation (IsLive (after_flush s)) s.taken (born s) (born-IsPermutation s) (λ k d lt. taken-lives s _ (All-contains_itself s.taken k d lt))
+born-lives s = All-permutation (IsLive (after_flush s)) s.taken (born s) (born-IsPermutation s)
+    (λ k d lt. taken-lives s _ (All-contains_itself s.taken k d lt))
 
 module _ (s : Allocator) (h : IsSound s) where
   -- the first occupants of the new slots, and then the old handles, the last of the pool first
-  pub born_is : born s ≡ fresh s.made (length s.taken - top s) ++ reverse (take (length s.taken) (old_ones s))
+  pub born_is : born s ≡ fresh s.made (length s.taken - top s)
+      ++ reverse (take (length s.taken) (old_ones s))
   born_is = rw (taken-fresh s h, taken-old s h)
 
   -- the fresh ones rise in index
   pub born-fresh_rise : AllPairs (λ g h. g.index < h.index) (filter (is_fresh s.made) s.taken)
-  born-fresh_rise = subst (AllPairs (λ g h. g.index < h.index)) (sym (taken-fresh s h)) (AllPairs-fresh s.made (length s.taken - top s))
+  born-fresh_rise = subst (AllPairs (λ g h. g.index < h.index)) (sym (taken-fresh s h))
+      (AllPairs-fresh s.made (length s.taken - top s))
 
   -- no two are of one slot
   pub born-apart : AllPairs AreApart (born s)
-  born-apart = AllPairs-IsPermutation AreApart apart_both s.taken (born s) (born-IsPermutation s) (AllPairs-left AreApart s.taken (s.aside ++ s.pool) h.apart)
+  born-apart = AllPairs-IsPermutation AreApart apart_both s.taken (born s) (born-IsPermutation s)
+      (AllPairs-left AreApart s.taken (s.aside ++ s.pool) h.apart)
 
   -- none was alive
   pub born-not_live : All (λ x. ¬ (IsLive s x)) (born s)
   born-not_live = All-permutation (λ x. ¬ (IsLive s x)) s.taken (born s) (born-IsPermutation s)
-      (λ k d lt alive. not_apart (get_or s.taken k d) (All-left (AreApart (get_or s.taken k d)) s.taken (s.aside ++ s.pool) (h.live (get_or s.taken k d) alive).apart k d lt))
+      (λ k d lt alive. not_apart (get_or s.taken k d) (All-left (AreApart (get_or s.taken k d))
+      s.taken (s.aside ++ s.pool) (h.live (get_or s.taken k d) alive).apart k d lt))

@@ -21,7 +21,8 @@ length-fresh index zero = refl
 length-fresh index (suc slots) = ap (λ n. suc n) (length-fresh (index + 1) slots)
 
 -- the next of them, and the rest
-pub fresh-next : (index slots : ℕ) → fresh index (suc slots) ≡ first_of_slot index ∷ fresh (index + 1) slots
+pub fresh-next : (index slots : ℕ) → fresh index (suc slots) ≡ first_of_slot index
+    ∷ fresh (index + 1) slots
 unfolding fresh
 fresh-next index slots = refl
 
@@ -31,7 +32,8 @@ unfolding fresh
 fresh-none index = refl
 
 -- the one at a position
-pub get_or-fresh : (index slots k : ℕ) (d : Handle) → k < slots → get_or (fresh index slots) k d ≡ first_of_slot (index + k)
+pub get_or-fresh : (index slots k : ℕ) (d : Handle) → k < slots → get_or (fresh index slots) k d
+    ≡ first_of_slot (index + k)
 unfolding fresh
 get_or-fresh index zero k d lt = absurd (omega arith)
 get_or-fresh index (suc slots) zero d lt = ap first_of_slot (omega arith)
@@ -42,7 +44,8 @@ get_or-fresh index (suc slots) (suc k) d lt =
 -- what is left of them
 pub drop-fresh : (k index slots : ℕ) → drop k (fresh index slots) ≡ fresh (index + k) (slots - k)
 unfolding fresh
-drop-fresh zero index slots = let same : index + 0 ≡ index = omega arith in let all : slots - 0 ≡ slots = omega arith in rw (same, all)
+drop-fresh zero index slots = let same : index + 0 ≡ index = omega arith in let all : slots - 0
+    ≡ slots = omega arith in rw (same, all)
 drop-fresh (suc k) index zero = let none : 0 - suc k ≡ 0 = omega arith in rw none
 drop-fresh (suc k) index (suc slots) =
     let shift : index + 1 + k ≡ index + suc k = omega arith in
@@ -54,10 +57,12 @@ pub take-fresh : (k index slots : ℕ) → k ≤ slots → take k (fresh index s
 unfolding fresh
 take-fresh zero index slots le = refl
 take-fresh (suc k) index zero le = absurd (omega arith)
-take-fresh (suc k) index (suc slots) le = ap (first_of_slot index ∷◌) (take-fresh k (index + 1) slots (omega arith))
+take-fresh (suc k) index (suc slots) le = ap (first_of_slot index ∷◌)
+    (take-fresh k (index + 1) slots (omega arith))
 
 -- each is of a slot in the range, and its first occupant
-pub All-fresh : (P : Handle → Type 0) (index slots : ℕ) → ((k : ℕ) → k < slots → P (first_of_slot (index + k))) → All P (fresh index slots)
+pub All-fresh : (P : Handle → Type 0) (index slots : ℕ)
+    → ((k : ℕ) → k < slots → P (first_of_slot (index + k))) → All P (fresh index slots)
 All-fresh P index slots each k d lt =
     let within : k < slots = omega (arith, length-fresh index slots) in
     rw (get_or-fresh index slots k d within) (each k within)
@@ -71,28 +76,40 @@ AllPairs-fresh index slots i j d lt within =
 
 -- no two of them are of one slot
 pub fresh_apart : (index slots : ℕ) → AllPairs AreApart (fresh index slots)
-fresh_apart index slots i j d lt within same = let rises = AllPairs-fresh index slots i j d lt within in omega arith
+fresh_apart index slots i j d lt within same = let rises = AllPairs-fresh index slots i j d lt
+    within in omega arith
 
 -- none of them is old where they begin
-pub no_fresh_is_old : (made index slots : ℕ) → made ≤ index → filter (is_old made) (fresh index slots) ≡ []
+pub no_fresh_is_old : (made index slots : ℕ) → made ≤ index
+    → filter (is_old made) (fresh index slots) ≡ []
 no_fresh_is_old made index slots le =
-    filter_none (is_old made) (fresh index slots) (All-fresh (λ h. is_old made h ≡ false) index slots (λ k lt. le-ltb _ _ (omega arith)))
+    filter_none (is_old made) (fresh index slots) (All-fresh (λ h. is_old made h ≡ false) index
+    slots (λ k lt. le-ltb _ _ (omega arith)))
 
 -- each of them is fresh where they begin
-pub each_fresh_is_fresh : (made index slots : ℕ) → made ≤ index → All (λ h. is_fresh made h ≡ true) (fresh index slots)
-each_fresh_is_fresh made index slots le = All-fresh (λ h. is_fresh made h ≡ true) index slots (λ k lt. le-leb _ _ (omega arith))
+pub each_fresh_is_fresh : (made index slots : ℕ) → made ≤ index → All (λ h. is_fresh made h ≡ true)
+    (fresh index slots)
+each_fresh_is_fresh made index slots le = All-fresh (λ h. is_fresh made h ≡ true) index slots
+    (λ k lt. le-leb _ _ (omega arith))
 
 -- so a filter of the fresh keeps all
-pub all_fresh_are_fresh : (made index slots : ℕ) → made ≤ index → filter (is_fresh made) (fresh index slots) ≡ fresh index slots
-all_fresh_are_fresh made index slots le = filter_all (is_fresh made) (fresh index slots) (each_fresh_is_fresh made index slots le)
+pub all_fresh_are_fresh : (made index slots : ℕ) → made ≤ index
+    → filter (is_fresh made) (fresh index slots) ≡ fresh index slots
+all_fresh_are_fresh made index slots le = filter_all (is_fresh made) (fresh index slots)
+    (each_fresh_is_fresh made index slots le)
 
 -- old handles are no fresh ones
-pub no_old_is_fresh : (made : ℕ) (old : List Handle) → All (λ h. h.index < made) old → filter (is_fresh made) old ≡ []
-no_old_is_fresh made old below = filter_none (is_fresh made) old (All-weaker (λ h. h.index < made) (λ h. is_fresh made h ≡ false) (λ h lt. lt-leb _ _ lt) old below)
+pub no_old_is_fresh : (made : ℕ) (old : List Handle) → All (λ h. h.index < made) old
+    → filter (is_fresh made) old ≡ []
+no_old_is_fresh made old below = filter_none (is_fresh made) old
+    (All-weaker (λ h. h.index < made) (λ h. is_fresh made h ≡ false) (λ h lt. lt-leb _ _ lt) old
+    below)
 
 -- a filter of the old keeps all old handles
-pub all_old_are_old : (made : ℕ) (old : List Handle) → All (λ h. h.index < made) old → filter (is_old made) old ≡ old
-all_old_are_old made old below = filter_all (is_old made) old (All-weaker (λ h. h.index < made) (λ h. is_old made h ≡ true) (λ h lt. lt-ltb _ _ lt) old below)
+pub all_old_are_old : (made : ℕ) (old : List Handle) → All (λ h. h.index < made) old
+    → filter (is_old made) old ≡ old
+all_old_are_old made old below = filter_all (is_old made) old
+    (All-weaker (λ h. h.index < made) (λ h. is_old made h ≡ true) (λ h lt. lt-ltb _ _ lt) old below)
 
 -- old handles and then fresh ones: a filter takes them apart again
 module _ (made slots : ℕ) (old : List Handle) (below : All (λ h. h.index < made) old) where
@@ -100,7 +117,8 @@ module _ (made slots : ℕ) (old : List Handle) (below : All (λ h. h.index < ma
   pub old_of_joined : filter (is_old made) (old ++ fresh made slots) ≡ old
   old_of_joined =
       filter-append (is_old made) old (fresh made slots)
-      ∙ rw (all_old_are_old made old below, no_fresh_is_old made made slots (omega arith)) (append-nil old)
+      ∙ rw (all_old_are_old made old below, no_fresh_is_old made made slots (omega arith))
+      (append-nil old)
 
   -- the fresh ones
   pub fresh_of_joined : filter (is_fresh made) (old ++ fresh made slots) ≡ fresh made slots
@@ -109,9 +127,13 @@ module _ (made slots : ℕ) (old : List Handle) (below : All (λ h. h.index < ma
       ∙ rw (no_old_is_fresh made old below, all_fresh_are_fresh made made slots (omega arith)) refl
 
   -- the front of both
-  pub take_joined : (k : ℕ) → k ≤ length old + slots → take k (old ++ fresh made slots) ≡ take k old ++ fresh made (k - length old)
-  take_joined k enough = take-append k old (fresh made slots) ∙ ap (take k old ++◌) (take-fresh (k - length old) made slots (omega arith))
+  pub take_joined : (k : ℕ) → k ≤ length old + slots → take k (old ++ fresh made slots) ≡ take k old
+      ++ fresh made (k - length old)
+  take_joined k enough = take-append k old (fresh made slots)
+      ∙ ap (take k old ++◌) (take-fresh (k - length old) made slots (omega arith))
 
   -- what is left of both
-  pub drop_joined : (k : ℕ) → drop k (old ++ fresh made slots) ≡ drop k old ++ fresh (made + (k - length old)) (slots - (k - length old))
-  drop_joined k = drop-append k old (fresh made slots) ∙ ap (drop k old ++◌) (drop-fresh (k - length old) made slots)
+  pub drop_joined : (k : ℕ) → drop k (old ++ fresh made slots) ≡ drop k old
+      ++ fresh (made + (k - length old)) (slots - (k - length old))
+  drop_joined k = drop-append k old (fresh made slots)
+      ∙ ap (drop k old ++◌) (drop-fresh (k - length old) made slots)

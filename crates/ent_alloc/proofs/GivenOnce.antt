@@ -48,13 +48,18 @@ pub taken-spent : (s : Allocator) (h : Handle) → IsSound s → Contains s.take
 taken-spent s h sound in_taken =
     let across = AllPairs-across AreApart s.taken (s.aside ++ s.pool) sound.apart in
     record {
-      left = All-weaker (AreApart h) (After h) (after_if_apart h) (s.aside ++ s.pool) (All-contains (λ g. All (AreApart g) (s.aside ++ s.pool)) s.taken h across in_taken);
+      left = All-weaker (AreApart h) (After h) (after_if_apart h) (s.aside ++ s.pool)
+          (All-contains (λ g. All (AreApart g) (s.aside ++ s.pool)) s.taken h across in_taken);
       taken = λ k d lt same.
           let is : get_or s.taken k d ≡ h =
-          same_from_AllPairs AreApart s.taken (get_or s.taken k d) h (AllPairs-left AreApart s.taken (s.aside ++ s.pool) sound.apart)
-          (Contains-get_or s.taken k d lt) in_taken (λ apart. apart same) (λ apart. apart (sym same)) in
+          same_from_AllPairs AreApart s.taken (get_or s.taken k d) h
+          (AllPairs-left AreApart s.taken (s.aside ++ s.pool) sound.apart)
+          (Contains-get_or s.taken k d lt) in_taken (λ apart. apart same)
+          (λ apart. apart (sym same)) in
           le_of_eq (ap (λ g. g.generation) (sym is));
-      live = λ g alive same. absurd (All-contains (AreApart g) (available s) h (sound.live g alive).apart (Contains-append_left s.taken (s.aside ++ s.pool) h in_taken) same);
+      live = λ g alive same.
+          absurd (All-contains (AreApart g) (available s) h (sound.live g alive).apart
+          (Contains-append_left s.taken (s.aside ++ s.pool) h in_taken) same);
     }
 
 -- what is alive
@@ -62,15 +67,19 @@ pub live-spent : (s : Allocator) (h : Handle) → IsSound s → IsLive s h → I
 live-spent s h sound alive =
     let apart = (sound.live h alive).apart in
     record {
-      left = All-weaker (AreApart h) (After h) (after_if_apart h) (s.aside ++ s.pool) (All-right (AreApart h) s.taken (s.aside ++ s.pool) apart);
-      taken = All-weaker (AreApart h) (NotBefore h) (not_before_if_apart h) s.taken (All-left (AreApart h) s.taken (s.aside ++ s.pool) apart);
-      live = λ g also same. le_of_eq (ap (λ x. x.generation) (sym (sound.one_occupant g h also alive same)));
+      left = All-weaker (AreApart h) (After h) (after_if_apart h) (s.aside ++ s.pool)
+          (All-right (AreApart h) s.taken (s.aside ++ s.pool) apart);
+      taken = All-weaker (AreApart h) (NotBefore h) (not_before_if_apart h) s.taken
+          (All-left (AreApart h) s.taken (s.aside ++ s.pool) apart);
+      live = λ g also same.
+          le_of_eq (ap (λ x. x.generation) (sym (sound.one_occupant g h also alive same)));
     }
 
 -- nothing in the pool
 spent_not_in_pool : (s : Allocator) (h g : Handle) → IsSpent s h → Contains s.pool g → h ≢ g
 spent_not_in_pool s h g spent in_pool same =
-    let after : After h g = All-contains (After h) s.pool g (All-right (After h) s.aside s.pool spent.left) in_pool in
+    let after : After h g = All-contains (After h) s.pool g (All-right (After h) s.aside s.pool
+    spent.left) in_pool in
     let less : h.generation < g.generation = after (ap (λ x. x.index) (sym same)) in
     let equal : h.generation ≡ g.generation = ap (λ x. x.generation) same in
     omega arith
@@ -88,8 +97,11 @@ take-stays_spent s n h spent = elim (cases_lt (length s.pool) n) [
   | inr enough ↦
       let in_pool : All (After h) s.pool = All-right (After h) s.aside s.pool spent.left in
       rw (after_take-served s n enough) record {
-        left = All-append (After h) s.aside (drop n s.pool) (All-left (After h) s.aside s.pool spent.left) (All-drop (After h) n s.pool in_pool);
-        taken = All-append (NotBefore h) s.taken (take n s.pool) spent.taken (All-weaker (After h) (NotBefore h) (not_before_if_after h) (take n s.pool) (All-take (After h) n s.pool in_pool));
+        left = All-append (After h) s.aside (drop n s.pool) (All-left (After h) s.aside s.pool
+            spent.left) (All-drop (After h) n s.pool in_pool);
+        taken = All-append (NotBefore h) s.taken (take n s.pool) spent.taken
+            (All-weaker (After h) (NotBefore h) (not_before_if_after h) (take n s.pool)
+            (All-take (After h) n s.pool in_pool));
         live = spent.live;
       }
 ]
@@ -103,23 +115,30 @@ flush-stays_spent s h spent = record {
 }
 
 -- after an allocation
-alloc-stays_spent : (s : Allocator) (x : Handle) (rest : List Handle) (h : Handle) → s.pool ≡ x ∷ rest → IsSpent s h → IsSpent (after_alloc s x) h
+alloc-stays_spent : (s : Allocator) (x : Handle) (rest : List Handle) (h : Handle) → s.pool ≡ x
+    ∷ rest → IsSpent s h → IsSpent (after_alloc s x) h
 alloc-stays_spent s x rest h front spent =
     let in_pool : All (After h) s.pool = All-right (After h) s.aside s.pool spent.left in
     record {
-      left = All-append (After h) s.aside (drop 1 s.pool) (All-left (After h) s.aside s.pool spent.left) (All-drop (After h) 1 s.pool in_pool);
+      left = All-append (After h) s.aside (drop 1 s.pool) (All-left (After h) s.aside s.pool
+          spent.left) (All-drop (After h) 1 s.pool in_pool);
       taken = spent.taken;
-      live = of_inserted (NotBefore h) s.live x (not_before_if_after h x (All-head (After h) x rest (subst (All (After h)) front in_pool))) spent.live;
+      live = of_inserted (NotBefore h) s.live x
+          (not_before_if_after h x
+          (All-head (After h) x rest (subst (All (After h)) front in_pool))) spent.live;
     }
 
 -- after a free that does not wrap: the slot goes on with the next generation
-free-stays_spent : (s : Allocator) (x h : Handle) → IsLive s x → x.generation ≢ s.limits.generations → IsSpent s h → IsSpent (after_free s x) h
+free-stays_spent : (s : Allocator) (x h : Handle) → IsLive s x → x.generation ≢ s.limits.generations
+    → IsSpent s h → IsSpent (after_free s x) h
 free-stays_spent s x h alive before spent =
     let in_pool : All (After h) s.pool = All-right (After h) s.aside s.pool spent.left in
     let later : (next s.limits x).generation ≡ x.generation + 1 = next-later s.limits x before in
     record {
-      left = All-append (After h) s.aside (next s.limits x ∷ s.pool) (All-left (After h) s.aside s.pool spent.left)
-          (All-cons (After h) (next s.limits x) s.pool (λ same. let occupant = spent.live x alive same in omega arith) in_pool);
+      left = All-append (After h) s.aside (next s.limits x ∷ s.pool)
+          (All-left (After h) s.aside s.pool spent.left)
+          (All-cons (After h) (next s.limits x) s.pool (λ same. let occupant = spent.live x alive
+          same in omega arith) in_pool);
       taken = spent.taken;
       live = λ g kept. spent.live g (in_removed s.live x g kept).1;
     }
@@ -127,44 +146,72 @@ free-stays_spent s x h alive before spent =
 -- ---- each step
 
 -- a served request gives what was never given
-pub take-given : (s : Allocator) (n : ℕ) (given more : List Handle) → IsSound s → reply_to s n ≡ Ok more → AreSpent s given → AreSpent (after_take s n) (given ++ more)
+pub take-given : (s : Allocator) (n : ℕ) (given more : List Handle) → IsSound s → reply_to s n
+    ≡ Ok more → AreSpent s given → AreSpent (after_take s n) (given ++ more)
 take-given s n given more sound served once = record {
-  distinct = AllPairs-append (λ g h. g ≢ h) given more once.distinct (reply-distinct s n more served sound)
-      (λ i d lt j e lt_j. spent_not_in_pool s (get_or given i d) (get_or more j e) (once.spent i d lt) (All-from_pool j e lt_j));
+  distinct = AllPairs-append (λ g h. g ≢ h) given more once.distinct
+      (reply-distinct s n more served sound)
+      (λ i d lt j e lt_j. spent_not_in_pool s (get_or given i d) (get_or more j e)
+      (once.spent i d lt) (All-from_pool j e lt_j));
   spent = All-append (IsSpent (after_take s n)) given more
       (All-weaker (IsSpent s) (IsSpent (after_take s n)) (take-stays_spent s n) given once.spent)
-      (All-weaker (Contains (after_take s n).taken) (IsSpent (after_take s n)) (λ h in_taken. taken-spent (after_take s n) h (after_take-sound s n sound) in_taken) more (reply-taken s n more served));
+      (All-weaker (Contains (after_take s n).taken) (IsSpent (after_take s n))
+      (λ h in_taken. taken-spent (after_take s n) h (after_take-sound s n sound) in_taken) more
+      (reply-taken s n more served));
 }
   where
     All-from_pool : All (Contains s.pool) more
     All-from_pool = of_reply s n more served (Contains s.pool) (All-contains_itself s.pool)
 
 -- a refused request gives nothing
-pub refused-given : (s : Allocator) (n : ℕ) (given : List Handle) → AreSpent s given → AreSpent (after_take s n) given
-refused-given s n given once = record { distinct = once.distinct; spent = All-weaker (IsSpent s) (IsSpent (after_take s n)) (take-stays_spent s n) given once.spent }
+pub refused-given : (s : Allocator) (n : ℕ) (given : List Handle) → AreSpent s given
+    → AreSpent (after_take s n) given
+refused-given s n given once = record {
+  distinct = once.distinct;
+  spent = All-weaker (IsSpent s)
+      (IsSpent (after_take s n)) (take-stays_spent s n) given once.spent;
+}
 
 -- a flush gives nothing
-pub flush-given : (s : Allocator) (given : List Handle) → AreSpent s given → AreSpent (after_flush s) given
-flush-given s given once = record { distinct = once.distinct; spent = All-weaker (IsSpent s) (IsSpent (after_flush s)) (flush-stays_spent s) given once.spent }
+pub flush-given : (s : Allocator) (given : List Handle) → AreSpent s given
+    → AreSpent (after_flush s) given
+flush-given s given once = record {
+  distinct = once.distinct;
+  spent = All-weaker (IsSpent s)
+      (IsSpent (after_flush s)) (flush-stays_spent s) given once.spent;
+}
 
 -- an allocation gives what was never given
-pub alloc-given : (s : Allocator) (x : Handle) (rest given : List Handle) → IsSound s → s.asked ≡ 0 → s.pool ≡ x ∷ rest → AreSpent s given → AreSpent (after_alloc s x) (given ++ x ∷ [])
+pub alloc-given : (s : Allocator) (x : Handle) (rest given : List Handle) → IsSound s → s.asked ≡ 0
+    → s.pool ≡ x ∷ rest → AreSpent s given → AreSpent (after_alloc s x) (given ++ x ∷ [])
 alloc-given s x rest given sound flushed front once = record {
-  distinct = all_pairs_push (λ g h. g ≢ h) given x once.distinct (λ k d lt. spent_not_in_pool s (get_or given k d) x (once.spent k d lt) (subst (λ pool. Contains pool x) (sym front) (0, omega arith, refl)));
+  distinct = all_pairs_push (λ g h. g ≢ h) given x once.distinct
+      (λ k d lt. spent_not_in_pool s (get_or given k d) x (once.spent k d lt)
+      (subst (λ pool. Contains pool x) (sym front) (0, omega arith, refl)));
   spent = All-push (IsSpent (after_alloc s x)) given x
-      (All-weaker (IsSpent s) (IsSpent (after_alloc s x)) (λ h. alloc-stays_spent s x rest h front) given once.spent)
-      (live-spent (after_alloc s x) x (after_alloc-sound s x rest sound flushed front) (inserted s.live x));
+      (All-weaker (IsSpent s) (IsSpent (after_alloc s x)) (λ h. alloc-stays_spent s x rest h front)
+      given once.spent)
+      (live-spent (after_alloc s x) x (after_alloc-sound s x rest sound flushed front)
+      (inserted s.live x));
 }
 
 -- a free that does not wrap gives nothing
-pub free-given : (s : Allocator) (x : Handle) (given : List Handle) → IsLive s x → x.generation ≢ s.limits.generations → AreSpent s given → AreSpent (after_free s x) given
-free-given s x given alive before once = record { distinct = once.distinct; spent = All-weaker (IsSpent s) (IsSpent (after_free s x)) (λ h. free-stays_spent s x h alive before) given once.spent }
+pub free-given : (s : Allocator) (x : Handle) (given : List Handle) → IsLive s x → x.generation
+    ≢ s.limits.generations → AreSpent s given → AreSpent (after_free s x) given
+free-given s x given alive before once = record {
+  distinct = once.distinct;
+  spent =
+      All-weaker (IsSpent s) (IsSpent (after_free s x)) (λ h. free-stays_spent s x h alive before)
+      given once.spent;
+}
 
 -- ---- other lists of the same handles, and of fewer
 
 -- in another order
-pub given-IsPermutation : (s : Allocator) (given same : List Handle) → IsPermutation given same → AreSpent s given → AreSpent s same
+pub given-IsPermutation : (s : Allocator) (given same : List Handle) → IsPermutation given same
+    → AreSpent s given → AreSpent s same
 given-IsPermutation s given same moved once = record {
-  distinct = AllPairs-IsPermutation (λ g h. g ≢ h) (λ g h apart is. apart (sym is)) given same moved once.distinct;
+  distinct = AllPairs-IsPermutation (λ g h. g ≢ h) (λ g h apart is. apart (sym is)) given same moved
+      once.distinct;
   spent = All-permutation (IsSpent s) given same moved once.spent;
 }

@@ -43,21 +43,26 @@ itself h = (eq_by_cmp_equiv handle_cmp_total).refl h
 
 -- and with no other
 pub other_handle : (g h : Handle) → g ≢ h → eq_by_cmp handle_cmp g h ≡ false
-other_handle g h apart = elim (eq_by_cmp handle_cmp g h) as (λ b. eq_by_cmp handle_cmp g h ≡ b → b ≡ false) [
-  | true ↦ λ e. absurd (apart (same_handle g h e))
-  | false ↦ λ _. refl
-] refl
+other_handle g h apart = elim (eq_by_cmp handle_cmp g h) as (λ b. eq_by_cmp handle_cmp g h ≡ b → b
+    ≡ false) [
+      | true ↦ λ e. absurd (apart (same_handle g h e))
+      | false ↦ λ _. refl
+    ] refl
 
 -- a list as the specifications ask it
-pub Contains-from_stands_in : (handles : List Handle) (h : Handle) → IsTrue (stands_in handles h) → Contains handles h
+pub Contains-from_stands_in : (handles : List Handle) (h : Handle) → IsTrue (stands_in handles h)
+    → Contains handles h
 Contains-from_stands_in handles h e = Contains-from_any same_handle h handles e
 
 -- and the other way round
-pub stands_in-from_Contains : (handles : List Handle) (h : Handle) → Contains handles h → IsTrue (stands_in handles h)
-stands_in-from_Contains handles h has = list_any-from_Contains (eq_by_cmp_equiv handle_cmp_total) h handles has
+pub stands_in-from_Contains : (handles : List Handle) (h : Handle) → Contains handles h
+    → IsTrue (stands_in handles h)
+stands_in-from_Contains handles h has = list_any-from_Contains (eq_by_cmp_equiv handle_cmp_total) h
+    handles has
 
 -- what is there after an insert was inserted or was there
-pub in_inserted : (s : Handles) (h x : Handle) → IsTrue (set.contains (set.insert s h) x) → (x ≡ h) ⊎ IsTrue (set.contains s x)
+pub in_inserted : (s : Handles) (h x : Handle) → IsTrue (set.contains (set.insert s h) x) → (x ≡ h)
+    ⊎ IsTrue (set.contains s x)
 in_inserted s h x e = elim (either_true _ _ (sym (set.contains-insert handle_cmp_total s h x) ∙ e)) [
   | inl here ↦ inl (same_handle x h here)
   | inr before ↦ inr before
@@ -65,56 +70,77 @@ in_inserted s h x e = elim (either_true _ _ (sym (set.contains-insert handle_cmp
 
 -- what was inserted is there
 pub inserted : (s : Handles) (h : Handle) → IsTrue (set.contains (set.insert s h) h)
-inserted s h = set.contains-insert handle_cmp_total s h h ∙ ap (λ b. b || set.contains s h) (itself h)
+inserted s h = set.contains-insert handle_cmp_total s h h ∙ ap (λ b. b || set.contains s h)
+    (itself h)
 
 -- what was there stays
-pub inserted_keeps : (s : Handles) (h x : Handle) → IsTrue (set.contains s x) → IsTrue (set.contains (set.insert s h) x)
-inserted_keeps s h x e = set.contains-insert handle_cmp_total s h x ∙ ap (λ b. eq_by_cmp handle_cmp x h || b) e ∙ or_true _
+pub inserted_keeps : (s : Handles) (h x : Handle) → IsTrue (set.contains s x)
+    → IsTrue (set.contains (set.insert s h) x)
+inserted_keeps s h x e = set.contains-insert handle_cmp_total s h x
+    ∙ ap (λ b. eq_by_cmp handle_cmp x h || b) e ∙ or_true _
 
 -- what is there after a remove was there, and is another
-pub in_removed : (s : Handles) (h x : Handle) → IsTrue (set.contains (set.remove s h) x) → (x ≢ h) × IsTrue (set.contains s x)
+pub in_removed : (s : Handles) (h x : Handle) → IsTrue (set.contains (set.remove s h) x) → (x ≢ h)
+    × IsTrue (set.contains s x)
 in_removed s h x e =
-    let both = both_true _ _ (sym (set.contains-remove handle_cmp_total s h x) ∙ e) in
-    (λ same. true≢false (sym both.0 ∙ ap not (ap (eq_by_cmp handle_cmp x) (sym same) ∙ itself x)), both.1)
+    let both = both_true _ _ (sym (set.contains-remove handle_cmp_total s h x) ∙ e) in (
+      λ same. true≢false (sym both.0 ∙ ap not (ap (eq_by_cmp handle_cmp x) (sym same) ∙ itself x)),
+      both.1,
+    )
 
 -- what is another stays
-pub removed_keeps : (s : Handles) (h x : Handle) → x ≢ h → IsTrue (set.contains s x) → IsTrue (set.contains (set.remove s h) x)
-removed_keeps s h x apart e = set.contains-remove handle_cmp_total s h x ∙ rw (other_handle x h apart, e)
+pub removed_keeps : (s : Handles) (h x : Handle) → x ≢ h → IsTrue (set.contains s x)
+    → IsTrue (set.contains (set.remove s h) x)
+removed_keeps s h x apart e = set.contains-remove handle_cmp_total s h x
+    ∙ rw (other_handle x h apart, e)
 
 -- what was removed is gone
 pub removed : (s : Handles) (h : Handle) → set.contains (set.remove s h) h ≡ false
 removed s h = set.contains-remove handle_cmp_total s h h ∙ rw (itself h)
 
 -- what a set has after all of a list
-pub contains-union_list : (s : Handles) (more : List Handle) (x : Handle) → set.contains (set.union s (set.from_list more)) x ≡ (set.contains s x || stands_in more x)
-contains-union_list s more x = set.contains-union handle_cmp_total s (set.from_list more) x ∙ ap (λ b. set.contains s x || b) (set.contains-from_list handle_cmp_total more x)
+pub contains-union_list : (s : Handles) (more : List Handle) (x : Handle)
+    → set.contains (set.union s (set.from_list more)) x ≡ (set.contains s x || stands_in more x)
+contains-union_list s more x = set.contains-union handle_cmp_total s (set.from_list more) x
+    ∙ ap (λ b. set.contains s x || b) (set.contains-from_list handle_cmp_total more x)
 
 -- what is there was there or is in the list
-pub in_union_list : (s : Handles) (more : List Handle) (x : Handle) → IsTrue (set.contains (set.union s (set.from_list more)) x) → IsTrue (set.contains s x) ⊎ Contains more x
+pub in_union_list : (s : Handles) (more : List Handle) (x : Handle)
+    → IsTrue (set.contains (set.union s (set.from_list more)) x) → IsTrue (set.contains s x)
+    ⊎ Contains more x
 in_union_list s more x e = elim (either_true _ _ (sym (contains-union_list s more x) ∙ e)) [
   | inl before ↦ inl before
   | inr one ↦ inr (Contains-from_stands_in more x one)
 ]
 
 -- what was there stays
-pub union_list_keeps : (s : Handles) (more : List Handle) (x : Handle) → IsTrue (set.contains s x) → IsTrue (set.contains (set.union s (set.from_list more)) x)
+pub union_list_keeps : (s : Handles) (more : List Handle) (x : Handle) → IsTrue (set.contains s x)
+    → IsTrue (set.contains (set.union s (set.from_list more)) x)
 union_list_keeps s more x e = contains-union_list s more x ∙ ap (λ b. b || stands_in more x) e
 
 -- what is in the list is there
-pub union_list_has : (s : Handles) (more : List Handle) (x : Handle) → Contains more x → IsTrue (set.contains (set.union s (set.from_list more)) x)
-union_list_has s more x has = contains-union_list s more x ∙ ap (λ b. set.contains s x || b) (stands_in-from_Contains more x has) ∙ or_true _
+pub union_list_has : (s : Handles) (more : List Handle) (x : Handle) → Contains more x
+    → IsTrue (set.contains (set.union s (set.from_list more)) x)
+union_list_has s more x has = contains-union_list s more x ∙ ap (λ b. set.contains s x || b)
+    (stands_in-from_Contains more x has) ∙ or_true _
 
 -- the keys of a map after one less
-pub in_removed_keys : (m : map.FinMap handle_cmp ℕ) (h x : Handle) → IsTrue (map.contains_key (map.remove m h) x) → (x ≢ h) × IsTrue (map.contains_key m x)
-in_removed_keys m h x e = elim (eq_by_cmp handle_cmp x h) as (λ b. eq_by_cmp handle_cmp x h ≡ b → is_some (cond b None (map.get m x)) ≡ true → (x ≢ h) × IsTrue (map.contains_key m x)) [
-  | true ↦ λ _ none. absurd (true≢false (sym none))
-  | false ↦ λ other has. (λ same. true≢false (sym (ap (eq_by_cmp handle_cmp x) (sym same) ∙ itself x) ∙ other), has)
-] refl (sym (ap is_some (map.get-remove handle_cmp_total m h x)) ∙ e)
+pub in_removed_keys : (m : map.FinMap handle_cmp ℕ) (h x : Handle)
+    → IsTrue (map.contains_key (map.remove m h) x) → (x ≢ h) × IsTrue (map.contains_key m x)
+in_removed_keys m h x e = elim (eq_by_cmp handle_cmp x h) as (λ b. eq_by_cmp handle_cmp x h ≡ b
+    → is_some (cond b None (map.get m x)) ≡ true → (x ≢ h) × IsTrue (map.contains_key m x)) [
+      | true ↦ λ _ none. absurd (true≢false (sym none))
+      | false ↦ λ other has.
+          (λ same. true≢false (sym (ap (eq_by_cmp handle_cmp x) (sym same) ∙ itself x) ∙ other), has)
+    ] refl (sym (ap is_some (map.get-remove handle_cmp_total m h x)) ∙ e)
 
 -- one occupant more, of a slot that has none
-pub one_occupant_inserted : (live : set.FinSet handle_cmp) (x : Handle) → ((y : Handle) → IsTrue (set.contains live y) → AreApart y x)
-    → ((g h : Handle) → IsTrue (set.contains live g) → IsTrue (set.contains live h) → g.index ≡ h.index → g ≡ h)
-    → (g h : Handle) → IsTrue (set.contains (set.insert live x) g) → IsTrue (set.contains (set.insert live x) h) → g.index ≡ h.index → g ≡ h
+pub one_occupant_inserted : (live : set.FinSet handle_cmp) (x : Handle)
+    → ((y : Handle) → IsTrue (set.contains live y) → AreApart y x)
+    → ((g h : Handle) → IsTrue (set.contains live g) → IsTrue (set.contains live h) → g.index
+    ≡ h.index → g ≡ h)
+    → (g h : Handle) → IsTrue (set.contains (set.insert live x) g)
+    → IsTrue (set.contains (set.insert live x) h) → g.index ≡ h.index → g ≡ h
 one_occupant_inserted live x apart one g h in_g in_h same = elim (in_inserted live x g in_g) [
   | inl g_here ↦ elim (in_inserted live x h in_h) [
     | inl h_here ↦ g_here ∙ sym h_here
@@ -127,24 +153,35 @@ one_occupant_inserted live x apart one g h in_g in_h same = elim (in_inserted li
 ]
 
 -- many occupants more, of slots that have none
-pub one_occupant_joined : (live : set.FinSet handle_cmp) (more : List Handle) → ((y : Handle) → IsTrue (set.contains live y) → All (AreApart y) more) → AllPairs AreApart more
-    → ((g h : Handle) → IsTrue (set.contains live g) → IsTrue (set.contains live h) → g.index ≡ h.index → g ≡ h)
-    → (g h : Handle) → IsTrue (set.contains (set.union live (set.from_list more)) g) → IsTrue (set.contains (set.union live (set.from_list more)) h) → g.index ≡ h.index → g ≡ h
-one_occupant_joined live more apart among one g h in_g in_h same = elim (in_union_list live more g in_g) [
-  | inl g_before ↦ elim (in_union_list live more h in_h) [
-    | inl h_before ↦ one g h g_before h_before same
-    | inr h_new ↦ absurd (All-contains (AreApart g) more h (apart g g_before) h_new same)
-  ]
-  | inr g_new ↦ elim (in_union_list live more h in_h) [
-    | inl h_before ↦ absurd (All-contains (AreApart h) more g (apart h h_before) g_new (sym same))
-    | inr h_new ↦ same_from_AllPairs AreApart more g h among g_new h_new (λ not_same. not_same same) (λ not_same. not_same (sym same))
-  ]
-]
+pub one_occupant_joined : (live : set.FinSet handle_cmp) (more : List Handle)
+    → ((y : Handle) → IsTrue (set.contains live y) → All (AreApart y) more) → AllPairs AreApart more
+    → ((g h : Handle) → IsTrue (set.contains live g) → IsTrue (set.contains live h) → g.index
+    ≡ h.index → g ≡ h)
+    → (g h : Handle) → IsTrue (set.contains (set.union live (set.from_list more)) g)
+    → IsTrue (set.contains (set.union live (set.from_list more)) h) → g.index ≡ h.index → g ≡ h
+one_occupant_joined live more apart among one g h in_g in_h same =
+    elim (in_union_list live more g in_g) [
+      | inl g_before ↦ elim (in_union_list live more h in_h) [
+        | inl h_before ↦ one g h g_before h_before same
+        | inr h_new ↦ absurd (All-contains (AreApart g) more h (apart g g_before) h_new same)
+      ]
+      | inr g_new ↦ elim (in_union_list live more h in_h) [
+        | inl h_before ↦ absurd (All-contains (AreApart h) more g (apart h h_before) g_new (sym same))
+        | inr h_new ↦ same_from_AllPairs AreApart more g h among g_new h_new (λ not_same. not_same same)
+            (λ not_same. not_same (sym same))
+      ]
+    ]
 
 -- what holds of the new occupant and of those before
-pub of_inserted : (P : Handle → Type 0) (live : set.FinSet handle_cmp) (x : Handle) → P x → ((y : Handle) → IsTrue (set.contains live y) → P y) → (y : Handle) → IsTrue (set.contains (set.insert live x) y) → P y
-of_inserted P live x here before y alive = elim (in_inserted live x y alive) [ inl is ↦ subst P (sym is) here | inr was ↦ before y was ]
+pub of_inserted : (P : Handle → Type 0) (live : set.FinSet handle_cmp) (x : Handle) → P x
+    → ((y : Handle) → IsTrue (set.contains live y) → P y) → (y : Handle)
+    → IsTrue (set.contains (set.insert live x) y) → P y
+of_inserted P live x here before y alive = elim (in_inserted live x y alive)
+    [ inl is ↦ subst P (sym is) here | inr was ↦ before y was ]
 
 -- what holds of those that were alive and of those that come to life
-pub of_joined : (P : Handle → Type 0) (live : set.FinSet handle_cmp) (more : List Handle) → ((y : Handle) → IsTrue (set.contains live y) → P y) → All P more → (y : Handle) → IsTrue (set.contains (set.union live (set.from_list more)) y) → P y
-of_joined P live more before each y alive = elim (in_union_list live more y alive) [ inl was ↦ before y was | inr new ↦ All-contains P more y each new ]
+pub of_joined : (P : Handle → Type 0) (live : set.FinSet handle_cmp) (more : List Handle)
+    → ((y : Handle) → IsTrue (set.contains live y) → P y) → All P more → (y : Handle)
+    → IsTrue (set.contains (set.union live (set.from_list more)) y) → P y
+of_joined P live more before each y alive = elim (in_union_list live more y alive)
+    [ inl was ↦ before y was | inr new ↦ All-contains P more y each new ]

@@ -12,38 +12,53 @@ use Rattle.ent_alloc.proofs.RequestLaws.{taken-since_flush, live-since_flush}
 use Rattle.ent_alloc.proofs.Settled.{after_takes-settled}
 
 -- only the requests count
-pub after_history-takes : (s : Allocator) (calls : List Call) → after_history s calls ≡ after_takes s (requests_of calls)
+pub after_history-takes : (s : Allocator) (calls : List Call) → after_history s calls
+    ≡ after_takes s (requests_of calls)
 after_history-takes s [] = refl
 after_history-takes s (call ∷ calls) = after_history-takes (after_take s call.requested) calls
 
 -- the replies of a legal history are those to its requests
-pub given_in-legal : (s : Allocator) (calls : List Call) → IsLegal s calls → given_in calls ≡ given_by s (requests_of calls)
+pub given_in-legal : (s : Allocator) (calls : List Call) → IsLegal s calls → given_in calls
+    ≡ given_by s (requests_of calls)
 given_in-legal s [] legal = refl
 given_in-legal s (call ∷ calls) legal =
-    let first : handles_in call.reply ≡ handles_in (reply_to s call.requested) = ap handles_in legal.1 in
+    let first : handles_in call.reply ≡ handles_in (reply_to s call.requested) =
+    ap handles_in legal.1 in
     let rest = given_in-legal (after_take s call.requested) calls legal.2 in
     λ i. first i ++ rest i
 
 module _ (s : Allocator) (calls : List Call) (sound : IsSound s) (legal : IsLegal s calls) where
   -- no handle stands twice in the replies
   pub given_in-distinct : AllPairs (λ g h. g ≢ h) (given_in calls)
-  given_in-distinct = subst (AllPairs (λ g h. g ≢ h)) (sym (given_in-legal s calls legal)) (distinct_from_apart (given_by s (requests_of calls)) (given_by-apart s (requests_of calls) sound))
+  given_in-distinct = subst (AllPairs (λ g h. g ≢ h)) (sym (given_in-legal s calls legal))
+      (distinct_from_apart (given_by s (requests_of calls)) (given_by-apart s (requests_of calls)
+      sound))
 
   -- none of them is alive
   pub given_in-not_live : All (λ x. ¬ (IsLive s x)) (given_in calls)
-  given_in-not_live = subst (All (λ x. ¬ (IsLive s x))) (sym (given_in-legal s calls legal)) (given_by-not_live s (requests_of calls) sound)
+  given_in-not_live = subst (All (λ x. ¬ (IsLive s x))) (sym (given_in-legal s calls legal))
+      (given_by-not_live s (requests_of calls) sound)
 
   -- they are all that is taken since a flush
   pub given_in-taken : s.asked ≡ 0 → IsPermutation (given_in calls) (after_history s calls).taken
   given_in-taken flushed =
-      subst (λ (p : List Handle × Allocator). IsPermutation p.0 p.1.taken) (λ i. (sym (given_in-legal s calls legal) i, sym (after_history-takes s calls) i)) (taken-since_flush s (requests_of calls) sound flushed)
+      subst (λ (p : List Handle × Allocator). IsPermutation p.0 p.1.taken)
+      (λ i. (sym (given_in-legal s calls legal) i, sym (after_history-takes s calls) i))
+      (taken-since_flush s (requests_of calls) sound flushed)
 
   -- and a flush then brings exactly those to life
-  pub given_in-bring_to_life : s.asked ≡ 0 → (x : Handle) → IsLive (after_flush (after_history s calls)) x ↔ IsLive s x ⊎ Contains (given_in calls) x
+  pub given_in-bring_to_life : s.asked ≡ 0 → (x : Handle)
+      → IsLive (after_flush (after_history s calls)) x ↔ IsLive s x ⊎ Contains (given_in calls) x
   given_in-bring_to_life flushed x =
-      subst (λ (p : List Handle × Allocator). IsLive (after_flush p.1) x ↔ IsLive s x ⊎ Contains p.0 x) (λ i. (sym (given_in-legal s calls legal) i, sym (after_history-takes s calls) i)) (live-since_flush s (requests_of calls) sound flushed x)
+      subst (λ (p : List Handle × Allocator). IsLive (after_flush p.1) x ↔ IsLive s x
+      ⊎ Contains p.0 x)
+      (λ i. (sym (given_in-legal s calls legal) i, sym (after_history-takes s calls) i))
+      (live-since_flush s (requests_of calls) sound flushed x)
 
   -- two numbers tell the state
-  pub after_history-settled : s.asked ≡ 0 → after_history s calls ≡ settled s (length (given_in calls)) (sum (requests_of calls))
+  pub after_history-settled : s.asked ≡ 0 → after_history s calls
+      ≡ settled s (length (given_in calls)) (sum (requests_of calls))
   after_history-settled flushed =
-      after_history-takes s calls ∙ (after_takes-settled s sound flushed (requests_of calls) ∙ ap (λ (hs : List Handle). settled s (length hs) (sum (requests_of calls))) (sym (given_in-legal s calls legal)))
+      after_history-takes s calls ∙ (after_takes-settled s sound flushed (requests_of calls)
+      ∙ ap (λ (hs : List Handle). settled s (length hs) (sum (requests_of calls)))
+      (sym (given_in-legal s calls legal)))

@@ -18,7 +18,8 @@ old_ones s = filter (is_old s.made) (available s)
 
 -- their slots were made
 pub old_ones_below : (s : Allocator) → All (λ h. h.index < s.made) (old_ones s)
-old_ones_below s = All-weaker (λ h. is_old s.made h ≡ true) (λ h. h.index < s.made) (λ h test. ltb-true _ _ test) (old_ones s) (filter_passes (is_old s.made) (available s))
+old_ones_below s = All-weaker (λ h. is_old s.made h ≡ true) (λ h. h.index < s.made)
+    (λ h test. ltb-true _ _ test) (old_ones s) (filter_passes (is_old s.made) (available s))
 
 -- two handles of which one is of a made slot and the other of none
 pub apart_by_made : (made : ℕ) (g h : Handle) → g.index < made → made ≤ h.index → AreApart g h
@@ -42,33 +43,43 @@ pub record IsLaidOut (s : Allocator) (old : List Handle) : Type 0 where
   pub rows : (h : Handle) → IsTrue (map.contains_key s.rows h) → IsLive s h
 
 -- what holds of the first occupant of each slot that was never made
-never_made : (made slots : ℕ) (P : Handle → Type 0) → ((index : ℕ) → made ≤ index → index < slots → P (first_of_slot index)) → All P (fresh made (slots - made))
-never_made made slots P each = All-fresh P made (slots - made) (λ k lt. each (made + k) (omega arith) (omega arith))
+never_made : (made slots : ℕ) (P : Handle → Type 0) → ((index : ℕ) → made ≤ index → index < slots
+    → P (first_of_slot index)) → All P (fresh made (slots - made))
+never_made made slots P each = All-fresh P made (slots - made)
+    (λ k lt. each (made + k) (omega arith) (omega arith))
 
 -- a made slot is none of those
-below_never_made : (made slots : ℕ) (h : Handle) → h.index < made → All (AreApart h) (fresh made (slots - made))
-below_never_made made slots h below = never_made made slots (AreApart h) (λ index from _. apart_by_made made h (first_of_slot index) below from)
+below_never_made : (made slots : ℕ) (h : Handle) → h.index < made
+    → All (AreApart h) (fresh made (slots - made))
+below_never_made made slots h below = never_made made slots (AreApart h)
+    (λ index from _. apart_by_made made h (first_of_slot index) below from)
 
 -- such a state is sound
 pub laid_out-sound : (s : Allocator) (old : List Handle) → IsLaidOut s old → IsSound s
 laid_out-sound s old h =
     let news = fresh s.made (s.limits.slots - s.made) in
     let all : available s ≡ old ++ news = rw (h.taken, h.aside) h.pool in
-    let olds : filter (is_old s.made) (available s) ≡ old = rw all (old_of_joined s.made (s.limits.slots - s.made) old h.below) in
+    let olds : filter (is_old s.made) (available s)
+    ≡ old = rw all (old_of_joined s.made (s.limits.slots - s.made) old h.below) in
     record {
       limits = h.limits;
       made = h.made;
       order = all ∙ ap (◌++ news) (sym olds);
-      within = subst (All (IsWithin s.limits)) (sym all) (All-append (IsWithin s.limits) old news h.within
-          (never_made s.made s.limits.slots (IsWithin s.limits) (λ index from below. record { index = below; least = omega arith; greatest = h.limits.some_generation })));
-      apart = subst (AllPairs AreApart) (sym all) (AllPairs-append AreApart old news h.apart (fresh_apart s.made (s.limits.slots - s.made))
+      within = subst (All (IsWithin s.limits)) (sym all) (All-append (IsWithin s.limits) old news
+          h.within
+          (never_made s.made s.limits.slots (IsWithin s.limits) (λ index from below.
+          record { index = below; least = omega arith; greatest = h.limits.some_generation })));
+      apart = subst (AllPairs AreApart) (sym all) (AllPairs-append AreApart old news h.apart
+          (fresh_apart s.made (s.limits.slots - s.made))
           (λ i d lt. below_never_made s.made s.limits.slots (get_or old i d) (h.below i d lt)));
       pool = rw (h.taken, h.aside, h.asked);
       aside = λ _. h.aside;
       live = λ x alive. record {
         within = h.live_within x alive;
         made = h.live_below x alive;
-        apart = subst (All (AreApart x)) (sym all) (All-append (AreApart x) old news (h.live_apart x alive) (below_never_made s.made s.limits.slots x (h.live_below x alive)));
+        apart = subst (All (AreApart x)) (sym all)
+            (All-append (AreApart x) old news (h.live_apart x alive)
+            (below_never_made s.made s.limits.slots x (h.live_below x alive)));
       };
       one_occupant = h.one_occupant;
       rows = h.rows;
@@ -92,7 +103,8 @@ flushed-laid_out s h flushed =
       apart = AllPairs-filter AreApart (is_old s.made) (available s) h.apart;
       live_within = λ x alive. (h.live x alive).within;
       live_below = λ x alive. (h.live x alive).made;
-      live_apart = λ x alive. All-filter (is_old s.made) (AreApart x) (available s) (h.live x alive).apart;
+      live_apart = λ x alive. All-filter (is_old s.made) (AreApart x) (available s)
+          (h.live x alive).apart;
       one_occupant = h.one_occupant;
       rows = h.rows;
     }

@@ -33,7 +33,8 @@ use Rattle.ent_alloc.proofs.Reused.{length-occupants-reused, rows_from-reused, l
 
 -- ---- reusing
 
-module _ (limits : Limits) (records : List SlotRecord) (pending : List ℕ) (live from : ℕ) (linked : AreLinked limits records pending live) (within : from ≤ length pending) where
+module _ (limits : Limits) (records : List SlotRecord) (pending : List ℕ) (live from : ℕ)
+    (linked : AreLinked limits records pending live) (within : from ≤ length pending) where
   pub Wait-drop : Wait records from (drop from pending)
   Wait-drop = record {
     made = λ k below.
@@ -42,28 +43,34 @@ module _ (limits : Limits) (records : List SlotRecord) (pending : List ℕ) (liv
         omega (arith, get_or-drop from pending k 0);
     pending = λ k below.
         let at : from + k < length pending = omega (arith, length-drop from pending) in
-        ap (λ n. (record_at records n).occupancy) (get_or-drop from pending k 0) ∙ linked.forward (from + k) at;
+        ap (λ n. (record_at records n).occupancy) (get_or-drop from pending k 0)
+        ∙ linked.forward (from + k) at;
   }
 
   abbrev alive : List SlotRecord
   alive = reused records (drop from pending)
 
-  same_generation : (index : ℕ) → (record_at alive index).generation ≡ (record_at records index).generation
+  same_generation : (index : ℕ) → (record_at alive index).generation
+      ≡ (record_at records index).generation
   same_generation index = generation-reused records from (drop from pending) index Wait-drop
 
-  position_below : (index position : ℕ) → index < length records → (record_at alive index).occupancy ≡ Pending position → position < from
+  position_below : (index position : ℕ) → index < length records → (record_at alive index).occupancy
+      ≡ Pending position → position < from
   position_below index position made is =
       let still = waited-reused records from (drop from pending) index position Wait-drop is in
       let listed : position < length pending = linked.listed index position made still.before in
       let back : get_or pending position 0 ≡ index = linked.back index position made still.before in
       let clash : from ≤ position → ⊥ =
       λ above.
-      let at : position - from < length (drop from pending) = omega (arith, length-drop from pending) in
+      let at : position - from < length (drop from pending) =
+      omega (arith, length-drop from pending) in
       let there : from + (position - from) ≡ position = omega arith in
-      still.apart (position - from) at (get_or-drop from pending (position - from) 0 ∙ ap (λ n. get_or pending n 0) there ∙ back) in
+      still.apart (position - from) at (get_or-drop from pending (position - from) 0
+      ∙ ap (λ n. get_or pending n 0) there ∙ back) in
       elim (cases_lt position from) [ inl below ↦ below | inr above ↦ absurd (clash above) ]
 
-  pub reuse_keeps_links : AreLinked limits alive (take from pending) (live + (length pending - from))
+  pub reuse_keeps_links : AreLinked limits alive (take from pending) (live
+      + (length pending - from))
   reuse_keeps_links =
       let as_long : length alive ≡ length records = length-reused records (drop from pending) in
       let few : length (take from pending) ≡ from = length-take-le from pending within in
@@ -77,36 +84,58 @@ module _ (limits : Limits) (records : List SlotRecord) (pending : List ℕ) (liv
         few = omega arith;
         counted = omega arith;
         each_once = omega arith;
-        least = λ index made. let h = linked.least index (omega arith) in omega (arith, same_generation index);
-        greatest = λ index made. let h = linked.greatest index (omega arith) in omega (arith, same_generation index);
-        made = λ position below. let h = linked.made position (omega arith) in omega (arith, get_or-take from pending position 0 (omega arith));
+        least = λ index made. let h = linked.least index (omega arith) in
+            omega (arith, same_generation index);
+        greatest = λ index made. let h = linked.greatest index (omega arith) in
+            omega (arith, same_generation index);
+        made = λ position below. let h = linked.made position (omega arith) in
+            omega (arith, get_or-take from pending position 0 (omega arith));
         forward = λ position below.
-            ap (λ n. (record_at alive n).occupancy) (get_or-take from pending position 0 (omega arith))
-            ∙ waiting-reused records from (drop from pending) (get_or pending position 0) position Wait-drop (linked.forward position (omega arith)) (omega arith);
-        listed = λ index position made is. let h = position_below index position (omega arith) is in omega arith;
+            ap (λ n. (record_at alive n).occupancy) (get_or-take from pending position 0
+            (omega arith))
+            ∙ waiting-reused records from (drop from pending) (get_or pending position 0) position
+            Wait-drop (linked.forward position (omega arith)) (omega arith);
+        listed = λ index position made is. let h = position_below index position (omega arith) is in
+            omega arith;
         back = λ index position made is.
             let below = position_below index position (omega arith) is in
-            let still = waited-reused records from (drop from pending) index position Wait-drop is in
-            get_or-take from pending position 0 below ∙ linked.back index position (omega arith) still.before;
+            let still = waited-reused records from (drop from pending) index position Wait-drop is
+            in
+            get_or-take from pending position 0 below ∙ linked.back index position (omega arith)
+            still.before;
       }
 
   same_map : (is : List ℕ) → map (handle_at alive) is ≡ map (handle_at records) is
   same_map [] = refl
   same_map (i ∷ is) = λ k. record { index = i; generation = same_generation i k } ∷ same_map is k
 
-  pub roster_of-reuse : roster_of limits alive (take from pending) ≡ record (roster_of limits records pending) {
-    live = sets.union (roster_of limits records pending).live (sets.from_list (drop from (roster_of limits records pending).pending));
-    pending = take from (roster_of limits records pending).pending;
-  }
+  pub roster_of-reuse : roster_of limits alive (take from pending)
+      ≡ record (roster_of limits records pending) {
+        live = sets.union (roster_of limits records pending).live
+            (sets.from_list (drop from (roster_of limits records pending).pending));
+        pending = take from (roster_of limits records pending).pending;
+      }
   roster_of-reuse =
-      let live_is = live-reused records from (drop from pending) Wait-drop ∙ ap (λ (hs : List Handle). sets.union (sets.from_list (occupants 0 records)) (sets.from_list hs)) (sym (drop-map (handle_at records) from pending)) in
-      let rows_is = ap maps.from_entries (rows_from-reused records from (drop from pending) Wait-drop) in
-      let pending_is = same_map (take from pending) ∙ sym (take-map (handle_at records) from pending) in
+      let live_is = live-reused records from (drop from pending) Wait-drop
+      ∙ ap (λ (hs : List Handle). sets.union (sets.from_list (occupants 0 records))
+      (sets.from_list hs)) (sym (drop-map (handle_at records) from pending)) in
+      let rows_is = ap maps.from_entries (rows_from-reused records from (drop from pending)
+      Wait-drop) in
+      let pending_is = same_map (take from pending)
+      ∙ sym (take-map (handle_at records) from pending) in
       let made_is = length-reused records (drop from pending) in
-      λ i. record { limits = limits; live = live_is i; rows = rows_is i; pending = pending_is i; made = made_is i }
+      λ i. record {
+        limits = limits;
+        live = live_is i;
+        rows = rows_is i;
+        pending =
+            pending_is i;
+        made = made_is i;
+      }
 
 -- one slot, which waits last
-module _ (limits : Limits) (records : List SlotRecord) (pending rest : List ℕ) (live index : ℕ) (linked : AreLinked limits records pending live) (last : pending ≡ rest ++ index ∷ []) where
+module _ (limits : Limits) (records : List SlotRecord) (pending rest : List ℕ) (live index : ℕ)
+    (linked : AreLinked limits records pending live) (last : pending ≡ rest ++ index ∷ []) where
   long : length pending ≡ length rest + 1
   long = ap length last ∙ length_push rest index
 
@@ -125,134 +154,215 @@ module _ (limits : Limits) (records : List SlotRecord) (pending rest : List ℕ)
   pub last_made : index < length records
   last_made =
       let more = long in
-      let made : get_or pending (length rest) 0 < length records = linked.made (length rest) (omega arith) in
-      omega (arith, ap (λ ps. get_or ps (length rest) 0) last ∙ get_or_push rest index 0 (length rest) refl)
+      let made : get_or pending (length rest) 0 < length records = linked.made (length rest)
+      (omega arith) in
+      omega (
+        arith,
+        ap (λ ps. get_or ps (length rest) 0) last
+            ∙ get_or_push rest index 0 (length rest) refl,
+      )
 
-  pub reuse_last_keeps_links : AreLinked limits (set records index (reuse (record_at records index))) rest (live + 1)
+  pub reuse_last_keeps_links : AreLinked limits
+      (set records index (reuse (record_at records index))) rest (live + 1)
   reuse_last_keeps_links =
-      let P : List ℕ × List ℕ × ℕ → Type 0 = λ p. AreLinked limits (reused records p.0) p.1 (live + p.2) in
-      subst P (λ i. (dropped i, taken i, one_less i)) (reuse_keeps_links limits records pending live (length rest) linked within)
+      let P : List ℕ × List ℕ × ℕ → Type 0 = λ p. AreLinked limits (reused records p.0) p.1 (live
+      + p.2) in
+      subst P (λ i. (dropped i, taken i, one_less i)) (reuse_keeps_links limits records pending live
+      (length rest) linked within)
 
-  pub roster_of-reuse_last : roster_of limits (set records index (reuse (record_at records index))) rest ≡ record (roster_of limits records pending) {
-    live = sets.union (roster_of limits records pending).live (sets.from_list (handle_at records index ∷ []));
-    pending = take (length (roster_of limits records pending).pending - 1) (roster_of limits records pending).pending;
-  }
+  pub roster_of-reuse_last : roster_of limits (set records index (reuse (record_at records index)))
+      rest ≡ record (roster_of limits records pending) {
+        live = sets.union (roster_of limits records pending).live
+            (sets.from_list (handle_at records index ∷ []));
+        pending = take (length (roster_of limits records pending).pending - 1)
+            (roster_of limits records pending).pending;
+      }
   roster_of-reuse_last =
       let r = roster_of limits records pending in
-      let handles : drop (length rest) r.pending ≡ handle_at records index ∷ [] = drop-map (handle_at records) (length rest) pending ∙ ap (map (handle_at records)) dropped in
+      let handles : drop (length rest) r.pending ≡ handle_at records index
+      ∷ [] = drop-map (handle_at records) (length rest) pending ∙ ap (map (handle_at records))
+      dropped in
       let more = long in
-      let at : length rest ≡ length r.pending - 1 = omega (arith, length-map pending (handle_at records)) in
+      let at : length rest ≡ length r.pending
+      - 1 = omega (arith, length-map pending (handle_at records)) in
       (λ i. roster_of limits (reused records (sym dropped i)) (sym taken i))
       ∙ roster_of-reuse limits records pending live (length rest) linked within
-      ∙ (λ i. record r { live = sets.union r.live (sets.from_list (handles i)); pending = take (at i) r.pending })
+      ∙ (λ i. record r {
+        live = sets.union r.live (sets.from_list (handles i));
+        pending =
+            take (at i) r.pending;
+      })
 
-  pub last_handle : slice_get (map (handle_at records) pending) (length (map (handle_at records) pending) - 1) ≡ Some (handle_at records index)
+  pub last_handle : slice_get (map (handle_at records) pending)
+      (length (map (handle_at records) pending) - 1) ≡ Some (handle_at records index)
   last_handle =
       let f = handle_at records in
       let n = length (map f pending) in
       let more = long in
       let same = length-map pending f in
-      let at : get_or pending (n - 1) 0 ≡ index = ap (λ ps. get_or ps (n - 1) 0) last ∙ get_or_push rest index 0 (n - 1) (omega arith) in
-      slice_get_read (map f pending) n (n - 1) (f index) refl (omega arith) (sym (get_or-map f pending (n - 1) 0 (f index) (omega arith) ∙ ap f at))
+      let at : get_or pending (n - 1) 0 ≡ index = ap (λ ps. get_or ps (n - 1) 0) last
+      ∙ get_or_push rest index 0 (n - 1) (omega arith) in
+      slice_get_read (map f pending) n (n - 1) (f index) refl (omega arith)
+      (sym (get_or-map f pending (n - 1) 0 (f index) (omega arith) ∙ ap f at))
 
 -- ---- making
 
 -- two functions that agree at each element of a list
-pub map_alike : {X : Type 0} (f g : ℕ → X) (xs : List ℕ) → ((k : ℕ) → k < length xs → f (get_or xs k 0) ≡ g (get_or xs k 0)) → map f xs ≡ map g xs
+pub map_alike : {X : Type 0} (f g : ℕ → X) (xs : List ℕ)
+    → ((k : ℕ) → k < length xs → f (get_or xs k 0) ≡ g (get_or xs k 0)) → map f xs ≡ map g xs
 map_alike f g [] alike = refl
-map_alike f g (x ∷ xs) alike = λ i. alike 0 (omega arith) i ∷ map_alike f g xs (λ k below. alike (suc k) (omega arith)) i
+map_alike f g (x ∷ xs) alike = λ i. alike 0 (omega arith) i
+    ∷ map_alike f g xs (λ k below. alike (suc k) (omega arith)) i
 
-module _ (limits : Limits) (records : List SlotRecord) (pending : List ℕ) (live count : ℕ) (linked : AreLinked limits records pending live) (room : length records + count ≤ limits.slots) where
-  abbrev grown : List SlotRecord
-  grown = records ++ replicate count new_record
+module _ (limits : Limits) (records : List SlotRecord) (pending : List ℕ) (live count : ℕ)
+    (linked : AreLinked limits records pending live) (room : length records + count ≤ limits.slots)
+  where
+    abbrev grown : List SlotRecord
+    grown = records ++ replicate count new_record
 
-  old_stays : (index : ℕ) → index < length records → record_at grown index ≡ record_at records index
-  old_stays index made = get_or_append_left records (replicate count new_record) no_slot index made
+    old_stays : (index : ℕ) → index < length records → record_at grown index ≡ record_at records index
+    old_stays index made = get_or_append_left records (replicate count new_record) no_slot index made
 
-  new_is : (index : ℕ) → length records ≤ index → index < length grown → record_at grown index ≡ new_record
-  new_is index past within =
-      let below : index - length records < count = omega (arith, length-append records (replicate count new_record), length-replicate count new_record) in
-      get_or-append_right records (replicate count new_record) (length records) index no_slot refl past
-      ∙ get_or-replicate count (index - length records) new_record no_slot below
+    new_is : (index : ℕ) → length records ≤ index → index < length grown → record_at grown index
+        ≡ new_record
+    new_is index past within =
+        let below : index - length records
+        < count = omega (
+          arith,
+          length-append records (replicate count new_record),
+          length-replicate count new_record,
+        ) in
+        get_or-append_right records (replicate count new_record) (length records) index no_slot refl
+        past
+        ∙ get_or-replicate count (index - length records) new_record no_slot below
 
-  waits_in_old : (index position : ℕ) → index < length grown → (record_at grown index).occupancy ≡ Pending position → index < length records
-  waits_in_old index position within is =
-      elim (cases_lt index (length records)) [
-        | inl made ↦ made
-        | inr past ↦ absurd (Alive≢Pending (sym (ap (λ (r : SlotRecord). r.occupancy) (new_is index past within)) ∙ is))
-      ]
+    waits_in_old : (index position : ℕ) → index < length grown → (record_at grown index).occupancy
+        ≡ Pending position → index < length records
+    waits_in_old index position within is =
+        elim (cases_lt index (length records)) [
+          | inl made ↦ made
+          | inr past ↦ absurd
+              (Alive≢Pending (sym (ap (λ (r : SlotRecord). r.occupancy) (new_is index past within))
+              ∙ is))
+        ]
 
-  pub make_keeps_links : AreLinked limits grown pending (live + count)
-  make_keeps_links =
-      let long : length grown ≡ length records + count = length-append records (replicate count new_record) ∙ ap (λ n. length records + n) (length-replicate count new_record) in
-      let more : length (occupants 0 grown) ≡ length (occupants 0 records) + count =
-      ap length (occupants-append 0 records (replicate count new_record) ∙ ap (λ hs. occupants 0 records ++ hs) (occupants-new (0 + length records) count))
-      ∙ length-append (occupants 0 records) (fresh (0 + length records) count)
-      ∙ ap (λ n. length (occupants 0 records) + n) (length-fresh (0 + length records) count) in
-      let counted = linked.counted in
-      let each = linked.each_once in
-      let some = linked.limited.some_generation in
-      record {
-        limited = linked.limited;
-        few = omega arith;
-        counted = omega arith;
-        each_once = omega arith;
-        least = λ index within.
-            elim (cases_lt index (length records)) [
-              | inl made ↦ (let h = linked.least index made in omega (arith, ap (λ (r : SlotRecord). r.generation) (old_stays index made)))
-              | inr past ↦ omega (arith, ap (λ (r : SlotRecord). r.generation) (new_is index past within))
-            ];
-        greatest = λ index within.
-            elim (cases_lt index (length records)) [
-              | inl made ↦ (let h = linked.greatest index made in omega (arith, ap (λ (r : SlotRecord). r.generation) (old_stays index made)))
-              | inr past ↦ omega (arith, ap (λ (r : SlotRecord). r.generation) (new_is index past within))
-            ];
-        made = λ position below. let h = linked.made position below in omega arith;
-        forward = λ position below. ap (λ (r : SlotRecord). r.occupancy) (old_stays (get_or pending position 0) (linked.made position below)) ∙ linked.forward position below;
-        listed = λ index position within is.
-            let made = waits_in_old index position within is in
-            linked.listed index position made (sym (ap (λ (r : SlotRecord). r.occupancy) (old_stays index made)) ∙ is);
-        back = λ index position within is.
-            let made = waits_in_old index position within is in
-            linked.back index position made (sym (ap (λ (r : SlotRecord). r.occupancy) (old_stays index made)) ∙ is);
-      }
+    pub make_keeps_links : AreLinked limits grown pending (live + count)
+    make_keeps_links =
+        let long : length grown ≡ length records + count = length-append records
+        (replicate count new_record) ∙ ap (λ n. length records + n)
+        (length-replicate count new_record) in
+        let more : length (occupants 0 grown) ≡ length (occupants 0 records) + count =
+        ap length (occupants-append 0 records (replicate count new_record)
+        ∙ ap (λ hs. occupants 0 records ++ hs) (occupants-new (0 + length records) count))
+        ∙ length-append (occupants 0 records) (fresh (0 + length records) count)
+        ∙ ap (λ n. length (occupants 0 records) + n) (length-fresh (0 + length records) count) in
+        let counted = linked.counted in
+        let each = linked.each_once in
+        let some = linked.limited.some_generation in
+        record {
+          limited = linked.limited;
+          few = omega arith;
+          counted = omega arith;
+          each_once = omega arith;
+          least = λ index within.
+              elim (cases_lt index (length records)) [
+                | inl made ↦ (let h = linked.least index made in
+                    omega (arith, ap (λ (r : SlotRecord). r.generation) (old_stays index made)))
+                | inr past ↦ omega (
+                  arith,
+                  ap (λ (r : SlotRecord). r.generation)
+                      (new_is index past within),
+                )
+              ];
+          greatest = λ index within.
+              elim (cases_lt index (length records)) [
+                | inl made ↦ (let h = linked.greatest index made in
+                    omega (arith, ap (λ (r : SlotRecord). r.generation) (old_stays index made)))
+                | inr past ↦ omega (
+                  arith,
+                  ap (λ (r : SlotRecord). r.generation)
+                      (new_is index past within),
+                )
+              ];
+          made = λ position below. let h = linked.made position below in omega arith;
+          forward = λ position below. ap (λ (r : SlotRecord). r.occupancy)
+              (old_stays (get_or pending position 0) (linked.made position below))
+              ∙ linked.forward position below;
+          listed = λ index position within is.
+              let made = waits_in_old index position within is in
+              linked.listed index position made
+              (sym (ap (λ (r : SlotRecord). r.occupancy) (old_stays index made)) ∙ is);
+          back = λ index position within is.
+              let made = waits_in_old index position within is in
+              linked.back index position made
+              (sym (ap (λ (r : SlotRecord). r.occupancy) (old_stays index made)) ∙ is);
+        }
 
-  pub roster_of-make : roster_of limits grown pending ≡ record (roster_of limits records pending) {
-    live = sets.union (roster_of limits records pending).live (sets.from_list (fresh (roster_of limits records pending).made count));
-    made = (roster_of limits records pending).made + count;
-  }
-  roster_of-make =
-      let zero_plus : 0 + length records ≡ length records = omega arith in
-      let live_is =
-      ap (λ (hs : List Handle). sets.from_list {R = handle_cmp} hs) (occupants-append 0 records (replicate count new_record) ∙ ap (λ hs. occupants 0 records ++ hs) (occupants-new (0 + length records) count ∙ ap (λ n. fresh n count) zero_plus))
-      ∙ from_list-append (occupants 0 records) (fresh (length records) count) in
-      let rows_is = ap (λ (es : List (Handle × ℕ)). maps.from_entries {R = handle_cmp} es) (rows_from-made 0 count records) in
-      let pending_is = map_alike (handle_at grown) (handle_at records) pending (λ k below i. record { index = get_or pending k 0; generation = (old_stays (get_or pending k 0) (linked.made k below) i).generation }) in
-      let made_is : length grown ≡ length records + count = length-append records (replicate count new_record) ∙ ap (λ n. length records + n) (length-replicate count new_record) in
-      λ i. record { limits = limits; live = live_is i; rows = rows_is i; pending = pending_is i; made = made_is i }
+    pub roster_of-make : roster_of limits grown pending ≡ record (roster_of limits records pending) {
+      live = sets.union (roster_of limits records pending).live
+          (sets.from_list (fresh (roster_of limits records pending).made count));
+      made = (roster_of limits records pending).made + count;
+    }
+    roster_of-make =
+        let zero_plus : 0 + length records ≡ length records = omega arith in
+        let live_is =
+        ap (λ (hs : List Handle). sets.from_list {R = handle_cmp} hs)
+        (occupants-append 0 records (replicate count new_record)
+        ∙ ap (λ hs. occupants 0 records ++ hs) (occupants-new (0 + length records) count
+        ∙ ap (λ n. fresh n count) zero_plus))
+        ∙ from_list-append (occupants 0 records) (fresh (length records) count) in
+        let rows_is = ap (λ (es : List (Handle × ℕ)). maps.from_entries {R = handle_cmp} es)
+        (rows_from-made 0 count records) in
+        let pending_is = map_alike (handle_at grown) (handle_at records) pending
+        (λ k below i. record {
+          index = get_or pending k 0;
+          generation =
+              (old_stays (get_or pending k 0) (linked.made k below) i).generation;
+        }) in
+        let made_is : length grown ≡ length records + count = length-append records
+        (replicate count new_record) ∙ ap (λ n. length records + n)
+        (length-replicate count new_record) in
+        λ i. record {
+          limits = limits;
+          live = live_is i;
+          rows = rows_is i;
+          pending =
+              pending_is i;
+          made = made_is i;
+        }
 
 -- ---- releasing
 
 -- a occupant's slot was made, and its record is alive with this generation
-pub occupant_made : (records : List SlotRecord) (h : Handle) → is_occupant records h ≡ true → h.index < length records
+pub occupant_made : (records : List SlotRecord) (h : Handle) → is_occupant records h ≡ true
+    → h.index < length records
 occupant_made records h is =
     elim (cases_lt h.index (length records)) [
       | inl made ↦ made
-      | inr past ↦ absurd (false≢true (sym (ap (λ (r : SlotRecord). has_occupant r h.generation) (get_or_past records h.index no_slot past)) ∙ is))
+      | inr past ↦ absurd
+          (false≢true (sym (ap (λ (r : SlotRecord). has_occupant r h.generation)
+          (get_or_past records h.index no_slot past)) ∙ is))
     ]
 
-pub occupant_alive : (records : List SlotRecord) (h : Handle) → is_occupant records h ≡ true → is_alive (record_at records h.index).occupancy ≡ true
-occupant_alive records h is = (and_parts (is_alive (record_at records h.index).occupancy) (eqb (record_at records h.index).generation h.generation) is).0
+pub occupant_alive : (records : List SlotRecord) (h : Handle) → is_occupant records h ≡ true
+    → is_alive (record_at records h.index).occupancy ≡ true
+occupant_alive records h is = (and_parts (is_alive (record_at records h.index).occupancy)
+    (eqb (record_at records h.index).generation h.generation) is).0
 
-pub occupant_generation : (records : List SlotRecord) (h : Handle) → is_occupant records h ≡ true → (record_at records h.index).generation ≡ h.generation
-occupant_generation records h is = eqb-true (record_at records h.index).generation h.generation (and_parts (is_alive (record_at records h.index).occupancy) (eqb (record_at records h.index).generation h.generation) is).1
+pub occupant_generation : (records : List SlotRecord) (h : Handle) → is_occupant records h ≡ true
+    → (record_at records h.index).generation ≡ h.generation
+occupant_generation records h is = eqb-true (record_at records h.index).generation h.generation
+    (and_parts (is_alive (record_at records h.index).occupancy)
+    (eqb (record_at records h.index).generation h.generation) is).1
 
-gone_test : (same gen old : Bool) → (same ≡ true → old ≡ gen) → cond same false old ≡ (not (same && gen) && old)
+gone_test : (same gen old : Bool) → (same ≡ true → old ≡ gen) → cond same false old
+    ≡ (not (same && gen) && old)
 gone_test true true old is = refl
 gone_test true false old is = sym (is refl)
 gone_test false gen old is = refl
 
-gone_row : (same gen : Bool) (old : Option ℕ) → (same ≡ true → gen ≡ false → old ≡ None) → cond same None old ≡ cond (same && gen) None old
+gone_row : (same gen : Bool) (old : Option ℕ) → (same ≡ true → gen ≡ false → old ≡ None)
+    → cond same None old ≡ cond (same && gen) None old
 gone_row true true old is = refl
 gone_row true false old is = sym (is refl refl)
 gone_row false gen old is = refl
@@ -261,7 +371,8 @@ never : (b : Bool) (row : Option ℕ) → row ≡ None → cond b row None ≡ N
 never true row is = is
 never false row is = refl
 
-module _ (limits : Limits) (records : List SlotRecord) (pending : List ℕ) (live : ℕ) (h : Handle) (linked : AreLinked limits records pending live) (lives : is_occupant records h ≡ true) where
+module _ (limits : Limits) (records : List SlotRecord) (pending : List ℕ) (live : ℕ) (h : Handle)
+    (linked : AreLinked limits records pending live) (lives : is_occupant records h ≡ true) where
   abbrev vacant : SlotRecord
   vacant = record { generation = (next limits h).generation; occupancy = Pending (length pending) }
 
@@ -271,7 +382,8 @@ module _ (limits : Limits) (records : List SlotRecord) (pending : List ℕ) (liv
   made_slot : h.index < length records
   made_slot = occupant_made records h lives
 
-  pub next_generation : (1 ≤ (next limits h).generation) × ((next limits h).generation ≤ limits.generations)
+  pub next_generation : (1 ≤ (next limits h).generation)
+      × ((next limits h).generation ≤ limits.generations)
   next_generation =
       let same = occupant_generation records h lives in
       let g = linked.greatest h.index made_slot in
@@ -279,16 +391,21 @@ module _ (limits : Limits) (records : List SlotRecord) (pending : List ℕ) (liv
       let within : h.generation ≤ limits.generations = omega arith in
       by_test (eqb h.generation limits.generations) refl within some
     where
-      by_test : (b : Bool) → eqb h.generation limits.generations ≡ b → h.generation ≤ limits.generations → 1 ≤ limits.generations → (1 ≤ cond b 1 (h.generation + 1)) × (cond b 1 (h.generation + 1) ≤ limits.generations)
+      by_test : (b : Bool) → eqb h.generation limits.generations ≡ b → h.generation
+          ≤ limits.generations → 1 ≤ limits.generations → (1 ≤ cond b 1 (h.generation + 1))
+          × (cond b 1 (h.generation + 1) ≤ limits.generations)
       by_test true e within some = (omega arith, some)
       by_test false e within some =
-          let differ : h.generation ≢ limits.generations = eqb-false h.generation limits.generations e in
+          let differ : h.generation ≢ limits.generations = eqb-false h.generation limits.generations
+          e in
           (omega arith, omega arith)
 
   apart : (position : ℕ) → position < length pending → get_or pending position 0 ≢ h.index
   apart position below e =
       let alive = occupant_alive records h lives in
-      let waits : is_alive (record_at records h.index).occupancy ≡ false = ap (λ n. is_alive (record_at records n).occupancy) (sym e) ∙ ap is_alive (linked.forward position below) in
+      let waits : is_alive (record_at records h.index).occupancy
+      ≡ false = ap (λ n. is_alive (record_at records n).occupancy) (sym e)
+      ∙ ap is_alive (linked.forward position below) in
       false≢true (sym waits ∙ alive)
 
   other : (at : ℕ) → at ≢ h.index → record_at released at ≡ record_at records at
@@ -303,7 +420,8 @@ module _ (limits : Limits) (records : List SlotRecord) (pending : List ℕ) (liv
   fewer : length (occupants 0 released) + 1 ≡ length (occupants 0 records)
   fewer =
       let step = length-occupants-set 0 records h.index vacant made_slot in
-      let was : one (is_alive (record_at records h.index).occupancy) ≡ 1 = ap one (occupant_alive records h lives) in
+      let was : one (is_alive (record_at records h.index).occupancy)
+      ≡ 1 = ap one (occupant_alive records h lives) in
       omega (arith, step)
 
   pub one_lives : 1 ≤ live
@@ -312,7 +430,8 @@ module _ (limits : Limits) (records : List SlotRecord) (pending : List ℕ) (liv
   pub release_keeps_links : AreLinked limits released (pending ++ h.index ∷ []) (live - 1)
   release_keeps_links =
       let long : length released ≡ length records = length-set records h.index vacant in
-      let more : length (pending ++ h.index ∷ []) ≡ length pending + 1 = length_push pending h.index in
+      let more : length (pending ++ h.index ∷ []) ≡ length pending + 1 = length_push pending h.index
+      in
       let counted = linked.counted in
       let each = linked.each_once in
       let few = linked.few in
@@ -324,89 +443,138 @@ module _ (limits : Limits) (records : List SlotRecord) (pending : List ℕ) (liv
         each_once = omega (arith, fewer);
         least = λ index within.
             elim (cases_eq index h.index) [
-              | inl e ↦ omega (arith, range.0, ap (λ (r : SlotRecord). r.generation) (same_at index e))
-              | inr ne ↦ (let b = linked.least index (omega arith) in omega (arith, ap (λ (r : SlotRecord). r.generation) (other index ne)))
+              | inl e ↦ omega (
+                arith,
+                range.0,
+                ap (λ (r : SlotRecord). r.generation)
+                    (same_at index e),
+              )
+              | inr ne ↦ (let b = linked.least index (omega arith) in
+                  omega (arith, ap (λ (r : SlotRecord). r.generation) (other index ne)))
             ];
         greatest = λ index within.
             elim (cases_eq index h.index) [
-              | inl e ↦ omega (arith, range.1, ap (λ (r : SlotRecord). r.generation) (same_at index e))
-              | inr ne ↦ (let b = linked.greatest index (omega arith) in omega (arith, ap (λ (r : SlotRecord). r.generation) (other index ne)))
+              | inl e ↦ omega (
+                arith,
+                range.1,
+                ap (λ (r : SlotRecord). r.generation)
+                    (same_at index e),
+              )
+              | inr ne ↦ (let b = linked.greatest index (omega arith) in
+                  omega (arith, ap (λ (r : SlotRecord). r.generation) (other index ne)))
             ];
         made = λ position below.
             elim (cases_lt position (length pending)) [
-              | inl old ↦ (let b = linked.made position old in omega (arith, get_or_append_left pending (h.index ∷ []) 0 position old))
-              | inr new ↦ (let b = made_slot in omega (arith, get_or_push pending h.index 0 position (omega arith)))
+              | inl old ↦ (let b = linked.made position old in
+                  omega (arith, get_or_append_left pending (h.index ∷ []) 0 position old))
+              | inr new ↦ (let b = made_slot in omega (
+                arith,
+                get_or_push pending h.index 0 position
+                    (omega arith),
+              ))
             ];
         forward = λ position below.
             elim (cases_lt position (length pending)) [
               | inl old ↦
-                  ap (λ n. (record_at released n).occupancy) (get_or_append_left pending (h.index ∷ []) 0 position old)
-                  ∙ ap (λ (r : SlotRecord). r.occupancy) (other (get_or pending position 0) (apart position old))
+                  ap (λ n. (record_at released n).occupancy)
+                  (get_or_append_left pending (h.index ∷ []) 0 position old)
+                  ∙ ap (λ (r : SlotRecord). r.occupancy) (other (get_or pending position 0)
+                  (apart position old))
                   ∙ linked.forward position old
               | inr new ↦
-                  ap (λ n. (record_at released n).occupancy) (get_or_push pending h.index 0 position (omega arith))
+                  ap (λ n. (record_at released n).occupancy) (get_or_push pending h.index 0 position
+                  (omega arith))
                   ∙ ap (λ (r : SlotRecord). r.occupancy) same
                   ∙ ap Pending (omega arith)
             ];
         listed = λ index position within is.
             elim (cases_eq index h.index) [
               | inl e ↦
-                  (let at : Pending (length pending) ≡ Pending position = sym (ap (λ (r : SlotRecord). r.occupancy) (same_at index e)) ∙ is in
+                  (let at : Pending (length pending) ≡ Pending position =
+                  sym (ap (λ (r : SlotRecord). r.occupancy) (same_at index e)) ∙ is in
                   let there : length pending ≡ position = ap position_of at in omega arith)
               | inr ne ↦
-                  (let b = linked.listed index position (omega arith) (sym (ap (λ (r : SlotRecord). r.occupancy) (other index ne)) ∙ is) in omega arith)
+                  (let b = linked.listed index position (omega arith)
+                  (sym (ap (λ (r : SlotRecord). r.occupancy) (other index ne)) ∙ is) in
+                  omega arith)
             ];
         back = λ index position within is.
             elim (cases_eq index h.index) [
               | inl e ↦
-                  (let at : Pending (length pending) ≡ Pending position = sym (ap (λ (r : SlotRecord). r.occupancy) (same_at index e)) ∙ is in
+                  (let at : Pending (length pending) ≡ Pending position =
+                  sym (ap (λ (r : SlotRecord). r.occupancy) (same_at index e)) ∙ is in
                   let there : length pending ≡ position = ap position_of at in
                   get_or_push pending h.index 0 position there ∙ sym e)
               | inr ne ↦
                   (let old_is = sym (ap (λ (r : SlotRecord). r.occupancy) (other index ne)) ∙ is in
                   let b = linked.listed index position (omega arith) old_is in
-                  get_or_append_left pending (h.index ∷ []) 0 position b ∙ linked.back index position (omega arith) old_is)
+                  get_or_append_left pending (h.index ∷ []) 0 position b
+                  ∙ linked.back index position (omega arith) old_is)
             ];
       }
 
-  live_is : sets.from_list {R = handle_cmp} (occupants 0 released) ≡ sets.remove (sets.from_list (occupants 0 records)) h
+  live_is : sets.from_list {R = handle_cmp} (occupants 0 released)
+      ≡ sets.remove (sets.from_list (occupants 0 records)) h
   live_is =
       sets.same_set handle_cmp_total handle_cmp-IsAntisymmetric _ _ (λ q.
       contains_occupants released q
       ∙ is_occupant-set records h.index vacant q made_slot
-      ∙ gone_test (eqb q.index h.index) (eqb q.generation h.generation) (is_occupant records q) (at_h q)
+      ∙ gone_test (eqb q.index h.index) (eqb q.generation h.generation) (is_occupant records q)
+      (at_h q)
       ∙ (λ i. not (sym (ties q h) i) && sym (contains_occupants records q) i)
       ∙ sym (sets.contains-remove handle_cmp_total (sets.from_list (occupants 0 records)) h q))
     where
-      at_h : (q : Handle) → eqb q.index h.index ≡ true → is_occupant records q ≡ eqb q.generation h.generation
+      at_h : (q : Handle) → eqb q.index h.index ≡ true → is_occupant records q
+          ≡ eqb q.generation h.generation
       at_h q e =
           ap (λ n. has_occupant (record_at records n) q.generation) (eqb-true q.index h.index e)
-          ∙ (λ i. occupant_alive records h lives i && eqb (occupant_generation records h lives i) q.generation)
+          ∙ (λ i. occupant_alive records h lives i && eqb (occupant_generation records h lives i)
+          q.generation)
           ∙ eqb_sym h.generation q.generation
 
-  rows_is : maps.from_entries {R = handle_cmp} (rows_from 0 released) ≡ maps.remove (maps.from_entries (rows_from 0 records)) h
+  rows_is : maps.from_entries {R = handle_cmp} (rows_from 0 released)
+      ≡ maps.remove (maps.from_entries (rows_from 0 records)) h
   rows_is =
       maps.same_map handle_cmp_total handle_cmp-IsAntisymmetric _ _ (λ q.
       get_rows released q
       ∙ row_at-set records h.index vacant q made_slot
-      ∙ (λ i. cond (eqb q.index h.index) (never (eqb (next limits h).generation q.generation) None refl i) (row_at records q))
+      ∙ (λ i. cond (eqb q.index h.index) (never (eqb (next limits h).generation q.generation) None
+      refl i) (row_at records q))
       ∙ gone_row (eqb q.index h.index) (eqb q.generation h.generation) (row_at records q) (at_h q)
       ∙ (λ i. cond (sym (ties q h) i) None (sym (get_rows records q) i))
       ∙ sym (maps.get-remove handle_cmp_total (maps.from_entries (rows_from 0 records)) h q))
     where
-      at_h : (q : Handle) → eqb q.index h.index ≡ true → eqb q.generation h.generation ≡ false → row_at records q ≡ None
+      at_h : (q : Handle) → eqb q.index h.index ≡ true → eqb q.generation h.generation ≡ false
+          → row_at records q ≡ None
       at_h q e ne =
-          ap (λ n. row_at records (record { index = n; generation = q.generation })) (eqb-true q.index h.index e)
-          ∙ (λ i. cond (eqb (occupant_generation records h lives i) q.generation) (row_of (record_at records h.index).occupancy) None)
-          ∙ (λ i. cond ((eqb_sym h.generation q.generation ∙ ne) i) (row_of (record_at records h.index).occupancy) None)
+          ap (λ n. row_at records (record { index = n; generation = q.generation }))
+          (eqb-true q.index h.index e)
+          ∙ (λ i. cond (eqb (occupant_generation records h lives i) q.generation)
+          (row_of (record_at records h.index).occupancy) None)
+          ∙ (λ i. cond ((eqb_sym h.generation q.generation ∙ ne) i)
+          (row_of (record_at records h.index).occupancy) None)
 
-  pub roster_of-release : roster_of limits released (pending ++ h.index ∷ []) ≡ record (roster_of limits records pending) {
-    live = sets.remove (roster_of limits records pending).live h;
-    rows = maps.remove (roster_of limits records pending).rows h;
-    pending = (roster_of limits records pending).pending ++ next limits h ∷ [];
-  }
+  pub roster_of-release : roster_of limits released (pending ++ h.index ∷ [])
+      ≡ record (roster_of limits records pending) {
+        live = sets.remove (roster_of limits records pending).live h;
+        rows = maps.remove (roster_of limits records pending).rows h;
+        pending = (roster_of limits records pending).pending ++ next limits h ∷ [];
+      }
   roster_of-release =
       let pending_is =
       map_push (handle_at released) pending h.index
-      ∙ (λ i. map_alike (handle_at released) (handle_at records) pending (λ k below j. record { index = get_or pending k 0; generation = (other (get_or pending k 0) (apart k below) j).generation }) i ++ record { index = h.index; generation = (same i).generation } ∷ []) in
-      λ i. record { limits = limits; live = live_is i; rows = rows_is i; pending = pending_is i; made = length-set records h.index vacant i }
+      ∙ (λ i. map_alike (handle_at released) (handle_at records) pending
+      (λ k below j. record {
+        index = get_or pending k 0;
+        generation =
+            (other (get_or pending k 0) (apart k below) j).generation;
+      }) i
+      ++ record { index = h.index; generation = (same i).generation } ∷ []) in
+      λ i. record {
+        limits = limits;
+        live = live_is i;
+        rows = rows_is i;
+        pending =
+            pending_is i;
+        made = length-set records h.index vacant i;
+      }

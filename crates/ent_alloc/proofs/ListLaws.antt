@@ -18,7 +18,8 @@ pub eqb_sym : (a b : ℕ) → eqb a b ≡ eqb b a
 eqb_sym a b = grind (arith, nat_tests)
 
 -- a filter that each element passes keeps the list
-pub filter_all : {X : Type 0} (p : X → Bool) (xs : List X) → All (λ x. p x ≡ true) xs → filter p xs ≡ xs
+pub filter_all : {X : Type 0} (p : X → Bool) (xs : List X) → All (λ x. p x ≡ true) xs → filter p xs
+    ≡ xs
 filter_all p [] h = refl
 filter_all p (x ∷ xs) h =
     let here : p x ≡ true = h 0 x (omega arith) in
@@ -26,7 +27,8 @@ filter_all p (x ∷ xs) h =
     rw here (ap (x ∷◌) rest)
 
 -- a filter that none passes leaves nothing
-pub filter_none : {X : Type 0} (p : X → Bool) (xs : List X) → All (λ x. p x ≡ false) xs → filter p xs ≡ []
+pub filter_none : {X : Type 0} (p : X → Bool) (xs : List X) → All (λ x. p x ≡ false) xs
+    → filter p xs ≡ []
 filter_none p [] h = refl
 filter_none p (x ∷ xs) h =
     let here : p x ≡ false = h 0 x (omega arith) in
@@ -44,20 +46,25 @@ take-nil zero = refl
 take-nil (suc n) = refl
 
 -- what is left of two joined lists
-pub drop-append : {X : Type 0} (n : ℕ) (xs ys : List X) → drop n (xs ++ ys) ≡ drop n xs ++ drop (n - length xs) ys
+pub drop-append : {X : Type 0} (n : ℕ) (xs ys : List X) → drop n (xs ++ ys) ≡ drop n xs
+    ++ drop (n - length xs) ys
 drop-append n [] ys = let e : n - 0 ≡ n = omega arith in rw (drop-nil n, e)
 drop-append zero (x ∷ xs) ys = let e : 0 - suc (length xs) ≡ 0 = omega arith in rw e
-drop-append (suc n) (x ∷ xs) ys = let e : suc n - suc (length xs) ≡ n - length xs = omega arith in rw e (drop-append n xs ys)
+drop-append (suc n) (x ∷ xs) ys = let e : suc n - suc (length xs) ≡ n - length xs = omega arith in
+    rw e (drop-append n xs ys)
 
 -- the front of two joined lists
-pub take-append : {X : Type 0} (n : ℕ) (xs ys : List X) → take n (xs ++ ys) ≡ take n xs ++ take (n - length xs) ys
+pub take-append : {X : Type 0} (n : ℕ) (xs ys : List X) → take n (xs ++ ys) ≡ take n xs
+    ++ take (n - length xs) ys
 take-append n [] ys = let e : n - 0 ≡ n = omega arith in rw (take-nil n, e)
 take-append zero (x ∷ xs) ys = let e : 0 - suc (length xs) ≡ 0 = omega arith in rw e
-take-append (suc n) (x ∷ xs) ys = let e : suc n - suc (length xs) ≡ n - length xs = omega arith in rw e (ap (x ∷◌) (take-append n xs ys))
+take-append (suc n) (x ∷ xs) ys = let e : suc n - suc (length xs) ≡ n - length xs = omega arith in
+    rw e (ap (x ∷◌) (take-append n xs ys))
 
 -- what holds of two joined lists holds of each
 pub All-left : {X : Type 0} (P : X → Type 0) (xs ys : List X) → All P (xs ++ ys) → All P xs
-All-left P xs ys h i d lt = rw (get_or_append_left xs ys d i lt) at (h i d (omega (arith, length-append xs ys)))
+All-left P xs ys h i d lt = rw (get_or_append_left xs ys d i lt) at
+    (h i d (omega (arith, length-append xs ys)))
 
 -- the other half
 pub All-right : {X : Type 0} (P : X → Type 0) (xs ys : List X) → All P (xs ++ ys) → All P ys
@@ -71,11 +78,13 @@ module _ {X : Type 0} (R : X → X → Type 0) where
   AllPairs-take n xs h i j d lt in_part =
       let j_taken : j < n = omega (arith, length-take n xs) in
       let i_taken : i < n = omega arith in
-      rw (get_or-take n xs i d i_taken, get_or-take n xs j d j_taken) (h i j d lt (omega (arith, length-take n xs)))
+      rw (get_or-take n xs i d i_taken, get_or-take n xs j d j_taken)
+      (h i j d lt (omega (arith, length-take n xs)))
 
   -- the rest
   pub AllPairs-drop : (n : ℕ) (xs : List X) → AllPairs R xs → AllPairs R (drop n xs)
-  AllPairs-drop n xs h i j d lt in_part = simp get_or-drop (h (n + i) (n + j) d (omega arith) (omega (arith, length-drop n xs)))
+  AllPairs-drop n xs h i j d lt in_part = simp get_or-drop (h (n + i) (n + j) d (omega arith)
+      (omega (arith, length-drop n xs)))
 
   -- the first stands before each other
   pub AllPairs-head : (x : X) (xs : List X) → AllPairs R (x ∷ xs) → All (R x) xs
@@ -94,16 +103,19 @@ module _ {X : Type 0} (R : X → X → Type 0) where
   pub AllPairs-left : (xs ys : List X) → AllPairs R (xs ++ ys) → AllPairs R xs
   AllPairs-left [] ys h = λ i j d lt in_part. absurd (omega arith)
   AllPairs-left (x ∷ xs) ys h =
-      AllPairs-cons R x xs (All-left (R x) xs ys (AllPairs-head x (xs ++ ys) h)) (AllPairs-left xs ys (AllPairs-tail x (xs ++ ys) h))
+      AllPairs-cons R x xs (All-left (R x) xs ys (AllPairs-head x (xs ++ ys) h))
+      (AllPairs-left xs ys (AllPairs-tail x (xs ++ ys) h))
 
   -- each element of the one list stands before each of the other
   pub AllPairs-across : (xs ys : List X) → AllPairs R (xs ++ ys) → All (λ x. All (R x) ys) xs
   AllPairs-across [] ys h = All-nil (λ x. All (R x) ys)
   AllPairs-across (x ∷ xs) ys h =
-      All-cons (λ x. All (R x) ys) x xs (All-right (R x) xs ys (AllPairs-head x (xs ++ ys) h)) (AllPairs-across xs ys (AllPairs-tail x (xs ++ ys) h))
+      All-cons (λ x. All (R x) ys) x xs (All-right (R x) xs ys (AllPairs-head x (xs ++ ys) h))
+      (AllPairs-across xs ys (AllPairs-tail x (xs ++ ys) h))
 
   -- two lists joined
-  pub AllPairs-append : (xs ys : List X) → AllPairs R xs → AllPairs R ys → All (λ x. All (R x) ys) xs → AllPairs R (xs ++ ys)
+  pub AllPairs-append : (xs ys : List X) → AllPairs R xs → AllPairs R ys
+      → All (λ x. All (R x) ys) xs → AllPairs R (xs ++ ys)
   AllPairs-append [] ys h k across = k
   AllPairs-append (x ∷ xs) ys h k across =
       AllPairs-cons R x (xs ++ ys)
@@ -111,25 +123,33 @@ module _ {X : Type 0} (R : X → X → Type 0) where
       (AllPairs-append xs ys (AllPairs-tail x xs h) k (All-tail (λ x. All (R x) ys) x xs across))
 
   -- the other way round, where the relation goes both ways
-  pub AllPairs-reverse : ((x y : X) → R x y → R y x) → (xs : List X) → AllPairs R xs → AllPairs R (reverse xs)
+  pub AllPairs-reverse : ((x y : X) → R x y → R y x) → (xs : List X) → AllPairs R xs
+      → AllPairs R (reverse xs)
   AllPairs-reverse both xs h i j d lt in_part =
       let n : length (reverse xs) ≡ length xs = length-reverse xs in
-      rw (get_or-reverse xs i d (omega arith), get_or-reverse xs j d (omega arith)) (both _ _ (h (length xs - 1 - j) (length xs - 1 - i) d (omega arith) (omega arith)))
+      rw (get_or-reverse xs i d (omega arith), get_or-reverse xs j d (omega arith))
+      (both _ _ (h (length xs - 1 - j) (length xs - 1 - i) d (omega arith) (omega arith)))
 
   -- two elements at their positions
-  AllPairs-at : (xs : List X) (x y : X) (i j : ℕ) → AllPairs R xs → i < j → j < length xs → get_or xs i x ≡ x → get_or xs j y ≡ y → R x y
-  AllPairs-at xs x y i j h lt within at_i at_j = subst₂ R at_i (get_or_default xs j x y within ∙ at_j) (h i j x lt within)
+  AllPairs-at : (xs : List X) (x y : X) (i j : ℕ) → AllPairs R xs → i < j → j < length xs
+      → get_or xs i x ≡ x → get_or xs j y ≡ y → R x y
+  AllPairs-at xs x y i j h lt within at_i at_j = subst₂ R at_i (get_or_default xs j x y within
+      ∙ at_j) (h i j x lt within)
 
   -- of two elements of which neither stands before the other in the relation, one is the other
-  pub same_from_AllPairs : (xs : List X) (x y : X) → AllPairs R xs → Contains xs x → Contains xs y → ¬ (R x y) → ¬ (R y x) → x ≡ y
+  pub same_from_AllPairs : (xs : List X) (x y : X) → AllPairs R xs → Contains xs x → Contains xs y
+      → ¬ (R x y) → ¬ (R y x) → x ≡ y
   same_from_AllPairs xs x y h in_x in_y not_before not_behind =
       elim (cases_lt in_x.0 in_y.0) [
-        | inl before ↦ absurd (not_before (AllPairs-at xs x y in_x.0 in_y.0 h before in_y.1 in_x.2 in_y.2))
+        | inl before ↦ absurd (not_before (AllPairs-at xs x y in_x.0 in_y.0 h before in_y.1 in_x.2
+            in_y.2))
         | inr here_or_behind ↦ elim (cases_lt in_y.0 in_x.0) [
-          | inl behind ↦ absurd (not_behind (AllPairs-at xs y x in_y.0 in_x.0 h behind in_x.1 in_y.2 in_x.2))
+          | inl behind ↦ absurd (not_behind (AllPairs-at xs y x in_y.0 in_x.0 h behind in_x.1 in_y.2
+              in_x.2))
           | inr here ↦
               let same : in_x.0 ≡ in_y.0 = omega arith in
-              sym in_x.2 ∙ ap (λ i. get_or xs i x) same ∙ get_or_default xs in_y.0 x y in_y.1 ∙ in_y.2
+              sym in_x.2 ∙ ap (λ i. get_or xs i x) same ∙ get_or_default xs in_y.0 x y in_y.1
+              ∙ in_y.2
         ]
       ]
 
@@ -148,23 +168,29 @@ unfolding swapped_from
 swapped_from_apart a b i j apart same = grind (arith, nat_tests)
 
 -- what stands at a position after a swap
-get_or-swapped : {X : Type 0} (xs : List X) (a b k : ℕ) (d : X) → a < length xs → b < length xs → get_or (swap xs a b) k d ≡ get_or xs (swapped_from a b k) d
+get_or-swapped : {X : Type 0} (xs : List X) (a b k : ℕ) (d : X) → a < length xs → b < length xs
+    → get_or (swap xs a b) k d ≡ get_or xs (swapped_from a b k) d
 unfolding swapped_from
 get_or-swapped {X} xs a b k d la lb =
-    let moved : Swapped (λ i. get_or xs i d) (λ i. get_or (swap xs a b) i d) a b = swapped_from_swap xs (swap xs a b) a b d la lb refl in
+    let moved : Swapped (λ i. get_or xs i d) (λ i. get_or (swap xs a b) i d) a b = swapped_from_swap
+    xs (swap xs a b) a b d la lb refl in
     elim (cases_eq k a) [
-      | inl at_a ↦ let test : (k == a) ≡ true = eq-eqb k a at_a in rw test (ap (λ i. get_or (swap xs a b) i d) at_a ∙ moved.0)
+      | inl at_a ↦ let test : (k == a) ≡ true = eq-eqb k a at_a in
+          rw test (ap (λ i. get_or (swap xs a b) i d) at_a ∙ moved.0)
       | inr not_a ↦ let test_a : (k == a) ≡ false = ne_eqb k a not_a in
           elim (cases_eq k b) [
-            | inl at_b ↦ let test_b : (k == b) ≡ true = eq-eqb k b at_b in rw (test_a, test_b) (ap (λ i. get_or (swap xs a b) i d) at_b ∙ moved.1)
-            | inr not_b ↦ let test_b : (k == b) ≡ false = ne_eqb k b not_b in rw (test_a, test_b) (moved.2 k not_a not_b)
+            | inl at_b ↦ let test_b : (k == b) ≡ true = eq-eqb k b at_b in rw (test_a, test_b)
+                (ap (λ i. get_or (swap xs a b) i d) at_b ∙ moved.1)
+            | inr not_b ↦ let test_b : (k == b) ≡ false = ne_eqb k b not_b in rw (test_a, test_b)
+                (moved.2 k not_a not_b)
           ]
     ]
 
 module _ {X : Type 0} (R : X → X → Type 0) (both : (x y : X) → R x y → R y x) where
   -- of each two positions
   AtPositions : List X → Type 0
-  AtPositions xs = (i j : ℕ) (d : X) → i ≢ j → i < length xs → j < length xs → R (get_or xs i d) (get_or xs j d)
+  AtPositions xs = (i j : ℕ) (d : X) → i ≢ j → i < length xs → j < length xs
+      → R (get_or xs i d) (get_or xs j d)
 
   -- the earlier of two positions may come second
   positions_from_pairs : (xs : List X) → AllPairs R xs → AtPositions xs
@@ -175,17 +201,21 @@ module _ {X : Type 0} (R : X → X → Type 0) (both : (x y : X) → R x y → R
   ]
 
   -- a swap keeps it
-  swap_keeps : (xs : List X) (a b : ℕ) → a < length xs → b < length xs → AtPositions xs → AtPositions (swap xs a b)
+  swap_keeps : (xs : List X) (a b : ℕ) → a < length xs → b < length xs → AtPositions xs
+      → AtPositions (swap xs a b)
   unfolding AtPositions
   swap_keeps xs a b la lb h i j d apart li lj =
       let long : length (swap xs a b) ≡ length xs = length-swap xs a b in
       rw (get_or-swapped xs a b i d la lb, get_or-swapped xs a b j d la lb) (
       h (swapped_from a b i) (swapped_from a b j) d (swapped_from_apart a b i j apart)
-      (swapped_from_lt (length xs) a b i la lb (omega arith)) (swapped_from_lt (length xs) a b j la lb (omega arith))
+      (swapped_from_lt (length xs) a b i la lb (omega arith)) (swapped_from_lt (length xs) a b j la
+      lb (omega arith))
       )
 
   -- the same list in another order has the same pairs, where the relation goes both ways
-  pub AllPairs-IsPermutation : (xs ys : List X) → IsPermutation xs ys → AllPairs R xs → AllPairs R ys
+  pub AllPairs-IsPermutation : (xs ys : List X) → IsPermutation xs ys → AllPairs R xs
+      → AllPairs R ys
   unfolding AtPositions
   AllPairs-IsPermutation xs ys moved h i j d lt within =
-      IsPermutation-keeps xs AtPositions (positions_from_pairs xs h) (λ l a b la lb k. swap_keeps l a b la lb k) ys moved i j d (omega arith) (omega arith) within
+      IsPermutation-keeps xs AtPositions (positions_from_pairs xs h) (λ l a b la lb k.
+      swap_keeps l a b la lb k) ys moved i j d (omega arith) (omega arith) within

@@ -10,35 +10,52 @@ use Rattle.ent_alloc.specs.Sequential.{fresh}
 use Rattle.ent_alloc.specs.Reserved.{reserved_handles, IsInRange}
 use Rattle.ent_alloc.proofs.FreshHandles.{length-fresh, fresh-next, fresh-none}
 
-pub length-reserved_handles : (r : Roster) (position end index index_end left : ℕ) → IsInRange r position end index index_end left → length (reserved_handles r position end index index_end) ≡ left
+pub length-reserved_handles : (r : Roster) (position end index index_end left : ℕ)
+    → IsInRange r position end index index_end left
+    → length (reserved_handles r position end index index_end) ≡ left
 length-reserved_handles r position end index index_end left range =
     let positions = range.positions in
     let within = range.within in
-    length-append (take (end - position) (drop position r.pending)) (fresh index (index_end - index))
-    ∙ (λ i. length-take-le (end - position) (drop position r.pending) (omega (arith, length-drop position r.pending)) i + length-fresh index (index_end - index) i)
+    length-append (take (end - position) (drop position r.pending))
+    (fresh index (index_end - index))
+    ∙ (λ i. length-take-le (end - position) (drop position r.pending)
+    (omega (arith, length-drop position r.pending)) i + length-fresh index (index_end - index)
+    i)
     ∙ sym range.count
 
 -- a list from where it has an item
-pub drop_at : (hs : List Handle) (k : ℕ) (h : Handle) → k < length hs → slice_get hs k ≡ Some h → drop k hs ≡ h ∷ drop (k + 1) hs
+pub drop_at : (hs : List Handle) (k : ℕ) (h : Handle) → k < length hs → slice_get hs k ≡ Some h
+    → drop k hs ≡ h ∷ drop (k + 1) hs
 drop_at hs k h below at =
     drop_more hs k h below ∙ ap (λ x. x ∷ drop (k + 1) hs) (get_or_from_slice_get hs k h h at)
 
 -- the handle that waits at the position comes first
-pub reserved_handles-pending : (r : Roster) (position end index index_end : ℕ) (h : Handle) → end ≤ length r.pending → position < end → slice_get r.pending position ≡ Some h → reserved_handles r position end index index_end ≡ h ∷ reserved_handles r (position + 1) end index index_end
+pub reserved_handles-pending : (r : Roster) (position end index index_end : ℕ) (h : Handle) → end
+    ≤ length r.pending → position < end → slice_get r.pending position ≡ Some h
+    → reserved_handles r position end index index_end ≡ h ∷ reserved_handles r (position + 1) end
+    index index_end
 reserved_handles-pending r position end index index_end h within below at =
     let more : end - position ≡ suc (end - (position + 1)) = omega arith in
-    λ i. take (more i) (drop_at r.pending position h (omega arith) at i) ++ fresh index (index_end - index)
+    λ i. take (more i) (drop_at r.pending position h (omega arith) at i)
+    ++ fresh index (index_end - index)
 
 -- else the first fresh one
-pub reserved_handles-fresh : (r : Roster) (position end index index_end : ℕ) → end ≤ position → index < index_end → reserved_handles r position end index index_end ≡ record { index = index; generation = 1 } ∷ reserved_handles r position end (index + 1) index_end
+pub reserved_handles-fresh : (r : Roster) (position end index index_end : ℕ) → end ≤ position
+    → index < index_end → reserved_handles r position end index index_end
+    ≡ record { index = index; generation = 1 } ∷ reserved_handles r position end (index + 1)
+    index_end
 reserved_handles-fresh r position end index index_end past below =
     let none : end - position ≡ 0 = omega arith in
     let more : index_end - index ≡ suc (index_end - (index + 1)) = omega arith in
-    (λ i. take (none i) (drop position r.pending) ++ (ap (fresh index) more ∙ fresh-next index (index_end - (index + 1))) i)
-    ∙ ap (λ rest. record { index = index; generation = 1 } ∷ rest) (λ i. take (sym none i) (drop position r.pending) ++ fresh (index + 1) (index_end - (index + 1)))
+    (λ i. take (none i) (drop position r.pending)
+    ++ (ap (fresh index) more ∙ fresh-next index (index_end - (index + 1))) i)
+    ∙ ap (λ rest. record { index = index; generation = 1 } ∷ rest)
+    (λ i. take (sym none i) (drop position r.pending)
+    ++ fresh (index + 1) (index_end - (index + 1)))
 
 -- else none
-pub reserved_handles-none : (r : Roster) (position end index index_end : ℕ) → end ≤ position → index_end ≤ index → reserved_handles r position end index index_end ≡ []
+pub reserved_handles-none : (r : Roster) (position end index index_end : ℕ) → end ≤ position
+    → index_end ≤ index → reserved_handles r position end index index_end ≡ []
 reserved_handles-none r position end index index_end past passed =
     let none : end - position ≡ 0 = omega arith in
     let no_fresh : index_end - index ≡ 0 = omega arith in
@@ -46,16 +63,20 @@ reserved_handles-none r position end index index_end past passed =
 
 -- ---- listing one after the other
 
-pub fresh-push : (index count : ℕ) → fresh index count ++ record { index = index + count; generation = 1 } ∷ [] ≡ fresh index (count + 1)
+pub fresh-push : (index count : ℕ) → fresh index count
+    ++ record { index = index + count; generation = 1 } ∷ [] ≡ fresh index (count + 1)
 unfolding fresh
 fresh-push index zero = λ i. record { index = add-zero index i; generation = 1 } ∷ []
 fresh-push index (suc count) =
     let at : index + suc count ≡ index + 1 + count = omega arith in
     let more : suc (count + 1) ≡ suc count + 1 = omega arith in
-    ap (λ rest. record { index = index; generation = 1 } ∷ rest) (ap (λ n. fresh (index + 1) count ++ record { index = n; generation = 1 } ∷ []) at ∙ fresh-push (index + 1) count)
+    ap (λ rest. record { index = index; generation = 1 } ∷ rest)
+    (ap (λ n. fresh (index + 1) count ++ record { index = n; generation = 1 } ∷ []) at
+    ∙ fresh-push (index + 1) count)
     ∙ ap (fresh index) more
 
-pub replicate-push : {X : Type 0} (count : ℕ) (x : X) → replicate count x ++ x ∷ [] ≡ replicate (count + 1) x
+pub replicate-push : {X : Type 0} (count : ℕ) (x : X) → replicate count x ++ x ∷ []
+    ≡ replicate (count + 1) x
 replicate-push zero x = refl
 replicate-push (suc count) x =
     let more : suc (count + 1) ≡ suc count + 1 = omega arith in

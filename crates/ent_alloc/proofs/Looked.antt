@@ -34,7 +34,8 @@ use Rattle.ent_alloc.proofs.Linked.{occupant_made, occupant_alive, occupant_gene
 abbrev pub waits_at : List SlotRecord → Handle → ℕ → Bool
 waits_at records h from =
     ltb h.index (length records)
-    && (is_pending_from (record_at records h.index).occupancy from && eqb (record_at records h.index).generation h.generation)
+    && (is_pending_from (record_at records h.index).occupancy from && eqb
+    (record_at records h.index).generation h.generation)
 
 -- ---- one look-up tells all of a handle
 
@@ -46,18 +47,22 @@ and-false : (b : Bool) → (b && false) ≡ false
 and-false true = refl
 and-false false = refl
 
-lives_if : (made same : Bool) (o : Occupancy) → (made ≡ false → is_alive o ≡ false) → (is_alive o && same) ≡ lives (cond (made && same) (Some o) None)
+lives_if : (made same : Bool) (o : Occupancy) → (made ≡ false → is_alive o ≡ false)
+    → (is_alive o && same) ≡ lives (cond (made && same) (Some o) None)
 lives_if true true o none = and-true (is_alive o)
 lives_if true false o none = and-false (is_alive o)
 lives_if false same o none = ap (λ b. b && same) (none refl)
 
-row_if : (made same : Bool) (o : Occupancy) → (made ≡ false → row_of o ≡ None) → cond same (row_of o) None ≡ row_kept (cond (made && same) (Some o) None)
+row_if : (made same : Bool) (o : Occupancy) → (made ≡ false → row_of o ≡ None)
+    → cond same (row_of o) None ≡ row_kept (cond (made && same) (Some o) None)
 row_if true true o none = refl
 row_if true false o none = refl
 row_if false true o none = none refl
 row_if false false o none = refl
 
-waits_if : (made same : Bool) (o : Occupancy) (from : ℕ) → (made && (is_pending_from o from && same)) ≡ waits_from (cond (made && same) (Some o) None) from
+waits_if : (made same : Bool) (o : Occupancy) (from : ℕ)
+    → (made && (is_pending_from o from && same)) ≡ waits_from (cond (made && same) (Some o) None)
+    from
 waits_if true true o from = and-true (is_pending_from o from)
 waits_if true false o from = and-false (is_pending_from o from)
 waits_if false same o from = refl
@@ -78,7 +83,8 @@ module _ (records : List SlotRecord) (h : Handle) where
 
   pub is_occupant-occupancy : is_occupant records h ≡ lives (occupancy_of records h)
   is_occupant-occupancy =
-      lives_if (ltb h.index (length records)) (eqb found_record.generation h.generation) found_record.occupancy
+      lives_if (ltb h.index (length records)) (eqb found_record.generation h.generation)
+      found_record.occupancy
       (λ is. ap (λ (r : SlotRecord). is_alive r.occupancy) (absent is))
 
   -- what is found was made
@@ -91,12 +97,15 @@ module _ (records : List SlotRecord) (h : Handle) where
 
   pub row_at-occupancy : row_at records h ≡ row_kept (occupancy_of records h)
   row_at-occupancy =
-      row_if (ltb h.index (length records)) (eqb found_record.generation h.generation) found_record.occupancy
+      row_if (ltb h.index (length records)) (eqb found_record.generation h.generation)
+      found_record.occupancy
       (λ is. ap (λ (r : SlotRecord). row_of r.occupancy) (absent is))
 
-  pub waits_at-occupancy : (from : ℕ) → waits_at records h from ≡ waits_from (occupancy_of records h) from
+  pub waits_at-occupancy : (from : ℕ) → waits_at records h from
+      ≡ waits_from (occupancy_of records h) from
   waits_at-occupancy from =
-      waits_if (ltb h.index (length records)) (eqb found_record.generation h.generation) found_record.occupancy from
+      waits_if (ltb h.index (length records)) (eqb found_record.generation h.generation)
+      found_record.occupancy from
 
 -- ---- who waits
 
@@ -107,19 +116,26 @@ same_test false true f g = g refl
 same_test false false f g = refl
 
 -- the position that a slot waits at
-waiting_position : (t : Occupancy) (from : ℕ) → is_pending_from t from ≡ true → (position : ℕ) × (t ≡ Pending position) × (from ≤ position)
+waiting_position : (t : Occupancy) (from : ℕ) → is_pending_from t from ≡ true → (position : ℕ)
+    × (t ≡ Pending position) × (from ≤ position)
 waiting_position Alive from is = absurd (false≢true is)
 waiting_position (AliveWithRow row) from is = absurd (false≢true is)
 waiting_position (Pending position) from is = (position, refl, leb-true from position is)
 
-module _ (limits : Limits) (records : List SlotRecord) (pending : List ℕ) (live : ℕ) (linked : AreLinked limits records pending live) where
-  at_position : (from k : ℕ) (d : Handle) → from + k < length pending → get_or (drop from (map (handle_at records) pending)) k d ≡ handle_at records (get_or pending (from + k) 0)
-  at_position from k d within = get_or-drop from (map (handle_at records) pending) k d ∙ get_or-map (handle_at records) pending (from + k) 0 d within
+module _ (limits : Limits) (records : List SlotRecord) (pending : List ℕ) (live : ℕ)
+    (linked : AreLinked limits records pending live) where
+  at_position : (from k : ℕ) (d : Handle) → from + k < length pending
+      → get_or (drop from (map (handle_at records) pending)) k d
+      ≡ handle_at records (get_or pending (from + k) 0)
+  at_position from k d within = get_or-drop from (map (handle_at records) pending) k d
+      ∙ get_or-map (handle_at records) pending (from + k) 0 d within
 
   long : (from : ℕ) → length (drop from (map (handle_at records) pending)) ≡ length pending - from
-  long from = length-drop from (map (handle_at records) pending) ∙ ap (λ n. n - from) (length-map pending (handle_at records))
+  long from = length-drop from (map (handle_at records) pending)
+      ∙ ap (λ n. n - from) (length-map pending (handle_at records))
 
-  found : (h : Handle) (from : ℕ) → Contains (drop from (map (handle_at records) pending)) h → waits_at records h from ≡ true
+  found : (h : Handle) (from : ℕ) → Contains (drop from (map (handle_at records) pending)) h
+      → waits_at records h from ≡ true
   found h from (k, within, is) =
       let below : from + k < length pending = omega (arith, long from) in
       let index = get_or pending (from + k) 0 in
@@ -128,46 +144,68 @@ module _ (limits : Limits) (records : List SlotRecord) (pending : List ℕ) (liv
       let made = linked.made (from + k) below in
       and_from (ltb h.index (length records)) _ (lt-ltb h.index (length records) (omega arith))
       (and_from (is_pending_from (record_at records h.index).occupancy from) _
-      (ap (λ t. is_pending_from t from) (sym (ap (λ n. (record_at records n).occupancy) at) ∙ linked.forward (from + k) below) ∙ le-leb from (from + k) (omega arith))
-      (eq-eqb _ _ (sym (ap (λ n. (record_at records n).generation) at) ∙ ap (λ (x : Handle). x.generation) same)))
+      (ap (λ t. is_pending_from t from) (sym (ap (λ n. (record_at records n).occupancy) at)
+      ∙ linked.forward (from + k) below) ∙ le-leb from (from + k) (omega arith))
+      (eq-eqb _ _ (sym (ap (λ n. (record_at records n).generation) at)
+      ∙ ap (λ (x : Handle). x.generation) same)))
 
-  waiting : (h : Handle) (from : ℕ) → waits_at records h from ≡ true → Contains (drop from (map (handle_at records) pending)) h
+  waiting : (h : Handle) (from : ℕ) → waits_at records h from ≡ true
+      → Contains (drop from (map (handle_at records) pending)) h
   waiting h from is =
       let parts = and_parts (ltb h.index (length records)) _ is in
       let rest = and_parts (is_pending_from (record_at records h.index).occupancy from) _ parts.1 in
       let made = ltb-true h.index (length records) parts.0 in
       let position = waiting_position (record_at records h.index).occupancy from rest.0 in
       let listed : position.0 < length pending = linked.listed h.index position.0 made position.1 in
-      let back : get_or pending position.0 0 ≡ h.index = linked.back h.index position.0 made position.1 in
-      let there : from + (position.0 - from) ≡ position.0 = (let least : from ≤ position.0 = position.2 in omega arith) in
+      let back : get_or pending position.0 0 ≡ h.index = linked.back h.index position.0 made
+      position.1 in
+      let there : from + (position.0 - from) ≡ position.0 =
+      (let least : from ≤ position.0 = position.2 in omega arith) in
       let below : from + (position.0 - from) < length pending = omega arith in
-      let index : get_or pending (from + (position.0 - from)) 0 ≡ h.index = ap (λ n. get_or pending n 0) there ∙ back in
-      let generation : (record_at records h.index).generation ≡ h.generation = eqb-true _ _ rest.1 in (
+      let index : get_or pending (from + (position.0 - from)) 0 ≡ h.index =
+      ap (λ n. get_or pending n 0) there ∙ back in
+      let generation : (record_at records h.index).generation ≡ h.generation = eqb-true _ _ rest.1
+      in (
         position.0 - from,
         omega (arith, long from),
-        at_position from (position.0 - from) h below ∙ (λ i. record { index = index i; generation = ((ap (λ n. (record_at records n).generation) index) ∙ generation) i }),
+        at_position from (position.0 - from) h below
+            ∙ (λ i. record {
+              index = index i;
+              generation =
+                  ((ap (λ n. (record_at records n).generation) index) ∙ generation) i;
+            }),
       )
 
   -- who waits after a position is told by the record
-  pub stands_in-pending : (h : Handle) (from : ℕ) → waits_at records h from ≡ stands_in (drop from (map (handle_at records) pending)) h
+  pub stands_in-pending : (h : Handle) (from : ℕ) → waits_at records h from
+      ≡ stands_in (drop from (map (handle_at records) pending)) h
   stands_in-pending h from =
       same_test _ _
-      (λ is. stands_in-from_Contains (drop from (map (handle_at records) pending)) h (waiting h from is))
-      (λ is. found h from (Contains-from_stands_in (drop from (map (handle_at records) pending)) h is))
+      (λ is. stands_in-from_Contains (drop from (map (handle_at records) pending)) h
+      (waiting h from is))
+      (λ is. found h from (Contains-from_stands_in (drop from (map (handle_at records) pending)) h
+      is))
 
 -- ---- fresh handles
 
-pub fresh_yes : (h : Handle) (made count : ℕ) → h.generation ≡ 1 → made ≤ h.index → h.index - made < count → stands_in (fresh made count) h ≡ true
+pub fresh_yes : (h : Handle) (made count : ℕ) → h.generation ≡ 1 → made ≤ h.index → h.index - made
+    < count → stands_in (fresh made count) h ≡ true
 fresh_yes h made count first after within =
     let at : made + (h.index - made) ≡ h.index = omega arith in
-    stands_in-from_Contains (fresh made count) h
-    (h.index - made, omega (arith, length-fresh made count), get_or-fresh made count (h.index - made) h within ∙ (λ i. record { index = at i; generation = sym first i }))
+    stands_in-from_Contains (fresh made count) h (
+      h.index - made,
+      omega (arith, length-fresh made count),
+      get_or-fresh made count (h.index
+          - made) h within ∙ (λ i. record { index = at i; generation = sym first i }),
+    )
 
-pub fresh_no : (h : Handle) (made count : ℕ) → (h.generation ≡ 1 → made ≤ h.index → h.index - made < count → ⊥) → stands_in (fresh made count) h ≡ false
+pub fresh_no : (h : Handle) (made count : ℕ) → (h.generation ≡ 1 → made ≤ h.index → h.index - made
+    < count → ⊥) → stands_in (fresh made count) h ≡ false
 fresh_no h made count none =
     false_from_ne_true _ (λ is.
     let there = Contains-from_stands_in (fresh made count) h is in
-    let within : there.0 < count = (let below = there.1 in omega (arith, length-fresh made count)) in
+    let within : there.0 < count = (let below = there.1 in omega (arith, length-fresh made count))
+    in
     let same = sym (get_or-fresh made count there.0 h within) ∙ there.2 in
     let index : made + there.0 ≡ h.index = ap (λ (x : Handle). x.index) same in
     none (sym (ap (λ (x : Handle). x.generation) same)) (omega arith) (omega arith))
@@ -178,14 +216,21 @@ kept_test : (same gen old : Bool) → (same ≡ true → old ≡ gen) → cond s
 kept_test true gen old is = sym (is refl)
 kept_test false gen old is = refl
 
-new_row : (same gen : Bool) (row old : Option ℕ) → (same ≡ true → gen ≡ false → old ≡ None) → cond same (cond gen row None) old ≡ cond (same && gen) row old
+new_row : (same gen : Bool) (row old : Option ℕ) → (same ≡ true → gen ≡ false → old ≡ None)
+    → cond same (cond gen row None) old ≡ cond (same && gen) row old
 new_row true true row old is = refl
 new_row true false row old is = sym (is refl refl)
 new_row false gen row old is = refl
 
-module _ (limits : Limits) (records : List SlotRecord) (pending : List ℕ) (live : ℕ) (h : Handle) (row : ℕ) (linked : AreLinked limits records pending live) (lives : is_occupant records h ≡ true) where
+module _ (limits : Limits) (records : List SlotRecord) (pending : List ℕ) (live : ℕ) (h : Handle)
+    (row : ℕ) (linked : AreLinked limits records pending live) (lives : is_occupant records h
+    ≡ true) where
   abbrev labelled : SlotRecord
-  labelled = record { generation = (record_at records h.index).generation; occupancy = AliveWithRow row }
+  labelled = record {
+    generation = (record_at records h.index).generation;
+    occupancy =
+        AliveWithRow row;
+  }
 
   abbrev relabelled : List SlotRecord
   relabelled = set records h.index labelled
@@ -197,23 +242,30 @@ module _ (limits : Limits) (records : List SlotRecord) (pending : List ℕ) (liv
   others at ne = get_or-set_other records h.index at labelled no_slot ne
 
   itself : (at : ℕ) → at ≡ h.index → record_at relabelled at ≡ labelled
-  itself at e = ap (record_at relabelled) e ∙ get_or-set_same records h.index labelled no_slot slot_made
+  itself at e = ap (record_at relabelled) e ∙ get_or-set_same records h.index labelled no_slot
+      slot_made
 
   generations : (at : ℕ) → (record_at relabelled at).generation ≡ (record_at records at).generation
   generations at =
       elim (cases_eq at h.index) [
-        | inl e ↦ ap (λ (r : SlotRecord). r.generation) (itself at e) ∙ ap (λ n. (record_at records n).generation) (sym e)
+        | inl e ↦ ap (λ (r : SlotRecord). r.generation) (itself at e)
+            ∙ ap (λ n. (record_at records n).generation) (sym e)
         | inr ne ↦ ap (λ (r : SlotRecord). r.generation) (others at ne)
       ]
 
-  alive_there : (at position : ℕ) → (record_at records at).occupancy ≡ Pending position → at ≢ h.index
+  alive_there : (at position : ℕ) → (record_at records at).occupancy ≡ Pending position → at
+      ≢ h.index
   alive_there at position waits e =
-      false≢true (sym (ap is_alive (sym (ap (λ n. (record_at records n).occupancy) e) ∙ waits)) ∙ occupant_alive records h lives)
+      false≢true (sym (ap is_alive (sym (ap (λ n. (record_at records n).occupancy) e) ∙ waits))
+      ∙ occupant_alive records h lives)
 
-  waited : (at position : ℕ) → (record_at relabelled at).occupancy ≡ Pending position → (record_at records at).occupancy ≡ Pending position
+  waited : (at position : ℕ) → (record_at relabelled at).occupancy ≡ Pending position
+      → (record_at records at).occupancy ≡ Pending position
   waited at position is =
       elim (cases_eq at h.index) [
-        | inl e ↦ absurd (false≢true (sym (ap is_alive (sym (ap (λ (r : SlotRecord). r.occupancy) (itself at e)) ∙ is))))
+        | inl e ↦ absurd
+            (false≢true (sym (ap is_alive (sym (ap (λ (r : SlotRecord). r.occupancy) (itself at e))
+            ∙ is))))
         | inr ne ↦ sym (ap (λ (r : SlotRecord). r.occupancy) (others at ne)) ∙ is
       ]
 
@@ -221,7 +273,8 @@ module _ (limits : Limits) (records : List SlotRecord) (pending : List ℕ) (liv
   set_row_keeps_links =
       let as_long : length relabelled ≡ length records = length-set records h.index labelled in
       let step = length-occupants-set 0 records h.index labelled slot_made in
-      let was : one (is_alive (record_at records h.index).occupancy) ≡ 1 = ap one (occupant_alive records h lives) in
+      let was : one (is_alive (record_at records h.index).occupancy)
+      ≡ 1 = ap one (occupant_alive records h lives) in
       let counted = linked.counted in
       let each = linked.each_once in
       let few = linked.few in
@@ -230,44 +283,76 @@ module _ (limits : Limits) (records : List SlotRecord) (pending : List ℕ) (liv
         few = omega arith;
         counted = omega arith;
         each_once = omega arith;
-        least = λ index within. let b = linked.least index (omega arith) in omega (arith, generations index);
-        greatest = λ index within. let b = linked.greatest index (omega arith) in omega (arith, generations index);
+        least = λ index within. let b = linked.least index (omega arith) in
+            omega (arith, generations index);
+        greatest = λ index within. let b = linked.greatest index (omega arith) in
+            omega (arith, generations index);
         made = λ position below. let b = linked.made position below in omega arith;
-        forward = λ position below. ap (λ (r : SlotRecord). r.occupancy) (others (get_or pending position 0) (alive_there (get_or pending position 0) position (linked.forward position below))) ∙ linked.forward position below;
-        listed = λ index position within is. linked.listed index position (omega arith) (waited index position is);
-        back = λ index position within is. linked.back index position (omega arith) (waited index position is);
+        forward = λ position below. ap (λ (r : SlotRecord). r.occupancy)
+            (others (get_or pending position 0) (alive_there (get_or pending position 0) position
+            (linked.forward position below))) ∙ linked.forward position below;
+        listed = λ index position within is. linked.listed index position (omega arith)
+            (waited index position is);
+        back = λ index position within is. linked.back index position (omega arith)
+            (waited index position is);
       }
 
-  same_live : sets.from_list {R = handle_cmp} (occupants 0 relabelled) ≡ sets.from_list (occupants 0 records)
+  same_live : sets.from_list {R = handle_cmp} (occupants 0 relabelled)
+      ≡ sets.from_list (occupants 0 records)
   same_live =
       sets.same_set handle_cmp_total handle_cmp-IsAntisymmetric _ _ (λ q.
       contains_occupants relabelled q
       ∙ is_occupant-set records h.index labelled q slot_made
-      ∙ kept_test (eqb q.index h.index) (has_occupant labelled q.generation) (is_occupant records q) (here q)
+      ∙ kept_test (eqb q.index h.index) (has_occupant labelled q.generation) (is_occupant records q)
+      (here q)
       ∙ sym (contains_occupants records q))
     where
-      here : (q : Handle) → eqb q.index h.index ≡ true → is_occupant records q ≡ has_occupant labelled q.generation
+      here : (q : Handle) → eqb q.index h.index ≡ true → is_occupant records q
+          ≡ has_occupant labelled q.generation
       here q e =
           ap (λ n. has_occupant (record_at records n) q.generation) (eqb-true q.index h.index e)
-          ∙ (λ i. occupant_alive records h lives i && eqb (record_at records h.index).generation q.generation)
+          ∙ (λ i. occupant_alive records h lives i && eqb (record_at records h.index).generation
+          q.generation)
 
-  new_rows : maps.from_entries {R = handle_cmp} (rows_from 0 relabelled) ≡ maps.insert (maps.from_entries (rows_from 0 records)) h row
+  new_rows : maps.from_entries {R = handle_cmp} (rows_from 0 relabelled)
+      ≡ maps.insert (maps.from_entries (rows_from 0 records)) h row
   new_rows =
       maps.same_map handle_cmp_total handle_cmp-IsAntisymmetric _ _ (λ q.
       get_rows relabelled q
       ∙ row_at-set records h.index labelled q slot_made
-      ∙ (λ i. cond (eqb q.index h.index) (cond ((ap (λ n. eqb n q.generation) (occupant_generation records h lives) ∙ eqb_sym h.generation q.generation) i) (Some row) None) (row_at records q))
-      ∙ new_row (eqb q.index h.index) (eqb q.generation h.generation) (Some row) (row_at records q) (here q)
+      ∙ (λ i. cond (eqb q.index h.index)
+      (cond ((ap (λ n. eqb n q.generation) (occupant_generation records h lives)
+      ∙ eqb_sym h.generation q.generation) i) (Some row) None) (row_at records q))
+      ∙ new_row (eqb q.index h.index) (eqb q.generation h.generation) (Some row) (row_at records q)
+      (here q)
       ∙ (λ i. cond (sym (ties q h) i) (Some row) (sym (get_rows records q) i))
       ∙ sym (maps.get-insert handle_cmp_total (maps.from_entries (rows_from 0 records)) h row q))
     where
-      here : (q : Handle) → eqb q.index h.index ≡ true → eqb q.generation h.generation ≡ false → row_at records q ≡ None
+      here : (q : Handle) → eqb q.index h.index ≡ true → eqb q.generation h.generation ≡ false
+          → row_at records q ≡ None
       here q e ne =
-          ap (λ n. row_at records (record { index = n; generation = q.generation })) (eqb-true q.index h.index e)
-          ∙ (λ i. cond (eqb (occupant_generation records h lives i) q.generation) (row_of (record_at records h.index).occupancy) None)
-          ∙ (λ i. cond ((eqb_sym h.generation q.generation ∙ ne) i) (row_of (record_at records h.index).occupancy) None)
+          ap (λ n. row_at records (record { index = n; generation = q.generation }))
+          (eqb-true q.index h.index e)
+          ∙ (λ i. cond (eqb (occupant_generation records h lives i) q.generation)
+          (row_of (record_at records h.index).occupancy) None)
+          ∙ (λ i. cond ((eqb_sym h.generation q.generation ∙ ne) i)
+          (row_of (record_at records h.index).occupancy) None)
 
-  pub roster_of-set_row : roster_of limits relabelled pending ≡ record (roster_of limits records pending) { rows = maps.insert (roster_of limits records pending).rows h row }
+  pub roster_of-set_row : roster_of limits relabelled pending
+      ≡ record (roster_of limits records pending)
+      { rows = maps.insert (roster_of limits records pending).rows h row }
   roster_of-set_row =
-      let pending_is = map_alike (handle_at relabelled) (handle_at records) pending (λ k below i. record { index = get_or pending k 0; generation = generations (get_or pending k 0) i }) in
-      λ i. record { limits = limits; live = same_live i; rows = new_rows i; pending = pending_is i; made = length-set records h.index labelled i }
+      let pending_is = map_alike (handle_at relabelled) (handle_at records) pending
+      (λ k below i. record {
+        index = get_or pending k 0;
+        generation =
+            generations (get_or pending k 0) i;
+      }) in
+      λ i. record {
+        limits = limits;
+        live = same_live i;
+        rows = new_rows i;
+        pending =
+            pending_is i;
+        made = length-set records h.index labelled i;
+      }

@@ -12,31 +12,40 @@ use Rattle.ent_alloc.proofs.Listing.{reserved_handles-none}
 use Rattle.ent_alloc.proofs.Meaning.{asked_at-is, pool_at_is, pending_below, reply_served}
 use Rattle.ent_alloc.proofs.Meaning.{reply_refused, length_left}
 
-module _ (r : Roster) (asked given : ℕ) (high : ℤ) (s : Allocator) (reserved : AreReserved r asked given) (view : allocator_of r asked given ≡ s) where
+module _ (r : Roster) (asked given : ℕ) (high : ℤ) (s : Allocator)
+    (reserved : AreReserved r asked given) (view : allocator_of r asked given ≡ s) where
   -- the reply in the words of what the vectors stand for
-  pub replied : (n : ℕ) → reply_from r.made (drop (beneath r high) (idle r)) n ≡ reply_from s.made (pool_at s high) n
+  pub replied : (n : ℕ) → reply_from r.made (drop (beneath r high) (idle r)) n
+      ≡ reply_from s.made (pool_at s high) n
   replied n =
-      (λ i. reply_from r.made (pool_at_is r asked given high reserved.given_least reserved.sound i) n)
+      (λ i. reply_from r.made (pool_at_is r asked given high reserved.given_least reserved.sound i)
+      n)
       ∙ ap (λ (t : Allocator). reply_from t.made (pool_at t high) n) view
 
   -- what a served reply lists
-  pub several : (n position end index index_end : ℕ) → beneath r high + n ≤ length r.pending + (r.limits.slots - r.made)
+  pub several : (n position end index index_end : ℕ) → beneath r high + n ≤ length r.pending
+      + (r.limits.slots - r.made)
       → position ≡ length r.pending - (beneath r high + n) → end ≡ length r.pending - beneath r high
-      → index ≡ r.made + (beneath r high - length r.pending) → index_end ≡ r.made + (beneath r high + n - length r.pending)
+      → index ≡ r.made + (beneath r high - length r.pending) → index_end ≡ r.made
+      + (beneath r high + n - length r.pending)
       → Ok (reserved_handles r position end index index_end) ≡ reply_from s.made (pool_at s high) n
   several n position end index index_end enough position_is end_is index_is index_end_is =
       (λ i. Ok (reserved_handles r (position_is i) (end_is i) (index_is i) (index_end_is i)))
-      ∙ reply_served r (beneath r high) n (pending_below r asked given reserved.given_least reserved.sound) enough
+      ∙ reply_served r (beneath r high) n (pending_below r asked given reserved.given_least
+      reserved.sound) enough
       ∙ replied n
 
   -- how many are left there
-  pub left_is : length (pool_at s high) ≡ length r.pending + (r.limits.slots - r.made) - beneath r high
+  pub left_is : length (pool_at s high) ≡ length r.pending + (r.limits.slots - r.made)
+      - beneath r high
   left_is =
-      ap length (sym (pool_at_is r asked given high reserved.given_least reserved.sound ∙ ap (λ (t : Allocator). pool_at t high) view))
+      ap length (sym (pool_at_is r asked given high reserved.given_least reserved.sound
+      ∙ ap (λ (t : Allocator). pool_at t high) view))
       ∙ length_left r (beneath r high)
 
   -- and a refused one
-  pub short_of : (n wanted left : ℕ) → 0 < n → length r.pending + (r.limits.slots - r.made) < beneath r high + n → wanted ≡ n
+  pub short_of : (n wanted left : ℕ) → 0 < n → length r.pending + (r.limits.slots - r.made)
+      < beneath r high + n → wanted ≡ n
       → left ≡ length r.pending + (r.limits.slots - r.made) - beneath r high
       → Err (record { wanted = wanted; left = left }) ≡ reply_from s.made (pool_at s high) n
   short_of n wanted left some past wanted_is left_is =
@@ -45,35 +54,53 @@ module _ (r : Roster) (asked given : ℕ) (high : ℤ) (s : Allocator) (reserved
 
   -- what one handle's reply lists
   listed_one : (h : Handle) → beneath r high + 1 ≤ length r.pending + (r.limits.slots - r.made)
-      → reserved_handles r (length r.pending - (beneath r high + 1)) (length r.pending - beneath r high) (r.made + (beneath r high - length r.pending)) (r.made + (beneath r high + 1 - length r.pending)) ≡ h ∷ []
+      → reserved_handles r (length r.pending - (beneath r high + 1)) (length r.pending
+      - beneath r high) (r.made + (beneath r high - length r.pending)) (r.made
+      + (beneath r high + 1 - length r.pending)) ≡ h ∷ []
       → Ok (h ∷ []) ≡ reply_from s.made (pool_at s high) 1
   listed_one h enough lists =
       ap Ok (sym lists) ∙ several 1 _ _ _ _ enough refl refl refl refl
 
   -- above 0 it is the pending handle there
-  pub one_pending : (h : Handle) (position : ℕ) → high ≡ pos (position + 1) → high ≤ℤ pos (length r.pending) → slice_get r.pending position ≡ Some h → Ok (h ∷ []) ≡ reply_from s.made (pool_at s high) 1
+  pub one_pending : (h : Handle) (position : ℕ) → high ≡ pos (position + 1)
+      → high ≤ℤ pos (length r.pending) → slice_get r.pending position ≡ Some h → Ok (h ∷ [])
+      ≡ reply_from s.made (pool_at s high) 1
   one_pending h position is within waits =
       let distance = asked_at-is (length r.pending) high within in
       let below : beneath r high + (position + 1) ≡ length r.pending = omega (arith, ints) in
       let here : position ≡ length r.pending - (beneath r high + 1) = omega arith in
       listed_one h (omega arith)
-      (reserved_handles-pending r _ (length r.pending - beneath r high) (r.made + (beneath r high - length r.pending)) (r.made + (beneath r high + 1 - length r.pending)) h (omega arith) (omega arith)
+      (reserved_handles-pending r _ (length r.pending - beneath r high) (r.made
+      + (beneath r high - length r.pending)) (r.made + (beneath r high + 1 - length r.pending))
+      h (omega arith) (omega arith)
       (ap (slice_get r.pending) (sym here) ∙ waits)
-      ∙ ap (λ rest. h ∷ rest) (reserved_handles-none r _ (length r.pending - beneath r high) (r.made + (beneath r high - length r.pending)) (r.made + (beneath r high + 1 - length r.pending)) (omega arith) (omega arith)))
+      ∙ ap (λ rest. h ∷ rest) (reserved_handles-none r _ (length r.pending - beneath r high) (r.made
+      + (beneath r high - length r.pending)) (r.made + (beneath r high + 1 - length r.pending))
+      (omega arith) (omega arith)))
 
   -- from 0 on it is the first occupant of a new slot
-  pub one_fresh : (index : ℕ) → high ≤ℤ pos (length r.pending) → pos index ≡ pos r.made -ℤ high → r.made ≤ index → index < r.limits.slots → Ok (record { index = index; generation = 1 } ∷ []) ≡ reply_from s.made (pool_at s high) 1
+  pub one_fresh : (index : ℕ) → high ≤ℤ pos (length r.pending) → pos index ≡ pos r.made -ℤ high
+      → r.made ≤ index → index < r.limits.slots → Ok (record { index = index; generation = 1 } ∷ [])
+      ≡ reply_from s.made (pool_at s high) 1
   one_fresh index within is first below =
       let distance = asked_at-is (length r.pending) high within in
       let past : beneath r high + r.made ≡ length r.pending + index = omega (arith, ints) in
       let here : index ≡ r.made + (beneath r high - length r.pending) = omega arith in
       listed_one (record { index = index; generation = 1 }) (omega arith)
-      (reserved_handles-fresh r _ (length r.pending - beneath r high) (r.made + (beneath r high - length r.pending)) (r.made + (beneath r high + 1 - length r.pending)) (omega arith) (omega arith)
-      ∙ (λ i. record { index = sym here i; generation = 1 } ∷ reserved_handles-none r (length r.pending - (beneath r high + 1)) (length r.pending - beneath r high) (r.made + (beneath r high - length r.pending) + 1) (r.made + (beneath r high + 1 - length r.pending)) (omega arith) (omega arith) i))
+      (reserved_handles-fresh r _ (length r.pending - beneath r high) (r.made
+      + (beneath r high - length r.pending)) (r.made + (beneath r high + 1 - length r.pending))
+      (omega arith) (omega arith)
+      ∙ (λ i. record { index = sym here i; generation = 1 }
+      ∷ reserved_handles-none r (length r.pending - (beneath r high + 1)) (length r.pending
+      - beneath r high) (r.made + (beneath r high - length r.pending) + 1) (r.made
+      + (beneath r high + 1 - length r.pending)) (omega arith) (omega arith) i))
 
   -- past the last slot there is none
-  pub one_refused : (index : ℕ) → high ≤ℤ pos (length r.pending) → pos index ≡ pos r.made -ℤ high → r.limits.slots ≤ index → r.made ≤ r.limits.slots → Err (record { wanted = 1; left = 0 }) ≡ reply_from s.made (pool_at s high) 1
+  pub one_refused : (index : ℕ) → high ≤ℤ pos (length r.pending) → pos index ≡ pos r.made -ℤ high
+      → r.limits.slots ≤ index → r.made ≤ r.limits.slots → Err (record { wanted = 1; left = 0 })
+      ≡ reply_from s.made (pool_at s high) 1
   one_refused index within is past few =
       let distance = asked_at-is (length r.pending) high within in
-      let none : length r.pending + (r.limits.slots - r.made) - beneath r high ≡ 0 = omega (arith, ints) in
+      let none : length r.pending + (r.limits.slots - r.made) - beneath r high
+      ≡ 0 = omega (arith, ints) in
       short_of 1 1 0 (omega arith) (omega (arith, ints)) refl (sym none)

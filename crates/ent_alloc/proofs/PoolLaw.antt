@@ -29,7 +29,8 @@ pub pool_at-cursor : (s : Allocator) → IsSound s → pool_at s (cursor s) ≡ 
 pool_at-cursor s h = ap (λ n. drop n (available s)) (asked_at-cursor s) ∙ sym h.pool
 
 -- and the reply to any request
-pub reply-cursor : (s : Allocator) (n : ℕ) → IsSound s → reply_from s.made (pool_at s (cursor s)) n ≡ reply_to s n
+pub reply-cursor : (s : Allocator) (n : ℕ) → IsSound s → reply_from s.made (pool_at s (cursor s)) n
+    ≡ reply_to s n
 reply-cursor s n h = ap (λ pool. reply_from s.made pool n) (pool_at-cursor s h)
 
 -- a request leaves the limits as they are
@@ -76,10 +77,12 @@ pool-after_take s n = elim (cases_lt (length s.pool) n) [
 
 -- how many old handles there were
 pub top-after_take : (s : Allocator) (n : ℕ) → IsSound s → top (after_take s n) ≡ top s
-top-after_take s n h = λ i. length (filter (is_old (made-after_take s n i)) (available-after_take s n h i))
+top-after_take s n h = λ i.
+    length (filter (is_old (made-after_take s n i)) (available-after_take s n h i))
 
 -- the cursor falls by the request
-pub cursor-after_take : (s : Allocator) (n : ℕ) → IsSound s → cursor (after_take s n) ≡ cursor s -ℤ pos n
+pub cursor-after_take : (s : Allocator) (n : ℕ) → IsSound s → cursor (after_take s n)
+    ≡ cursor s -ℤ pos n
 cursor-after_take s n h = rw (top-after_take s n h, asked-after_take s n) (omega (arith, ints))
 
 -- the allocator after each request in turn
@@ -88,19 +91,25 @@ after_takes s [] = s
 after_takes s (n ∷ requests) = after_takes (after_take s n) requests
 
 -- they keep the allocator sound
-pub after_takes-sound : (s : Allocator) (requests : List ℕ) → IsSound s → IsSound (after_takes s requests)
+pub after_takes-sound : (s : Allocator) (requests : List ℕ) → IsSound s
+    → IsSound (after_takes s requests)
 after_takes-sound s [] h = h
-after_takes-sound s (n ∷ requests) h = after_takes-sound (after_take s n) requests (after_take-sound s n h)
+after_takes-sound s (n ∷ requests) h = after_takes-sound (after_take s n) requests
+    (after_take-sound s n h)
 
 -- what there was to give stays
-pub available-after_takes : (s : Allocator) (requests : List ℕ) → IsSound s → available (after_takes s requests) ≡ available s
+pub available-after_takes : (s : Allocator) (requests : List ℕ) → IsSound s
+    → available (after_takes s requests) ≡ available s
 available-after_takes s [] h = refl
-available-after_takes s (n ∷ requests) h = available-after_takes (after_take s n) requests (after_take-sound s n h) ∙ available-after_take s n h
+available-after_takes s (n ∷ requests) h = available-after_takes (after_take s n) requests
+    (after_take-sound s n h) ∙ available-after_take s n h
 
 -- the limits stay
-pub limits-after_takes : (s : Allocator) (requests : List ℕ) → (after_takes s requests).limits ≡ s.limits
+pub limits-after_takes : (s : Allocator) (requests : List ℕ) → (after_takes s requests).limits
+    ≡ s.limits
 limits-after_takes s [] = refl
-limits-after_takes s (n ∷ requests) = limits-after_takes (after_take s n) requests ∙ limits-after_take s n
+limits-after_takes s (n ∷ requests) = limits-after_takes (after_take s n) requests
+    ∙ limits-after_take s n
 
 -- who is alive stays
 pub live-after_takes : (s : Allocator) (requests : List ℕ) → (after_takes s requests).live ≡ s.live
@@ -118,37 +127,52 @@ made-after_takes s [] = refl
 made-after_takes s (n ∷ requests) = made-after_takes (after_take s n) requests ∙ made-after_take s n
 
 -- all requests are added
-pub asked-after_takes : (s : Allocator) (requests : List ℕ) → (after_takes s requests).asked ≡ s.asked + sum requests
+pub asked-after_takes : (s : Allocator) (requests : List ℕ) → (after_takes s requests).asked
+    ≡ s.asked + sum requests
 asked-after_takes s [] = omega arith
-asked-after_takes s (n ∷ requests) = let rest = asked-after_takes (after_take s n) requests in omega (arith, asked-after_take s n, sum_by-cons (λ x. x) n requests)
+asked-after_takes s (n ∷ requests) = let rest = asked-after_takes (after_take s n) requests in
+    omega (arith, asked-after_take s n, sum_by-cons (λ x. x) n requests)
 
 -- how many old handles there were stays
-pub top-after_takes : (s : Allocator) (requests : List ℕ) → IsSound s → top (after_takes s requests) ≡ top s
+pub top-after_takes : (s : Allocator) (requests : List ℕ) → IsSound s → top (after_takes s requests)
+    ≡ top s
 top-after_takes s [] h = refl
-top-after_takes s (n ∷ requests) h = top-after_takes (after_take s n) requests (after_take-sound s n h) ∙ top-after_take s n h
+top-after_takes s (n ∷ requests) h = top-after_takes (after_take s n) requests
+    (after_take-sound s n h) ∙ top-after_take s n h
 
 -- the cursor falls by the sum of the requests
-pub cursor-after_takes : (s : Allocator) (requests : List ℕ) → IsSound s → cursor (after_takes s requests) ≡ cursor s -ℤ pos (sum requests)
-cursor-after_takes s requests h = rw (top-after_takes s requests h, asked-after_takes s requests) (omega (arith, ints))
+pub cursor-after_takes : (s : Allocator) (requests : List ℕ) → IsSound s
+    → cursor (after_takes s requests) ≡ cursor s -ℤ pos (sum requests)
+cursor-after_takes s requests h = rw (top-after_takes s requests h, asked-after_takes s requests)
+    (omega (arith, ints))
 
 -- the law of the pool
-pub pool-after_takes : (s : Allocator) (requests : List ℕ) → (after_takes s requests).pool ≡ drop (sum requests) s.pool
+pub pool-after_takes : (s : Allocator) (requests : List ℕ) → (after_takes s requests).pool
+    ≡ drop (sum requests) s.pool
 pool-after_takes s [] = refl
 pool-after_takes s (n ∷ requests) =
-    let all : n + sum requests ≡ sum (n ∷ requests) = omega (arith, sum_by-cons (λ x. x) n requests) in
-    pool-after_takes (after_take s n) requests ∙ ap (drop (sum requests)) (pool-after_take s n) ∙ drop-drop (sum requests) n s.pool ∙ ap (λ k. drop k s.pool) all
+    let all : n + sum requests ≡ sum (n ∷ requests) = omega (arith, sum_by-cons (λ x. x) n requests)
+    in
+    pool-after_takes (after_take s n) requests ∙ ap (drop (sum requests)) (pool-after_take s n)
+    ∙ drop-drop (sum requests) n s.pool ∙ ap (λ k. drop k s.pool) all
 
 -- what was left of the pool at a cursor can be told after any requests that follow
-pub pool_at-later : (s : Allocator) (requests : List ℕ) → IsSound s → pool_at (after_takes s requests) (cursor s) ≡ s.pool
-pool_at-later s requests h = rw (top-after_takes s requests h, available-after_takes s requests h) (pool_at-cursor s h)
+pub pool_at-later : (s : Allocator) (requests : List ℕ) → IsSound s
+    → pool_at (after_takes s requests) (cursor s) ≡ s.pool
+pool_at-later s requests h = rw (top-after_takes s requests h, available-after_takes s requests h)
+    (pool_at-cursor s h)
 
 -- and so the reply
-pub reply-later : (s : Allocator) (requests : List ℕ) (n : ℕ) → IsSound s → reply_from (after_takes s requests).made (pool_at (after_takes s requests) (cursor s)) n ≡ reply_to s n
-reply-later s requests n h = λ i. reply_from (made-after_takes s requests i) (pool_at-later s requests h i) n
+pub reply-later : (s : Allocator) (requests : List ℕ) (n : ℕ) → IsSound s
+    → reply_from (after_takes s requests).made (pool_at (after_takes s requests) (cursor s)) n
+    ≡ reply_to s n
+reply-later s requests n h = λ i. reply_from (made-after_takes s requests i)
+    (pool_at-later s requests h i) n
 
 -- a request for nothing changes nothing
 pub after_take-none : (s : Allocator) → after_take s 0 ≡ s
-after_take-none s = after_take-served s 0 (omega arith) ∙ (λ i. record s { taken = append-nil s.taken i; asked = all i })
+after_take-none s = after_take-served s 0 (omega arith)
+    ∙ (λ i. record s { taken = append-nil s.taken i; asked = all i })
   where
     all : s.asked + 0 ≡ s.asked
     all = omega arith
@@ -158,23 +182,36 @@ pub reply-none : (s : Allocator) → reply_to s 0 ≡ Ok []
 reply-none s = let test : nat_le 0 (length s.pool) ≡ true = le-leb _ _ (omega arith) in rw test
 
 -- where there was enough, all that was asked for is taken
-pub length-taken : (s : Allocator) → IsSound s → s.asked ≤ length (available s) → length s.taken ≡ s.asked
+pub length-taken : (s : Allocator) → IsSound s → s.asked ≤ length (available s) → length s.taken
+    ≡ s.asked
 length-taken s h enough =
     let none : s.aside ≡ [] = h.aside enough in
-    omega (arith, length-pool s h, length-append s.taken (s.aside ++ s.pool), length-append s.aside s.pool, ap length none)
+    omega (
+      arith,
+      length-pool s h,
+      length-append s.taken (s.aside ++ s.pool),
+      length-append s.aside
+          s.pool,
+      ap length none,
+    )
 
 -- all lists, by two numbers: how many are taken, and how many were asked for
 pub taken_is : (s : Allocator) → s.taken ≡ take (length s.taken) (available s)
 taken_is s = sym (take-append_seam s.taken (s.aside ++ s.pool))
 
 -- what was passed over stands after it
-pub aside_is : (s : Allocator) → IsSound s → s.aside ≡ drop (length s.taken) (take s.asked (available s))
+pub aside_is : (s : Allocator) → IsSound s → s.aside
+    ≡ drop (length s.taken) (take s.asked (available s))
 aside_is s h = elim (cases_lt (length (available s)) s.asked) [
   | inl beyond ↦
       let none : s.pool ≡ [] = h.pool ∙ drop_all s.asked (available s) (omega arith) in
-      let all : take s.asked (available s) ≡ available s = take_all s.asked (available s) (omega arith) in
-      sym (ap (drop (length s.taken)) all ∙ drop-append_seam s.taken (s.aside ++ s.pool) ∙ ap (s.aside ++◌) none ∙ append-nil s.aside)
+      let all : take s.asked (available s) ≡ available s = take_all s.asked (available s)
+      (omega arith) in
+      sym (ap (drop (length s.taken)) all ∙ drop-append_seam s.taken (s.aside ++ s.pool)
+      ∙ ap (s.aside ++◌) none ∙ append-nil s.aside)
   | inr enough ↦
       let long : s.asked ≡ length s.taken = sym (length-taken s h enough) in
-      h.aside enough ∙ sym (ap (λ n. drop (length s.taken) (take n (available s))) long ∙ ap (drop (length s.taken)) (take-append_seam s.taken (s.aside ++ s.pool)) ∙ drop_all (length s.taken) s.taken (omega arith))
+      h.aside enough ∙ sym (ap (λ n. drop (length s.taken) (take n (available s))) long
+      ∙ ap (drop (length s.taken)) (take-append_seam s.taken (s.aside ++ s.pool))
+      ∙ drop_all (length s.taken) s.taken (omega arith))
 ]

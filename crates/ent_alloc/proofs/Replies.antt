@@ -27,31 +27,37 @@ pub fresh_is_not_old : (made : ℕ) (h : Handle) → is_fresh made h ≡ not (is
 fresh_is_not_old made h = grind (arith, nat_tests)
 
 -- a reply lists what it gives in another order
-pub listed-IsPermutation : (made : ℕ) (given : List Handle) → IsPermutation given (listed made given)
+pub listed-IsPermutation : (made : ℕ) (given : List Handle)
+    → IsPermutation given (listed made given)
 listed-IsPermutation made given =
     let old = filter (is_old made) given in
     let new = filter (is_fresh made) given in
     IsPermutation-trans given (old ++ new) (reverse old ++ new)
     (IsPermutation-filter_both (is_old made) (is_fresh made) (fresh_is_not_old made) given)
-    (IsPermutation-append old (reverse old) new new (IsPermutation-reverse old) (IsPermutation-refl new))
+    (IsPermutation-append old (reverse old) new new (IsPermutation-reverse old)
+    (IsPermutation-refl new))
 
 -- a request for no more than the pool has
-pub reply-served : (s : Allocator) (n : ℕ) → n ≤ length s.pool → reply_to s n ≡ Ok (listed s.made (take n s.pool))
+pub reply-served : (s : Allocator) (n : ℕ) → n ≤ length s.pool → reply_to s n
+    ≡ Ok (listed s.made (take n s.pool))
 reply-served s n enough = let test : nat_le n (length s.pool) ≡ true = le-leb _ _ enough in rw test
 
 -- a request for more than the pool has
-pub reply-refused : (s : Allocator) (n : ℕ) → length s.pool < n → reply_to s n ≡ Err (record { wanted = n; left = length s.pool })
+pub reply-refused : (s : Allocator) (n : ℕ) → length s.pool < n → reply_to s n
+    ≡ Err (record { wanted = n; left = length s.pool })
 reply-refused s n short = let test : nat_le n (length s.pool) ≡ false = lt-leb _ _ short in rw test
 
 -- what a served reply tells of the pool
-pub served_from : (s : Allocator) (n : ℕ) (given : List Handle) → reply_to s n ≡ Ok given → (n ≤ length s.pool) × (given ≡ listed s.made (take n s.pool))
+pub served_from : (s : Allocator) (n : ℕ) (given : List Handle) → reply_to s n ≡ Ok given
+    → (n ≤ length s.pool) × (given ≡ listed s.made (take n s.pool))
 served_from s n given is = elim (cases_lt (length s.pool) n) [
   | inl short ↦ let refused = reply-refused s n short in cc
   | inr enough ↦ let served = reply-served s n enough in (enough, cc)
 ]
 
 -- and a refusal
-pub refused_from : (s : Allocator) (n : ℕ) (space : Space) → reply_to s n ≡ Err space → (length s.pool < n) × (space ≡ record { wanted = n; left = length s.pool })
+pub refused_from : (s : Allocator) (n : ℕ) (space : Space) → reply_to s n ≡ Err space
+    → (length s.pool < n) × (space ≡ record { wanted = n; left = length s.pool })
 refused_from s n space is = elim (cases_lt (length s.pool) n) [
   | inl short ↦ let refused = reply-refused s n short in (short, cc)
   | inr enough ↦ let served = reply-served s n enough in cc
@@ -66,7 +72,8 @@ pub apart_both : (g h : Handle) → AreApart g h → AreApart h g
 apart_both g h apart same = apart (sym same)
 
 -- handles of different slots are different
-pub distinct_from_apart : (handles : List Handle) → AllPairs AreApart handles → AllPairs (λ g h. g ≢ h) handles
+pub distinct_from_apart : (handles : List Handle) → AllPairs AreApart handles
+    → AllPairs (λ g h. g ≢ h) handles
 distinct_from_apart handles h i j d lt within same = h i j d lt within (ap (λ x. x.index) same)
 
 -- what holds of all that may be given holds of the pool
@@ -74,15 +81,18 @@ of_pool : (P : Handle → Type 0) (s : Allocator) → All P (available s) → Al
 of_pool P s all = All-right P s.aside s.pool (All-right P s.taken (s.aside ++ s.pool) all)
 
 -- what is taken is of other slots than what is in the pool
-taken_apart : (s : Allocator) (g : Handle) → IsSound s → Contains s.taken g → All (AreApart g) s.pool
+taken_apart : (s : Allocator) (g : Handle) → IsSound s → Contains s.taken g
+    → All (AreApart g) s.pool
 taken_apart s g h in_taken =
     let across = AllPairs-across AreApart s.taken (s.aside ++ s.pool) h.apart in
-    All-right (AreApart g) s.aside s.pool (All-contains (λ g. All (AreApart g) (s.aside ++ s.pool)) s.taken g across in_taken)
+    All-right (AreApart g) s.aside s.pool (All-contains (λ g. All (AreApart g) (s.aside ++ s.pool))
+    s.taken g across in_taken)
 
 module _ (s : Allocator) (n : ℕ) (given : List Handle) (is : reply_to s n ≡ Ok given) where
   -- it lists the front of the pool in another order
   pub reply-IsPermutation : IsPermutation (take n s.pool) given
-  reply-IsPermutation = subst (IsPermutation (take n s.pool)) (sym (served_from s n given is).1) (listed-IsPermutation s.made (take n s.pool))
+  reply-IsPermutation = subst (IsPermutation (take n s.pool)) (sym (served_from s n given is).1)
+      (listed-IsPermutation s.made (take n s.pool))
 
   -- the front of the pool joins what is taken
   pub taken-after_served : (after_take s n).taken ≡ s.taken ++ take n s.pool
@@ -90,22 +100,29 @@ module _ (s : Allocator) (n : ℕ) (given : List Handle) (is : reply_to s n ≡ 
 
   -- what holds of the whole pool holds of the reply
   pub of_reply : (P : Handle → Type 0) → All P s.pool → All P given
-  of_reply P all = All-permutation P (take n s.pool) given reply-IsPermutation (All-take P n s.pool all)
+  of_reply P all = All-permutation P (take n s.pool) given reply-IsPermutation
+      (All-take P n s.pool all)
 
   -- each is taken, and nothing else is that was not
   pub reply-taken : All (Contains (after_take s n).taken) given
-  reply-taken = All-permutation (Contains (after_take s n).taken) (take n s.pool) given reply-IsPermutation
-      (subst (λ taken. All (Contains taken) (take n s.pool)) (sym taken-after_served) (λ k d lt. Contains-append_right s.taken (take n s.pool) _ (All-contains_itself (take n s.pool) k d lt)))
+  reply-taken = All-permutation (Contains (after_take s n).taken) (take n s.pool) given
+      reply-IsPermutation
+      (subst (λ taken. All (Contains taken) (take n s.pool)) (sym taken-after_served)
+      (λ k d lt. Contains-append_right s.taken (take n s.pool) _
+      (All-contains_itself (take n s.pool) k d lt)))
 
   -- so what is taken is what was taken and the reply
   pub taken-IsPermutation : IsPermutation (s.taken ++ given) (after_take s n).taken
   taken-IsPermutation = subst (IsPermutation (s.taken ++ given)) (sym taken-after_served)
-      (IsPermutation-append s.taken s.taken given (take n s.pool) (IsPermutation-refl s.taken) (IsPermutation-sym (take n s.pool) given reply-IsPermutation))
+      (IsPermutation-append s.taken s.taken given (take n s.pool) (IsPermutation-refl s.taken)
+      (IsPermutation-sym (take n s.pool) given reply-IsPermutation))
 
   -- no two are of one slot
   pub reply-apart : IsSound s → AllPairs AreApart given
-  reply-apart h = AllPairs-IsPermutation AreApart apart_both (take n s.pool) given reply-IsPermutation
-      (AllPairs-take AreApart n s.pool (AllPairs-right AreApart s.aside s.pool (AllPairs-right AreApart s.taken (s.aside ++ s.pool) h.apart)))
+  reply-apart h = AllPairs-IsPermutation AreApart apart_both (take n s.pool) given
+      reply-IsPermutation
+      (AllPairs-take AreApart n s.pool (AllPairs-right AreApart s.aside s.pool
+      (AllPairs-right AreApart s.taken (s.aside ++ s.pool) h.apart)))
 
   -- so no handle stands twice
   pub reply-distinct : IsSound s → AllPairs (λ g h. g ≢ h) given
@@ -113,36 +130,48 @@ module _ (s : Allocator) (n : ℕ) (given : List Handle) (is : reply_to s n ≡ 
 
   -- none is of a slot whose occupant is alive
   pub reply-apart_from_live : IsSound s → (x : Handle) → IsLive s x → All (AreApart x) given
-  reply-apart_from_live h x alive = of_reply (AreApart x) (of_pool (AreApart x) s (h.live x alive).apart)
+  reply-apart_from_live h x alive = of_reply (AreApart x)
+      (of_pool (AreApart x) s (h.live x alive).apart)
 
   -- so none is alive
   pub reply-not_live : IsSound s → All (λ x. ¬ (IsLive s x)) given
-  reply-not_live h k d lt alive = not_apart (get_or given k d) (reply-apart_from_live h (get_or given k d) alive k d lt)
+  reply-not_live h k d lt alive = not_apart (get_or given k d)
+      (reply-apart_from_live h (get_or given k d) alive k d lt)
 
   -- none is of a slot from which something is taken
-  pub reply-apart_from_taken : IsSound s → (x : Handle) → Contains s.taken x → All (AreApart x) given
+  pub reply-apart_from_taken : IsSound s → (x : Handle) → Contains s.taken x
+      → All (AreApart x) given
   reply-apart_from_taken h x in_taken = of_reply (AreApart x) (taken_apart s x h in_taken)
 
 -- a refused request takes nothing
-pub taken-after_refused : (s : Allocator) (n : ℕ) (space : Space) → reply_to s n ≡ Err space → (after_take s n).taken ≡ s.taken
-taken-after_refused s n space is = ap (λ t. t.taken) (after_take-refused s n (refused_from s n space is).0)
+pub taken-after_refused : (s : Allocator) (n : ℕ) (space : Space) → reply_to s n ≡ Err space
+    → (after_take s n).taken ≡ s.taken
+taken-after_refused s n space is = ap (λ t. t.taken)
+    (after_take-refused s n (refused_from s n space is).0)
 
 -- what is taken stays so
-pub taken-keeps : (s : Allocator) (n : ℕ) (x : Handle) → Contains s.taken x → Contains (after_take s n).taken x
+pub taken-keeps : (s : Allocator) (n : ℕ) (x : Handle) → Contains s.taken x
+    → Contains (after_take s n).taken x
 taken-keeps s n x in_taken = elim (cases_lt (length s.pool) n) [
   | inl short ↦ rw (after_take-refused s n short) in_taken
-  | inr enough ↦ rw (after_take-served s n enough) (Contains-append_left s.taken (take n s.pool) x in_taken)
+  | inr enough ↦ rw (after_take-served s n enough) (Contains-append_left s.taken (take n s.pool) x
+      in_taken)
 ]
 
 -- through all requests
-pub taken-keeps_all : (s : Allocator) (requests : List ℕ) (x : Handle) → Contains s.taken x → Contains (after_takes s requests).taken x
+pub taken-keeps_all : (s : Allocator) (requests : List ℕ) (x : Handle) → Contains s.taken x
+    → Contains (after_takes s requests).taken x
 taken-keeps_all s [] x in_taken = in_taken
-taken-keeps_all s (n ∷ requests) x in_taken = taken-keeps_all (after_take s n) requests x (taken-keeps s n x in_taken)
+taken-keeps_all s (n ∷ requests) x in_taken = taken-keeps_all (after_take s n) requests x
+    (taken-keeps s n x in_taken)
 
 -- two replies list no two handles of one slot, whatever was requested between them
-pub replies_apart : (s : Allocator) (n : ℕ) (given : List Handle) (between : List ℕ) (m : ℕ) (later : List Handle) → IsSound s → reply_to s n ≡ Ok given
-    → reply_to (after_takes (after_take s n) between) m ≡ Ok later → All (λ g. All (AreApart g) later) given
+pub replies_apart : (s : Allocator) (n : ℕ) (given : List Handle) (between : List ℕ) (m : ℕ)
+    (later : List Handle) → IsSound s → reply_to s n ≡ Ok given
+    → reply_to (after_takes (after_take s n) between) m ≡ Ok later
+    → All (λ g. All (AreApart g) later) given
 replies_apart s n given between m later h first second k d lt =
     let t = after_takes (after_take s n) between in
     let sound = after_takes-sound (after_take s n) between (after_take-sound s n h) in
-    reply-apart_from_taken t m later second sound (get_or given k d) (taken-keeps_all (after_take s n) between _ (reply-taken s n given first k d lt))
+    reply-apart_from_taken t m later second sound (get_or given k d)
+    (taken-keeps_all (after_take s n) between _ (reply-taken s n given first k d lt))

@@ -27,21 +27,26 @@ given_by s [] = []
 given_by s (n ∷ requests) = handles_in (reply_to s n) ++ given_by (after_take s n) requests
 
 -- what is taken is what was taken, and the handles of the reply
-pub taken-after_take : (s : Allocator) (n : ℕ) → IsPermutation (s.taken ++ handles_in (reply_to s n)) (after_take s n).taken
-taken-after_take s n = elim (reply_to s n) as (λ r. reply_to s n ≡ r → IsPermutation (s.taken ++ handles_in r) (after_take s n).taken) [
-  | Ok given ↦ λ is. taken-IsPermutation s n given is
-  | Err space ↦ λ is. rw (append-nil s.taken, taken-after_refused s n space is) (IsPermutation-refl s.taken)
-] refl
+pub taken-after_take : (s : Allocator) (n : ℕ)
+    → IsPermutation (s.taken ++ handles_in (reply_to s n)) (after_take s n).taken
+taken-after_take s n = elim (reply_to s n) as (λ r. reply_to s n ≡ r
+    → IsPermutation (s.taken ++ handles_in r) (after_take s n).taken) [
+      | Ok given ↦ λ is. taken-IsPermutation s n given is
+      | Err space ↦ λ is. rw (append-nil s.taken, taken-after_refused s n space is)
+          (IsPermutation-refl s.taken)
+    ] refl
 
 -- and the handles of all replies
-pub taken-after_takes : (s : Allocator) (requests : List ℕ) → IsPermutation (s.taken ++ given_by s requests) (after_takes s requests).taken
+pub taken-after_takes : (s : Allocator) (requests : List ℕ)
+    → IsPermutation (s.taken ++ given_by s requests) (after_takes s requests).taken
 taken-after_takes s [] = rw (append-nil s.taken) (IsPermutation-refl s.taken)
 taken-after_takes s (n ∷ requests) =
     let t = after_take s n in
     let one = handles_in (reply_to s n) in
     let rest = given_by t requests in
     IsPermutation-trans (s.taken ++ (one ++ rest)) (t.taken ++ rest) (after_takes t requests).taken
-    (subst (λ front. IsPermutation front (t.taken ++ rest)) (append_assoc s.taken one rest) (IsPermutation-append_left rest (s.taken ++ one) t.taken (taken-after_take s n)))
+    (subst (λ front. IsPermutation front (t.taken ++ rest)) (append_assoc s.taken one rest)
+    (IsPermutation-append_left rest (s.taken ++ one) t.taken (taken-after_take s n)))
     (taken-after_takes t requests)
 
 module _ (s : Allocator) (requests : List ℕ) (h : IsSound s) where
@@ -49,9 +54,12 @@ module _ (s : Allocator) (requests : List ℕ) (h : IsSound s) where
   pub given_by-apart : AllPairs AreApart (given_by s requests)
   given_by-apart =
       let t = after_takes s requests in
-      let taken : AllPairs AreApart t.taken = AllPairs-left AreApart t.taken (t.aside ++ t.pool) (after_takes-sound s requests h).apart in
+      let taken : AllPairs AreApart t.taken = AllPairs-left AreApart t.taken (t.aside ++ t.pool)
+      (after_takes-sound s requests h).apart in
       AllPairs-right AreApart s.taken (given_by s requests)
-      (AllPairs-IsPermutation AreApart apart_both t.taken (s.taken ++ given_by s requests) (IsPermutation-sym (s.taken ++ given_by s requests) t.taken (taken-after_takes s requests)) taken)
+      (AllPairs-IsPermutation AreApart apart_both t.taken (s.taken ++ given_by s requests)
+      (IsPermutation-sym (s.taken ++ given_by s requests) t.taken
+      (taken-after_takes s requests)) taken)
 
   -- none is alive
   pub given_by-not_live : All (λ x. ¬ (IsLive s x)) (given_by s requests)
@@ -61,40 +69,54 @@ module _ (s : Allocator) (requests : List ℕ) (h : IsSound s) where
       let taken_not_live : All (λ x. ¬ (IsLive s x)) t.taken =
       λ k d lt alive.
       let x = get_or t.taken k d in
-      let still : IsLive t x = subst (λ live. IsTrue (set.contains live x)) (sym (live-after_takes s requests)) alive in
-      not_apart x (All-left (AreApart x) t.taken (t.aside ++ t.pool) (sound.live x still).apart k d lt) in
+      let still : IsLive t x = subst (λ live. IsTrue (set.contains live x))
+      (sym (live-after_takes s requests)) alive in
+      not_apart x (All-left (AreApart x) t.taken (t.aside ++ t.pool) (sound.live x still).apart k d
+      lt) in
       All-right (λ x. ¬ (IsLive s x)) s.taken (given_by s requests)
-      (All-permutation (λ x. ¬ (IsLive s x)) t.taken (s.taken ++ given_by s requests) (IsPermutation-sym (s.taken ++ given_by s requests) t.taken (taken-after_takes s requests)) taken_not_live)
+      (All-permutation (λ x. ¬ (IsLive s x)) t.taken (s.taken ++ given_by s requests)
+      (IsPermutation-sym (s.taken ++ given_by s requests) t.taken
+      (taken-after_takes s requests)) taken_not_live)
 
   -- from a flushed state they are all that is taken
-  pub taken-since_flush : s.asked ≡ 0 → IsPermutation (given_by s requests) (after_takes s requests).taken
+  pub taken-since_flush : s.asked ≡ 0 → IsPermutation (given_by s requests)
+      (after_takes s requests).taken
   taken-since_flush flushed =
       let none : s.taken ≡ [] = (flushed-laid_out s h flushed).taken in
-      subst (λ taken. IsPermutation (taken ++ given_by s requests) (after_takes s requests).taken) none (taken-after_takes s requests)
+      subst (λ taken. IsPermutation (taken ++ given_by s requests) (after_takes s requests).taken)
+      none (taken-after_takes s requests)
 
   -- and all that a flush then brings to life
-  pub born-since_flush : s.asked ≡ 0 → IsPermutation (given_by s requests) (born (after_takes s requests))
-  born-since_flush flushed = IsPermutation-trans (given_by s requests) (after_takes s requests).taken (born (after_takes s requests)) (taken-since_flush flushed) (born-IsPermutation (after_takes s requests))
+  pub born-since_flush : s.asked ≡ 0 → IsPermutation (given_by s requests)
+      (born (after_takes s requests))
+  born-since_flush flushed = IsPermutation-trans (given_by s requests)
+      (after_takes s requests).taken (born (after_takes s requests)) (taken-since_flush flushed)
+      (born-IsPermutation (after_takes s requests))
 
   -- so then exactly those are alive, and who was
-  pub live-since_flush : s.asked ≡ 0 → (x : Handle) → IsLive (after_flush (after_takes s requests)) x ↔ IsLive s x ⊎ Contains (given_by s requests) x
+  pub live-since_flush : s.asked ≡ 0 → (x : Handle) → IsLive (after_flush (after_takes s requests))
+      x ↔ IsLive s x ⊎ Contains (given_by s requests) x
   live-since_flush flushed x =
       let t = after_takes s requests in
       let all = taken-since_flush flushed in
       let same = live-after_takes s requests in (
         λ alive. elim (live-after_flush t x alive) [
           | inl was ↦ inl (subst (λ live. IsTrue (set.contains live x)) same was)
-          | inr in_taken ↦ inr (Contains-permutation t.taken (given_by s requests) x (IsPermutation-sym (given_by s requests) t.taken all) in_taken)
+          | inr in_taken ↦ inr (Contains-permutation t.taken (given_by s requests) x
+              (IsPermutation-sym (given_by s requests) t.taken all) in_taken)
         ],
         λ either. elim either [
           | inl was ↦ live-stays t x (subst (λ live. IsTrue (set.contains live x)) (sym same) was)
-          | inr given ↦ taken-lives t x (Contains-permutation (given_by s requests) t.taken x all given)
+          | inr given ↦ taken-lives t x (Contains-permutation (given_by s requests) t.taken x all
+              given)
         ],
       )
 
 -- one request gives nothing that was given before
-pub requested-given : (s : Allocator) (n : ℕ) (given : List Handle) → IsSound s → AreSpent s given → AreSpent (after_take s n) (given ++ handles_in (reply_to s n))
-requested-given s n given h once = elim (reply_to s n) as (λ r. reply_to s n ≡ r → AreSpent (after_take s n) (given ++ handles_in r)) [
-  | Ok more ↦ λ is. take-given s n given more h is once
-  | Err space ↦ λ is. rw (append-nil given) (refused-given s n given once)
-] refl
+pub requested-given : (s : Allocator) (n : ℕ) (given : List Handle) → IsSound s → AreSpent s given
+    → AreSpent (after_take s n) (given ++ handles_in (reply_to s n))
+requested-given s n given h once = elim (reply_to s n) as (λ r. reply_to s n ≡ r
+    → AreSpent (after_take s n) (given ++ handles_in r)) [
+      | Ok more ↦ λ is. take-given s n given more h is once
+      | Err space ↦ λ is. rw (append-nil given) (refused-given s n given once)
+    ] refl

@@ -23,7 +23,8 @@ use Rattle.ent_alloc.proofs.Occupants.{one}
 -- The slots of these indexes wait at the positions from a first one on.
 pub record Wait (records : List SlotRecord) (from : ℕ) (indices : List ℕ) : Type 0 where
   pub made : (k : ℕ) → k < length indices → get_or indices k 0 < length records
-  pub pending : (k : ℕ) → k < length indices → (record_at records (get_or indices k 0)).occupancy ≡ Pending (from + k)
+  pub pending : (k : ℕ) → k < length indices → (record_at records (get_or indices k 0)).occupancy
+      ≡ Pending (from + k)
 
 abbrev pub position_of : Occupancy → ℕ
 position_of Alive = 0
@@ -31,98 +32,145 @@ position_of (AliveWithRow row) = 0
 position_of (Pending position) = position
 
 -- after the first of them got its occupant, the others still wait
-pub Wait-rest : (records : List SlotRecord) (from index : ℕ) (indices : List ℕ) → Wait records from (index ∷ indices) → Wait (set records index (reuse (record_at records index))) (from + 1) indices
+pub Wait-rest : (records : List SlotRecord) (from index : ℕ) (indices : List ℕ)
+    → Wait records from (index ∷ indices)
+    → Wait (set records index (reuse (record_at records index))) (from + 1) indices
 Wait-rest records from index indices wait = record {
-  made = λ k within. let h : get_or indices k 0 < length records = wait.made (suc k) (omega arith) in omega (arith, length-set records index (reuse (record_at records index)));
+  made = λ k within. let h : get_or indices k 0 < length records = wait.made (suc k) (omega arith)
+      in omega (arith, length-set records index (reuse (record_at records index)));
   pending = λ k within.
-      let here : (record_at records index).occupancy ≡ Pending (from + 0) = wait.pending 0 (omega arith) in
-      let there : (record_at records (get_or indices k 0)).occupancy ≡ Pending (from + suc k) = wait.pending (suc k) (omega arith) in
+      let here : (record_at records index).occupancy ≡ Pending (from + 0) =
+      wait.pending 0 (omega arith) in
+      let there : (record_at records (get_or indices k 0)).occupancy ≡ Pending (from + suc k) =
+      wait.pending (suc k) (omega arith) in
       let apart : get_or indices k 0 ≢ index =
-      λ e. let same : Pending (from + suc k) ≡ Pending (from + 0) = sym there ∙ ap (λ n. (record_at records n).occupancy) e ∙ here in
+      λ e. let same : Pending (from + suc k) ≡ Pending (from + 0) = sym there
+      ∙ ap (λ n. (record_at records n).occupancy) e ∙ here in
       let clash : from + suc k ≡ from + 0 = ap position_of same in absurd (omega arith) in
-      ap (λ (r : SlotRecord). r.occupancy) (get_or-set_other records index (get_or indices k 0) (reuse (record_at records index)) no_slot apart)
+      ap (λ (r : SlotRecord). r.occupancy) (get_or-set_other records index (get_or indices k 0)
+      (reuse (record_at records index)) no_slot apart)
       ∙ there
       ∙ ap Pending (omega arith);
 }
 
-pub length-reused : (records : List SlotRecord) (indices : List ℕ) → length (reused records indices) ≡ length records
+pub length-reused : (records : List SlotRecord) (indices : List ℕ) → length (reused records indices)
+    ≡ length records
 length-reused records [] = refl
 length-reused records (index ∷ indices) =
-    length-reused (set records index (reuse (record_at records index))) indices ∙ length-set records index (reuse (record_at records index))
+    length-reused (set records index (reuse (record_at records index))) indices
+    ∙ length-set records index (reuse (record_at records index))
 
 -- the generations stay
-generation-reuse : (records : List SlotRecord) (index at : ℕ) → index < length records → (record_at (set records index (reuse (record_at records index))) at).generation ≡ (record_at records at).generation
+generation-reuse : (records : List SlotRecord) (index at : ℕ) → index < length records
+    → (record_at (set records index (reuse (record_at records index))) at).generation
+    ≡ (record_at records at).generation
 generation-reuse records index at within =
     elim (cases_eq at index) [
       | inl e ↦
           ap (λ n. (record_at (set records index (reuse (record_at records index))) n).generation) e
-          ∙ ap (λ (r : SlotRecord). r.generation) (get_or-set_same records index (reuse (record_at records index)) no_slot within)
+          ∙ ap (λ (r : SlotRecord). r.generation)
+          (get_or-set_same records index (reuse (record_at records index)) no_slot within)
           ∙ ap (λ n. (record_at records n).generation) (sym e)
-      | inr ne ↦ ap (λ (r : SlotRecord). r.generation) (get_or-set_other records index at (reuse (record_at records index)) no_slot ne)
+      | inr ne ↦ ap (λ (r : SlotRecord). r.generation) (get_or-set_other records index at
+          (reuse (record_at records index)) no_slot ne)
     ]
 
-pub generation-reused : (records : List SlotRecord) (from : ℕ) (indices : List ℕ) (at : ℕ) → Wait records from indices → (record_at (reused records indices) at).generation ≡ (record_at records at).generation
+pub generation-reused : (records : List SlotRecord) (from : ℕ) (indices : List ℕ) (at : ℕ)
+    → Wait records from indices → (record_at (reused records indices) at).generation
+    ≡ (record_at records at).generation
 generation-reused records from [] at wait = refl
 generation-reused records from (index ∷ indices) at wait =
-    generation-reused (set records index (reuse (record_at records index))) (from + 1) indices at (Wait-rest records from index indices wait)
+    generation-reused (set records index (reuse (record_at records index))) (from + 1) indices at
+    (Wait-rest records from index indices wait)
     ∙ generation-reuse records index at (wait.made 0 (omega arith))
 
 -- a slot that waits at an earlier position goes on waiting there
-pub waiting-reused : (records : List SlotRecord) (from : ℕ) (indices : List ℕ) (at position : ℕ) → Wait records from indices → (record_at records at).occupancy ≡ Pending position → position < from → (record_at (reused records indices) at).occupancy ≡ Pending position
+pub waiting-reused : (records : List SlotRecord) (from : ℕ) (indices : List ℕ) (at position : ℕ)
+    → Wait records from indices → (record_at records at).occupancy ≡ Pending position → position
+    < from → (record_at (reused records indices) at).occupancy ≡ Pending position
 waiting-reused records from [] at position wait is below = is
 waiting-reused records from (index ∷ indices) at position wait is below =
-    let here : (record_at records index).occupancy ≡ Pending (from + 0) = wait.pending 0 (omega arith) in
+    let here : (record_at records index).occupancy ≡ Pending (from + 0) =
+    wait.pending 0 (omega arith) in
     let apart : at ≢ index =
-    λ e. let same : Pending position ≡ Pending (from + 0) = sym is ∙ ap (λ n. (record_at records n).occupancy) e ∙ here in
+    λ e. let same : Pending position ≡ Pending (from + 0) = sym is
+    ∙ ap (λ n. (record_at records n).occupancy) e ∙ here in
     let clash : position ≡ from + 0 = ap position_of same in absurd (omega arith) in
-    waiting-reused (set records index (reuse (record_at records index))) (from + 1) indices at position (Wait-rest records from index indices wait)
-    (ap (λ (r : SlotRecord). r.occupancy) (get_or-set_other records index at (reuse (record_at records index)) no_slot apart) ∙ is)
+    waiting-reused (set records index (reuse (record_at records index))) (from + 1) indices at
+    position (Wait-rest records from index indices wait)
+    (ap (λ (r : SlotRecord). r.occupancy) (get_or-set_other records index at
+    (reuse (record_at records index)) no_slot apart) ∙ is)
     (omega arith)
 
 -- one that waits now waited before, and is none of these
-pub record StillWaits (records : List SlotRecord) (indices : List ℕ) (at position : ℕ) : Type 0 where
-  pub before : (record_at records at).occupancy ≡ Pending position
-  pub apart : (k : ℕ) → k < length indices → get_or indices k 0 ≢ at
+pub record StillWaits (records : List SlotRecord) (indices : List ℕ) (at position : ℕ) : Type 0
+  where
+    pub before : (record_at records at).occupancy ≡ Pending position
+    pub apart : (k : ℕ) → k < length indices → get_or indices k 0 ≢ at
 
 pub Alive≢Pending : {position : ℕ} → Alive ≢ Pending position
 Alive≢Pending e = cc
 
-pub waited-reused : (records : List SlotRecord) (from : ℕ) (indices : List ℕ) (at position : ℕ) → Wait records from indices → (record_at (reused records indices) at).occupancy ≡ Pending position → StillWaits records indices at position
-waited-reused records from [] at position wait is = record { before = is; apart = λ k within. absurd (omega arith) }
+pub waited-reused : (records : List SlotRecord) (from : ℕ) (indices : List ℕ) (at position : ℕ)
+    → Wait records from indices → (record_at (reused records indices) at).occupancy
+    ≡ Pending position → StillWaits records indices at position
+waited-reused records from [] at position wait is = record {
+  before = is;
+  apart = λ k within.
+      absurd (omega arith);
+}
 waited-reused records from (index ∷ indices) at position wait is =
-    let later = waited-reused (set records index (reuse (record_at records index))) (from + 1) indices at position (Wait-rest records from index indices wait) is in
-    let woke : (record_at (set records index (reuse (record_at records index))) index).occupancy ≡ Alive =
-    ap (λ (r : SlotRecord). r.occupancy) (get_or-set_same records index (reuse (record_at records index)) no_slot (wait.made 0 (omega arith))) in
-    let apart : index ≢ at = λ e. Alive≢Pending (sym woke ∙ ap (λ n. (record_at (set records index (reuse (record_at records index))) n).occupancy) e ∙ later.before) in
+    let later = waited-reused (set records index (reuse (record_at records index))) (from + 1)
+    indices at position (Wait-rest records from index indices wait) is in
+    let woke : (record_at (set records index (reuse (record_at records index))) index).occupancy
+    ≡ Alive =
+    ap (λ (r : SlotRecord). r.occupancy)
+    (get_or-set_same records index (reuse (record_at records index)) no_slot
+    (wait.made 0 (omega arith))) in
+    let apart : index ≢ at = λ e. Alive≢Pending (sym woke
+    ∙ ap (λ n. (record_at (set records index (reuse (record_at records index))) n).occupancy) e
+    ∙ later.before) in
     record {
-      before = sym (ap (λ (r : SlotRecord). r.occupancy) (get_or-set_other records index at (reuse (record_at records index)) no_slot (λ e. apart (sym e)))) ∙ later.before;
+      before = sym (ap (λ (r : SlotRecord). r.occupancy) (get_or-set_other records index at
+          (reuse (record_at records index)) no_slot (λ e. apart (sym e)))) ∙ later.before;
       apart = λ k within. each k within apart later.apart;
     }
   where
-    each : (k : ℕ) → k < length (index ∷ indices) → index ≢ at → ((j : ℕ) → j < length indices → get_or indices j 0 ≢ at) → get_or (index ∷ indices) k 0 ≢ at
+    each : (k : ℕ) → k < length (index ∷ indices) → index ≢ at
+        → ((j : ℕ) → j < length indices → get_or indices j 0 ≢ at) → get_or (index ∷ indices) k 0
+        ≢ at
     each zero within first rest = first
     each (suc k) within first rest = rest k (omega arith)
 
 -- each of them has a occupant more
-pub length-occupants-reused : (records : List SlotRecord) (from : ℕ) (indices : List ℕ) → Wait records from indices → length (occupants 0 (reused records indices)) ≡ length (occupants 0 records) + length indices
+pub length-occupants-reused : (records : List SlotRecord) (from : ℕ) (indices : List ℕ)
+    → Wait records from indices → length (occupants 0 (reused records indices))
+    ≡ length (occupants 0 records) + length indices
 length-occupants-reused records from [] wait = omega arith
 length-occupants-reused records from (index ∷ indices) wait =
-    let here : (record_at records index).occupancy ≡ Pending (from + 0) = wait.pending 0 (omega arith) in
+    let here : (record_at records index).occupancy ≡ Pending (from + 0) =
+    wait.pending 0 (omega arith) in
     let slept : is_alive (record_at records index).occupancy ≡ false = ap is_alive here in
-    let step = length-occupants-set 0 records index (reuse (record_at records index)) (wait.made 0 (omega arith)) in
-    let later = length-occupants-reused (set records index (reuse (record_at records index))) (from + 1) indices (Wait-rest records from index indices wait) in
+    let step = length-occupants-set 0 records index (reuse (record_at records index))
+    (wait.made 0 (omega arith)) in
+    let later = length-occupants-reused (set records index (reuse (record_at records index))) (from
+    + 1) indices (Wait-rest records from index indices wait) in
     let none : one (is_alive (record_at records index).occupancy) ≡ 0 = ap one slept in
     omega (arith, step, later)
 
 -- the rows stay
-pub rows_from-reused : (records : List SlotRecord) (from : ℕ) (indices : List ℕ) → Wait records from indices → rows_from 0 (reused records indices) ≡ rows_from 0 records
+pub rows_from-reused : (records : List SlotRecord) (from : ℕ) (indices : List ℕ)
+    → Wait records from indices → rows_from 0 (reused records indices) ≡ rows_from 0 records
 rows_from-reused records from [] wait = refl
 rows_from-reused records from (index ∷ indices) wait =
-    let here : (record_at records index).occupancy ≡ Pending (from + 0) = wait.pending 0 (omega arith) in
-    rows_from-reused (set records index (reuse (record_at records index))) (from + 1) indices (Wait-rest records from index indices wait)
+    let here : (record_at records index).occupancy ≡ Pending (from + 0) =
+    wait.pending 0 (omega arith) in
+    rows_from-reused (set records index (reuse (record_at records index))) (from + 1) indices
+    (Wait-rest records from index indices wait)
     ∙ rows_from-set 0 records index (reuse (record_at records index)) refl (ap row_of here)
 
-one_reused : (same : Bool) (gen : Bool) (old : Bool) → (same ≡ true → old ≡ false) → cond same gen old ≡ ((same && gen) || old)
+one_reused : (same : Bool) (gen : Bool) (old : Bool) → (same ≡ true → old ≡ false)
+    → cond same gen old ≡ ((same && gen) || old)
 one_reused true true old f = refl
 one_reused true false old f = sym (f refl)
 one_reused false gen old f = refl
@@ -132,41 +180,62 @@ or_swap true true c = refl
 or_swap true false c = refl
 or_swap false b c = refl
 
-slept_no_occupant : (records : List SlotRecord) (index : ℕ) (q : Handle) (position : ℕ) → (record_at records index).occupancy ≡ Pending position → eqb q.index index ≡ true → is_occupant records q ≡ false
+slept_no_occupant : (records : List SlotRecord) (index : ℕ) (q : Handle) (position : ℕ)
+    → (record_at records index).occupancy ≡ Pending position → eqb q.index index ≡ true
+    → is_occupant records q ≡ false
 slept_no_occupant records index q position here e =
     let at : q.index ≡ index = grind (arith, nat_tests) in
-    ap (λ n. has_occupant (record_at records n) q.generation) at ∙ ap (λ t. is_alive t && eqb (record_at records index).generation q.generation) here
+    ap (λ n. has_occupant (record_at records n) q.generation) at
+    ∙ ap (λ t. is_alive t && eqb (record_at records index).generation q.generation) here
 
 -- the occupants are those before and the handles that waited
-pub is_occupant-reused : (records : List SlotRecord) (from : ℕ) (indices : List ℕ) (q : Handle) → Wait records from indices → is_occupant (reused records indices) q ≡ (list_any (eq_by_cmp handle_cmp q) (map (handle_at records) indices) || is_occupant records q)
+pub is_occupant-reused : (records : List SlotRecord) (from : ℕ) (indices : List ℕ) (q : Handle)
+    → Wait records from indices → is_occupant (reused records indices) q
+    ≡ (list_any (eq_by_cmp handle_cmp q) (map (handle_at records) indices) || is_occupant records q)
 is_occupant-reused records from [] q wait = refl
 is_occupant-reused records from (index ∷ indices) q wait =
-    let here : (record_at records index).occupancy ≡ Pending (from + 0) = wait.pending 0 (omega arith) in
+    let here : (record_at records index).occupancy ≡ Pending (from + 0) =
+    wait.pending 0 (omega arith) in
     let within : index < length records = wait.made 0 (omega arith) in
     let next = set records index (reuse (record_at records index)) in
     let rest = list_any (eq_by_cmp handle_cmp q) (map (handle_at records) indices) in
     let same_handles : list_any (eq_by_cmp handle_cmp q) (map (handle_at next) indices) ≡ rest =
-    ap (list_any (eq_by_cmp handle_cmp q)) (same_map indices (λ at. generation-reuse records index at within)) in
+    ap (list_any (eq_by_cmp handle_cmp q))
+    (same_map indices (λ at. generation-reuse records index at within)) in
     is_occupant-reused next (from + 1) indices q (Wait-rest records from index indices wait)
-    ∙ (λ i. same_handles i || (is_occupant-set records index (reuse (record_at records index)) q within
-    ∙ one_reused (eqb q.index index) (eqb (record_at records index).generation q.generation) (is_occupant records q) (slept_no_occupant records index q (from + 0) here)
-    ∙ (λ j. (eqb q.index index && eqb_sym (record_at records index).generation q.generation j) || is_occupant records q)) i)
-    ∙ sym (or_swap (eqb q.index index && eqb q.generation (record_at records index).generation) rest (is_occupant records q))
+    ∙ (λ i. same_handles i || (is_occupant-set records index (reuse (record_at records index)) q
+    within
+    ∙ one_reused (eqb q.index index) (eqb (record_at records index).generation q.generation)
+    (is_occupant records q) (slept_no_occupant records index q (from + 0) here)
+    ∙ (λ j. (eqb q.index index && eqb_sym (record_at records index).generation q.generation j) ||
+    is_occupant records q)) i)
+    ∙ sym (or_swap (eqb q.index index && eqb q.generation (record_at records index).generation) rest
+    (is_occupant records q))
     ∙ (λ i. (sym (ties q (handle_at records index)) i || rest) || is_occupant records q)
   where
-    same_map : (is : List ℕ) → ((at : ℕ) → (record_at (set records index (reuse (record_at records index))) at).generation ≡ (record_at records at).generation) → map (handle_at (set records index (reuse (record_at records index)))) is ≡ map (handle_at records) is
+    same_map : (is : List ℕ)
+        → ((at : ℕ) → (record_at (set records index (reuse (record_at records index)))
+        at).generation ≡ (record_at records at).generation)
+        → map (handle_at (set records index (reuse (record_at records index)))) is
+        ≡ map (handle_at records) is
     same_map [] same = refl
     same_map (i ∷ is) same = λ k. record { index = i; generation = same i k } ∷ same_map is same k
 
 -- so the set of the occupants is the union
-pub live-reused : (records : List SlotRecord) (from : ℕ) (indices : List ℕ) → Wait records from indices → sets.from_list {R = handle_cmp} (occupants 0 (reused records indices)) ≡ sets.union (sets.from_list (occupants 0 records)) (sets.from_list (map (handle_at records) indices))
+pub live-reused : (records : List SlotRecord) (from : ℕ) (indices : List ℕ)
+    → Wait records from indices → sets.from_list {R = handle_cmp}
+    (occupants 0 (reused records indices)) ≡ sets.union (sets.from_list (occupants 0 records))
+    (sets.from_list (map (handle_at records) indices))
 live-reused records from indices wait =
     sets.same_set handle_cmp_total handle_cmp-IsAntisymmetric _ _ (λ q.
     contains_occupants (reused records indices) q
     ∙ is_occupant-reused records from indices q wait
-    ∙ or_comm (list_any (eq_by_cmp handle_cmp q) (map (handle_at records) indices)) (is_occupant records q)
-    ∙ (λ i. sym (contains_occupants records q) i || sym (sets.contains-from_list handle_cmp_total (map (handle_at records) indices) q) i)
-    ∙ sym (sets.contains-union handle_cmp_total (sets.from_list (occupants 0 records)) (sets.from_list (map (handle_at records) indices)) q))
+    ∙ or_comm (list_any (eq_by_cmp handle_cmp q) (map (handle_at records) indices))
+    (is_occupant records q)
+    ∙ (λ i. sym (contains_occupants records q) i || sym (sets.contains-from_list handle_cmp_total
+    (map (handle_at records) indices) q) i)
+    ∙ sym (sets.contains-union handle_cmp_total (sets.from_list (occupants 0 records))
+    (sets.from_list (map (handle_at records) indices)) q))
   where
     or_comm : (a b : Bool) → (a || b) ≡ (b || a)
     or_comm true true = refl

@@ -24,7 +24,7 @@ minus n = neg_ℤ (pos n)
 abbrev space : ℕ → ℕ → Result (List Handle) Space
 space wanted left = Err (record { wanted = wanted; left = left })
 
--- one step with what it answers
+-- one step with what it returns
 data Line : Type 0 where
   allocates : Handle → Line
   frees : (freed : Handle) (next : Handle) (wrapped : Bool) → Line
@@ -32,13 +32,16 @@ data Line : Type 0 where
   takes : (requested : ℕ) (cursor : ℤ) (reply : Result (List Handle) Space) → Line
   flushes : (born : List Handle) → Line
 
--- the steps from this state answer so
+-- the steps from this state return so
 abbrev Goes : Allocator → List Line → Type 0
 Goes s [] = Unit {0}
-Goes s (allocates h ∷ lines) = (s.asked ≡ 0) × (take 1 s.pool ≡ h ∷ []) × Goes (after_alloc s h) lines
-Goes s (frees h to wrapped ∷ lines) = (s.asked ≡ 0) × IsLive s h × (next s.limits h ≡ to) × ((h.generation == s.limits.generations) ≡ wrapped) × Goes (after_free s h) lines
+Goes s (allocates h ∷ lines) = (s.asked ≡ 0) × (take 1 s.pool ≡ h ∷ [])
+    × Goes (after_alloc s h) lines
+Goes s (frees h to wrapped ∷ lines) = (s.asked ≡ 0) × IsLive s h × (next s.limits h ≡ to)
+    × ((h.generation == s.limits.generations) ≡ wrapped) × Goes (after_free s h) lines
 Goes s (not_alive h ∷ lines) = (s.asked ≡ 0) × (set.contains s.live h ≡ false) × Goes s lines
-Goes s (takes requested low reply ∷ lines) = (cursor (after_take s requested) ≡ low) × (reply_to s requested ≡ reply) × Goes (after_take s requested) lines
+Goes s (takes requested low reply ∷ lines) = (cursor (after_take s requested) ≡ low)
+    × (reply_to s requested ≡ reply) × Goes (after_take s requested) lines
 Goes s (flushes list ∷ lines) = (born s ≡ list) × Goes (after_flush s) lines
 
 -- who lives after inserts and removes
@@ -53,29 +56,91 @@ bulk_over_both : Goes (start 5 9) (
     allocates (0 v 1) ∷ allocates (1 v 1) ∷ frees (0 v 1) (0 v 2) false
     ∷ takes 2 (minus 1) (Ok (0 v 2 ∷ 2 v 1 ∷ [])) ∷ flushes (2 v 1 ∷ 0 v 2 ∷ []) ∷ [])
 unfolding fresh
-bulk_over_both = (refl, refl, (refl, refl, (refl, inserted_keeps _ _ _ (inserted _ _), refl, refl, (refl, refl, (refl, tt)))))
+bulk_over_both = (
+  refl,
+  refl,
+  (
+    refl,
+    refl,
+    (
+      refl,
+      inserted_keeps _ _ _ (inserted _ _),
+      refl,
+      refl,
+      (refl, refl, (refl, tt)),
+    ),
+  ),
+)
 
 -- a bulk lists old handles in the other order than single requests do
 bulk_of_four : Goes (start 5 9) (
-    allocates (0 v 1) ∷ allocates (1 v 1) ∷ allocates (2 v 1) ∷ frees (2 v 1) (2 v 2) false ∷ frees (0 v 1) (0 v 2) false
-    ∷ takes 4 (minus 2) (Ok (2 v 2 ∷ 0 v 2 ∷ 3 v 1 ∷ 4 v 1 ∷ [])) ∷ flushes (3 v 1 ∷ 4 v 1 ∷ 2 v 2 ∷ 0 v 2 ∷ []) ∷ [])
+    allocates (0 v 1) ∷ allocates (1 v 1) ∷ allocates (2 v 1) ∷ frees (2 v 1) (2 v 2) false
+    ∷ frees (0 v 1) (0 v 2) false
+    ∷ takes 4 (minus 2) (Ok (2 v 2 ∷ 0 v 2 ∷ 3 v 1 ∷ 4 v 1 ∷ []))
+    ∷ flushes (3 v 1 ∷ 4 v 1 ∷ 2 v 2 ∷ 0 v 2 ∷ []) ∷ [])
 unfolding fresh
-bulk_of_four = (refl, refl, (refl, refl, (refl, refl, (refl, inserted _ _, refl, refl, (refl, simp living, refl, refl, (refl, refl, (refl, tt)))))))
+bulk_of_four = (
+  refl,
+  refl,
+  (
+    refl,
+    refl,
+    (
+      refl,
+      refl,
+      (
+        refl,
+        inserted _ _,
+        refl,
+        refl,
+        (refl, simp living, refl, refl, (refl, refl, (refl, tt))),
+      ),
+    ),
+  ),
+)
 
 -- four requests one in its position
 four_singles : Goes (start 5 9) (
-    allocates (0 v 1) ∷ allocates (1 v 1) ∷ allocates (2 v 1) ∷ frees (2 v 1) (2 v 2) false ∷ frees (0 v 1) (0 v 2) false
-    ∷ takes 1 (pos 1) (Ok (0 v 2 ∷ [])) ∷ takes 1 (pos 0) (Ok (2 v 2 ∷ [])) ∷ takes 1 (minus 1) (Ok (3 v 1 ∷ [])) ∷ takes 1 (minus 2) (Ok (4 v 1 ∷ []))
+    allocates (0 v 1) ∷ allocates (1 v 1) ∷ allocates (2 v 1) ∷ frees (2 v 1) (2 v 2) false
+    ∷ frees (0 v 1) (0 v 2) false
+    ∷ takes 1 (pos 1) (Ok (0 v 2 ∷ [])) ∷ takes 1 (pos 0) (Ok (2 v 2 ∷ []))
+    ∷ takes 1 (minus 1) (Ok (3 v 1 ∷ [])) ∷ takes 1 (minus 2) (Ok (4 v 1 ∷ []))
     ∷ flushes (3 v 1 ∷ 4 v 1 ∷ 2 v 2 ∷ 0 v 2 ∷ []) ∷ [])
 unfolding fresh
-four_singles = (refl, refl, (refl, refl, (refl, refl, (refl, inserted _ _, refl, refl, (refl, simp living, refl, refl, (refl, refl, (refl, refl, (refl, refl, (refl, refl, (refl, tt))))))))))
+four_singles = (
+  refl,
+  refl,
+  (
+    refl,
+    refl,
+    (
+      refl,
+      refl,
+      (
+        refl,
+        inserted _ _,
+        refl,
+        refl,
+        (
+          refl,
+          simp living,
+          refl,
+          refl,
+          (refl, refl, (refl, refl, (refl, refl, (refl, refl, (refl, tt))))),
+        ),
+      ),
+    ),
+  ),
+)
 
 -- two requests: the second is for what the first has left
 one_after_two : Goes (start 5 9) (
-    allocates (0 v 1) ∷ frees (0 v 1) (0 v 2) false ∷ takes 2 (minus 1) (Ok (0 v 2 ∷ 1 v 1 ∷ [])) ∷ takes 1 (minus 2) (Ok (2 v 1 ∷ []))
+    allocates (0 v 1) ∷ frees (0 v 1) (0 v 2) false ∷ takes 2 (minus 1) (Ok (0 v 2 ∷ 1 v 1 ∷ []))
+    ∷ takes 1 (minus 2) (Ok (2 v 1 ∷ []))
     ∷ flushes (1 v 1 ∷ 2 v 1 ∷ 0 v 2 ∷ []) ∷ [])
 unfolding fresh
-one_after_two = (refl, refl, (refl, inserted _ _, refl, refl, (refl, refl, (refl, refl, (refl, tt)))))
+one_after_two =
+    (refl, refl, (refl, inserted _ _, refl, refl, (refl, refl, (refl, refl, (refl, tt)))))
 
 -- a request for nothing
 request_for_nothing : Goes (start 5 9) (takes 0 (pos 0) (Ok []) ∷ flushes [] ∷ [])
@@ -84,23 +149,47 @@ request_for_nothing = (refl, refl, (refl, tt))
 
 -- a refused request shuts the pool until the flush
 pool_shut : Goes (start 3 9) (
-    takes 2 (minus 2) (Ok (0 v 1 ∷ 1 v 1 ∷ [])) ∷ takes 2 (minus 4) (space 2 1) ∷ takes 1 (minus 5) (space 1 0)
+    takes 2 (minus 2) (Ok (0 v 1 ∷ 1 v 1 ∷ [])) ∷ takes 2 (minus 4) (space 2 1)
+    ∷ takes 1 (minus 5) (space 1 0)
     ∷ flushes (0 v 1 ∷ 1 v 1 ∷ []) ∷ takes 1 (minus 1) (Ok (2 v 1 ∷ [])) ∷ [])
 unfolding fresh
 pool_shut = (refl, refl, (refl, refl, (refl, refl, (refl, (refl, refl, tt)))))
 
 -- only the occupant of a slot is alive
-gone : Goes (start 5 9) (allocates (0 v 1) ∷ frees (0 v 1) (0 v 2) false ∷ not_alive (0 v 1) ∷ not_alive (0 v 2) ∷ not_alive (9 v 1) ∷ [])
+gone : Goes (start 5 9) (allocates (0 v 1) ∷ frees (0 v 1) (0 v 2) false ∷ not_alive (0 v 1)
+    ∷ not_alive (0 v 2) ∷ not_alive (9 v 1) ∷ [])
 unfolding fresh
-gone = (refl, refl, (refl, inserted _ _, refl, refl, (refl, simp living, (refl, simp living, (refl, simp living, tt)))))
+gone = (
+  refl,
+  refl,
+  (
+    refl,
+    inserted _ _,
+    refl,
+    refl,
+    (refl, simp living, (refl, simp living, (refl, simp living, tt))),
+  ),
+)
 
 -- after the last generation comes the first
 wrapped : Goes (start 5 2) (
-    allocates (0 v 1) ∷ frees (0 v 1) (0 v 2) false ∷ allocates (0 v 2) ∷ frees (0 v 2) (0 v 1) true ∷ allocates (0 v 1) ∷ [])
+    allocates (0 v 1) ∷ frees (0 v 1) (0 v 2) false ∷ allocates (0 v 2) ∷ frees (0 v 2) (0 v 1) true
+    ∷ allocates (0 v 1) ∷ [])
 unfolding fresh
-wrapped = (refl, refl, (refl, inserted _ _, refl, refl, (refl, refl, (refl, inserted _ _, refl, refl, (refl, refl, tt)))))
+wrapped = (
+  refl,
+  refl,
+  (
+    refl,
+    inserted _ _,
+    refl,
+    refl,
+    (refl, refl, (refl, inserted _ _, refl, refl, (refl, refl, tt))),
+  ),
+)
 
 -- requests as great as they may be
-greatest_requests : Goes (start 1 9) (takes 4294967295 (minus 4294967295) (space 4294967295 1) ∷ takes 4294967295 (minus 8589934590) (space 4294967295 0) ∷ flushes [] ∷ [])
+greatest_requests : Goes (start 1 9) (takes 4294967295 (minus 4294967295) (space 4294967295 1)
+    ∷ takes 4294967295 (minus 8589934590) (space 4294967295 0) ∷ flushes [] ∷ [])
 unfolding fresh
 greatest_requests = (refl, refl, (refl, refl, (refl, tt)))

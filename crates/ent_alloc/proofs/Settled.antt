@@ -21,11 +21,13 @@ use Rattle.ent_alloc.proofs.Soundness.{IsSound-moved}
 use Rattle.ent_alloc.proofs.RequestLaws.{given_by, taken-since_flush}
 
 -- the front of a list, the rest of what was asked for, and what is left
-three_parts : (given asked : ℕ) (pool : List Handle) → given ≤ asked → take given pool ++ (drop given (take asked pool) ++ drop asked pool) ≡ pool
+three_parts : (given asked : ℕ) (pool : List Handle) → given ≤ asked → take given pool
+    ++ (drop given (take asked pool) ++ drop asked pool) ≡ pool
 three_parts given asked pool le =
     let front : take given (take asked pool) ≡ take given pool = take-take given asked pool le in
     ap (λ xs. xs ++ (drop given (take asked pool) ++ drop asked pool)) (sym front)
-    ∙ sym (append_assoc (take given (take asked pool)) (drop given (take asked pool)) (drop asked pool))
+    ∙ sym (append_assoc (take given (take asked pool)) (drop given (take asked pool))
+    (drop asked pool))
     ∙ ap (◌++ drop asked pool) (take-append-drop given (take asked pool))
     ∙ take-append-drop asked pool
 
@@ -43,14 +45,17 @@ module _ (s : Allocator) (h : IsSound s) (flushed : s.asked ≡ 0) where
   all_in_pool = rw (nothing_taken, nothing_aside)
 
   -- any two numbers that requests may leave
-  pub settled-sound : (given asked : ℕ) → given ≤ asked → (asked ≤ length s.pool → given ≡ asked) → IsSound (settled s given asked)
+  pub settled-sound : (given asked : ℕ) → given ≤ asked → (asked ≤ length s.pool → given ≡ asked)
+      → IsSound (settled s given asked)
   settled-sound given asked le enough =
-      IsSound-moved s (s.taken ++ take given s.pool) (s.aside ++ drop given (take asked s.pool)) (drop asked s.pool) (s.asked + asked) h
+      IsSound-moved s (s.taken ++ take given s.pool) (s.aside ++ drop given (take asked s.pool))
+      (drop asked s.pool) (s.asked + asked) h
       (rw (nothing_taken, nothing_aside) (three_parts given asked s.pool le))
       (rw (all_in_pool, flushed) (ap (λ n. drop n s.pool) (omega arith)))
       (λ within.
       let all : given ≡ asked = enough (omega (arith, ap length all_in_pool)) in
-      rw nothing_aside (drop_all given (take asked s.pool) (omega (arith, length-take asked s.pool))))
+      rw nothing_aside (drop_all given (take asked s.pool)
+      (omega (arith, length-take asked s.pool))))
 
   -- how many there are to give
   pub length-all : length s.pool ≡ top s + (s.limits.slots - s.made)
@@ -58,12 +63,19 @@ module _ (s : Allocator) (h : IsSound s) (flushed : s.asked ≡ 0) where
 
   -- two requests leave such a state: one that is served, and one that is refused where more was
   -- asked for
-  pub settled-requests : (given asked : ℕ) → given ≤ asked → given ≤ length s.pool → (asked ≤ length s.pool → given ≡ asked) → settled s given asked ≡ after_take (after_take s given) (asked - given)
+  pub settled-requests : (given asked : ℕ) → given ≤ asked → given ≤ length s.pool
+      → (asked ≤ length s.pool → given ≡ asked) → settled s given asked
+      ≡ after_take (after_take s given) (asked - given)
   settled-requests given asked le enough whole =
-      let t : Allocator = record s { taken = s.taken ++ take given s.pool; pool = drop given s.pool; asked = s.asked + given } in
+      let t : Allocator = record s {
+        taken = s.taken ++ take given s.pool;
+        pool = drop given s.pool;
+        asked = s.asked + given;
+      } in
       let first : after_take s given ≡ t = after_take-served s given enough in
       let left = length-drop given s.pool in
-      let second : settled s given asked ≡ after_take t (asked - given) = elim (cases_lt (length s.pool) asked) [
+      let second : settled s given asked ≡ after_take t (asked - given) =
+      elim (cases_lt (length s.pool) asked) [
         | inl short ↦
             let all : take asked s.pool ≡ s.pool = take_all asked s.pool (omega arith) in
             let none : drop asked s.pool ≡ [] = drop_all asked s.pool (omega arith) in
@@ -74,7 +86,8 @@ module _ (s : Allocator) (h : IsSound s) (flushed : s.asked ≡ 0) where
             let same : given ≡ asked = whole within in
             let nothing : asked - given ≡ 0 = omega arith in
             let sum : s.asked + asked ≡ s.asked + given + 0 = omega arith in
-            let none : drop given (take asked s.pool) ≡ [] = drop_all given (take asked s.pool) (omega (arith, length-take asked s.pool)) in
+            let none : drop given (take asked s.pool) ≡ [] = drop_all given (take asked s.pool)
+            (omega (arith, length-take asked s.pool)) in
             (λ i. record t {
               taken = sym (append-nil (s.taken ++ take given s.pool)) i;
               aside = (ap (s.aside ++◌) none ∙ append-nil s.aside) i;
@@ -87,17 +100,24 @@ module _ (s : Allocator) (h : IsSound s) (flushed : s.asked ≡ 0) where
       second ∙ ap (λ (a : Allocator). after_take a (asked - given)) (sym first)
 
   -- requests leave such a state
-  pub after_takes-settled : (requests : List ℕ) → after_takes s requests ≡ settled s (length (given_by s requests)) (sum requests)
+  pub after_takes-settled : (requests : List ℕ) → after_takes s requests
+      ≡ settled s (length (given_by s requests)) (sum requests)
   after_takes-settled requests =
       let t = after_takes s requests in
       let sound = after_takes-sound s requests h in
       let pool : available t ≡ s.pool = available-after_takes s requests h ∙ all_in_pool in
-      let long : length t.taken ≡ length (given_by s requests) = length_permutation (given_by s requests) t.taken (taken-since_flush s requests h flushed) in
-      let asked : t.asked ≡ sum requests = asked-after_takes s requests ∙ ap (◌+ sum requests) flushed ∙ omega arith in
+      let long : length t.taken ≡ length (given_by s requests) = length_permutation
+      (given_by s requests) t.taken (taken-since_flush s requests h flushed) in
+      let asked : t.asked ≡ sum requests = asked-after_takes s requests
+      ∙ ap (◌+ sum requests) flushed ∙ omega arith in
       let taken : t.taken ≡ s.taken ++ take (length (given_by s requests)) s.pool =
-      taken_is t ∙ (λ i. take (long i) (pool i)) ∙ sym (ap (◌++ take (length (given_by s requests)) s.pool) nothing_taken) in
-      let aside : t.aside ≡ s.aside ++ drop (length (given_by s requests)) (take (sum requests) s.pool) =
-      aside_is t sound ∙ (λ i. drop (long i) (take (asked i) (pool i))) ∙ sym (ap (◌++ drop (length (given_by s requests)) (take (sum requests) s.pool)) nothing_aside) in
+      taken_is t ∙ (λ i. take (long i) (pool i))
+      ∙ sym (ap (◌++ take (length (given_by s requests)) s.pool) nothing_taken) in
+      let aside : t.aside ≡ s.aside ++ drop (length (given_by s requests))
+      (take (sum requests) s.pool) =
+      aside_is t sound ∙ (λ i. drop (long i) (take (asked i) (pool i)))
+      ∙ sym (ap (◌++ drop (length (given_by s requests)) (take (sum requests) s.pool))
+      nothing_aside) in
       λ i. record {
         limits = limits-after_takes s requests i;
         live = live-after_takes s requests i;
@@ -110,15 +130,19 @@ module _ (s : Allocator) (h : IsSound s) (flushed : s.asked ≡ 0) where
       }
 
 -- as long as something is left, all that was asked for was given
-pub all_given : (s : Allocator) (requests : List ℕ) → IsSound s → s.asked ≡ 0 → 0 < length (after_takes s requests).pool → length (given_by s requests) ≡ sum requests
+pub all_given : (s : Allocator) (requests : List ℕ) → IsSound s → s.asked ≡ 0 → 0
+    < length (after_takes s requests).pool → length (given_by s requests) ≡ sum requests
 all_given s requests h flushed some =
     let t = after_takes s requests in
     let sound = after_takes-sound s requests h in
     let asked : t.asked ≡ s.asked + sum requests = asked-after_takes s requests in
-    let long : length t.taken ≡ length (given_by s requests) = length_permutation (given_by s requests) t.taken (taken-since_flush s requests h flushed) in
+    let long : length t.taken ≡ length (given_by s requests) = length_permutation
+    (given_by s requests) t.taken (taken-since_flush s requests h flushed) in
     let within : t.asked ≤ length (available t) = omega (arith, length-pool t sound) in
     omega (arith, length-taken t sound within)
 
 -- after a refusal every request for something is refused, with nothing left
-pub shut : (s : Allocator) (n m : ℕ) → length s.pool < n → 0 < m → reply_to (after_take s n) m ≡ Err (record { wanted = m; left = 0 })
-shut s n m short some = let test : nat_le m 0 ≡ false = lt-leb m 0 some in rw (after_take-refused s n short, test)
+pub shut : (s : Allocator) (n m : ℕ) → length s.pool < n → 0 < m → reply_to (after_take s n) m
+    ≡ Err (record { wanted = m; left = 0 })
+shut s n m short some = let test : nat_le m 0 ≡ false = lt-leb m 0 some in
+    rw (after_take-refused s n short, test)

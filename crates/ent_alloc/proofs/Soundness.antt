@@ -30,7 +30,8 @@ use Rattle.ent_alloc.proofs.Taken.{made-after_flush}
 -- the allocator that has given nothing
 pub opening-sound : (limits : Limits) → AreLimits limits → IsSound (opening limits)
 opening-sound limits ok =
-    let no_one : (h : Handle) → IsLive (opening limits) h → ⊥ = λ h alive. true≢false (sym alive ∙ set.contains-empty handle_cmp h) in
+    let no_one : (h : Handle) → IsLive (opening limits) h → ⊥ = λ h alive.
+    true≢false (sym alive ∙ set.contains-empty handle_cmp h) in
     let all : limits.slots - 0 ≡ limits.slots = omega arith in
     laid_out-sound (opening limits) [] record {
       limits = ok;
@@ -50,8 +51,10 @@ opening-sound limits ok =
     }
 
 -- other lists of the same handles, as far as the requests have reached
-pub IsSound-moved : (s : Allocator) (taken aside pool : List Handle) (asked : ℕ) → IsSound s → taken ++ (aside ++ pool) ≡ available s → pool ≡ drop asked (available s)
-    → (asked ≤ length (available s) → aside ≡ []) → IsSound (record s { taken = taken; aside = aside; pool = pool; asked = asked })
+pub IsSound-moved : (s : Allocator) (taken aside pool : List Handle) (asked : ℕ) → IsSound s → taken
+    ++ (aside ++ pool) ≡ available s → pool ≡ drop asked (available s)
+    → (asked ≤ length (available s) → aside ≡ [])
+    → IsSound (record s { taken = taken; aside = aside; pool = pool; asked = asked })
 IsSound-moved s taken aside pool asked h same rest enough = record {
   limits = h.limits;
   made = h.made;
@@ -60,7 +63,12 @@ IsSound-moved s taken aside pool asked h same rest enough = record {
   apart = rw same h.apart;
   pool = rw same rest;
   aside = λ le. enough (rw same at le);
-  live = λ x alive. let was = h.live x alive in record { within = was.within; made = was.made; apart = rw same was.apart };
+  live = λ x alive. let was = h.live x alive in record {
+    within = was.within;
+    made =
+        was.made;
+    apart = rw same was.apart;
+  };
   one_occupant = h.one_occupant;
   rows = h.rows;
 }
@@ -86,24 +94,41 @@ after_take-sound s n h = elim (cases_lt (length s.pool) n) [
 ]
 
 -- after the last generation comes the first
-pub next-last : (limits : Limits) (h : Handle) → h.generation ≡ limits.generations → (next limits h).generation ≡ 1
-next-last limits h last = let test : (h.generation == limits.generations) ≡ true = eq-eqb _ _ last in rw test
+pub next-last : (limits : Limits) (h : Handle) → h.generation ≡ limits.generations
+    → (next limits h).generation ≡ 1
+next-last limits h last = let test : (h.generation == limits.generations)
+    ≡ true = eq-eqb _ _ last in rw test
 
 -- else the next one
-pub next-later : (limits : Limits) (h : Handle) → h.generation ≢ limits.generations → (next limits h).generation ≡ h.generation + 1
-next-later limits h before = let test : (h.generation == limits.generations) ≡ false = ne_eqb _ _ before in rw test
+pub next-later : (limits : Limits) (h : Handle) → h.generation ≢ limits.generations
+    → (next limits h).generation ≡ h.generation + 1
+next-later limits h before = let test : (h.generation == limits.generations)
+    ≡ false = ne_eqb _ _ before in rw test
 
 -- the limits allow what follows
-pub next-within : (limits : Limits) (h : Handle) → AreLimits limits → IsWithin limits h → IsWithin limits (next limits h)
+pub next-within : (limits : Limits) (h : Handle) → AreLimits limits → IsWithin limits h
+    → IsWithin limits (next limits h)
 next-within limits h ok within = elim (cases_eq h.generation limits.generations) [
   | inl last ↦ let is : (next limits h).generation ≡ 1 = next-last limits h last in
-      record { index = within.index; least = omega arith; greatest = omega (arith, ok.some_generation) }
-  | inr before ↦ let is : (next limits h).generation ≡ h.generation + 1 = next-later limits h before in
-      record { index = within.index; least = omega arith; greatest = omega (arith, within.greatest) }
+      record {
+        index = within.index;
+        least = omega arith;
+        greatest =
+            omega (arith, ok.some_generation);
+      }
+  | inr before ↦ let is : (next limits h).generation ≡ h.generation + 1 = next-later limits h before
+      in
+      record {
+        index = within.index;
+        least = omega arith;
+        greatest =
+            omega (arith, within.greatest);
+      }
 ]
 
 -- a living handle goes
-pub after_free-sound : (s : Allocator) (x : Handle) → IsSound s → s.asked ≡ 0 → IsLive s x → IsSound (after_free s x)
+pub after_free-sound : (s : Allocator) (x : Handle) → IsSound s → s.asked ≡ 0 → IsLive s x
+    → IsSound (after_free s x)
 after_free-sound s x h flushed alive =
     let was = flushed-laid_out s h flushed in
     laid_out-sound (after_free s x) (next s.limits x ∷ old_ones s) record {
@@ -113,28 +138,38 @@ after_free-sound s x h flushed alive =
       aside = was.aside;
       asked = was.asked;
       pool = ap (next s.limits x ∷◌) was.pool;
-      within = All-cons (IsWithin s.limits) (next s.limits x) (old_ones s) (next-within s.limits x h.limits (was.live_within x alive)) was.within;
-      below = All-cons (λ h. h.index < s.made) (next s.limits x) (old_ones s) (was.live_below x alive) was.below;
-      apart = AllPairs-cons AreApart (next s.limits x) (old_ones s) (was.live_apart x alive) was.apart;
+      within = All-cons (IsWithin s.limits) (next s.limits x) (old_ones s)
+          (next-within s.limits x h.limits (was.live_within x alive)) was.within;
+      below = All-cons (λ h. h.index < s.made) (next s.limits x) (old_ones s)
+          (was.live_below x alive) was.below;
+      apart = AllPairs-cons AreApart (next s.limits x) (old_ones s) (was.live_apart x alive)
+          was.apart;
       live_within = λ y kept. was.live_within y (in_removed s.live x y kept).1;
       live_below = λ y kept. was.live_below y (in_removed s.live x y kept).1;
       live_apart = λ y kept.
           let other = in_removed s.live x y kept in
-          All-cons (AreApart y) (next s.limits x) (old_ones s) (λ same. other.0 (was.one_occupant y x other.1 alive same)) (was.live_apart y other.1);
-      one_occupant = λ g y kept_g kept_y same. was.one_occupant g y (in_removed s.live x g kept_g).1 (in_removed s.live x y kept_y).1 same;
-      rows = λ y kept. let other = in_removed_keys s.rows x y kept in removed_keeps s.live x y other.0 (was.rows y other.1);
+          All-cons (AreApart y) (next s.limits x) (old_ones s)
+          (λ same. other.0 (was.one_occupant y x other.1 alive same))
+          (was.live_apart y other.1);
+      one_occupant = λ g y kept_g kept_y same. was.one_occupant g y (in_removed s.live x g kept_g).1
+          (in_removed s.live x y kept_y).1 same;
+      rows = λ y kept. let other = in_removed_keys s.rows x y kept in removed_keeps s.live x y
+          other.0 (was.rows y other.1);
     }
 
 -- an old handle that comes to life
-pub after_alloc-old : (s : Allocator) (x : Handle) → x.index < s.made → after_alloc s x ≡ record s { live = set.insert s.live x; pool = drop 1 s.pool }
+pub after_alloc-old : (s : Allocator) (x : Handle) → x.index < s.made → after_alloc s x
+    ≡ record s { live = set.insert s.live x; pool = drop 1 s.pool }
 after_alloc-old s x old = let test : is_old s.made x ≡ true = lt-ltb _ _ old in rw test
 
 -- a fresh handle that comes to life: its slot is made
-pub after_alloc-fresh : (s : Allocator) (x : Handle) → s.made ≤ x.index → after_alloc s x ≡ record s { live = set.insert s.live x; pool = drop 1 s.pool; made = s.made + 1 }
+pub after_alloc-fresh : (s : Allocator) (x : Handle) → s.made ≤ x.index → after_alloc s x
+    ≡ record s { live = set.insert s.live x; pool = drop 1 s.pool; made = s.made + 1 }
 after_alloc-fresh s x new = let test : is_old s.made x ≡ false = le-ltb _ _ new in rw test
 
 -- the first old handle comes to life
-alloc_of_old : (s : Allocator) (x : Handle) (old : List Handle) → IsLaidOut s (x ∷ old) → IsLaidOut (record s { live = set.insert s.live x; pool = drop 1 s.pool }) old
+alloc_of_old : (s : Allocator) (x : Handle) (old : List Handle) → IsLaidOut s (x ∷ old)
+    → IsLaidOut (record s { live = set.insert s.live x; pool = drop 1 s.pool }) old
 alloc_of_old s x old was = record {
   limits = was.limits;
   made = was.made;
@@ -145,15 +180,26 @@ alloc_of_old s x old was = record {
   within = All-tail (IsWithin s.limits) x old was.within;
   below = All-tail (λ h. h.index < s.made) x old was.below;
   apart = AllPairs-tail AreApart x old was.apart;
-  live_within = of_inserted (IsWithin s.limits) s.live x (All-head (IsWithin s.limits) x old was.within) was.live_within;
-  live_below = of_inserted (λ h. h.index < s.made) s.live x (All-head (λ h. h.index < s.made) x old was.below) was.live_below;
-  live_apart = of_inserted (λ h. All (AreApart h) old) s.live x (AllPairs-head AreApart x old was.apart) (λ y alive. All-tail (AreApart y) x old (was.live_apart y alive));
-  one_occupant = one_occupant_inserted s.live x (λ y alive. All-head (AreApart y) x old (was.live_apart y alive)) was.one_occupant;
+  live_within = of_inserted (IsWithin s.limits) s.live x (All-head (IsWithin s.limits) x old
+      was.within) was.live_within;
+  live_below = of_inserted (λ h. h.index < s.made) s.live x (All-head (λ h. h.index < s.made) x old
+      was.below) was.live_below;
+  live_apart = of_inserted (λ h. All (AreApart h) old) s.live x
+      (AllPairs-head AreApart x old was.apart) (λ y alive. All-tail (AreApart y) x old
+      (was.live_apart y alive));
+  one_occupant = one_occupant_inserted s.live x (λ y alive. All-head (AreApart y) x old
+      (was.live_apart y alive)) was.one_occupant;
   rows = λ y kept. inserted_keeps s.live x y (was.rows y kept);
 }
 
 -- where no old handle waits, the first occupant of a new slot does
-alloc_of_fresh : (s : Allocator) (more : ℕ) → IsLaidOut s [] → s.limits.slots - s.made ≡ suc more → IsLaidOut (record s { live = set.insert s.live (first_of_slot s.made); pool = drop 1 s.pool; made = s.made + 1 }) []
+alloc_of_fresh : (s : Allocator) (more : ℕ) → IsLaidOut s [] → s.limits.slots - s.made ≡ suc more
+    → IsLaidOut (record s {
+      live = set.insert s.live (first_of_slot s.made);
+      pool =
+          drop 1 s.pool;
+      made = s.made + 1;
+    }) []
 alloc_of_fresh s more was some =
     let x = first_of_slot s.made in
     let fewer : s.limits.slots - (s.made + 1) ≡ more = omega arith in
@@ -163,40 +209,56 @@ alloc_of_fresh s more was some =
       taken = was.taken;
       aside = was.aside;
       asked = was.asked;
-      pool = ap (drop 1) (was.pool ∙ ap (fresh s.made) some ∙ fresh-next s.made more) ∙ ap (fresh (s.made + 1)) (sym fewer);
+      pool = ap (drop 1) (was.pool ∙ ap (fresh s.made) some ∙ fresh-next s.made more)
+          ∙ ap (fresh (s.made + 1)) (sym fewer);
       within = All-nil (IsWithin s.limits);
       below = All-nil (λ h. h.index < s.made + 1);
       apart = λ i j d lt within. absurd (omega arith);
-      live_within = of_inserted (IsWithin s.limits) s.live x (record { index = omega arith; least = omega arith; greatest = was.limits.some_generation }) was.live_within;
-      live_below = of_inserted (λ h. h.index < s.made + 1) s.live x (omega arith) (λ y alive. let below = was.live_below y alive in omega arith);
+      live_within = of_inserted (IsWithin s.limits) s.live x
+          (record {
+            index = omega arith;
+            least = omega arith;
+            greatest = was.limits.some_generation;
+          }) was.live_within;
+      live_below = of_inserted (λ h. h.index < s.made + 1) s.live x (omega arith)
+          (λ y alive. let below = was.live_below y alive in omega arith);
       live_apart = λ y alive. All-nil (AreApart y);
-      one_occupant = one_occupant_inserted s.live x (λ y alive. apart_by_made s.made y x (was.live_below y alive) (omega arith)) was.one_occupant;
+      one_occupant = one_occupant_inserted s.live x (λ y alive. apart_by_made s.made y x
+          (was.live_below y alive) (omega arith)) was.one_occupant;
       rows = λ y kept. inserted_keeps s.live x y (was.rows y kept);
     }
 
 -- the handle at the front of the pool comes to life
-pub after_alloc-sound : (s : Allocator) (x : Handle) (rest : List Handle) → IsSound s → s.asked ≡ 0 → s.pool ≡ x ∷ rest → IsSound (after_alloc s x)
+pub after_alloc-sound : (s : Allocator) (x : Handle) (rest : List Handle) → IsSound s → s.asked ≡ 0
+    → s.pool ≡ x ∷ rest → IsSound (after_alloc s x)
 after_alloc-sound s x rest h flushed front = by_first (old_ones s) (flushed-laid_out s h flushed)
   where
     no_handle : [] ≡ x ∷ rest → ⊥
     no_handle e = cc
 
-    of_new : (more : ℕ) → s.limits.slots - s.made ≡ more → IsLaidOut s [] → IsSound (after_alloc s x)
-    of_new zero none was = absurd (no_handle (sym (fresh-none s.made) ∙ ap (fresh s.made) (sym none) ∙ sym was.pool ∙ front))
+    of_new : (more : ℕ) → s.limits.slots - s.made ≡ more → IsLaidOut s []
+        → IsSound (after_alloc s x)
+    of_new zero none was = absurd (no_handle (sym (fresh-none s.made) ∙ ap (fresh s.made) (sym none)
+        ∙ sym was.pool ∙ front))
     of_new (suc more) some was =
-        let joined : x ∷ rest ≡ first_of_slot s.made ∷ fresh (s.made + 1) more = sym front ∙ was.pool ∙ ap (fresh s.made) some ∙ fresh-next s.made more in
+        let joined : x ∷ rest ≡ first_of_slot s.made ∷ fresh (s.made + 1) more = sym front
+        ∙ was.pool ∙ ap (fresh s.made) some ∙ fresh-next s.made more in
         let is : x ≡ first_of_slot s.made = cc in
-        rw (is, after_alloc-fresh s (first_of_slot s.made) (omega arith)) (laid_out-sound _ [] (alloc_of_fresh s more was some))
+        rw (is, after_alloc-fresh s (first_of_slot s.made) (omega arith))
+        (laid_out-sound _ [] (alloc_of_fresh s more was some))
 
     by_first : (old : List Handle) → IsLaidOut s old → IsSound (after_alloc s x)
     by_first [] was = of_new (s.limits.slots - s.made) refl was
     by_first (y ∷ old) was =
-        let joined : x ∷ rest ≡ y ∷ (old ++ fresh s.made (s.limits.slots - s.made)) = sym front ∙ was.pool in
+        let joined : x ∷ rest ≡ y ∷ (old ++ fresh s.made (s.limits.slots - s.made)) = sym front
+        ∙ was.pool in
         let is : x ≡ y = cc in
-        rw (is, after_alloc-old s y (All-head (λ h. h.index < s.made) y old was.below)) (laid_out-sound _ old (alloc_of_old s y old was))
+        rw (is, after_alloc-old s y (All-head (λ h. h.index < s.made) y old was.below))
+        (laid_out-sound _ old (alloc_of_old s y old was))
 
 -- a flush leaves the old handles that were not taken
-pub flush-laid_out : (s : Allocator) → IsSound s → IsLaidOut (after_flush s) (drop (length s.taken) (old_ones s))
+pub flush-laid_out : (s : Allocator) → IsSound s
+    → IsLaidOut (after_flush s) (drop (length s.taken) (old_ones s))
 flush-laid_out s h =
     let k = length s.taken in
     let old = drop k (old_ones s) in
@@ -208,14 +270,24 @@ flush-laid_out s h =
       aside = refl;
       asked = refl;
       pool = left-parts s h;
-      within = All-drop (IsWithin s.limits) k (old_ones s) (All-filter (is_old s.made) (IsWithin s.limits) (available s) h.within);
-      below = All-drop (λ h. h.index < (after_flush s).made) k (old_ones s) (All-weaker (λ h. h.index < s.made) (λ h. h.index < (after_flush s).made) (λ h lt. omega arith) (old_ones s) (old_ones_below s));
-      apart = AllPairs-drop AreApart k (old_ones s) (AllPairs-filter AreApart (is_old s.made) (available s) h.apart);
-      live_within = of_joined (IsWithin s.limits) s.live s.taken (λ x alive. (h.live x alive).within) (All-left (IsWithin s.limits) s.taken (s.aside ++ s.pool) h.within);
-      live_below = of_joined (λ h. h.index < (after_flush s).made) s.live s.taken (λ x alive. let was = (h.live x alive).made in omega arith) (taken_below s h);
+      within = All-drop (IsWithin s.limits) k (old_ones s)
+          (All-filter (is_old s.made) (IsWithin s.limits) (available s) h.within);
+      below = All-drop (λ h. h.index < (after_flush s).made) k (old_ones s)
+          (All-weaker (λ h. h.index < s.made) (λ h. h.index < (after_flush s).made)
+          (λ h lt. omega arith) (old_ones s) (old_ones_below s));
+      apart = AllPairs-drop AreApart k (old_ones s) (AllPairs-filter AreApart (is_old s.made)
+          (available s) h.apart);
+      live_within = of_joined (IsWithin s.limits) s.live s.taken
+          (λ x alive. (h.live x alive).within) (All-left (IsWithin s.limits) s.taken (s.aside
+          ++ s.pool) h.within);
+      live_below = of_joined (λ h. h.index < (after_flush s).made) s.live s.taken
+          (λ x alive. let was = (h.live x alive).made in omega arith) (taken_below s h);
       live_apart = of_joined (λ h. All (AreApart h) old) s.live s.taken
-          (λ x alive. All-drop (AreApart x) k (old_ones s) (All-filter (is_old s.made) (AreApart x) (available s) (h.live x alive).apart))
-          (λ i d lt. All-left (AreApart (get_or s.taken i d)) old _ (subst (All (AreApart (get_or s.taken i d))) (left-parts s h) (AllPairs-across AreApart s.taken (s.aside ++ s.pool) h.apart i d lt)));
+          (λ x alive. All-drop (AreApart x) k (old_ones s) (All-filter (is_old s.made) (AreApart x)
+          (available s) (h.live x alive).apart))
+          (λ i d lt. All-left (AreApart (get_or s.taken i d)) old _
+          (subst (All (AreApart (get_or s.taken i d))) (left-parts s h)
+          (AllPairs-across AreApart s.taken (s.aside ++ s.pool) h.apart i d lt)));
       one_occupant = one_occupant_joined s.live s.taken
           (λ x alive. All-left (AreApart x) s.taken (s.aside ++ s.pool) (h.live x alive).apart)
           (AllPairs-left AreApart s.taken (s.aside ++ s.pool) h.apart)

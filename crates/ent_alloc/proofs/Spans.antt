@@ -7,7 +7,8 @@ use Rattle.ent_alloc.specs.Sound.{IsSound}
 use Rattle.ent_alloc.specs.Span.{IsSpanOf}
 use Rattle.ent_alloc.proofs.PoolLaw.{top-after_take}
 
-requested : (s : Allocator) (n : ℕ) → IsSound s → s.asked ≤ 2 ^ 50 → n < 2 ^ 32 → IsSpanOf (after_take s n) (record { high = cursor s; low = cursor s -ℤ pos n })
+requested : (s : Allocator) (n : ℕ) → IsSound s → s.asked ≤ 2 ^ 50 → n < 2 ^ 32
+    → IsSpanOf (after_take s n) (record { high = cursor s; low = cursor s -ℤ pos n })
 requested s n sound few small =
     let same = top-after_take s n sound in
     record {
@@ -18,6 +19,9 @@ requested s n sound few small =
     }
 
 -- after the request
-pub IsSpanOf-after_take : (s t : Allocator) (span : Span) (n : ℕ) → IsSound s → s.asked ≤ 2 ^ 50 → n < 2 ^ 32 → t ≡ after_take s n → span ≡ record { high = cursor s; low = cursor s -ℤ pos n } → IsSpanOf t span
+pub IsSpanOf-after_take : (s t : Allocator) (span : Span) (n : ℕ) → IsSound s → s.asked ≤ 2 ^ 50 → n
+    < 2 ^ 32 → t ≡ after_take s n → span ≡ record { high = cursor s; low = cursor s -ℤ pos n }
+    → IsSpanOf t span
 IsSpanOf-after_take s t span n sound few small step is =
-    subst (λ u. IsSpanOf u span) (sym step) (subst (IsSpanOf (after_take s n)) (sym is) (requested s n sound few small))
+    subst (λ u. IsSpanOf u span) (sym step) (subst (IsSpanOf (after_take s n)) (sym is)
+    (requested s n sound few small))

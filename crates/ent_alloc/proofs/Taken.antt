@@ -27,75 +27,100 @@ pub length-pool : (s : Allocator) → IsSound s → length s.pool ≡ length (av
 length-pool s h = ap length h.pool ∙ length-drop s.asked (available s)
 
 -- a request takes nothing out of what may be given, and changes no order
-pub take_moves : (taken aside pool : List Handle) (n : ℕ) → (aside ≡ []) ⊎ (pool ≡ []) → (taken ++ take n pool) ++ (aside ++ drop n pool) ≡ taken ++ (aside ++ pool)
-take_moves taken aside pool n (inl none) = rw none (append_assoc taken (take n pool) (drop n pool) ∙ ap (taken ++◌) (take-append-drop n pool))
+pub take_moves : (taken aside pool : List Handle) (n : ℕ) → (aside ≡ []) ⊎ (pool ≡ [])
+    → (taken ++ take n pool) ++ (aside ++ drop n pool) ≡ taken ++ (aside ++ pool)
+take_moves taken aside pool n (inl none) = rw none (append_assoc taken (take n pool) (drop n pool)
+    ∙ ap (taken ++◌) (take-append-drop n pool))
 take_moves taken aside pool n (inr none) = rw (none, take-nil n, drop-nil n, append-nil taken)
 
 -- a request for no more than the pool has
-pub after_take-served : (s : Allocator) (n : ℕ) → n ≤ length s.pool → after_take s n ≡ record s { taken = s.taken ++ take n s.pool; pool = drop n s.pool; asked = s.asked + n }
-after_take-served s n enough = let test : nat_le n (length s.pool) ≡ true = le-leb _ _ enough in rw test
+pub after_take-served : (s : Allocator) (n : ℕ) → n ≤ length s.pool → after_take s n
+    ≡ record s { taken = s.taken ++ take n s.pool; pool = drop n s.pool; asked = s.asked + n }
+after_take-served s n enough = let test : nat_le n (length s.pool) ≡ true = le-leb _ _ enough in
+    rw test
 
 -- a request for more than the pool has
-pub after_take-refused : (s : Allocator) (n : ℕ) → length s.pool < n → after_take s n ≡ record s { aside = s.aside ++ s.pool; pool = []; asked = s.asked + n }
-after_take-refused s n short = let test : nat_le n (length s.pool) ≡ false = lt-leb _ _ short in rw test
+pub after_take-refused : (s : Allocator) (n : ℕ) → length s.pool < n → after_take s n
+    ≡ record s { aside = s.aside ++ s.pool; pool = []; asked = s.asked + n }
+after_take-refused s n short = let test : nat_le n (length s.pool) ≡ false = lt-leb _ _ short in
+    rw test
 
 -- what there was to give stays
-pub available-after_take : (s : Allocator) (n : ℕ) → IsSound s → available (after_take s n) ≡ available s
+pub available-after_take : (s : Allocator) (n : ℕ) → IsSound s → available (after_take s n)
+    ≡ available s
 available-after_take s n h = elim (cases_lt (length s.pool) n) [
-  | inl short ↦ rw (after_take-refused s n short) (ap (s.taken ++◌) (append-nil (s.aside ++ s.pool)))
-  | inr enough ↦ rw (after_take-served s n enough) (take_moves s.taken s.aside s.pool n (aside_or_pool s h))
+  | inl short ↦ rw (after_take-refused s n short)
+      (ap (s.taken ++◌) (append-nil (s.aside ++ s.pool)))
+  | inr enough ↦ rw (after_take-served s n enough) (take_moves s.taken s.aside s.pool n
+      (aside_or_pool s h))
 ]
 
 -- how many there are to give, or were since the last flush
-pub length-available : (s : Allocator) → IsSound s → length (available s) ≡ top s + (s.limits.slots - s.made)
+pub length-available : (s : Allocator) → IsSound s → length (available s) ≡ top s
+    + (s.limits.slots - s.made)
 length-available s h =
-    ap length h.order ∙ length-append (old_ones s) (fresh s.made (s.limits.slots - s.made)) ∙ ap (length (old_ones s) +◌) (length-fresh s.made (s.limits.slots - s.made))
+    ap length h.order ∙ length-append (old_ones s) (fresh s.made (s.limits.slots - s.made))
+    ∙ ap (length (old_ones s) +◌) (length-fresh s.made (s.limits.slots - s.made))
 
 -- what is taken: old handles, and fresh ones once there are no more old ones
 module _ (s : Allocator) (h : IsSound s) where
   -- no more is taken than there was
   pub enough : length s.taken ≤ length (old_ones s) + (s.limits.slots - s.made)
   enough =
-      let all : length (available s) ≡ length (old_ones s) + (s.limits.slots - s.made) = length-available s h in
+      let all : length (available s) ≡ length (old_ones s) + (s.limits.slots - s.made) =
+      length-available s h in
       omega (arith, all, length-append s.taken (s.aside ++ s.pool))
 
   -- first the old ones, then fresh ones
-  pub taken-parts : s.taken ≡ take (length s.taken) (old_ones s) ++ fresh s.made (length s.taken - top s)
+  pub taken-parts : s.taken ≡ take (length s.taken) (old_ones s)
+      ++ fresh s.made (length s.taken - top s)
   taken-parts =
       sym (take-append_seam s.taken (s.aside ++ s.pool)) ∙ ap (take (length s.taken)) h.order
-      ∙ take_joined s.made (s.limits.slots - s.made) (old_ones s) (old_ones_below s) (length s.taken) enough
+      ∙ take_joined s.made (s.limits.slots - s.made) (old_ones s) (old_ones_below s)
+      (length s.taken) enough
 
   -- slots of old ones were made
   taken_old_below : All (λ h. h.index < s.made) (take (length s.taken) (old_ones s))
-  taken_old_below = All-take (λ h. h.index < s.made) (length s.taken) (old_ones s) (old_ones_below s)
+  taken_old_below = All-take (λ h. h.index < s.made) (length s.taken) (old_ones s)
+      (old_ones_below s)
 
   -- the old ones of what is taken
   pub taken-old : filter (is_old s.made) s.taken ≡ take (length s.taken) (old_ones s)
-  taken-old = ap (filter (is_old s.made)) taken-parts ∙ old_of_joined s.made (length s.taken - top s) (take (length s.taken) (old_ones s)) taken_old_below
+  taken-old = ap (filter (is_old s.made)) taken-parts ∙ old_of_joined s.made (length s.taken
+      - top s) (take (length s.taken) (old_ones s)) taken_old_below
 
   -- the fresh ones
   pub taken-fresh : filter (is_fresh s.made) s.taken ≡ fresh s.made (length s.taken - top s)
-  taken-fresh = ap (filter (is_fresh s.made)) taken-parts ∙ fresh_of_joined s.made (length s.taken - top s) (take (length s.taken) (old_ones s)) taken_old_below
+  taken-fresh = ap (filter (is_fresh s.made)) taken-parts ∙ fresh_of_joined s.made (length s.taken
+      - top s) (take (length s.taken) (old_ones s)) taken_old_below
 
   -- the flush makes the slots of the fresh ones
   pub made-after_flush : (after_flush s).made ≡ s.made + (length s.taken - top s)
-  made-after_flush = ap (s.made +◌) (ap length taken-fresh ∙ length-fresh s.made (length s.taken - top s))
+  made-after_flush = ap (s.made +◌) (ap length taken-fresh ∙ length-fresh s.made (length s.taken
+      - top s))
 
   -- what is left by the flush
-  pub left-parts : s.aside ++ s.pool ≡ drop (length s.taken) (old_ones s) ++ fresh (after_flush s).made (s.limits.slots - (after_flush s).made)
+  pub left-parts : s.aside ++ s.pool ≡ drop (length s.taken) (old_ones s)
+      ++ fresh (after_flush s).made (s.limits.slots - (after_flush s).made)
   left-parts =
-      let fewer : s.limits.slots - s.made - (length s.taken - top s) ≡ s.limits.slots - (s.made + (length s.taken - top s)) = omega arith in
+      let fewer : s.limits.slots - s.made - (length s.taken - top s) ≡ s.limits.slots
+      - (s.made + (length s.taken - top s)) = omega arith in
       rw made-after_flush (
       sym (drop-append_seam s.taken (s.aside ++ s.pool)) ∙ ap (drop (length s.taken)) h.order
-      ∙ drop_joined s.made (s.limits.slots - s.made) (old_ones s) (old_ones_below s) (length s.taken)
-      ∙ ap (λ n. drop (length s.taken) (old_ones s) ++ fresh (s.made + (length s.taken - top s)) n) fewer
+      ∙ drop_joined s.made (s.limits.slots - s.made) (old_ones s) (old_ones_below s)
+      (length s.taken)
+      ∙ ap (λ n. drop (length s.taken) (old_ones s) ++ fresh (s.made + (length s.taken - top s)) n)
+      fewer
       )
 
   -- and so every slot from which something is taken
   pub taken_below : All (λ h. h.index < (after_flush s).made) s.taken
   taken_below =
       let more : s.made + (length s.taken - top s) ≡ (after_flush s).made = sym made-after_flush in
-      subst (All (λ h. h.index < (after_flush s).made)) (sym taken-parts) (All-append (λ h. h.index < (after_flush s).made)
+      subst (All (λ h. h.index < (after_flush s).made)) (sym taken-parts)
+      (All-append (λ h. h.index < (after_flush s).made)
       (take (length s.taken) (old_ones s)) (fresh s.made (length s.taken - top s))
-      (All-weaker (λ h. h.index < s.made) (λ h. h.index < (after_flush s).made) (λ h lt. omega arith) (take (length s.taken) (old_ones s)) taken_old_below)
-      (All-fresh (λ h. h.index < (after_flush s).made) s.made (length s.taken - top s) (λ k lt. omega arith)))
+      (All-weaker (λ h. h.index < s.made) (λ h. h.index < (after_flush s).made)
+      (λ h lt. omega arith) (take (length s.taken) (old_ones s)) taken_old_below)
+      (All-fresh (λ h. h.index < (after_flush s).made) s.made (length s.taken - top s)
+      (λ k lt. omega arith)))

@@ -6,13 +6,13 @@ use Rattle.ent_handle.specs.Handle.{Handle}
 use Rattle.ent_alloc.specs.declared.space.Space.{Space}
 use Rattle.ent_alloc.specs.Sequential.{Allocator, after_take, reply_to}
 
--- one reservation: who asked, for how many handles, and what was answered
+-- one reservation: who asked, for how many handles, and what was returned
 pub record Call : Type 0 where
   pub caller : ℕ
   pub requested : ℕ
   pub reply : Result (List Handle) Space
 
--- Each call in turn asks for something, and is answered what the allocator says at its point.
+-- Each call in turn asks for something, and is told what the allocator says at its point.
 abbrev pub IsLegal : Allocator → List Call → Type 0
 IsLegal s [] = Unit {0}
 IsLegal s (call ∷ calls) =

@@ -287,7 +287,7 @@ impl Entities {
         };
     }
 
-    /// Requests `n` handles: lowers the cursor by `n`, and answers the positions that it passed.
+    /// Requests `n` handles: lowers the cursor by `n`, and returns the positions that it passed.
     /// `reply` tells what the request is given.
     ///
     /// If fewer than `n` handles are left, the request is refused, and the pool is shut: the cursor
@@ -313,7 +313,7 @@ impl Entities {
     /// of their positions, then the fresh ones. It may be asked at any time until the next flush,
     /// also after later requests.
     ///
-    /// The span is one that `lower` answered since the last flush, or any with `high` from -2^60 to
+    /// The span is one that `lower` returned since the last flush, or any with `high` from -2^60 to
     /// the top, and `low` from `high - (2^32 - 1)` to `high`.
     ///
     /// # Errors

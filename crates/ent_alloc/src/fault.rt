@@ -49,7 +49,7 @@ impl From<Memory> for FreeFault {
     }
 }
 
-/// What `Entities::free` answers.
+/// What `Entities::free` returns.
 #[derive(Clone, Copy, Debug, PartialEq, Eq)]
 pub struct Freed {
     /// The handle that the slot gives next.

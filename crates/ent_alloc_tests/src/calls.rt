@@ -34,7 +34,7 @@ pub fn free(entities: &mut Entities, handle: Handle) -> Result<Freed, FreeFault>
     entities.free(handle)
 }
 
-/// Frees a living entity, and compares what is answered.
+/// Frees a living entity, and compares what is returned.
 pub fn assert_frees(
     rt: &impl Abort,
     entities: &mut Entities,
@@ -67,7 +67,7 @@ fn reserve(
     }
 }
 
-/// Compares what a reservation answers. The one thing to be known for it is that not too much was
+/// Compares what a reservation returns. The one thing to be known for it is that not too much was
 /// asked before.
 pub fn assert_reserves(
     rt: &impl Abort,

@@ -42,7 +42,8 @@ inside n (x ∷ xs) some =
     (suc rest.0, (let within = rest.1 in omega arith), rest.2))
 
 -- how often a number stands among those from low on
-pub in_range : (n low many : ℕ) → (sum_by (is n) (range_with_len low many) ≤ 1) × (n < low → sum_by (is n) (range_with_len low many) ≡ 0)
+pub in_range : (n low many : ℕ) → (sum_by (is n) (range_with_len low many) ≤ 1)
+    × (n < low → sum_by (is n) (range_with_len low many) ≡ 0)
     × (low ≤ n → n < low + many → 1 ≤ sum_by (is n) (range_with_len low many))
 in_range n low zero = (omega arith, λ _. refl, λ le lt. absurd (omega arith))
 in_range n low (suc many) =
@@ -57,8 +58,12 @@ in_range n low (suc many) =
     let none = none_below (omega arith) in
     (omega arith, λ lt. absurd (omega arith), λ le lt. omega arith))
     (λ other.
-    let nought = is_other n low other in
-    (omega arith, λ lt. (let none = none_below (omega arith) in omega arith), λ le lt. (let one = some (omega (arith, other)) (omega arith) in omega arith)))
+    let nought = is_other n low other in (
+      omega arith,
+      λ lt. (let none = none_below (omega arith) in omega arith),
+      λ le lt.
+          (let one = some (omega (arith, other)) (omega arith) in omega arith),
+    ))
 
 nothing_in : (xs : List ℕ) → sum_by (λ (_ : ℕ). 1) xs ≡ 0 → xs ≡ []
 nothing_in [] e = refl
@@ -71,6 +76,10 @@ weigh_same xs (y ∷ ys) same =
     let sums = sum_by-cons (is y) y ys in
     let one = is_same y y refl in
     let at = inside y xs (omega arith) in
-    let moved : IsPermutation xs (y ∷ remove xs at.0) = IsPermutation-remove xs at.0 y at.1 (sym at.2) in
-    let rest : (f : ℕ → ℕ) → sum_by f (remove xs at.0) ≡ sum_by f ys = λ f. (let e = same f in let a = sum_by_popped f y xs (remove xs at.0) moved in let b = sum_by-cons f y ys in omega arith) in
-    IsPermutation-trans xs (y ∷ remove xs at.0) (y ∷ ys) moved (IsPermutation-cons y (remove xs at.0) ys (weigh_same (remove xs at.0) ys rest))
+    let moved : IsPermutation xs (y ∷ remove xs at.0) = IsPermutation-remove xs at.0 y at.1
+    (sym at.2) in
+    let rest : (f : ℕ → ℕ) → sum_by f (remove xs at.0) ≡ sum_by f ys = λ f.
+    (let e = same f in let a = sum_by_popped f y xs (remove xs at.0) moved in let b =
+    sum_by-cons f y ys in omega arith) in
+    IsPermutation-trans xs (y ∷ remove xs at.0) (y ∷ ys) moved
+    (IsPermutation-cons y (remove xs at.0) ys (weigh_same (remove xs at.0) ys rest))

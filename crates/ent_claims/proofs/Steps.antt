@@ -42,10 +42,12 @@ range_more n =
 
 -- what a record weighs after one more claim
 weigh_claims-one : (f : ℕ → ℕ) (r : ClaimRecord) → weigh_claims f (r ∷ []) ≡ sum_by f r.claims
-weigh_claims-one f r = (let e : weigh_claims f (r ∷ []) ≡ sum_by f r.claims + 0 = sum_by-cons (λ (x : ClaimRecord). sum_by f x.claims) r [] in omega arith)
+weigh_claims-one f r = (let e : weigh_claims f (r ∷ []) ≡ sum_by f r.claims
+    + 0 = sum_by-cons (λ (x : ClaimRecord). sum_by f x.claims) r [] in omega arith)
 
 ended-one : (r : ClaimRecord) → ended_in (r ∷ []) ≡ cond {A = ℕ} r.ended 1 0
-ended-one r = (let e : ended_in (r ∷ []) ≡ cond {A = ℕ} r.ended 1 0 + 0 = sum_by-cons (λ (x : ClaimRecord). cond {A = ℕ} x.ended 1 0) r [] in omega arith)
+ended-one r = (let e : ended_in (r ∷ []) ≡ cond {A = ℕ} r.ended 1 0
+    + 0 = sum_by-cons (λ (x : ClaimRecord). cond {A = ℕ} x.ended 1 0) r [] in omega arith)
 
 at_most_one : (b : Bool) → cond {A = ℕ} b 1 0 ≤ 1
 at_most_one true = omega arith
@@ -54,7 +56,8 @@ at_most_one false = omega arith
 ended-le : (v : List ClaimRecord) → ended_in v ≤ length v
 ended-le [] = omega arith
 ended-le (r ∷ v) =
-    let e : ended_in (r ∷ v) ≡ cond {A = ℕ} r.ended 1 0 + ended_in v = sum_by-cons (λ (x : ClaimRecord). cond {A = ℕ} x.ended 1 0) r v in
+    let e : ended_in (r ∷ v) ≡ cond {A = ℕ} r.ended 1 0 + ended_in v =
+    sum_by-cons (λ (x : ClaimRecord). cond {A = ℕ} x.ended 1 0) r v in
     let one = at_most_one r.ended in
     let rest = ended-le v in
     omega arith
@@ -74,7 +77,8 @@ module _ (numbers workers : ℕ) where
 
   word_small : (s : St) (k : Rule s) → k.word ≤ 2 ^ 16 + 64
   word_small s k =
-      let few : sum_by ended_in s.views ≤ sum_by length s.views = sum_by-le-sum_by ended_in length s.views ended-le in
+      let few : sum_by ended_in s.views ≤ sum_by length s.views = sum_by-le-sum_by ended_in length
+      s.views ended-le in
       let counts = k.counts in
       let records = k.records in
       let numbers_few = k.few_numbers in
@@ -100,31 +104,45 @@ module _ (numbers workers : ℕ) where
       (cases_lt k.claimed numbers)
 
   -- a record that stays as it was, while another one claims
-  kept_on : (claimed : ℕ) (r : ClaimRecord) → claimed < numbers → IsClaimKept numbers claimed r → IsClaimKept numbers (claimed + 1) r
+  kept_on : (claimed : ℕ) (r : ClaimRecord) → claimed < numbers → IsClaimKept numbers claimed r
+      → IsClaimKept numbers (claimed + 1) r
   kept_on claimed r left kept = record {
     numbers_is = kept.numbers_is;
-    below = All-weaker (λ n. n < claimed) (λ n. n < claimed + 1) (λ n lt. omega arith) r.claims kept.below;
+    below = All-weaker (λ n. n < claimed) (λ n. n < claimed + 1) (λ n lt. omega arith) r.claims
+        kept.below;
     rises = kept.rises;
     ends = λ ended. absurd (let all = kept.ends ended in omega arith);
   }
 
-  kept_claim : (claimed : ℕ) (r : ClaimRecord) → claimed < numbers → IsClaimKept numbers claimed r → IsClaimKept numbers (claimed + 1) (with_claim r claimed)
+  kept_claim : (claimed : ℕ) (r : ClaimRecord) → claimed < numbers → IsClaimKept numbers claimed r
+      → IsClaimKept numbers (claimed + 1) (with_claim r claimed)
   kept_claim claimed r left kept = record {
     numbers_is = kept.numbers_is;
-    below = All-push (λ n. n < claimed + 1) r.claims claimed (All-weaker (λ n. n < claimed) (λ n. n < claimed + 1) (λ n lt. omega arith) r.claims kept.below) (omega arith);
+    below = All-push (λ n. n < claimed + 1) r.claims claimed
+        (All-weaker (λ n. n < claimed) (λ n. n < claimed + 1) (λ n lt. omega arith) r.claims
+        kept.below) (omega arith);
     rises = all_pairs_push (λ m n. m < n) r.claims claimed kept.rises kept.below;
     ends = λ ended. absurd (let all = kept.ends ended in omega arith);
   }
 
-  after_number : (s : St) (k : Rule s) (id : ℕ) (r : ClaimRecord) (words : List ℕ) → get_elem? s.views id ≡ some (r ∷ []) → k.word < numbers → words ≡ (k.word + 1) ∷ []
-      → Rule (record { words = words; homes = s.homes; views = set s.views id (with_claim r k.claimed ∷ []) })
+  after_number : (s : St) (k : Rule s) (id : ℕ) (r : ClaimRecord) (words : List ℕ)
+      → get_elem? s.views id ≡ some (r ∷ []) → k.word < numbers → words ≡ (k.word + 1) ∷ []
+      → Rule (record {
+        words = words;
+        homes = s.homes;
+        views =
+            set s.views id (with_claim r k.claimed ∷ []);
+      })
   after_number s k id r words at below now =
       let is = word_is s k below in
       let left : k.claimed < numbers = omega arith in
       let w : List ClaimRecord = with_claim r k.claimed ∷ [] in
       let K : List ClaimRecord → Type 0 = All (IsClaimKept numbers (k.claimed + 1)) in
-      let mine : IsClaimKept numbers k.claimed r = All-head (IsClaimKept numbers k.claimed) r [] (all_at (All (IsClaimKept numbers k.claimed)) s.views id (r ∷ []) at k.each) in
-      let others : All K s.views = All-weaker (All (IsClaimKept numbers k.claimed)) K (λ v. All-weaker (IsClaimKept numbers k.claimed) (IsClaimKept numbers (k.claimed + 1)) (λ x. kept_on k.claimed x left) v) s.views k.each in
+      let mine : IsClaimKept numbers k.claimed r = All-head (IsClaimKept numbers k.claimed) r []
+      (all_at (All (IsClaimKept numbers k.claimed)) s.views id (r ∷ []) at k.each) in
+      let others : All K s.views = All-weaker (All (IsClaimKept numbers k.claimed)) K
+      (λ v. All-weaker (IsClaimKept numbers k.claimed) (IsClaimKept numbers (k.claimed + 1))
+      (λ x. kept_on k.claimed x left) v) s.views k.each in
       let ended = sum_at ended_in s.views id (r ∷ []) w at in
       let ended_was = ended-one r in
       let ended_is : ended_in w ≡ cond {A = ℕ} r.ended 1 0 = ended-one (with_claim r k.claimed) in
@@ -142,24 +160,35 @@ module _ (numbers workers : ℕ) where
         partition = λ f.
             let changed = sum_at (weigh_claims f) s.views id (r ∷ []) w at in
             let before = weigh_claims-one f r in
-            let after : weigh_claims f w ≡ sum_by f (r.claims ++ k.claimed ∷ []) = weigh_claims-one f (with_claim r k.claimed) in
-            let more : sum_by f (r.claims ++ k.claimed ∷ []) ≡ sum_by f r.claims + f k.claimed = sum_by_push f r.claims k.claimed in
+            let after : weigh_claims f w ≡ sum_by f (r.claims ++ k.claimed ∷ []) =
+            weigh_claims-one f (with_claim r k.claimed) in
+            let more : sum_by f (r.claims ++ k.claimed ∷ []) ≡ sum_by f r.claims + f k.claimed =
+            sum_by_push f r.claims k.claimed in
             let was = k.partition f in
-            let range : sum_by f (range_with_len 0 (k.claimed + 1)) ≡ sum_by f (range_with_len 0 k.claimed) + f k.claimed = ap (sum_by f) (range_more k.claimed) ∙ sum_by_push f (range_with_len 0 k.claimed) k.claimed in
+            let range : sum_by f (range_with_len 0 (k.claimed + 1))
+            ≡ sum_by f (range_with_len 0 k.claimed) + f k.claimed =
+            ap (sum_by f) (range_more k.claimed) ∙ sum_by_push f (range_with_len 0 k.claimed)
+            k.claimed in
             omega arith;
-        records = (let changed : sum_by length (set s.views id w) + 1 ≡ sum_by length s.views + 1 = sum_at length s.views id (r ∷ []) w at in let was = k.records in omega arith);
-        each = All-set K s.views id w (all_one (IsClaimKept numbers (k.claimed + 1)) (with_claim r k.claimed) (kept_claim k.claimed r left mine)) others;
+        records = (let changed : sum_by length (set s.views id w) + 1 ≡ sum_by length s.views
+            + 1 = sum_at length s.views id (r ∷ []) w at in let was = k.records in omega arith);
+        each = All-set K s.views id w (all_one (IsClaimKept numbers (k.claimed + 1))
+            (with_claim r k.claimed) (kept_claim k.claimed r left mine)) others;
       }
 
-  after_end : (s : St) (k : Rule s) (id : ℕ) (r : ClaimRecord) (words : List ℕ) → get_elem? s.views id ≡ some (r ∷ []) → r.ended ≡ false → numbers ≤ k.word → words ≡ (k.word + 1) ∷ []
+  after_end : (s : St) (k : Rule s) (id : ℕ) (r : ClaimRecord) (words : List ℕ)
+      → get_elem? s.views id ≡ some (r ∷ []) → r.ended ≡ false → numbers ≤ k.word → words
+      ≡ (k.word + 1) ∷ []
       → Rule (record { words = words; homes = s.homes; views = set s.views id (with_end r ∷ []) })
   after_end s k id r words at going above now =
       let all = all_claimed s k above in
       let w : List ClaimRecord = with_end r ∷ [] in
       let K : List ClaimRecord → Type 0 = All (IsClaimKept numbers k.claimed) in
-      let mine : IsClaimKept numbers k.claimed r = All-head (IsClaimKept numbers k.claimed) r [] (all_at K s.views id (r ∷ []) at k.each) in
+      let mine : IsClaimKept numbers k.claimed r = All-head (IsClaimKept numbers k.claimed) r []
+      (all_at K s.views id (r ∷ []) at k.each) in
       let ended = sum_at ended_in s.views id (r ∷ []) w at in
-      let nought : ended_in (r ∷ []) ≡ 0 = ended-one r ∙ ap (λ (b : Bool). cond {A = ℕ} b 1 0) going in
+      let nought : ended_in (r ∷ []) ≡ 0 = ended-one r ∙ ap (λ (b : Bool). cond {A = ℕ} b 1 0) going
+      in
       let one : ended_in w ≡ 1 = ended-one (with_end r) in
       let counts = k.counts in
       record {
@@ -177,8 +206,16 @@ module _ (numbers workers : ℕ) where
             let after : weigh_claims f w ≡ sum_by f r.claims = weigh_claims-one f (with_end r) in
             let was = k.partition f in
             omega arith;
-        records = (let changed : sum_by length (set s.views id w) + 1 ≡ sum_by length s.views + 1 = sum_at length s.views id (r ∷ []) w at in let was = k.records in omega arith);
-        each = All-set K s.views id w (all_one (IsClaimKept numbers k.claimed) (with_end r) (record { numbers_is = mine.numbers_is; below = mine.below; rises = mine.rises; ends = λ _. all })) k.each;
+        records = (let changed : sum_by length (set s.views id w) + 1 ≡ sum_by length s.views
+            + 1 = sum_at length s.views id (r ∷ []) w at in let was = k.records in omega arith);
+        each = All-set K s.views id w (all_one (IsClaimKept numbers k.claimed) (with_end r)
+            (record {
+              numbers_is = mine.numbers_is;
+              below = mine.below;
+              rises = mine.rises;
+              ends =
+                  λ _. all;
+            })) k.each;
       }
 
   pub claims : (slots id : ℕ) (r : ClaimRecord) → r.ended ≡ false
@@ -187,49 +224,76 @@ module _ (numbers workers : ℕ) where
       let word : ℕ = k.word in
       let found : get_or s.words 0 0 ≡ word = ap (λ (ws : List ℕ). get_or ws 0 0) k.words in
       let small = word_small s k in
-      let next : (get_or s.words 0 0 + 1) % 2 ^ 64 ≡ word + 1 = ap (λ (x : ℕ). (x + 1) % 2 ^ 64) found ∙ mod-eq_of_lt (omega arith) in
-      let now : set s.words 0 ((get_or s.words 0 0 + 1) % 2 ^ 64) ≡ (word + 1) ∷ [] = ap (λ (ws : List ℕ). set ws 0 ((get_or s.words 0 0 + 1) % 2 ^ 64)) k.words ∙ ap (λ (x : ℕ). x ∷ []) next in
+      let next : (get_or s.words 0 0 + 1) % 2 ^ 64 ≡ word + 1 = ap (λ (x : ℕ). (x + 1) % 2 ^ 64)
+      found ∙ mod-eq_of_lt (omega arith) in
+      let now : set s.words 0 ((get_or s.words 0 0 + 1) % 2 ^ 64) ≡ (word + 1)
+      ∷ [] = ap (λ (ws : List ℕ). set ws 0 ((get_or s.words 0 0 + 1) % 2 ^ 64)) k.words
+      ∙ ap (λ (x : ℕ). x ∷ []) next in
       let w : ClaimRecord = after_claim r word in
-      let mine : IsClaimKept numbers k.claimed r = All-head (IsClaimKept numbers k.claimed) r [] (all_at (All (IsClaimKept numbers k.claimed)) s.views id (r ∷ []) at k.each) in
+      let mine : IsClaimKept numbers k.claimed r = All-head (IsClaimKept numbers k.claimed) r []
+      (all_at (All (IsClaimKept numbers k.claimed)) s.views id (r ∷ []) at k.each) in
       let limit : r.numbers ≡ numbers = mine.numbers_is in
       let counts = k.counts in
-      let told : AfterClaim r (get_or s.words 0 0) (w ∷ []) = subst (λ (z : ℕ). AfterClaim r z (w ∷ [])) (sym found) (record {
-        above = All-weaker (λ n. n < k.claimed) (λ n. n < word) (λ n lt. omega arith) r.claims mine.below;
+      let told : AfterClaim r (get_or s.words 0 0) (w ∷ []) =
+      subst (λ (z : ℕ). AfterClaim r z (w ∷ [])) (sym found) (record {
+        above = All-weaker (λ n. n < k.claimed) (λ n. n < word) (λ n lt. omega arith) r.claims
+            mine.below;
         after = refl;
       }) in
-      let R : ClaimRecord → Type 0 = λ x. Rule (record { words = set s.words 0 ((get_or s.words 0 0 + 1) % 2 ^ 64); homes = s.homes; views = set s.views id (x ∷ []) }) in
+      let R : ClaimRecord → Type 0 = λ x.
+      Rule (record {
+        words = set s.words 0 ((get_or s.words 0 0 + 1) % 2 ^ 64);
+        homes =
+            s.homes;
+        views = set s.views id (x ∷ []);
+      }) in
       let ruled : R w = ⊎_elim
       (λ (below : word < numbers).
-      let claimed_is : with_claim r word ≡ with_claim r k.claimed = ap (with_claim r) (word_is s k below) in
-      let is : w ≡ with_claim r word = ap (λ (b : Bool). if b then with_claim r word else with_end r) (lt-ltb word r.numbers (omega arith)) in
-      subst R (sym (is ∙ claimed_is)) (after_number s k id r (set s.words 0 ((get_or s.words 0 0 + 1) % 2 ^ 64)) at below now))
+      let claimed_is : with_claim r word ≡ with_claim r k.claimed = ap (with_claim r)
+      (word_is s k below) in
+      let is : w ≡ with_claim r word = ap (λ (b : Bool). if b then with_claim r word
+      else with_end r) (lt-ltb word r.numbers (omega arith)) in
+      subst R (sym (is ∙ claimed_is))
+      (after_number s k id r (set s.words 0 ((get_or s.words 0 0 + 1) % 2 ^ 64)) at below now))
       (λ (above : numbers ≤ word).
-      let is : w ≡ with_end r = ap (λ (b : Bool). if b then with_claim r word else with_end r) (le-ltb word r.numbers (omega arith)) in
-      subst R (sym is) (after_end s k id r (set s.words 0 ((get_or s.words 0 0 + 1) % 2 ^ 64)) at going above now))
+      let is : w ≡ with_end r = ap (λ (b : Bool). if b then with_claim r word else with_end r)
+      (le-ltb word r.numbers (omega arith)) in
+      subst R (sym is) (after_end s k id r (set s.words 0 ((get_or s.words 0 0 + 1) % 2 ^ 64)) at
+      going above now))
       (cases_lt word numbers) in (
         w ∷ [],
         keeps,
         tt,
         ruled,
-        (refl, λ x is _. subst (λ (y : ClaimRecord). AfterClaim y (get_or s.words 0 0) (w ∷ [])) (ap (first_or r) is) told),
+        (
+          refl,
+          λ x is _. subst (λ (y : ClaimRecord). AfterClaim y (get_or s.words 0 0) (w ∷ []))
+              (ap (first_or r) is) told,
+        ),
       )
 
-  pub claims_at : (slots id : ℕ) (me : Me (Unit {0}) (List ClaimRecord)) (r : ClaimRecord) (n : ℕ) → me.0 ≡ r ∷ [] → me.1 ≡ [] → n ≡ 1 → r.ended ≡ false
+  pub claims_at : (slots id : ℕ) (me : Me (Unit {0}) (List ClaimRecord)) (r : ClaimRecord) (n : ℕ)
+      → me.0 ≡ r ∷ [] → me.1 ≡ [] → n ≡ 1 → r.ended ≡ false
       → Allows Rule slots id me 0 (λ word. (word + n) % 2 ^ 64) (ClaimTells me)
   claims_at slots id me r n view bare one going =
-      let A : Me (Unit {0}) (List ClaimRecord) × ℕ → Type 0 = λ p. Allows Rule slots id p.0 0 (λ word. (word + p.1) % 2 ^ 64) (ClaimTells p.0) in
+      let A : Me (Unit {0}) (List ClaimRecord) × ℕ → Type 0 = λ p. Allows Rule slots id p.0 0
+      (λ word. (word + p.1) % 2 ^ 64) (ClaimTells p.0) in
       subst A (λ i. ((sym view i, sym bare i), sym one i)) (claims slots id r going)
 
   -- one view becomes two, which weigh together what it weighed
   splits : (id : ℕ) (v left right : List ClaimRecord)
-      → ((f : ℕ → ℕ) → weigh_claims f left + weigh_claims f right ≡ weigh_claims f v) → length left + length right ≡ length v → ended_in left + ended_in right ≡ ended_in v
-      → ((P : ClaimRecord → Type 0) → All P v → All P left × All P right) → Splits Rule id v left right
+      → ((f : ℕ → ℕ) → weigh_claims f left + weigh_claims f right ≡ weigh_claims f v) → length left
+      + length right ≡ length v → ended_in left + ended_in right ≡ ended_in v
+      → ((P : ClaimRecord → Type 0) → All P v → All P left × All P right)
+      → Splits Rule id v left right
   splits id v left right weights lengths ends parts s k at =
       let views : List (List ClaimRecord) = set s.views id left in
       let sum_of = λ (g : List ClaimRecord → ℕ). sum_by_push g views right in
       let P : List ClaimRecord → Type 0 = All (IsClaimKept numbers k.claimed) in
       let both = parts (IsClaimKept numbers k.claimed) (all_at P s.views id v at k.each) in
-      let ended : sum_by ended_in (views ++ right ∷ []) ≡ sum_by ended_in s.views = (let sums = sum_of ended_in in let changed = sum_at ended_in s.views id v left at in omega arith) in
+      let ended : sum_by ended_in (views ++ right ∷ []) ≡ sum_by ended_in s.views =
+      (let sums = sum_of ended_in in let changed = sum_at ended_in s.views id v left at in
+      omega arith) in
       record {
         few_numbers = k.few_numbers;
         few_workers = k.few_workers;
@@ -239,12 +303,16 @@ module _ (numbers workers : ℕ) where
         within = k.within;
         counts = (let was = k.counts in omega arith);
         none_early = λ early. ended ∙ k.none_early early;
-        partition = λ f. (let sums = sum_of (weigh_claims f) in let changed = sum_at (weigh_claims f) s.views id v left at in let was = k.partition f in let w = weights f in omega arith);
-        records = (let sums = sum_of length in let changed = sum_at length s.views id v left at in let was = k.records in omega arith);
+        partition = λ f. (let sums = sum_of (weigh_claims f) in let changed =
+            sum_at (weigh_claims f) s.views id v left at in let was = k.partition f in let w =
+            weights f in omega arith);
+        records = (let sums = sum_of length in let changed = sum_at length s.views id v left at in
+            let was = k.records in omega arith);
         each = All-push P views right (All-set P s.views id left both.0 k.each) both.1;
       }
 
-  weigh_two : (f : ℕ → ℕ) (v w : List ClaimRecord) → weigh_claims f (v ++ w) ≡ weigh_claims f v + weigh_claims f w
+  weigh_two : (f : ℕ → ℕ) (v w : List ClaimRecord) → weigh_claims f (v ++ w) ≡ weigh_claims f v
+      + weigh_claims f w
   weigh_two f v w = sum_by-append (λ (r : ClaimRecord). sum_by f r.claims) v w
 
   ended_two : (v w : List ClaimRecord) → ended_in (v ++ w) ≡ ended_in v + ended_in w
@@ -264,10 +332,13 @@ module _ (numbers workers : ℕ) where
       let both : List ClaimRecord = v ++ w in
       let views : List (List ClaimRecord) = set s.views id both in
       let P : List ClaimRecord → Type 0 = All (IsClaimKept numbers k.claimed) in
-      let between : get_elem? s.views other ≡ some w = sym (set_else s.views id other both apart) ∙ there in
+      let between : get_elem? s.views other ≡ some w = sym (set_else s.views id other both apart)
+      ∙ there in
       let mine : P v = all_at P s.views id v at k.each in
       let theirs : P w = all_at P s.views other w between k.each in
-      let ended : sum_by ended_in (set views other []) ≡ sum_by ended_in s.views = (let first = sum_at ended_in s.views id v both at in let second = sum_at ended_in views other w [] there in let two = ended_two v w in omega arith) in
+      let ended : sum_by ended_in (set views other []) ≡ sum_by ended_in s.views =
+      (let first = sum_at ended_in s.views id v both at in let second = sum_at ended_in views
+      other w [] there in let two = ended_two v w in omega arith) in
       record {
         few_numbers = k.few_numbers;
         few_workers = k.few_workers;
@@ -277,16 +348,23 @@ module _ (numbers workers : ℕ) where
         within = k.within;
         counts = (let was = k.counts in omega arith);
         none_early = λ early. ended ∙ k.none_early early;
-        partition = λ f. (let first = sum_at (weigh_claims f) s.views id v both at in let second = sum_at (weigh_claims f) views other w [] there in let was = k.partition f in let two = weigh_two f v w in omega arith);
-        records = (let first = sum_at length s.views id v both at in let second = sum_at length views other w [] there in let was = k.records in let two = length-append v w in omega arith);
-        each = All-set P views other [] (All-nil (IsClaimKept numbers k.claimed)) (All-set P s.views id both (All-append (IsClaimKept numbers k.claimed) v w mine theirs) k.each);
+        partition = λ f. (let first = sum_at (weigh_claims f) s.views id v both at in let second =
+            sum_at (weigh_claims f) views other w [] there in let was = k.partition f in let two =
+            weigh_two f v w in omega arith);
+        records = (let first = sum_at length s.views id v both at in let second =
+            sum_at length views other w [] there in let was = k.records in let two =
+            length-append v w in omega arith);
+        each = All-set P views other [] (All-nil (IsClaimKept numbers k.claimed))
+            (All-set P s.views id both (All-append (IsClaimKept numbers k.claimed) v w mine theirs)
+            k.each);
       }
 
   pub enters : (slots : ℕ) → Enters Rule slots 0 (λ word view. view ≡ [])
   enters slots s k _ _ =
       let P : List ClaimRecord → Type 0 = All (IsClaimKept numbers k.claimed) in
       let sum_of = λ (g : List ClaimRecord → ℕ). sum_by_push g s.views [] in
-      let ended : sum_by ended_in (s.views ++ [] ∷ []) ≡ sum_by ended_in s.views = (let sums = sum_of ended_in in omega arith) in (
+      let ended : sum_by ended_in (s.views ++ [] ∷ []) ≡ sum_by ended_in s.views =
+      (let sums = sum_of ended_in in omega arith) in (
         [],
         record {
           few_numbers = k.few_numbers;
@@ -297,7 +375,8 @@ module _ (numbers workers : ℕ) where
           within = k.within;
           counts = (let was = k.counts in omega arith);
           none_early = λ early. ended ∙ k.none_early early;
-          partition = λ f. (let sums = sum_of (weigh_claims f) in let was = k.partition f in omega arith);
+          partition = λ f. (let sums = sum_of (weigh_claims f) in let was = k.partition f in
+              omega arith);
           records = (let sums = sum_of length in let was = k.records in omega arith);
           each = All-push P s.views [] k.each (All-nil (IsClaimKept numbers k.claimed));
         },
@@ -313,11 +392,15 @@ module _ (numbers workers : ℕ) where
     ends = λ ended. absurd (true≢false (sym ended));
   }
 
-  pub begins : numbers ≤ 2 ^ 16 → workers ≤ 64 → Rule (opening (0 ∷ []) [] (replicate workers (nothing_claimed numbers)))
+  pub begins : numbers ≤ 2 ^ 16 → workers ≤ 64
+      → Rule (opening (0 ∷ []) [] (replicate workers (nothing_claimed numbers)))
   begins few_numbers few_workers =
       let v : List ClaimRecord = replicate workers (nothing_claimed numbers) in
       let sum_of = λ (g : List ClaimRecord → ℕ). sum_by-cons g v [] in
-      let ended : sum_by ended_in (v ∷ []) ≡ 0 = (let sums = sum_of ended_in in let none : ended_in v ≡ workers * 0 = sum_by-replicate (λ (r : ClaimRecord). cond {A = ℕ} r.ended 1 0) workers (nothing_claimed numbers) in omega arith) in
+      let ended : sum_by ended_in (v ∷ [])
+      ≡ 0 = (let sums = sum_of ended_in in let none : ended_in v ≡ workers
+      * 0 = sum_by-replicate (λ (r : ClaimRecord). cond {A = ℕ} r.ended 1 0) workers
+      (nothing_claimed numbers) in omega arith) in
       record {
         few_numbers = few_numbers;
         few_workers = few_workers;
@@ -327,9 +410,13 @@ module _ (numbers workers : ℕ) where
         within = omega arith;
         counts = omega arith;
         none_early = λ _. ended;
-        partition = λ f. (let sums = sum_of (weigh_claims f) in let none : weigh_claims f v ≡ workers * 0 = sum_by-replicate (λ (r : ClaimRecord). sum_by f r.claims) workers (nothing_claimed numbers) in omega arith);
-        records = (let sums = sum_of length in let n = length-replicate workers (nothing_claimed numbers) in omega arith);
-        each = all_one (All (IsClaimKept numbers 0)) v (All-replicate (IsClaimKept numbers 0) workers (nothing_claimed numbers) kept-opened);
+        partition = λ f. (let sums = sum_of (weigh_claims f) in let none : weigh_claims f v
+            ≡ workers * 0 = sum_by-replicate (λ (r : ClaimRecord). sum_by f r.claims) workers
+            (nothing_claimed numbers) in omega arith);
+        records = (let sums = sum_of length in let n = length-replicate workers
+            (nothing_claimed numbers) in omega arith);
+        each = all_one (All (IsClaimKept numbers 0)) v (All-replicate (IsClaimKept numbers 0)
+            workers (nothing_claimed numbers) kept-opened);
       }
 
   -- after the last step
@@ -337,13 +424,15 @@ module _ (numbers workers : ℕ) where
   none_weigh f [] e = refl
   none_weigh f (r ∷ v) e = absurd (omega arith)
 
-  pub ends : (s : St) (k : Rule s) (id : ℕ) (v : List ClaimRecord) → get_elem? s.views id ≡ some v → AreClaimsClosed numbers workers v
+  pub ends : (s : St) (k : Rule s) (id : ℕ) (v : List ClaimRecord) → get_elem? s.views id ≡ some v
+      → AreClaimsClosed numbers workers v
   ends s k id v there =
       record {
         claimed = k.claimed;
         within = k.within;
         each = all_at (All (IsClaimKept numbers k.claimed)) s.views id v there k.each;
         all = λ whole f.
-            let only = only_at length (weigh_claims f) s.views id v [] there refl refl (none_weigh f) (k.records ∙ sym whole) in
+            let only = only_at length (weigh_claims f) s.views id v [] there refl refl
+            (none_weigh f) (k.records ∙ sym whole) in
             sym only ∙ k.partition f;
       }

@@ -11,7 +11,8 @@ module _ {X : Type 0} where
   pub all_one : (P : X → Type 0) (x : X) → P x → All P (x ∷ [])
   all_one P x p = All-cons P x [] p (All-nil P)
 
-  pub sum_at : (f : X → ℕ) (xs : List X) (i : ℕ) (v w : X) → get_elem? xs i ≡ some v → sum_by f (set xs i w) + f v ≡ sum_by f xs + f w
+  pub sum_at : (f : X → ℕ) (xs : List X) (i : ℕ) (v w : X) → get_elem? xs i ≡ some v
+      → sum_by f (set xs i w) + f v ≡ sum_by f xs + f w
   sum_at f [] i v w e = absurd (some-ne-none v (sym e))
   sum_at f (x ∷ xs) zero v w e =
       let same : f x ≡ f v = ap f (some-injective x v e) in
@@ -21,15 +22,18 @@ module _ {X : Type 0} where
   sum_at f (x ∷ xs) (suc i) v w e =
       let h = sum_at f xs i v w e in
       let before : sum_by f (x ∷ xs) ≡ f x + sum_by f xs = sum_by-cons f x xs in
-      let after : sum_by f (set (x ∷ xs) (suc i) w) ≡ f x + sum_by f (set xs i w) = sum_by-cons f x (set xs i w) in
+      let after : sum_by f (set (x ∷ xs) (suc i) w) ≡ f x + sum_by f (set xs i w) =
+      sum_by-cons f x (set xs i w) in
       omega arith
 
-  pub all_at : (P : X → Type 0) (xs : List X) (i : ℕ) (v : X) → get_elem? xs i ≡ some v → All P xs → P v
+  pub all_at : (P : X → Type 0) (xs : List X) (i : ℕ) (v : X) → get_elem? xs i ≡ some v → All P xs
+      → P v
   all_at P [] i v e all = absurd (some-ne-none v (sym e))
   all_at P (x ∷ xs) zero v e all = subst P (some-injective x v e) (All-head P x xs all)
   all_at P (x ∷ xs) (suc i) v e all = all_at P xs i v e (All-tail P x xs all)
 
-  pub all_zero : (f g : X → ℕ) → ((x : X) → f x ≡ 0 → g x ≡ 0) → (xs : List X) → sum_by f xs ≡ 0 → sum_by g xs ≡ 0
+  pub all_zero : (f g : X → ℕ) → ((x : X) → f x ≡ 0 → g x ≡ 0) → (xs : List X) → sum_by f xs ≡ 0
+      → sum_by g xs ≡ 0
   all_zero f g zeros [] is = refl
   all_zero f g zeros (x ∷ xs) is =
       let sums : sum_by f (x ∷ xs) ≡ f x + sum_by f xs = sum_by-cons f x xs in
@@ -39,7 +43,8 @@ module _ {X : Type 0} where
       omega arith
 
   -- where only the element at i weighs anything, all weigh what it weighs
-  pub only_at : (f g : X → ℕ) (xs : List X) (i : ℕ) (v nothing : X) → get_elem? xs i ≡ some v → f nothing ≡ 0 → g nothing ≡ 0
+  pub only_at : (f g : X → ℕ) (xs : List X) (i : ℕ) (v nothing : X) → get_elem? xs i ≡ some v
+      → f nothing ≡ 0 → g nothing ≡ 0
       → ((x : X) → f x ≡ 0 → g x ≡ 0) → sum_by f xs ≡ f v → sum_by g xs ≡ g v
   only_at f g xs i v nothing e f_none g_none zeros is =
       let s = sum_at f xs i v nothing e in

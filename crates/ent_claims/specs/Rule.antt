@@ -24,7 +24,8 @@ pub record IsClaimKept (numbers claimed : ℕ) (r : ClaimRecord) : Type 0 where
 
 -- The claims of all records partition the numbers below the count of claims, and the word counts
 -- those claims and the records that have ended.
-pub record AreClaimsRuled (numbers workers : ℕ) (s : State (Unit {0}) (List ClaimRecord)) : Type 0 where
+pub record AreClaimsRuled (numbers workers : ℕ) (s : State (Unit {0}) (List ClaimRecord))
+    : Type 0 where
   pub few_numbers : numbers ≤ 2 ^ 16
   pub few_workers : workers ≤ 64
   pub word : ℕ
@@ -34,7 +35,8 @@ pub record AreClaimsRuled (numbers workers : ℕ) (s : State (Unit {0}) (List Cl
   pub counts : word ≡ claimed + sum_by ended_in s.views
   -- nobody has ended while a number was left
   pub none_early : claimed < numbers → sum_by ended_in s.views ≡ 0
-  pub partition : (f : ℕ → ℕ) → sum_by (weigh_claims f) s.views ≡ sum_by f (range_with_len 0 claimed)
+  pub partition : (f : ℕ → ℕ) → sum_by (weigh_claims f) s.views
+      ≡ sum_by f (range_with_len 0 claimed)
   pub records : sum_by length s.views ≡ workers
   pub each : All (All (IsClaimKept numbers claimed)) s.views
 
@@ -43,7 +45,8 @@ pub record AfterClaim (r : ClaimRecord) (found : ℕ) (others : List ClaimRecord
   pub above : All (λ n. n < found) r.claims
   pub after : others ≡ after_claim r found ∷ []
 
-abbrev pub ClaimTells : Me (Unit {0}) (List ClaimRecord) → ℕ → Me (Unit {0}) (List ClaimRecord) → Type 0
+abbrev pub ClaimTells : Me (Unit {0}) (List ClaimRecord) → ℕ → Me (Unit {0}) (List ClaimRecord)
+    → Type 0
 ClaimTells before found after =
     (after.1 ≡ before.1)
     × ((r : ClaimRecord) → before.0 ≡ r ∷ [] → r.ended ≡ false → AfterClaim r found after.0)

@@ -67,7 +67,7 @@ impl Claims {
     }
 
     /// Claims the next number that nobody has claimed yet, by one atomic step. `None` means that
-    /// no number is left, and the claimer has ended: from then on it answers `None` without a step.
+    /// no number is left, and the claimer has ended: from then on it returns `None` without a step.
     /// It takes no memory and waits for nobody.
     pub fn next(&self, claimer: &mut Claimer) -> Option<usize>
         requires { IsClaimerOf self.now claimer.old }

@@ -40,7 +40,7 @@ pub(crate) fn split_first(word: &Word, all: &mut WordSeat) -> Badge<SeatRecords>
     word.shared.split_seat::<SplitFirst>(all).into_badge()
 }
 
-/// The claiming step: adds 1 to the word. Answers the number that it found.
+/// The claiming step: adds 1 to the word. Returns the number that it found.
 pub(crate) fn claim(word: &Word, badge: &mut Badge<SeatRecords>) -> u64
     requires word { (word.now.shared.table_id.words ≡ 1)
         × (badge.old.table_id ≡ word.now.shared.table_id) }
@@ -73,7 +73,8 @@ pub(crate) fn merge(word: &Word, all: &mut WordSeat, badge: Badge<SeatRecords>)
         × (all.old.me.1 ≡ []) }
     requires one { (records : List ClaimRecord) × (badge.views ≡ records ∷ []) }
     ensures kept { all.new.table_id ≡ all.old.table_id }
-    ensures merges { (all.new.me.1 ≡ []) × ((records : List ClaimRecord) → badge.views ≡ records ∷ []
+    ensures merges { (all.new.me.1 ≡ []) × ((records : List ClaimRecord)
+        → badge.views ≡ records ∷ []
         → all.new.me.0 ≡ all.old.me.0 ++ records) }
 {
     word.shared.join_seat::<Merge>(all, badge.into_seat());

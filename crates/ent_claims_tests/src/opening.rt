@@ -66,7 +66,7 @@ fn last_worker(rt: &impl Abort, claims: &Claims, workers: &mut Vec<Worker>) -> W
     workers.pop().expect(rt, "a worker for each")
 }
 
-/// Gives all claimers back. Answers what they have claimed, one worker's after the other's.
+/// Gives all claimers back. Returns what they have claimed, one worker's after the other's.
 pub fn closed(
     rt: &impl Abort,
     alloc: Global,

@@ -35,13 +35,15 @@ pub record IsPlain (ds : List ℕ) : Type 0 where
 zero_is_plain : (c : ℕ) (cs : List ℕ) → c ≡ 48 → cs ≡ [] → IsPlain (c ∷ cs)
 zero_is_plain c cs e n =
     let P : List ℕ → Type 0 = IsPlain in
-    subst P (ap (λ (d : ℕ). d ∷ []) (sym e) ∙ ap (λ (ds : List ℕ). c ∷ ds) (sym n)) (record { digits = refl; nonempty = omega arith; no_leading_zero = λ _. refl })
+    subst P (ap (λ (d : ℕ). d ∷ []) (sym e) ∙ ap (λ (ds : List ℕ). c ∷ ds) (sym n))
+    (record { digits = refl; nonempty = omega arith; no_leading_zero = λ _. refl })
 
 pub plain_from_decimal : (ds : List ℕ) → IsDecimal ds → IsPlain ds
 plain_from_decimal [] h = absurd cc
 plain_from_decimal (c ∷ cs) h =
     elim (cases_Bool (eqb c 48)) [
-      | inl zero ↦ zero_is_plain c cs (eqb-true c 48 zero) (nil_from_length cs (eqb-true _ _ (sym (cond-true (eqb c 48) _ _ zero) ∙ h)))
+      | inl zero ↦ zero_is_plain c cs (eqb-true c 48 zero)
+          (nil_from_length cs (eqb-true _ _ (sym (cond-true (eqb c 48) _ _ zero) ∙ h)))
       | inr other ↦ record {
         digits = sym (cond-false (eqb c 48) _ _ other) ∙ h;
         nonempty = omega arith;
@@ -53,12 +55,14 @@ pub decimal_from_plain : (ds : List ℕ) → IsPlain ds → IsDecimal ds
 decimal_from_plain [] h = absurd (omega (arith, h.nonempty))
 decimal_from_plain (c ∷ cs) h =
     elim (cases_Bool (eqb c 48)) [
-      | inl zero ↦ cond-true (eqb c 48) _ _ zero ∙ eq-eqb _ _ (omega (arith, h.no_leading_zero (eqb-true c 48 zero)))
+      | inl zero ↦ cond-true (eqb c 48) _ _ zero
+          ∙ eq-eqb _ _ (omega (arith, h.no_leading_zero (eqb-true c 48 zero)))
       | inr other ↦ cond-false (eqb c 48) _ _ other ∙ h.digits
     ]
 
 -- a decimal is the text of its value
-pub decimal-value : (ds : List ℕ) → IsDecimal ds → digits_value 10 ds < 2 ^ 64 → decimal (digits_value 10 ds) ≡ ds
+pub decimal-value : (ds : List ℕ) → IsDecimal ds → digits_value 10 ds < 2 ^ 64
+    → decimal (digits_value 10 ds) ≡ ds
 decimal-value ds h small =
     let p = plain_from_decimal ds h in
     decimal-digits_value digit_texts ds p.digits p.nonempty p.no_leading_zero small
@@ -66,7 +70,8 @@ decimal-value ds h small =
 one_digit : (n : ℕ) → n ≡ 0 → IsPlain (decimal n)
 one_digit n e =
     let P : List ℕ → Type 0 = IsPlain in
-    subst P (sym (ap decimal e ∙ decimal_digit 0 (lit< tt))) (record { digits = refl; nonempty = omega arith; no_leading_zero = λ _. refl })
+    subst P (sym (ap decimal e ∙ decimal_digit 0 (lit< tt)))
+    (record { digits = refl; nonempty = omega arith; no_leading_zero = λ _. refl })
 
 -- the text of a number is a decimal
 pub decimal_is_decimal : (n : ℕ) → n < 2 ^ 64 → IsDecimal (decimal n)
@@ -86,14 +91,17 @@ value-decimal n small = (decimal_is_IsNumeral n small).1
 
 -- ---- reading
 
-pub is_decimal_unless_zero : (ds : List ℕ) → 0 < length ds → (get_or ds 0 0 ≡ 48 → ⊥) → is_decimal ds ≡ list_all is_ascii_digit ds
+pub is_decimal_unless_zero : (ds : List ℕ) → 0 < length ds → (get_or ds 0 0 ≡ 48 → ⊥)
+    → is_decimal ds ≡ list_all is_ascii_digit ds
 is_decimal_unless_zero [] long other = absurd (omega arith)
 is_decimal_unless_zero (c ∷ cs) long other = cond-false (eqb c 48) _ _ (ne_eqb c 48 other)
 
-pub number_in_range : (ds : List ℕ) → IsDecimal ds → digits_value 10 ds < 2 ^ 32 → number_of ds ≡ Ok (digits_value 10 ds)
+pub number_in_range : (ds : List ℕ) → IsDecimal ds → digits_value 10 ds < 2 ^ 32 → number_of ds
+    ≡ Ok (digits_value 10 ds)
 number_in_range ds h small = rw (h, lt-ltb _ _ small) refl
 
-pub number_too_large : (ds : List ℕ) → IsDecimal ds → 2 ^ 32 ≤ digits_value 10 ds → number_of ds ≡ Err Range
+pub number_too_large : (ds : List ℕ) → IsDecimal ds → 2 ^ 32 ≤ digits_value 10 ds → number_of ds
+    ≡ Err Range
 number_too_large ds h large = rw (h, le-ltb _ _ large) refl
 
 pub number_of_none : (ds : List ℕ) → is_decimal ds ≡ false → number_of ds ≡ Err Shape
@@ -102,25 +110,30 @@ number_of_none ds h = rw h refl
 pub number_of-decimal : (n : ℕ) → n < 2 ^ 32 → number_of (decimal n) ≡ Ok n
 number_of-decimal n small =
     let value = value-decimal n (omega arith) in
-    number_in_range (decimal n) (decimal_is_decimal n (omega arith)) (omega (arith, value)) ∙ ap (λ (m : ℕ). Ok m) value
+    number_in_range (decimal n) (decimal_is_decimal n (omega arith)) (omega (arith, value))
+    ∙ ap (λ (m : ℕ). Ok m) value
 
 -- ---- what reading gives, in plain facts
 
-pub number_found : (ds : List ℕ) (r : Result ℕ TextFault) → r ≡ number_of ds → IfOk r (λ n. ds ≡ decimal n)
+pub number_found : (ds : List ℕ) (r : Result ℕ TextFault) → r ≡ number_of ds
+    → IfOk r (λ n. ds ≡ decimal n)
 number_found ds r e =
     let P : Result ℕ TextFault → Type 0 = λ x. IfOk x (λ n. ds ≡ decimal n) in
     elim (cases_Bool (is_decimal ds)) [
       | inr none ↦ subst P (sym (e ∙ number_of_none ds none)) tt
       | inl is ↦ elim (cases_lt (digits_value 10 ds) (2 ^ 32)) [
-        | inl small ↦ subst P (sym (e ∙ number_in_range ds is small)) (sym (decimal-value ds is (omega arith)))
+        | inl small ↦ subst P (sym (e ∙ number_in_range ds is small))
+            (sym (decimal-value ds is (omega arith)))
         | inr large ↦ subst P (sym (e ∙ number_too_large ds is large)) tt
       ]
     ]
 
-pub number_only : (ds : List ℕ) (r : Result ℕ TextFault) → r ≡ number_of ds → (n : ℕ) → n < 2 ^ 32 → ds ≡ decimal n → r ≡ Ok n
+pub number_only : (ds : List ℕ) (r : Result ℕ TextFault) → r ≡ number_of ds → (n : ℕ) → n < 2 ^ 32
+    → ds ≡ decimal n → r ≡ Ok n
 number_only ds r e n small is = e ∙ ap number_of is ∙ number_of-decimal n small
 
-pub number_shape : (ds : List ℕ) (r : Result ℕ TextFault) → r ≡ number_of ds → IsErrOf r Shape ↔ (¬ IsDecimal ds)
+pub number_shape : (ds : List ℕ) (r : Result ℕ TextFault) → r ≡ number_of ds
+    → IsErrOf r Shape ↔ (¬ IsDecimal ds)
 number_shape ds r e = (
   λ shape is. elim (cases_lt (digits_value 10 ds) (2 ^ 32)) [
     | inl small ↦ let f = e ∙ number_in_range ds is small in absurd cc
@@ -129,7 +142,8 @@ number_shape ds r e = (
   λ none. e ∙ number_of_none ds (false_from_ne_true _ none),
 )
 
-pub number_range : (ds : List ℕ) (r : Result ℕ TextFault) → r ≡ number_of ds → IsErrOf r Range ↔ (IsDecimal ds × (2 ^ 32 ≤ digits_value 10 ds))
+pub number_range : (ds : List ℕ) (r : Result ℕ TextFault) → r ≡ number_of ds
+    → IsErrOf r Range ↔ (IsDecimal ds × (2 ^ 32 ≤ digits_value 10 ds))
 number_range ds r e = (
   λ range. elim (cases_Bool (is_decimal ds)) [
     | inr none ↦ let f = e ∙ number_of_none ds none in absurd cc
@@ -143,26 +157,40 @@ number_range ds r e = (
 
 -- digits are ASCII
 pub decimal_is_text : (ds : List ℕ) → IsDecimal ds → IsUtf8 ds
-decimal_is_text ds is = IsUtf8-from_ascii ds (IsAscii-from_digits ds (digit_texts.to ds (plain_from_decimal ds is).digits))
+decimal_is_text ds is = IsUtf8-from_ascii ds
+    (IsAscii-from_digits ds (digit_texts.to ds (plain_from_decimal ds is).digits))
 
 -- what `parse` makes of a decimal
 pub record IsValue (ds : List ℕ) (o : Option ℕ) : Type 0 where
   pub value : IfSome o (λ n. n ≡ digits_value 10 ds)
   pub in_range : IsSome o ↔ (digits_value 10 ds < 2 ^ 32)
 
-by_cases : {E : Type 0} (ds : List ℕ) (r : Result ℕ E) (o : Option ℕ) → 0 < length ds → OkIff r ((0 < length ds) × (digits_value 10 ds < 2 ^ 32)) (digits_value 10 ds) → o ≡ result_ok r → IsValue ds o
+by_cases : {E : Type 0} (ds : List ℕ) (r : Result ℕ E) (o : Option ℕ) → 0 < length ds
+    → OkIff r ((0 < length ds) × (digits_value 10 ds < 2 ^ 32)) (digits_value 10 ds) → o
+    ≡ result_ok r → IsValue ds o
 by_cases ds (Ok n) o long whole e =
     subst (IsValue ds) (sym e) (record { value = whole.1; in_range = (λ _. whole.0.1, λ _. refl) })
 by_cases ds (Err d) o long none e =
-    subst (IsValue ds) (sym e) (record { value = tt; in_range = (λ some. absurd (false≢true some), λ small. absurd (none (long, small))) })
+    subst (IsValue ds) (sym e)
+    (record {
+      value = tt;
+      in_range = (
+        λ some. absurd (false≢true some),
+        λ small.
+            absurd (none (long, small)),
+      );
+    })
 
-pub parsed : {E : Type 0} (ds text : List ℕ) (r : Result ℕ E) (o : Option ℕ) → IsDecimal ds → text ≡ ds → ParsesUnsigned 32 10 text r → o ≡ result_ok r → IsValue ds o
+pub parsed : {E : Type 0} (ds text : List ℕ) (r : Result ℕ E) (o : Option ℕ) → IsDecimal ds → text
+    ≡ ds → ParsesUnsigned 32 10 text r → o ≡ result_ok r → IsValue ds o
 parsed ds text r o is same parses given =
     let p = plain_from_decimal ds is in
     by_cases ds r o p.nonempty (parse_digits digit_texts 32 ds r (rw same at parses) p.digits) given
 
-pub number_from_value : (ds : List ℕ) (o : Option ℕ) → IsDecimal ds → IsValue ds o → ok_or o Range ≡ number_of ds
-number_from_value ds (Some n) is v = ap (λ (m : ℕ). Ok m) v.value ∙ sym (number_in_range ds is (v.in_range.0 refl))
+pub number_from_value : (ds : List ℕ) (o : Option ℕ) → IsDecimal ds → IsValue ds o → ok_or o Range
+    ≡ number_of ds
+number_from_value ds (Some n) is v = ap (λ (m : ℕ). Ok m) v.value
+    ∙ sym (number_in_range ds is (v.in_range.0 refl))
 number_from_value ds None is v =
     elim (cases_lt (digits_value 10 ds) (2 ^ 32)) [
       | inl small ↦ absurd (false≢true (v.in_range.1 small))

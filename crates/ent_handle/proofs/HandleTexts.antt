@@ -38,23 +38,33 @@ fails bytes h k d lt = ne_eqb _ 118 (h k d lt)
 
 decimal_without_letter : (ds : List ℕ) → IsDecimal ds → IsWithoutLetter ds
 decimal_without_letter ds is k d lt e =
-    not_in_digits digit_texts ds 118 (plain_from_decimal ds is).digits (λ range. omega arith) k lt (get_or_default ds k 0 d lt ∙ e)
+    not_in_digits digit_texts ds 118 (plain_from_decimal ds is).digits (λ range. omega arith) k lt
+    (get_or_default ds k 0 d lt ∙ e)
 
 -- no letter: no handle
 pub handle_of_whole : (bytes : List ℕ) → IsWithoutLetter bytes → handle_of bytes ≡ Err Shape
 handle_of_whole bytes h = rw (slice_split_none is_letter bytes (fails bytes h)) refl
 
-one_part : (index generation : List ℕ) (parts : List (List ℕ)) → slice_split is_letter generation ≡ parts → is_decimal generation ≡ false → handle_of_parts (index ∷ parts) ≡ handle_of_numbers index generation
-one_part index generation [] e lacks = absurd (omega (arith, length-slice_split is_letter generation, ap length e))
-one_part index generation (part ∷ []) e lacks = ap (handle_of_numbers index) (sym (ap (join_with_byte 118) e) ∙ join_with_byte-slice_split 118 generation)
-one_part index generation (part ∷ more ∷ others) e lacks = sym (cond-false _ _ _ (and_right (is_decimal index) (is_decimal generation) lacks))
+one_part : (index generation : List ℕ) (parts : List (List ℕ)) → slice_split is_letter generation
+    ≡ parts → is_decimal generation ≡ false → handle_of_parts (index ∷ parts)
+    ≡ handle_of_numbers index generation
+one_part index generation [] e lacks =
+    absurd (omega (arith, length-slice_split is_letter generation, ap length e))
+one_part index generation (part ∷ []) e lacks = ap (handle_of_numbers index)
+    (sym (ap (join_with_byte 118) e) ∙ join_with_byte-slice_split 118 generation)
+one_part index generation (part ∷ more ∷ others) e lacks =
+    sym (cond-false _ _ _ (and_right (is_decimal index) (is_decimal generation) lacks))
 
 -- the parts round the first letter are the handle's numbers, or there is no handle
-handle_of-split : (bytes index generation : List ℕ) → bytes ≡ index ++ 118 ∷ generation → IsWithoutLetter index → handle_of bytes ≡ handle_of_numbers index generation
+handle_of-split : (bytes index generation : List ℕ) → bytes ≡ index ++ 118 ∷ generation
+    → IsWithoutLetter index → handle_of bytes ≡ handle_of_numbers index generation
 handle_of-split bytes index generation e h =
-    ap handle_of e ∙ ap handle_of_parts (slice_split_at is_letter index 118 generation (fails index h) refl)
+    ap handle_of e ∙ ap handle_of_parts (slice_split_at is_letter index 118 generation
+    (fails index h) refl)
     ∙ elim (cases_Bool (is_decimal generation)) [
-      | inl is ↦ ap (λ (parts : List (List ℕ)). handle_of_parts (index ∷ parts)) (slice_split_none is_letter generation (fails generation (decimal_without_letter generation is)))
+      | inl is ↦ ap (λ (parts : List (List ℕ)). handle_of_parts (index ∷ parts))
+          (slice_split_none is_letter generation
+          (fails generation (decimal_without_letter generation is)))
       | inr lacks ↦ one_part index generation (slice_split is_letter generation) refl lacks
     ]
 
@@ -62,7 +72,8 @@ same_handle : (h k : Handle) → h.index ≡ k.index → h.generation ≡ k.gene
 same_handle h k i g = λ t. record { index = i t; generation = g t }
 
 pub is_handle_from : (h : Handle) → IsHandle h → is_handle h ≡ true
-is_handle_from h is = and_from _ _ (and_from _ _ (lt-ltb _ _ is.index) (le-leb _ _ is.least)) (lt-ltb _ _ is.greatest)
+is_handle_from h is = and_from _ _ (and_from _ _ (lt-ltb _ _ is.index) (le-leb _ _ is.least))
+    (lt-ltb _ _ is.greatest)
 
 pub handle_from : (h : Handle) → is_handle h ≡ true → IsHandle h
 handle_from h e =
@@ -70,23 +81,33 @@ handle_from h e =
     let b = and_parts _ _ a.0 in
     record { index = ltb-true _ _ b.0; least = leb-true _ _ b.1; greatest = ltb-true _ _ a.1 }
 
-handle_of_decimals : (index generation : List ℕ) → IsDecimal index → IsDecimal generation → handle_of_numbers index generation ≡ cond (is_handle (written index generation)) (Ok (written index generation)) (Err Range)
+handle_of_decimals : (index generation : List ℕ) → IsDecimal index → IsDecimal generation
+    → handle_of_numbers index generation ≡ cond (is_handle (written index generation))
+    (Ok (written index generation)) (Err Range)
 handle_of_decimals index generation i g = cond-true _ _ _ (and_from _ _ i g)
 
 -- a text of the form gives its handle, or is out of range
-pub handle_of_form : (bytes index generation : List ℕ) → IsDecimal index → IsDecimal generation → bytes ≡ index ++ 118 ∷ generation → handle_of bytes ≡ cond (is_handle (written index generation)) (Ok (written index generation)) (Err Range)
-handle_of_form bytes index generation i g e = handle_of-split bytes index generation e (decimal_without_letter index i) ∙ handle_of_decimals index generation i g
+pub handle_of_form : (bytes index generation : List ℕ) → IsDecimal index → IsDecimal generation
+    → bytes ≡ index ++ 118 ∷ generation → handle_of bytes
+    ≡ cond (is_handle (written index generation)) (Ok (written index generation)) (Err Range)
+handle_of_form bytes index generation i g e = handle_of-split bytes index generation e
+    (decimal_without_letter index i) ∙ handle_of_decimals index generation i g
 
 pub shape_of_none : (bytes : List ℕ) → handle_of bytes ≡ Err Shape → ¬ HasHandleForm bytes
 shape_of_none bytes e form =
     let f = sym (handle_of_form bytes form.0 form.1 form.2 form.3 form.4) ∙ e in
     elim (cases_Bool (is_handle (written form.0 form.1))) [
-      | inl is ↦ let x = sym (cond-true _ (Ok (written form.0 form.1)) (Err Range) is) ∙ f in absurd cc
-      | inr lacks ↦ let x = sym (cond-false _ (Ok (written form.0 form.1)) (Err Range) lacks) ∙ f in absurd cc
+      | inl is ↦ let x = sym (cond-true _ (Ok (written form.0 form.1)) (Err Range) is)
+          ∙ f in absurd cc
+      | inr lacks ↦ let x = sym (cond-false _ (Ok (written form.0 form.1)) (Err Range) lacks)
+          ∙ f in absurd cc
     ]
 
-parts_of : (bytes : List ℕ) → position_or_len is_letter bytes < length bytes → bytes ≡ before_first is_letter bytes ++ 118 ∷ after_first is_letter bytes
-parts_of bytes lt = split_at_first is_letter bytes 0 lt ∙ ap (λ (b : ℕ). before_first is_letter bytes ++ b ∷ after_first is_letter bytes) (eqb-true _ 118 (passes_at_first is_letter bytes 0 lt))
+parts_of : (bytes : List ℕ) → position_or_len is_letter bytes < length bytes → bytes
+    ≡ before_first is_letter bytes ++ 118 ∷ after_first is_letter bytes
+parts_of bytes lt = split_at_first is_letter bytes 0 lt
+    ∙ ap (λ (b : ℕ). before_first is_letter bytes ++ b ∷ after_first is_letter bytes)
+    (eqb-true _ 118 (passes_at_first is_letter bytes 0 lt))
 
 -- a text is of the form, with its two decimals, or it is not, and then no handle is read
 abbrev pub Reading : List ℕ → Type 0
@@ -95,11 +116,18 @@ Reading bytes = HasHandleForm bytes ⊎ ((¬ HasHandleForm bytes) × (handle_of 
 pub reading : (bytes : List ℕ) → Reading bytes
 reading bytes =
     elim (cases_lt (position_or_len is_letter bytes) (length bytes)) [
-      | inl lt ↦ reading_parts bytes (before_first is_letter bytes) (after_first is_letter bytes) (parts_of bytes lt) (λ k d below e. eqb-false _ 118 (fails_before_first is_letter bytes k d (omega (arith, length-take (position_or_len is_letter bytes) bytes, below))) (sym (get_or-take (position_or_len is_letter bytes) bytes k d (omega (arith, length-take (position_or_len is_letter bytes) bytes, below))) ∙ e))
-      | inr le ↦ let e = handle_of_whole bytes (λ k d lt f. eqb-false _ 118 (fails_before_first is_letter bytes k d (omega arith)) f) in inr (shape_of_none bytes e, e)
+      | inl lt ↦ reading_parts bytes (before_first is_letter bytes) (after_first is_letter bytes)
+          (parts_of bytes lt) (λ k d below e. eqb-false _ 118 (fails_before_first is_letter bytes k
+          d (omega (arith, length-take (position_or_len is_letter bytes) bytes, below)))
+          (sym (get_or-take (position_or_len is_letter bytes) bytes k d
+          (omega (arith, length-take (position_or_len is_letter bytes) bytes, below))) ∙ e))
+      | inr le ↦ let e = handle_of_whole bytes
+          (λ k d lt f. eqb-false _ 118 (fails_before_first is_letter bytes k d (omega arith)) f) in
+          inr (shape_of_none bytes e, e)
     ]
   where
-    reading_parts : (bytes index generation : List ℕ) → bytes ≡ index ++ 118 ∷ generation → IsWithoutLetter index → Reading bytes
+    reading_parts : (bytes index generation : List ℕ) → bytes ≡ index ++ 118 ∷ generation
+        → IsWithoutLetter index → Reading bytes
     reading_parts bytes index generation e h =
         elim (cases_Bool (is_decimal index && is_decimal generation)) [
           | inl both ↦ let p = and_parts _ _ both in inl (index, generation, p.0, p.1, e)
@@ -109,16 +137,25 @@ reading bytes =
         ]
 
 -- what the two parts round the first letter are read as
-pub read_parts : (bytes index generation : List ℕ) → bytes ≡ index ++ 118 ∷ generation → IsWithoutLetter index → IsDecimal index → IsDecimal generation
-    → (o : Option Handle) → IfSome o (λ h. h ≡ written index generation) → IsSome o ↔ IsHandle (written index generation) → ok_or o Range ≡ handle_of bytes
+pub read_parts : (bytes index generation : List ℕ) → bytes ≡ index ++ 118 ∷ generation
+    → IsWithoutLetter index → IsDecimal index → IsDecimal generation
+    → (o : Option Handle) → IfSome o (λ h. h ≡ written index generation)
+    → IsSome o ↔ IsHandle (written index generation) → ok_or o Range ≡ handle_of bytes
 read_parts bytes index generation e h i g (Some k) value in_range =
-    ap (λ (x : Handle). Ok x) value ∙ sym (handle_of_form bytes index generation i g e ∙ cond-true _ _ _ (is_handle_from _ (in_range.0 refl)))
+    ap (λ (x : Handle). Ok x) value ∙ sym (handle_of_form bytes index generation i g e
+    ∙ cond-true _ _ _ (is_handle_from _ (in_range.0 refl)))
 read_parts bytes index generation e h i g None value in_range =
-    sym (handle_of_form bytes index generation i g e ∙ cond-false _ _ _ (false_from_ne_true _ (λ is. absurd (false≢true (in_range.1 (handle_from _ is))))))
+    sym (handle_of_form bytes index generation i g e
+    ∙ cond-false _ _ _
+    (false_from_ne_true _ (λ is. absurd (false≢true (in_range.1 (handle_from _ is))))))
 
-pub shapeless_parts : (bytes index generation : List ℕ) → bytes ≡ index ++ 118 ∷ generation → IsWithoutLetter index → (is_decimal index ≡ false) ⊎ (is_decimal generation ≡ false) → handle_of bytes ≡ Err Shape
-shapeless_parts bytes index generation e h (inl i) = handle_of-split bytes index generation e h ∙ cond-false _ _ _ (and_left _ _ i)
-shapeless_parts bytes index generation e h (inr g) = handle_of-split bytes index generation e h ∙ cond-false _ _ _ (and_right _ _ g)
+pub shapeless_parts : (bytes index generation : List ℕ) → bytes ≡ index ++ 118 ∷ generation
+    → IsWithoutLetter index → (is_decimal index ≡ false) ⊎ (is_decimal generation ≡ false)
+    → handle_of bytes ≡ Err Shape
+shapeless_parts bytes index generation e h (inl i) = handle_of-split bytes index generation e h
+    ∙ cond-false _ _ _ (and_left _ _ i)
+shapeless_parts bytes index generation e h (inr g) = handle_of-split bytes index generation e h
+    ∙ cond-false _ _ _ (and_right _ _ g)
 
 pub handle_of_text : (h : Handle) → IsHandle h → handle_of (handle_text h) ≡ Ok h
 handle_of_text h is =
@@ -126,49 +163,74 @@ handle_of_text h is =
     let generation = decimal h.generation in
     let i = decimal_is_decimal h.index (omega (arith, is.index)) in
     let g = decimal_is_decimal h.generation (omega (arith, is.greatest)) in
-    let same : written index generation ≡ h = same_handle _ _ (value-decimal h.index (omega (arith, is.index))) (value-decimal h.generation (omega (arith, is.greatest))) in
-    handle_of_form (handle_text h) index generation i g refl ∙ ap (λ (k : Handle). cond (is_handle k) (Ok k) (Err Range)) same ∙ cond-true _ _ _ (is_handle_from h is)
+    let same : written index generation
+    ≡ h = same_handle _ _ (value-decimal h.index (omega (arith, is.index)))
+    (value-decimal h.generation (omega (arith, is.greatest))) in
+    handle_of_form (handle_text h) index generation i g refl
+    ∙ ap (λ (k : Handle). cond (is_handle k) (Ok k) (Err Range)) same
+    ∙ cond-true _ _ _ (is_handle_from h is)
 
 -- a text that is read is the text of that handle
-spelled : (bytes index generation : List ℕ) → IsDecimal index → IsDecimal generation → bytes ≡ index ++ 118 ∷ generation → IsHandle (written index generation) → bytes ≡ handle_text (written index generation)
+spelled : (bytes index generation : List ℕ) → IsDecimal index → IsDecimal generation → bytes ≡ index
+    ++ 118 ∷ generation → IsHandle (written index generation) → bytes
+    ≡ handle_text (written index generation)
 spelled bytes index generation i g e is =
-    e ∙ ap (λ (ds : List ℕ). ds ++ 118 ∷ generation) (sym (decimal-value index i (omega (arith, is.index))))
-    ∙ ap (λ (ds : List ℕ). decimal (digits_value 10 index) ++ 118 ∷ ds) (sym (decimal-value generation g (omega (arith, is.greatest))))
+    e ∙ ap (λ (ds : List ℕ). ds ++ 118 ∷ generation)
+    (sym (decimal-value index i (omega (arith, is.index))))
+    ∙ ap (λ (ds : List ℕ). decimal (digits_value 10 index) ++ 118 ∷ ds)
+    (sym (decimal-value generation g (omega (arith, is.greatest))))
 
 -- ---- what reading gives, in plain facts
 
-pub handle_found : (bytes : List ℕ) (r : Result Handle TextFault) → r ≡ handle_of bytes → IfOk r (λ h. IsHandle h × (bytes ≡ handle_text h))
+pub handle_found : (bytes : List ℕ) (r : Result Handle TextFault) → r ≡ handle_of bytes
+    → IfOk r (λ h. IsHandle h × (bytes ≡ handle_text h))
 handle_found bytes r e =
-    let P : Result Handle TextFault → Type 0 = λ x. IfOk x (λ h. IsHandle h × (bytes ≡ handle_text h)) in
+    let P : Result Handle TextFault → Type 0 = λ x. IfOk x (λ h. IsHandle h
+    × (bytes ≡ handle_text h)) in
     elim (reading bytes) [
       | inr lacks ↦ subst P (sym (e ∙ lacks.1)) tt
       | inl form ↦
           let w = written form.0 form.1 in
           let f = e ∙ handle_of_form bytes form.0 form.1 form.2 form.3 form.4 in
           elim (cases_Bool (is_handle w)) [
-            | inl is ↦ subst P (sym (f ∙ cond-true _ (Ok w) (Err Range) is)) (handle_from w is, spelled bytes form.0 form.1 form.2 form.3 form.4 (handle_from w is))
+            | inl is ↦ subst P (sym (f ∙ cond-true _ (Ok w) (Err Range) is)) (
+              handle_from w is,
+              spelled bytes form.0 form.1 form.2 form.3 form.4
+                  (handle_from w is),
+            )
             | inr large ↦ subst P (sym (f ∙ cond-false _ (Ok w) (Err Range) large)) tt
           ]
     ]
 
-pub handle_only : (bytes : List ℕ) (r : Result Handle TextFault) → r ≡ handle_of bytes → (h : Handle) → IsHandle h → bytes ≡ handle_text h → r ≡ Ok h
+pub handle_only : (bytes : List ℕ) (r : Result Handle TextFault) → r ≡ handle_of bytes
+    → (h : Handle) → IsHandle h → bytes ≡ handle_text h → r ≡ Ok h
 handle_only bytes r e h is spelled = e ∙ ap handle_of spelled ∙ handle_of_text h is
 
-pub handle_shape : (bytes : List ℕ) (r : Result Handle TextFault) → r ≡ handle_of bytes → IsErrOf r Shape ↔ (¬ HasHandleForm bytes)
-handle_shape bytes r e =
-    (λ shape. shape_of_none bytes (sym e ∙ shape), λ none. e ∙ elim (reading bytes) [ inl form ↦ absurd (none form) | inr lacks ↦ lacks.1 ])
+pub handle_shape : (bytes : List ℕ) (r : Result Handle TextFault) → r ≡ handle_of bytes
+    → IsErrOf r Shape ↔ (¬ HasHandleForm bytes)
+handle_shape bytes r e = (
+  λ shape. shape_of_none bytes (sym e ∙ shape),
+  λ none. e
+      ∙ elim (reading bytes) [ inl form ↦ absurd (none form) | inr lacks ↦ lacks.1 ],
+)
 
-pub handle_range : (bytes : List ℕ) (r : Result Handle TextFault) → r ≡ handle_of bytes → IsErrOf r Range ↔ (HasHandleForm bytes × ((h : Handle) → IsHandle h → bytes ≢ handle_text h))
+pub handle_range : (bytes : List ℕ) (r : Result Handle TextFault) → r ≡ handle_of bytes
+    → IsErrOf r Range ↔ (HasHandleForm bytes × ((h : Handle) → IsHandle h → bytes ≢ handle_text h))
 handle_range bytes r e = (
   λ range. elim (reading bytes) [
-    | inl form ↦ (form, λ h is text. let f = sym range ∙ handle_only bytes r e h is text in absurd cc)
+    | inl form ↦ (
+      form,
+      λ h is text. let f = sym range ∙ handle_only bytes r e h is text in
+          absurd cc,
+    )
     | inr lacks ↦ let f = sym range ∙ e ∙ lacks.1 in absurd cc
   ],
   λ p.
       let w = written p.0.0 p.0.1 in
       let f = e ∙ handle_of_form bytes p.0.0 p.0.1 p.0.2 p.0.3 p.0.4 in
       elim (cases_Bool (is_handle w)) [
-        | inl is ↦ absurd (p.1 w (handle_from w is) (spelled bytes p.0.0 p.0.1 p.0.2 p.0.3 p.0.4 (handle_from w is)))
+        | inl is ↦ absurd (p.1 w (handle_from w is) (spelled bytes p.0.0 p.0.1 p.0.2 p.0.3 p.0.4
+            (handle_from w is)))
         | inr large ↦ f ∙ cond-false _ (Ok w) (Err Range) large
       ],
 )

@@ -57,7 +57,7 @@ pub fn read_decimal(bytes: &[u8]) -> Result<u32, TextFault>
     ensures range { IsErrOf result TextFault.Range
         ↔ (IsDecimal bytes.now × (2 ^ 32 ≤ digits_value 10 bytes.now)) }
 
-    // The whole answer, as a function of the text.
+    // The whole result, as a function of the text.
     ensures exact { result ≡ number_of bytes.now }
 {
     if !is_decimal(bytes) {

@@ -52,7 +52,7 @@ impl Handle {
         ensures range { IsErrOf result TextFault.Range ↔ (HasHandleForm bytes.now
             × ((h : HandleValue) → IsHandle h → bytes.now ≢ handle_text h)) }
 
-        // The whole answer, as a function of the text.
+        // The whole result, as a function of the text.
         ensures exact { result ≡ handle_of bytes.now }
     {
         let Some((index, generation)) = split_once(bytes, b'v') else {

@@ -27,13 +27,16 @@ less Greater h = absurd h
 below : (m n : ℕ) → T (is_lt (nat_cmp m n)) → m < n
 below m n h = ranked m n Less (sym (less (nat_cmp m n) h))
 
-from_head : (item : ComponentId × ℤ) (items : Bundle) → T (is_sorted component_cmp (item ∷ items)) → All IsItem (item ∷ items) → item.0.0 + length (item ∷ items) ≤ 256
+from_head : (item : ComponentId × ℤ) (items : Bundle) → T (is_sorted component_cmp (item ∷ items))
+    → All IsItem (item ∷ items) → item.0.0 + length (item ∷ items) ≤ 256
 from_head item [] rising all = let id = (All-head IsItem item [] all).id in omega arith
 from_head item (next ∷ items) rising all =
-    let more : next.0.0 + length (next ∷ items) ≤ 256 = from_head next items (second _ _ rising) (All-tail IsItem item (next ∷ items) all) in
+    let more : next.0.0 + length (next ∷ items) ≤ 256 = from_head next items (second _ _ rising)
+    (All-tail IsItem item (next ∷ items) all) in
     let step : item.0.0 < next.0.0 = below item.0.0 next.0.0 (first _ _ (first _ _ rising)) in
     omega arith
 
 pub few_items : (items : Bundle) → IsBundle items → length items ≤ 256
 few_items [] is = omega arith
-few_items (item ∷ items) is = let n : item.0.0 + length (item ∷ items) ≤ 256 = from_head item items is.rising is.each in omega arith
+few_items (item ∷ items) is = let n : item.0.0 + length (item ∷ items) ≤ 256 = from_head item items
+    is.rising is.each in omega arith

@@ -24,7 +24,8 @@ pub record BundleAt (bytes rest : List ℕ) : Type 0 where
   pub is : IsBundle (unpacked_bundle bytes)
   pub rest_is : drop (9 * number_2 bytes) (drop 2 bytes) ≡ rest
 
-bundle_at : (items : Bundle) (bytes rest : List ℕ) → IsBundle items → BundleBegins items bytes rest → BundleAt bytes rest
+bundle_at : (items : Bundle) (bytes rest : List ℕ) → IsBundle items → BundleBegins items bytes rest
+    → BundleAt bytes rest
 bundle_at items bytes rest is begins = record {
   header = omega (arith, begins.length_is);
   items = omega (arith, begins.length_is, begins.count);
@@ -60,7 +61,8 @@ pub record Reason (parts rest : List ℕ) : Type 0 where
   pub is : IsRefusal (number_4 parts) (unpacked_refusal (number_4 parts) (drop 4 parts))
   pub rest_is : drop 8 (drop 1 (drop 4 parts)) ≡ rest
 
-handle_and_bundle : (h : Handle) (items : Bundle) (parts rest : List ℕ) → IsHandle h → IsBundle items → WithBundle h items parts rest → HandleAndBundle parts rest
+handle_and_bundle : (h : Handle) (items : Bundle) (parts rest : List ℕ) → IsHandle h
+    → IsBundle items → WithBundle h items parts rest → HandleAndBundle parts rest
 handle_and_bundle h items parts rest is bundle w = record {
   long = omega (arith, w.length_is);
   is = subst IsHandle (sym w.handle) is;
@@ -76,11 +78,13 @@ pub record Kinds (kind : ℕ) (parts rest : List ℕ) : Type 0 where
   pub despawn : kind ≡ 4 → OneHandle parts rest
   pub refused : 4 < kind → Reason parts rest
 
-kinds : (c : Command) (rest : List ℕ) → IsCommand c → Kinds (slice_index (command_bytes c ++ rest) 0) (drop 1 (command_bytes c ++ rest)) rest
+kinds : (c : Command) (rest : List ℕ) → IsCommand c
+    → Kinds (slice_index (command_bytes c ++ rest) 0) (drop 1 (command_bytes c ++ rest)) rest
 kinds (Spawn h items) rest is =
     let parts = (handle_bytes h ++ bundle_bytes items) ++ rest in
     record {
-      spawn = λ e. handle_and_bundle h items parts rest is.0 is.1 (with_bundle h items parts rest is.0 is.1 refl);
+      spawn = λ e. handle_and_bundle h items parts rest is.0 is.1
+          (with_bundle h items parts rest is.0 is.1 refl);
       spawn_many = λ e. absurd (omega arith);
       insert = λ e. absurd (omega arith);
       remove = λ e. absurd (omega arith);
@@ -93,8 +97,10 @@ kinds (SpawnMany hs items) rest is =
     let many : HandlesAndBundle parts rest = record {
       header = omega (arith, w.length_is);
       long = omega (arith, w.length_is, w.count, length-drop 4 parts);
-      each = subst (λ n. All IsHandle (unpacked_handles n (drop 4 parts))) (sym w.count) (subst (All IsHandle) (sym w.handles) is.1);
-      bundle = subst (λ n. BundleAt (drop (8 * n) (drop 4 parts)) rest) (sym w.count) (bundle_at items (drop (8 * length hs) (drop 4 parts)) rest is.2 w.bundle);
+      each = subst (λ n. All IsHandle (unpacked_handles n (drop 4 parts))) (sym w.count)
+          (subst (All IsHandle) (sym w.handles) is.1);
+      bundle = subst (λ n. BundleAt (drop (8 * n) (drop 4 parts)) rest) (sym w.count)
+          (bundle_at items (drop (8 * length hs) (drop 4 parts)) rest is.2 w.bundle);
     } in
     record {
       spawn = λ e. absurd (omega arith);
@@ -109,7 +115,8 @@ kinds (Insert h items) rest is =
     record {
       spawn = λ e. absurd (omega arith);
       spawn_many = λ e. absurd (omega arith);
-      insert = λ e. handle_and_bundle h items parts rest is.0 is.1 (with_bundle h items parts rest is.0 is.1 refl);
+      insert = λ e. handle_and_bundle h items parts rest is.0 is.1
+          (with_bundle h items parts rest is.0 is.1 refl);
       remove = λ e. absurd (omega arith);
       despawn = λ e. absurd (omega arith);
       refused = λ e. absurd (omega arith);
@@ -152,7 +159,8 @@ kinds (Refused wanted why) rest is =
     let reason : Reason parts rest = record {
       header = omega (arith, w.length_is);
       long = omega (arith, w.length_is, length-drop 4 parts);
-      is = subst (λ n. IsRefusal n (unpacked_refusal n (drop 4 parts))) (sym w.wanted_is) (subst (IsRefusal wanted) (sym w.why_is) is.1);
+      is = subst (λ n. IsRefusal n (unpacked_refusal n (drop 4 parts))) (sym w.wanted_is)
+          (subst (IsRefusal wanted) (sym w.why_is) is.1);
       rest_is = w.rest_is;
     } in
     record {
@@ -165,9 +173,11 @@ kinds (Refused wanted why) rest is =
     }
 
 -- the same of any bytes that begin with a command
-pub begins_kinds : (bytes : List ℕ) → Begins bytes → Kinds (slice_index bytes 0) (drop 1 bytes) (after_first bytes)
+pub begins_kinds : (bytes : List ℕ) → Begins bytes → Kinds (slice_index bytes 0) (drop 1 bytes)
+    (after_first bytes)
 begins_kinds bytes b =
     let front = command_bytes b.0 ++ b.1 in
     let here : Kinds (slice_index front 0) (drop 1 front) (after_first front) =
-    subst (λ rest. Kinds (slice_index front 0) (drop 1 front) rest) (sym (after_first-bytes b.0 b.1 b.2.is)) (kinds b.0 b.1 b.2.is) in
+    subst (λ rest. Kinds (slice_index front 0) (drop 1 front) rest)
+    (sym (after_first-bytes b.0 b.1 b.2.is)) (kinds b.0 b.1 b.2.is) in
     subst (λ bs. Kinds (slice_index bs 0) (drop 1 bs) (after_first bs)) (sym b.2.bytes_are) here

@@ -35,7 +35,8 @@ gains_nothing r = record {
 }
 
 -- a command that stands for no reservation
-pub gains_none : (r : Record) (c : Command) → stands_for c ≡ [] → FitsCredit r.left c → Gains r (c ∷ []) r
+pub gains_none : (r : Record) (c : Command) → stands_for c ≡ [] → FitsCredit r.left c
+    → Gains r (c ∷ []) r
 gains_none r c none within = record {
   start = refl;
   number = refl;
@@ -43,81 +44,111 @@ gains_none r c none within = record {
   entries = sym (append-nil r.entries);
   requests = sym (ap (λ rs. rs ++ []) none);
   callers = All-nil (λ (k : Reservation). k.caller ≡ r.number);
-  left = let free : cost c ≡ 0 = ap (sum_by (λ (request : ℕ × Result (List Handle) OutOfSpace). request.0)) none in omega arith;
+  left = let free : cost c
+      ≡ 0 = ap (sum_by (λ (request : ℕ × Result (List Handle) OutOfSpace). request.0)) none in
+      omega arith;
   within = (within, tt);
 }
 
 -- a command that stands for one reservation
-pub gains_one : (r : Record) (high : ℤ) (n : ℕ) (c : Command) → n ≤ r.left → stands_for c ≡ (n, (reservation_at r high n).reply) ∷ [] → FitsCredit r.left c → Gains r (c ∷ []) (after_reservation r high n)
+pub gains_one : (r : Record) (high : ℤ) (n : ℕ) (c : Command) → n ≤ r.left → stands_for c
+    ≡ (n, (reservation_at r high n).reply) ∷ [] → FitsCredit r.left c
+    → Gains r (c ∷ []) (after_reservation r high n)
 gains_one r high n c enough one within = record {
   start = refl;
   number = refl;
   reservations = reservation_at r high n ∷ [];
   entries = refl;
   requests = sym (ap (λ rs. rs ++ []) one);
-  callers = All-cons (λ (k : Reservation). k.caller ≡ r.number) (reservation_at r high n) [] refl (All-nil (λ (k : Reservation). k.caller ≡ r.number));
-  left = let price : cost c ≡ 0 + n = ap (sum_by (λ (request : ℕ × Result (List Handle) OutOfSpace). request.0)) one in omega arith;
+  callers = All-cons (λ (k : Reservation). k.caller ≡ r.number) (reservation_at r high n) [] refl
+      (All-nil (λ (k : Reservation). k.caller ≡ r.number));
+  left = let price : cost c ≡ 0
+      + n = ap (sum_by (λ (request : ℕ × Result (List Handle) OutOfSpace). request.0)) one in
+      omega arith;
   within = (within, tt);
 }
 
-requests_both : (cs ds : List Command) → flat_map stands_for (cs ++ ds) ≡ flat_map stands_for cs ++ flat_map stands_for ds
+requests_both : (cs ds : List Command) → flat_map stands_for (cs ++ ds) ≡ flat_map stands_for cs
+    ++ flat_map stands_for ds
 requests_both [] ds = refl
 requests_both (c ∷ cs) ds =
-    ap (λ rs. stands_for c ++ rs) (requests_both cs ds) ∙ sym (append_assoc (stands_for c) (flat_map stands_for cs) (flat_map stands_for ds))
+    ap (λ rs. stands_for c ++ rs) (requests_both cs ds)
+    ∙ sym (append_assoc (stands_for c) (flat_map stands_for cs) (flat_map stands_for ds))
 
 map_both : {X Y : Type 0} (f : X → Y) (xs ys : List X) → map f (xs ++ ys) ≡ map f xs ++ map f ys
 map_both f [] ys = refl
 map_both f (x ∷ xs) ys = ap (λ zs. f x ∷ zs) (map_both f xs ys)
 
-within_both : (left : ℕ) (cs ds : List Command) → FitCredit left cs → FitCredit (left - sum_by cost cs) ds → FitCredit left (cs ++ ds)
-within_both left [] ds first second = let same : left - sum_by cost [] ≡ left = omega arith in subst (λ n. FitCredit n ds) same second
+within_both : (left : ℕ) (cs ds : List Command) → FitCredit left cs
+    → FitCredit (left - sum_by cost cs) ds → FitCredit left (cs ++ ds)
+within_both left [] ds first second = let same : left - sum_by cost [] ≡ left = omega arith in
+    subst (λ n. FitCredit n ds) same second
 within_both left (c ∷ cs) ds first second =
-    let rest : left - sum_by cost (c ∷ cs) ≡ left - cost c - sum_by cost cs = omega (arith, sum_by-cons cost c cs) in
+    let rest : left - sum_by cost (c ∷ cs) ≡ left - cost c - sum_by cost cs =
+    omega (arith, sum_by-cons cost c cs) in
     (first.0, within_both (left - cost c) cs ds first.1 (subst (λ n. FitCredit n ds) rest second))
 
 -- The commands of two queues, one after the other: so many queues of one reserver are added up.
-pub gains_then : (a b c : Record) (cs ds : List Command) → Gains a cs b → Gains b ds c → Gains a (cs ++ ds) c
+pub gains_then : (a b c : Record) (cs ds : List Command) → Gains a cs b → Gains b ds c
+    → Gains a (cs ++ ds) c
 gains_then a b c cs ds first second =
     let asked : Reservation → ℕ × Result (List Handle) OutOfSpace = λ r. (r.requested, r.reply) in
     record {
       start = second.start ∙ first.start;
       number = second.number ∙ first.number;
       reservations = first.reservations ++ second.reservations;
-      entries = second.entries ∙ ap (λ es. es ++ map Own second.reservations) first.entries ∙ append_assoc a.entries (map Own first.reservations) (map Own second.reservations) ∙ ap (λ es. a.entries ++ es) (sym (map_both Own first.reservations second.reservations));
-      requests = map_both asked first.reservations second.reservations ∙ (λ i. first.requests i ++ second.requests i) ∙ sym (requests_both cs ds);
-      callers = All-append (λ (r : Reservation). r.caller ≡ a.number) first.reservations second.reservations first.callers (subst (λ n. All (λ (r : Reservation). r.caller ≡ n) second.reservations) first.number second.callers);
+      entries = second.entries ∙ ap (λ es. es ++ map Own second.reservations) first.entries
+          ∙ append_assoc a.entries (map Own first.reservations) (map Own second.reservations)
+          ∙ ap (λ es. a.entries ++ es) (sym (map_both Own first.reservations second.reservations));
+      requests = map_both asked first.reservations second.reservations
+          ∙ (λ i. first.requests i ++ second.requests i) ∙ sym (requests_both cs ds);
+      callers = All-append (λ (r : Reservation). r.caller ≡ a.number) first.reservations
+          second.reservations first.callers
+          (subst (λ n. All (λ (r : Reservation). r.caller ≡ n) second.reservations) first.number
+          second.callers);
       left = omega (arith, first.left, second.left, sum_by-append cost cs ds);
-      within = within_both a.left cs ds first.within (subst (λ n. FitCredit n ds) (omega (arith, first.left)) second.within);
+      within = within_both a.left cs ds first.within
+          (subst (λ n. FitCredit n ds) (omega (arith, first.left)) second.within);
     }
 
 module _ (shared : Shared) (before after : Reserver) (n : ℕ) where
   -- what was given
-  pub served_gains : (hs : List Handle) (c : Command) → IsReply shared before after n (Ok hs) → (0 < n → stands_for c ≡ (n, Ok hs) ∷ []) → (n ≡ 0 → hs ≡ [] → stands_for c ≡ []) → (n ≤ before.own.left → FitsCredit before.own.left c) → Gains before.own (c ∷ []) after.own
+  pub served_gains : (hs : List Handle) (c : Command) → IsReply shared before after n (Ok hs)
+      → (0 < n → stands_for c ≡ (n, Ok hs) ∷ []) → (n ≡ 0 → hs ≡ [] → stands_for c ≡ [])
+      → (n ≤ before.own.left → FitsCredit before.own.left c) → Gains before.own (c ∷ []) after.own
   served_gains hs c answers one none within =
       elim (cases_lt before.own.left n) [
         | inl short ↦ let no = (answers.quota short).0 in absurd (cc)
         | inr enough ↦ elim (cases_lt 0 n) [
           | inl some ↦
               let g = answers.gains some enough in
-              let asks : stands_for c ≡ (n, (reservation_at before.own g.high n).reply) ∷ [] = one some ∙ ap (λ r. (n, r) ∷ []) (sym g.recorded) in
-              subst (λ (r : Reserver). Gains before.own (c ∷ []) r.own) (sym g.after) (gains_one before.own g.high n c enough asks (within enough))
+              let asks : stands_for c ≡ (n, (reservation_at before.own g.high n).reply)
+              ∷ [] = one some ∙ ap (λ r. (n, r) ∷ []) (sym g.recorded) in
+              subst (λ (r : Reserver). Gains before.own (c ∷ []) r.own) (sym g.after)
+              (gains_one before.own g.high n c enough asks (within enough))
           | inr nothing ↦
               let empty = answers.nothing (omega arith) in
               let same : hs ≡ [] = let e = empty.0 in cc in
-              subst (λ (r : Reserver). Gains before.own (c ∷ []) r.own) (sym empty.1) (gains_none before.own c (none (omega arith) same) (within enough))
+              subst (λ (r : Reserver). Gains before.own (c ∷ []) r.own) (sym empty.1)
+              (gains_none before.own c (none (omega arith) same) (within enough))
         ]
       ]
 
   -- what was refused
-  pub refused_gains : (why : Refusal) → IsReply shared before after n (Err why) → Gains before.own (Refused n why ∷ []) after.own
+  pub refused_gains : (why : Refusal) → IsReply shared before after n (Err why)
+      → Gains before.own (Refused n why ∷ []) after.own
   refused_gains (Space wanted left) answers =
       elim (cases_lt before.own.left n) [
         | inl short ↦ let no = (answers.quota short).0 in absurd (cc)
         | inr enough ↦ elim (cases_lt 0 n) [
           | inl some ↦
               let g = answers.gains some enough in
-              let asks : stands_for (Refused n (Space wanted left)) ≡ (n, (reservation_at before.own g.high n).reply) ∷ [] = ap (λ r. (n, r) ∷ []) (sym g.recorded) in
-              subst (λ (r : Reserver). Gains before.own (Refused n (Space wanted left) ∷ []) r.own) (sym g.after) (gains_one before.own g.high n (Refused n (Space wanted left)) enough asks enough)
+              let asks : stands_for (Refused n (Space wanted left))
+              ≡ (n, (reservation_at before.own g.high n).reply) ∷ [] = ap (λ r. (n, r) ∷ [])
+              (sym g.recorded) in
+              subst (λ (r : Reserver). Gains before.own (Refused n (Space wanted left) ∷ []) r.own)
+              (sym g.after) (gains_one before.own g.high n (Refused n (Space wanted left))
+              enough asks enough)
           | inr nothing ↦ let no = (answers.nothing (omega arith)).0 in absurd (cc)
         ]
       ]
@@ -126,7 +157,8 @@ module _ (shared : Shared) (before after : Reserver) (n : ℕ) where
         | inl short ↦
             let q = answers.quota short in
             let rest : left ≡ before.own.left = let e = q.0 in cc in
-            subst (λ (r : Reserver). Gains before.own (Refused n (Quota left) ∷ []) r.own) (sym q.1) (gains_none before.own (Refused n (Quota left)) refl (rest, short))
+            subst (λ (r : Reserver). Gains before.own (Refused n (Quota left) ∷ []) r.own) (sym q.1)
+            (gains_none before.own (Refused n (Quota left)) refl (rest, short))
         | inr enough ↦ elim (cases_lt 0 n) [
           | inl some ↦ absurd (answers.gains some enough).recorded
           | inr nothing ↦ let no = (answers.nothing (omega arith)).0 in absurd (cc)
@@ -134,29 +166,45 @@ module _ (shared : Shared) (before after : Reserver) (n : ℕ) where
       ]
 
 -- what one reservation of a single handle says
-pub answers_alone : (shared : Shared) (before after : Reserver) (result : Result Handle Refusal) → (before.own.left ≡ 0 → (result ≡ Err (Quota 0)) × (after ≡ before)) → (0 < before.own.left → Reserves shared before after 1 (listed_alone result)) → IsReply shared before after 1 (listed_alone result)
-answers_alone shared before after result quota gains = record {
-  quota = λ short. let none : before.own.left ≡ 0 = omega arith in (ap listed_alone (quota none).0 ∙ ap (λ n. Err (Quota n)) (sym none), (quota none).1);
+pub replies_alone : (shared : Shared) (before after : Reserver) (result : Result Handle Refusal)
+    → (before.own.left ≡ 0 → (result ≡ Err (Quota 0)) × (after ≡ before))
+    → (0 < before.own.left → Reserves shared before after 1 (listed_alone result))
+    → IsReply shared before after 1 (listed_alone result)
+replies_alone shared before after result quota gains = record {
+  quota = λ short. let none : before.own.left ≡ 0 = omega arith in (
+    ap listed_alone (quota none).0
+        ∙ ap (λ n. Err (Quota n)) (sym none),
+    (quota none).1,
+  );
   nothing = λ e. absurd (omega arith);
   gains = λ some enough. gains enough;
 }
 
-space_wanted : (made : ℕ) (pool : List Handle) (n wanted left : ℕ) → reply_from made pool n ≡ Err (record { wanted = wanted; left = left }) → wanted ≡ n
+space_wanted : (made : ℕ) (pool : List Handle) (n wanted left : ℕ) → reply_from made pool n
+    ≡ Err (record { wanted = wanted; left = left }) → wanted ≡ n
 space_wanted made pool n wanted left e = by (nat_le n (length pool)) e
   where
-    by : (b : Bool) → cond {A = Result (List Handle) OutOfSpace} b (Ok (listed made (take n pool))) (Err (record { wanted = n; left = length pool })) ≡ Err (record { wanted = wanted; left = left }) → wanted ≡ n
+    by : (b : Bool) → cond {A = Result (List Handle) OutOfSpace} b (Ok (listed made (take n pool)))
+        (Err (record { wanted = n; left = length pool }))
+        ≡ Err (record { wanted = wanted; left = left }) → wanted ≡ n
     by true e = absurd (cc)
-    by false e = let same : ◌≡◌ {A = OutOfSpace} (record { wanted = n; left = length pool }) (record { wanted = wanted; left = left }) = cc in sym (ap (λ (s : OutOfSpace). s.wanted) same)
+    by false e = let same : ◌≡◌ {A = OutOfSpace} (record { wanted = n; left = length pool })
+        (record { wanted = wanted; left = left }) = cc in
+        sym (ap (λ (s : OutOfSpace). s.wanted) same)
 
 -- a refusal by the pool says how many handles were requested
-pub is_refusal : (shared : Shared) (before after : Reserver) (n : ℕ) (why : Refusal) → IsReply shared before after n (Err why) → HasRange why → IsRefusal n why
+pub is_refusal : (shared : Shared) (before after : Reserver) (n : ℕ) (why : Refusal)
+    → IsReply shared before after n (Err why) → HasRange why → IsRefusal n why
 is_refusal shared before after n (Space wanted left) answers range =
     elim (cases_lt before.own.left n) [
       | inl short ↦ let no = (answers.quota short).0 in absurd (cc)
       | inr enough ↦ elim (cases_lt 0 n) [
         | inl some ↦
-            let g = answers.gains some enough in
-            (space_wanted shared.start.made (pool_at shared.start g.high) n wanted left (sym g.reply ∙ g.recorded), range)
+            let g = answers.gains some enough in (
+              space_wanted shared.start.made (pool_at shared.start g.high) n wanted left (sym g.reply
+                  ∙ g.recorded),
+              range,
+            )
         | inr nothing ↦ let no = (answers.nothing (omega arith)).0 in absurd (cc)
       ]
     ]

@@ -22,16 +22,30 @@ pub record Added (old new : List Command) (before after : Record) : Type 0 where
   pub queue : new ≡ old ++ added
   pub gains : Gains before added after
 
-many_request : (hs : List Handle) (items : Bundle) (n : ℕ) → length hs ≡ n → 0 < n → stands_for (SpawnMany hs items) ≡ (n, Ok hs) ∷ []
+many_request : (hs : List Handle) (items : Bundle) (n : ℕ) → length hs ≡ n → 0 < n
+    → stands_for (SpawnMany hs items) ≡ (n, Ok hs) ∷ []
 many_request [] items n e some = absurd (omega arith)
 many_request (h ∷ hs) items n e some = ap (λ k. (k, Ok (h ∷ hs)) ∷ []) e
 
 -- a command that reserves nothing, or no command
-pub added_none : (r : Record) (c : Command) (result : Result (Unit {0}) Memory) (old new : List Command) → stands_for c ≡ [] → FitsCredit r.left c → OnOk result (new ≡ old ++ c ∷ []) → OnErr result (new ≡ old) → Added old new r r
-added_none r c (Ok u) old new none within ok err = record { added = c ∷ []; queue = ok; gains = gains_none r c none within }
-added_none r c (Err e) old new none within ok err = record { added = []; queue = err ∙ sym (append-nil old); gains = gains_nothing r }
+pub added_none : (r : Record) (c : Command) (result : Result (Unit {0}) Memory)
+    (old new : List Command) → stands_for c ≡ [] → FitsCredit r.left c
+    → OnOk result (new ≡ old ++ c ∷ []) → OnErr result (new ≡ old) → Added old new r r
+added_none r c (Ok u) old new none within ok err = record {
+  added = c ∷ [];
+  queue = ok;
+  gains =
+      gains_none r c none within;
+}
+added_none r c (Err e) old new none within ok err = record {
+  added = [];
+  queue = err
+      ∙ sym (append-nil old);
+  gains = gains_nothing r;
+}
 
-pub queued_ok : (answer : Result (List Handle) Refusal) (hs : List Handle) → Ok hs ≡ queued answer → Ok hs ≡ answer
+pub queued_ok : (answer : Result (List Handle) Refusal) (hs : List Handle) → Ok hs ≡ queued answer
+    → Ok hs ≡ answer
 queued_ok (Ok gs) hs e = let same : hs ≡ gs = cc in ap Ok same
 queued_ok (Err why) hs e = absurd (cc)
 
@@ -39,22 +53,66 @@ same_fault : (f g : QueueFault) → ◌≡◌ {A = Result (List Handle) QueueFau
 same_fault f g e = cc
 
 module _ (shared : Shared) (before after : Reserver) (old new : List Command) where
-  added_refusal : (n : ℕ) (f : QueueFault) → new ≡ old ++ refused_by n f → (f ≡ fault.Memory → after ≡ before) → ((why : Refusal) → Err f ≡ queued {X = List Handle} (Err why) → IsReply shared before after n (Err why)) → Added old new before.own after.own
+  added_refusal : (n : ℕ) (f : QueueFault) → new ≡ old ++ refused_by n f
+      → (f ≡ fault.Memory → after ≡ before)
+      → ((why : Refusal) → Err f ≡ queued {X = List Handle} (Err why) → IsReply shared before after
+      n (Err why)) → Added old new before.own after.own
   added_refusal n (fault.Space wanted left) queue memory answers =
-      record { added = Refused n (Space wanted left) ∷ []; queue = queue; gains = refused_gains shared before after n (Space wanted left) (answers (Space wanted left) refl) }
+      record {
+        added = Refused n (Space wanted left) ∷ [];
+        queue = queue;
+        gains =
+            refused_gains shared before after n (Space wanted left)
+            (answers (Space wanted left) refl);
+      }
   added_refusal n (fault.Quota left) queue memory answers =
-      record { added = Refused n (Quota left) ∷ []; queue = queue; gains = refused_gains shared before after n (Quota left) (answers (Quota left) refl) }
+      record {
+        added = Refused n (Quota left) ∷ [];
+        queue = queue;
+        gains = refused_gains shared
+            before after n (Quota left) (answers (Quota left) refl);
+      }
   added_refusal n fault.Memory queue memory answers =
-      record { added = []; queue = queue; gains = subst (λ (r : Reserver). Gains before.own [] r.own) (sym (memory refl)) (gains_nothing before.own) }
+      record {
+        added = [];
+        queue = queue;
+        gains =
+            subst (λ (r : Reserver). Gains before.own [] r.own) (sym (memory refl))
+            (gains_nothing before.own);
+      }
 
-  pub added_spawn : (items : Bundle) (result : Result Handle QueueFault) → IfOk result (λ h. new ≡ old ++ Spawn h items ∷ []) → IfErr result (λ f. new ≡ old ++ refused_by 1 f) → (IsErrOf result fault.Memory → after ≡ before) → ((answer : Result Handle Refusal) → result ≡ queued answer → IsReply shared before after 1 (listed_alone answer)) → Added old new before.own after.own
+  pub added_spawn : (items : Bundle) (result : Result Handle QueueFault)
+      → IfOk result (λ h. new ≡ old ++ Spawn h items ∷ [])
+      → IfErr result (λ f. new ≡ old ++ refused_by 1 f) → (IsErrOf result fault.Memory → after
+      ≡ before) → ((answer : Result Handle Refusal) → result ≡ queued answer
+      → IsReply shared before after 1 (listed_alone answer)) → Added old new before.own after.own
   added_spawn items (Ok h) ok refused memory answers =
-      record { added = Spawn h items ∷ []; queue = ok; gains = served_gains shared before after 1 (h ∷ []) (Spawn h items) (answers (Ok h) refl) (λ some. refl) (λ none. absurd (omega arith)) (λ enough. enough) }
+      record {
+        added = Spawn h items ∷ [];
+        queue = ok;
+        gains = served_gains shared before after 1
+            (h ∷ []) (Spawn h items) (answers (Ok h) refl) (λ some. refl)
+            (λ none. absurd (omega arith)) (λ enough. enough);
+      }
   added_spawn items (Err f) ok refused memory answers =
-      added_refusal 1 f refused (λ e. memory (ap Err e)) (λ why e. answers (Err why) (ap Err (same_fault f (as_fault why) e)))
+      added_refusal 1 f refused (λ e. memory (ap Err e))
+      (λ why e. answers (Err why) (ap Err (same_fault f (as_fault why) e)))
 
-  pub added_many : (n : ℕ) (items : Bundle) (result : Result (Vec Handle Global) QueueFault) → IfOk result (λ hs. new ≡ old ++ SpawnMany hs.items items ∷ []) → IfErr result (λ f. new ≡ old ++ refused_by n f) → (IsErrOf result fault.Memory → after ≡ before) → ((answer : Result (List Handle) Refusal) → as_list result ≡ queued answer → IsReply shared before after n answer) → IfOk result (λ hs. length hs.items ≡ n) → Added old new before.own after.own
+  pub added_many : (n : ℕ) (items : Bundle) (result : Result (Vec Handle Global) QueueFault)
+      → IfOk result (λ hs. new ≡ old ++ SpawnMany hs.items items ∷ [])
+      → IfErr result (λ f. new ≡ old ++ refused_by n f) → (IsErrOf result fault.Memory → after
+      ≡ before) → ((answer : Result (List Handle) Refusal) → as_list result ≡ queued answer
+      → IsReply shared before after n answer) → IfOk result (λ hs. length hs.items ≡ n)
+      → Added old new before.own after.own
   added_many n items (Ok hs) ok refused memory answers number =
-      record { added = SpawnMany hs.items items ∷ []; queue = ok; gains = served_gains shared before after n hs.items (SpawnMany hs.items items) (answers (Ok hs.items) refl) (λ some. many_request hs.items items n number some) (λ none empty. ap (λ gs. stands_for (SpawnMany gs items)) empty) (λ enough. subst (λ k. k ≤ before.own.left) (sym number) enough) }
+      record {
+        added = SpawnMany hs.items items ∷ [];
+        queue = ok;
+        gains = served_gains shared before
+            after n hs.items (SpawnMany hs.items items) (answers (Ok hs.items) refl)
+            (λ some. many_request hs.items items n number some)
+            (λ none empty. ap (λ gs. stands_for (SpawnMany gs items)) empty)
+            (λ enough. subst (λ k. k ≤ before.own.left) (sym number) enough);
+      }
   added_many n items (Err f) ok refused memory answers number =
       added_refusal n f refused (λ e. memory (ap Err e)) (λ why e. answers (Err why) e)

@@ -61,8 +61,11 @@ handle_of_bits-bits h is =
     let generation = shr_high h.generation 32 h.index below in
     λ i. record { index = index i; generation = generation i }
 
-pub unpacked_handle-bytes : (h : Handle) (rest : List ℕ) → IsHandle h → unpacked_handle (handle_bytes h ++ rest) ≡ h
-unpacked_handle-bytes h rest is = ap handle_of_bits (number_8-bytes (bits h) rest (bits_below h is)) ∙ handle_of_bits-bits h is
+pub unpacked_handle-bytes : (h : Handle) (rest : List ℕ) → IsHandle h
+    → unpacked_handle (handle_bytes h ++ rest) ≡ h
+unpacked_handle-bytes h rest is = ap handle_of_bits (number_8-bytes (bits h) rest (bits_below h is))
+    ∙ handle_of_bits-bits h is
 
 pub unpacked_handle-alone : (h : Handle) → IsHandle h → unpacked_handle (handle_bytes h) ≡ h
-unpacked_handle-alone h is = ap handle_of_bits (number_8-alone (bits h) (bits_below h is)) ∙ handle_of_bits-bits h is
+unpacked_handle-alone h is = ap handle_of_bits (number_8-alone (bits h) (bits_below h is))
+    ∙ handle_of_bits-bits h is

@@ -21,18 +21,30 @@ use Rattle.ent_queue.proofs.Numbers.{unpacked_handle-alone}
 pub length-handles : (hs : List Handle) → length (flat_map handle_bytes hs) ≡ 8 * length hs
 length-handles [] = refl
 length-handles (h ∷ hs) =
-    length-append (handle_bytes h) (flat_map handle_bytes hs) ∙ omega (arith, length-bytes_8 (bits h), length-handles hs)
+    length-append (handle_bytes h) (flat_map handle_bytes hs)
+    ∙ omega (arith, length-bytes_8 (bits h), length-handles hs)
 
-pub unpacked_handles-bytes : (hs : List Handle) (rest : List ℕ) → All IsHandle hs → unpacked_handles (length hs) (flat_map handle_bytes hs ++ rest) ≡ hs
+pub unpacked_handles-bytes : (hs : List Handle) (rest : List ℕ) → All IsHandle hs
+    → unpacked_handles (length hs) (flat_map handle_bytes hs ++ rest) ≡ hs
 unpacked_handles-bytes [] rest all = refl
 unpacked_handles-bytes (h ∷ hs) rest all =
-    rw (append_assoc (handle_bytes h) (flat_map handle_bytes hs) rest, take-bytes_8, drop-bytes_8, unpacked_handle-alone h (All-head IsHandle h hs all), unpacked_handles-bytes hs rest (All-tail IsHandle h hs all)) refl
+    rw (
+      append_assoc (handle_bytes h) (flat_map handle_bytes hs) rest,
+      take-bytes_8,
+      drop-bytes_8,
+      unpacked_handle-alone h (All-head IsHandle h hs all),
+      unpacked_handles-bytes hs rest
+          (All-tail IsHandle h hs all),
+    ) refl
 
-pub drop-handles : (hs : List Handle) (rest : List ℕ) → drop (8 * length hs) (flat_map handle_bytes hs ++ rest) ≡ rest
+pub drop-handles : (hs : List Handle) (rest : List ℕ)
+    → drop (8 * length hs) (flat_map handle_bytes hs ++ rest) ≡ rest
 drop-handles hs rest =
-    ap (λ n. drop n (flat_map handle_bytes hs ++ rest)) (sym (length-handles hs)) ∙ drop-append_seam (flat_map handle_bytes hs) rest
+    ap (λ n. drop n (flat_map handle_bytes hs ++ rest)) (sym (length-handles hs))
+    ∙ drop-append_seam (flat_map handle_bytes hs) rest
 
-take-item : (item : ComponentId × ℤ) (rest : List ℕ) → take 9 (item_bytes item ++ rest) ≡ item_bytes item
+take-item : (item : ComponentId × ℤ) (rest : List ℕ) → take 9 (item_bytes item ++ rest)
+    ≡ item_bytes item
 take-item item rest = ap (λ bytes. item.0.0 ∷ bytes) (take-bytes_8 (cast_unsigned w64 item.1) rest)
 
 drop-item : (item : ComponentId × ℤ) (rest : List ℕ) → drop 9 (item_bytes item ++ rest) ≡ rest
@@ -41,32 +53,46 @@ drop-item item rest = drop-bytes_8 (cast_unsigned w64 item.1) rest
 pub unsigned_below : (z : ℤ) → FitsSigned w64 z → cast_unsigned w64 z < 2 ^ 64
 unsigned_below z fits = Fits-lt-pow (Fits-of_z fits)
 
-unpacked_item-alone : (item : ComponentId × ℤ) → IsItem item → unpacked_item (item_bytes item) ≡ item
+unpacked_item-alone : (item : ComponentId × ℤ) → IsItem item → unpacked_item (item_bytes item)
+    ≡ item
 unpacked_item-alone item is =
-    let value = ap (cast_signed w64) (number_8-alone (cast_unsigned w64 item.1) (unsigned_below item.1 is.value)) ∙ to_z-of_z w64 item.1 is.value in
+    let value = ap (cast_signed w64) (number_8-alone (cast_unsigned w64 item.1)
+    (unsigned_below item.1 is.value)) ∙ to_z-of_z w64 item.1 is.value in
     λ i. (item.0, value i)
 
 pub length-items : (items : Bundle) → length (flat_map item_bytes items) ≡ 9 * length items
 length-items [] = refl
 length-items (item ∷ items) =
-    length-append (item_bytes item) (flat_map item_bytes items) ∙ omega (arith, length-bytes_8 (cast_unsigned w64 item.1), length-items items)
+    length-append (item_bytes item) (flat_map item_bytes items)
+    ∙ omega (arith, length-bytes_8 (cast_unsigned w64 item.1), length-items items)
 
-pub items_in-bytes : (items : Bundle) (rest : List ℕ) → All IsItem items → map unpacked_item (first_chunks 9 (length items) (flat_map item_bytes items ++ rest)) ≡ items
+pub items_in-bytes : (items : Bundle) (rest : List ℕ) → All IsItem items
+    → map unpacked_item (first_chunks 9 (length items) (flat_map item_bytes items ++ rest)) ≡ items
 items_in-bytes [] rest all = refl
 items_in-bytes (item ∷ items) rest all =
     let more = flat_map item_bytes items ++ rest in
-    let regroup : flat_map item_bytes (item ∷ items) ++ rest ≡ item_bytes item ++ more = append_assoc (item_bytes item) (flat_map item_bytes items) rest in
-    let first : unpacked_item (take 9 (item_bytes item ++ more)) ≡ item = ap unpacked_item (take-item item more) ∙ unpacked_item-alone item (All-head IsItem item items all) in
-    let others : map unpacked_item (first_chunks 9 (length items) (drop 9 (item_bytes item ++ more))) ≡ items = ap (λ bytes. map unpacked_item (first_chunks 9 (length items) bytes)) (drop-item item more) ∙ items_in-bytes items rest (All-tail IsItem item items all) in
-    ap (λ bytes. map unpacked_item (first_chunks 9 (suc (length items)) bytes)) regroup ∙ (λ i. first i ∷ others i)
+    let regroup : flat_map item_bytes (item ∷ items) ++ rest ≡ item_bytes item
+    ++ more = append_assoc (item_bytes item) (flat_map item_bytes items) rest in
+    let first : unpacked_item (take 9 (item_bytes item ++ more))
+    ≡ item = ap unpacked_item (take-item item more)
+    ∙ unpacked_item-alone item (All-head IsItem item items all) in
+    let others : map unpacked_item
+    (first_chunks 9 (length items) (drop 9 (item_bytes item ++ more)))
+    ≡ items = ap (λ bytes. map unpacked_item (first_chunks 9 (length items) bytes))
+    (drop-item item more) ∙ items_in-bytes items rest (All-tail IsItem item items all) in
+    ap (λ bytes. map unpacked_item (first_chunks 9 (suc (length items)) bytes)) regroup
+    ∙ (λ i. first i ∷ others i)
 
-pub drop-items : (items : Bundle) (rest : List ℕ) → drop (9 * length items) (flat_map item_bytes items ++ rest) ≡ rest
+pub drop-items : (items : Bundle) (rest : List ℕ)
+    → drop (9 * length items) (flat_map item_bytes items ++ rest) ≡ rest
 drop-items items rest =
-    ap (λ n. drop n (flat_map item_bytes items ++ rest)) (sym (length-items items)) ∙ drop-append_seam (flat_map item_bytes items) rest
+    ap (λ n. drop n (flat_map item_bytes items ++ rest)) (sym (length-items items))
+    ∙ drop-append_seam (flat_map item_bytes items) rest
 
 pub length-bundle : (items : Bundle) → length (bundle_bytes items) ≡ 2 + 9 * length items
 length-bundle items =
-    length-append (bytes_2 (length items)) (flat_map item_bytes items) ∙ omega (arith, length-bytes_2 (length items), length-items items)
+    length-append (bytes_2 (length items)) (flat_map item_bytes items)
+    ∙ omega (arith, length-bytes_2 (length items), length-items items)
 
 -- What a bundle's bytes say of the bytes that begin with them.
 pub record BundleBegins (items : Bundle) (bytes rest : List ℕ) : Type 0 where
@@ -75,14 +101,19 @@ pub record BundleBegins (items : Bundle) (bytes rest : List ℕ) : Type 0 where
   pub length_is : length bytes ≡ 2 + 9 * length items + length rest
   pub rest_is : drop (9 * length items) (drop 2 bytes) ≡ rest
 
-pub bundle_begins : (items : Bundle) (rest bytes : List ℕ) → All IsItem items → length items < 2 ^ 16 → bytes ≡ bundle_bytes items ++ rest → BundleBegins items bytes rest
+pub bundle_begins : (items : Bundle) (rest bytes : List ℕ) → All IsItem items → length items
+    < 2 ^ 16 → bytes ≡ bundle_bytes items ++ rest → BundleBegins items bytes rest
 bundle_begins items rest bytes all few e =
-    let regroup : bytes ≡ bytes_2 (length items) ++ (flat_map item_bytes items ++ rest) = e ∙ append_assoc (bytes_2 (length items)) (flat_map item_bytes items) rest in
-    let count : number_2 bytes ≡ length items = ap number_2 regroup ∙ number_2-bytes (length items) _ few in
-    let after : drop 2 bytes ≡ flat_map item_bytes items ++ rest = ap (drop 2) regroup ∙ drop-bytes_2 (length items) _ in
+    let regroup : bytes ≡ bytes_2 (length items) ++ (flat_map item_bytes items ++ rest) = e
+    ∙ append_assoc (bytes_2 (length items)) (flat_map item_bytes items) rest in
+    let count : number_2 bytes ≡ length items = ap number_2 regroup ∙ number_2-bytes (length items)
+    _ few in
+    let after : drop 2 bytes ≡ flat_map item_bytes items ++ rest = ap (drop 2) regroup
+    ∙ drop-bytes_2 (length items) _ in
     record {
       count = count;
       items_are = rw (count, after) (items_in-bytes items rest all);
-      length_is = ap length e ∙ length-append (bundle_bytes items) rest ∙ ap (λ n. n + length rest) (length-bundle items);
+      length_is = ap length e ∙ length-append (bundle_bytes items) rest
+          ∙ ap (λ n. n + length rest) (length-bundle items);
       rest_is = rw after (drop-items items rest);
     }

@@ -10,25 +10,34 @@ use Rattle.ent_queue.specs.Packing.{command_bytes, queue_bytes, bytes_4, handle_
 use Rattle.ent_queue.specs.Unpacking.{unpacked_commands, ArePacked}
 use Rattle.ent_queue.proofs.Queues.{unpacked_commands-bytes, are_packed, length_of_commands}
 
-queue_bytes-push : (cs : List Command) (c : Command) → queue_bytes (cs ++ c ∷ []) ≡ queue_bytes cs ++ command_bytes c
+queue_bytes-push : (cs : List Command) (c : Command) → queue_bytes (cs ++ c ∷ []) ≡ queue_bytes cs
+    ++ command_bytes c
 queue_bytes-push [] c = append-nil (command_bytes c)
 queue_bytes-push (d ∷ cs) c =
-    ap (λ bytes. command_bytes d ++ bytes) (queue_bytes-push cs c) ∙ sym (append_assoc (command_bytes d) (queue_bytes cs) (command_bytes c))
+    ap (λ bytes. command_bytes d ++ bytes) (queue_bytes-push cs c)
+    ∙ sym (append_assoc (command_bytes d) (queue_bytes cs) (command_bytes c))
 
 -- The bytes of some commands, and then those of one more, are those of one more command.
 pub record Pushed (count : ℕ) (bytes : List ℕ) (c : Command) : Type 0 where
   pub packed : ArePacked (count + 1) (bytes ++ command_bytes c)
-  pub commands : unpacked_commands (count + 1) (bytes ++ command_bytes c) ≡ unpacked_commands count bytes ++ c ∷ []
+  pub commands : unpacked_commands (count + 1) (bytes ++ command_bytes c)
+      ≡ unpacked_commands count bytes ++ c ∷ []
 
-pub pushed : (count : ℕ) (bytes : List ℕ) (c : Command) → ArePacked count bytes → IsCommand c → Pushed count bytes c
+pub pushed : (count : ℕ) (bytes : List ℕ) (c : Command) → ArePacked count bytes → IsCommand c
+    → Pushed count bytes c
 pushed count bytes c packed is =
     let cs = unpacked_commands count bytes in
     let all : All IsCommand (cs ++ c ∷ []) = All-push IsCommand cs c packed.each is in
-    let whole : queue_bytes (cs ++ c ∷ []) ≡ bytes ++ command_bytes c = queue_bytes-push cs c ∙ ap (λ bs. bs ++ command_bytes c) (sym packed.bytes_are) in
-    let number : length (cs ++ c ∷ []) ≡ count + 1 = length-append cs (c ∷ []) ∙ ap (λ n. n + 1) (length_of_commands count bytes) in
+    let whole : queue_bytes (cs ++ c ∷ []) ≡ bytes ++ command_bytes c = queue_bytes-push cs c
+    ∙ ap (λ bs. bs ++ command_bytes c) (sym packed.bytes_are) in
+    let number : length (cs ++ c ∷ []) ≡ count + 1 = length-append cs (c ∷ [])
+    ∙ ap (λ n. n + 1) (length_of_commands count bytes) in
     record {
-      packed = subst (λ n. ArePacked n (bytes ++ command_bytes c)) number (subst (ArePacked (length (cs ++ c ∷ []))) whole (are_packed (cs ++ c ∷ []) all));
-      commands = ap (λ n. unpacked_commands n (bytes ++ command_bytes c)) (sym number) ∙ ap (unpacked_commands (length (cs ++ c ∷ []))) (sym whole) ∙ unpacked_commands-bytes (cs ++ c ∷ []) all;
+      packed = subst (λ n. ArePacked n (bytes ++ command_bytes c)) number
+          (subst (ArePacked (length (cs ++ c ∷ []))) whole (are_packed (cs ++ c ∷ []) all));
+      commands = ap (λ n. unpacked_commands n (bytes ++ command_bytes c)) (sym number)
+          ∙ ap (unpacked_commands (length (cs ++ c ∷ []))) (sym whole)
+          ∙ unpacked_commands-bytes (cs ++ c ∷ []) all;
     }
 
 some_bytes : (c : Command) → 1 ≤ length (command_bytes c)
@@ -41,19 +50,33 @@ some_bytes (Refused wanted why) = omega arith
 
 counted : (cs : List Command) → length cs ≤ length (queue_bytes cs)
 counted [] = omega arith
-counted (c ∷ cs) = omega (arith, length-append (command_bytes c) (queue_bytes cs), some_bytes c, counted cs)
+counted (c ∷ cs) = omega (
+  arith,
+  length-append (command_bytes c) (queue_bytes cs),
+  some_bytes c,
+  counted cs,
+)
 
 -- there are no more commands than bytes
 pub count_le_bytes : (count : ℕ) (bytes : List ℕ) → ArePacked count bytes → count ≤ length bytes
 count_le_bytes count bytes packed =
-    omega (arith, counted (unpacked_commands count bytes), length_of_commands count bytes, ap length packed.bytes_are)
+    omega (
+      arith,
+      counted (unpacked_commands count bytes),
+      length_of_commands count bytes,
+      ap length
+          packed.bytes_are,
+    )
 
 pub nothing_packed : ArePacked 0 []
 nothing_packed = are_packed [] (All-nil IsCommand)
 
 -- the bytes of a spawn of many, part by part
-pub many_written : (old : List ℕ) (hs : List Handle) (items : Bundle) (n : ℕ) → length hs ≡ n → (old ++ 1 ∷ (bytes_4 n ++ flat_map handle_bytes hs)) ++ bundle_bytes items ≡ old ++ command_bytes (SpawnMany hs items)
+pub many_written : (old : List ℕ) (hs : List Handle) (items : Bundle) (n : ℕ) → length hs ≡ n
+    → (old ++ 1 ∷ (bytes_4 n ++ flat_map handle_bytes hs)) ++ bundle_bytes items ≡ old
+    ++ command_bytes (SpawnMany hs items)
 many_written old hs items n e =
     append_assoc old (1 ∷ (bytes_4 n ++ flat_map handle_bytes hs)) (bundle_bytes items)
-    ∙ ap (λ bytes. old ++ 1 ∷ bytes) (append_assoc (bytes_4 n) (flat_map handle_bytes hs) (bundle_bytes items))
+    ∙ ap (λ bytes. old ++ 1 ∷ bytes) (append_assoc (bytes_4 n) (flat_map handle_bytes hs)
+    (bundle_bytes items))
     ∙ ap (λ k. old ++ 1 ∷ (bytes_4 k ++ (flat_map handle_bytes hs ++ bundle_bytes items))) (sym e)

@@ -31,14 +31,19 @@ pub record WithBundle (h : Handle) (items : Bundle) (parts rest : List ℕ) : Ty
   pub handle : unpacked_handle parts ≡ h
   pub bundle : BundleBegins items (drop 8 parts) rest
 
-pub with_bundle : (h : Handle) (items : Bundle) (parts rest : List ℕ) → IsHandle h → IsBundle items → parts ≡ (handle_bytes h ++ bundle_bytes items) ++ rest → WithBundle h items parts rest
+pub with_bundle : (h : Handle) (items : Bundle) (parts rest : List ℕ) → IsHandle h → IsBundle items
+    → parts ≡ (handle_bytes h ++ bundle_bytes items) ++ rest → WithBundle h items parts rest
 with_bundle h items parts rest is bundle e =
-    let regroup : parts ≡ handle_bytes h ++ (bundle_bytes items ++ rest) = e ∙ append_assoc (handle_bytes h) (bundle_bytes items) rest in
-    let after : drop 8 parts ≡ bundle_bytes items ++ rest = ap (drop 8) regroup ∙ drop-bytes_8 (bits h) (bundle_bytes items ++ rest) in
+    let regroup : parts ≡ handle_bytes h ++ (bundle_bytes items ++ rest) = e
+    ∙ append_assoc (handle_bytes h) (bundle_bytes items) rest in
+    let after : drop 8 parts ≡ bundle_bytes items ++ rest = ap (drop 8) regroup
+    ∙ drop-bytes_8 (bits h) (bundle_bytes items ++ rest) in
     record {
-      length_is = ap length regroup ∙ length-append (handle_bytes h) (bundle_bytes items ++ rest) ∙ omega (arith, length-bytes_8 (bits h), ap length after);
+      length_is = ap length regroup ∙ length-append (handle_bytes h) (bundle_bytes items ++ rest)
+          ∙ omega (arith, length-bytes_8 (bits h), ap length after);
       handle = ap unpacked_handle regroup ∙ unpacked_handle-bytes h (bundle_bytes items ++ rest) is;
-      bundle = bundle_begins items rest (drop 8 parts) bundle.each (omega (arith, few_items items bundle)) after;
+      bundle = bundle_begins items rest (drop 8 parts) bundle.each
+          (omega (arith, few_items items bundle)) after;
     }
 
 pub record WithHandles (hs : List Handle) (items : Bundle) (parts rest : List ℕ) : Type 0 where
@@ -47,18 +52,35 @@ pub record WithHandles (hs : List Handle) (items : Bundle) (parts rest : List �
   pub handles : unpacked_handles (length hs) (drop 4 parts) ≡ hs
   pub bundle : BundleBegins items (drop (8 * length hs) (drop 4 parts)) rest
 
-pub with_handles : (hs : List Handle) (items : Bundle) (parts rest : List ℕ) → length hs < 2 ^ 32 → All IsHandle hs → IsBundle items → parts ≡ (bytes_4 (length hs) ++ (flat_map handle_bytes hs ++ bundle_bytes items)) ++ rest → WithHandles hs items parts rest
+pub with_handles : (hs : List Handle) (items : Bundle) (parts rest : List ℕ) → length hs < 2 ^ 32
+    → All IsHandle hs → IsBundle items → parts
+    ≡ (bytes_4 (length hs) ++ (flat_map handle_bytes hs ++ bundle_bytes items)) ++ rest
+    → WithHandles hs items parts rest
 with_handles hs items parts rest few all bundle e =
     let more = bundle_bytes items ++ rest in
     let regroup : parts ≡ bytes_4 (length hs) ++ (flat_map handle_bytes hs ++ more) =
-    e ∙ append_assoc (bytes_4 (length hs)) (flat_map handle_bytes hs ++ bundle_bytes items) rest ∙ ap (λ bytes. bytes_4 (length hs) ++ bytes) (append_assoc (flat_map handle_bytes hs) (bundle_bytes items) rest) in
-    let handles : drop 4 parts ≡ flat_map handle_bytes hs ++ more = ap (drop 4) regroup ∙ drop-bytes_4 (length hs) (flat_map handle_bytes hs ++ more) in
-    let after : drop (8 * length hs) (drop 4 parts) ≡ more = ap (drop (8 * length hs)) handles ∙ drop-handles hs more in
+    e ∙ append_assoc (bytes_4 (length hs)) (flat_map handle_bytes hs ++ bundle_bytes items) rest
+    ∙ ap (λ bytes. bytes_4 (length hs) ++ bytes) (append_assoc (flat_map handle_bytes hs)
+    (bundle_bytes items) rest) in
+    let handles : drop 4 parts ≡ flat_map handle_bytes hs ++ more = ap (drop 4) regroup
+    ∙ drop-bytes_4 (length hs) (flat_map handle_bytes hs ++ more) in
+    let after : drop (8 * length hs) (drop 4 parts) ≡ more = ap (drop (8 * length hs)) handles
+    ∙ drop-handles hs more in
     record {
-      count = ap number_4 regroup ∙ number_4-bytes (length hs) (flat_map handle_bytes hs ++ more) few;
-      length_is = ap length regroup ∙ length-append (bytes_4 (length hs)) (flat_map handle_bytes hs ++ more) ∙ omega (arith, length-bytes_4 (length hs), length-append (flat_map handle_bytes hs) more, length-handles hs, ap length after);
+      count = ap number_4 regroup ∙ number_4-bytes (length hs) (flat_map handle_bytes hs ++ more)
+          few;
+      length_is = ap length regroup ∙ length-append (bytes_4 (length hs)) (flat_map handle_bytes hs
+          ++ more) ∙ omega (
+            arith,
+            length-bytes_4 (length hs),
+            length-append
+                (flat_map handle_bytes hs) more,
+            length-handles hs,
+            ap length after,
+          );
       handles = ap (unpacked_handles (length hs)) handles ∙ unpacked_handles-bytes hs more all;
-      bundle = bundle_begins items rest (drop (8 * length hs) (drop 4 parts)) bundle.each (omega (arith, few_items items bundle)) after;
+      bundle = bundle_begins items rest (drop (8 * length hs) (drop 4 parts)) bundle.each
+          (omega (arith, few_items items bundle)) after;
     }
 
 pub record WithComponent (h : Handle) (id : ℕ) (parts rest : List ℕ) : Type 0 where
@@ -67,12 +89,16 @@ pub record WithComponent (h : Handle) (id : ℕ) (parts rest : List ℕ) : Type 
   pub id_is : slice_index (drop 8 parts) 0 ≡ id
   pub rest_is : drop 1 (drop 8 parts) ≡ rest
 
-pub with_component : (h : Handle) (id : ℕ) (parts rest : List ℕ) → IsHandle h → parts ≡ (handle_bytes h ++ id ∷ []) ++ rest → WithComponent h id parts rest
+pub with_component : (h : Handle) (id : ℕ) (parts rest : List ℕ) → IsHandle h → parts
+    ≡ (handle_bytes h ++ id ∷ []) ++ rest → WithComponent h id parts rest
 with_component h id parts rest is e =
-    let regroup : parts ≡ handle_bytes h ++ (id ∷ rest) = e ∙ append_assoc (handle_bytes h) (id ∷ []) rest in
-    let after : drop 8 parts ≡ id ∷ rest = ap (drop 8) regroup ∙ drop-bytes_8 (bits h) (id ∷ rest) in
+    let regroup : parts ≡ handle_bytes h ++ (id ∷ rest) = e ∙ append_assoc (handle_bytes h)
+    (id ∷ []) rest in
+    let after : drop 8 parts ≡ id ∷ rest = ap (drop 8) regroup ∙ drop-bytes_8 (bits h) (id ∷ rest)
+    in
     record {
-      length_is = ap length regroup ∙ length-append (handle_bytes h) (id ∷ rest) ∙ omega (arith, length-bytes_8 (bits h));
+      length_is = ap length regroup ∙ length-append (handle_bytes h) (id ∷ rest)
+          ∙ omega (arith, length-bytes_8 (bits h));
       handle = ap unpacked_handle regroup ∙ unpacked_handle-bytes h (id ∷ rest) is;
       id_is = ap (λ bytes. slice_index bytes 0) after;
       rest_is = ap (drop 1) after;
@@ -83,9 +109,11 @@ pub record HandleAlone (h : Handle) (parts rest : List ℕ) : Type 0 where
   pub handle : unpacked_handle parts ≡ h
   pub rest_is : drop 8 parts ≡ rest
 
-pub handle_alone : (h : Handle) (parts rest : List ℕ) → IsHandle h → parts ≡ handle_bytes h ++ rest → HandleAlone h parts rest
+pub handle_alone : (h : Handle) (parts rest : List ℕ) → IsHandle h → parts ≡ handle_bytes h ++ rest
+    → HandleAlone h parts rest
 handle_alone h parts rest is e = record {
-  length_is = ap length e ∙ length-append (handle_bytes h) rest ∙ omega (arith, length-bytes_8 (bits h));
+  length_is = ap length e ∙ length-append (handle_bytes h) rest
+      ∙ omega (arith, length-bytes_8 (bits h));
   handle = ap unpacked_handle e ∙ unpacked_handle-bytes h rest is;
   rest_is = ap (drop 8) e ∙ drop-bytes_8 (bits h) rest;
 }
@@ -96,71 +124,103 @@ pub record WithReason (wanted : ℕ) (why : Refusal) (parts rest : List ℕ) : T
   pub why_is : unpacked_refusal wanted (drop 4 parts) ≡ why
   pub rest_is : drop 8 (drop 1 (drop 4 parts)) ≡ rest
 
-pub with_reason : (wanted : ℕ) (why : Refusal) (parts rest : List ℕ) → wanted < 2 ^ 32 → IsRefusal wanted why → parts ≡ (bytes_4 wanted ++ refusal_bytes why) ++ rest → WithReason wanted why parts rest
+pub with_reason : (wanted : ℕ) (why : Refusal) (parts rest : List ℕ) → wanted < 2 ^ 32
+    → IsRefusal wanted why → parts ≡ (bytes_4 wanted ++ refusal_bytes why) ++ rest
+    → WithReason wanted why parts rest
 with_reason wanted (Space same left) parts rest few is e =
     let more = 1 ∷ (bytes_8 left ++ rest) in
-    let regroup : parts ≡ bytes_4 wanted ++ more = e ∙ append_assoc (bytes_4 wanted) (1 ∷ bytes_8 left) rest in
+    let regroup : parts ≡ bytes_4 wanted ++ more = e ∙ append_assoc (bytes_4 wanted)
+    (1 ∷ bytes_8 left) rest in
     let after : drop 4 parts ≡ more = ap (drop 4) regroup ∙ drop-bytes_4 wanted more in
-    let read : number_8 (bytes_8 left ++ rest) ≡ left = number_8-bytes left rest (omega (arith, is.1)) in
+    let read : number_8 (bytes_8 left ++ rest) ≡ left = number_8-bytes left rest
+    (omega (arith, is.1)) in
     record {
-      length_is = ap length regroup ∙ length-append (bytes_4 wanted) more ∙ omega (arith, length-bytes_4 wanted, length-append (bytes_8 left) rest, length-bytes_8 left);
+      length_is = ap length regroup ∙ length-append (bytes_4 wanted) more
+          ∙ omega (
+            arith,
+            length-bytes_4 wanted,
+            length-append (bytes_8 left) rest,
+            length-bytes_8
+                left,
+          );
       wanted_is = ap number_4 regroup ∙ number_4-bytes wanted more few;
       why_is = ap (unpacked_refusal wanted) after ∙ (λ i. Space (sym is.0 i) (read i));
       rest_is = ap (λ bytes. drop 8 (drop 1 bytes)) after ∙ drop-bytes_8 left rest;
     }
 with_reason wanted (Quota left) parts rest few is e =
     let more = 2 ∷ (bytes_8 left ++ rest) in
-    let regroup : parts ≡ bytes_4 wanted ++ more = e ∙ append_assoc (bytes_4 wanted) (2 ∷ bytes_8 left) rest in
+    let regroup : parts ≡ bytes_4 wanted ++ more = e ∙ append_assoc (bytes_4 wanted)
+    (2 ∷ bytes_8 left) rest in
     let after : drop 4 parts ≡ more = ap (drop 4) regroup ∙ drop-bytes_4 wanted more in
     let read : number_8 (bytes_8 left ++ rest) ≡ left = number_8-bytes left rest is in
     record {
-      length_is = ap length regroup ∙ length-append (bytes_4 wanted) more ∙ omega (arith, length-bytes_4 wanted, length-append (bytes_8 left) rest, length-bytes_8 left);
+      length_is = ap length regroup ∙ length-append (bytes_4 wanted) more
+          ∙ omega (
+            arith,
+            length-bytes_4 wanted,
+            length-append (bytes_8 left) rest,
+            length-bytes_8
+                left,
+          );
       wanted_is = ap number_4 regroup ∙ number_4-bytes wanted more few;
       why_is = ap (unpacked_refusal wanted) after ∙ ap Quota read;
       rest_is = ap (λ bytes. drop 8 (drop 1 bytes)) after ∙ drop-bytes_8 left rest;
     }
 
-pub unpacked_command-bytes : (c : Command) (rest : List ℕ) → IsCommand c → unpacked_command (command_bytes c ++ rest) ≡ c
+pub unpacked_command-bytes : (c : Command) (rest : List ℕ) → IsCommand c
+    → unpacked_command (command_bytes c ++ rest) ≡ c
 unpacked_command-bytes (Spawn h items) rest is =
-    let parts = with_bundle h items ((handle_bytes h ++ bundle_bytes items) ++ rest) rest is.0 is.1 refl in
+    let parts = with_bundle h items ((handle_bytes h ++ bundle_bytes items) ++ rest) rest is.0 is.1
+    refl in
     λ i. Spawn (parts.handle i) (parts.bundle.items_are i)
 unpacked_command-bytes (SpawnMany hs items) rest is =
     let bytes = (bytes_4 (length hs) ++ (flat_map handle_bytes hs ++ bundle_bytes items)) ++ rest in
     let parts = with_handles hs items bytes rest is.0 is.1 is.2 refl in
-    ap (λ n. SpawnMany (unpacked_handles n (drop 4 bytes)) (unpacked_bundle (drop (8 * n) (drop 4 bytes)))) parts.count
+    ap (λ n. SpawnMany (unpacked_handles n (drop 4 bytes))
+    (unpacked_bundle (drop (8 * n) (drop 4 bytes)))) parts.count
     ∙ (λ i. SpawnMany (parts.handles i) (parts.bundle.items_are i))
 unpacked_command-bytes (Insert h items) rest is =
-    let parts = with_bundle h items ((handle_bytes h ++ bundle_bytes items) ++ rest) rest is.0 is.1 refl in
+    let parts = with_bundle h items ((handle_bytes h ++ bundle_bytes items) ++ rest) rest is.0 is.1
+    refl in
     λ i. Insert (parts.handle i) (parts.bundle.items_are i)
 unpacked_command-bytes (Remove h id) rest is =
     let parts = with_component h id.0 ((handle_bytes h ++ id.0 ∷ []) ++ rest) rest is.0 refl in
     λ i. Remove (parts.handle i) (record { 0 = parts.id_is i })
-unpacked_command-bytes (Despawn h) rest is = ap Despawn (handle_alone h (handle_bytes h ++ rest) rest is refl).handle
+unpacked_command-bytes (Despawn h) rest is = ap Despawn (handle_alone h (handle_bytes h ++ rest)
+    rest is refl).handle
 unpacked_command-bytes (Refused wanted why) rest is =
     let bytes = (bytes_4 wanted ++ refusal_bytes why) ++ rest in
     let parts = with_reason wanted why bytes rest is.0 is.1 refl in
-    ap (λ n. Refused n (unpacked_refusal n (drop 4 bytes))) parts.wanted_is ∙ ap (Refused wanted) parts.why_is
+    ap (λ n. Refused n (unpacked_refusal n (drop 4 bytes))) parts.wanted_is
+    ∙ ap (Refused wanted) parts.why_is
 
-pub after_first-bytes : (c : Command) (rest : List ℕ) → IsCommand c → after_first (command_bytes c ++ rest) ≡ rest
+pub after_first-bytes : (c : Command) (rest : List ℕ) → IsCommand c
+    → after_first (command_bytes c ++ rest) ≡ rest
 after_first-bytes c rest is =
-    ap (λ d. drop (length (command_bytes d)) (command_bytes c ++ rest)) (unpacked_command-bytes c rest is) ∙ drop-append_seam (command_bytes c) rest
+    ap (λ d. drop (length (command_bytes d)) (command_bytes c ++ rest))
+    (unpacked_command-bytes c rest is) ∙ drop-append_seam (command_bytes c) rest
 
-pub unpacked_commands-bytes : (commands : List Command) → All IsCommand commands → unpacked_commands (length commands) (queue_bytes commands) ≡ commands
+pub unpacked_commands-bytes : (commands : List Command) → All IsCommand commands
+    → unpacked_commands (length commands) (queue_bytes commands) ≡ commands
 unfolding unpacked_commands
 unpacked_commands-bytes [] all = refl
 unpacked_commands-bytes (c ∷ commands) all =
     let is = All-head IsCommand c commands all in
     let first = unpacked_command-bytes c (queue_bytes commands) is in
-    let others = ap (unpacked_commands (length commands)) (after_first-bytes c (queue_bytes commands) is) ∙ unpacked_commands-bytes commands (All-tail IsCommand c commands all) in
+    let others = ap (unpacked_commands (length commands))
+    (after_first-bytes c (queue_bytes commands) is) ∙ unpacked_commands-bytes commands
+    (All-tail IsCommand c commands all) in
     λ i. first i ∷ others i
 
-pub are_packed : (commands : List Command) → All IsCommand commands → ArePacked (length commands) (queue_bytes commands)
+pub are_packed : (commands : List Command) → All IsCommand commands → ArePacked (length commands)
+    (queue_bytes commands)
 are_packed commands all = record {
   bytes_are = ap queue_bytes (sym (unpacked_commands-bytes commands all));
   each = subst (All IsCommand) (sym (unpacked_commands-bytes commands all)) all;
 }
 
-pub length_of_commands : (count : ℕ) (bytes : List ℕ) → length (unpacked_commands count bytes) ≡ count
+pub length_of_commands : (count : ℕ) (bytes : List ℕ) → length (unpacked_commands count bytes)
+    ≡ count
 unfolding unpacked_commands
 length_of_commands zero bytes = refl
 length_of_commands (suc count) bytes = ap suc (length_of_commands count (after_first bytes))
@@ -170,30 +230,43 @@ unfolding unpacked_commands
 no_commands zero bytes e = refl
 no_commands (suc count) bytes e = absurd (omega arith)
 
-pub no_commands_iff : (count : ℕ) (bytes : List ℕ) (now : List Command) → unpacked_commands count bytes ≡ now → (IsTrue (nat_eq count 0) → now ≡ []) × (now ≡ [] → IsTrue (nat_eq count 0))
+pub no_commands_iff : (count : ℕ) (bytes : List ℕ) (now : List Command)
+    → unpacked_commands count bytes ≡ now → (IsTrue (nat_eq count 0) → now ≡ [])
+    × (now ≡ [] → IsTrue (nat_eq count 0))
 no_commands_iff zero bytes now e = (λ t. sym e ∙ no_commands zero bytes refl, λ n. search rules)
-no_commands_iff (suc count) bytes now e =
-    (λ t. absurd (search rules), λ n. let none = sym (length_of_commands (suc count) bytes) ∙ ap length (e ∙ n) in absurd (omega arith))
+no_commands_iff (suc count) bytes now e = (
+  λ t. absurd (search rules),
+  λ n. let none = sym (length_of_commands (suc count) bytes)
+      ∙ ap length (e ∙ n) in absurd (omega arith),
+)
 
 -- the first of some commands
-pub first_of_commands : (count left : ℕ) (bytes : List ℕ) → suc left ≡ count → unpacked_commands count bytes ≡ unpacked_command bytes ∷ unpacked_commands left (after_first bytes)
+pub first_of_commands : (count left : ℕ) (bytes : List ℕ) → suc left ≡ count
+    → unpacked_commands count bytes ≡ unpacked_command bytes
+    ∷ unpacked_commands left (after_first bytes)
 unfolding unpacked_commands
 first_of_commands count left bytes e = ap (λ n. unpacked_commands n bytes) (sym e)
 
-pub some_command_begins : (count left : ℕ) (bytes : List ℕ) → suc left ≡ count → ArePacked count bytes → BeginsWith (unpacked_command bytes) bytes (queue_bytes (unpacked_commands left (after_first bytes)))
+pub some_command_begins : (count left : ℕ) (bytes : List ℕ) → suc left ≡ count
+    → ArePacked count bytes → BeginsWith (unpacked_command bytes) bytes
+    (queue_bytes (unpacked_commands left (after_first bytes)))
 some_command_begins count left bytes e packed =
     let first = first_of_commands count left bytes e in
     record {
-      is = All-head IsCommand (unpacked_command bytes) (unpacked_commands left (after_first bytes)) (subst (All IsCommand) first packed.each);
+      is = All-head IsCommand (unpacked_command bytes) (unpacked_commands left (after_first bytes))
+          (subst (All IsCommand) first packed.each);
       bytes_are = packed.bytes_are ∙ ap queue_bytes first;
     }
 
-pub others_are_packed : (count left : ℕ) (bytes : List ℕ) → suc left ≡ count → ArePacked count bytes → ArePacked left (after_first bytes)
+pub others_are_packed : (count left : ℕ) (bytes : List ℕ) → suc left ≡ count → ArePacked count bytes
+    → ArePacked left (after_first bytes)
 others_are_packed count left bytes e packed =
     let first = first_of_commands count left bytes e in
     let begins = some_command_begins count left bytes e packed in
     let more = queue_bytes (unpacked_commands left (after_first bytes)) in
     record {
-      bytes_are = ap after_first begins.bytes_are ∙ after_first-bytes (unpacked_command bytes) more begins.is;
-      each = All-tail IsCommand (unpacked_command bytes) (unpacked_commands left (after_first bytes)) (subst (All IsCommand) first packed.each);
+      bytes_are = ap after_first begins.bytes_are ∙ after_first-bytes (unpacked_command bytes) more
+          begins.is;
+      each = All-tail IsCommand (unpacked_command bytes)
+          (unpacked_commands left (after_first bytes)) (subst (All IsCommand) first packed.each);
     }

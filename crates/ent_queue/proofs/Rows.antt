@@ -28,7 +28,8 @@ abbrev minus : ℕ → ℤ
 minus n = neg_ℤ (pos n)
 
 -- the numbers rise, and the last value under a number counts
-bundle_rises : bundle_of (9 is pos 10 ∷ 3 is pos 20 ∷ 7 is pos 30 ∷ 1 is pos 40 ∷ 5 is pos 50 ∷ 3 is minus 60 ∷ [])
+bundle_rises : bundle_of (9 is pos 10 ∷ 3 is pos 20 ∷ 7 is pos 30 ∷ 1 is pos 40 ∷ 5 is pos 50
+    ∷ 3 is minus 60 ∷ [])
     ≡ 1 is pos 40 ∷ 3 is minus 60 ∷ 5 is pos 50 ∷ 7 is pos 30 ∷ 9 is pos 10 ∷ []
 bundle_rises = refl
 
@@ -51,7 +52,8 @@ two_read = refl
 
 -- A queue over two slots: its second command is a spawn of two that was refused.
 abbrev with_refusal : List Command
-with_refusal = Spawn (0 v 1) (0 is pos 5 ∷ []) ∷ Refused 2 (Space 2 1) ∷ Insert (0 v 1) (0 is pos 6 ∷ 1 is minus 1 ∷ [])
+with_refusal = Spawn (0 v 1) (0 is pos 5 ∷ []) ∷ Refused 2 (Space 2 1)
+    ∷ Insert (0 v 1) (0 is pos 6 ∷ 1 is minus 1 ∷ [])
     ∷ Remove (0 v 1) (component 1) ∷ Despawn (9 v 1) ∷ []
 
 abbrev bytes_of_five : List ℕ
@@ -71,7 +73,8 @@ unfolding unpacked_commands number_2 number_4 number_8 bytes_2 bytes_4 bytes_8
 five_read = refl
 
 -- It stands for two reservations, which cost three handles of the credit.
-five_requests : flat_map stands_for with_refusal ≡ (1, Ok (0 v 1 ∷ [])) ∷ (2, Err (record { wanted = 2; left = 1 })) ∷ []
+five_requests : flat_map stands_for with_refusal ≡ (1, Ok (0 v 1 ∷ []))
+    ∷ (2, Err (record { wanted = 2; left = 1 })) ∷ []
 five_requests = refl
 
 five_cost : sum_by cost with_refusal ≡ 3
@@ -81,7 +84,8 @@ five_within : FitCredit (2 ^ 40) with_refusal
 five_within = (omega arith, (omega arith, (tt, (tt, (tt, tt)))))
 
 -- a spawn of many, and a refusal for want of credit
-many_and_quota : queue_bytes (SpawnMany (0 v 1 ∷ 1 v 1 ∷ []) (7 is pos 258 ∷ []) ∷ Refused 257 (Quota 256) ∷ [])
+many_and_quota : queue_bytes (SpawnMany (0 v 1 ∷ 1 v 1 ∷ []) (7 is pos 258 ∷ [])
+    ∷ Refused 257 (Quota 256) ∷ [])
     ≡ 1 ∷ 2 ∷ 0 ∷ 0 ∷ 0 ∷ 0 ∷ 0 ∷ 0 ∷ 0 ∷ 1 ∷ 0 ∷ 0 ∷ 0 ∷ 1 ∷ 0 ∷ 0 ∷ 0 ∷ 1 ∷ 0 ∷ 0 ∷ 0
     ∷ 1 ∷ 0 ∷ 7 ∷ 2 ∷ 1 ∷ 0 ∷ 0 ∷ 0 ∷ 0 ∷ 0 ∷ 0
     ∷ 5 ∷ 1 ∷ 1 ∷ 0 ∷ 0 ∷ 2 ∷ 0 ∷ 1 ∷ 0 ∷ 0 ∷ 0 ∷ 0 ∷ 0 ∷ 0 ∷ []

@@ -39,7 +39,8 @@ refusal_bytes (Quota left) = 2 ∷ bytes_8 left
 
 abbrev pub command_bytes : Command → List ℕ
 command_bytes (Spawn h items) = 0 ∷ (handle_bytes h ++ bundle_bytes items)
-command_bytes (SpawnMany hs items) = 1 ∷ (bytes_4 (length hs) ++ (flat_map handle_bytes hs ++ bundle_bytes items))
+command_bytes (SpawnMany hs items) =
+    1 ∷ (bytes_4 (length hs) ++ (flat_map handle_bytes hs ++ bundle_bytes items))
 command_bytes (Insert h items) = 2 ∷ (handle_bytes h ++ bundle_bytes items)
 command_bytes (Remove h id) = 3 ∷ (handle_bytes h ++ id.0 ∷ [])
 command_bytes (Despawn h) = 4 ∷ handle_bytes h

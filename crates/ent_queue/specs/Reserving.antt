@@ -24,7 +24,8 @@ stands_for (SpawnMany (h ∷ hs) items) = (length (h ∷ hs), Ok (h ∷ hs)) ∷
 stands_for (Insert h items) = []
 stands_for (Remove h id) = []
 stands_for (Despawn h) = []
-stands_for (Refused wanted (Space same left)) = (wanted, Err (record { wanted = same; left = left })) ∷ []
+stands_for (Refused wanted (Space same left)) =
+    (wanted, Err (record { wanted = same; left = left })) ∷ []
 stands_for (Refused wanted (Quota left)) = []
 
 -- how much credit it has cost
@@ -53,7 +54,8 @@ pub record Gains (before : Record) (commands : List Command) (after : Record) : 
   pub number : after.number ≡ before.number
   pub reservations : List Reservation
   pub entries : after.entries ≡ before.entries ++ map Own reservations
-  pub requests : map (λ (r : Reservation). (r.requested, r.reply)) reservations ≡ flat_map stands_for commands
+  pub requests : map (λ (r : Reservation). (r.requested, r.reply)) reservations
+      ≡ flat_map stands_for commands
   pub callers : All (λ (r : Reservation). r.caller ≡ before.number) reservations
   pub left : after.left + sum_by cost commands ≡ before.left
   pub within : FitCredit before.left commands
@@ -63,7 +65,7 @@ abbrev pub as_fault : Refusal → QueueFault
 as_fault (Space wanted left) = fault.Space wanted left
 as_fault (Quota left) = fault.Quota left
 
--- an answer of a reservation as the queue hands it on
+-- the result of a reservation as the queue hands it on
 abbrev pub queued : {X : Type 0} → Result X Refusal → Result X QueueFault
 queued (Ok x) = Ok x
 queued (Err why) = Err (as_fault why)
@@ -79,8 +81,9 @@ refused_by wanted (fault.Space same left) = Refused wanted (Space same left) ∷
 refused_by wanted (fault.Quota left) = Refused wanted (Quota left) ∷ []
 refused_by wanted fault.Memory = []
 
--- The answer is that of a reservation of n handles.
-pub record IsReply (shared : Shared) (before after : Reserver) (n : ℕ) (answer : Result (List Handle) Refusal) : Type 0 where
+-- The result is that of a reservation of n handles.
+pub record IsReply (shared : Shared) (before after : Reserver) (n : ℕ)
+    (answer : Result (List Handle) Refusal) : Type 0 where
   pub quota : before.own.left < n → (answer ≡ Err (Quota before.own.left)) × (after ≡ before)
   pub nothing : n ≡ 0 → (answer ≡ Ok []) × (after ≡ before)
   pub gains : 0 < n → n ≤ before.own.left → Reserves shared before after n answer

@@ -34,22 +34,27 @@ abbrev pub unpacked_handles : ℕ → List ℕ → List Handle
 unpacked_handles count bytes = map unpacked_handle (first_chunks 8 count bytes)
 
 abbrev pub unpacked_item : List ℕ → ComponentId × ℤ
-unpacked_item bytes = (record { 0 = slice_index bytes 0 }, cast_signed w64 (number_8 (drop 1 bytes)))
+unpacked_item bytes =
+    (record { 0 = slice_index bytes 0 }, cast_signed w64 (number_8 (drop 1 bytes)))
 
 abbrev pub unpacked_bundle : List ℕ → Bundle
 unpacked_bundle bytes = map unpacked_item (first_chunks 9 (number_2 bytes) (drop 2 bytes))
 
 abbrev pub unpacked_refusal : ℕ → List ℕ → Refusal
 unpacked_refusal wanted bytes =
-    if slice_index bytes 0 == 1 then Space wanted (number_8 (drop 1 bytes)) else Quota (number_8 (drop 1 bytes))
+    if slice_index bytes 0 == 1
+    then Space wanted (number_8 (drop 1 bytes))
+    else Quota (number_8 (drop 1 bytes))
 
 -- the command whose parts follow the byte for its kind
 abbrev pub command_of_kind : ℕ → List ℕ → Command
 command_of_kind kind parts =
     if kind == 0 then Spawn (unpacked_handle parts) (unpacked_bundle (drop 8 parts))
-    else (if kind == 1 then SpawnMany (unpacked_handles (number_4 parts) (drop 4 parts)) (unpacked_bundle (drop (8 * number_4 parts) (drop 4 parts)))
+    else (if kind == 1 then SpawnMany (unpacked_handles (number_4 parts) (drop 4 parts))
+    (unpacked_bundle (drop (8 * number_4 parts) (drop 4 parts)))
     else (if kind == 2 then Insert (unpacked_handle parts) (unpacked_bundle (drop 8 parts))
-    else (if kind == 3 then Remove (unpacked_handle parts) (record { 0 = slice_index (drop 8 parts) 0 })
+    else (if kind == 3 then Remove (unpacked_handle parts)
+    (record { 0 = slice_index (drop 8 parts) 0 })
     else (if kind == 4 then Despawn (unpacked_handle parts)
     else Refused (number_4 parts) (unpacked_refusal (number_4 parts) (drop 4 parts))))))
 
@@ -63,7 +68,8 @@ after_first bytes = drop (length (command_bytes (unpacked_command bytes))) bytes
 -- that many commands, one after the other
 unfoldable pub unpacked_commands : ℕ → List ℕ → List Command
 unpacked_commands zero bytes = []
-unpacked_commands (suc count) bytes = unpacked_command bytes ∷ unpacked_commands count (after_first bytes)
+unpacked_commands (suc count) bytes =
+    unpacked_command bytes ∷ unpacked_commands count (after_first bytes)
 
 -- The bytes are the packing of that many commands.
 pub record ArePacked (count : ℕ) (bytes : List ℕ) : Type 0 where

@@ -73,7 +73,8 @@ impl Bundle {
     /// `Memory`, which needs a component that is not there and at least four that are. Nothing has changed.
     pub fn put(&mut self, id: ComponentId, value: i64) -> Result<(), Memory>
         ensures ok { OnOk result (self.new ≡ put component_cmp id value self.old) }
-        ensures memory { OnErr result ((4 ≤ length self.old) × (find component_cmp id self.old ≡ None)) }
+        ensures memory { OnErr result
+            ((4 ≤ length self.old) × (find component_cmp id self.old ≡ None)) }
         ensures err { OnErr result (self.new ≡ self.old) }
     {
         match place_of(self.items.as_slice(), id.0) {
@@ -112,7 +113,8 @@ fn first_from(items: &[(ComponentId, i64)], number: u8) -> usize
     requires { AreRising items.now }
     ensures within { result ≤ length items.now }
     ensures lower { AllWithin (λ item. item.0.0 < number) items.now 0 result }
-    ensures here { result < length items.now → HoldsAt (λ item. number ≤ item.0.0) items.now result }
+    ensures here { result < length items.now
+        → HoldsAt (λ item. number ≤ item.0.0) items.now result }
 {
     items.partition_point(|item| item.0.0 < number)
 }

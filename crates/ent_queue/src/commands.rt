@@ -60,10 +60,11 @@ impl<'a> Commands<'a> {
             queue_of self.new ≡ queue_of self.old ++ Spawn handle bundle ∷ []) }
         ensures refused { IfErr result (λ fault.
             queue_of self.new ≡ queue_of self.old ++ refused_by 1 fault) }
-        ensures memory { IsErrOf result QueueFault.Memory → reserver_of self.new ≡ reserver_of self.old }
+        ensures memory { IsErrOf result QueueFault.Memory
+            → reserver_of self.new ≡ reserver_of self.old }
 
-        // Anything but Memory is the answer of a reservation.
-        ensures answers { (answer : Result HandleValue Refusal) → result ≡ queued answer
+        // Anything but Memory is the result of a reservation.
+        ensures replies { (answer : Result HandleValue Refusal) → result ≡ queued answer
             → IsReply (shared_of self.new) (reserver_of self.old) (reserver_of self.new) 1
             (listed_alone answer) }
     {
@@ -83,10 +84,12 @@ impl<'a> Commands<'a> {
         ensures length { IfOk result (λ handles. length handles.items ≡ n) }
         ensures refused { IfErr result (λ fault.
             queue_of self.new ≡ queue_of self.old ++ refused_by n fault) }
-        ensures memory { IsErrOf result QueueFault.Memory → reserver_of self.new ≡ reserver_of self.old }
+        ensures memory { IsErrOf result QueueFault.Memory
+            → reserver_of self.new ≡ reserver_of self.old }
 
-        // Anything but Memory is the answer of a reservation.
-        ensures answers { (answer : Result (List HandleValue) Refusal) → as_list result ≡ queued answer
+        // Anything but Memory is the result of a reservation.
+        ensures replies { (answer : Result (List HandleValue) Refusal)
+            → as_list result ≡ queued answer
             → IsReply (shared_of self.new) (reserver_of self.old) (reserver_of self.new) n answer }
     {
         self.queue
@@ -102,7 +105,8 @@ impl<'a> Commands<'a> {
         requires { IsReady self.old }
         ensures extends { Extends self.old self.new }
         ensures reserver { reserver_of self.new ≡ reserver_of self.old }
-        ensures ok { OnOk result (queue_of self.new ≡ queue_of self.old ++ Insert handle bundle ∷ []) }
+        ensures ok { OnOk result
+            (queue_of self.new ≡ queue_of self.old ++ Insert handle bundle ∷ []) }
         ensures err { OnErr result (queue_of self.new ≡ queue_of self.old) }
     {
         self.queue.insert(handle, bundle.items())

@@ -114,7 +114,7 @@ impl CommandQueue {
         ensures ok { IfOk result (λ handle. self.new ≡ self.old ++ Spawn handle items.now ∷ []) }
         ensures refused { IfErr result (λ fault. self.new ≡ self.old ++ refused_by 1 fault) }
         ensures memory { IsErrOf result QueueFault.Memory → reserver.new ≡ reserver.old }
-        ensures answers { (answer : Result HandleValue Refusal) → result ≡ queued answer
+        ensures replies { (answer : Result HandleValue Refusal) → result ≡ queued answer
             → IsReply shared.now reserver.old reserver.new 1 (listed_alone answer) }
     {
         let own = 11 + 9 * items.len();
@@ -133,7 +133,7 @@ impl CommandQueue {
         }
     }
 
-    /// Grows first, for the spawn, for a refusal and for the answer alike, and then reserves.
+    /// Grows first, for the spawn, for a refusal and for the list alike, and then reserves.
     pub(crate) fn spawn_many(
         &mut self,
         alloc: Global,
@@ -145,11 +145,13 @@ impl CommandQueue {
         requires of { IsOf shared.now reserver.old }
         requires is { IsBundle items.now }
         ensures stays { IsOf shared.now reserver.new }
-        ensures ok { IfOk result (λ handles. self.new ≡ self.old ++ SpawnMany handles.items items.now ∷ []) }
+        ensures ok { IfOk result
+            (λ handles. self.new ≡ self.old ++ SpawnMany handles.items items.now ∷ []) }
         ensures length { IfOk result (λ handles. length handles.items ≡ n) }
         ensures refused { IfErr result (λ fault. self.new ≡ self.old ++ refused_by n fault) }
         ensures memory { IsErrOf result QueueFault.Memory → reserver.new ≡ reserver.old }
-        ensures answers { (answer : Result (List HandleValue) Refusal) → as_list result ≡ queued answer
+        ensures replies { (answer : Result (List HandleValue) Refusal)
+            → as_list result ≡ queued answer
             → IsReply shared.now reserver.old reserver.new n answer }
     {
         let mut handles = Vec::with_capacity(alloc, n as usize)?;

@@ -97,7 +97,8 @@ pub(crate) fn write_with_bundle(
     requires room { vec_len bytes.old + (11 + 9 * length items.now) ≤ vec_capacity bytes.old }
     requires is { IsBundle items.now }
     ensures handle { IsHandle handle }
-    ensures items { bytes.new.items ≡ bytes.old.items ++ kind ∷ (handle_bytes handle ++ bundle_bytes items.now) }
+    ensures items { bytes.new.items
+        ≡ bytes.old.items ++ kind ∷ (handle_bytes handle ++ bundle_bytes items.now) }
 {
     write_u8(bytes, kind);
     write_handle(bytes, handle);
@@ -158,7 +159,8 @@ pub(crate) fn write_many(
     ensures number { n < 2 ^ 32 }
     ensures handles { handles.new.items ≡ handles.old.items ++ given.entry }
     ensures each { All IsHandle given.entry }
-    ensures items { bytes.new.items ≡ bytes.old.items ++ 1 ∷ (bytes_4 n ++ flat_map handle_bytes given.entry) }
+    ensures items { bytes.new.items
+        ≡ bytes.old.items ++ 1 ∷ (bytes_4 n ++ flat_map handle_bytes given.entry) }
     ensures len { vec_len bytes.new ≡ vec_len bytes.old + (5 + 8 * n) }
     ensures capacity { vec_capacity bytes.old ≤ vec_capacity bytes.new }
 {

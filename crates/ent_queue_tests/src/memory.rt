@@ -73,7 +73,7 @@ fn refused_memory_leaves_queue_and_reserver(rt: HostRuntime) {
     );
 }
 
-/// Issues the calls from `count` on, compares what they cost, and answers how many were made so
+/// Issues the calls from `count` on, compares what they cost, and returns how many were made so
 /// far.
 fn issued_from(
     rt: &impl Abort,

@@ -38,7 +38,7 @@ fn shared_at_last(
     }
 }
 
-/// Issues the calls and writes their answers, a line each. It ends at a call without memory.
+/// Issues the calls and writes their results, a line each. It ends at a call without memory.
 pub fn issued(
     rt: &impl Abort,
     alloc: Global,
@@ -61,7 +61,7 @@ pub fn issued(
     commands.finish()
 }
 
-/// Issues the calls, and compares their answers and their entries with the texts.
+/// Issues the calls, and compares their results and their entries with the texts.
 pub fn assert_issues(
     rt: &impl Abort,
     alloc: Global,

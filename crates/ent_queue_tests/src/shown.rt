@@ -1,4 +1,4 @@
-//! Answers and queues as text, so that a test compares a whole queue at once.
+//! Results and queues as text, so that a test compares a whole queue at once.
 use crate::call::Given;
 use ent_handle::Handle;
 use ent_queue::{BundleRef, CommandQueue, Entry, HandlesRef, QueueFault};
@@ -14,7 +14,7 @@ pub fn text(rt: &impl Abort, alloc: Global) -> String {
     made.expect(rt, "memory for a text")
 }
 
-/// What a call answered, as a line.
+/// What a call returned, as a line.
 pub fn write_answer(
     text: &mut String,
     answer: &Result<Given, QueueFault>,

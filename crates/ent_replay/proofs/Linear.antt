@@ -30,21 +30,30 @@ use Rattle.ent_replay.proofs.Moves.{answers}
 
 -- ---- histories
 
-IsLegal-append : (s : Allocator) (calls more : List Call) → IsLegal s calls → IsLegal (after_history s calls) more → IsLegal s (calls ++ more)
+IsLegal-append : (s : Allocator) (calls more : List Call) → IsLegal s calls
+    → IsLegal (after_history s calls) more → IsLegal s (calls ++ more)
 IsLegal-append s [] more h rest = rest
-IsLegal-append s (call ∷ calls) more h rest = (h.0, h.1, IsLegal-append (after_take s call.requested) calls more h.2 rest)
+IsLegal-append s (call ∷ calls) more h rest =
+    (h.0, h.1, IsLegal-append (after_take s call.requested) calls more h.2 rest)
 
-after_history-append : (s : Allocator) (calls more : List Call) → after_history s (calls ++ more) ≡ after_history (after_history s calls) more
+after_history-append : (s : Allocator) (calls more : List Call) → after_history s (calls ++ more)
+    ≡ after_history (after_history s calls) more
 after_history-append s [] more = refl
-after_history-append s (call ∷ calls) more = after_history-append (after_take s call.requested) calls more
+after_history-append s (call ∷ calls) more = after_history-append (after_take s call.requested)
+    calls more
 
-last_of-append : (q : ℕ) (calls : List Call) (call : Call) → call.caller ≡ q → last_of q (calls ++ call ∷ []) ≡ Some call
+last_of-append : (q : ℕ) (calls : List Call) (call : Call) → call.caller ≡ q
+    → last_of q (calls ++ call ∷ []) ≡ Some call
 last_of-append q [] call own = when (call.caller == q) _ _ (grind (arith, nat_tests))
-last_of-append q (c ∷ calls) call own = ap (λ o. option_or o (cond (c.caller == q) (Some c) None)) (last_of-append q calls call own)
+last_of-append q (c ∷ calls) call own = ap (λ o. option_or o (cond (c.caller == q) (Some c) None))
+    (last_of-append q calls call own)
 
-last_of-append_other : (q : ℕ) (calls : List Call) (call : Call) → call.caller ≢ q → last_of q (calls ++ call ∷ []) ≡ last_of q calls
+last_of-append_other : (q : ℕ) (calls : List Call) (call : Call) → call.caller ≢ q
+    → last_of q (calls ++ call ∷ []) ≡ last_of q calls
 last_of-append_other q [] call other = unless (call.caller == q) _ _ (grind (arith, nat_tests))
-last_of-append_other q (c ∷ calls) call other = ap (λ o. option_or o (cond (c.caller == q) (Some c) None)) (last_of-append_other q calls call other)
+last_of-append_other q (c ∷ calls) call other =
+    ap (λ o. option_or o (cond (c.caller == q) (Some c) None)) (last_of-append_other q calls call
+    other)
 
 -- ---- what is kept from event to event
 
@@ -54,15 +63,19 @@ RequestedNone requested r = (requested ≡ 0) × (r ≡ Ok [])
 
 -- every open call that has made its step requested none
 abbrev NothingTold : MachineState → Type 0
-NothingTold s = (q : ℕ) (call : OpenCall) (r : Reply) → finite.get s.calls q ≡ Some call → call.reply ≡ Some r → RequestedNone call.requested r
+NothingTold s = (q : ℕ) (call : OpenCall) (r : Reply) → finite.get s.calls q ≡ Some call
+    → call.reply ≡ Some r → RequestedNone call.requested r
 
 -- the reply was given by the caller's last reservation, of this request, or is that to a request
 -- for none
 abbrev IsOfHistory : List Call → ℕ → ℕ → Reply → Type 0
-IsOfHistory calls q requested r = RequestedNone requested r ⊎ ((made : Call) × (last_of q calls ≡ Some made) × (made.requested ≡ requested) × (r ≡ made.reply))
+IsOfHistory calls q requested r = RequestedNone requested r
+    ⊎ ((made : Call) × (last_of q calls ≡ Some made) × (made.requested ≡ requested)
+    × (r ≡ made.reply))
 
 abbrev AreOfHistory : List Call → MachineState → Type 0
-AreOfHistory calls s = (q : ℕ) (call : OpenCall) (r : Reply) → finite.get s.calls q ≡ Some call → call.reply ≡ Some r → IsOfHistory calls q call.requested r
+AreOfHistory calls s = (q : ℕ) (call : OpenCall) (r : Reply) → finite.get s.calls q ≡ Some call
+    → call.reply ≡ Some r → IsOfHistory calls q call.requested r
 
 pub record IsFollowed (p : Phase) (s : MachineState) : Type 0 where
   pub legal : IsLegal p.start p.calls
@@ -72,25 +85,34 @@ pub record IsFollowed (p : Phase) (s : MachineState) : Type 0 where
 
 -- ---- the open calls after an event
 
-no_calls : (calls : FinMap nat_cmp OpenCall) → calls ≡ finite.empty → (q : ℕ) (call : OpenCall) → finite.get calls q ≡ Some call → ⊥
-no_calls calls none q call at = let nothing : finite.get calls q ≡ None = ap (λ m. finite.get m q) none ∙ get-empty nat_cmp q in cc
+no_calls : (calls : FinMap nat_cmp OpenCall) → calls ≡ finite.empty → (q : ℕ) (call : OpenCall)
+    → finite.get calls q ≡ Some call → ⊥
+no_calls calls none q call at = let nothing : finite.get calls q ≡ None = ap (λ m. finite.get m q)
+    none ∙ get-empty nat_cmp q in cc
 
 -- a fact on the requests and replies of all open calls but one, and on that one's
 module _ (P : ℕ → ℕ → Reply → Type 0) (calls : FinMap nat_cmp OpenCall) (caller : ℕ)
-    (before : (q : ℕ) (call : OpenCall) (r : Reply) → q ≢ caller → finite.get calls q ≡ Some call → call.reply ≡ Some r → P q call.requested r) where
+    (before : (q : ℕ) (call : OpenCall) (r : Reply) → q ≢ caller → finite.get calls q ≡ Some call
+    → call.reply ≡ Some r → P q call.requested r) where
   on_inserted : (new : OpenCall) → ((r : Reply) → new.reply ≡ Some r → P caller new.requested r)
-      → (q : ℕ) (call : OpenCall) (r : Reply) → finite.get (finite.insert calls caller new) q ≡ Some call → call.reply ≡ Some r → P q call.requested r
+      → (q : ℕ) (call : OpenCall) (r : Reply) → finite.get (finite.insert calls caller new) q
+      ≡ Some call → call.reply ≡ Some r → P q call.requested r
   on_inserted new here q call r at told = elim (ℕ_discrete q caller) [
     | yes same ↦
-        let is : new ≡ call = same_Some new call (sym (get-inserted calls caller new) ∙ ap (finite.get (finite.insert calls caller new)) (sym same) ∙ at) in
-        subst (λ k. P k call.requested r) (sym same) (subst (λ n. P caller n r) (ap (λ c. c.requested) is) (here r (ap (λ c. c.reply) is ∙ told)))
+        let is : new ≡ call = same_Some new call (sym (get-inserted calls caller new)
+        ∙ ap (finite.get (finite.insert calls caller new)) (sym same) ∙ at) in
+        subst (λ k. P k call.requested r) (sym same)
+        (subst (λ n. P caller n r) (ap (λ c. c.requested) is)
+        (here r (ap (λ c. c.reply) is ∙ told)))
     | no other ↦ before q call r other (sym (get-insert_other calls caller new q other) ∙ at) told
   ]
 
-  on_removed : (q : ℕ) (call : OpenCall) (r : Reply) → finite.get (finite.remove calls caller) q ≡ Some call → call.reply ≡ Some r → P q call.requested r
+  on_removed : (q : ℕ) (call : OpenCall) (r : Reply) → finite.get (finite.remove calls caller) q
+      ≡ Some call → call.reply ≡ Some r → P q call.requested r
   on_removed q call r at told = elim (ℕ_discrete q caller) [
     | yes same ↦
-        let nothing : finite.get (finite.remove calls caller) q ≡ None = ap (finite.get (finite.remove calls caller)) same ∙ get-removed calls caller in
+        let nothing : finite.get (finite.remove calls caller) q
+        ≡ None = ap (finite.get (finite.remove calls caller)) same ∙ get-removed calls caller in
         absurd cc
     | no other ↦ before q call r other (sym (get-remove_other calls caller q other) ∙ at) told
   ]
@@ -107,115 +129,214 @@ module _ (p : Phase) (s : MachineState) (e : Event) (h : IsFollowed p s) where
   onward = record { start = p.start; calls = p.calls ++ reservations s e }
 
   same_phase : reservations s e ≡ [] → p ≡ onward
-  same_phase none = λ i. record { start = p.start; calls = (sym (append-nil p.calls) ∙ ap (p.calls ++◌) (sym none)) i }
+  same_phase none = λ i. record {
+    start = p.start;
+    calls = (sym (append-nil p.calls)
+        ∙ ap (p.calls ++◌) (sym none)) i;
+  }
 
   -- where nothing is asked for after the event
   at_rest : Move s e → (after_event s e).allocator.asked ≡ 0 → NothingTold (after_event s e)
   at_rest (stays r is gives fine tells none) zero_asked =
       let t = ap (λ x. x.1) is in
-      subst NothingTold (sym t) (h.rest (sym (ap (λ (x : MachineState). x.allocator.asked) t) ∙ zero_asked))
+      subst NothingTold (sym t) (h.rest (sym (ap (λ (x : MachineState). x.allocator.asked) t)
+      ∙ zero_asked))
   at_rest (allocates x rest is none flushed pool at) zero_asked =
-      subst NothingTold (sym (ap (λ x. x.1) is)) (λ q call r at _. absurd (no_calls s.calls none q call at))
+      subst NothingTold (sym (ap (λ x. x.1) is)) (λ q call r at _.
+      absurd (no_calls s.calls none q call at))
   at_rest (frees x is none flushed lives at) zero_asked =
-      subst NothingTold (sym (ap (λ x. x.1) is)) (λ q call r at _. absurd (no_calls s.calls none q call at))
+      subst NothingTold (sym (ap (λ x. x.1) is)) (λ q call r at _.
+      absurd (no_calls s.calls none q call at))
   at_rest (flushes is none at) zero_asked =
-      subst NothingTold (sym (ap (λ x. x.1) is)) (λ q call r at _. absurd (no_calls s.calls none q call at))
+      subst NothingTold (sym (ap (λ x. x.1) is)) (λ q call r at _.
+      absurd (no_calls s.calls none q call at))
   at_rest (begins caller n spent is below none at) zero_asked =
       let t = ap (λ x. x.1) is in
       let still = h.rest (sym (ap (λ (x : MachineState). x.allocator.asked) t) ∙ zero_asked) in
-      subst NothingTold (sym t) (on_inserted (λ q. RequestedNone) s.calls caller (λ q call r _. still q call r) (record { requested = n; reply = None }) (λ r told. absurd (none_some r told)))
+      subst NothingTold (sym t) (on_inserted (λ q. RequestedNone) s.calls caller
+      (λ q call r _. still q call r) (record { requested = n; reply = None })
+      (λ r told. absurd (none_some r told)))
   at_rest (steps caller call is below some waits makes at) zero_asked =
       let t = ap (λ x. x.1) is in
-      let parts = zero_sum s.allocator.asked call.requested (sym (asked-after_take s.allocator call.requested) ∙ sym (ap (λ (x : MachineState). x.allocator.asked) t) ∙ zero_asked) in
+      let parts = zero_sum s.allocator.asked call.requested
+      (sym (asked-after_take s.allocator call.requested)
+      ∙ sym (ap (λ (x : MachineState). x.allocator.asked) t) ∙ zero_asked) in
       let still = h.rest parts.0 in
-      subst NothingTold (sym t) (on_inserted (λ q. RequestedNone) s.calls caller (λ q call r _. still q call r) (record { requested = call.requested; reply = Some (reply_to s.allocator call.requested) })
-      (λ r told. (parts.1, sym (same_Some (reply_to s.allocator call.requested) r told) ∙ ap (reply_to s.allocator) parts.1 ∙ reply-none s.allocator)))
+      subst NothingTold (sym t) (on_inserted (λ q. RequestedNone) s.calls caller
+      (λ q call r _. still q call r)
+      (record {
+        requested = call.requested;
+        reply = Some (reply_to s.allocator call.requested);
+      })
+      (λ r told. (
+        parts.1,
+        sym (same_Some (reply_to s.allocator call.requested) r told)
+            ∙ ap (reply_to s.allocator) parts.1 ∙ reply-none s.allocator,
+      )))
   at_rest (answers caller call reply is below some stepped at) zero_asked =
       let t = ap (λ x. x.1) is in
       let still = h.rest (sym (ap (λ (x : MachineState). x.allocator.asked) t) ∙ zero_asked) in
-      subst NothingTold (sym t) (on_removed (λ q. RequestedNone) s.calls caller (λ q call r _. still q call r))
+      subst NothingTold (sym t) (on_removed (λ q. RequestedNone) s.calls caller
+      (λ q call r _. still q call r))
 
   -- a step of some request, as the request is
-  after_step : (caller n : ℕ) → IsFollowed (record { start = p.start; calls = p.calls ++ reserved_by_request s caller n None })
-      (record s { allocator = after_take s.allocator n; calls = finite.insert s.calls caller (record { requested = n; reply = Some (reply_to s.allocator n) }) })
+  after_step : (caller n : ℕ)
+      → IsFollowed (record {
+        start = p.start;
+        calls = p.calls ++ reserved_by_request s caller n None;
+      })
+      (record s {
+        allocator = after_take s.allocator n;
+        calls = finite.insert s.calls caller
+            (record { requested = n; reply = Some (reply_to s.allocator n) });
+      })
   after_step caller zero = record {
     legal = subst (IsLegal p.start) (sym (append-nil p.calls)) h.legal;
-    reached = ap (after_history p.start) (append-nil p.calls) ∙ h.reached ∙ sym (after_take-none s.allocator);
-    rest = λ zero_asked. on_inserted (λ q. RequestedNone) s.calls caller (λ q call r _. h.rest (sym (ap (λ (x : Allocator). x.asked) (after_take-none s.allocator)) ∙ zero_asked) q call r)
-        (record { requested = zero; reply = Some (reply_to s.allocator zero) }) (λ r told. (refl, sym (same_Some (reply_to s.allocator zero) r told) ∙ reply-none s.allocator));
-    open_calls = on_inserted (IsOfHistory (p.calls ++ [])) s.calls caller
-        (λ q call r _ at told. subst (λ calls. IsOfHistory calls q call.requested r) (sym (append-nil p.calls)) (h.open_calls q call r at told))
+    reached = ap (after_history p.start) (append-nil p.calls) ∙ h.reached
+        ∙ sym (after_take-none s.allocator);
+    rest = λ zero_asked. on_inserted (λ q. RequestedNone) s.calls caller
+        (λ q call r _. h.rest (sym (ap (λ (x : Allocator). x.asked) (after_take-none s.allocator))
+        ∙ zero_asked) q call r)
         (record { requested = zero; reply = Some (reply_to s.allocator zero) })
-        (λ r told. inl (refl, sym (same_Some (reply_to s.allocator zero) r told) ∙ reply-none s.allocator));
+        (λ r told. (
+          refl,
+          sym (same_Some (reply_to s.allocator zero) r told)
+              ∙ reply-none s.allocator,
+        ));
+    open_calls = on_inserted (IsOfHistory (p.calls ++ [])) s.calls caller
+        (λ q call r _ at told. subst (λ calls. IsOfHistory calls q call.requested r)
+        (sym (append-nil p.calls)) (h.open_calls q call r at told))
+        (record { requested = zero; reply = Some (reply_to s.allocator zero) })
+        (λ r told. inl (
+          refl,
+          sym (same_Some (reply_to s.allocator zero) r told)
+              ∙ reply-none s.allocator,
+        ));
   }
   after_step caller (suc n) =
-      let made : Call = record { caller = caller; requested = suc n; reply = reply_to s.allocator (suc n) } in
+      let made : Call = record {
+        caller = caller;
+        requested = suc n;
+        reply = reply_to s.allocator
+            (suc n);
+      } in
       let asked = asked-after_take s.allocator (suc n) in
       record {
-        legal = IsLegal-append p.start p.calls (made ∷ []) h.legal (subst (λ t. IsLegal t (made ∷ [])) (sym h.reached) (omega arith, refl, tt));
-        reached = after_history-append p.start p.calls (made ∷ []) ∙ ap (λ t. after_take t (suc n)) h.reached;
+        legal = IsLegal-append p.start p.calls (made ∷ []) h.legal
+            (subst (λ t. IsLegal t (made ∷ [])) (sym h.reached) (omega arith, refl, tt));
+        reached = after_history-append p.start p.calls (made ∷ []) ∙ ap (λ t. after_take t (suc n))
+            h.reached;
         rest = λ zero_asked. absurd (omega arith);
         open_calls = on_inserted (IsOfHistory (p.calls ++ made ∷ [])) s.calls caller
             (λ q call r other at told. elim (h.open_calls q call r at told) [
               | inl nothing ↦ inl nothing
-              | inr found ↦ inr (found.0, last_of-append_other q p.calls made (λ same. other (sym same)) ∙ found.1, found.2, found.3)
+              | inr found ↦ inr (
+                found.0,
+                last_of-append_other q p.calls made
+                    (λ same. other (sym same)) ∙ found.1,
+                found.2,
+                found.3,
+              )
             ])
             (record { requested = suc n; reply = Some (reply_to s.allocator (suc n)) })
-            (λ r told. inr (made, last_of-append caller p.calls made refl, refl, sym (same_Some (reply_to s.allocator (suc n)) r told)));
+            (λ r told. inr (
+              made,
+              last_of-append caller p.calls made refl,
+              refl,
+              sym
+                  (same_Some (reply_to s.allocator (suc n)) r told),
+            ));
       }
 
   -- where something is
   goes_on : Move s e → (after_event s e).allocator.asked ≢ 0 → IsFollowed onward (after_event s e)
-  goes_on (stays r is gives fine tells none) asked = subst (λ t. IsFollowed onward t) (sym (ap (λ x. x.1) is)) (subst (λ q. IsFollowed q s) (same_phase none) h)
-  goes_on (allocates x rest is none flushed pool at) asked = absurd (asked (ap (λ x. x.1.allocator.asked) is ∙ flushed))
-  goes_on (frees x is none flushed lives at) asked = absurd (asked (ap (λ x. x.1.allocator.asked) is ∙ flushed))
+  goes_on (stays r is gives fine tells none) asked = subst (λ t. IsFollowed onward t)
+      (sym (ap (λ x. x.1) is)) (subst (λ q. IsFollowed q s) (same_phase none) h)
+  goes_on (allocates x rest is none flushed pool at) asked =
+      absurd (asked (ap (λ x. x.1.allocator.asked) is ∙ flushed))
+  goes_on (frees x is none flushed lives at) asked =
+      absurd (asked (ap (λ x. x.1.allocator.asked) is ∙ flushed))
   goes_on (flushes is none at) asked = absurd (asked (ap (λ x. x.1.allocator.asked) is))
   goes_on (begins caller n spent is below none at) asked =
       subst (λ t. IsFollowed onward t) (sym (ap (λ x. x.1) is))
-      (subst (λ q. IsFollowed q (record s { spent = spent; calls = finite.insert s.calls caller (record { requested = n; reply = None }) })) (same_phase (ap (reservations s) at))
+      (subst (λ q. IsFollowed q
+      (record s {
+        spent = spent;
+        calls = finite.insert s.calls caller
+            (record { requested = n; reply = None });
+      })) (same_phase (ap (reservations s) at))
       (record {
         legal = h.legal;
         reached = h.reached;
-        rest = λ zero_asked. on_inserted (λ q. RequestedNone) s.calls caller (λ q call r _. h.rest zero_asked q call r) (record { requested = n; reply = None }) (λ r told. absurd (none_some r told));
-        open_calls = on_inserted (IsOfHistory p.calls) s.calls caller (λ q call r _. h.open_calls q call r) (record { requested = n; reply = None }) (λ r told. absurd (none_some r told));
+        rest = λ zero_asked. on_inserted (λ q. RequestedNone) s.calls caller
+            (λ q call r _. h.rest zero_asked q call r) (record { requested = n; reply = None })
+            (λ r told. absurd (none_some r told));
+        open_calls = on_inserted (IsOfHistory p.calls) s.calls caller
+            (λ q call r _. h.open_calls q call r) (record { requested = n; reply = None })
+            (λ r told. absurd (none_some r told));
       }))
   goes_on (steps caller call is below some waits makes at) asked =
       subst (λ t. IsFollowed onward t) (sym (ap (λ x. x.1) is))
-      (subst (λ calls. IsFollowed (record { start = p.start; calls = p.calls ++ calls }) (record s { allocator = after_take s.allocator call.requested; calls = finite.insert s.calls caller (record { requested = call.requested; reply = Some (reply_to s.allocator call.requested) }) }))
+      (subst (λ calls. IsFollowed (record { start = p.start; calls = p.calls ++ calls })
+      (record s {
+        allocator = after_take s.allocator call.requested;
+        calls =
+            finite.insert s.calls caller
+            (record {
+              requested = call.requested;
+              reply = Some (reply_to s.allocator call.requested);
+            });
+      }))
       (sym makes) (after_step caller call.requested))
   goes_on (answers caller call reply is below some stepped at) asked =
       subst (λ t. IsFollowed onward t) (sym (ap (λ x. x.1) is))
-      (subst (λ q. IsFollowed q (record s { calls = finite.remove s.calls caller })) (same_phase (ap (reservations s) at))
+      (subst (λ q. IsFollowed q (record s { calls = finite.remove s.calls caller }))
+      (same_phase (ap (reservations s) at))
       (record {
         legal = h.legal;
         reached = h.reached;
-        rest = λ zero_asked. on_removed (λ q. RequestedNone) s.calls caller (λ q call r _. h.rest zero_asked q call r);
-        open_calls = on_removed (IsOfHistory p.calls) s.calls caller (λ q call r _. h.open_calls q call r);
+        rest = λ zero_asked. on_removed (λ q. RequestedNone) s.calls caller
+            (λ q call r _. h.rest zero_asked q call r);
+        open_calls = on_removed (IsOfHistory p.calls) s.calls caller
+            (λ q call r _. h.open_calls q call r);
       }))
 
   pub followed-next : IsFollowed (phase_after p s e) (after_event s e)
   followed-next = go ((after_event s e).allocator.asked == 0) refl
     where
-      go : (b : Bool) → ((after_event s e).allocator.asked == 0) ≡ b → IsFollowed (phase_after p s e) (after_event s e)
+      go : (b : Bool) → ((after_event s e).allocator.asked == 0) ≡ b
+          → IsFollowed (phase_after p s e) (after_event s e)
       go true is =
           let zero_asked : (after_event s e).allocator.asked ≡ 0 = grind (arith, nat_tests) in
           let quiet = at_rest (move s e) zero_asked in
           let start : Phase = record { start = (after_event s e).allocator; calls = [] } in
-          subst (λ q. IsFollowed q (after_event s e)) (sym (when ((after_event s e).allocator.asked == 0) start onward is))
-          (record { legal = tt; reached = refl; rest = λ _. quiet; open_calls = λ q call r at told. inl (quiet q call r at told) })
+          subst (λ q. IsFollowed q (after_event s e))
+          (sym (when ((after_event s e).allocator.asked == 0) start onward is))
+          (record {
+            legal = tt;
+            reached = refl;
+            rest = λ _. quiet;
+            open_calls = λ q call r at told.
+                inl (quiet q call r at told);
+          })
       go false is =
           let start : Phase = record { start = (after_event s e).allocator; calls = [] } in
-          subst (λ q. IsFollowed q (after_event s e)) (sym (unless ((after_event s e).allocator.asked == 0) start onward is))
+          subst (λ q. IsFollowed q (after_event s e))
+          (sym (unless ((after_event s e).allocator.asked == 0) start onward is))
           (goes_on (move s e) (grind (arith, nat_tests)))
 
 -- ---- what an answer tells
 
-told_by : (p : Phase) (s : MachineState) (caller : ℕ) → IsFollowed p s → (r : Result Outcome ReplayFault) → outcome_of s (event.Answer caller) ≡ r → TellsReply s p.calls (event.Answer caller) r
+told_by : (p : Phase) (s : MachineState) (caller : ℕ) → IsFollowed p s
+    → (r : Result Outcome ReplayFault) → outcome_of s (event.Answer caller) ≡ r
+    → TellsReply s p.calls (event.Answer caller) r
 told_by p s caller h (Err why) result = tt
 told_by p s caller h (Ok told) result = go (move s (event.Answer caller))
   where
-    go : Move s (event.Answer caller) → (call : OpenCall) × (finite.get s.calls caller ≡ Some call) × TellsOf p.calls caller call.requested told
-    go (stays r is gives fine tells none) = absurd (tells told caller refl (sym (ap (λ x. x.0) is) ∙ result))
+    go : Move s (event.Answer caller) → (call : OpenCall) × (finite.get s.calls caller ≡ Some call)
+        × TellsOf p.calls caller call.requested told
+    go (stays r is gives fine tells none) =
+        absurd (tells told caller refl (sym (ap (λ x. x.0) is) ∙ result))
     go (allocates x rest is none flushed pool at) = absurd cc
     go (frees x is none flushed lives at) = absurd cc
     go (flushes is none at) = absurd cc
@@ -225,13 +346,15 @@ told_by p s caller h (Ok told) result = go (move s (event.Answer caller))
         let own : c ≡ caller = cc in
         let says : told ≡ reported reply = cc in
         let here = ap (finite.get s.calls) (sym own) ∙ some in
-        let tells : TellsOf p.calls caller call.requested told = elim (h.open_calls caller call reply here stepped) [
+        let tells : TellsOf p.calls caller call.requested told =
+        elim (h.open_calls caller call reply here stepped) [
           | inl nothing ↦ inl (nothing.0, says ∙ ap reported nothing.1)
           | inr found ↦ inr (found.0, found.1, found.2, says ∙ ap reported found.3)
         ] in
         (call, here, tells)
 
-tells : (p : Phase) (s : MachineState) (e : Event) → IsFollowed p s → TellsReply s p.calls e (outcome_of s e)
+tells : (p : Phase) (s : MachineState) (e : Event) → IsFollowed p s
+    → TellsReply s p.calls e (outcome_of s e)
 tells p s event.Alloc h = tt
 tells p s (event.Free x) h = tt
 tells p s event.Flush h = tt
@@ -241,13 +364,20 @@ tells p s (event.Answer caller) h = told_by p s caller h (outcome_of s (event.An
 
 -- ---- whole runs
 
-follows : (p : Phase) (s : MachineState) (events : List Event) → IsFollowed p s → StandInHistory p s events (outcomes_of s events)
+follows : (p : Phase) (s : MachineState) (events : List Event) → IsFollowed p s
+    → StandInHistory p s events (outcomes_of s events)
 follows p s [] h = tt
 follows p s (e ∷ events) h =
-    let then = followed-next p s e h in
-    (tells p s e h, then.legal, then.reached, follows (phase_after p s e) (after_event s e) events then)
+    let then = followed-next p s e h in (
+      tells p s e h,
+      then.legal,
+      then.reached,
+      follows (phase_after p s e) (after_event s e) events
+          then,
+    )
 
-pub linear : (s : MachineState) (events : List Event) → IsAtRest s → StandInHistory (new_phase s) s events (outcomes_of s events)
+pub linear : (s : MachineState) (events : List Event) → IsAtRest s → StandInHistory (new_phase s) s
+    events (outcomes_of s events)
 linear s events rest = follows (new_phase s) s events (record {
   legal = tt;
   reached = refl;

@@ -29,12 +29,14 @@ apart : (q k : ℕ) → q ≢ k → eq_by_cmp nat_cmp q k ≡ false
 apart q k other = unsigned_tied q k ∙ ne_eqb q k other
 
 same_caller : (q k : ℕ) → eq_by_cmp nat_cmp q k ≡ true → q ≡ k
-same_caller q k tied = let test : (q == k) ≡ true = sym (unsigned_tied q k) ∙ tied in grind (arith, nat_tests)
+same_caller q k tied = let test : (q == k) ≡ true = sym (unsigned_tied q k)
+    ∙ tied in grind (arith, nat_tests)
 
 -- ---- trees
 
 -- two ways to look through a list of entries
-find-lookup : {X : Type 0} (q : ℕ) (es : List (ℕ × X)) → find nat_cmp q es ≡ lookup (is_at (nat_cmp q)) es
+find-lookup : {X : Type 0} (q : ℕ) (es : List (ℕ × X)) → find nat_cmp q es
+    ≡ lookup (is_at (nat_cmp q)) es
 find-lookup q [] = refl
 find-lookup q (e ∷ es) = ap (cond (eq_by_cmp nat_cmp q e.0) (Some e.1)) (find-lookup q es)
 
@@ -43,88 +45,122 @@ abbrev pub of_tree : {X : Type 0} → BTreeMap ℕ X → FinMap nat_cmp X
 of_tree m = finite.from_entries m.entries
 
 -- it has what the tree has
-pub get-of_tree : {X : Type 0} (m : BTreeMap ℕ X) (q : ℕ) → finite.get (of_tree m) q ≡ tree.get nat_cmp m q
+pub get-of_tree : {X : Type 0} (m : BTreeMap ℕ X) (q : ℕ) → finite.get (of_tree m) q
+    ≡ tree.get nat_cmp m q
 get-of_tree m q = get-from_entries nat_cmp_total m.entries q ∙ find-lookup q m.entries
 
-pub maps_alike : {X : Type 0} (m n : FinMap nat_cmp X) → ((q : ℕ) → finite.get m q ≡ finite.get n q) → m ≡ n
+pub maps_alike : {X : Type 0} (m n : FinMap nat_cmp X) → ((q : ℕ) → finite.get m q ≡ finite.get n q)
+    → m ≡ n
 maps_alike m n alike = same_map nat_cmp_total nat_cmp-IsAntisymmetric m n alike
 
-pub of_tree-insert : {X : Type 0} (m n : BTreeMap ℕ X) (k : ℕ) (v : X) → tree.Updates nat_cmp m n k (Some v) → of_tree n ≡ finite.insert (of_tree m) k v
+pub of_tree-insert : {X : Type 0} (m n : BTreeMap ℕ X) (k : ℕ) (v : X) → tree.Updates nat_cmp m n k
+    (Some v) → of_tree n ≡ finite.insert (of_tree m) k v
 of_tree-insert m n k v updates = maps_alike (of_tree n) (finite.insert (of_tree m) k v) (λ q.
     get-of_tree n q ∙ updates.0 q
     ∙ (λ i. cond ((eq_by_cmp_equiv nat_cmp_total).symm k q i) (Some v) (sym (get-of_tree m q) i))
     ∙ sym (get-insert nat_cmp_total (of_tree m) k v q))
 
-pub of_tree-remove : {X : Type 0} (m n : BTreeMap ℕ X) (k : ℕ) → tree.Updates nat_cmp m n k None → of_tree n ≡ finite.remove (of_tree m) k
+pub of_tree-remove : {X : Type 0} (m n : BTreeMap ℕ X) (k : ℕ) → tree.Updates nat_cmp m n k None
+    → of_tree n ≡ finite.remove (of_tree m) k
 of_tree-remove m n k updates = maps_alike (of_tree n) (finite.remove (of_tree m) k) (λ q.
     get-of_tree n q ∙ updates.0 q
     ∙ (λ i. cond ((eq_by_cmp_equiv nat_cmp_total).symm k q i) None (sym (get-of_tree m q) i))
     ∙ sym (get-remove nat_cmp_total (of_tree m) k q))
 
 -- to write over the value of a key that is there
-pub from_entries-set : {X : Type 0} (es : List (ℕ × X)) (k : ℕ) (w : X) → IsSome (lookup (is_at (nat_cmp k)) es) → finite.from_entries {R = nat_cmp} (set_value (is_at (nat_cmp k)) es w) ≡ finite.insert (finite.from_entries es) k w
-from_entries-set es k w there = maps_alike (finite.from_entries (set_value (is_at (nat_cmp k)) es w)) (finite.insert (finite.from_entries es) k w) (λ q.
+pub from_entries-set : {X : Type 0} (es : List (ℕ × X)) (k : ℕ) (w : X)
+    → IsSome (lookup (is_at (nat_cmp k)) es) → finite.from_entries {R = nat_cmp}
+    (set_value (is_at (nat_cmp k)) es w) ≡ finite.insert (finite.from_entries es) k w
+from_entries-set es k w there =
+    maps_alike (finite.from_entries (set_value (is_at (nat_cmp k)) es w))
+    (finite.insert (finite.from_entries es) k w) (λ q.
     get-from_entries nat_cmp_total (set_value (is_at (nat_cmp k)) es w) q
     ∙ find-lookup q (set_value (is_at (nat_cmp k)) es w)
-    ∙ lookup-set_value {eq = eq_by_cmp nat_cmp} (eq_by_cmp_equiv nat_cmp_total) (is_at (nat_cmp k)) (λ x y tied. ap (λ j. eq_by_cmp nat_cmp j y) (same_caller k x tied)) q w es there
-    ∙ (λ i. cond ((eq_by_cmp_equiv nat_cmp_total).symm k q i) (Some w) (sym (get-from_entries nat_cmp_total es q ∙ find-lookup q es) i))
+    ∙ lookup-set_value {eq = eq_by_cmp nat_cmp} (eq_by_cmp_equiv nat_cmp_total) (is_at (nat_cmp k))
+    (λ x y tied. ap (λ j. eq_by_cmp nat_cmp j y) (same_caller k x tied)) q w es there
+    ∙ (λ i. cond ((eq_by_cmp_equiv nat_cmp_total).symm k q i) (Some w)
+    (sym (get-from_entries nat_cmp_total es q ∙ find-lookup q es) i))
     ∙ sym (get-insert nat_cmp_total (finite.from_entries es) k w q))
 
 -- ---- the map at one caller, and at the others
 
-pub get-inserted : {X : Type 0} (m : FinMap nat_cmp X) (k : ℕ) (v : X) → finite.get (finite.insert m k v) k ≡ Some v
-get-inserted m k v = get-insert nat_cmp_total m k v k ∙ ap (λ b. cond b (Some v) (finite.get m k)) (itself k)
+pub get-inserted : {X : Type 0} (m : FinMap nat_cmp X) (k : ℕ) (v : X)
+    → finite.get (finite.insert m k v) k ≡ Some v
+get-inserted m k v = get-insert nat_cmp_total m k v k ∙ ap (λ b. cond b (Some v) (finite.get m k))
+    (itself k)
 
-pub get-insert_other : {X : Type 0} (m : FinMap nat_cmp X) (k : ℕ) (v : X) (q : ℕ) → q ≢ k → finite.get (finite.insert m k v) q ≡ finite.get m q
-get-insert_other m k v q other = get-insert nat_cmp_total m k v q ∙ ap (λ b. cond b (Some v) (finite.get m q)) (apart q k other)
+pub get-insert_other : {X : Type 0} (m : FinMap nat_cmp X) (k : ℕ) (v : X) (q : ℕ) → q ≢ k
+    → finite.get (finite.insert m k v) q ≡ finite.get m q
+get-insert_other m k v q other = get-insert nat_cmp_total m k v q
+    ∙ ap (λ b. cond b (Some v) (finite.get m q)) (apart q k other)
 
-pub get-removed : {X : Type 0} (m : FinMap nat_cmp X) (k : ℕ) → finite.get (finite.remove m k) k ≡ None
+pub get-removed : {X : Type 0} (m : FinMap nat_cmp X) (k : ℕ) → finite.get (finite.remove m k) k
+    ≡ None
 get-removed m k = get-remove nat_cmp_total m k k ∙ ap (λ b. cond b None (finite.get m k)) (itself k)
 
-pub get-remove_other : {X : Type 0} (m : FinMap nat_cmp X) (k : ℕ) (q : ℕ) → q ≢ k → finite.get (finite.remove m k) q ≡ finite.get m q
-get-remove_other m k q other = get-remove nat_cmp_total m k q ∙ ap (λ b. cond b None (finite.get m q)) (apart q k other)
+pub get-remove_other : {X : Type 0} (m : FinMap nat_cmp X) (k : ℕ) (q : ℕ) → q ≢ k
+    → finite.get (finite.remove m k) q ≡ finite.get m q
+get-remove_other m k q other = get-remove nat_cmp_total m k q
+    ∙ ap (λ b. cond b None (finite.get m q)) (apart q k other)
 
 -- to take out what was put where nothing was is to change nothing
-pub insert-remove : {X : Type 0} (m : FinMap nat_cmp X) (k : ℕ) (v : X) → finite.get m k ≡ None → finite.remove (finite.insert m k v) k ≡ m
-insert-remove {X} m k v none = maps_alike (finite.remove (finite.insert m k v) k) m (λ q. at q (eq_by_cmp nat_cmp q k) refl)
+pub insert-remove : {X : Type 0} (m : FinMap nat_cmp X) (k : ℕ) (v : X) → finite.get m k ≡ None
+    → finite.remove (finite.insert m k v) k ≡ m
+insert-remove {X} m k v none = maps_alike (finite.remove (finite.insert m k v) k) m
+    (λ q. at q (eq_by_cmp nat_cmp q k) refl)
   where
-    at : (q : ℕ) (b : Bool) → eq_by_cmp nat_cmp q k ≡ b → finite.get (finite.remove (finite.insert m k v) k) q ≡ finite.get m q
+    at : (q : ℕ) (b : Bool) → eq_by_cmp nat_cmp q k ≡ b
+        → finite.get (finite.remove (finite.insert m k v) k) q ≡ finite.get m q
     at q true tied = let same : q ≡ k = same_caller q k tied in
-        get-remove nat_cmp_total (finite.insert m k v) k q ∙ ap (λ b. cond b None (finite.get (finite.insert m k v) q)) tied ∙ sym none ∙ ap (finite.get m) (sym same)
+        get-remove nat_cmp_total (finite.insert m k v) k q
+        ∙ ap (λ b. cond b None (finite.get (finite.insert m k v) q)) tied ∙ sym none
+        ∙ ap (finite.get m) (sym same)
     at q false other =
-        get-remove nat_cmp_total (finite.insert m k v) k q ∙ ap (λ b. cond b None (finite.get (finite.insert m k v) q)) other
+        get-remove nat_cmp_total (finite.insert m k v) k q
+        ∙ ap (λ b. cond b None (finite.get (finite.insert m k v) q)) other
         ∙ get-insert nat_cmp_total m k v q ∙ ap (λ b. cond b (Some v) (finite.get m q)) other
 
 -- ---- the values under a function
 
-find-values : {X Y : Type 0} (f : X → Y) (q : ℕ) (es : List (ℕ × X)) → find nat_cmp q (map (λ e. (e.0, f e.1)) es) ≡ option_map f (find nat_cmp q es)
+find-values : {X Y : Type 0} (f : X → Y) (q : ℕ) (es : List (ℕ × X))
+    → find nat_cmp q (map (λ e. (e.0, f e.1)) es) ≡ option_map f (find nat_cmp q es)
 find-values f q [] = refl
-find-values f q (e ∷ es) = elim (eq_by_cmp nat_cmp q e.0) as (λ b. cond b (Some (f e.1)) (find nat_cmp q (map (λ e. (e.0, f e.1)) es)) ≡ option_map f (cond b (Some e.1) (find nat_cmp q es))) [
-  | true ↦ refl
-  | false ↦ find-values f q es
-]
+find-values f q (e ∷ es) = elim (eq_by_cmp nat_cmp q e.0) as
+    (λ b. cond b (Some (f e.1)) (find nat_cmp q (map (λ e. (e.0, f e.1)) es))
+    ≡ option_map f (cond b (Some e.1) (find nat_cmp q es))) [
+      | true ↦ refl
+      | false ↦ find-values f q es
+    ]
 
-pub get-map_values : {X Y : Type 0} (f : X → Y) (m : FinMap nat_cmp X) (q : ℕ) → finite.get (map_values f m) q ≡ option_map f (finite.get m q)
-get-map_values f m q = get-from_entries nat_cmp_total (map (λ e. (e.0, f e.1)) (finite.entries m)) q ∙ find-values f q (finite.entries m) ∙ ap (option_map f) (sym (get-entries m q))
+pub get-map_values : {X Y : Type 0} (f : X → Y) (m : FinMap nat_cmp X) (q : ℕ)
+    → finite.get (map_values f m) q ≡ option_map f (finite.get m q)
+get-map_values f m q = get-from_entries nat_cmp_total (map (λ e. (e.0, f e.1)) (finite.entries m)) q
+    ∙ find-values f q (finite.entries m) ∙ ap (option_map f) (sym (get-entries m q))
 
-mapped : {X Y : Type 0} (f : X → Y) (b : Bool) (v : X) (o : Option X) → option_map f (cond b (Some v) o) ≡ cond b (Some (f v)) (option_map f o)
+mapped : {X Y : Type 0} (f : X → Y) (b : Bool) (v : X) (o : Option X)
+    → option_map f (cond b (Some v) o) ≡ cond b (Some (f v)) (option_map f o)
 mapped f true v o = refl
 mapped f false v o = refl
 
-mapped_none : {X Y : Type 0} (f : X → Y) (b : Bool) (o : Option X) → option_map f (cond b None o) ≡ cond b None (option_map f o)
+mapped_none : {X Y : Type 0} (f : X → Y) (b : Bool) (o : Option X) → option_map f (cond b None o)
+    ≡ cond b None (option_map f o)
 mapped_none f true o = refl
 mapped_none f false o = refl
 
-pub map_values-insert : {X Y : Type 0} (f : X → Y) (m : FinMap nat_cmp X) (k : ℕ) (v : X) → map_values f (finite.insert m k v) ≡ finite.insert (map_values f m) k (f v)
-map_values-insert f m k v = maps_alike (map_values f (finite.insert m k v)) (finite.insert (map_values f m) k (f v)) (λ q.
+pub map_values-insert : {X Y : Type 0} (f : X → Y) (m : FinMap nat_cmp X) (k : ℕ) (v : X)
+    → map_values f (finite.insert m k v) ≡ finite.insert (map_values f m) k (f v)
+map_values-insert f m k v = maps_alike (map_values f (finite.insert m k v))
+    (finite.insert (map_values f m) k (f v)) (λ q.
     get-map_values f (finite.insert m k v) q
     ∙ ap (option_map f) (get-insert nat_cmp_total m k v q)
     ∙ mapped f (eq_by_cmp nat_cmp q k) v (finite.get m q)
     ∙ ap (cond (eq_by_cmp nat_cmp q k) (Some (f v))) (sym (get-map_values f m q))
     ∙ sym (get-insert nat_cmp_total (map_values f m) k (f v) q))
 
-pub map_values-remove : {X Y : Type 0} (f : X → Y) (m : FinMap nat_cmp X) (k : ℕ) → map_values f (finite.remove m k) ≡ finite.remove (map_values f m) k
-map_values-remove f m k = maps_alike (map_values f (finite.remove m k)) (finite.remove (map_values f m) k) (λ q.
+pub map_values-remove : {X Y : Type 0} (f : X → Y) (m : FinMap nat_cmp X) (k : ℕ)
+    → map_values f (finite.remove m k) ≡ finite.remove (map_values f m) k
+map_values-remove f m k = maps_alike (map_values f (finite.remove m k))
+    (finite.remove (map_values f m) k) (λ q.
     get-map_values f (finite.remove m k) q
     ∙ ap (option_map f) (get-remove nat_cmp_total m k q)
     ∙ mapped_none f (eq_by_cmp nat_cmp q k) (finite.get m q)
@@ -133,7 +169,8 @@ map_values-remove f m k = maps_alike (map_values f (finite.remove m k)) (finite.
 
 pub map_values-empty : {X Y : Type 0} (f : X → Y) → map_values f finite.empty ≡ finite.empty
 map_values-empty f = maps_alike (map_values f finite.empty) finite.empty (λ q.
-    get-map_values f finite.empty q ∙ ap (option_map f) (get-empty nat_cmp q) ∙ sym (get-empty nat_cmp q))
+    get-map_values f finite.empty q ∙ ap (option_map f) (get-empty nat_cmp q)
+    ∙ sym (get-empty nat_cmp q))
 
 -- ---- emptiness
 
@@ -144,6 +181,9 @@ something x is = subst (λ o. IsTrue_of o) is tt
     IsTrue_of (Some x) = Unit {0}
     IsTrue_of None = ⊥
 
-pub from_entries-empty : {X : Type 0} (es : List (ℕ × X)) → finite.from_entries {R = nat_cmp} es ≡ finite.empty → es ≡ []
+pub from_entries-empty : {X : Type 0} (es : List (ℕ × X)) → finite.from_entries {R = nat_cmp} es
+    ≡ finite.empty → es ≡ []
 from_entries-empty [] is = refl
-from_entries-empty (e ∷ es) is = absurd (something e.1 (sym (get-inserted (finite.from_entries es) e.0 e.1) ∙ ap (λ m. finite.get m e.0) is ∙ get-empty nat_cmp e.0))
+from_entries-empty (e ∷ es) is =
+    absurd (something e.1 (sym (get-inserted (finite.from_entries es) e.0 e.1)
+    ∙ ap (λ m. finite.get m e.0) is ∙ get-empty nat_cmp e.0))

@@ -33,11 +33,13 @@ use Rattle.ent_replay.specs.ScheduleText.{event_of}
 
 -- ---- steps that did not fail
 
-bind_ok : {A B : Type 0} (r : Result A Cause) (f : A → Result B Cause) (y : B) → (r >>= f) ≡ Ok y → (x : A) × (r ≡ Ok x) × (f x ≡ Ok y)
+bind_ok : {A B : Type 0} (r : Result A Cause) (f : A → Result B Cause) (y : B) → (r >>= f) ≡ Ok y
+    → (x : A) × (r ≡ Ok x) × (f x ≡ Ok y)
 bind_ok (Ok x) f y e = (x, refl, e)
 bind_ok (Err c) f y e = absurd cc
 
-chosen : {A : Type 0} (b : Bool) (x y z : A) → cond b x y ≡ z → ((b ≡ true) × (x ≡ z)) ⊎ ((b ≡ false) × (y ≡ z))
+chosen : {A : Type 0} (b : Bool) (x y z : A) → cond b x y ≡ z → ((b ≡ true) × (x ≡ z))
+    ⊎ ((b ≡ false) × (y ≡ z))
 chosen true x y z e = inl (refl, e)
 chosen false x y z e = inr (refl, e)
 
@@ -47,11 +49,13 @@ done x = Ok x
 ok_is : {A : Type 0} (x y : A) → done x ≡ done y → x ≡ y
 ok_is x y e = cc
 
-or_cause_ok : {A : Type 0} (c : Cause) (r : Result A TextFault) (x : A) → or_cause c r ≡ Ok x → r ≡ Ok x
+or_cause_ok : {A : Type 0} (c : Cause) (r : Result A TextFault) (x : A) → or_cause c r ≡ Ok x → r
+    ≡ Ok x
 or_cause_ok c (Ok y) x e = ap (λ z. Ok z) (ok_is y x e)
 or_cause_ok c (Err fault) x e = absurd cc
 
-none_ok : (event : Event) (words : List (List ℕ)) (e : Event) → none event words ≡ Ok e → (words ≡ []) × (event ≡ e)
+none_ok : (event : Event) (words : List (List ℕ)) (e : Event) → none event words ≡ Ok e
+    → (words ≡ []) × (event ≡ e)
 none_ok event [] e h = (refl, ok_is event e h)
 none_ok event (word ∷ more) e h = absurd cc
 
@@ -60,10 +64,12 @@ one_ok [] word h = absurd cc
 one_ok (first ∷ []) word h = ap (λ (w : List ℕ). w ∷ []) (ok_is first word h)
 one_ok (first ∷ next ∷ more) word h = absurd cc
 
-two_ok : (words : List (List ℕ)) (pair : List ℕ × List ℕ) → two words ≡ Ok pair → words ≡ pair.0 ∷ pair.1 ∷ []
+two_ok : (words : List (List ℕ)) (pair : List ℕ × List ℕ) → two words ≡ Ok pair → words ≡ pair.0
+    ∷ pair.1 ∷ []
 two_ok [] pair h = absurd cc
 two_ok (first ∷ []) pair h = absurd cc
-two_ok (first ∷ second ∷ []) pair h = ap (λ (p : List ℕ × List ℕ). p.0 ∷ p.1 ∷ []) (ok_is (first, second) pair h)
+two_ok (first ∷ second ∷ []) pair h = ap (λ (p : List ℕ × List ℕ). p.0 ∷ p.1 ∷ [])
+    (ok_is (first, second) pair h)
 two_ok (first ∷ second ∷ third ∷ more) pair h = absurd cc
 
 abbrev text_fault : {A : Type 0} → TextFault → Result A TextFault
@@ -72,12 +78,15 @@ text_fault f = Err f
 number_is_small : (word : List ℕ) (n : ℕ) → number_of word ≡ Ok n → n < 2 ^ 32
 number_is_small word n e =
     let value = digits_value 10 word in
-    elim (chosen (is_decimal word) (cond (ltb value (2 ^ 32)) (Ok value) (Err Range)) (text_fault Shape) (Ok n) e) [
+    elim (chosen (is_decimal word) (cond (ltb value (2 ^ 32)) (Ok value) (Err Range))
+    (text_fault Shape) (Ok n) e) [
       | inr shapeless ↦ let f = shapeless.1 in absurd cc
-      | inl digits ↦ elim (chosen (ltb value (2 ^ 32)) (Ok value) (text_fault Range) (Ok n) digits.1) [
-        | inr large ↦ let f = large.1 in absurd cc
-        | inl small ↦ let is : value ≡ n = (let f = small.1 in cc) in subst (λ (m : ℕ). m < 2 ^ 32) is (ltb-true _ _ small.0)
-      ]
+      | inl digits ↦ elim (chosen (ltb value (2 ^ 32)) (Ok value) (text_fault Range) (Ok n)
+          digits.1) [
+            | inr large ↦ let f = large.1 in absurd cc
+            | inl small ↦ let is : value ≡ n = (let f = small.1 in cc) in subst (λ (m : ℕ). m < 2 ^ 32)
+                is (ltb-true _ _ small.0)
+          ]
     ]
 
 number_ok : (word : List ℕ) (n : ℕ) → number_word word ≡ Ok n → (n < 2 ^ 32) × (word ≡ decimal n)
@@ -85,7 +94,8 @@ number_ok word n e =
     let f = or_cause_ok cause.Number (number_of word) n e in
     (number_is_small word n f, number_found word (Ok n) (sym f))
 
-handle_ok : (word : List ℕ) (h : Handle) → handle_word word ≡ Ok h → IsHandle h × (word ≡ handle_text h)
+handle_ok : (word : List ℕ) (h : Handle) → handle_word word ≡ Ok h → IsHandle h
+    × (word ≡ handle_text h)
 handle_ok word h e = handle_found word (Ok h) (sym (or_cause_ok cause.Handle (handle_of word) h e))
 
 number_again : (n : ℕ) → n < 2 ^ 32 → number_word (decimal n) ≡ Ok n
@@ -99,28 +109,36 @@ handle_again h is = ap (or_cause cause.Handle) (handle_of_text h is)
 abbrev pub lacks : ℕ → List ℕ → Bool
 lacks separator bytes = list_all (λ byte. not (eqb byte separator)) bytes
 
-digit_is_other : (separator c : ℕ) → is_ascii_digit separator ≡ false → is_ascii_digit c ≡ true → not (eqb c separator) ≡ true
+digit_is_other : (separator c : ℕ) → is_ascii_digit separator ≡ false → is_ascii_digit c ≡ true
+    → not (eqb c separator) ≡ true
 digit_is_other separator c h d =
     elim (cases_Bool (eqb c separator)) [
       | inl same ↦ absurd (true≢false (sym d ∙ ap is_ascii_digit (eqb-true _ _ same) ∙ h))
       | inr other ↦ ap not other
     ]
 
-digits_lack : (separator : ℕ) (ds : List ℕ) → is_ascii_digit separator ≡ false → list_all is_ascii_digit ds ≡ true → lacks separator ds ≡ true
+digits_lack : (separator : ℕ) (ds : List ℕ) → is_ascii_digit separator ≡ false
+    → list_all is_ascii_digit ds ≡ true → lacks separator ds ≡ true
 digits_lack separator [] h d = refl
 digits_lack separator (c ∷ cs) h d =
     let p = and_parts (is_ascii_digit c) (list_all is_ascii_digit cs) d in
     and_from _ _ (digit_is_other separator c h p.0) (digits_lack separator cs h p.1)
 
-decimal_lacks : (separator n : ℕ) → is_ascii_digit separator ≡ false → n < 2 ^ 64 → lacks separator (decimal n) ≡ true
-decimal_lacks separator n h small = digits_lack separator (decimal n) h (plain_from_decimal (decimal n) (decimal_is_decimal n small)).digits
+decimal_lacks : (separator n : ℕ) → is_ascii_digit separator ≡ false → n < 2 ^ 64
+    → lacks separator (decimal n) ≡ true
+decimal_lacks separator n h small = digits_lack separator (decimal n) h
+    (plain_from_decimal (decimal n) (decimal_is_decimal n small)).digits
 
-append_lacks : (separator : ℕ) (xs ys : List ℕ) → lacks separator xs ≡ true → lacks separator ys ≡ true → lacks separator (xs ++ ys) ≡ true
-append_lacks separator xs ys x y = list_all-append (λ byte. not (eqb byte separator)) xs ys ∙ and_from _ _ x y
+append_lacks : (separator : ℕ) (xs ys : List ℕ) → lacks separator xs ≡ true → lacks separator ys
+    ≡ true → lacks separator (xs ++ ys) ≡ true
+append_lacks separator xs ys x y = list_all-append (λ byte. not (eqb byte separator)) xs ys
+    ∙ and_from _ _ x y
 
-handle_lacks : (separator : ℕ) (h : Handle) → is_ascii_digit separator ≡ false → not (eqb 118 separator) ≡ true → IsHandle h → lacks separator (handle_text h) ≡ true
+handle_lacks : (separator : ℕ) (h : Handle) → is_ascii_digit separator ≡ false
+    → not (eqb 118 separator) ≡ true → IsHandle h → lacks separator (handle_text h) ≡ true
 handle_lacks separator h digit letter is =
-    append_lacks separator (decimal h.index) (118 ∷ decimal h.generation) (decimal_lacks separator h.index digit (omega (arith, is.index)))
+    append_lacks separator (decimal h.index) (118 ∷ decimal h.generation)
+    (decimal_lacks separator h.index digit (omega (arith, is.index)))
     (and_from _ _ letter (decimal_lacks separator h.generation digit (omega (arith, is.greatest))))
 
 -- no text of an event has a line feed
@@ -130,24 +148,32 @@ event_lacks (Free h) is = handle_lacks 10 h refl refl is
 event_lacks Flush is = refl
 event_lacks (Begin caller n) is =
     append_lacks 10 (decimal caller ++ codes " ") (decimal n)
-    (append_lacks 10 (decimal caller) (codes " ") (decimal_lacks 10 caller refl (omega (arith, is.0))) refl)
+    (append_lacks 10 (decimal caller) (codes " ")
+    (decimal_lacks 10 caller refl (omega (arith, is.0))) refl)
     (decimal_lacks 10 n refl (omega (arith, is.1)))
 event_lacks (Step caller) is = decimal_lacks 10 caller refl (omega (arith, is))
 event_lacks (Answer caller) is = decimal_lacks 10 caller refl (omega (arith, is))
 
-lacks_all : (separator : ℕ) (bytes : List ℕ) → lacks separator bytes ≡ true → All (λ byte. eqb byte separator ≡ false) bytes
-lacks_all separator bytes h k d lt = not_true _ (AllPass-from_list_all (λ byte. not (eqb byte separator)) bytes h k d lt)
+lacks_all : (separator : ℕ) (bytes : List ℕ) → lacks separator bytes ≡ true
+    → All (λ byte. eqb byte separator ≡ false) bytes
+lacks_all separator bytes h k d lt =
+    not_true _ (AllPass-from_list_all (λ byte. not (eqb byte separator)) bytes h k d lt)
   where
     not_true : (b : Bool) → not b ≡ true → b ≡ false
     not_true true e = absurd (false≢true e)
     not_true false e = refl
 
-pub split_lacking : (separator : ℕ) (bytes : List ℕ) → lacks separator bytes ≡ true → slice_split (λ byte. eqb byte separator) bytes ≡ bytes ∷ []
-split_lacking separator bytes h = slice_split_none (λ byte. eqb byte separator) bytes (lacks_all separator bytes h)
+pub split_lacking : (separator : ℕ) (bytes : List ℕ) → lacks separator bytes ≡ true
+    → slice_split (λ byte. eqb byte separator) bytes ≡ bytes ∷ []
+split_lacking separator bytes h = slice_split_none (λ byte. eqb byte separator) bytes
+    (lacks_all separator bytes h)
 
-pub split_at_lacking : (separator : ℕ) (bytes others : List ℕ) → eqb separator separator ≡ true → lacks separator bytes ≡ true
-    → slice_split (λ byte. eqb byte separator) (bytes ++ separator ∷ others) ≡ bytes ∷ slice_split (λ byte. eqb byte separator) others
-split_at_lacking separator bytes others same h = slice_split_at (λ byte. eqb byte separator) bytes separator others (lacks_all separator bytes h) same
+pub split_at_lacking : (separator : ℕ) (bytes others : List ℕ) → eqb separator separator ≡ true
+    → lacks separator bytes ≡ true
+    → slice_split (λ byte. eqb byte separator) (bytes ++ separator ∷ others) ≡ bytes
+    ∷ slice_split (λ byte. eqb byte separator) others
+split_at_lacking separator bytes others same h = slice_split_at (λ byte. eqb byte separator) bytes
+    separator others (lacks_all separator bytes h) same
 
 -- ---- what is read is spelled so
 
@@ -161,60 +187,89 @@ IsRead words event = IsEvent event × (joined words ≡ event_text event)
 word_is : (word text : List ℕ) → bytes_eq word text ≡ true → word ≡ text
 word_is word text e = (bytes_eq-Decides word text).0 e
 
-alone_found : (word : List ℕ) (others : List (List ℕ)) (event e : Event) → word ≡ event_text event → IsEvent event → none event others ≡ Ok e → IsRead (word ∷ others) e
+alone_found : (word : List ℕ) (others : List (List ℕ)) (event e : Event) → word ≡ event_text event
+    → IsEvent event → none event others ≡ Ok e → IsRead (word ∷ others) e
 alone_found word others event e is fits h =
     let p = none_ok event others e h in
-    subst (λ (x : Event). IsRead (word ∷ others) x) p.1 (fits, ap (λ (ws : List (List ℕ)). joined (word ∷ ws)) p.0 ∙ is)
+    subst (λ (x : Event). IsRead (word ∷ others) x) p.1
+    (fits, ap (λ (ws : List (List ℕ)). joined (word ∷ ws)) p.0 ∙ is)
 
-free_found : (word : List ℕ) (others : List (List ℕ)) (e : Event) → word ≡ codes "free" → (one others >>= handle_word >>= λ h. Ok (Free h)) ≡ Ok e → IsRead (word ∷ others) e
+free_found : (word : List ℕ) (others : List (List ℕ)) (e : Event) → word ≡ codes "free"
+    → (one others >>= handle_word >>= λ h. Ok (Free h)) ≡ Ok e → IsRead (word ∷ others) e
 free_found word others e is h =
     let b = bind_ok (one others >>= handle_word) (λ h. Ok (Free h)) e h in
     let a = bind_ok (one others) handle_word b.0 b.1 in
     let p = handle_ok a.0 b.0 a.2 in
-    subst (λ (x : Event). IsRead (word ∷ others) x) (ok_is (Free b.0) e b.2)
-    (p.0, ap (λ (ws : List (List ℕ)). joined (word ∷ ws)) (one_ok others a.0 a.1) ∙ ap (λ (w : List ℕ). w ++ 32 ∷ a.0) is ∙ ap (λ (w : List ℕ). codes "free " ++ w) p.1)
+    subst (λ (x : Event). IsRead (word ∷ others) x) (ok_is (Free b.0) e b.2) (
+      p.0,
+      ap (λ (ws : List (List ℕ)). joined (word ∷ ws)) (one_ok others a.0 a.1)
+          ∙ ap (λ (w : List ℕ). w ++ 32 ∷ a.0) is ∙ ap (λ (w : List ℕ). codes "free " ++ w) p.1,
+    )
 
 -- a keyword with one number after it
-caller_found : (make : ℕ → Event) (keyword : List ℕ) → ((n : ℕ) → n < 2 ^ 32 → IsEvent (make n)) → ((n : ℕ) → event_text (make n) ≡ keyword ++ 32 ∷ decimal n)
-    → (word : List ℕ) (others : List (List ℕ)) (e : Event) → word ≡ keyword → (one others >>= number_word >>= λ caller. Ok (make caller)) ≡ Ok e → IsRead (word ∷ others) e
+caller_found : (make : ℕ → Event) (keyword : List ℕ) → ((n : ℕ) → n < 2 ^ 32 → IsEvent (make n))
+    → ((n : ℕ) → event_text (make n) ≡ keyword ++ 32 ∷ decimal n)
+    → (word : List ℕ) (others : List (List ℕ)) (e : Event) → word ≡ keyword
+    → (one others >>= number_word >>= λ caller. Ok (make caller)) ≡ Ok e
+    → IsRead (word ∷ others) e
 caller_found make keyword fits text word others e is h =
     let b = bind_ok (one others >>= number_word) (λ caller. Ok (make caller)) e h in
     let a = bind_ok (one others) number_word b.0 b.1 in
     let p = number_ok a.0 b.0 a.2 in
-    subst (λ (x : Event). IsRead (word ∷ others) x) (ok_is (make b.0) e b.2)
-    (fits b.0 p.0, ap (λ (ws : List (List ℕ)). joined (word ∷ ws)) (one_ok others a.0 a.1) ∙ ap (λ (w : List ℕ). w ++ 32 ∷ a.0) is ∙ ap (λ (w : List ℕ). keyword ++ 32 ∷ w) p.1 ∙ sym (text b.0))
+    subst (λ (x : Event). IsRead (word ∷ others) x) (ok_is (make b.0) e b.2) (
+      fits b.0 p.0,
+      ap (λ (ws : List (List ℕ)). joined (word ∷ ws)) (one_ok others a.0 a.1)
+          ∙ ap (λ (w : List ℕ). w ++ 32 ∷ a.0) is ∙ ap (λ (w : List ℕ). keyword ++ 32 ∷ w) p.1
+          ∙ sym (text b.0),
+    )
 
-begin_found : (word : List ℕ) (others : List (List ℕ)) (e : Event) → word ≡ codes "begin" → begin_of others ≡ Ok e → IsRead (word ∷ others) e
+begin_found : (word : List ℕ) (others : List (List ℕ)) (e : Event) → word ≡ codes "begin"
+    → begin_of others ≡ Ok e → IsRead (word ∷ others) e
 unfolding begin_of
 begin_found word others e is h =
-    let a = bind_ok (two others) (λ pair. number_word pair.0 >>= λ caller. number_word pair.1 >>= λ n. Ok (Begin caller n)) e h in
-    let b = bind_ok (number_word a.0.0) (λ caller. number_word a.0.1 >>= λ n. Ok (Begin caller n)) e a.2 in
+    let a = bind_ok (two others) (λ pair. number_word pair.0 >>= λ caller. number_word pair.1 >>=
+    λ n. Ok (Begin caller n)) e h in
+    let b = bind_ok (number_word a.0.0) (λ caller. number_word a.0.1 >>= λ n. Ok (Begin caller n)) e
+    a.2 in
     let c = bind_ok (number_word a.0.1) (λ n. Ok (Begin b.0 n)) e b.2 in
     let p = number_ok a.0.0 b.0 b.1 in
     let q = number_ok a.0.1 c.0 c.1 in
     subst (λ (x : Event). IsRead (word ∷ others) x) (ok_is (Begin b.0 c.0) e c.2) (
       (p.0, q.0),
-      ap (λ (ws : List (List ℕ)). joined (word ∷ ws)) (two_ok others a.0 a.1) ∙ ap (λ (w : List ℕ). w ++ 32 ∷ (a.0.0 ++ 32 ∷ a.0.1)) is
-          ∙ ap (λ (w : List ℕ). codes "begin " ++ (w ++ 32 ∷ a.0.1)) p.1 ∙ ap (λ (w : List ℕ). codes "begin " ++ (decimal b.0 ++ 32 ∷ w)) q.1
-          ∙ ap (λ (w : List ℕ). codes "begin " ++ w) (sym (append_assoc (decimal b.0) (codes " ") (decimal c.0))),
+      ap (λ (ws : List (List ℕ)). joined (word ∷ ws)) (two_ok others a.0 a.1)
+          ∙ ap (λ (w : List ℕ). w ++ 32 ∷ (a.0.0 ++ 32 ∷ a.0.1)) is
+          ∙ ap (λ (w : List ℕ). codes "begin " ++ (w ++ 32 ∷ a.0.1)) p.1
+          ∙ ap (λ (w : List ℕ). codes "begin " ++ (decimal b.0 ++ 32 ∷ w)) q.1
+          ∙ ap (λ (w : List ℕ). codes "begin " ++ w)
+          (sym (append_assoc (decimal b.0) (codes " ") (decimal c.0))),
     )
 
 -- one test of the first word
-tested : (word : List ℕ) (others : List (List ℕ)) (e : Event) (keyword : List ℕ) (x y : Result Event Cause) → cond (bytes_eq word keyword) x y ≡ Ok e
-    → (word ≡ keyword → x ≡ Ok e → IsRead (word ∷ others) e) → (y ≡ Ok e → IsRead (word ∷ others) e) → IsRead (word ∷ others) e
+tested : (word : List ℕ) (others : List (List ℕ)) (e : Event) (keyword : List ℕ)
+    (x y : Result Event Cause) → cond (bytes_eq word keyword) x y ≡ Ok e
+    → (word ≡ keyword → x ≡ Ok e → IsRead (word ∷ others) e) → (y ≡ Ok e → IsRead (word ∷ others) e)
+    → IsRead (word ∷ others) e
 tested word others e keyword x y h found goes_on =
-    elim (chosen (bytes_eq word keyword) x y (Ok e) h) [ inl p ↦ found (word_is word keyword p.0) p.1 | inr p ↦ goes_on p.1 ]
+    elim (chosen (bytes_eq word keyword) x y (Ok e) h) [
+      | inl p ↦ found (word_is word keyword p.0)
+          p.1
+      | inr p ↦ goes_on p.1
+    ]
 
 pub event_found : (words : List (List ℕ)) (e : Event) → event_of words ≡ Ok e → IsRead words e
 unfolding event_with
 event_found [] e h = absurd cc
 event_found (word ∷ others) e h =
-    tested word others e (codes "alloc") _ _ h (λ is p. alone_found word others Alloc e is tt p) (λ h1.
-    tested word others e (codes "flush") _ _ h1 (λ is p. alone_found word others Flush e is tt p) (λ h2.
+    tested word others e (codes "alloc") _ _ h (λ is p. alone_found word others Alloc e is tt p)
+    (λ h1.
+    tested word others e (codes "flush") _ _ h1 (λ is p. alone_found word others Flush e is tt p)
+    (λ h2.
     tested word others e (codes "free") _ _ h2 (λ is p. free_found word others e is p) (λ h3.
     tested word others e (codes "begin") _ _ h3 (λ is p. begin_found word others e is p) (λ h4.
-    tested word others e (codes "step") _ _ h4 (λ is p. caller_found (λ n. Step n) (codes "step") (λ n small. small) (λ n. refl) word others e is p) (λ h5.
-    tested word others e (codes "answer") _ _ h5 (λ is p. caller_found (λ n. Answer n) (codes "answer") (λ n small. small) (λ n. refl) word others e is p) (λ unknown.
+    tested word others e (codes "step") _ _ h4 (λ is p. caller_found (λ n. Step n) (codes "step")
+    (λ n small. small) (λ n. refl) word others e is p) (λ h5.
+    tested word others e (codes "answer") _ _ h5 (λ is p. caller_found (λ n. Answer n)
+    (codes "answer") (λ n small. small) (λ n. refl) word others e is p) (λ unknown.
     absurd cc))))))
 
 -- ---- what is spelled so is read
@@ -222,17 +277,34 @@ event_found (word ∷ others) e h =
 pub event_again : (e : Event) → IsEvent e → event_of (words_of (event_text e)) ≡ Ok e
 unfolding event_with begin_of
 event_again Alloc is = refl
-event_again (Free h) is = rw (split_lacking 32 (handle_text h) (handle_lacks 32 h refl refl is), handle_again h is) refl
+event_again (Free h) is = rw (
+  split_lacking 32 (handle_text h) (handle_lacks 32 h refl refl is),
+  handle_again h is,
+) refl
 event_again Flush is = refl
 event_again (Begin caller n) is =
-    let words : words_of (event_text (Begin caller n)) ≡ codes "begin" ∷ decimal caller ∷ decimal n ∷ [] =
-    ap (λ (bs : List ℕ). codes "begin" ∷ words_of bs) (append_assoc (decimal caller) (codes " ") (decimal n))
-    ∙ ap (λ (ws : List (List ℕ)). codes "begin" ∷ ws) (split_at_lacking 32 (decimal caller) (decimal n) refl (decimal_lacks 32 caller refl (omega (arith, is.0))))
-    ∙ ap (λ (ws : List (List ℕ)). codes "begin" ∷ decimal caller ∷ ws) (split_lacking 32 (decimal n) (decimal_lacks 32 n refl (omega (arith, is.1)))) in
+    let words : words_of (event_text (Begin caller n)) ≡ codes "begin" ∷ decimal caller ∷ decimal n
+    ∷ [] =
+    ap (λ (bs : List ℕ). codes "begin" ∷ words_of bs) (append_assoc (decimal caller) (codes " ")
+    (decimal n))
+    ∙ ap (λ (ws : List (List ℕ)). codes "begin" ∷ ws) (split_at_lacking 32 (decimal caller)
+    (decimal n) refl (decimal_lacks 32 caller refl (omega (arith, is.0))))
+    ∙ ap (λ (ws : List (List ℕ)). codes "begin" ∷ decimal caller ∷ ws)
+    (split_lacking 32 (decimal n) (decimal_lacks 32 n refl (omega (arith, is.1)))) in
     ap event_of words ∙ rw (number_again caller is.0, number_again n is.1) refl
-event_again (Step caller) is = rw (split_lacking 32 (decimal caller) (decimal_lacks 32 caller refl (omega (arith, is))), number_again caller is) refl
-event_again (Answer caller) is = rw (split_lacking 32 (decimal caller) (decimal_lacks 32 caller refl (omega (arith, is))), number_again caller is) refl
+event_again (Step caller) is =
+    rw (
+      split_lacking 32 (decimal caller) (decimal_lacks 32 caller refl (omega (arith, is))),
+      number_again caller is,
+    ) refl
+event_again (Answer caller) is =
+    rw (
+      split_lacking 32 (decimal caller) (decimal_lacks 32 caller refl (omega (arith, is))),
+      number_again caller is,
+    ) refl
 
 -- a line that is refused is no event's text
-pub event_refused : (line : List ℕ) (c : Cause) → event_of (words_of line) ≡ Err c → (e : Event) → IsEvent e → line ≢ event_text e
-event_refused line c refused e is spelled = let f = sym refused ∙ ap (λ (l : List ℕ). event_of (words_of l)) spelled ∙ event_again e is in cc
+pub event_refused : (line : List ℕ) (c : Cause) → event_of (words_of line) ≡ Err c → (e : Event)
+    → IsEvent e → line ≢ event_text e
+event_refused line c refused e is spelled = let f = sym refused
+    ∙ ap (λ (l : List ℕ). event_of (words_of l)) spelled ∙ event_again e is in cc

@@ -29,13 +29,17 @@ read_events events = Ok events
 abbrev read_fault : ReadFault → Result (List Event) ReadFault
 read_fault fault = Err fault
 
-goes_on_ok : (line : ℕ) (r : Result Event Cause) (others : Result (List Event) ReadFault) (events : List Event) → goes_on line r others ≡ Ok events
-    → (event : Event) × (rest : List Event) × (r ≡ Ok event) × (others ≡ Ok rest) × (event ∷ rest ≡ events)
+goes_on_ok : (line : ℕ) (r : Result Event Cause) (others : Result (List Event) ReadFault)
+    (events : List Event) → goes_on line r others ≡ Ok events
+    → (event : Event) × (rest : List Event) × (r ≡ Ok event) × (others ≡ Ok rest)
+    × (event ∷ rest ≡ events)
 goes_on_ok line (Err c) others events e = absurd cc
 goes_on_ok line (Ok event) (Err fault) events e = absurd cc
-goes_on_ok line (Ok event) (Ok rest) events e = let is : read_events (event ∷ rest) ≡ read_events events = e in (event, rest, refl, refl, cc)
+goes_on_ok line (Ok event) (Ok rest) events e = let is : read_events (event ∷ rest)
+    ≡ read_events events = e in (event, rest, refl, refl, cc)
 
-events_found : (number : ℕ) (lines : List (List ℕ)) (events : List Event) → events_of number lines ≡ Ok events → AreEvents events × (lines ≡ map event_text events)
+events_found : (number : ℕ) (lines : List (List ℕ)) (events : List Event) → events_of number lines
+    ≡ Ok events → AreEvents events × (lines ≡ map event_text events)
 events_found number [] events e =
     let is : read_events [] ≡ read_events events = e in
     let same : [] ≡ events = cc in
@@ -45,12 +49,20 @@ events_found number (line ∷ lines) events e =
     let first = event_found (words_of line) g.0 g.2 in
     let others = events_found (number + 1) lines g.1 g.3 in
     let text : line ≡ event_text g.0 = sym (join_with_byte-slice_split 32 line) ∙ first.1 in
-    subst (λ (es : List Event). AreEvents es × (line ∷ lines ≡ map event_text es)) g.4
-    ((first.0, others.0), ap (λ (l : List ℕ). l ∷ lines) text ∙ ap (λ (ls : List (List ℕ)). event_text g.0 ∷ ls) others.1)
+    subst (λ (es : List Event). AreEvents es × (line ∷ lines ≡ map event_text es)) g.4 (
+      (first.0, others.0),
+      ap (λ (l : List ℕ). l ∷ lines) text
+          ∙ ap (λ (ls : List (List ℕ)). event_text g.0 ∷ ls) others.1,
+    )
 
-events_again : (number : ℕ) (events : List Event) → AreEvents events → events_of number (map event_text events) ≡ Ok events
+events_again : (number : ℕ) (events : List Event) → AreEvents events
+    → events_of number (map event_text events) ≡ Ok events
 events_again number [] fits = refl
-events_again number (event ∷ events) fits = rw (event_again event fits.0, events_again (number + 1) events fits.1) refl
+events_again number (event ∷ events) fits = rw (
+  event_again event fits.0,
+  events_again (number + 1)
+      events fits.1,
+) refl
 
 -- the first fault of lines that are numbered from this one on
 record FaultAt (number : ℕ) (lines : List (List ℕ)) (fault : ReadFault) : Type 0 where
@@ -63,7 +75,9 @@ record FaultAt (number : ℕ) (lines : List (List ℕ)) (fault : ReadFault) : Ty
   fits : AreEvents before
   why : event_of (words_of refused) ≡ Err c
 
-fault_after : (number : ℕ) (line : List ℕ) (event : Event) (lines : List (List ℕ)) (fault : ReadFault) → event_of (words_of line) ≡ Ok event → FaultAt (number + 1) lines fault → FaultAt number (line ∷ lines) fault
+fault_after : (number : ℕ) (line : List ℕ) (event : Event) (lines : List (List ℕ))
+    (fault : ReadFault) → event_of (words_of line) ≡ Ok event → FaultAt (number + 1) lines fault
+    → FaultAt number (line ∷ lines) fault
 fault_after number line event lines fault named f =
     let first = event_found (words_of line) event named in
     let text : line ≡ event_text event = sym (join_with_byte-slice_split 32 line) ∙ first.1 in
@@ -73,26 +87,42 @@ fault_after number line event lines fault named f =
       refused = f.refused;
       following = f.following;
       c = f.c;
-      parts = ap (λ (l : List ℕ). l ∷ lines) text ∙ ap (λ (ls : List (List ℕ)). event_text event ∷ ls) f.parts;
+      parts = ap (λ (l : List ℕ). l ∷ lines) text ∙ ap (λ (ls : List (List ℕ)). event_text event
+          ∷ ls) f.parts;
       place = f.place ∙ ap (λ (n : ℕ). Line n f.c) place;
       fits = (first.0, f.fits);
       why = f.why;
     }
 
-by_line : (number : ℕ) (line : List ℕ) (lines : List (List ℕ)) (fault : ReadFault) (r : Result Event Cause) (others : Result (List Event) ReadFault)
-    → event_of (words_of line) ≡ r → (others ≡ Err fault → FaultAt (number + 1) lines fault) → goes_on number r others ≡ Err fault → FaultAt number (line ∷ lines) fault
+by_line : (number : ℕ) (line : List ℕ) (lines : List (List ℕ)) (fault : ReadFault)
+    (r : Result Event Cause) (others : Result (List Event) ReadFault)
+    → event_of (words_of line) ≡ r → (others ≡ Err fault → FaultAt (number + 1) lines fault)
+    → goes_on number r others ≡ Err fault → FaultAt number (line ∷ lines) fault
 by_line number line lines fault (Err k) others named later e =
     let is : read_fault (Line number k) ≡ read_fault fault = e in
     let zero_more : number ≡ length {A = Event} [] + number = omega arith in
     let place : Line number k ≡ fault = cc in
-    record { before = []; refused = line; following = lines; c = k; parts = refl; place = sym place ∙ ap (λ (n : ℕ). Line n k) zero_more; fits = tt; why = named }
+    record {
+      before = [];
+      refused = line;
+      following = lines;
+      c = k;
+      parts = refl;
+      place = sym place
+          ∙ ap (λ (n : ℕ). Line n k) zero_more;
+      fits = tt;
+      why = named;
+    }
 by_line number line lines fault (Ok event) (Ok events) named later e = absurd cc
-by_line number line lines fault (Ok event) (Err other) named later e = fault_after number line event lines fault named (later e)
+by_line number line lines fault (Ok event) (Err other) named later e = fault_after number line event
+    lines fault named (later e)
 
-events_refused : (number : ℕ) (lines : List (List ℕ)) (fault : ReadFault) → events_of number lines ≡ Err fault → FaultAt number lines fault
+events_refused : (number : ℕ) (lines : List (List ℕ)) (fault : ReadFault) → events_of number lines
+    ≡ Err fault → FaultAt number lines fault
 events_refused number [] fault e = absurd cc
 events_refused number (line ∷ lines) fault e =
-    by_line number line lines fault (event_of (words_of line)) (events_of (number + 1) lines) refl (λ later. events_refused (number + 1) lines fault later) e
+    by_line number line lines fault (event_of (words_of line)) (events_of (number + 1) lines) refl
+    (λ later. events_refused (number + 1) lines fault later) e
 
 -- ---- lines of a text
 
@@ -102,72 +132,89 @@ ended lines = flat_map (λ line. line ++ 10 ∷ []) lines
 abbrev IsEnded : List ℕ → List (List ℕ) → Type 0
 IsEnded text lines = (text ≡ ended lines) ⊎ (text ++ 10 ∷ [] ≡ ended lines)
 
-more_ended : (line text : List ℕ) (lines : List (List ℕ)) → IsEnded text lines → IsEnded (line ++ 10 ∷ text) (line ∷ lines)
-more_ended line text lines (inl e) = inl (ap (λ (t : List ℕ). line ++ 10 ∷ t) e ∙ sym (append_assoc line (10 ∷ []) (ended lines)))
+more_ended : (line text : List ℕ) (lines : List (List ℕ)) → IsEnded text lines
+    → IsEnded (line ++ 10 ∷ text) (line ∷ lines)
+more_ended line text lines (inl e) = inl (ap (λ (t : List ℕ). line ++ 10 ∷ t) e
+    ∙ sym (append_assoc line (10 ∷ []) (ended lines)))
 more_ended line text lines (inr e) =
-    inr (append_assoc line (10 ∷ text) (10 ∷ []) ∙ ap (λ (t : List ℕ). line ++ 10 ∷ t) e ∙ sym (append_assoc line (10 ∷ []) (ended lines)))
+    inr (append_assoc line (10 ∷ text) (10 ∷ []) ∙ ap (λ (t : List ℕ). line ++ 10 ∷ t) e
+    ∙ sym (append_assoc line (10 ∷ []) (ended lines)))
 
 last_ended : (part : List ℕ) → IsEnded part (without_empty_end (part ∷ []))
 last_ended part =
     elim (cases_Bool (eqb (length part) 0)) [
-      | inl empty ↦ rw (cond-true (eqb (length part) 0) [] (part ∷ []) empty) (inl (nil_from_length part (eqb-true _ _ empty)))
-      | inr long ↦ rw (cond-false (eqb (length part) 0) [] (part ∷ []) long) (inr (sym (append-nil (part ++ 10 ∷ []))))
+      | inl empty ↦ rw (cond-true (eqb (length part) 0) [] (part ∷ []) empty)
+          (inl (nil_from_length part (eqb-true _ _ empty)))
+      | inr long ↦ rw (cond-false (eqb (length part) 0) [] (part ∷ []) long)
+          (inr (sym (append-nil (part ++ 10 ∷ []))))
     ]
 
-parts_ended : (parts : List (List ℕ)) → 0 < length parts → IsEnded (join_with_byte 10 parts) (without_empty_end parts)
+parts_ended : (parts : List (List ℕ)) → 0 < length parts → IsEnded (join_with_byte 10 parts)
+    (without_empty_end parts)
 parts_ended [] long = absurd (omega arith)
 parts_ended (part ∷ []) long = last_ended part
-parts_ended (part ∷ next ∷ more) long = more_ended part (join_with_byte 10 (next ∷ more)) (without_empty_end (next ∷ more)) (parts_ended (next ∷ more) (omega arith))
+parts_ended (part ∷ next ∷ more) long = more_ended part (join_with_byte 10 (next ∷ more))
+    (without_empty_end (next ∷ more)) (parts_ended (next ∷ more) (omega arith))
 
 -- a text has its lines
 text_ended : (text : List ℕ) → IsEnded text (lines_of text)
 text_ended text =
     let P : List ℕ → Type 0 = λ t. IsEnded t (lines_of text) in
-    subst P (join_with_byte-slice_split 10 text) (parts_ended (slice_split (λ byte. eqb byte 10) text) (parts_nonempty 10 text))
+    subst P (join_with_byte-slice_split 10 text)
+    (parts_ended (slice_split (λ byte. eqb byte 10) text) (parts_nonempty 10 text))
 
 ended_events : (events : List Event) → ended (map event_text events) ≡ schedule_text events
 ended_events events = flat_map-map (λ line. line ++ 10 ∷ []) event_text events
 
-spells_from_lines : (text : List ℕ) (events : List Event) → lines_of text ≡ map event_text events → Spells events text
+spells_from_lines : (text : List ℕ) (events : List Event) → lines_of text ≡ map event_text events
+    → Spells events text
 spells_from_lines text events e =
     let P : List ℕ → Type 0 = λ whole. (text ≡ whole) ⊎ (text ++ 10 ∷ [] ≡ whole) in
     subst P (ap ended e ∙ ended_events events) (text_ended text)
 
 -- ---- the lines of what is spelled
 
-lines_of_schedule : (events : List Event) → AreEvents events → lines_of (schedule_text events) ≡ map event_text events
+lines_of_schedule : (events : List Event) → AreEvents events → lines_of (schedule_text events)
+    ≡ map event_text events
 lines_of_schedule [] fits = refl
 lines_of_schedule (event ∷ events) fits =
     ap lines_of (append_assoc (event_text event) (10 ∷ []) (schedule_text events))
-    ∙ ap without_empty_end (split_at_lacking 10 (event_text event) (schedule_text events) refl (event_lacks event fits.0))
+    ∙ ap without_empty_end (split_at_lacking 10 (event_text event) (schedule_text events) refl
+    (event_lacks event fits.0))
     ∙ without_empty_end-cons (event_text event) _ (parts_nonempty 10 (schedule_text events))
     ∙ ap (λ (ls : List (List ℕ)). event_text event ∷ ls) (lines_of_schedule events fits.1)
 
 abbrev is_end : ℕ → Bool
 is_end byte = eqb byte 10
 
-onto_first-append : (x : ℕ) (parts more : List (List ℕ)) → 0 < length parts → onto_first x (parts ++ more) ≡ onto_first x parts ++ more
+onto_first-append : (x : ℕ) (parts more : List (List ℕ)) → 0 < length parts
+    → onto_first x (parts ++ more) ≡ onto_first x parts ++ more
 onto_first-append x [] more long = absurd (omega arith)
 onto_first-append x (part ∷ parts) more long = refl
 
 -- a line feed after a text makes one more part, which is empty
-split_ended : (text : List ℕ) → slice_split is_end (text ++ 10 ∷ []) ≡ slice_split is_end text ++ [] ∷ []
+split_ended : (text : List ℕ) → slice_split is_end (text ++ 10 ∷ []) ≡ slice_split is_end text ++ []
+    ∷ []
 split_ended [] = refl
 split_ended (x ∷ xs) =
     elim (cases_Bool (is_end x)) [
       | inl same ↦ rw same (ap (λ (ps : List (List ℕ)). [] ∷ ps) (split_ended xs))
-      | inr other ↦ rw other (ap (onto_first x) (split_ended xs) ∙ onto_first-append x (slice_split is_end xs) ([] ∷ []) (parts_nonempty 10 xs))
+      | inr other ↦ rw other (ap (onto_first x) (split_ended xs)
+          ∙ onto_first-append x (slice_split is_end xs) ([] ∷ []) (parts_nonempty 10 xs))
     ]
 
 without_empty_end-ended : (parts : List (List ℕ)) → without_empty_end (parts ++ [] ∷ []) ≡ parts
 without_empty_end-ended [] = refl
 without_empty_end-ended (part ∷ []) = refl
-without_empty_end-ended (part ∷ next ∷ more) = ap (λ (ps : List (List ℕ)). part ∷ ps) (without_empty_end-ended (next ∷ more))
+without_empty_end-ended (part ∷ next ∷ more) = ap (λ (ps : List (List ℕ)). part ∷ ps)
+    (without_empty_end-ended (next ∷ more))
 
 last_line : (b : ℕ) (bs : List ℕ) → without_empty_end ((b ∷ bs) ∷ []) ≡ (b ∷ bs) ∷ []
-last_line b bs = cond-false (eqb (length (b ∷ bs)) 0) [] ((b ∷ bs) ∷ []) (ne_eqb _ 0 (λ e. absurd (omega (arith, e))))
+last_line b bs = cond-false (eqb (length (b ∷ bs)) 0) [] ((b ∷ bs) ∷ [])
+    (ne_eqb _ 0 (λ e. absurd (omega (arith, e))))
 
-without_empty_end-events : (events : List Event) → without_empty_end (map event_text events) ≡ map event_text events
+without_empty_end-events : (events : List Event) → without_empty_end (map event_text events)
+    ≡ map event_text events
 without_empty_end-events [] = refl
 without_empty_end-events (Alloc ∷ []) = last_line _ _
 without_empty_end-events (Free h ∷ []) = last_line _ _
@@ -175,26 +222,34 @@ without_empty_end-events (Flush ∷ []) = last_line _ _
 without_empty_end-events (Begin caller n ∷ []) = last_line _ _
 without_empty_end-events (Step caller ∷ []) = last_line _ _
 without_empty_end-events (Answer caller ∷ []) = last_line _ _
-without_empty_end-events (event ∷ next ∷ events) = ap (λ (ps : List (List ℕ)). event_text event ∷ ps) (without_empty_end-events (next ∷ events))
+without_empty_end-events (event ∷ next ∷ events) = ap (λ (ps : List (List ℕ)). event_text event
+    ∷ ps) (without_empty_end-events (next ∷ events))
 
-lines_from_spelling : (text : List ℕ) (events : List Event) → AreEvents events → Spells events text → lines_of text ≡ map event_text events
+lines_from_spelling : (text : List ℕ) (events : List Event) → AreEvents events → Spells events text
+    → lines_of text ≡ map event_text events
 lines_from_spelling text events fits (inl e) = ap lines_of e ∙ lines_of_schedule events fits
 lines_from_spelling text events fits (inr e) =
     let parts : slice_split is_end text ≡ map event_text events =
-    sym (without_empty_end-ended (slice_split is_end text)) ∙ ap without_empty_end (sym (split_ended text)) ∙ ap lines_of e ∙ lines_of_schedule events fits in
+    sym (without_empty_end-ended (slice_split is_end text))
+    ∙ ap without_empty_end (sym (split_ended text)) ∙ ap lines_of e
+    ∙ lines_of_schedule events fits in
     ap without_empty_end parts ∙ without_empty_end-events events
 
 -- ---- schedules
 
-pub schedule_found : (text : List ℕ) (events : List Event) → schedule_of text ≡ Ok events → AreEvents events × Spells events text
+pub schedule_found : (text : List ℕ) (events : List Event) → schedule_of text ≡ Ok events
+    → AreEvents events × Spells events text
 schedule_found text events e =
     let f = events_found 1 (lines_of text) events e in
     (f.0, spells_from_lines text events f.1)
 
-pub schedule_again : (text : List ℕ) (events : List Event) → AreEvents events → Spells events text → schedule_of text ≡ Ok events
-schedule_again text events fits spelled = ap (events_of 1) (lines_from_spelling text events fits spelled) ∙ events_again 1 events fits
+pub schedule_again : (text : List ℕ) (events : List Event) → AreEvents events → Spells events text
+    → schedule_of text ≡ Ok events
+schedule_again text events fits spelled = ap (events_of 1) (lines_from_spelling text events fits
+    spelled) ∙ events_again 1 events fits
 
-first_fault : (text : List ℕ) (fault : ReadFault) → FaultAt 1 (lines_of text) fault → ExplainsFault text fault
+first_fault : (text : List ℕ) (fault : ReadFault) → FaultAt 1 (lines_of text) fault
+    → ExplainsFault text fault
 first_fault text fault f =
     subst (ExplainsFault text) (sym f.place) (record {
       before = f.before;
@@ -207,5 +262,6 @@ first_fault text fault f =
       spells_none = event_refused f.refused f.c f.why;
     })
 
-pub schedule_refused : (text : List ℕ) (fault : ReadFault) → schedule_of text ≡ Err fault → ExplainsFault text fault
+pub schedule_refused : (text : List ℕ) (fault : ReadFault) → schedule_of text ≡ Err fault
+    → ExplainsFault text fault
 schedule_refused text fault e = first_fault text fault (events_refused 1 (lines_of text) fault e)

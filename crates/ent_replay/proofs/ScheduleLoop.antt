@@ -17,12 +17,15 @@ with_front front (Err fault) = Err fault
 abbrev pub read_from : ℕ → List ℕ → Result (List Event) ReadFault
 read_from so_far rest = events_of (so_far + 1) (lines_of rest)
 
-pub stops : (front : List Event) (so_far : ℕ) (rest line following : List ℕ) (c : Cause) (total : Result (List Event) ReadFault)
-    → lines_of rest ≡ line ∷ lines_of following → event_of (words_of line) ≡ Err c → with_front front (read_from so_far rest) ≡ total → total ≡ Err (Line (so_far + 1) c)
+pub stops : (front : List Event) (so_far : ℕ) (rest line following : List ℕ) (c : Cause)
+    (total : Result (List Event) ReadFault)
+    → lines_of rest ≡ line ∷ lines_of following → event_of (words_of line) ≡ Err c
+    → with_front front (read_from so_far rest) ≡ total → total ≡ Err (Line (so_far + 1) c)
 stops front so_far rest line following c total split named invariant =
     sym invariant
     ∙ ap (λ (ls : List (List ℕ)). with_front front (events_of (so_far + 1) ls)) split
-    ∙ ap (λ (r : Result Event Cause). with_front front (goes_on (so_far + 1) r (read_from (so_far + 1) following))) named
+    ∙ ap (λ (r : Result Event Cause).
+    with_front front (goes_on (so_far + 1) r (read_from (so_far + 1) following))) named
 
 pub ends : (front : List Event) (so_far : ℕ) (rest : List ℕ) (total : Result (List Event) ReadFault)
     → length rest ≡ 0 → with_front front (read_from so_far rest) ≡ total → total ≡ Ok front

@@ -11,25 +11,37 @@ use Rattle.ent_replay.specs.ScheduleText.{without_empty_end, lines_of, words_of,
 abbrev pub IsWithout : ℕ → List ℕ → Type 0
 IsWithout separator bytes = All (λ byte. byte ≢ separator) bytes
 
-fails : (separator : ℕ) (bytes : List ℕ) → IsWithout separator bytes → All (λ byte. eqb byte separator ≡ false) bytes
+fails : (separator : ℕ) (bytes : List ℕ) → IsWithout separator bytes
+    → All (λ byte. eqb byte separator ≡ false) bytes
 fails separator bytes h k d lt = ne_eqb _ separator (h k d lt)
 
-pub parts_whole : (separator : ℕ) (bytes : List ℕ) → IsWithout separator bytes → slice_split (λ byte. eqb byte separator) bytes ≡ bytes ∷ []
-parts_whole separator bytes h = slice_split_none (λ byte. eqb byte separator) bytes (fails separator bytes h)
+pub parts_whole : (separator : ℕ) (bytes : List ℕ) → IsWithout separator bytes
+    → slice_split (λ byte. eqb byte separator) bytes ≡ bytes ∷ []
+parts_whole separator bytes h = slice_split_none (λ byte. eqb byte separator) bytes
+    (fails separator bytes h)
 
-pub parts_first : (separator : ℕ) (bytes first others : List ℕ) → bytes ≡ first ++ separator ∷ others → IsWithout separator first
-    → slice_split (λ byte. eqb byte separator) bytes ≡ first ∷ slice_split (λ byte. eqb byte separator) others
+pub parts_first : (separator : ℕ) (bytes first others : List ℕ) → bytes ≡ first ++ separator
+    ∷ others → IsWithout separator first
+    → slice_split (λ byte. eqb byte separator) bytes ≡ first
+    ∷ slice_split (λ byte. eqb byte separator) others
 parts_first separator bytes first others e h =
-    ap (slice_split (λ byte. eqb byte separator)) e ∙ slice_split_at (λ byte. eqb byte separator) first separator others (fails separator first h) (eq-eqb separator separator refl)
+    ap (slice_split (λ byte. eqb byte separator)) e ∙ slice_split_at (λ byte. eqb byte separator)
+    first separator others (fails separator first h) (eq-eqb separator separator refl)
 
 -- there is always a part
 
-pub parts_nonempty : (separator : ℕ) (bytes : List ℕ) → 0 < length (slice_split (λ byte. eqb byte separator) bytes)
-parts_nonempty separator bytes = omega (arith, length-slice_split (λ byte. eqb byte separator) bytes)
+pub parts_nonempty : (separator : ℕ) (bytes : List ℕ) → 0
+    < length (slice_split (λ byte. eqb byte separator) bytes)
+parts_nonempty separator bytes = omega (
+  arith,
+  length-slice_split (λ byte. eqb byte separator)
+      bytes,
+)
 
 -- ---- lines
 
-pub without_empty_end-cons : (part : List ℕ) (parts : List (List ℕ)) → 0 < length parts → without_empty_end (part ∷ parts) ≡ part ∷ without_empty_end parts
+pub without_empty_end-cons : (part : List ℕ) (parts : List (List ℕ)) → 0 < length parts
+    → without_empty_end (part ∷ parts) ≡ part ∷ without_empty_end parts
 without_empty_end-cons part [] long = absurd (omega arith)
 without_empty_end-cons part (next ∷ more) long = refl
 
@@ -37,21 +49,26 @@ not_empty : (n : ℕ) → 0 < n → eqb n 0 ≡ false
 not_empty n long = ne_eqb n 0 (λ e. absurd (omega (arith, e)))
 
 pub lines_whole : (text : List ℕ) → 0 < length text → IsWithout 10 text → lines_of text ≡ text ∷ []
-lines_whole text long h = ap without_empty_end (parts_whole 10 text h) ∙ cond-false _ _ _ (not_empty (length text) long)
+lines_whole text long h = ap without_empty_end (parts_whole 10 text h)
+    ∙ cond-false _ _ _ (not_empty (length text) long)
 
-pub lines_first : (text line others : List ℕ) → text ≡ line ++ 10 ∷ others → IsWithout 10 line → lines_of text ≡ line ∷ lines_of others
-lines_first text line others e h = ap without_empty_end (parts_first 10 text line others e h) ∙ without_empty_end-cons line _ (parts_nonempty 10 others)
+pub lines_first : (text line others : List ℕ) → text ≡ line ++ 10 ∷ others → IsWithout 10 line
+    → lines_of text ≡ line ∷ lines_of others
+lines_first text line others e h = ap without_empty_end (parts_first 10 text line others e h)
+    ∙ without_empty_end-cons line _ (parts_nonempty 10 others)
 
 -- ---- words
 
-none_of_words : {A : Type 0} (x : A) (words : List (List ℕ)) → 0 < length words → none x words ≡ Err cause.Count
+none_of_words : {A : Type 0} (x : A) (words : List (List ℕ)) → 0 < length words → none x words
+    ≡ Err cause.Count
 none_of_words x [] long = absurd (omega arith)
 none_of_words x (word ∷ more) long = refl
 
 pub none_after : {A : Type 0} (x : A) (line : List ℕ) → none x (words_of line) ≡ Err cause.Count
 none_after x line = none_of_words x (words_of line) (parts_nonempty 32 line)
 
-one_of_more : (word : List ℕ) (words : List (List ℕ)) → 0 < length words → one (word ∷ words) ≡ Err cause.Count
+one_of_more : (word : List ℕ) (words : List (List ℕ)) → 0 < length words → one (word ∷ words)
+    ≡ Err cause.Count
 one_of_more word [] long = absurd (omega arith)
 one_of_more word (next ∷ more) long = refl
 

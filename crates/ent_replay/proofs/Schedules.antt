@@ -4,14 +4,18 @@ use Rattle.ent_replay.specs.declared.event.Event.{Event}
 use Rattle.ent_replay.specs.Schedule.{MachineState, outcome_of, after_event, outcomes_of}
 use Rattle.ent_replay.specs.Schedule.{after_events}
 
-pub after_events-append : (s : MachineState) (xs ys : List Event) → after_events s (xs ++ ys) ≡ after_events (after_events s xs) ys
+pub after_events-append : (s : MachineState) (xs ys : List Event) → after_events s (xs ++ ys)
+    ≡ after_events (after_events s xs) ys
 after_events-append s [] ys = refl
 after_events-append s (e ∷ xs) ys = after_events-append (after_event s e) xs ys
 
-pub outcomes_of-append : (s : MachineState) (xs ys : List Event) → outcomes_of s (xs ++ ys) ≡ outcomes_of s xs ++ outcomes_of (after_events s xs) ys
+pub outcomes_of-append : (s : MachineState) (xs ys : List Event) → outcomes_of s (xs ++ ys)
+    ≡ outcomes_of s xs ++ outcomes_of (after_events s xs) ys
 outcomes_of-append s [] ys = refl
-outcomes_of-append s (e ∷ xs) ys = ap (outcome_of s e ∷◌) (outcomes_of-append (after_event s e) xs ys)
+outcomes_of-append s (e ∷ xs) ys = ap (outcome_of s e ∷◌) (outcomes_of-append (after_event s e) xs
+    ys)
 
-pub length-outcomes_of : (s : MachineState) (events : List Event) → length (outcomes_of s events) ≡ length events
+pub length-outcomes_of : (s : MachineState) (events : List Event) → length (outcomes_of s events)
+    ≡ length events
 length-outcomes_of s [] = refl
 length-outcomes_of s (e ∷ events) = ap suc (length-outcomes_of (after_event s e) events)

@@ -4,7 +4,8 @@ use Rattle.std.proofs.Common.{suc-mul}
 use Rattle.std.proofs.lemmas.Bool.{cases_lt}
 use Rattle.ent_replay.specs.Totals.{sum_below}
 
-pub sum_below-alike : (f g : ℕ → ℕ) (n : ℕ) → ((q : ℕ) → q < n → f q ≡ g q) → sum_below f n ≡ sum_below g n
+pub sum_below-alike : (f g : ℕ → ℕ) (n : ℕ) → ((q : ℕ) → q < n → f q ≡ g q) → sum_below f n
+    ≡ sum_below g n
 unfolding sum_below
 sum_below-alike f g zero alike = refl
 sum_below-alike f g (suc n) alike =
@@ -13,7 +14,8 @@ sum_below-alike f g (suc n) alike =
     omega arith
 
 -- where the two differ at c alone
-pub sum_below-changed : (f g : ℕ → ℕ) (c n : ℕ) → c < n → ((q : ℕ) → q ≢ c → f q ≡ g q) → sum_below f n + g c ≡ sum_below g n + f c
+pub sum_below-changed : (f g : ℕ → ℕ) (c n : ℕ) → c < n → ((q : ℕ) → q ≢ c → f q ≡ g q)
+    → sum_below f n + g c ≡ sum_below g n + f c
 unfolding sum_below
 sum_below-changed f g c zero lt alike = absurd (omega arith)
 sum_below-changed f g c (suc n) lt alike = elim (cases_lt c n) [
@@ -49,4 +51,5 @@ sum_below-part f c (suc n) lt = elim (cases_lt c n) [
 pub sum_below-none : (f : ℕ → ℕ) (n : ℕ) → ((q : ℕ) → f q ≡ 0) → sum_below f n ≡ 0
 unfolding sum_below
 sum_below-none f zero none = refl
-sum_below-none f (suc n) none = let rest = sum_below-none f n none in let last = none n in omega arith
+sum_below-none f (suc n) none = let rest = sum_below-none f n none in let last = none n in
+    omega arith

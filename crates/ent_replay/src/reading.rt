@@ -40,7 +40,8 @@ fn no_word(event: Event, others: Option<&[u8]>) -> Result<Event, Cause>
 }
 
 fn one_word(others: Option<&[u8]>) -> Result<&[u8], Cause>
-    ensures { ReadsAsView (λ word. word.now) result (one (words_after (option_copied others.entry))) }
+    ensures { ReadsAsView (λ word. word.now) result
+        (one (words_after (option_copied others.entry))) }
 {
     match first_word(others.ok_or(Cause::Count)?) {
         (word, None) => Ok(word),

@@ -25,95 +25,150 @@ use Rattle.ent_runner.proofs.Lost.{ClosedAgain}
 use Rattle.ent_runner.proofs.Lists.{at_within, all_below}
 
 -- numbers that rise and fill a range are the range
-rising_from : (a : ℕ) (xs : List ℕ) → AllPairs (λ m n. m < n) xs → All (λ n. a ≤ n) xs → All (λ n. n < a + length xs) xs → xs ≡ range_with_len a (length xs)
+rising_from : (a : ℕ) (xs : List ℕ) → AllPairs (λ m n. m < n) xs → All (λ n. a ≤ n) xs
+    → All (λ n. n < a + length xs) xs → xs ≡ range_with_len a (length xs)
 rising_from a [] rises least below = refl
 rising_from a (x ∷ xs) rises least below =
     let low : a ≤ x = All-head (λ n. a ≤ n) x xs least in
     let above : All (λ n. x < n) xs = λ k d within. rises 0 (suc k) d (omega arith) (omega arith) in
-    let least' : All (λ n. a + 1 ≤ n) xs = All-weaker (λ n. x < n) (λ n. a + 1 ≤ n) (λ n l. omega arith) xs above in
-    let below' : All (λ n. n < (a + 1) + length xs) xs = All-weaker (λ n. n < a + length (x ∷ xs)) (λ n. n < (a + 1) + length xs) (λ n l. omega arith) xs (All-tail (λ n. n < a + length (x ∷ xs)) x xs below) in
-    let rises' : AllPairs (λ m n. m < n) xs = λ i j d less within. rises (suc i) (suc j) d (omega arith) (omega arith) in
-    let rest : xs ≡ range_with_len (a + 1) (length xs) = rising_from (a + 1) xs rises' least' below' in
-    let here : x ≡ a = first xs x a low above (All-head (λ n. n < a + length (x ∷ xs)) x xs below) rest in
+    let least' : All (λ n. a + 1 ≤ n) xs = All-weaker (λ n. x < n) (λ n. a + 1 ≤ n)
+    (λ n l. omega arith) xs above in
+    let below' : All (λ n. n < (a + 1) + length xs) xs = All-weaker (λ n. n < a + length (x ∷ xs))
+    (λ n. n < (a + 1) + length xs) (λ n l. omega arith) xs
+    (All-tail (λ n. n < a + length (x ∷ xs)) x xs below) in
+    let rises' : AllPairs (λ m n. m < n) xs = λ i j d less within. rises (suc i) (suc j) d
+    (omega arith) (omega arith) in
+    let rest : xs ≡ range_with_len (a + 1) (length xs) = rising_from (a + 1) xs rises' least' below'
+    in
+    let here : x ≡ a = first xs x a low above (All-head (λ n. n < a + length (x ∷ xs)) x xs below)
+    rest in
     (λ i. here i ∷ rest i)
   where
-    first : (xs : List ℕ) (x a : ℕ) → a ≤ x → All (λ n. x < n) xs → x < a + length (x ∷ xs) → xs ≡ range_with_len (a + 1) (length xs) → x ≡ a
+    first : (xs : List ℕ) (x a : ℕ) → a ≤ x → All (λ n. x < n) xs → x < a + length (x ∷ xs) → xs
+        ≡ range_with_len (a + 1) (length xs) → x ≡ a
     first [] x a low above less rest = omega arith
     first (y ∷ xs) x a low above less rest =
         let next : y ≡ a + 1 = ap (λ ns. get_or ns 0 0) rest in
         let l : x < y = All-head (λ n. x < n) y xs above in
         omega arith
 
-queues_in_order : (queues before after : List (List Command)) (n : ℕ) → queues ≡ before ++ after → n ≡ length before → commands_of queues (range_with_len n (length after)) ≡ flat_map (λ queue. queue) after
+queues_in_order : (queues before after : List (List Command)) (n : ℕ) → queues ≡ before ++ after → n
+    ≡ length before → commands_of queues (range_with_len n (length after))
+    ≡ flat_map (λ queue. queue) after
 queues_in_order queues before [] n is at = refl
 queues_in_order queues before (q ∷ after) n is at =
-    let here : queue_at queues n ≡ q = ap (λ qs. get_or qs n []) is ∙ (ap (λ k. get_or (before ++ q ∷ after) k []) at ∙ get_or-append_seam before q after []) in
-    let rest = queues_in_order queues (before ++ q ∷ []) after (n + 1) (is ∙ sym (append_assoc before (q ∷ []) after)) (omega (arith, at, length-append before (q ∷ []))) in
+    let here : queue_at queues n ≡ q = ap (λ qs. get_or qs n []) is
+    ∙ (ap (λ k. get_or (before ++ q ∷ after) k []) at ∙ get_or-append_seam before q after []) in
+    let rest = queues_in_order queues (before ++ q ∷ []) after (n + 1)
+    (is ∙ sym (append_assoc before (q ∷ []) after))
+    (omega (arith, at, length-append before (q ∷ []))) in
     (λ i. here i ++ rest i)
 
 -- the calls of a history whose callers are all the first one
-calls_back : (history : List Call) → All (λ (call : Call). call.caller < 1) history → map first_call (requests_by 0 history) ≡ history
+calls_back : (history : List Call) → All (λ (call : Call). call.caller < 1) history
+    → map first_call (requests_by 0 history) ≡ history
 calls_back [] all = refl
 calls_back (call ∷ history) all =
     let less = All-head (λ (call : Call). call.caller < 1) call history all in
     let zero_is : call.caller ≡ 0 = omega arith in
     let test : (call.caller == 0) ≡ true = eq-eqb call.caller 0 zero_is in
     let rest = calls_back history (All-tail (λ (call : Call). call.caller < 1) call history all) in
-    let same : first_call (call.requested, call.reply) ≡ call = (λ i. record { caller = sym zero_is i; requested = call.requested; reply = call.reply }) in
+    let same : first_call (call.requested, call.reply)
+    ≡ call = (λ i. record {
+      caller = sym zero_is i;
+      requested = call.requested;
+      reply =
+          call.reply;
+    }) in
     by (call.caller == 0) test rest same
   where
-    by : (b : Bool) → b ≡ true → map first_call (requests_by 0 history) ≡ history → first_call (call.requested, call.reply) ≡ call
-        → map first_call (map (λ (c : Call). (c.requested, c.reply)) (cond b (call ∷ filter (λ (c : Call). c.caller == 0) history) (filter (λ (c : Call). c.caller == 0) history))) ≡ call ∷ history
+    by : (b : Bool) → b ≡ true → map first_call (requests_by 0 history) ≡ history
+        → first_call (call.requested, call.reply) ≡ call
+        → map first_call (map (λ (c : Call). (c.requested, c.reply))
+        (cond b (call ∷ filter (λ (c : Call). c.caller == 0) history)
+        (filter (λ (c : Call). c.caller == 0) history))) ≡ call ∷ history
     by true e rest same = (λ i. same i ∷ rest i)
     by false e rest same = absurd (cc)
 
-module _ {S : Type 0} (may : S → View → List Command → Type 0) (systems : List S) (before : World) (queues : List (List Command)) where
-  in_order : (workers : ℕ) (history : List Call) → workers ≡ 1 → IsFrame may systems workers before queues history → history ≡ calls_in_order queues
+module _ {S : Type 0} (may : S → View → List Command → Type 0) (systems : List S) (before : World)
+    (queues : List (List Command)) where
+  in_order : (workers : ℕ) (history : List Call) → workers ≡ 1 → IsFrame may systems workers before
+      queues history → history ≡ calls_in_order queues
   in_order workers history one frame =
       let only = at_within frame.ran 0 (omega (arith, frame.each_worker)) in
       let mine : List ℕ = only.0 in
       let work = frame.work 0 mine only.1 in
       let single : frame.ran ≡ mine ∷ [] = alone frame.ran mine (frame.each_worker ∙ one) only.1 in
-      let same : IsPermutation mine (range_with_len 0 (length systems)) = subst (λ ns. IsPermutation ns (range_with_len 0 (length systems))) (ap (flat_map (λ mine. mine)) single ∙ append-nil mine) frame.once in
-      let long : length mine ≡ length systems = sym (length_permutation mine (range_with_len 0 (length systems)) same) ∙ length-range_with_len 0 (length systems) in
-      let below : All (λ n. n < length systems) mine = All-permutation (λ n. n < length systems) (range_with_len 0 (length systems)) mine (IsPermutation-sym mine (range_with_len 0 (length systems)) same) (all_below (length systems)) in
-      let whole : mine ≡ range_with_len 0 (length mine) = rising_from 0 mine work.rising (λ k d within. omega arith) (subst (λ m. All (λ n. n < m) mine) (omega arith) below) in
+      let same : IsPermutation mine (range_with_len 0 (length systems)) =
+      subst (λ ns. IsPermutation ns (range_with_len 0 (length systems)))
+      (ap (flat_map (λ mine. mine)) single ∙ append-nil mine) frame.once in
+      let long : length mine ≡ length systems =
+      sym (length_permutation mine (range_with_len 0 (length systems)) same)
+      ∙ length-range_with_len 0 (length systems) in
+      let below : All (λ n. n < length systems) mine = All-permutation (λ n. n < length systems)
+      (range_with_len 0 (length systems)) mine
+      (IsPermutation-sym mine (range_with_len 0 (length systems)) same)
+      (all_below (length systems)) in
+      let whole : mine ≡ range_with_len 0 (length mine) = rising_from 0 mine work.rising
+      (λ k d within. omega arith) (subst (λ m. All (λ n. n < m) mine) (omega arith) below) in
       let count : length mine ≡ length queues = long ∙ sym frame.count in
-      let commands : commands_of queues mine ≡ flat_map (λ queue. queue) queues = ap (commands_of queues) (whole ∙ ap (range_with_len 0) count) ∙ queues_in_order queues [] queues 0 refl refl in
-      let callers : All (λ (call : Call). call.caller < 1) history = subst (λ w. All (λ (call : Call). call.caller < w) history) one frame.callers in
-      sym (calls_back history callers) ∙ ap (map first_call) (work.calls ∙ ap (flat_map stands_for) commands)
+      let commands : commands_of queues mine ≡ flat_map (λ queue. queue) queues =
+      ap (commands_of queues) (whole ∙ ap (range_with_len 0) count)
+      ∙ queues_in_order queues [] queues 0 refl refl in
+      let callers : All (λ (call : Call). call.caller < 1) history =
+      subst (λ w. All (λ (call : Call). call.caller < w) history) one frame.callers in
+      sym (calls_back history callers)
+      ∙ ap (map first_call) (work.calls ∙ ap (flat_map stands_for) commands)
     where
-      alone : (ran : List (List ℕ)) (mine : List ℕ) → length ran ≡ 1 → slice_get ran 0 ≡ Some mine → ran ≡ mine ∷ []
+      alone : (ran : List (List ℕ)) (mine : List ℕ) → length ran ≡ 1 → slice_get ran 0 ≡ Some mine
+          → ran ≡ mine ∷ []
       alone [] mine e at = absurd (omega arith)
       alone (x ∷ []) mine e at = let same : x ≡ mine = cc in ap (λ m. m ∷ []) same
       alone (x ∷ y ∷ ran) mine e at = absurd (omega arith)
 
-  pub ends_in_order : (workers : ℕ) (after : World) (births : List Handle) (faults : List Fault) → workers ≡ 1 → Ends may systems workers before queues after births faults → EndsInOrder before queues after births faults
+  pub ends_in_order : (workers : ℕ) (after : World) (births : List Handle) (faults : List Fault)
+      → workers ≡ 1 → Ends may systems workers before queues after births faults
+      → EndsInOrder before queues after births faults
   ends_in_order workers after births faults one ends =
       let is = in_order workers ends.history one ends.frame in
       record {
         legal = subst (IsLegal before.allocator) is ends.frame.legal;
         world = subst (λ h. after ≡ (sync queues (reserved_by h before)).world) is ends.world;
-        births_are = subst (λ h. births ≡ born (after_history before.allocator h)) is ends.births_are;
-        faults_are = subst (λ h. faults ≡ (sync queues (reserved_by h before)).faults) is ends.faults_are;
+        births_are = subst (λ h. births ≡ born (after_history before.allocator h)) is
+            ends.births_are;
+        faults_are = subst (λ h. faults ≡ (sync queues (reserved_by h before)).faults) is
+            ends.faults_are;
       }
 
 -- a world that was opened is the one before
-pub same_world : (world : OpenWorld) (before : World) (closed : World) → closed ≡ before → world.shared.start ≡ closed.allocator → world.phase ≡ closed.phase → world.entities ≡ closed.entities → world_at_start world ≡ before
-same_world world before closed is start phase entities = (λ i. record { allocator = start i; phase = phase i; entities = entities i }) ∙ is
+pub same_world : (world : OpenWorld) (before : World) (closed : World) → closed ≡ before
+    → world.shared.start ≡ closed.allocator → world.phase ≡ closed.phase → world.entities
+    ≡ closed.entities → world_at_start world ≡ before
+same_world world before closed is start phase entities =
+    (λ i. record { allocator = start i; phase = phase i; entities = entities i }) ∙ is
 
 -- the sync of the queues of a frame ends it
-pub ends : {S : Type 0} (may leave : S → View → List Command → Type 0) (systems : List S) (workers : ℕ) (before : World) (world : OpenWorld) (closed after : World) (got : Option (Vec (List Command) Global)) (queues : Vec (List Command) Global) (seen : List (List Command)) (births : List Handle) (faults : List Fault)
+pub ends : {S : Type 0} (may leave : S → View → List Command → Type 0) (systems : List S)
+    (workers : ℕ) (before : World) (world : OpenWorld) (closed after : World)
+    (got : Option (Vec (List Command) Global)) (queues : Vec (List Command) Global)
+    (seen : List (List Command)) (births : List Handle) (faults : List Fault)
     → ClosedAgain may leave systems world closed got
-    → got ≡ Some queues → world_at_start world ≡ before → world.shared.count ≡ workers → seen ≡ queues.items
-    → after ≡ (sync seen closed).world → births ≡ born closed.allocator → faults ≡ (sync seen closed).faults
+    → got ≡ Some queues → world_at_start world ≡ before → world.shared.count ≡ workers → seen
+    ≡ queues.items
+    → after ≡ (sync seen closed).world → births ≡ born closed.allocator → faults
+    ≡ (sync seen closed).faults
     → Ends may systems workers before queues.items after births faults
-ends may leave systems workers before world closed after got queues seen births faults r some same count shown ok born_are faults_are =
-    let frame : IsFrame may systems world.shared.count (world_at_start world) queues.items r.0 = subst (λ (o : Option (Vec (List Command) Global)). IfSome o (λ q. IsFrame may systems world.shared.count (world_at_start world) q.items r.0)) some r.3 in
+ends may leave systems workers before world closed after got queues seen births faults r some same
+    count shown ok born_are faults_are =
+    let frame : IsFrame may systems world.shared.count (world_at_start world) queues.items r.0 =
+    subst (λ (o : Option (Vec (List Command) Global)).
+    IfSome o (λ q. IsFrame may systems world.shared.count (world_at_start world) q.items r.0))
+    some r.3 in
     let is : closed ≡ reserved_by r.0 before = r.2 ∙ ap (reserved_by r.0) same in
     record {
       history = r.0;
-      frame = subst (λ w. IsFrame may systems w before queues.items r.0) count (subst (λ b. IsFrame may systems world.shared.count b queues.items r.0) same frame);
+      frame = subst (λ w. IsFrame may systems w before queues.items r.0) count
+          (subst (λ b. IsFrame may systems world.shared.count b queues.items r.0) same frame);
       world = ok ∙ (λ i. (sync (shown i) (is i)).world);
       births_are = born_are ∙ ap (λ w. born w.allocator) is;
       faults_are = faults_are ∙ (λ i. (sync (shown i) (is i)).faults);

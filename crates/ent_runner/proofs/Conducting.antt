@@ -36,25 +36,30 @@ use Rattle.ent_runner.proofs.Placed.{length_placed}
 use Rattle.ent_runner.proofs.Framed.{Did, frame_is, broken_off, full}
 
 -- a slice of the same length that was written back
-pub written_back : {X : Type 0} (n : ℕ) (old new : List X) → n ≡ length old → length new ≡ length old → take n (new ++ drop (length new) old) ≡ new
+pub written_back : {X : Type 0} (n : ℕ) (old new : List X) → n ≡ length old → length new
+    ≡ length old → take n (new ++ drop (length new) old) ≡ new
 written_back zero old [] n same = refl
 written_back zero [] (x ∷ new) n same = absurd (omega arith)
 written_back zero (y ∷ old) (x ∷ new) n same = absurd (omega arith)
 written_back (suc n) [] [] n_is same = absurd (omega arith)
 written_back (suc n) [] (x ∷ new) n_is same = absurd (omega arith)
 written_back (suc n) (y ∷ old) [] n_is same = absurd (omega arith)
-written_back (suc n) (y ∷ old) (x ∷ new) n_is same = ap (λ xs. x ∷ xs) (written_back n old new (omega arith) (omega arith))
+written_back (suc n) (y ∷ old) (x ∷ new) n_is same = ap (λ xs. x ∷ xs)
+    (written_back n old new (omega arith) (omega arith))
 
-opened_at : (start : Allocator) (number count k : ℕ) (d : Record) → k < count → get_or (opened_records start number count) k d ≡ opened start (number + k)
+opened_at : (start : Allocator) (number count k : ℕ) (d : Record) → k < count
+    → get_or (opened_records start number count) k d ≡ opened start (number + k)
 unfolding opened_records
 opened_at start number zero k d less = absurd (omega arith)
 opened_at start number (suc count) zero d less = ap (opened start) (omega arith)
-opened_at start number (suc count) (suc k) d less = opened_at start (number + 1) count k d (omega arith) ∙ ap (opened start) (omega arith)
+opened_at start number (suc count) (suc k) d less = opened_at start (number + 1) count k d
+    (omega arith) ∙ ap (opened start) (omega arith)
 
 abbrev issued_by : Worker → List SystemQueue
 issued_by w = w.issued.items
 
-pub records_are : (ws : List Worker) → records_of (map (λ (w : Worker). w.reserver) ws) ≡ all_records ws
+pub records_are : (ws : List Worker) → records_of (map (λ (w : Worker). w.reserver) ws)
+    ≡ all_records ws
 records_are [] = refl
 records_are (w ∷ ws) = ap (λ rs. w.reserver.own ∷ rs) (records_are ws)
 
@@ -64,10 +69,14 @@ record Gained (P : SystemQueue → Type 0) (world : OpenWorld) (k : ℕ) (w : Wo
   pub each : All P w.issued.items
   pub claims : systems_of w.issued.items ≡ w.claimer.own.claims
 
-module _ {S : Type 0} (may leave : S → View → List Command → Type 0) (systems : List S) (world : OpenWorld) (claims : Claims) where
+module _ {S : Type 0} (may leave : S → View → List Command → Type 0) (systems : List S)
+    (world : OpenWorld) (claims : Claims) where
   -- each began as it was opened
-  pub have_worked : (view : View) (old team : List Worker) → view ≡ view_of (world_at_start world) → all_records old ≡ opened_records world.shared.start 0 world.shared.count → length old ≡ world.shared.count → length team ≡ length old
-      → ((k : ℕ) (d : Worker) → k < length old → HasWorked may leave world.shared claims systems view (get_or old k d).reserver.own (get_or team k d))
+  pub have_worked : (view : View) (old team : List Worker) → view ≡ view_of (world_at_start world)
+      → all_records old ≡ opened_records world.shared.start 0 world.shared.count → length old
+      ≡ world.shared.count → length team ≡ length old
+      → ((k : ℕ) (d : Worker) → k < length old → HasWorked may leave world.shared claims systems
+      view (get_or old k d).reserver.own (get_or team k d))
       → HaveWorked may leave systems world claims team
   have_worked view old team seen unused many back each = record {
     count = back ∙ many;
@@ -76,25 +85,33 @@ module _ {S : Type 0} (may leave : S → View → List Command → Type 0) (syst
         let less : k < world.shared.count = omega (arith, many) in
         let f : Worker → Record = λ (w : Worker). w.reserver.own in
         let began : (get_or old k w).reserver.own ≡ opened world.shared.start k =
-        sym (get_or-map f old k w (f w) within) ∙ (ap (λ rs. get_or rs k (f w)) unused ∙ (opened_at world.shared.start 0 world.shared.count k (f w) less ∙ ap (opened world.shared.start) (omega arith))) in
-        subst (λ v. HasWorked may leave world.shared claims systems v (opened world.shared.start k) w) seen
+        sym (get_or-map f old k w (f w) within) ∙ (ap (λ rs. get_or rs k (f w)) unused
+        ∙ (opened_at world.shared.start 0 world.shared.count k (f w) less
+        ∙ ap (opened world.shared.start) (omega arith))) in
+        subst (λ v. HasWorked may leave world.shared claims systems v (opened world.shared.start k)
+        w) seen
         (subst (λ b. HasWorked may leave world.shared claims systems view b w) began
-        (subst (HasWorked may leave world.shared claims systems view (get_or old k w).reserver.own) (get_or_from_slice_get team k w w at) (each k w within)));
+        (subst (HasWorked may leave world.shared claims systems view (get_or old k w).reserver.own)
+        (get_or_from_slice_get team k w w at) (each k w within)));
   }
 
-  module _ (team : List Worker) (done : HaveWorked may leave systems world claims team) (numbers : claims.numbers ≡ length systems) where
+  module _ (team : List Worker) (done : HaveWorked may leave systems world claims team)
+      (numbers : claims.numbers ≡ length systems) where
     pub all_claimed : All (HasClaimed world.shared claims) team
     all_claimed = all_from_each (HasClaimed world.shared claims) team (λ k w at.
         let d = done.each k w at in record {
           reserver = d.reserver;
           claimer = d.claimer;
-          inside = subst (λ n. All (λ (i : SystemQueue). i.system < n) w.issued.items) (sym numbers) d.inside;
+          inside = subst (λ n. All (λ (i : SystemQueue). i.system < n) w.issued.items) (sym numbers)
+              d.inside;
           ran = d.ran_some.claims;
           ended = d.ended;
         })
 
-    module _ (P : SystemQueue → Type 0) (each : (k : ℕ) (w : Worker) → slice_get team k ≡ Some w → Gained P world k w) where
-      did : (k : ℕ) (r : Record) (mine : List SystemQueue) → slice_get (all_records team) k ≡ Some r → slice_get (map issued_by team) k ≡ Some mine → Did P (world_at_start world) k r mine
+    module _ (P : SystemQueue → Type 0) (each : (k : ℕ) (w : Worker) → slice_get team k ≡ Some w
+        → Gained P world k w) where
+      did : (k : ℕ) (r : Record) (mine : List SystemQueue) → slice_get (all_records team) k ≡ Some r
+          → slice_get (map issued_by team) k ≡ Some mine → Did P (world_at_start world) k r mine
       did k r mine at_r at_mine =
           let two = mapped_at (λ (w : Worker). w.reserver.own) team k r at_r in
           let w : Worker = two.0 in
@@ -105,121 +122,217 @@ module _ {S : Type 0} (may leave : S → View → List Command → Type 0) (syst
           let g = each k w two.1 in
           subst (λ is. Did P (world_at_start world) k r is) is_mine
           (subst (λ r. Did P (world_at_start world) k r w.issued.items) two.2
-          (record { gains = g.gains; each = g.each; rising = subst (AllPairs (λ m n. m < n)) (sym g.claims) d.claimer.rises }))
+          (record {
+            gains = g.gains;
+            each = g.each;
+            rising = subst (AllPairs (λ m n. m < n))
+                (sym g.claims) d.claimer.rises;
+          }))
 
     mine_flat : flat_map (λ mine. mine) (map issued_by team) ≡ flat_map issued_by team
     mine_flat = flat_map-map (λ mine. mine) issued_by team
 
-    systems_flat : flat_map systems_of (map issued_by team) ≡ flat_map (λ (w : Worker). systems_of w.issued.items) team
+    systems_flat : flat_map systems_of (map issued_by team)
+        ≡ flat_map (λ (w : Worker). systems_of w.issued.items) team
     systems_flat = flat_map-map systems_of issued_by team
 
-    module _ (legal : IsLegal world.shared.start (history_of (all_records team))) (respects : All (Respects (reservations_of (all_records team))) (all_records team)) where
+    module _ (legal : IsLegal world.shared.start (history_of (all_records team)))
+        (respects : All (Respects (reservations_of (all_records team))) (all_records team)) where
       pub is_frame : All (λ (w : Worker). w.stopped ≡ false) team
-          → IsPermutation (flat_map (λ (w : Worker). systems_of w.issued.items) team) (range_with_len 0 claims.numbers)
-          → (queues : List (List Command)) → map Some queues ≡ queues_placed (flat_map (λ (w : Worker). w.issued.items) team) (replicate claims.numbers None)
-          → IsFrame may systems world.shared.count (world_at_start world) queues (history_of (all_records team))
+          → IsPermutation (flat_map (λ (w : Worker). systems_of w.issued.items) team)
+          (range_with_len 0 claims.numbers)
+          → (queues : List (List Command)) → map Some queues
+          ≡ queues_placed (flat_map (λ (w : Worker). w.issued.items) team)
+          (replicate claims.numbers None)
+          → IsFrame may systems world.shared.count (world_at_start world) queues
+          (history_of (all_records team))
       is_frame going once queues places =
-          let P : SystemQueue → Type 0 = λ (i : SystemQueue). SystemMayIssue may systems (view_of (world_at_start world)) i.system i.queue in
-          frame_is may systems (world_at_start world) world.shared.count (all_records team) (map issued_by team)
-          (length-map team (λ (w : Worker). w.reserver.own) ∙ done.count) (length-map team issued_by ∙ done.count) legal respects queues
-          (did P (λ k w at. let ran = (done.each k w at).ran (each_of_all (λ (w : Worker). w.stopped ≡ false) team k w going at) in record { gains = ran.gains; each = ran.each; claims = ran.claims }))
-          (subst (λ ns. IsPermutation ns (range_with_len 0 (length systems))) (sym systems_flat) (subst (λ m. IsPermutation (flat_map (λ (w : Worker). systems_of w.issued.items) team) (range_with_len 0 m)) numbers once))
-          (places ∙ (ap (λ n. queues_placed (flat_map issued_by team) (replicate n None)) numbers ∙ ap (λ is. queues_placed is (replicate (length systems) None)) (sym mine_flat)))
+          let P : SystemQueue → Type 0 = λ (i : SystemQueue). SystemMayIssue may systems
+          (view_of (world_at_start world)) i.system i.queue in
+          frame_is may systems (world_at_start world) world.shared.count (all_records team)
+          (map issued_by team)
+          (length-map team (λ (w : Worker). w.reserver.own) ∙ done.count) (length-map team issued_by
+          ∙ done.count) legal respects queues
+          (did P (λ k w at. let ran = (done.each k w at).ran
+          (each_of_all (λ (w : Worker). w.stopped ≡ false) team k w going at) in
+          record { gains = ran.gains; each = ran.each; claims = ran.claims }))
+          (subst (λ ns. IsPermutation ns (range_with_len 0 (length systems))) (sym systems_flat)
+          (subst (λ m. IsPermutation (flat_map (λ (w : Worker). systems_of w.issued.items) team)
+          (range_with_len 0 m)) numbers once))
+          (places ∙ (ap (λ n. queues_placed (flat_map issued_by team) (replicate n None)) numbers
+          ∙ ap (λ is. queues_placed is (replicate (length systems) None)) (sym mine_flat)))
 
-      pub is_broken_off : HaveRunFirst claims.numbers team → IsBrokenOff may leave systems world.shared.count (world_at_start world) (history_of (all_records team))
+      pub is_broken_off : HaveRunFirst claims.numbers team → IsBrokenOff may leave systems
+          world.shared.count (world_at_start world) (history_of (all_records team))
       is_broken_off first =
-          let P : SystemQueue → Type 0 = λ (i : SystemQueue). SystemMayHaveIssued may leave systems (view_of (world_at_start world)) i.system i.queue in
-          broken_off may systems (world_at_start world) world.shared.count (all_records team) (map issued_by team)
-          (length-map team (λ (w : Worker). w.reserver.own) ∙ done.count) (length-map team issued_by ∙ done.count) legal respects leave
+          let P : SystemQueue → Type 0 = λ (i : SystemQueue). SystemMayHaveIssued may leave systems
+          (view_of (world_at_start world)) i.system i.queue in
+          broken_off may systems (world_at_start world) world.shared.count (all_records team)
+          (map issued_by team)
+          (length-map team (λ (w : Worker). w.reserver.own) ∙ done.count) (length-map team issued_by
+          ∙ done.count) legal respects leave
           first.count (subst (λ n. first.count ≤ n) numbers first.within)
-          (did P (λ k w at. let ran = (done.each k w at).ran_some in record { gains = ran.gains; each = ran.each; claims = ran.claims }))
-          (λ k mine at. let there = mapped_at issued_by team k mine at in subst (AllPairs (λ (i later : SystemQueue). SystemMayIssue may systems (view_of (world_at_start world)) i.system i.queue)) there.2 (done.each k there.0 there.1).ran_some.ended)
-          (subst (λ ns. IsPermutation ns (range_with_len 0 first.count)) (sym systems_flat) first.once)
+          (did P (λ k w at. let ran = (done.each k w at).ran_some in
+          record { gains = ran.gains; each = ran.each; claims = ran.claims }))
+          (λ k mine at. let there = mapped_at issued_by team k mine at in
+          subst (AllPairs (λ (i later : SystemQueue). SystemMayIssue may systems
+          (view_of (world_at_start world)) i.system i.queue)) there.2
+          (done.each k there.0 there.1).ran_some.ended)
+          (subst (λ ns. IsPermutation ns (range_with_len 0 first.count)) (sym systems_flat)
+          first.once)
 
 -- What is known once all claims are closed.
-module _ (shared : Shared) (claims : Claims) (team : List Worker) (each : All (HasClaimed shared claims) team) where
+module _ (shared : Shared) (claims : Claims) (team : List Worker)
+    (each : All (HasClaimed shared claims) team) where
   pub reservers_own : All (IsOf shared) (map (λ (w : Worker). w.reserver) team)
-  reservers_own = All-map (IsOf shared) (λ (w : Worker). w.reserver) team (All-weaker (HasClaimed shared claims) (λ (w : Worker). IsOf shared w.reserver) (λ w d. d.reserver) team each)
+  reservers_own = All-map (IsOf shared) (λ (w : Worker). w.reserver) team
+      (All-weaker (HasClaimed shared claims) (λ (w : Worker). IsOf shared w.reserver)
+      (λ w d. d.reserver) team each)
 
   pub claimers_own : All (IsClaimerOf claims) (map (λ (w : Worker). w.claimer) team)
-  claimers_own = All-map (IsClaimerOf claims) (λ (w : Worker). w.claimer) team (All-weaker (HasClaimed shared claims) (λ (w : Worker). IsClaimerOf claims w.claimer) (λ w d. d.claimer) team each)
+  claimers_own = All-map (IsClaimerOf claims) (λ (w : Worker). w.claimer) team
+      (All-weaker (HasClaimed shared claims) (λ (w : Worker). IsClaimerOf claims w.claimer)
+      (λ w d. d.claimer) team each)
 
-  pub all_inside : All (λ (w : Worker). All (λ (i : SystemQueue). i.system < claims.numbers) w.issued.items) team
-  all_inside = All-weaker (HasClaimed shared claims) (λ (w : Worker). All (λ (i : SystemQueue). i.system < claims.numbers) w.issued.items) (λ w d. d.inside) team each
+  pub all_inside : All (λ (w : Worker). All (λ (i : SystemQueue). i.system < claims.numbers)
+      w.issued.items) team
+  all_inside = All-weaker (HasClaimed shared claims)
+      (λ (w : Worker). All (λ (i : SystemQueue). i.system < claims.numbers) w.issued.items)
+      (λ w d. d.inside) team each
 
   -- the systems that they ran are those that they claimed
-  pub ran_claims : flat_map (λ (w : Worker). systems_of w.issued.items) team ≡ flat_map (λ (c : Claimer). c.own.claims) (map (λ (w : Worker). w.claimer) team)
+  pub ran_claims : flat_map (λ (w : Worker). systems_of w.issued.items) team
+      ≡ flat_map (λ (c : Claimer). c.own.claims) (map (λ (w : Worker). w.claimer) team)
   ran_claims =
-      same_flat (λ (w : Worker). systems_of w.issued.items) (λ (w : Worker). w.claimer.own.claims) team (λ k d within. (each k d within).ran)
+      same_flat (λ (w : Worker). systems_of w.issued.items) (λ (w : Worker). w.claimer.own.claims)
+      team (λ k d within. (each k d within).ran)
       ∙ sym (flat_map-map (λ (c : Claimer). c.own.claims) (λ (w : Worker). w.claimer) team)
 
   module _ (going : All (λ (w : Worker). w.stopped ≡ false) team)
-      (once : HaveEnded (map (λ (w : Worker). w.claimer) team) → IsPermutation (flat_map (λ (c : Claimer). c.own.claims) (map (λ (w : Worker). w.claimer) team)) (range_with_len 0 claims.numbers))
+      (once : HaveEnded (map (λ (w : Worker). w.claimer) team)
+      → IsPermutation (flat_map (λ (c : Claimer). c.own.claims)
+      (map (λ (w : Worker). w.claimer) team)) (range_with_len 0 claims.numbers))
     where
       ended : HaveEnded (map (λ (w : Worker). w.claimer) team)
-      ended = All-map (λ (c : Claimer). c.own.ended ≡ true) (λ (w : Worker). w.claimer) team (λ k d within. (each k d within).ended (going k d within))
+      ended = All-map (λ (c : Claimer). c.own.ended ≡ true) (λ (w : Worker). w.claimer) team
+          (λ k d within. (each k d within).ended (going k d within))
 
-      once_each : IsPermutation (flat_map (λ (w : Worker). systems_of w.issued.items) team) (range_with_len 0 claims.numbers)
-      once_each = subst (λ ns. IsPermutation ns (range_with_len 0 claims.numbers)) (sym ran_claims) (once ended)
+      once_each : IsPermutation (flat_map (λ (w : Worker). systems_of w.issued.items) team)
+          (range_with_len 0 claims.numbers)
+      once_each = subst (λ ns. IsPermutation ns (range_with_len 0 claims.numbers)) (sym ran_claims)
+          (once ended)
 
 -- the same of what was seen and handed in
-pub once_closed : (shared : Shared) (claims : Claims) (team : List Worker) → All (HasClaimed shared claims) team → (seen : List Worker) → seen ≡ team → All (λ (w : Worker). w.stopped ≡ false) seen → (claimers : List Claimer) → claimers ≡ map (λ (w : Worker). w.claimer) team
-    → (HaveEnded claimers → IsPermutation (flat_map (λ (c : Claimer). c.own.claims) claimers) (range_with_len 0 claims.numbers))
-    → IsPermutation (flat_map (λ (w : Worker). systems_of w.issued.items) team) (range_with_len 0 claims.numbers)
+pub once_closed : (shared : Shared) (claims : Claims) (team : List Worker)
+    → All (HasClaimed shared claims) team → (seen : List Worker) → seen ≡ team
+    → All (λ (w : Worker). w.stopped ≡ false) seen → (claimers : List Claimer) → claimers
+    ≡ map (λ (w : Worker). w.claimer) team
+    → (HaveEnded claimers → IsPermutation (flat_map (λ (c : Claimer). c.own.claims) claimers)
+    (range_with_len 0 claims.numbers))
+    → IsPermutation (flat_map (λ (w : Worker). systems_of w.issued.items) team)
+    (range_with_len 0 claims.numbers)
 once_closed shared claims team each seen same going claimers theirs once =
     once_each shared claims team each (subst (All (λ (w : Worker). w.stopped ≡ false)) same going)
-    (λ ended. subst (λ (cs : List Claimer). IsPermutation (flat_map (λ (c : Claimer). c.own.claims) cs) (range_with_len 0 claims.numbers)) theirs (once (subst HaveEnded (sym theirs) ended)))
+    (λ ended. subst (λ (cs : List Claimer). IsPermutation (flat_map (λ (c : Claimer). c.own.claims)
+    cs) (range_with_len 0 claims.numbers)) theirs (once (subst HaveEnded (sym theirs) ended)))
 
-pub first_closed : (shared : Shared) (claims : Claims) (team : List Worker) → All (HasClaimed shared claims) team → (claimers : List Claimer) → claimers ≡ map (λ (w : Worker). w.claimer) team → AreFirst claims.numbers claimers → HaveRunFirst claims.numbers team
+pub first_closed : (shared : Shared) (claims : Claims) (team : List Worker)
+    → All (HasClaimed shared claims) team → (claimers : List Claimer) → claimers
+    ≡ map (λ (w : Worker). w.claimer) team → AreFirst claims.numbers claimers
+    → HaveRunFirst claims.numbers team
 first_closed shared claims team each claimers theirs first = record {
   count = first.count;
   within = first.within;
-  once = subst (λ ns. IsPermutation ns (range_with_len 0 first.count)) (sym (ran_claims shared claims team each ∙ ap (flat_map (λ (c : Claimer). c.own.claims)) (sym theirs))) first.once;
+  once = subst (λ ns. IsPermutation ns (range_with_len 0 first.count))
+      (sym (ran_claims shared claims team each ∙ ap (flat_map (λ (c : Claimer). c.own.claims))
+      (sym theirs))) first.once;
 }
 
 -- each place has a queue
-pub all_full : (claims : Claims) (team : List Worker) → IsPermutation (flat_map (λ (w : Worker). systems_of w.issued.items) team) (range_with_len 0 claims.numbers) → All IsSome (queues_placed (flat_map (λ (w : Worker). w.issued.items) team) (replicate claims.numbers None))
+pub all_full : (claims : Claims) (team : List Worker)
+    → IsPermutation (flat_map (λ (w : Worker). systems_of w.issued.items) team)
+    (range_with_len 0 claims.numbers)
+    → All IsSome (queues_placed (flat_map (λ (w : Worker). w.issued.items) team)
+    (replicate claims.numbers None))
 all_full claims team once =
-    subst (λ is. All IsSome (queues_placed is (replicate claims.numbers None))) (flat_map-map (λ mine. mine) issued_by team)
-    (full claims.numbers (map issued_by team) (subst (λ ns. IsPermutation ns (range_with_len 0 claims.numbers)) (sym (flat_map-map systems_of issued_by team)) once))
+    subst (λ is. All IsSome (queues_placed is (replicate claims.numbers None)))
+    (flat_map-map (λ mine. mine) issued_by team)
+    (full claims.numbers (map issued_by team)
+    (subst (λ ns. IsPermutation ns (range_with_len 0 claims.numbers))
+    (sym (flat_map-map systems_of issued_by team)) once))
 
 -- the places after all queues were put in, as they are written back
-pub places_back : (count n : ℕ) (issued : List SystemQueue) (start new : List (Option (List Command))) → start ≡ replicate count None → n ≡ length start → new ≡ queues_placed issued start → take n (new ++ drop (length new) start) ≡ queues_placed issued (replicate count None)
+pub places_back : (count n : ℕ) (issued : List SystemQueue)
+    (start new : List (Option (List Command))) → start ≡ replicate count None → n ≡ length start
+    → new ≡ queues_placed issued start → take n (new ++ drop (length new) start)
+    ≡ queues_placed issued (replicate count None)
 places_back count n issued start new empty n_is put =
     let same : length new ≡ length start = ap length put ∙ length_placed issued start in
     written_back n start new n_is same ∙ (put ∙ ap (queues_placed issued) empty)
 
-unmapped : {X Y : Type 0} (P : Y → Type 0) (f : X → Y) (xs : List X) → All P (map f xs) → All (λ x. P (f x)) xs
+unmapped : {X Y : Type 0} (P : Y → Type 0) (f : X → Y) (xs : List X) → All P (map f xs)
+    → All (λ x. P (f x)) xs
 unmapped P f [] all = All-nil (λ x. P (f x))
-unmapped P f (x ∷ xs) all = All-cons (λ x. P (f x)) x xs (All-head P (f x) (map f xs) all) (unmapped P f xs (All-tail P (f x) (map f xs) all))
+unmapped P f (x ∷ xs) all = All-cons (λ x. P (f x)) x xs (All-head P (f x) (map f xs) all)
+    (unmapped P f xs (All-tail P (f x) (map f xs) all))
 
 -- the workers are ready to begin
-pub all_ready : (shared : Shared) (claims : Claims) (old : List Worker) (given : List Reserver) (fresh : List Claimer)
+pub all_ready : (shared : Shared) (claims : Claims) (old : List Worker) (given : List Reserver)
+    (fresh : List Claimer)
     → map (λ (w : Worker). w.reserver) old ≡ given → All (IsOf shared) given
-    → map (λ (w : Worker). w.claimer) old ≡ reverse fresh → All (IsClaimerOf claims) fresh → All IsUnused fresh
+    → map (λ (w : Worker). w.claimer) old ≡ reverse fresh → All (IsClaimerOf claims) fresh
+    → All IsUnused fresh
     → All (λ (w : Worker). w.issued.items ≡ []) old
     → All (λ (w : Worker). IsOf shared w.reserver × IsClaimerOf claims w.claimer × IsFresh w) old
 all_ready shared claims old given fresh reservers own claimers theirs unused empty =
-    let one : All (λ (w : Worker). IsOf shared w.reserver) old = unmapped (IsOf shared) (λ (w : Worker). w.reserver) old (subst (All (IsOf shared)) (sym reservers) own) in
-    let two : All (λ (w : Worker). IsClaimerOf claims w.claimer) old = unmapped (IsClaimerOf claims) (λ (w : Worker). w.claimer) old (subst (All (IsClaimerOf claims)) (sym claimers) (All-permutation (IsClaimerOf claims) fresh (reverse fresh) (IsPermutation-reverse fresh) theirs)) in
-    let three : All (λ (w : Worker). IsUnused w.claimer) old = unmapped IsUnused (λ (w : Worker). w.claimer) old (subst (All IsUnused) (sym claimers) (All-permutation IsUnused fresh (reverse fresh) (IsPermutation-reverse fresh) unused)) in
-    λ k d within. (one k d within, two k d within, record { unused = three k d within; issued = empty k d within })
+    let one : All (λ (w : Worker). IsOf shared w.reserver) old = unmapped (IsOf shared)
+    (λ (w : Worker). w.reserver) old (subst (All (IsOf shared)) (sym reservers) own) in
+    let two : All (λ (w : Worker). IsClaimerOf claims w.claimer) old = unmapped (IsClaimerOf claims)
+    (λ (w : Worker). w.claimer) old (subst (All (IsClaimerOf claims)) (sym claimers)
+    (All-permutation (IsClaimerOf claims) fresh (reverse fresh) (IsPermutation-reverse fresh)
+    theirs)) in
+    let three : All (λ (w : Worker). IsUnused w.claimer) old = unmapped IsUnused
+    (λ (w : Worker). w.claimer) old (subst (All IsUnused) (sym claimers)
+    (All-permutation IsUnused fresh (reverse fresh) (IsPermutation-reverse fresh) unused)) in
+    λ k d within. (
+      one k d within,
+      two k d within,
+      record {
+        unused = three k d within;
+        issued =
+            empty k d within;
+      },
+    )
 
 -- the queues, if there are any, are those of a frame
-pub framed : {S : Type 0} (may leave : S → View → List Command → Type 0) (systems : List S) (world : OpenWorld) (claims : Claims) (team : List Worker) → HaveWorked may leave systems world claims team → claims.numbers ≡ length systems → (queues : Option (Vec (List Command) Global))
-    → IsLegal world.shared.start (history_of (all_records team)) → All (Respects (reservations_of (all_records team))) (all_records team)
+pub framed : {S : Type 0} (may leave : S → View → List Command → Type 0) (systems : List S)
+    (world : OpenWorld) (claims : Claims) (team : List Worker) → HaveWorked may leave systems world
+    claims team → claims.numbers ≡ length systems → (queues : Option (Vec (List Command) Global))
+    → IsLegal world.shared.start (history_of (all_records team))
+    → All (Respects (reservations_of (all_records team))) (all_records team)
     → IfSome queues (λ q. All (λ (w : Worker). w.stopped ≡ false) team)
-    → IfSome queues (λ q. IsPermutation (flat_map (λ (w : Worker). systems_of w.issued.items) team) (range_with_len 0 claims.numbers))
-    → IfSome queues (λ q. map Some q.items ≡ queues_placed (flat_map (λ (w : Worker). w.issued.items) team) (replicate claims.numbers None))
-    → IfSome queues (λ q. IsFrame may systems world.shared.count (world_at_start world) q.items (history_of (all_records team)))
+    → IfSome queues (λ q. IsPermutation (flat_map (λ (w : Worker). systems_of w.issued.items) team)
+    (range_with_len 0 claims.numbers))
+    → IfSome queues (λ q. map Some q.items
+    ≡ queues_placed (flat_map (λ (w : Worker). w.issued.items) team)
+    (replicate claims.numbers None))
+    → IfSome queues (λ q. IsFrame may systems world.shared.count (world_at_start world) q.items
+    (history_of (all_records team)))
 framed may leave systems world claims team done numbers None legal respects going once places = tt
-framed may leave systems world claims team done numbers (Some q) legal respects going once places = is_frame may leave systems world claims team done numbers legal respects going once q.items places
+framed may leave systems world claims team done numbers (Some q) legal respects going once places =
+    is_frame may leave systems world claims team done numbers legal respects going once q.items
+    places
 
 -- the world that is closed has changed by the history alone
-pub closed_by : (world : OpenWorld) (after : World) (records same : List Record) → records ≡ same → after.phase ≡ world.phase → after.entities ≡ world.entities → after.allocator ≡ after_history world.shared.start (history_of records) → after ≡ reserved_by (history_of same) (world_at_start world)
+pub closed_by : (world : OpenWorld) (after : World) (records same : List Record) → records ≡ same
+    → after.phase ≡ world.phase → after.entities ≡ world.entities → after.allocator
+    ≡ after_history world.shared.start (history_of records) → after ≡ reserved_by (history_of same)
+    (world_at_start world)
 closed_by world after records same is phase entities allocator =
-    let changed : after.allocator ≡ after_history world.shared.start (history_of same) = allocator ∙ ap (λ rs. after_history world.shared.start (history_of rs)) is in
+    let changed : after.allocator ≡ after_history world.shared.start (history_of same) = allocator
+    ∙ ap (λ rs. after_history world.shared.start (history_of rs)) is in
     (λ i. record { allocator = changed i; phase = phase i; entities = entities i })
 
-pub view_is : (world : OpenWorld) (view : View) → view.phase ≡ world.phase → view.entities ≡ world.entities → view ≡ view_of (world_at_start world)
+pub view_is : (world : OpenWorld) (view : View) → view.phase ≡ world.phase → view.entities
+    ≡ world.entities → view ≡ view_of (world_at_start world)
 view_is world view phase entities = (λ i. record { phase = phase i; entities = entities i })

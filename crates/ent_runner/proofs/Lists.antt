@@ -9,70 +9,91 @@ use Rattle.std.proofs.lemmas.List.Elements.{All-nil, All-cons, All-head, All-tai
 use Rattle.std.proofs.lemmas.List.Sums.{sum_by-cons}
 
 -- what holds of each element at its place holds of all
-pub all_from_each : {X : Type 0} (P : X → Type 0) (xs : List X) → ((k : ℕ) (x : X) → slice_get xs k ≡ Some x → P x) → All P xs
+pub all_from_each : {X : Type 0} (P : X → Type 0) (xs : List X) → ((k : ℕ) (x : X) → slice_get xs k
+    ≡ Some x → P x) → All P xs
 all_from_each P [] each = All-nil P
-all_from_each P (x ∷ xs) each = All-cons P x xs (each 0 x refl) (all_from_each P xs (λ k y at. each (suc k) y at))
+all_from_each P (x ∷ xs) each = All-cons P x xs (each 0 x refl)
+    (all_from_each P xs (λ k y at. each (suc k) y at))
 
-pub each_of_all : {X : Type 0} (P : X → Type 0) (xs : List X) (k : ℕ) (x : X) → All P xs → slice_get xs k ≡ Some x → P x
+pub each_of_all : {X : Type 0} (P : X → Type 0) (xs : List X) (k : ℕ) (x : X) → All P xs
+    → slice_get xs k ≡ Some x → P x
 each_of_all P [] k x all at = absurd (cc)
 each_of_all P (y ∷ xs) zero x all at = let same : y ≡ x = cc in subst P same (All-head P y xs all)
 each_of_all P (y ∷ xs) (suc k) x all at = each_of_all P xs k x (All-tail P y xs all) at
 
-pub all_flat : {X Y : Type 0} (P : Y → Type 0) (f : X → List Y) (xs : List X) → All (λ x. All P (f x)) xs → All P (flat_map f xs)
+pub all_flat : {X Y : Type 0} (P : Y → Type 0) (f : X → List Y) (xs : List X)
+    → All (λ x. All P (f x)) xs → All P (flat_map f xs)
 all_flat P f [] all = All-nil P
-all_flat P f (x ∷ xs) all = All-append P (f x) (flat_map f xs) (All-head (λ x. All P (f x)) x xs all) (all_flat P f xs (All-tail (λ x. All P (f x)) x xs all))
+all_flat P f (x ∷ xs) all = All-append P (f x) (flat_map f xs)
+    (All-head (λ x. All P (f x)) x xs all) (all_flat P f xs (All-tail (λ x. All P (f x)) x xs all))
 
 all_front : {X : Type 0} (P : X → Type 0) (xs ys : List X) → All P (xs ++ ys) → All P xs
 all_front P [] ys all = All-nil P
-all_front P (x ∷ xs) ys all = All-cons P x xs (All-head P x (xs ++ ys) all) (all_front P xs ys (All-tail P x (xs ++ ys) all))
+all_front P (x ∷ xs) ys all = All-cons P x xs (All-head P x (xs ++ ys) all)
+    (all_front P xs ys (All-tail P x (xs ++ ys) all))
 
 all_back : {X : Type 0} (P : X → Type 0) (xs ys : List X) → All P (xs ++ ys) → All P ys
 all_back P [] ys all = all
 all_back P (x ∷ xs) ys all = all_back P xs ys (All-tail P x (xs ++ ys) all)
 
-pub flat_all : {X Y : Type 0} (P : Y → Type 0) (f : X → List Y) (xs : List X) → All P (flat_map f xs) → All (λ x. All P (f x)) xs
+pub flat_all : {X Y : Type 0} (P : Y → Type 0) (f : X → List Y) (xs : List X)
+    → All P (flat_map f xs) → All (λ x. All P (f x)) xs
 flat_all P f [] all = All-nil (λ x. All P (f x))
-flat_all P f (x ∷ xs) all = All-cons (λ x. All P (f x)) x xs (all_front P (f x) (flat_map f xs) all) (flat_all P f xs (all_back P (f x) (flat_map f xs) all))
+flat_all P f (x ∷ xs) all = All-cons (λ x. All P (f x)) x xs (all_front P (f x) (flat_map f xs) all)
+    (flat_all P f xs (all_back P (f x) (flat_map f xs) all))
 
-pub same_flat : {X Y : Type 0} (f g : X → List Y) (xs : List X) → All (λ x. f x ≡ g x) xs → flat_map f xs ≡ flat_map g xs
+pub same_flat : {X Y : Type 0} (f g : X → List Y) (xs : List X) → All (λ x. f x ≡ g x) xs
+    → flat_map f xs ≡ flat_map g xs
 same_flat f g [] all = refl
-same_flat f g (x ∷ xs) all = let here = All-head (λ x. f x ≡ g x) x xs all in let rest = same_flat f g xs (All-tail (λ x. f x ≡ g x) x xs all) in (λ i. here i ++ rest i)
+same_flat f g (x ∷ xs) all = let here = All-head (λ x. f x ≡ g x) x xs all in let rest =
+    same_flat f g xs (All-tail (λ x. f x ≡ g x) x xs all) in (λ i. here i ++ rest i)
 
-pub map_flat : {X Y Z : Type 0} (g : Y → Z) (f : X → List Y) (xs : List X) → map g (flat_map f xs) ≡ flat_map (λ x. map g (f x)) xs
+pub map_flat : {X Y Z : Type 0} (g : Y → Z) (f : X → List Y) (xs : List X) → map g (flat_map f xs)
+    ≡ flat_map (λ x. map g (f x)) xs
 map_flat g f [] = refl
-map_flat g f (x ∷ xs) = map_both g (f x) (flat_map f xs) ∙ ap (λ zs. map g (f x) ++ zs) (map_flat g f xs)
+map_flat g f (x ∷ xs) = map_both g (f x) (flat_map f xs) ∙ ap (λ zs. map g (f x) ++ zs)
+    (map_flat g f xs)
   where
     map_both : {Y Z : Type 0} (g : Y → Z) (ys zs : List Y) → map g (ys ++ zs) ≡ map g ys ++ map g zs
     map_both g [] zs = refl
     map_both g (y ∷ ys) zs = ap (λ w. g y ∷ w) (map_both g ys zs)
 
-pub filter_map_is : {X Y : Type 0} (p : Y → Bool) (f : X → Y) (xs : List X) → filter p (map f xs) ≡ map f (filter (λ x. p (f x)) xs)
+pub filter_map_is : {X Y : Type 0} (p : Y → Bool) (f : X → Y) (xs : List X) → filter p (map f xs)
+    ≡ map f (filter (λ x. p (f x)) xs)
 filter_map_is p f [] = refl
 filter_map_is p f (x ∷ xs) = by (p (f x)) (filter_map_is p f xs)
   where
-    by : (b : Bool) → filter p (map f xs) ≡ map f (filter (λ x. p (f x)) xs) → cond b (f x ∷ filter p (map f xs)) (filter p (map f xs)) ≡ map f (cond b (x ∷ filter (λ x. p (f x)) xs) (filter (λ x. p (f x)) xs))
+    by : (b : Bool) → filter p (map f xs) ≡ map f (filter (λ x. p (f x)) xs)
+        → cond b (f x ∷ filter p (map f xs)) (filter p (map f xs))
+        ≡ map f (cond b (x ∷ filter (λ x. p (f x)) xs) (filter (λ x. p (f x)) xs))
     by true e = ap (λ ys. f x ∷ ys) e
     by false e = e
 
-pub map_map_is : {X Y Z : Type 0} (g : Y → Z) (f : X → Y) (xs : List X) → map g (map f xs) ≡ map (λ x. g (f x)) xs
+pub map_map_is : {X Y Z : Type 0} (g : Y → Z) (f : X → Y) (xs : List X) → map g (map f xs)
+    ≡ map (λ x. g (f x)) xs
 map_map_is g f [] = refl
 map_map_is g f (x ∷ xs) = ap (λ ys. g (f x) ∷ ys) (map_map_is g f xs)
 
-pub sum_map : {X Y : Type 0} (g : Y → ℕ) (f : X → Y) (xs : List X) → sum_by g (map f xs) ≡ sum_by (λ x. g (f x)) xs
+pub sum_map : {X Y : Type 0} (g : Y → ℕ) (f : X → Y) (xs : List X) → sum_by g (map f xs)
+    ≡ sum_by (λ x. g (f x)) xs
 sum_map g f [] = refl
 sum_map g f (x ∷ xs) =
     let rest = sum_map g f xs in
-    let there : sum_by g (map f (x ∷ xs)) ≡ g (f x) + sum_by g (map f xs) = sum_by-cons g (f x) (map f xs) in
-    let here : sum_by (λ x. g (f x)) (x ∷ xs) ≡ g (f x) + sum_by (λ x. g (f x)) xs = sum_by-cons (λ x. g (f x)) x xs in
+    let there : sum_by g (map f (x ∷ xs)) ≡ g (f x) + sum_by g (map f xs) = sum_by-cons g (f x)
+    (map f xs) in
+    let here : sum_by (λ x. g (f x)) (x ∷ xs) ≡ g (f x) + sum_by (λ x. g (f x)) xs =
+    sum_by-cons (λ x. g (f x)) x xs in
     omega arith
 
 -- the element of a mapped list is that of one element
-pub mapped_at : {X Y : Type 0} (f : X → Y) (xs : List X) (k : ℕ) (y : Y) → slice_get (map f xs) k ≡ Some y → (x : X) × (slice_get xs k ≡ Some x) × (f x ≡ y)
+pub mapped_at : {X Y : Type 0} (f : X → Y) (xs : List X) (k : ℕ) (y : Y) → slice_get (map f xs) k
+    ≡ Some y → (x : X) × (slice_get xs k ≡ Some x) × (f x ≡ y)
 mapped_at f [] k y at = absurd (cc)
 mapped_at f (x ∷ xs) zero y at = (x, refl, cc)
 mapped_at f (x ∷ xs) (suc k) y at = mapped_at f xs k y at
 
-pub at_within : {X : Type 0} (xs : List X) (k : ℕ) → k < length xs → (x : X) × (slice_get xs k ≡ Some x)
+pub at_within : {X : Type 0} (xs : List X) (k : ℕ) → k < length xs → (x : X)
+    × (slice_get xs k ≡ Some x)
 at_within [] k within = absurd (omega arith)
 at_within (x ∷ xs) zero within = (x, refl)
 at_within (x ∷ xs) (suc k) within = at_within xs k (omega arith)
@@ -98,7 +119,9 @@ number_away n k ne = ap (λ b. cond b 1 0) (ne_eqb k n ne)
 pub below_range : (n a many : ℕ) → n < a → sum_by (is_number n) (range_with_len a many) ≡ 0
 below_range n a zero less = refl
 below_range n a (suc many) less =
-    let sums : sum_by (is_number n) (range_with_len a (suc many)) ≡ is_number n a + sum_by (is_number n) (range_with_len (a + 1) many) = sum_by-cons (is_number n) a (range_with_len (a + 1) many) in
+    let sums : sum_by (is_number n) (range_with_len a (suc many)) ≡ is_number n a
+    + sum_by (is_number n) (range_with_len (a + 1) many) = sum_by-cons (is_number n) a
+    (range_with_len (a + 1) many) in
     let away : is_number n a ≡ 0 = number_away n a (λ e. absurd (omega arith)) in
     let rest = below_range n (a + 1) many (omega arith) in
     omega arith
@@ -106,7 +129,9 @@ below_range n a (suc many) less =
 pub once_in_range : (n a many : ℕ) → sum_by (is_number n) (range_with_len a many) ≤ 1
 once_in_range n a zero = omega arith
 once_in_range n a (suc many) =
-    let sums : sum_by (is_number n) (range_with_len a (suc many)) ≡ is_number n a + sum_by (is_number n) (range_with_len (a + 1) many) = sum_by-cons (is_number n) a (range_with_len (a + 1) many) in
+    let sums : sum_by (is_number n) (range_with_len a (suc many)) ≡ is_number n a
+    + sum_by (is_number n) (range_with_len (a + 1) many) = sum_by-cons (is_number n) a
+    (range_with_len (a + 1) many) in
     elim (cases_eq a n) [
       | inl e ↦
           let here : is_number n a ≡ 1 = number_here n a e in
@@ -118,10 +143,13 @@ once_in_range n a (suc many) =
           omega arith
     ]
 
-pub some_in_range : (n a many : ℕ) → a ≤ n → n < a + many → sum_by (is_number n) (range_with_len a many) ≡ 1
+pub some_in_range : (n a many : ℕ) → a ≤ n → n < a + many
+    → sum_by (is_number n) (range_with_len a many) ≡ 1
 some_in_range n a zero from below = absurd (omega arith)
 some_in_range n a (suc many) from below =
-    let sums : sum_by (is_number n) (range_with_len a (suc many)) ≡ is_number n a + sum_by (is_number n) (range_with_len (a + 1) many) = sum_by-cons (is_number n) a (range_with_len (a + 1) many) in
+    let sums : sum_by (is_number n) (range_with_len a (suc many)) ≡ is_number n a
+    + sum_by (is_number n) (range_with_len (a + 1) many) = sum_by-cons (is_number n) a
+    (range_with_len (a + 1) many) in
     elim (cases_eq a n) [
       | inl e ↦
           let here : is_number n a ≡ 1 = number_here n a e in
@@ -136,9 +164,12 @@ some_in_range n a (suc many) from below =
 all_in_range : (a many : ℕ) → All (λ n. n < a + many) (range_with_len a many)
 all_in_range a zero = All-nil (λ n. n < a + zero)
 all_in_range a (suc many) =
-    let rest : All (λ n. n < (a + 1) + many) (range_with_len (a + 1) many) = all_in_range (a + 1) many in
+    let rest : All (λ n. n < (a + 1) + many) (range_with_len (a + 1) many) = all_in_range (a + 1)
+    many in
     let same : (a + 1) + many ≡ a + suc many = omega arith in
-    All-cons (λ n. n < a + suc many) a (range_with_len (a + 1) many) (omega arith) (subst (λ m. All (λ n. n < m) (range_with_len (a + 1) many)) same rest)
+    All-cons (λ n. n < a + suc many) a (range_with_len (a + 1) many) (omega arith)
+    (subst (λ m. All (λ n. n < m) (range_with_len (a + 1) many)) same rest)
 
 pub all_below : (many : ℕ) → All (λ n. n < many) (range_with_len 0 many)
-all_below many = let same : 0 + many ≡ many = omega arith in subst (λ m. All (λ n. n < m) (range_with_len 0 many)) same (all_in_range 0 many)
+all_below many = let same : 0 + many ≡ many = omega arith in
+    subst (λ m. All (λ n. n < m) (range_with_len 0 many)) same (all_in_range 0 many)

@@ -18,43 +18,63 @@ use Rattle.ent_runner.specs.Frame.{IsFrame, IsLost, IsBrokenOff, reserved_by}
 flushed_pool : (s : Allocator) → IsSound s → s.asked ≡ 0 → s.pool ≡ available s
 flushed_pool s sound flushed = sound.pool ∙ ap (λ n. drop n (available s)) flushed
 
-lost_after : (before : World) (s after : Allocator) → IsSound s → s.asked ≡ 0 → before.allocator ≡ s → (requests : List ℕ) → after ≡ after_takes s requests → (w : World) → w ≡ record before { allocator = after } → IsLost before w
+lost_after : (before : World) (s after : Allocator) → IsSound s → s.asked ≡ 0 → before.allocator ≡ s
+    → (requests : List ℕ) → after ≡ after_takes s requests → (w : World) → w
+    ≡ record before { allocator = after } → IsLost before w
 lost_after before s after sound flushed is requests taken w changed =
     let kept : IsSound after = subst IsSound (sym taken) (after_takes-sound s requests sound) in
-    let all : available after ≡ available s = ap available taken ∙ available-after_takes s requests sound in
-    let pool : available after ≡ before.allocator.pool = all ∙ (sym (flushed_pool s sound flushed) ∙ sym (ap (λ (a : Allocator). a.pool) is)) in
+    let all : available after ≡ available s = ap available taken ∙ available-after_takes s requests
+    sound in
+    let pool : available after ≡ before.allocator.pool = all ∙ (sym (flushed_pool s sound flushed)
+    ∙ sym (ap (λ (a : Allocator). a.pool) is)) in
     subst (IsLost before) (sym changed)
     (record {
       phase = refl;
       entities = refl;
-      live = ap (λ (a : Allocator). a.live) taken ∙ (live-after_takes s requests ∙ sym (ap (λ (a : Allocator). a.live) is));
-      made = ap (λ (a : Allocator). a.made) taken ∙ (made-after_takes s requests ∙ sym (ap (λ (a : Allocator). a.made) is));
+      live = ap (λ (a : Allocator). a.live) taken
+          ∙ (live-after_takes s requests ∙ sym (ap (λ (a : Allocator). a.live) is));
+      made = ap (λ (a : Allocator). a.made) taken
+          ∙ (made-after_takes s requests ∙ sym (ap (λ (a : Allocator). a.made) is));
       available = pool;
       enough = λ fits.
           let within : after.asked ≤ length (available after) = rw pool fits in
           (length-taken after kept within, kept.aside within);
-      short = λ less. kept.pool ∙ drop_of_length-le (available after) (let l = ap length pool in omega arith);
+      short = λ less. kept.pool ∙ drop_of_length-le (available after) (let l = ap length pool in
+          omega arith);
     })
 
-pub is_lost : (before w : World) (history : List Call) → IsSound before.allocator → before.allocator.asked ≡ 0 → w ≡ reserved_by history before → IsLost before w
-is_lost before w history sound flushed changed = lost_after before before.allocator (after_history before.allocator history) sound flushed refl (requests_of history) (after_history-takes before.allocator history) w changed
+pub is_lost : (before w : World) (history : List Call) → IsSound before.allocator
+    → before.allocator.asked ≡ 0 → w ≡ reserved_by history before → IsLost before w
+is_lost before w history sound flushed changed = lost_after before before.allocator
+    (after_history before.allocator history) sound flushed refl (requests_of history)
+    (after_history-takes before.allocator history) w changed
 
 -- What is known of a world that was opened and closed again, and of the queues, if there are any.
-abbrev pub ClosedAgain : {S : Type 0} → (S → View → List Command → Type 0) → (S → View → List Command → Type 0) → List S → OpenWorld → World → Option (Vec (List Command) Global) → Type 0
+abbrev pub ClosedAgain : {S : Type 0} → (S → View → List Command → Type 0)
+    → (S → View → List Command → Type 0) → List S → OpenWorld → World
+    → Option (Vec (List Command) Global) → Type 0
 ClosedAgain may leave systems world after got =
-    (history : List Call) × IsBrokenOff may leave systems world.shared.count (world_at_start world) history × (after ≡ reserved_by history (world_at_start world))
-    × IfSome got (λ q. IsFrame may systems world.shared.count (world_at_start world) q.items history)
+    (history : List Call) × IsBrokenOff may leave systems world.shared.count (world_at_start world)
+    history × (after ≡ reserved_by history (world_at_start world))
+    × IfSome got (λ q. IsFrame may systems world.shared.count (world_at_start world) q.items
+    history)
 
-module _ {S : Type 0} (may leave : S → View → List Command → Type 0) (systems : List S) (before after : World) (world : OpenWorld) (got : Option (Vec (List Command) Global)) (same : world_at_start world ≡ before) (closed : ClosedAgain may leave systems world after got) where
-  abbrev changed : after ≡ reserved_by closed.0 before
-  changed = closed.2 ∙ ap (reserved_by closed.0) same
+module _ {S : Type 0} (may leave : S → View → List Command → Type 0) (systems : List S)
+    (before after : World) (world : OpenWorld) (got : Option (Vec (List Command) Global))
+    (same : world_at_start world ≡ before) (closed : ClosedAgain may leave systems world after got)
+  where
+    abbrev changed : after ≡ reserved_by closed.0 before
+    changed = closed.2 ∙ ap (reserved_by closed.0) same
 
-  pub lost_again : IsSound world.shared.start → before.allocator.asked ≡ 0 → IsLost before after
-  lost_again sound flushed = is_lost before after closed.0 (subst IsSound (ap (λ (w : World). w.allocator) same) sound) flushed changed
+    pub lost_again : IsSound world.shared.start → before.allocator.asked ≡ 0 → IsLost before after
+    lost_again sound flushed = is_lost before after closed.0
+        (subst IsSound (ap (λ (w : World). w.allocator) same) sound) flushed changed
 
-  pub broken_again : (workers : ℕ) → world.shared.count ≡ workers → (history : List Call) × IsBrokenOff may leave systems workers before history × (after ≡ reserved_by history before)
-  broken_again workers count = (
-    closed.0,
-    subst (λ w. IsBrokenOff may leave systems w before closed.0) count (subst (λ b. IsBrokenOff may leave systems world.shared.count b closed.0) same closed.1),
-    changed,
-  )
+    pub broken_again : (workers : ℕ) → world.shared.count ≡ workers → (history : List Call)
+        × IsBrokenOff may leave systems workers before history × (after ≡ reserved_by history before)
+    broken_again workers count = (
+      closed.0,
+      subst (λ w. IsBrokenOff may leave systems w before closed.0) count
+          (subst (λ b. IsBrokenOff may leave systems world.shared.count b closed.0) same closed.1),
+      changed,
+    )

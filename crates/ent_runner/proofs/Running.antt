@@ -19,62 +19,107 @@ use Rattle.ent_runner.specs.Frame.{SystemMayIssue, SystemMayHaveIssued}
 use Rattle.ent_runner.specs.Worker.{HasRun, HasRunSome, commands_issued, systems_of}
 
 -- the queues are those so far and one more
-queues_more : (issued next : List SystemQueue) (i : SystemQueue) → next ≡ issued ++ i ∷ [] → commands_issued next ≡ commands_issued issued ++ i.queue
-queues_more issued next i pushed = ap commands_issued pushed ∙ (flat_map-append (λ (i : SystemQueue). i.queue) issued (i ∷ []) ∙ ap (λ cs. commands_issued issued ++ cs) (append-nil i.queue))
+queues_more : (issued next : List SystemQueue) (i : SystemQueue) → next ≡ issued ++ i ∷ []
+    → commands_issued next ≡ commands_issued issued ++ i.queue
+queues_more issued next i pushed = ap commands_issued pushed
+    ∙ (flat_map-append (λ (i : SystemQueue). i.queue) issued (i ∷ [])
+    ∙ ap (λ cs. commands_issued issued ++ cs) (append-nil i.queue))
 
-systems_more : (issued next : List SystemQueue) (i : SystemQueue) (claims more : List ℕ) → next ≡ issued ++ i ∷ [] → systems_of issued ≡ claims → more ≡ claims ++ i.system ∷ [] → systems_of next ≡ more
-systems_more issued next i claims more pushed same claimed = ap systems_of pushed ∙ (map-append (λ (i : SystemQueue). i.system) issued (i ∷ []) ∙ (ap (λ ns. ns ++ i.system ∷ []) same ∙ sym claimed))
+systems_more : (issued next : List SystemQueue) (i : SystemQueue) (claims more : List ℕ) → next
+    ≡ issued ++ i ∷ [] → systems_of issued ≡ claims → more ≡ claims ++ i.system ∷ []
+    → systems_of next ≡ more
+systems_more issued next i claims more pushed same claimed = ap systems_of pushed
+    ∙ (map-append (λ (i : SystemQueue). i.system) issued (i ∷ [])
+    ∙ (ap (λ ns. ns ++ i.system ∷ []) same ∙ sym claimed))
 
-module _ {S : Type 0} (may : S → View → List Command → Type 0) (systems : List S) (view : View) where
-  pub ran_nothing : (r : Record) (claims : List ℕ) (issued : List SystemQueue) → claims ≡ [] → issued ≡ [] → HasRun may systems view r r claims issued
-  ran_nothing r claims issued no_claims no_queues = record {
-    claims = ap systems_of no_queues ∙ sym no_claims;
-    gains = subst (λ is. Gains r (commands_issued is) r) (sym no_queues) (gains_nothing r);
-    each = subst (All (λ (i : SystemQueue). SystemMayIssue may systems view i.system i.queue)) (sym no_queues) (All-nil (λ (i : SystemQueue). SystemMayIssue may systems view i.system i.queue));
-  }
+module _ {S : Type 0} (may : S → View → List Command → Type 0) (systems : List S) (view : View)
+  where
+    pub ran_nothing : (r : Record) (claims : List ℕ) (issued : List SystemQueue) → claims ≡ []
+        → issued ≡ [] → HasRun may systems view r r claims issued
+    ran_nothing r claims issued no_claims no_queues = record {
+      claims = ap systems_of no_queues ∙ sym no_claims;
+      gains = subst (λ is. Gains r (commands_issued is) r) (sym no_queues) (gains_nothing r);
+      each = subst (All (λ (i : SystemQueue). SystemMayIssue may systems view i.system i.queue))
+          (sym no_queues) (All-nil (λ (i : SystemQueue). SystemMayIssue may systems view i.system
+          i.queue));
+    }
 
-  -- one system more
-  pub ran_more : (a b c : Record) (claims more : List ℕ) (issued next : List SystemQueue) (i : SystemQueue) → HasRun may systems view a b claims issued → Gains b i.queue c → SystemMayIssue may systems view i.system i.queue → more ≡ claims ++ i.system ∷ [] → next ≡ issued ++ i ∷ [] → HasRun may systems view a c more next
-  ran_more a b c claims more issued next i ran gains may_it claimed pushed = record {
-    claims = systems_more issued next i claims more pushed ran.claims claimed;
-    gains = subst (λ cs. Gains a cs c) (sym (queues_more issued next i pushed)) (gains_then a b c (commands_issued issued) i.queue ran.gains gains);
-    each = subst (All (λ (i : SystemQueue). SystemMayIssue may systems view i.system i.queue)) (sym pushed) (All-append (λ (i : SystemQueue). SystemMayIssue may systems view i.system i.queue) issued (i ∷ []) ran.each (All-cons (λ (i : SystemQueue). SystemMayIssue may systems view i.system i.queue) i [] may_it (All-nil (λ (i : SystemQueue). SystemMayIssue may systems view i.system i.queue))));
-  }
+    -- one system more
+    pub ran_more : (a b c : Record) (claims more : List ℕ) (issued next : List SystemQueue)
+        (i : SystemQueue) → HasRun may systems view a b claims issued → Gains b i.queue c
+        → SystemMayIssue may systems view i.system i.queue → more ≡ claims ++ i.system ∷ [] → next
+        ≡ issued ++ i ∷ [] → HasRun may systems view a c more next
+    ran_more a b c claims more issued next i ran gains may_it claimed pushed = record {
+      claims = systems_more issued next i claims more pushed ran.claims claimed;
+      gains = subst (λ cs. Gains a cs c) (sym (queues_more issued next i pushed))
+          (gains_then a b c (commands_issued issued) i.queue ran.gains gains);
+      each = subst (All (λ (i : SystemQueue). SystemMayIssue may systems view i.system i.queue))
+          (sym pushed) (All-append (λ (i : SystemQueue). SystemMayIssue may systems view i.system
+          i.queue) issued (i ∷ []) ran.each
+          (All-cons (λ (i : SystemQueue). SystemMayIssue may systems view i.system i.queue) i []
+          may_it (All-nil (λ (i : SystemQueue). SystemMayIssue may systems view i.system i.queue))));
+    }
 
-  -- a worker that ran some systems, each of which ended
-  pub ran_some : (leave : S → View → List Command → Type 0) (a b : Record) (claims : List ℕ) (issued : List SystemQueue) → HasRun may systems view a b claims issued → HasRunSome may leave systems view a b claims issued
-  ran_some leave a b claims issued ran = record {
-    claims = ran.claims;
-    gains = ran.gains;
-    each = All-weaker (λ (i : SystemQueue). SystemMayIssue may systems view i.system i.queue) (λ (i : SystemQueue). SystemMayHaveIssued may leave systems view i.system i.queue) (λ i m. inl m) issued ran.each;
-    ended = λ i j d less within. ran.each i d (omega arith);
-  }
+    -- a worker that ran some systems, each of which ended
+    pub ran_some : (leave : S → View → List Command → Type 0) (a b : Record) (claims : List ℕ)
+        (issued : List SystemQueue) → HasRun may systems view a b claims issued
+        → HasRunSome may leave systems view a b claims issued
+    ran_some leave a b claims issued ran = record {
+      claims = ran.claims;
+      gains = ran.gains;
+      each = All-weaker (λ (i : SystemQueue). SystemMayIssue may systems view i.system i.queue)
+          (λ (i : SystemQueue). SystemMayHaveIssued may leave systems view i.system i.queue)
+          (λ i m. inl m) issued ran.each;
+      ended = λ i j d less within. ran.each i d (omega arith);
+    }
 
-  -- and one more, which stopped
-  pub ran_last : (leave : S → View → List Command → Type 0) (a b c : Record) (claims more : List ℕ) (issued next : List SystemQueue) (i : SystemQueue) → HasRun may systems view a b claims issued → Gains b i.queue c → SystemMayIssue leave systems view i.system i.queue → more ≡ claims ++ i.system ∷ [] → next ≡ issued ++ i ∷ [] → HasRunSome may leave systems view a c more next
-  ran_last leave a b c claims more issued next i ran gains left claimed pushed =
-      let P : SystemQueue → Type 0 = λ (i : SystemQueue). SystemMayHaveIssued may leave systems view i.system i.queue in
-      let R : SystemQueue → SystemQueue → Type 0 = λ (i later : SystemQueue). SystemMayIssue may systems view i.system i.queue in
-      record {
-        claims = systems_more issued next i claims more pushed ran.claims claimed;
-        gains = subst (λ cs. Gains a cs c) (sym (queues_more issued next i pushed)) (gains_then a b c (commands_issued issued) i.queue ran.gains gains);
-        each = subst (All P) (sym pushed) (All-append P issued (i ∷ []) (All-weaker (λ (i : SystemQueue). SystemMayIssue may systems view i.system i.queue) P (λ i m. inl m) issued ran.each) (All-cons P i [] (inr left) (All-nil P)));
-        ended = subst (AllPairs R) (sym pushed) (all_pairs_push R issued i (λ i j d less within. ran.each i d (omega arith)) (λ k d within. ran.each k d within));
-      }
+    -- and one more, which stopped
+    pub ran_last : (leave : S → View → List Command → Type 0) (a b c : Record) (claims more : List ℕ)
+        (issued next : List SystemQueue) (i : SystemQueue) → HasRun may systems view a b claims issued
+        → Gains b i.queue c → SystemMayIssue leave systems view i.system i.queue → more ≡ claims
+        ++ i.system ∷ [] → next ≡ issued ++ i ∷ [] → HasRunSome may leave systems view a c more next
+    ran_last leave a b c claims more issued next i ran gains left claimed pushed =
+        let P : SystemQueue → Type 0 = λ (i : SystemQueue). SystemMayHaveIssued may leave systems view
+        i.system i.queue in
+        let R : SystemQueue → SystemQueue → Type 0 = λ (i later : SystemQueue). SystemMayIssue may
+        systems view i.system i.queue in
+        record {
+          claims = systems_more issued next i claims more pushed ran.claims claimed;
+          gains = subst (λ cs. Gains a cs c) (sym (queues_more issued next i pushed))
+              (gains_then a b c (commands_issued issued) i.queue ran.gains gains);
+          each = subst (All P) (sym pushed)
+              (All-append P issued (i ∷ [])
+              (All-weaker (λ (i : SystemQueue). SystemMayIssue may systems view i.system i.queue) P
+              (λ i m. inl m) issued ran.each) (All-cons P i [] (inr left) (All-nil P)));
+          ended = subst (AllPairs R) (sym pushed)
+              (all_pairs_push R issued i (λ i j d less within. ran.each i d (omega arith))
+              (λ k d within. ran.each k d within));
+        }
 
 -- what a run says of the system that stands at its number
-issued_there : {S : Type 0} (may : S → View → List Command → Type 0) (systems : List S) (view : View) (n : ℕ) (d : S) (queue finished : List Command) → finished ≡ queue → may (get_or systems n d) view queue → SystemMayIssue may systems view n finished
+issued_there : {S : Type 0} (may : S → View → List Command → Type 0) (systems : List S)
+    (view : View) (n : ℕ) (d : S) (queue finished : List Command) → finished ≡ queue
+    → may (get_or systems n d) view queue → SystemMayIssue may systems view n finished
 issued_there may systems view n d queue finished same ran system at =
-    subst (λ q. may system view q) (sym same) (subst (λ s. may s view queue) (get_or_from_slice_get systems n system d at) ran)
+    subst (λ q. may system view q) (sym same)
+    (subst (λ s. may s view queue) (get_or_from_slice_get systems n system d at) ran)
 
 -- if it ended, and if it stopped
-pub issued_ok : {S A E : Type 0} (may : S → View → List Command → Type 0) (systems : List S) (view : View) (n : ℕ) (d : S) (queue finished : List Command) (r : Result A E) → finished ≡ queue → OnOk r (may (get_or systems n d) view queue) → OnOk r (SystemMayIssue may systems view n finished)
-issued_ok may systems view n d queue finished (Ok a) same ran = issued_there may systems view n d queue finished same ran
+pub issued_ok : {S A E : Type 0} (may : S → View → List Command → Type 0) (systems : List S)
+    (view : View) (n : ℕ) (d : S) (queue finished : List Command) (r : Result A E) → finished
+    ≡ queue → OnOk r (may (get_or systems n d) view queue)
+    → OnOk r (SystemMayIssue may systems view n finished)
+issued_ok may systems view n d queue finished (Ok a) same ran = issued_there may systems view n d
+    queue finished same ran
 issued_ok may systems view n d queue finished (Err e) same ran = tt
 
-pub issued_err : {S A E : Type 0} (may : S → View → List Command → Type 0) (systems : List S) (view : View) (n : ℕ) (d : S) (queue finished : List Command) (r : Result A E) → finished ≡ queue → OnErr r (may (get_or systems n d) view queue) → OnErr r (SystemMayIssue may systems view n finished)
+pub issued_err : {S A E : Type 0} (may : S → View → List Command → Type 0) (systems : List S)
+    (view : View) (n : ℕ) (d : S) (queue finished : List Command) (r : Result A E) → finished
+    ≡ queue → OnErr r (may (get_or systems n d) view queue)
+    → OnErr r (SystemMayIssue may systems view n finished)
 issued_err may systems view n d queue finished (Ok a) same ran = tt
-issued_err may systems view n d queue finished (Err e) same ran = issued_there may systems view n d queue finished same ran
+issued_err may systems view n d queue finished (Err e) same ran = issued_there may systems view n d
+    queue finished same ran
 
 pub of_ok : {A E : Type 0} (X : Type 0) (r : Result A E) (a : A) → r ≡ Ok a → OnOk r X → X
 of_ok X r a is on = subst (λ r. OnOk r X) is on
@@ -82,9 +127,16 @@ of_ok X r a is on = subst (λ r. OnOk r X) is on
 pub of_err : {A E : Type 0} (X : Type 0) (r : Result A E) (e : E) → r ≡ Err e → OnErr r X → X
 of_err X r e is on = subst (λ r. OnErr r X) is on
 
-pub inside_more : {S : Type 0} (systems : List S) (issued next : List SystemQueue) (i : SystemQueue) → All (λ (i : SystemQueue). i.system < length systems) issued → i.system < length systems → next ≡ issued ++ i ∷ [] → All (λ (i : SystemQueue). i.system < length systems) next
-inside_more systems issued next i inside here pushed = subst (All (λ (i : SystemQueue). i.system < length systems)) (sym pushed) (All-append (λ (i : SystemQueue). i.system < length systems) issued (i ∷ []) inside (All-cons (λ (i : SystemQueue). i.system < length systems) i [] here (All-nil (λ (i : SystemQueue). i.system < length systems))))
+pub inside_more : {S : Type 0} (systems : List S) (issued next : List SystemQueue) (i : SystemQueue)
+    → All (λ (i : SystemQueue). i.system < length systems) issued → i.system < length systems → next
+    ≡ issued ++ i ∷ [] → All (λ (i : SystemQueue). i.system < length systems) next
+inside_more systems issued next i inside here pushed =
+    subst (All (λ (i : SystemQueue). i.system < length systems)) (sym pushed)
+    (All-append (λ (i : SystemQueue). i.system < length systems) issued (i ∷ []) inside
+    (All-cons (λ (i : SystemQueue). i.system < length systems) i [] here
+    (All-nil (λ (i : SystemQueue). i.system < length systems))))
 
 -- one number more was claimed
-pub claims_more : (old new : Claimed) (n : ℕ) → new ≡ record old { claims = old.claims ++ n ∷ [] } → new.claims ≡ old.claims ++ n ∷ []
+pub claims_more : (old new : Claimed) (n : ℕ) → new ≡ record old { claims = old.claims ++ n ∷ [] }
+    → new.claims ≡ old.claims ++ n ∷ []
 claims_more old new n is = ap (λ (c : Claimed). c.claims) is

@@ -31,7 +31,8 @@ all_records workers = map (λ (w : Worker). w.reserver.own) workers
 -- It ran the systems that it claimed and no others, in the order of the claims, and its reserver
 -- has gained their reservations and no others.
 pub record HasRun {S : Type 0} (may : S → View → List Command → Type 0) (systems : List S)
-    (view : View) (before after : Record) (claimed : List ℕ) (issued : List SystemQueue) : Type 0 where
+    (view : View) (before after : Record) (claimed : List ℕ) (issued : List SystemQueue)
+    : Type 0 where
   pub claims : systems_of issued ≡ claimed
   pub gains : Gains before (commands_issued issued) after
   pub each : All (λ (i : SystemQueue). SystemMayIssue may systems view i.system i.queue) issued
@@ -42,8 +43,10 @@ pub record HasRunSome {S : Type 0} (may leave : S → View → List Command → 
     (issued : List SystemQueue) : Type 0 where
   pub claims : systems_of issued ≡ claimed
   pub gains : Gains before (commands_issued issued) after
-  pub each : All (λ (i : SystemQueue). SystemMayHaveIssued may leave systems view i.system i.queue) issued
-  pub ended : AllPairs (λ (i later : SystemQueue). SystemMayIssue may systems view i.system i.queue) issued
+  pub each : All (λ (i : SystemQueue). SystemMayHaveIssued may leave systems view i.system i.queue)
+      issued
+  pub ended : AllPairs (λ (i later : SystemQueue). SystemMayIssue may systems view i.system i.queue)
+      issued
 
 -- It has claimed nothing yet.
 abbrev pub IsUnused : Claimer → Type 0

@@ -41,7 +41,7 @@ use std::thread::Threads;
 /// # Errors
 ///
 /// - [`FrameFault::Memory`] if memory was refused before any system ran. The world is as it was.
-/// - [`FrameFault::Lost`] if memory was refused later, or a system answered so. No command was
+/// - [`FrameFault::Lost`] if memory was refused later, or a system returned so. No command was
 ///   applied. What the systems that ran had reserved stays reserved, and nothing else is:
 ///   [`World::flush`] brings it to life.
 /// - [`FrameFault::Sync`] if all systems ran and the sync point stopped. Unless memory was refused
@@ -121,7 +121,8 @@ where
     requires unused { records_of reservers.items
         ≡ opened_records opened.shared.start 0 opened.shared.count }
     ensures { (history : List Call)
-        × IsBrokenOff S.may_issue S.may_leave systems.now opened.shared.count (world_at_start opened)
+        × IsBrokenOff S.may_issue S.may_leave systems.now opened.shared.count
+        (world_at_start opened)
         history
         × (result.0 ≡ reserved_by history (world_at_start opened))
         × IfSome result.1 (λ queues. IsFrame S.may_issue systems.now opened.shared.count

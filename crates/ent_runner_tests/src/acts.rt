@@ -25,7 +25,7 @@ pub enum Act {
     SpawnEach(u32),
     /// Spawns one entity with this `HP`, also if memory is refused to it once.
     SpawnSurely(i64),
-    /// Spawns one entity with this `HP`, and then answers that memory was refused.
+    /// Spawns one entity with this `HP`, and then returns that memory was refused.
     SpawnAndStop(i64),
     Despawn(Handle),
     /// Gives the entity this `HP`.

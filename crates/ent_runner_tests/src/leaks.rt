@@ -34,7 +34,7 @@ fn is_used_again(rt: &(impl Files + Abort + AllocGlobal)) -> bool {
     pages(rt) < before.saturating_add(PAGES)
 }
 
-/// Frames of the systems, each in a world of its own. Answers how many of them were done.
+/// Frames of the systems, each in a world of its own. Returns how many of them were done.
 fn run_all<R>(rt: &R, alloc: Global, systems: &[Act]) -> u32
 where
     R: Threads + Sync + Abort,

@@ -40,7 +40,7 @@ impl Meeting {
         self.saw_all.load(Ordering::SeqCst)
     }
 
-    /// Waits until all have entered. Answers whether it saw that.
+    /// Waits until all have entered. Returns whether it saw that.
     fn sees_all(&self) -> bool {
         for _ in 0..TURNS {
             if self.entered() == self.systems {

@@ -13,26 +13,34 @@ Bundle = List (ComponentId × ℤ)
 
 -- the bundle so far, with what is read after it
 abbrev pub onto : Bundle → Result Bundle Cause → Result Bundle Cause
-onto bundle (Ok items) = Ok (fold (λ b item. insert_entry component_cmp b item.0 item.1) bundle items)
+onto bundle (Ok items) = Ok (fold (λ b item. insert_entry component_cmp b item.0 item.1) bundle
+    items)
 onto bundle (Err c) = Err c
 
-pub onto_none : (read : Result Bundle Cause) → onto [] read ≡ (read >>= λ items. Ok (by_number items))
+pub onto_none : (read : Result Bundle Cause) → onto [] read
+    ≡ (read >>= λ items. Ok (by_number items))
 onto_none (Ok items) = refl
 onto_none (Err c) = refl
 
 onto_item : (bundle : Bundle) (item : ComponentId × ℤ) (read : Result Bundle Cause)
-    → onto bundle (read >>= λ items. Ok (item ∷ items)) ≡ onto (insert_entry component_cmp bundle item.0 item.1) read
+    → onto bundle (read >>= λ items. Ok (item ∷ items))
+    ≡ onto (insert_entry component_cmp bundle item.0 item.1) read
 onto_item bundle item (Ok items) = refl
 onto_item bundle item (Err c) = refl
 
-pub goes_on : (components : List (List ℕ)) (bundle : Bundle) (m : List ℕ × Data) (ms : List (List ℕ × Data)) (item : ComponentId × ℤ)
+pub goes_on : (components : List (List ℕ)) (bundle : Bundle) (m : List ℕ × Data)
+    (ms : List (List ℕ × Data)) (item : ComponentId × ℤ)
     → item_of components m ≡ Ok item
-    → onto bundle (items_of components (m ∷ ms)) ≡ onto (insert_entry component_cmp bundle item.0 item.1) (items_of components ms)
+    → onto bundle (items_of components (m ∷ ms))
+    ≡ onto (insert_entry component_cmp bundle item.0 item.1) (items_of components ms)
 goes_on components bundle m ms item e =
-    ap (λ (r : Result (ComponentId × ℤ) Cause). onto bundle (r >>= λ i. items_of components ms >>= λ is. Ok (i ∷ is))) e
+    ap (λ (r : Result (ComponentId × ℤ) Cause).
+    onto bundle (r >>= λ i. items_of components ms >>= λ is. Ok (i ∷ is))) e
     ∙ onto_item bundle item (items_of components ms)
 
-pub stops : (components : List (List ℕ)) (bundle : Bundle) (m : List ℕ × Data) (ms : List (List ℕ × Data)) (c : Cause)
+pub stops : (components : List (List ℕ)) (bundle : Bundle) (m : List ℕ × Data)
+    (ms : List (List ℕ × Data)) (c : Cause)
     → item_of components m ≡ Err c → onto bundle (items_of components (m ∷ ms)) ≡ Err c
 stops components bundle m ms c e =
-    ap (λ (r : Result (ComponentId × ℤ) Cause). onto bundle (r >>= λ i. items_of components ms >>= λ is. Ok (i ∷ is))) e
+    ap (λ (r : Result (ComponentId × ℤ) Cause).
+    onto bundle (r >>= λ i. items_of components ms >>= λ is. Ok (i ∷ is))) e

@@ -8,14 +8,19 @@ use Rattle.serde_json.specs.Find.{get}
 use Rattle.ent_script.specs.Json.{members, keys_among}
 use Rattle.ent_script.specs.Reading.{has_keys}
 
-pub both : (required allowed : List (Bor (List ℕ))) (d : Data) (ms : List (List ℕ × Data)) (all among : Bool)
+pub both : (required allowed : List (Bor (List ℕ))) (d : Data) (ms : List (List ℕ × Data))
+    (all among : Bool)
     → all ≡ list_all (λ key. is_some (get key.now d)) required → Some ms ≡ members d
     → among ≡ keys_among (map (λ key. key.now) allowed) ms
     → (all && among) ≡ has_keys (map (λ key. key.now) required) (map (λ key. key.now) allowed) d
 unfolding has_keys
 both required allowed d ms all among whole is some =
     let names = map (λ (key : Bor (List ℕ)). key.now) allowed in
-    ap (λ (b : Bool). b && among) (whole ∙ sym (list_all-map (λ key. is_some (get key d)) (λ (key : Bor (List ℕ)). key.now) required))
-    ∙ ap (λ (b : Bool). list_all (λ key. is_some (get key d)) (map (λ (key : Bor (List ℕ)). key.now) required) && b) some
-    ∙ ap (λ (o : Option (List (List ℕ × Data))). list_all (λ key. is_some (get key d)) (map (λ (key : Bor (List ℕ)). key.now) required)
+    ap (λ (b : Bool). b && among) (whole
+    ∙ sym (list_all-map (λ key. is_some (get key d)) (λ (key : Bor (List ℕ)). key.now)
+    required))
+    ∙ ap (λ (b : Bool). list_all (λ key. is_some (get key d)) (map (λ (key : Bor (List ℕ)). key.now)
+    required) && b) some
+    ∙ ap (λ (o : Option (List (List ℕ × Data))). list_all (λ key. is_some (get key d))
+    (map (λ (key : Bor (List ℕ)). key.now) required)
     && unwrap_or (option_map (keys_among names) o) false) is

@@ -13,7 +13,8 @@ use Rattle.ent_script.specs.Names.{as_name, number_among, with_name}
 use Rattle.ent_script.specs.Reading.{new_name}
 use Rattle.ent_script.specs.Places.{HavePlaces}
 
-within_later : (found : Option ℕ) (n : ℕ) → IfSome found (λ p. p < n) → IfSome (option_map (λ p. p + 1) found) (λ p. p < suc n)
+within_later : (found : Option ℕ) (n : ℕ) → IfSome found (λ p. p < n)
+    → IfSome (option_map (λ p. p + 1) found) (λ p. p < suc n)
 within_later None n h = tt
 within_later (Some p) n h = omega (arith, h)
 
@@ -23,16 +24,20 @@ within_either true found n h = omega arith
 within_either false found n h = within_later found n h
 
 -- a name's place is one of theirs
-pub place_of_within : (name : List ℕ) (names : List (List ℕ)) → IfSome (number_among name names) (λ p. p < length names)
+pub place_of_within : (name : List ℕ) (names : List (List ℕ)) → IfSome (number_among name names)
+    (λ p. p < length names)
 place_of_within name [] = tt
-place_of_within name (first ∷ others) = within_either (bytes_eq first name) (number_among name others) (length others) (place_of_within name others)
+place_of_within name (first ∷ others) = within_either (bytes_eq first name)
+    (number_among name others) (length others) (place_of_within name others)
 
 -- the first of two
 abbrev pub first_of : Option ℕ → Option ℕ → Option ℕ
 first_of None other = other
 first_of (Some n) other = Some n
 
-later : (found : Option ℕ) (b : Bool) (n : ℕ) → option_map (λ p. p + 1) (first_of found (cond b (Some n) None)) ≡ first_of (option_map (λ p. p + 1) found) (cond b (Some (suc n)) None)
+later : (found : Option ℕ) (b : Bool) (n : ℕ)
+    → option_map (λ p. p + 1) (first_of found (cond b (Some n) None))
+    ≡ first_of (option_map (λ p. p + 1) found) (cond b (Some (suc n)) None)
 later (Some p) b n = refl
 later None true n = ap (λ (m : ℕ). Some m) (add-one n)
 later None false n = refl
@@ -44,28 +49,37 @@ here_or_later true found b n = refl
 here_or_later false found b n = later found b n
 
 number_among-append : (text name : List ℕ) (names : List (List ℕ))
-    → number_among text (names ++ name ∷ []) ≡ first_of (number_among text names) (cond (bytes_eq name text) (Some (length names)) None)
+    → number_among text (names ++ name ∷ []) ≡ first_of (number_among text names)
+    (cond (bytes_eq name text) (Some (length names)) None)
 number_among-append text name [] = refl
 number_among-append text name (first ∷ others) =
-    ap (λ (found : Option ℕ). cond (bytes_eq first text) (Some 0) (option_map (λ p. p + 1) found)) (number_among-append text name others)
-    ∙ here_or_later (bytes_eq first text) (number_among text others) (bytes_eq name text) (length others)
+    ap (λ (found : Option ℕ). cond (bytes_eq first text) (Some 0) (option_map (λ p. p + 1) found))
+    (number_among-append text name others)
+    ∙ here_or_later (bytes_eq first text) (number_among text others) (bytes_eq name text)
+    (length others)
 
 no_other : (found : Option ℕ) → found ≡ first_of found None
 no_other None = refl
 no_other (Some n) = refl
 
-at_end_by : (b : Bool) (text name : List ℕ) (names : List (List ℕ)) → bytes_eq name text ≡ b → number_among name names ≡ None
-    → cond b (Some (length names)) (number_among text names) ≡ first_of (number_among text names) (cond b (Some (length names)) None)
+at_end_by : (b : Bool) (text name : List ℕ) (names : List (List ℕ)) → bytes_eq name text ≡ b
+    → number_among name names ≡ None
+    → cond b (Some (length names)) (number_among text names) ≡ first_of (number_among text names)
+    (cond b (Some (length names)) None)
 at_end_by true text name names e none =
-    let absent : number_among text names ≡ None = subst (λ (t : List ℕ). number_among t names ≡ None) ((bytes_eq-Decides name text).0 e) none in
+    let absent : number_among text names ≡ None = subst (λ (t : List ℕ). number_among t names
+    ≡ None) ((bytes_eq-Decides name text).0 e) none in
     ap (λ (found : Option ℕ). first_of found (Some (length names))) (sym absent)
 at_end_by false text name names e none = no_other (number_among text names)
 
 at_end : (text name : List ℕ) (names : List (List ℕ)) → number_among name names ≡ None
-    → cond (bytes_eq name text) (Some (length names)) (number_among text names) ≡ number_among text (names ++ name ∷ [])
-at_end text name names none = at_end_by (bytes_eq name text) text name names refl none ∙ sym (number_among-append text name names)
+    → cond (bytes_eq name text) (Some (length names)) (number_among text names)
+    ≡ number_among text (names ++ name ∷ [])
+at_end text name names none = at_end_by (bytes_eq name text) text name names refl none
+    ∙ sym (number_among-append text name names)
 
-map_now : (names : List (Bor (List ℕ))) (name : Bor (List ℕ)) → map (λ n. n.now) (names ++ name ∷ []) ≡ map (λ n. n.now) names ++ name.now ∷ []
+map_now : (names : List (Bor (List ℕ))) (name : Bor (List ℕ))
+    → map (λ n. n.now) (names ++ name ∷ []) ≡ map (λ n. n.now) names ++ name.now ∷ []
 map_now [] name = refl
 map_now (n ∷ names) name = ap (λ (ns : List (List ℕ)). n.now ∷ ns) (map_now names name)
 
@@ -74,15 +88,19 @@ length_now [] = refl
 length_now (n ∷ names) = ap suc (length_now names)
 
 -- a new name goes last
-pub places_added : (names : List (Bor (List ℕ))) (places after : BTreeMap (Bor (List ℕ)) ℕ) (name : Bor (List ℕ)) (n : ℕ)
-    → n ≡ length names → HavePlaces names places → get_by (λ k. slice_cmp nat_cmp name.now k.now) places ≡ None
-    → Updates (λ x y. slice_cmp nat_cmp x.now y.now) places after name (Some n) → HavePlaces (names ++ name ∷ []) after
+pub places_added : (names : List (Bor (List ℕ))) (places after : BTreeMap (Bor (List ℕ)) ℕ)
+    (name : Bor (List ℕ)) (n : ℕ)
+    → n ≡ length names → HavePlaces names places → get_by (λ k. slice_cmp nat_cmp name.now k.now)
+    places ≡ None
+    → Updates (λ x y. slice_cmp nat_cmp x.now y.now) places after name (Some n)
+    → HavePlaces (names ++ name ∷ []) after
 places_added names places after name n count old none updates = λ text.
     let seen = map (λ (m : Bor (List ℕ)). m.now) names in
     let absent : number_among name.now seen ≡ None = sym (old name.now) ∙ none in
     btree_map_updates_str name.now places after (Some n) updates text
     ∙ ap (λ (found : Option ℕ). cond (bytes_eq name.now text) (Some n) found) (old text)
-    ∙ ap (λ (m : ℕ). cond (bytes_eq name.now text) (Some m) (number_among text seen)) (count ∙ length_now names)
+    ∙ ap (λ (m : ℕ). cond (bytes_eq name.now text) (Some m) (number_among text seen)) (count
+    ∙ length_now names)
     ∙ at_end text name.now seen absent
     ∙ ap (number_among text) (sym (map_now names name))
 
@@ -90,20 +108,28 @@ pub none_of : (found : Option ℕ) (b : Bool) → b ≡ is_some found → b ≡ 
 none_of None b e h = refl
 none_of (Some n) b e h = absurd (true≢false (sym e ∙ h))
 
-new_by : (found : Option ℕ) (name t : List ℕ) (names : List (List ℕ)) → number_among name names ≡ found
-    → cond (is_some found) None (Some name) ≡ Some t → (Some name ≡ Some t) × (number_among t names ≡ None)
-new_by None name t names e h =
-    (h, subst (λ (s : List ℕ). number_among s names ≡ None) (ap (λ (o : Option (List ℕ)). unwrap_or o []) h) e)
+new_by : (found : Option ℕ) (name t : List ℕ) (names : List (List ℕ)) → number_among name names
+    ≡ found
+    → cond (is_some found) None (Some name) ≡ Some t → (Some name ≡ Some t)
+    × (number_among t names ≡ None)
+new_by None name t names e h = (
+  h,
+  subst (λ (s : List ℕ). number_among s names ≡ None)
+      (ap (λ (o : Option (List ℕ)). unwrap_or o []) h) e,
+)
 new_by (Some n) name t names e h = absurd (cc h)
 
 found_by : (o : Option (List ℕ)) (t : List ℕ) (names : List (List ℕ))
-    → option_and_then (λ name. cond (is_some (number_among name names)) None (Some name)) o ≡ Some t → (o ≡ Some t) × (number_among t names ≡ None)
+    → option_and_then (λ name. cond (is_some (number_among name names)) None (Some name)) o ≡ Some t
+    → (o ≡ Some t) × (number_among t names ≡ None)
 found_by None t names h = absurd (cc h)
 found_by (Some name) t names h = new_by (number_among name names) name t names refl h
 
 -- a new name is none of the others
-pub new_name_is : (names : List (List ℕ)) (d : Data) (t : List ℕ) → new_name names d ≡ Some t → (as_name d ≡ Some t) × (number_among t names ≡ None)
+pub new_name_is : (names : List (List ℕ)) (d : Data) (t : List ℕ) → new_name names d ≡ Some t
+    → (as_name d ≡ Some t) × (number_among t names ≡ None)
 new_name_is names d t h = found_by (as_name d) t names h
 
-pub with_new : (names : List (List ℕ)) (t : List ℕ) → number_among t names ≡ None → with_name names t ≡ names ++ t ∷ []
+pub with_new : (names : List (List ℕ)) (t : List ℕ) → number_among t names ≡ None
+    → with_name names t ≡ names ++ t ∷ []
 with_new names t h = ap (λ (o : Option ℕ). cond (is_some o) names (names ++ t ∷ [])) h

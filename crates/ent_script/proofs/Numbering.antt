@@ -20,15 +20,18 @@ from vs i = drop i (map view vs)
 abbrev pub until : List Value → ℕ → List Data
 until vs i = take i (map view vs)
 
-from_here : (vs : List Value) (i : ℕ) (v : Value) → i < length vs → v ≡ get_or vs i v → from vs i ≡ view v ∷ from vs (suc i)
+from_here : (vs : List Value) (i : ℕ) (v : Value) → i < length vs → v ≡ get_or vs i v → from vs i
+    ≡ view v ∷ from vs (suc i)
 from_here [] i v h e = absurd (omega arith)
 from_here (first ∷ vs) zero v h e = ap (λ (d : Data). d ∷ map view vs) (sym (ap view e))
 from_here (first ∷ vs) (suc i) v h e = from_here vs i v (omega arith) e
 
-until_here : (vs : List Value) (i : ℕ) (v : Value) → i < length vs → v ≡ get_or vs i v → until vs (suc i) ≡ until vs i ++ view v ∷ []
+until_here : (vs : List Value) (i : ℕ) (v : Value) → i < length vs → v ≡ get_or vs i v
+    → until vs (suc i) ≡ until vs i ++ view v ∷ []
 until_here [] i v h e = absurd (omega arith)
 until_here (first ∷ vs) zero v h e = ap (λ (d : Data). d ∷ []) (sym (ap view e))
-until_here (first ∷ vs) (suc i) v h e = ap (λ (ds : List Data). view first ∷ ds) (until_here vs i v (omega arith) e)
+until_here (first ∷ vs) (suc i) v h e = ap (λ (ds : List Data). view first ∷ ds)
+    (until_here vs i v (omega arith) e)
 
 from_end : (vs : List Value) (i : ℕ) → length vs ≤ i → from vs i ≡ []
 from_end [] zero h = refl
@@ -48,28 +51,34 @@ onto_none (Err e) = refl
 abbrev ok : (A E : Type 0) → List A → Result (List A) E
 ok A E xs = Ok xs
 
-onto_one : {A E : Type 0} (front : List A) (x : A) (read : Result (List A) E) → onto front (read >>= λ xs. Ok (x ∷ xs)) ≡ onto (front ++ x ∷ []) read
+onto_one : {A E : Type 0} (front : List A) (x : A) (read : Result (List A) E)
+    → onto front (read >>= λ xs. Ok (x ∷ xs)) ≡ onto (front ++ x ∷ []) read
 onto_one {A} {E} front x (Ok xs) = ap (ok A E) (sym (append_assoc front (x ∷ []) xs))
 onto_one front x (Err e) = refl
 
 module _ {A E : Type 0} (f : ℕ → Data → Result A E) where
-  pub goes_on : (vs : List Value) (i : ℕ) (v : Value) (front : List A) (x : A) (total : Result (List A) E)
+  pub goes_on : (vs : List Value) (i : ℕ) (v : Value) (front : List A) (x : A)
+      (total : Result (List A) E)
       → i < length vs → v ≡ get_or vs i v → f i (view v) ≡ Ok x
-      → onto front (numbered f i (from vs i)) ≡ total → onto (front ++ x ∷ []) (numbered f (i + 1) (from vs (i + 1))) ≡ total
+      → onto front (numbered f i (from vs i)) ≡ total
+      → onto (front ++ x ∷ []) (numbered f (i + 1) (from vs (i + 1))) ≡ total
   goes_on vs i v front x total h is means invariant =
       ap (λ (n : ℕ). onto (front ++ x ∷ []) (numbered f (i + 1) (from vs n))) (add-one i)
       ∙ sym (onto_one front x (numbered f (i + 1) (from vs (suc i))))
-      ∙ sym (ap (λ (r : Result A E). onto front (r >>= λ y. numbered f (i + 1) (from vs (suc i)) >>= λ ys. Ok (y ∷ ys))) means)
+      ∙ sym (ap (λ (r : Result A E). onto front (r >>= λ y. numbered f (i + 1) (from vs (suc i)) >>=
+      λ ys. Ok (y ∷ ys))) means)
       ∙ sym (ap (λ (ds : List Data). onto front (numbered f i ds)) (from_here vs i v h is))
       ∙ invariant
 
-  pub stops : (vs : List Value) (i : ℕ) (v : Value) (front : List A) (e : E) (total : Result (List A) E)
+  pub stops : (vs : List Value) (i : ℕ) (v : Value) (front : List A) (e : E)
+      (total : Result (List A) E)
       → i < length vs → v ≡ get_or vs i v → f i (view v) ≡ Err e
       → onto front (numbered f i (from vs i)) ≡ total → total ≡ Err e
   stops vs i v front e total h is means invariant =
       sym invariant
       ∙ ap (λ (ds : List Data). onto front (numbered f i ds)) (from_here vs i v h is)
-      ∙ ap (λ (r : Result A E). onto front (r >>= λ y. numbered f (i + 1) (from vs (suc i)) >>= λ ys. Ok (y ∷ ys))) means
+      ∙ ap (λ (r : Result A E). onto front (r >>= λ y. numbered f (i + 1) (from vs (suc i)) >>=
+      λ ys. Ok (y ∷ ys))) means
 
   pub ends : (vs : List Value) (i : ℕ) (front : List A) (total : Result (List A) E)
       → length vs ≤ i → onto front (numbered f i (from vs i)) ≡ total → total ≡ Ok front
@@ -79,7 +88,8 @@ module _ {A E : Type 0} (f : ℕ → Data → Result A E) where
       ∙ ap (ok A E) (append-nil front)
 
 -- the names that are found as far as the next element
-pub names_on : (f : Data → Option (List ℕ)) (vs : List Value) (i : ℕ) (v : Value) → i < length vs → v ≡ get_or vs i v
+pub names_on : (f : Data → Option (List ℕ)) (vs : List Value) (i : ℕ) (v : Value) → i < length vs
+    → v ≡ get_or vs i v
     → names_in f (until vs (i + 1)) ≡ with_part (names_in f (until vs i)) (f (view v))
 names_on f vs i v h is =
     ap (λ (n : ℕ). names_in f (until vs n)) (add-one i)

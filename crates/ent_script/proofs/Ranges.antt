@@ -67,33 +67,40 @@ always_some : {A : Type 0} (o : Option A) → IfSome o (λ _. Unit {0})
 always_some None = tt
 always_some (Some x) = tt
 
-mapped : {A B : Type 0} (P : B → Type 0) (g : A → B) (o : Option A) → IfSome o (λ x. P (g x)) → IfSome (option_map g o) P
+mapped : {A B : Type 0} (P : B → Type 0) (g : A → B) (o : Option A) → IfSome o (λ x. P (g x))
+    → IfSome (option_map g o) P
 mapped P g None h = tt
 mapped P g (Some x) h = h
 
-chained : {A B : Type 0} (P : B → Type 0) (g : A → Option B) (o : Option A) → ((x : A) → IfSome (g x) P) → IfSome (option_and_then g o) P
+chained : {A B : Type 0} (P : B → Type 0) (g : A → Option B) (o : Option A)
+    → ((x : A) → IfSome (g x) P) → IfSome (option_and_then g o) P
 chained P g None h = tt
 chained P g (Some x) h = h x
 
-either : {A E : Type 0} (P : A → Type 0) (b : Bool) (x y : Result A E) → IfOk x P → IfOk y P → IfOk (cond b x y) P
+either : {A E : Type 0} (P : A → Type 0) (b : Bool) (x y : Result A E) → IfOk x P → IfOk y P
+    → IfOk (cond b x y) P
 either P true x y h k = h
 either P false x y h k = k
 
 numbered_each : {A E : Type 0} (P : A → Type 0) (f : ℕ → Data → Result A E) (n : ℕ) (ds : List Data)
-    → ((i : ℕ) (d : Data) → IfOk (f i d) P) → IfOk (numbered f n ds) (λ xs. (length xs ≤ length ds) × AllByRecursion P xs)
+    → ((i : ℕ) (d : Data) → IfOk (f i d) P) → IfOk (numbered f n ds) (λ xs. (length xs ≤ length ds)
+    × AllByRecursion P xs)
 numbered_each P f n [] each = (omega arith, tt)
 numbered_each P f n (d ∷ ds) each =
     then_ok P (λ xs. (length xs ≤ suc (length ds)) × AllByRecursion P xs) (f n d) _ (each n d)
-    (λ x holds. then_ok (λ xs. (length xs ≤ length ds) × AllByRecursion P xs) (λ xs. (length xs ≤ suc (length ds)) × AllByRecursion P xs)
+    (λ x holds. then_ok (λ xs. (length xs ≤ length ds) × AllByRecursion P xs)
+    (λ xs. (length xs ≤ suc (length ds)) × AllByRecursion P xs)
     (numbered f (n + 1) ds) _ (numbered_each P f (n + 1) ds each)
     (λ xs rest. (omega (arith, rest.0), (holds, rest.1))))
 
-loosened : {A E : Type 0} (P : A → Type 0) (r : Result (List A) E) (n most : ℕ) → n ≤ most → IfOk r (λ xs. (length xs ≤ n) × AllByRecursion P xs)
+loosened : {A E : Type 0} (P : A → Type 0) (r : Result (List A) E) (n most : ℕ) → n ≤ most
+    → IfOk r (λ xs. (length xs ≤ n) × AllByRecursion P xs)
     → IfOk r (λ xs. (length xs ≤ most) × AllByRecursion P xs)
 loosened P (Ok xs) n most h k = (omega (arith, h, k.0), k.1)
 loosened P (Err e) n most h k = tt
 
-first_part : {A E : Type 0} (P : A → Type 0) (r : Result (List A) E) (most : ℕ) → IfOk r (λ xs. (length xs ≤ most) × AllByRecursion P xs)
+first_part : {A E : Type 0} (P : A → Type 0) (r : Result (List A) E) (most : ℕ)
+    → IfOk r (λ xs. (length xs ≤ most) × AllByRecursion P xs)
     → IfOk r (λ xs. length xs ≤ most)
 first_part P (Ok xs) most k = k.0
 first_part P (Err e) most k = tt
@@ -112,108 +119,142 @@ AtMost most xs = length xs ≤ most
 abbrev Between : ℕ → ℕ → ℕ → Type 0
 Between low high n = (low ≤ n) × (n ≤ high)
 
-if_within : (b c : Bool) (low high n : ℕ) → (b ≡ true → low ≤ n) → (c ≡ true → n ≤ high) → IfSome (cond (b && c) (Some n) None) (Between low high)
+if_within : (b c : Bool) (low high n : ℕ) → (b ≡ true → low ≤ n) → (c ≡ true → n ≤ high)
+    → IfSome (cond (b && c) (Some n) None) (Between low high)
 if_within true true low high n l h = (l refl, h refl)
 if_within true false low high n l h = tt
 if_within false c low high n l h = tt
 
 in_range_within : (low high : ℕ) (z : ℤ) → IfSome (in_range low high z) (Between low high)
-in_range_within low high (pos n) = if_within (nat_le low n) (nat_le n high) low high n (λ e. leb-true low n e) (λ e. leb-true n high e)
+in_range_within low high (pos n) = if_within (nat_le low n) (nat_le n high) low high n
+    (λ e. leb-true low n e) (λ e. leb-true n high e)
 in_range_within low high (negsuc n) = tt
 
 whole_in : (low high : ℕ) (d : Data) → IfSome (whole_within low high d) (Between low high)
-whole_in low high d = chained (Between low high) (in_range low high) (whole d) (in_range_within low high)
+whole_in low high d = chained (Between low high) (in_range low high) (whole d)
+    (in_range_within low high)
 
-few_by : (b : Bool) (most : ℕ) (ds : List Data) → (b ≡ true → length ds ≤ most) → IfSome (cond b (Some ds) None) (λ xs. length xs ≤ most)
+few_by : (b : Bool) (most : ℕ) (ds : List Data) → (b ≡ true → length ds ≤ most)
+    → IfSome (cond b (Some ds) None) (λ xs. length xs ≤ most)
 few_by true most ds h = h refl
 few_by false most ds h = tt
 
 few : (most : ℕ) (d : Data) → IfSome (at_most most d) (λ ds. length ds ≤ most)
-few most d = chained (AtMost most) _ (elements d) (λ ds. few_by (nat_le (length ds) most) most ds (λ e. leb-true (length ds) most e))
+few most d = chained (AtMost most) _ (elements d) (λ ds. few_by (nat_le (length ds) most) most ds
+    (λ e. leb-true (length ds) most e))
 
 -- ---- components and bundles
 
-component_in : (components : List (List ℕ)) (text : List ℕ) → IfSome (component_of components text) (λ c. c.0 < length components)
-component_in components text = mapped (ComponentIn (length components)) (λ (n : ℕ). record { 0 = n }) (number_among text components) (place_of_within text components)
+component_in : (components : List (List ℕ)) (text : List ℕ) → IfSome (component_of components text)
+    (λ c. c.0 < length components)
+component_in components text = mapped (ComponentIn (length components))
+    (λ (n : ℕ). record { 0 = n }) (number_among text components) (place_of_within text components)
 
-item_in : (components : List (List ℕ)) (m : List ℕ × Data) → IfOk (item_of components m) (λ item. item.0.0 < length components)
+item_in : (components : List (List ℕ)) (m : List ℕ × Data) → IfOk (item_of components m)
+    (λ item. item.0.0 < length components)
 item_in components m =
-    then_ok (ComponentIn (length components)) (ItemIn (length components)) (ok_or (component_of components m.0) cause.Component) _
-    (or_cause (ComponentIn (length components)) (component_of components m.0) cause.Component (component_in components m.0))
-    (λ id h. then_ok (λ _. Unit {0}) (ItemIn (length components)) (ok_or (whole m.1) cause.Value) _ (always (ok_or (whole m.1) cause.Value)) (λ value _. h))
+    then_ok (ComponentIn (length components)) (ItemIn (length components))
+    (ok_or (component_of components m.0) cause.Component) _
+    (or_cause (ComponentIn (length components)) (component_of components m.0) cause.Component
+    (component_in components m.0))
+    (λ id h. then_ok (λ _. Unit {0}) (ItemIn (length components)) (ok_or (whole m.1) cause.Value) _
+    (always (ok_or (whole m.1) cause.Value)) (λ value _. h))
 
-items_in : (components : List (List ℕ)) (ms : List (List ℕ × Data)) → IfOk (items_of components ms) (IsBundleOf (length components))
+items_in : (components : List (List ℕ)) (ms : List (List ℕ × Data)) → IfOk (items_of components ms)
+    (IsBundleOf (length components))
 items_in components [] = tt
 items_in components (m ∷ ms) =
-    then_ok (ItemIn (length components)) (IsBundleOf (length components)) (item_of components m) _ (item_in components m)
-    (λ item h. then_ok (IsBundleOf (length components)) (IsBundleOf (length components)) (items_of components ms) _ (items_in components ms) (λ items k. (h, k)))
+    then_ok (ItemIn (length components)) (IsBundleOf (length components)) (item_of components m) _
+    (item_in components m)
+    (λ item h. then_ok (IsBundleOf (length components)) (IsBundleOf (length components))
+    (items_of components ms) _ (items_in components ms) (λ items k. (h, k)))
 
-by_order : {X : Type 0} (P : X → Type 0) (o : Ordering) (xs ys zs : List X) → AllByRecursion P xs → AllByRecursion P ys → AllByRecursion P zs
+by_order : {X : Type 0} (P : X → Type 0) (o : Ordering) (xs ys zs : List X) → AllByRecursion P xs
+    → AllByRecursion P ys → AllByRecursion P zs
     → AllByRecursion P (match_ordering o xs ys zs)
 by_order P Less xs ys zs a b c = a
 by_order P Equal xs ys zs a b c = b
 by_order P Greater xs ys zs a b c = c
 
-insert_in : (n : ℕ) (bundle : List (ComponentId × ℤ)) (id : ComponentId) (value : ℤ) → id.0 < n → IsBundleOf n bundle
+insert_in : (n : ℕ) (bundle : List (ComponentId × ℤ)) (id : ComponentId) (value : ℤ) → id.0 < n
+    → IsBundleOf n bundle
     → IsBundleOf n (insert_entry component_cmp bundle id value)
 insert_in n [] id value h all = (h, tt)
 insert_in n (e ∷ es) id value h all =
-    by_order (ItemIn n) (component_cmp id e.0) ((id, value) ∷ e ∷ es) ((e.0, value) ∷ es) (e ∷ insert_entry component_cmp es id value)
+    by_order (ItemIn n) (component_cmp id e.0) ((id, value) ∷ e ∷ es) ((e.0, value) ∷ es)
+    (e ∷ insert_entry component_cmp es id value)
     (h, all) (all.0, all.1) (all.0, insert_in n es id value h all.1)
 
 fold_in : (n : ℕ) (bundle items : List (ComponentId × ℤ)) → IsBundleOf n bundle → IsBundleOf n items
     → IsBundleOf n (fold (λ b item. insert_entry component_cmp b item.0 item.1) bundle items)
 fold_in n bundle [] h all = h
 fold_in n bundle (item ∷ items) h all =
-    fold_in n (insert_entry component_cmp bundle item.0 item.1) items (insert_in n bundle item.0 item.1 all.0 h) all.1
+    fold_in n (insert_entry component_cmp bundle item.0 item.1) items
+    (insert_in n bundle item.0 item.1 all.0 h) all.1
 
-bundle_in : (components : List (List ℕ)) (part : Option Data) → IfOk (read_bundle components part) (IsBundleOf (length components))
+bundle_in : (components : List (List ℕ)) (part : Option Data) → IfOk (read_bundle components part)
+    (IsBundleOf (length components))
 unfolding read_bundle
 bundle_in components part =
-    then_ok (λ _. Unit {0}) (IsBundleOf (length components)) (ok_or (option_and_then members part) cause.Bundle) _ (always (ok_or (option_and_then members part) cause.Bundle))
-    (λ ms _. then_ok (IsBundleOf (length components)) (IsBundleOf (length components)) (items_of components ms) _ (items_in components ms)
+    then_ok (λ _. Unit {0}) (IsBundleOf (length components)) (ok_or (option_and_then members part)
+    cause.Bundle) _ (always (ok_or (option_and_then members part) cause.Bundle))
+    (λ ms _. then_ok (IsBundleOf (length components)) (IsBundleOf (length components))
+    (items_of components ms) _ (items_in components ms)
     (λ items h. fold_in (length components) [] items tt h))
 
-with_in : (components : List (List ℕ)) (part : Option Data) → IfOk (with_of components part) (IsBundleOf (length components))
+with_in : (components : List (List ℕ)) (part : Option Data) → IfOk (with_of components part)
+    (IsBundleOf (length components))
 with_in components None = tt
 with_in components (Some d) = bundle_in components (Some d)
 
 count_in : (part : Option Data) → IfOk (count_of part) (λ n. n ≤ 65536)
 unfolding count_of
-count_in part = or_cause (λ n. n ≤ 65536) (option_and_then (whole_within 0 65536) part) cause.Count (chained (λ n. n ≤ 65536) (whole_within 0 65536) part (λ d. below (whole_within 0 65536 d) 65536 (whole_in 0 65536 d)))
+count_in part = or_cause (λ n. n ≤ 65536) (option_and_then (whole_within 0 65536) part) cause.Count
+    (chained (λ n. n ≤ 65536) (whole_within 0 65536) part (λ d. below (whole_within 0 65536 d) 65536
+    (whole_in 0 65536 d)))
   where
     below : (o : Option ℕ) (high : ℕ) → IfSome o (Between 0 high) → IfSome o (λ n. n ≤ high)
     below None high h = tt
     below (Some n) high h = h.1
 
-removed_in : (components : List (List ℕ)) (part : Option Data) → IfOk (removed_of components part) (λ c. c.0 < length components)
+removed_in : (components : List (List ℕ)) (part : Option Data) → IfOk (removed_of components part)
+    (λ c. c.0 < length components)
 unfolding removed_of
 removed_in components part =
-    then_ok (λ _. Unit {0}) (ComponentIn (length components)) (ok_or (option_and_then as_str part) cause.Component) _ (always (ok_or (option_and_then as_str part) cause.Component))
-    (λ text _. or_cause (ComponentIn (length components)) (component_of components text) cause.Component (component_in components text))
+    then_ok (λ _. Unit {0}) (ComponentIn (length components)) (ok_or (option_and_then as_str part)
+    cause.Component) _ (always (ok_or (option_and_then as_str part) cause.Component))
+    (λ text _. or_cause (ComponentIn (length components)) (component_of components text)
+    cause.Component (component_in components text))
 
 -- ---- names
 
-below_more_names : (found : Option ℕ) (n most : ℕ) → n ≤ most → IfSome found (λ p. p < n) → IfSome found (λ p. p < most)
+below_more_names : (found : Option ℕ) (n most : ℕ) → n ≤ most → IfSome found (λ p. p < n)
+    → IfSome found (λ p. p < most)
 below_more_names None n most few h = tt
 below_more_names (Some p) n most few h = omega (arith, few, h)
 
-or_next : (found : Option ℕ) (n most : ℕ) → n ≤ most → IfSome found (λ p. p < n) → unwrap_or found n ≤ most
+or_next : (found : Option ℕ) (n most : ℕ) → n ≤ most → IfSome found (λ p. p < n) → unwrap_or found n
+    ≤ most
 or_next None n most few h = few
 or_next (Some p) n most few h = omega (arith, few, h)
 
-binding_in : (bound : List (List ℕ)) (most : ℕ) → length bound ≤ most → (part : Option Data) → IfOk (binding_of bound part) (IsBindingAt most)
+binding_in : (bound : List (List ℕ)) (most : ℕ) → length bound ≤ most → (part : Option Data)
+    → IfOk (binding_of bound part) (IsBindingAt most)
 unfolding binding_of
 binding_in bound most few None = tt
 binding_in bound most few (Some d) =
-    then_ok (λ _. Unit {0}) (IsBindingAt most) (ok_or (as_name d) cause.Name) _ (always (ok_or (as_name d) cause.Name))
-    (λ name _. or_next (number_among name bound) (length bound) most few (place_of_within name bound))
+    then_ok (λ _. Unit {0}) (IsBindingAt most) (ok_or (as_name d) cause.Name) _
+    (always (ok_or (as_name d) cause.Name))
+    (λ name _. or_next (number_among name bound) (length bound) most few
+    (place_of_within name bound))
 
-one_more : (b : Bool) (names : List (List ℕ)) (name : List ℕ) → length (cond b names (names ++ name ∷ [])) ≤ length names + 1
+one_more : (b : Bool) (names : List (List ℕ)) (name : List ℕ)
+    → length (cond b names (names ++ name ∷ [])) ≤ length names + 1
 one_more true names name = omega arith
 one_more false names name = omega (arith, length-append names (name ∷ []))
 
-part_more : (names : List (List ℕ)) (found : Option (List ℕ)) → length (with_part names found) ≤ length names + 1
+part_more : (names : List (List ℕ)) (found : Option (List ℕ)) → length (with_part names found)
+    ≤ length names + 1
 part_more names None = omega arith
 part_more names (Some name) = one_more (is_some (number_among name names)) names name
 
@@ -221,7 +262,11 @@ names_from : (f : Data → Option (List ℕ)) (i : ℕ) (names : List (List ℕ)
     → length (fold (λ names d. with_part names (f d)) names (take i ds)) ≤ length names + i
 names_from f zero names ds = omega arith
 names_from f (suc i) names [] = omega arith
-names_from f (suc i) names (d ∷ ds) = omega (arith, names_from f i (with_part names (f d)) ds, part_more names (f d))
+names_from f (suc i) names (d ∷ ds) = omega (
+  arith,
+  names_from f i (with_part names (f d)) ds,
+  part_more names (f d),
+)
 
 -- at most as many names as operations
 few_names : (i : ℕ) (ds : List Data) → length (names_in bound_name (take i ds)) ≤ i
@@ -229,101 +274,158 @@ few_names i ds = omega (arith, names_from bound_name i [] ds)
 
 -- ---- targets and operations
 
-handle_in : (components most : ℕ) (text : List ℕ) → IfOk (target_handle text) (IsTargetAt components most)
+handle_in : (components most : ℕ) (text : List ℕ)
+    → IfOk (target_handle text) (IsTargetAt components most)
 handle_in components most text = handle_by components most (handle_of text)
   where
-    handle_by : (components most : ℕ) (r : Result Handle TextFault) → IfOk {T = Target} {E = Cause} (elim r [ Ok h ↦ Ok (target.Handle h) | Err e ↦ Err cause.Handle ]) (IsTargetAt components most)
+    handle_by : (components most : ℕ) (r : Result Handle TextFault) → IfOk {T = Target} {E = Cause}
+        (elim r [ Ok h ↦ Ok (target.Handle h) | Err e ↦ Err cause.Handle ])
+        (IsTargetAt components most)
     handle_by components most (Ok h) = tt
     handle_by components most (Err e) = tt
 
 module _ (components bound : List (List ℕ)) (most : ℕ) (few_bound : length bound ≤ most) where
-  target_at_in : (key text : List ℕ) → IfOk (target_at components bound key text) (IsTargetAt (length components) most)
+  target_at_in : (key text : List ℕ) → IfOk (target_at components bound key text)
+      (IsTargetAt (length components) most)
   unfolding target_at
   target_at_in key text =
       either (IsTargetAt (length components) most) (bytes_eq key (codes "name")) _ _
-      (or_cause (IsTargetAt (length components) most) (option_map target.Name (number_among text bound)) cause.Name
-      (mapped (IsTargetAt (length components) most) target.Name (number_among text bound) (below_more_names (number_among text bound) (length bound) most few_bound (place_of_within text bound))))
-      (either (IsTargetAt (length components) most) (bytes_eq key (codes "handle")) _ _ (handle_in (length components) most text)
+      (or_cause (IsTargetAt (length components) most)
+      (option_map target.Name (number_among text bound)) cause.Name
+      (mapped (IsTargetAt (length components) most) target.Name (number_among text bound)
+      (below_more_names (number_among text bound) (length bound) most few_bound
+      (place_of_within text bound))))
+      (either (IsTargetAt (length components) most) (bytes_eq key (codes "handle")) _ _
+      (handle_in (length components) most text)
       (either (IsTargetAt (length components) most) (bytes_eq key (codes "each")) _ _
-      (or_cause (IsTargetAt (length components) most) (option_map target.Each (component_of components text)) cause.Component
-      (mapped (IsTargetAt (length components) most) target.Each (component_of components text) (component_in components text)))
+      (or_cause (IsTargetAt (length components) most)
+      (option_map target.Each (component_of components text)) cause.Component
+      (mapped (IsTargetAt (length components) most) target.Each (component_of components text)
+      (component_in components text)))
       tt))
 
-  target_in : (part : Option Data) → IfOk (target_of components bound part) (IsTargetAt (length components) most)
+  target_in : (part : Option Data) → IfOk (target_of components bound part)
+      (IsTargetAt (length components) most)
   unfolding target_of
   target_in part =
-      then_ok (λ _. Unit {0}) (IsTargetAt (length components) most) (ok_or (option_and_then only (option_and_then members part)) cause.Target) _ (always (ok_or (option_and_then only (option_and_then members part)) cause.Target))
-      (λ member _. then_ok (λ _. Unit {0}) (IsTargetAt (length components) most) (ok_or (as_str member.1) cause.Target) _ (always (ok_or (as_str member.1) cause.Target))
+      then_ok (λ _. Unit {0}) (IsTargetAt (length components) most)
+      (ok_or (option_and_then only (option_and_then members part)) cause.Target) _
+      (always (ok_or (option_and_then only (option_and_then members part)) cause.Target))
+      (λ member _. then_ok (λ _. Unit {0}) (IsTargetAt (length components) most)
+      (ok_or (as_str member.1) cause.Target) _ (always (ok_or (as_str member.1) cause.Target))
       (λ text _. target_at_in member.0 text))
 
-  of_kind_in : (d : Data) (kind : Kind) → IfOk (of_kind components bound d kind) (IsOperationAt (length components) most)
+  of_kind_in : (d : Data) (kind : Kind) → IfOk (of_kind components bound d kind)
+      (IsOperationAt (length components) most)
   unfolding of_kind
   of_kind_in d kinds.Spawn =
-      then_ok (IsBundleOf (length components)) (IsOperationAt (length components) most) (read_bundle components (get (codes "spawn") d)) _ (bundle_in components (get (codes "spawn") d))
-      (λ bundle h. then_ok (IsBindingAt most) (IsOperationAt (length components) most) (binding_of bound (get (codes "as") d)) _ (binding_in bound most few_bound (get (codes "as") d)) (λ binds b. (h, b)))
+      then_ok (IsBundleOf (length components)) (IsOperationAt (length components) most)
+      (read_bundle components (get (codes "spawn") d)) _
+      (bundle_in components (get (codes "spawn") d))
+      (λ bundle h. then_ok (IsBindingAt most) (IsOperationAt (length components) most)
+      (binding_of bound (get (codes "as") d)) _
+      (binding_in bound most few_bound (get (codes "as") d)) (λ binds b. (h, b)))
   of_kind_in d kinds.SpawnMany =
-      then_ok (λ n. n ≤ 65536) (IsOperationAt (length components) most) (count_of (get (codes "spawn_many") d)) _ (count_in (get (codes "spawn_many") d))
-      (λ count k. then_ok (IsBundleOf (length components)) (IsOperationAt (length components) most) (with_of components (get (codes "with") d)) _ (with_in components (get (codes "with") d))
-      (λ bundle h. then_ok (IsBindingAt most) (IsOperationAt (length components) most) (binding_of bound (get (codes "as") d)) _ (binding_in bound most few_bound (get (codes "as") d)) (λ binds b. (k, h, b))))
+      then_ok (λ n. n ≤ 65536) (IsOperationAt (length components) most)
+      (count_of (get (codes "spawn_many") d)) _ (count_in (get (codes "spawn_many") d))
+      (λ count k. then_ok (IsBundleOf (length components)) (IsOperationAt (length components) most)
+      (with_of components (get (codes "with") d)) _ (with_in components (get (codes "with") d))
+      (λ bundle h. then_ok (IsBindingAt most) (IsOperationAt (length components) most)
+      (binding_of bound (get (codes "as") d)) _
+      (binding_in bound most few_bound (get (codes "as") d)) (λ binds b. (k, h, b))))
   of_kind_in d kinds.Insert =
-      then_ok (IsBundleOf (length components)) (IsOperationAt (length components) most) (read_bundle components (get (codes "insert") d)) _ (bundle_in components (get (codes "insert") d))
-      (λ bundle h. then_ok (IsTargetAt (length components) most) (IsOperationAt (length components) most) (target_of components bound (get (codes "on") d)) _ (target_in (get (codes "on") d)) (λ on k. (h, k)))
+      then_ok (IsBundleOf (length components)) (IsOperationAt (length components) most)
+      (read_bundle components (get (codes "insert") d)) _
+      (bundle_in components (get (codes "insert") d))
+      (λ bundle h. then_ok (IsTargetAt (length components) most) (IsOperationAt (length components)
+      most) (target_of components bound (get (codes "on") d)) _ (target_in (get (codes "on") d))
+      (λ on k. (h, k)))
   of_kind_in d kinds.Remove =
-      then_ok (ComponentIn (length components)) (IsOperationAt (length components) most) (removed_of components (get (codes "remove") d)) _ (removed_in components (get (codes "remove") d))
-      (λ c h. then_ok (IsTargetAt (length components) most) (IsOperationAt (length components) most) (target_of components bound (get (codes "on") d)) _ (target_in (get (codes "on") d)) (λ on k. (h, k)))
+      then_ok (ComponentIn (length components)) (IsOperationAt (length components) most)
+      (removed_of components (get (codes "remove") d)) _
+      (removed_in components (get (codes "remove") d))
+      (λ c h. then_ok (IsTargetAt (length components) most) (IsOperationAt (length components) most)
+      (target_of components bound (get (codes "on") d)) _ (target_in (get (codes "on") d))
+      (λ on k. (h, k)))
   of_kind_in d kinds.Despawn =
-      then_ok (IsTargetAt (length components) most) (IsOperationAt (length components) most) (target_of components bound (get (codes "despawn") d)) _ (target_in (get (codes "despawn") d)) (λ on k. k)
+      then_ok (IsTargetAt (length components) most) (IsOperationAt (length components) most)
+      (target_of components bound (get (codes "despawn") d)) _
+      (target_in (get (codes "despawn") d)) (λ on k. k)
 
-  operation_in : (d : Data) → IfOk (operation_of components bound d) (IsOperationAt (length components) most)
+  operation_in : (d : Data) → IfOk (operation_of components bound d)
+      (IsOperationAt (length components) most)
   unfolding operation_of
   operation_in d =
-      then_ok (λ _. Unit {0}) (IsOperationAt (length components) most) (ok_or (kind_of d) cause.Shape) _ (always (ok_or (kind_of d) cause.Shape)) (λ kind _. of_kind_in d kind)
+      then_ok (λ _. Unit {0}) (IsOperationAt (length components) most)
+      (ok_or (kind_of d) cause.Shape) _ (always (ok_or (kind_of d) cause.Shape))
+      (λ kind _. of_kind_in d kind)
 
 -- ---- systems, frames and the whole
 
-at_in : {A : Type 0} (P : A → Type 0) (f s o : ℕ) (r : Result A Cause) → IfOk r P → IfOk (at_operation f s o r) P
+at_in : {A : Type 0} (P : A → Type 0) (f s o : ℕ) (r : Result A Cause) → IfOk r P
+    → IfOk (at_operation f s o r) P
 at_in P f s o (Ok x) h = h
 at_in P f s o (Err c) h = tt
 
 abbrev AreFrom : ℕ → ℕ → ℕ → List Operation → Type 0
 AreFrom components n most ops = (length ops ≤ most) × AreOperationsFrom components n ops
 
-operations_in : {E : Type 0} (components : ℕ) (f : ℕ → Data → Result Operation E) (n : ℕ) (ds : List Data)
-    → ((i : ℕ) (d : Data) → IfOk (f i d) (IsOperationAt components i)) → IfOk (numbered f n ds) (AreFrom components n (length ds))
+operations_in : {E : Type 0} (components : ℕ) (f : ℕ → Data → Result Operation E) (n : ℕ)
+    (ds : List Data)
+    → ((i : ℕ) (d : Data) → IfOk (f i d) (IsOperationAt components i))
+    → IfOk (numbered f n ds) (AreFrom components n (length ds))
 operations_in components f n [] each = (omega arith, tt)
 operations_in components f n (d ∷ ds) each =
-    then_ok (IsOperationAt components n) (AreFrom components n (suc (length ds))) (f n d) _ (each n d)
-    (λ op holds. then_ok (AreFrom components (n + 1) (length ds)) (AreFrom components n (suc (length ds)))
+    then_ok (IsOperationAt components n) (AreFrom components n (suc (length ds))) (f n d) _
+    (each n d)
+    (λ op holds. then_ok (AreFrom components (n + 1) (length ds))
+    (AreFrom components n (suc (length ds)))
     (numbered f (n + 1) ds) _ (operations_in components f (n + 1) ds each)
     (λ ops rest. (omega (arith, rest.0), (holds, rest.1))))
 
-few_operations : {E : Type 0} (components : ℕ) (r : Result (List Operation) E) (n most : ℕ) → n ≤ most → IfOk r (AreFrom components 0 n) → IfOk r (AreFrom components 0 most)
+few_operations : {E : Type 0} (components : ℕ) (r : Result (List Operation) E) (n most : ℕ) → n
+    ≤ most → IfOk r (AreFrom components 0 n) → IfOk r (AreFrom components 0 most)
 few_operations components (Ok ops) n most h k = (omega (arith, h, k.0), k.1)
 few_operations components (Err e) n most h k = tt
 
-system_in : (components : List (List ℕ)) (frame number : ℕ) (d : Data) → IfOk (system_of components frame number d) (IsSystemOf (length components))
+system_in : (components : List (List ℕ)) (frame number : ℕ) (d : Data)
+    → IfOk (system_of components frame number d) (IsSystemOf (length components))
 unfolding system_of
 system_in components frame number d =
-    then_ok (AtMost 10000) (IsSystemOf (length components)) (ok_or (at_most 10000 d) (fault.System frame number)) _ (or_cause (AtMost 10000) (at_most 10000 d) (fault.System frame number) (few 10000 d))
-    (λ ds short. few_operations (length components) (numbered (operation_at components frame number ds) 0 ds) (length ds) 10000 short
-    (operations_in (length components) (operation_at components frame number ds) 0 ds (λ i e. at_in (IsOperationAt (length components) i) frame number i _ (operation_in components (names_in bound_name (take i ds)) i (few_names i ds) e))))
+    then_ok (AtMost 10000) (IsSystemOf (length components))
+    (ok_or (at_most 10000 d) (fault.System frame number)) _
+    (or_cause (AtMost 10000) (at_most 10000 d) (fault.System frame number) (few 10000 d))
+    (λ ds short. few_operations (length components)
+    (numbered (operation_at components frame number ds) 0 ds) (length ds) 10000 short
+    (operations_in (length components) (operation_at components frame number ds) 0 ds
+    (λ i e. at_in (IsOperationAt (length components) i) frame number i _
+    (operation_in components (names_in bound_name (take i ds)) i (few_names i ds) e))))
 
-frame_in : (components : List (List ℕ)) (number : ℕ) (d : Data) → IfOk (frame_of components number d) (IsFrameOf (length components))
+frame_in : (components : List (List ℕ)) (number : ℕ) (d : Data)
+    → IfOk (frame_of components number d) (IsFrameOf (length components))
 unfolding frame_of
 frame_in components number d =
-    then_ok (AtMost 256) (IsFrameOf (length components)) (ok_or (at_most 256 d) (fault.Frame number)) _ (or_cause (AtMost 256) (at_most 256 d) (fault.Frame number) (few 256 d))
-    (λ ds short. loosened (IsSystemOf (length components)) (numbered (system_of components number) 0 ds) (length ds) 256 short
-    (numbered_each (IsSystemOf (length components)) (system_of components number) 0 ds (λ i e. system_in components number i e)))
+    then_ok (AtMost 256) (IsFrameOf (length components))
+    (ok_or (at_most 256 d) (fault.Frame number)) _ (or_cause (AtMost 256) (at_most 256 d)
+    (fault.Frame number) (few 256 d))
+    (λ ds short. loosened (IsSystemOf (length components)) (numbered (system_of components number) 0
+    ds) (length ds) 256 short
+    (numbered_each (IsSystemOf (length components)) (system_of components number) 0 ds
+    (λ i e. system_in components number i e)))
 
 components_in : (part : Option Data) → IfOk (component_names part) (λ names. length names ≤ 256)
 unfolding component_names
 components_in part =
-    then_ok (AtMost 256) (AtMost 256) (ok_or (option_and_then (at_most 256) part) script_cause.Components) _
-    (or_cause (AtMost 256) (option_and_then (at_most 256) part) script_cause.Components (chained (AtMost 256) (at_most 256) part (few 256)))
-    (λ ds short. first_part (λ _. Unit {0}) (numbered (component_at ds) 0 ds) 256 (loosened (λ _. Unit {0}) (numbered (component_at ds) 0 ds) (length ds) 256 short
+    then_ok (AtMost 256) (AtMost 256) (ok_or (option_and_then (at_most 256) part)
+    script_cause.Components) _
+    (or_cause (AtMost 256) (option_and_then (at_most 256) part) script_cause.Components
+    (chained (AtMost 256) (at_most 256) part (few 256)))
+    (λ ds short. first_part (λ _. Unit {0}) (numbered (component_at ds) 0 ds) 256
+    (loosened (λ _. Unit {0}) (numbered (component_at ds) 0 ds) (length ds) 256 short
     (numbered_each (λ _. Unit {0}) (component_at ds) 0 ds (λ i e. always (component_at ds i e)))))
 
-absent_in : (absent low high : ℕ) → Between low high absent → (part : Option Data) → IfSome (or_absent absent (whole_within low high) part) (Between low high)
+absent_in : (absent low high : ℕ) → Between low high absent → (part : Option Data)
+    → IfSome (or_absent absent (whole_within low high) part) (Between low high)
 absent_in absent low high h None = h
 absent_in absent low high h (Some d) = whole_in low high d
 
@@ -334,31 +436,60 @@ in_top P (Err c) h = tt
 limits_in : (d : Data) → IfOk (limits_of d) AreLimits
 unfolding limits_of
 limits_in d =
-    then_ok (λ _. Unit {0}) AreLimits (ok_or (members d) script_cause.Top) _ (always (ok_or (members d) script_cause.Top))
-    (λ ms _. then_ok (λ _. Unit {0}) AreLimits (test (keys_among script_keys ms) script_cause.Key) _ (always (test (keys_among script_keys ms) script_cause.Key))
-    (λ key _. then_ok (λ _. Unit {0}) AreLimits (ok_or (or_absent 1 (whole_within 1 1) (get (codes "format") d)) script_cause.Format) _
+    then_ok (λ _. Unit {0}) AreLimits (ok_or (members d) script_cause.Top) _
+    (always (ok_or (members d) script_cause.Top))
+    (λ ms _. then_ok (λ _. Unit {0}) AreLimits (test (keys_among script_keys ms) script_cause.Key) _
+    (always (test (keys_among script_keys ms) script_cause.Key))
+    (λ key _. then_ok (λ _. Unit {0}) AreLimits
+    (ok_or (or_absent 1 (whole_within 1 1) (get (codes "format") d)) script_cause.Format) _
     (always (ok_or (or_absent 1 (whole_within 1 1) (get (codes "format") d)) script_cause.Format))
-    (λ format _. then_ok (Between 1 4294967295) AreLimits (ok_or (or_absent 4294967295 (whole_within 1 4294967295) (get (codes "slots") d)) script_cause.Slots) _
-    (or_cause (Between 1 4294967295) (or_absent 4294967295 (whole_within 1 4294967295) (get (codes "slots") d)) script_cause.Slots (absent_in 4294967295 1 4294967295 (lit≤ tt, lit≤ tt) (get (codes "slots") d)))
-    (λ slots s. then_ok (Between 1 2147483647) AreLimits (ok_or (or_absent 2147483647 (whole_within 1 2147483647) (get (codes "generations") d)) script_cause.Generations) _
-    (or_cause (Between 1 2147483647) (or_absent 2147483647 (whole_within 1 2147483647) (get (codes "generations") d)) script_cause.Generations (absent_in 2147483647 1 2147483647 (lit≤ tt, lit≤ tt) (get (codes "generations") d)))
-    (λ generations g. record { some_slot = s.0; slots = omega (arith, s.1); some_generation = g.0; generations = omega (arith, g.1) })))))
+    (λ format _. then_ok (Between 1 4294967295) AreLimits
+    (ok_or (or_absent 4294967295 (whole_within 1 4294967295) (get (codes "slots") d))
+    script_cause.Slots) _
+    (or_cause (Between 1 4294967295) (or_absent 4294967295 (whole_within 1 4294967295)
+    (get (codes "slots") d)) script_cause.Slots (absent_in 4294967295 1 4294967295
+    (lit≤ tt, lit≤ tt) (get (codes "slots") d)))
+    (λ slots s. then_ok (Between 1 2147483647) AreLimits
+    (ok_or (or_absent 2147483647 (whole_within 1 2147483647) (get (codes "generations") d))
+    script_cause.Generations) _
+    (or_cause (Between 1 2147483647) (or_absent 2147483647 (whole_within 1 2147483647)
+    (get (codes "generations") d)) script_cause.Generations (absent_in 2147483647 1 2147483647
+    (lit≤ tt, lit≤ tt) (get (codes "generations") d)))
+    (λ generations g. record {
+      some_slot = s.0;
+      slots = omega (arith, s.1);
+      some_generation =
+          g.0;
+      generations = omega (arith, g.1);
+    })))))
 
 -- what a value means is a script
 pub script_in : (d : Data) → IfOk (script_of d) IsScript
 unfolding script_of
 script_in d =
-    then_ok AreLimits IsScript (in_script (limits_of d)) _ (in_top AreLimits (limits_of d) (limits_in d))
-    (λ limits l. then_ok (AtMost 256) IsScript (in_script (component_names (get (codes "components") d))) _
-    (in_top (AtMost 256) (component_names (get (codes "components") d)) (components_in (get (codes "components") d)))
-    (λ components c. then_ok (AtMost 1000) IsScript (ok_or (option_and_then (at_most 1000) (get (codes "frames") d)) (fault.Script script_cause.Frames)) _
-    (or_cause (AtMost 1000) (option_and_then (at_most 1000) (get (codes "frames") d)) (fault.Script script_cause.Frames) (chained (AtMost 1000) (at_most 1000) (get (codes "frames") d) (few 1000)))
-    (λ ds short. then_ok (λ frames. (length frames ≤ 1000) × AllByRecursion (IsFrameOf (length components)) frames) IsScript
+    then_ok AreLimits IsScript (in_script (limits_of d)) _
+    (in_top AreLimits (limits_of d) (limits_in d))
+    (λ limits l. then_ok (AtMost 256) IsScript
+    (in_script (component_names (get (codes "components") d))) _
+    (in_top (AtMost 256) (component_names (get (codes "components") d))
+    (components_in (get (codes "components") d)))
+    (λ components c. then_ok (AtMost 1000) IsScript
+    (ok_or (option_and_then (at_most 1000) (get (codes "frames") d))
+    (fault.Script script_cause.Frames)) _
+    (or_cause (AtMost 1000) (option_and_then (at_most 1000) (get (codes "frames") d))
+    (fault.Script script_cause.Frames) (chained (AtMost 1000) (at_most 1000)
+    (get (codes "frames") d) (few 1000)))
+    (λ ds short. then_ok (λ frames. (length frames ≤ 1000)
+    × AllByRecursion (IsFrameOf (length components)) frames) IsScript
     (numbered (frame_of components) 0 ds) _
-    (loosened (IsFrameOf (length components)) (numbered (frame_of components) 0 ds) (length ds) 1000 short (numbered_each (IsFrameOf (length components)) (frame_of components) 0 ds (λ i e. frame_in components i e)))
+    (loosened (IsFrameOf (length components)) (numbered (frame_of components) 0 ds) (length ds) 1000
+    short (numbered_each (IsFrameOf (length components)) (frame_of components) 0 ds
+    (λ i e. frame_in components i e)))
     (λ frames f. record { limits = l; components = c; count = f.0; frames = f.1 }))))
 
 -- so is what was returned, if it is what a value means
-pub returned_in : (r : Result Script ReadFault) (d : Data) → ReadsAs r (script_of d) → IfOk r IsScript
-returned_in (Ok s) d e = subst (λ (read : Result Script ReadFault). IfOk read IsScript) e (script_in d)
+pub returned_in : (r : Result Script ReadFault) (d : Data) → ReadsAs r (script_of d)
+    → IfOk r IsScript
+returned_in (Ok s) d e = subst (λ (read : Result Script ReadFault). IfOk read IsScript) e
+    (script_in d)
 returned_in (Err e) d h = tt

@@ -26,7 +26,9 @@ use Rattle.ent_script.specs.Refusal.{refusal_line}
 
 -- what a row unfolds to compute the script of a text
 unfoldable script_on_literals : ⊤
-unfolding serde_json_on_literals is_utf8 chars script_of limits_of component_names frame_of system_of operation_of of_kind has_keys is_spawn is_spawn_many is_insert is_remove is_despawn read_bundle count_of binding_of removed_of target_of target_at
+unfolding serde_json_on_literals is_utf8 chars script_of limits_of component_names frame_of
+    system_of operation_of of_kind has_keys is_spawn is_spawn_many is_insert is_remove is_despawn
+    read_bundle count_of binding_of removed_of target_of target_at
 script_on_literals = tt
 
 abbrev number : ℕ → ComponentId
@@ -48,11 +50,18 @@ hp_mp = codes "hp" ∷ codes "mp" ∷ []
 
 -- a script with these components and this only system
 abbrev one_system : List (List ℕ) → List Operation → Result Script ReadFault
-one_system components operations = Ok (record { limits = default_limits; components = components; frames = (operations ∷ []) ∷ [] })
+one_system components operations =
+    Ok (record {
+      limits = default_limits;
+      components = components;
+      frames = (operations ∷ [])
+          ∷ [];
+    })
 
 -- ---- scripts
 
-no_frames : script_of_text (codes "{\"components\":[],\"frames\":[]}") ≡ Ok (record { limits = default_limits; components = []; frames = [] })
+no_frames : script_of_text (codes "{\"components\":[],\"frames\":[]}")
+    ≡ Ok (record { limits = default_limits; components = []; frames = [] })
 unfolding script_on_literals
 no_frames = refl
 
@@ -65,7 +74,8 @@ two_frames : script_of_text
       limits = default_limits;
       components = hp_mp;
       frames =
-          ((operation.SpawnMany 2 (item 0 1 ∷ []) (Some 0) ∷ operation.Insert (item 1 4 ∷ []) (target.Name 0) ∷ []) ∷ [])
+          ((operation.SpawnMany 2 (item 0 1 ∷ []) (Some 0) ∷ operation.Insert (item 1 4 ∷ [])
+          (target.Name 0) ∷ []) ∷ [])
           ∷ ((operation.Remove (number 0) (target.Each (number 0)) ∷ [])
           ∷ (operation.Insert (item 0 8 ∷ []) (target.Each (number 1)) ∷ []) ∷ [])
           ∷ [];
@@ -73,40 +83,59 @@ two_frames : script_of_text
 unfolding script_on_literals
 two_frames = refl
 
-limits_given : script_of_text (codes "{\"format\":1,\"slots\":2,\"generations\":3,\"components\":[],\"frames\":[[]]}")
-    ≡ Ok (record { limits = record { slots = 2; generations = 3 }; components = []; frames = [] ∷ [] })
+limits_given : script_of_text
+    (codes "{\"format\":1,\"slots\":2,\"generations\":3,\"components\":[],\"frames\":[[]]}")
+    ≡ Ok (record {
+      limits = record { slots = 2; generations = 3 };
+      components = [];
+      frames = []
+          ∷ [];
+    })
 unfolding script_on_literals
 limits_given = refl
 
 -- a bundle goes by the numbers of its components, whatever the order of its keys
-bundle_by_number : script_of_text (codes "{\"components\":[\"mp\",\"hp\"],\"frames\":[[[{\"spawn\":{\"hp\":-12,\"mp\":7}}]]]}")
-    ≡ one_system (codes "mp" ∷ codes "hp" ∷ []) (operation.Spawn (item 0 7 ∷ (number 1, negsuc 11) ∷ []) None ∷ [])
+bundle_by_number : script_of_text
+    (codes "{\"components\":[\"mp\",\"hp\"],\"frames\":[[[{\"spawn\":{\"hp\":-12,\"mp\":7}}]]]}")
+    ≡ one_system (codes "mp" ∷ codes "hp" ∷ []) (operation.Spawn (item 0 7 ∷ (number 1, negsuc 11)
+    ∷ []) None ∷ [])
 unfolding script_on_literals
 bundle_by_number = refl
 
 -- names are numbered by their first `as`, and one that is bound again keeps its number
-names_numbered : script_of_text (codes "{\"components\":[],\"frames\":[[[{\"spawn\":{},\"as\":\"b\"},{\"spawn\":{},\"as\":\"a\"},{\"spawn_many\":0,\"as\":\"b\"},{\"despawn\":{\"name\":\"a\"}}]]]}")
-    ≡ one_system [] (operation.Spawn [] (Some 0) ∷ operation.Spawn [] (Some 1) ∷ operation.SpawnMany 0 [] (Some 0) ∷ operation.Despawn (target.Name 1) ∷ [])
+names_numbered : script_of_text
+    (codes "{\"components\":[],\"frames\":[[[{\"spawn\":{},\"as\":\"b\"},{\"spawn\":{},\"as\":\"a\"},{\"spawn_many\":0,\"as\":\"b\"},{\"despawn\":{\"name\":\"a\"}}]]]}")
+    ≡ one_system [] (operation.Spawn [] (Some 0) ∷ operation.Spawn [] (Some 1)
+    ∷ operation.SpawnMany 0 [] (Some 0) ∷ operation.Despawn (target.Name 1) ∷ [])
 unfolding script_on_literals
 names_numbered = refl
 
-handle_meant : script_of_text (codes "{\"components\":[],\"frames\":[[[{\"despawn\":{\"handle\":\"3v2\"}}]]]}")
+handle_meant : script_of_text
+    (codes "{\"components\":[],\"frames\":[[[{\"despawn\":{\"handle\":\"3v2\"}}]]]}")
     ≡ one_system [] (operation.Despawn (target.Handle (record { index = 3; generation = 2 })) ∷ [])
 unfolding script_on_literals
 handle_meant = refl
 
-most_at_once : script_of_text (codes "{\"components\":[],\"frames\":[[[{\"spawn_many\":65536}]]]}") ≡ one_system [] (operation.SpawnMany 65536 [] None ∷ [])
+most_at_once : script_of_text (codes "{\"components\":[],\"frames\":[[[{\"spawn_many\":65536}]]]}")
+    ≡ one_system [] (operation.SpawnMany 65536 [] None ∷ [])
 unfolding script_on_literals
 most_at_once = refl
 
 -- 32 bytes, with each kind of byte that a name may have
-longest_name : script_of_text (codes "{\"components\":[\"_23456789_abcdefghijklmnopqrstuv\"],\"frames\":[]}")
-    ≡ Ok (record { limits = default_limits; components = codes "_23456789_abcdefghijklmnopqrstuv" ∷ []; frames = [] })
+longest_name : script_of_text
+    (codes "{\"components\":[\"_23456789_abcdefghijklmnopqrstuv\"],\"frames\":[]}")
+    ≡ Ok (record {
+      limits = default_limits;
+      components = codes "_23456789_abcdefghijklmnopqrstuv"
+          ∷ [];
+      frames = [];
+    })
 unfolding script_on_literals
 longest_name = refl
 
 -- the last value of a key counts
-last_value : script_of_text (codes "{\"components\":7,\"frames\":[],\"components\":[\"hp\"]}") ≡ Ok (record { limits = default_limits; components = hp; frames = [] })
+last_value : script_of_text (codes "{\"components\":7,\"frames\":[],\"components\":[\"hp\"]}")
+    ≡ Ok (record { limits = default_limits; components = hp; frames = [] })
 unfolding script_on_literals
 last_value = refl
 
@@ -127,44 +156,56 @@ no_object : script_of_text (codes "[]") ≡ refused_script script_cause.Top
 unfolding script_on_literals
 no_object = refl
 
-unknown_key : script_of_text (codes "{\"components\":[],\"frames\":[],\"seed\":1}") ≡ refused_script script_cause.Key
+unknown_key : script_of_text (codes "{\"components\":[],\"frames\":[],\"seed\":1}")
+    ≡ refused_script script_cause.Key
 unfolding script_on_literals
 unknown_key = refl
 
-format_two : script_of_text (codes "{\"format\":2,\"components\":[],\"frames\":[]}") ≡ refused_script script_cause.Format
+format_two : script_of_text (codes "{\"format\":2,\"components\":[],\"frames\":[]}")
+    ≡ refused_script script_cause.Format
 unfolding script_on_literals
 format_two = refl
 
-slots_zero : script_of_text (codes "{\"slots\":0,\"components\":[],\"frames\":[]}") ≡ refused_script script_cause.Slots
+slots_zero : script_of_text (codes "{\"slots\":0,\"components\":[],\"frames\":[]}")
+    ≡ refused_script script_cause.Slots
 unfolding script_on_literals
 slots_zero = refl
 
-slots_above : script_of_text (codes "{\"slots\":4294967296,\"components\":[],\"frames\":[]}") ≡ refused_script script_cause.Slots
+slots_above : script_of_text (codes "{\"slots\":4294967296,\"components\":[],\"frames\":[]}")
+    ≡ refused_script script_cause.Slots
 unfolding script_on_literals
 slots_above = refl
 
 -- a number with an exponent is no whole number
-slots_with_exponent : script_of_text (codes "{\"slots\":1e3,\"components\":[],\"frames\":[]}") ≡ refused_script script_cause.Slots
+slots_with_exponent : script_of_text (codes "{\"slots\":1e3,\"components\":[],\"frames\":[]}")
+    ≡ refused_script script_cause.Slots
 unfolding script_on_literals
 slots_with_exponent = refl
 
-generations_above : script_of_text (codes "{\"generations\":2147483648,\"components\":[],\"frames\":[]}") ≡ refused_script script_cause.Generations
+generations_above : script_of_text
+    (codes "{\"generations\":2147483648,\"components\":[],\"frames\":[]}")
+    ≡ refused_script script_cause.Generations
 unfolding script_on_literals
 generations_above = refl
 
-component_twice : script_of_text (codes "{\"components\":[\"hp\",\"mp\",\"hp\"],\"frames\":[]}") ≡ refused_script script_cause.Components
+component_twice : script_of_text (codes "{\"components\":[\"hp\",\"mp\",\"hp\"],\"frames\":[]}")
+    ≡ refused_script script_cause.Components
 unfolding script_on_literals
 component_twice = refl
 
-capital_letters : script_of_text (codes "{\"components\":[\"HP\"],\"frames\":[]}") ≡ refused_script script_cause.Components
+capital_letters : script_of_text (codes "{\"components\":[\"HP\"],\"frames\":[]}")
+    ≡ refused_script script_cause.Components
 unfolding script_on_literals
 capital_letters = refl
 
-name_of_33 : script_of_text (codes "{\"components\":[\"_23456789_abcdefghijklmnopqrstuvw\"],\"frames\":[]}") ≡ refused_script script_cause.Components
+name_of_33 : script_of_text
+    (codes "{\"components\":[\"_23456789_abcdefghijklmnopqrstuvw\"],\"frames\":[]}")
+    ≡ refused_script script_cause.Components
 unfolding script_on_literals
 name_of_33 = refl
 
-empty_name : script_of_text (codes "{\"components\":[\"\"],\"frames\":[]}") ≡ refused_script script_cause.Components
+empty_name : script_of_text (codes "{\"components\":[\"\"],\"frames\":[]}")
+    ≡ refused_script script_cause.Components
 unfolding script_on_literals
 empty_name = refl
 
@@ -173,15 +214,18 @@ unfolding script_on_literals
 without_frames = refl
 
 -- of two tests that fail, the first refuses
-key_before_format : script_of_text (codes "{\"format\":2,\"seed\":1}") ≡ refused_script script_cause.Key
+key_before_format : script_of_text (codes "{\"format\":2,\"seed\":1}")
+    ≡ refused_script script_cause.Key
 unfolding script_on_literals
 key_before_format = refl
 
-format_before_slots : script_of_text (codes "{\"slots\":0,\"format\":2,\"generations\":0}") ≡ refused_script script_cause.Format
+format_before_slots : script_of_text (codes "{\"slots\":0,\"format\":2,\"generations\":0}")
+    ≡ refused_script script_cause.Format
 unfolding script_on_literals
 format_before_slots = refl
 
-slots_before_generations : script_of_text (codes "{\"generations\":0,\"slots\":0}") ≡ refused_script script_cause.Slots
+slots_before_generations : script_of_text (codes "{\"generations\":0,\"slots\":0}")
+    ≡ refused_script script_cause.Slots
 unfolding script_on_literals
 slots_before_generations = refl
 
@@ -198,77 +242,104 @@ no_frame : script_of_text (codes "{\"components\":[],\"frames\":[[],7]}") ≡ Er
 unfolding script_on_literals
 no_frame = refl
 
-no_system : script_of_text (codes "{\"components\":[],\"frames\":[[],[[],[],{}]]}") ≡ Err (fault.System 1 2)
+no_system : script_of_text (codes "{\"components\":[],\"frames\":[[],[[],[],{}]]}")
+    ≡ Err (fault.System 1 2)
 unfolding script_on_literals
 no_system = refl
 
-other_keys : script_of_text (codes "{\"components\":[],\"frames\":[[[{\"spawn\":{},\"with\":{}}]]]}") ≡ refused_operation 0 0 0 cause.Shape
+other_keys : script_of_text
+    (codes "{\"components\":[],\"frames\":[[[{\"spawn\":{},\"with\":{}}]]]}")
+    ≡ refused_operation 0 0 0 cause.Shape
 unfolding script_on_literals
 other_keys = refl
 
-no_bundle : script_of_text (codes "{\"components\":[],\"frames\":[[[{\"spawn\":[]}]]]}") ≡ refused_operation 0 0 0 cause.Bundle
+no_bundle : script_of_text (codes "{\"components\":[],\"frames\":[[[{\"spawn\":[]}]]]}")
+    ≡ refused_operation 0 0 0 cause.Bundle
 unfolding script_on_literals
 no_bundle = refl
 
-unknown_component : script_of_text (codes "{\"components\":[\"hp\"],\"frames\":[[[{\"spawn\":{\"mp\":1}}]]]}") ≡ refused_operation 0 0 0 cause.Component
+unknown_component : script_of_text
+    (codes "{\"components\":[\"hp\"],\"frames\":[[[{\"spawn\":{\"mp\":1}}]]]}")
+    ≡ refused_operation 0 0 0 cause.Component
 unfolding script_on_literals
 unknown_component = refl
 
-fraction : script_of_text (codes "{\"components\":[\"hp\"],\"frames\":[[[{\"spawn\":{\"hp\":1.5}}]]]}") ≡ refused_operation 0 0 0 cause.Value
+fraction : script_of_text
+    (codes "{\"components\":[\"hp\"],\"frames\":[[[{\"spawn\":{\"hp\":1.5}}]]]}")
+    ≡ refused_operation 0 0 0 cause.Value
 unfolding script_on_literals
 fraction = refl
 
-too_many : script_of_text (codes "{\"components\":[],\"frames\":[[[{\"spawn_many\":65537}]]]}") ≡ refused_operation 0 0 0 cause.Count
+too_many : script_of_text (codes "{\"components\":[],\"frames\":[[[{\"spawn_many\":65537}]]]}")
+    ≡ refused_operation 0 0 0 cause.Count
 unfolding script_on_literals
 too_many = refl
 
-removed_by_number : script_of_text (codes "{\"components\":[\"hp\"],\"frames\":[[[{\"remove\":0,\"on\":{\"each\":\"hp\"}}]]]}") ≡ refused_operation 0 0 0 cause.Component
+removed_by_number : script_of_text
+    (codes "{\"components\":[\"hp\"],\"frames\":[[[{\"remove\":0,\"on\":{\"each\":\"hp\"}}]]]}")
+    ≡ refused_operation 0 0 0 cause.Component
 unfolding script_on_literals
 removed_by_number = refl
 
-each_unknown : script_of_text (codes "{\"components\":[\"hp\"],\"frames\":[[[{\"despawn\":{\"each\":\"mp\"}}]]]}") ≡ refused_operation 0 0 0 cause.Component
+each_unknown : script_of_text
+    (codes "{\"components\":[\"hp\"],\"frames\":[[[{\"despawn\":{\"each\":\"mp\"}}]]]}")
+    ≡ refused_operation 0 0 0 cause.Component
 unfolding script_on_literals
 each_unknown = refl
 
-unknown_target : script_of_text (codes "{\"components\":[],\"frames\":[[[{\"despawn\":{\"all\":\"hp\"}}]]]}") ≡ refused_operation 0 0 0 cause.Target
+unknown_target : script_of_text
+    (codes "{\"components\":[],\"frames\":[[[{\"despawn\":{\"all\":\"hp\"}}]]]}")
+    ≡ refused_operation 0 0 0 cause.Target
 unfolding script_on_literals
 unknown_target = refl
 
-two_targets : script_of_text (codes "{\"components\":[\"hp\"],\"frames\":[[[{\"despawn\":{\"each\":\"hp\",\"handle\":\"0v1\"}}]]]}") ≡ refused_operation 0 0 0 cause.Target
+two_targets : script_of_text
+    (codes "{\"components\":[\"hp\"],\"frames\":[[[{\"despawn\":{\"each\":\"hp\",\"handle\":\"0v1\"}}]]]}") ≡ refused_operation 0 0 0 cause.Target
 unfolding script_on_literals
 two_targets = refl
 
-no_handle : script_of_text (codes "{\"components\":[],\"frames\":[[[{\"despawn\":{\"handle\":\"0v0\"}}]]]}") ≡ refused_operation 0 0 0 cause.Handle
+no_handle : script_of_text
+    (codes "{\"components\":[],\"frames\":[[[{\"despawn\":{\"handle\":\"0v0\"}}]]]}")
+    ≡ refused_operation 0 0 0 cause.Handle
 unfolding script_on_literals
 no_handle = refl
 
 -- a name that only a later operation of the system binds
-bound_later : script_of_text (codes "{\"components\":[],\"frames\":[[[{\"spawn\":{},\"as\":\"a\"},{\"despawn\":{\"name\":\"b\"}},{\"spawn\":{},\"as\":\"b\"}]]]}") ≡ refused_operation 0 0 1 cause.Name
+bound_later : script_of_text
+    (codes "{\"components\":[],\"frames\":[[[{\"spawn\":{},\"as\":\"a\"},{\"despawn\":{\"name\":\"b\"}},{\"spawn\":{},\"as\":\"b\"}]]]}") ≡ refused_operation 0 0 1 cause.Name
 unfolding script_on_literals
 bound_later = refl
 
 -- a name that another system binds
-bound_elsewhere : script_of_text (codes "{\"components\":[],\"frames\":[[[{\"spawn\":{},\"as\":\"a\"}],[{\"despawn\":{\"name\":\"a\"}}]]]}") ≡ refused_operation 0 1 0 cause.Name
+bound_elsewhere : script_of_text
+    (codes "{\"components\":[],\"frames\":[[[{\"spawn\":{},\"as\":\"a\"}],[{\"despawn\":{\"name\":\"a\"}}]]]}") ≡ refused_operation 0 1 0 cause.Name
 unfolding script_on_literals
 bound_elsewhere = refl
 
-count_before_bundle : script_of_text (codes "{\"components\":[],\"frames\":[[[{\"spawn_many\":-1,\"with\":7}]]]}") ≡ refused_operation 0 0 0 cause.Count
+count_before_bundle : script_of_text
+    (codes "{\"components\":[],\"frames\":[[[{\"spawn_many\":-1,\"with\":7}]]]}")
+    ≡ refused_operation 0 0 0 cause.Count
 unfolding script_on_literals
 count_before_bundle = refl
 
-bundle_before_name : script_of_text (codes "{\"components\":[],\"frames\":[[[{\"spawn\":{\"hp\":1},\"as\":\"\"}]]]}") ≡ refused_operation 0 0 0 cause.Component
+bundle_before_name : script_of_text
+    (codes "{\"components\":[],\"frames\":[[[{\"spawn\":{\"hp\":1},\"as\":\"\"}]]]}")
+    ≡ refused_operation 0 0 0 cause.Component
 unfolding script_on_literals
 bundle_before_name = refl
 
 -- of two operations that mean nothing, the first is named
-first_of_two : script_of_text (codes "{\"components\":[],\"frames\":[[],[[],[{\"spawn\":{}},{},{\"spawn\":7}]],7]}") ≡ refused_operation 1 1 1 cause.Shape
+first_of_two : script_of_text
+    (codes "{\"components\":[],\"frames\":[[],[[],[{\"spawn\":{}},{},{\"spawn\":7}]],7]}")
+    ≡ refused_operation 1 1 1 cause.Shape
 unfolding script_on_literals
 first_of_two = refl
 
 -- ---- numbers and texts at the edge of JSON
 
 abbrev one_value : List ℕ → List ℕ
-one_value number = codes "{\"components\":[\"hp\"],\"frames\":[[[{\"spawn\":{\"hp\":" ++ number ++ codes "}}]]]}"
+one_value number = codes "{\"components\":[\"hp\"],\"frames\":[[[{\"spawn\":{\"hp\":" ++ number
+    ++ codes "}}]]]}"
 
 -- a number that no float holds is no JSON
 too_large_for_a_float : script_of_text (one_value (codes "1e400")) ≡ Err fault.Json
@@ -279,33 +350,41 @@ minus_zero_as_value : script_of_text (one_value (codes "-0")) ≡ refused_operat
 unfolding script_on_literals
 minus_zero_as_value = refl
 
-minus_zero_as_count : script_of_text (codes "{\"components\":[],\"frames\":[[[{\"spawn_many\":-0}]]]}") ≡ refused_operation 0 0 0 cause.Count
+minus_zero_as_count : script_of_text
+    (codes "{\"components\":[],\"frames\":[[[{\"spawn_many\":-0}]]]}")
+    ≡ refused_operation 0 0 0 cause.Count
 unfolding script_on_literals
 minus_zero_as_count = refl
 
 -- 2^63, 2^64 and -2^63 - 1
-above_signed : script_of_text (one_value (codes "9223372036854775808")) ≡ refused_operation 0 0 0 cause.Value
+above_signed : script_of_text (one_value (codes "9223372036854775808"))
+    ≡ refused_operation 0 0 0 cause.Value
 unfolding script_on_literals
 above_signed = refl
 
-above_unsigned : script_of_text (one_value (codes "18446744073709551616")) ≡ refused_operation 0 0 0 cause.Value
+above_unsigned : script_of_text (one_value (codes "18446744073709551616"))
+    ≡ refused_operation 0 0 0 cause.Value
 unfolding script_on_literals
 above_unsigned = refl
 
-below_signed : script_of_text (one_value (codes "-9223372036854775809")) ≡ refused_operation 0 0 0 cause.Value
+below_signed : script_of_text (one_value (codes "-9223372036854775809"))
+    ≡ refused_operation 0 0 0 cause.Value
 unfolding script_on_literals
 below_signed = refl
 
-byte_order_mark : script_of_text (239 ∷ 187 ∷ 191 ∷ codes "{\"components\":[],\"frames\":[]}") ≡ Err fault.Json
+byte_order_mark : script_of_text (239 ∷ 187 ∷ 191 ∷ codes "{\"components\":[],\"frames\":[]}")
+    ≡ Err fault.Json
 unfolding script_on_literals
 byte_order_mark = refl
 
-half_surrogate : script_of_text (codes "{\"components\":[\"\\ud800\"],\"frames\":[]}") ≡ Err fault.Json
+half_surrogate : script_of_text (codes "{\"components\":[\"\\ud800\"],\"frames\":[]}")
+    ≡ Err fault.Json
 unfolding script_on_literals
 half_surrogate = refl
 
 -- both halves are one character, and no name
-both_halves : script_of_text (codes "{\"components\":[\"\\ud83d\\ude00\"],\"frames\":[]}") ≡ refused_script script_cause.Components
+both_halves : script_of_text (codes "{\"components\":[\"\\ud83d\\ude00\"],\"frames\":[]}")
+    ≡ refused_script script_cause.Components
 unfolding script_on_literals
 both_halves = refl
 
@@ -314,7 +393,8 @@ both_halves = refl
 line_of_json : refusal_line fault.Json ≡ codes "refused json\n"
 line_of_json = refl
 
-line_of_script : refusal_line (fault.Script script_cause.Generations) ≡ codes "refused script generations\n"
+line_of_script : refusal_line (fault.Script script_cause.Generations)
+    ≡ codes "refused script generations\n"
 line_of_script = refl
 
 line_of_frame : refusal_line (fault.Frame 999) ≡ codes "refused frame 999\n"
@@ -325,10 +405,12 @@ line_of_system : refusal_line (fault.System 0 12) ≡ codes "refused system 0 12
 unfolding digits
 line_of_system = refl
 
-line_of_operation : refusal_line (fault.Operation 0 0 0 cause.Component) ≡ codes "refused operation 0 0 0 component\n"
+line_of_operation : refusal_line (fault.Operation 0 0 0 cause.Component)
+    ≡ codes "refused operation 0 0 0 component\n"
 unfolding digits
 line_of_operation = refl
 
-place_of_operation : refusal_line (fault.Operation 1 20 304 cause.Name) ≡ codes "refused operation 1 20 304 name\n"
+place_of_operation : refusal_line (fault.Operation 1 20 304 cause.Name)
+    ≡ codes "refused operation 1 20 304 name\n"
 unfolding digits
 place_of_operation = refl

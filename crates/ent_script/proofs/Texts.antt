@@ -11,10 +11,13 @@ use Rattle.serde_json.specs.Data.{Data}
 use Rattle.serde_json.specs.Read.{read}
 use Rattle.ent_script.specs.Reading.{json_of}
 
-pub json_read : (text : List ℕ) (d : Data) → IsUtf8 text → read text ≡ Some d → json_of text ≡ Some d
-json_read text d utf8 is = ap (λ (b : Bool). cond b (read text) None) (is_utf8-from_IsUtf8 text utf8) ∙ is
+pub json_read : (text : List ℕ) (d : Data) → IsUtf8 text → read text ≡ Some d → json_of text
+    ≡ Some d
+json_read text d utf8 is = ap (λ (b : Bool). cond b (read text) None)
+    (is_utf8-from_IsUtf8 text utf8) ∙ is
 
-none_by : (text : List ℕ) (b : Bool) → is_utf8 text ≡ b → (IsUtf8 text → read text ≡ None) → cond b (read text) None ≡ None
+none_by : (text : List ℕ) (b : Bool) → is_utf8 text ≡ b → (IsUtf8 text → read text ≡ None)
+    → cond b (read text) None ≡ None
 none_by text true e refused = refused (IsUtf8-from_is_utf8 text e)
 none_by text false e refused = refl
 
@@ -23,12 +26,15 @@ json_none text refused = none_by text (is_utf8 text) refl refused
 
 taken : (names : List (Bor (List ℕ))) (i : ℕ) (text : List ℕ) → i < length names
     → text ≡ (get_or names i (record { ref_ptr = (0, 0); now = [] })).now
-    → take i (map (λ name. name.now) names) ++ text ∷ [] ≡ take (suc i) (map (λ name. name.now) names)
+    → take i (map (λ name. name.now) names) ++ text ∷ []
+    ≡ take (suc i) (map (λ name. name.now) names)
 taken [] i text h is = absurd (omega arith)
 taken (first ∷ names) zero text h is = ap (λ (t : List ℕ). t ∷ []) is
-taken (first ∷ names) (suc i) text h is = ap (λ (ts : List (List ℕ)). first.now ∷ ts) (taken names i text (omega arith) is)
+taken (first ∷ names) (suc i) text h is = ap (λ (ts : List (List ℕ)). first.now ∷ ts)
+    (taken names i text (omega arith) is)
 
-pub one_more : (names : List (Bor (List ℕ))) (i : ℕ) (texts : List (String Global)) (text : String Global) → i < length names
+pub one_more : (names : List (Bor (List ℕ))) (i : ℕ) (texts : List (String Global))
+    (text : String Global) → i < length names
     → string_bytes text ≡ (get_or names i (record { ref_ptr = (0, 0); now = [] })).now
     → map string_bytes texts ≡ take i (map (λ name. name.now) names)
     → map string_bytes (texts ++ text ∷ []) ≡ take (i + 1) (map (λ name. name.now) names)

@@ -19,9 +19,11 @@ pub list_of-items_view : (vs : List Value) → list_of (items_view vs) ≡ map v
 list_of-items_view [] = refl
 list_of-items_view (v ∷ vs) = ap (λ (ds : List Data). view v ∷ ds) (list_of-items_view vs)
 
-pub pairs_of-members_view : (ms : List (String Global × Value)) → pairs_of (members_view ms) ≡ map pair_view ms
+pub pairs_of-members_view : (ms : List (String Global × Value)) → pairs_of (members_view ms)
+    ≡ map pair_view ms
 pairs_of-members_view [] = refl
-pairs_of-members_view (m ∷ ms) = ap (λ (ps : List (List ℕ × Data)). pair_view m ∷ ps) (pairs_of-members_view ms)
+pairs_of-members_view (m ∷ ms) = ap (λ (ps : List (List ℕ × Data)). pair_view m ∷ ps)
+    (pairs_of-members_view ms)
 
 pub members_seen : (r : Option (Bor (BTreeMap (String Global) Value))) (o : Option Members)
     → option_map (λ m. members_view m.now.entries) r ≡ o
@@ -43,7 +45,8 @@ pub length_of_views : (vs : List Value) → length (map view vs) ≡ length vs
 length_of_views vs = length-map vs view
 
 any_lent : (key : List ℕ) (allowed : List (Bor (List ℕ)))
-    → list_any (λ name. bytes_eq key name.now) allowed ≡ list_any (λ name. bytes_eq key name) (map (λ name. name.now) allowed)
+    → list_any (λ name. bytes_eq key name.now) allowed ≡ list_any (λ name. bytes_eq key name)
+    (map (λ name. name.now) allowed)
 any_lent key [] = refl
 any_lent key (a ∷ allowed) = rw (any_lent key allowed)
 
@@ -56,7 +59,8 @@ keys_lent (m ∷ ms) allowed = rw (any_lent (string_bytes m.0) allowed, keys_len
 
 -- the only member
 pub only_member : (ms : List (String Global × Value)) (k : String Global) (v : Value)
-    → length ms ≡ 1 → slice_get ms 0 ≡ Some (k, v) → Some (string_bytes k, view v) ≡ only (map pair_view ms)
+    → length ms ≡ 1 → slice_get ms 0 ≡ Some (k, v) → Some (string_bytes k, view v)
+    ≡ only (map pair_view ms)
 only_member [] k v one e = absurd (omega (arith, one))
 only_member (m ∷ []) k v one e = sym (ap (option_map pair_view) e)
 only_member (m ∷ n ∷ ms) k v one e = absurd (omega (arith, one))

@@ -224,7 +224,8 @@ frame_of components number d = do
 -- the name that a value is, if it is none of these
 abbrev pub new_name : List (List ℕ) → Data → Option (List ℕ)
 new_name names d =
-    option_and_then (λ name. if is_some (number_among name names) then None else Some name) (as_name d)
+    option_and_then (λ name. if is_some (number_among name names) then None else Some name)
+    (as_name d)
 
 -- an element is a name that no element before it is
 abbrev pub component_at : List Data → ℕ → Data → Result (List ℕ) ScriptCause

@@ -7,6 +7,8 @@ use Rattle.ent_storage.proofs.OneList.{one_list_of_all}
 use Rattle.ent_script_report.specs.declared.show.Show.{Show}
 use Rattle.ent_script_report.specs.WorldText.{line_in, alive_line, IsWorldText}
 
-pub one_text : (names : List (List ℕ)) (s : Show) (m : EntityMap) (t u : List ℕ) → IsWorldText names s m t → IsWorldText names s m u → t ≡ u
+pub one_text : (names : List (List ℕ)) (s : Show) (m : EntityMap) (t u : List ℕ)
+    → IsWorldText names s m t → IsWorldText names s m u → t ≡ u
 one_text names s m t u a b =
-    a.is ∙ ap (λ hs. flat_map (line_in names s m) hs ++ alive_line (finite.len m)) (one_list_of_all m a.handles b.handles a.lists b.lists) ∙ sym b.is
+    a.is ∙ ap (λ hs. flat_map (line_in names s m) hs ++ alive_line (finite.len m))
+    (one_list_of_all m a.handles b.handles a.lists b.lists) ∙ sym b.is

@@ -5,15 +5,24 @@ use Rattle.std.specs.List.{flat_map}
 use Rattle.std.proofs.lemmas.List.{at_drop_more}
 
 -- the texts from a part on begin with its own
-pub length-parts : {X : Type 0} (g : X → List ℕ) (xs : List X) (i : ℕ) (x : X) → i < length xs → x ≡ get_or xs i x
+pub length-parts : {X : Type 0} (g : X → List ℕ) (xs : List X) (i : ℕ) (x : X) → i < length xs → x
+    ≡ get_or xs i x
     → length (flat_map g (drop i xs)) ≡ length (g x) + length (flat_map g (drop (i + 1) xs))
 length-parts g xs i x lt is =
-    let next : flat_map g (drop i xs) ≡ g (get_or xs i x) ++ flat_map g (drop (i + 1) xs) = at_drop_more (flat_map g) xs i x lt in
+    let next : flat_map g (drop i xs) ≡ g (get_or xs i x) ++ flat_map g (drop (i + 1) xs) =
+    at_drop_more (flat_map g) xs i x lt in
     ap length next ∙ length-append (g (get_or xs i x)) (flat_map g (drop (i + 1) xs))
     ∙ ap (λ y. length (g y) + length (flat_map g (drop (i + 1) xs))) (sym is)
 
 -- what is written and the next part are no longer than all
-pub part_fits : {X : Type 0} (g : X → List ℕ) (old now : List ℕ) (xs : List X) (i : ℕ) (x : X) → i < length xs → x ≡ get_or xs i x
-    → now ++ flat_map g (drop i xs) ≡ old ++ flat_map g xs → length now + length (g x) ≤ length old + length (flat_map g xs)
+pub part_fits : {X : Type 0} (g : X → List ℕ) (old now : List ℕ) (xs : List X) (i : ℕ) (x : X) → i
+    < length xs → x ≡ get_or xs i x
+    → now ++ flat_map g (drop i xs) ≡ old ++ flat_map g xs → length now + length (g x) ≤ length old
+    + length (flat_map g xs)
 part_fits g old now xs i x lt is e =
-    omega (arith, length-parts g xs i x lt is, sym (length-append now (flat_map g (drop i xs))) ∙ ap length e ∙ length-append old (flat_map g xs))
+    omega (
+      arith,
+      length-parts g xs i x lt is,
+      sym (length-append now (flat_map g (drop i xs)))
+          ∙ ap length e ∙ length-append old (flat_map g xs),
+    )

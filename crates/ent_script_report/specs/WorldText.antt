@@ -26,7 +26,8 @@ component_name names id = unwrap_or (slice_get names id.0) []
 
 -- a space, the component's name, `=`, and its value
 abbrev pub item_text : List (List ℕ) → ComponentId × ℤ → List ℕ
-item_text names item = codes " " ++ component_name names item.0 ++ codes "=" ++ signed_decimal item.1
+item_text names item =
+    codes " " ++ component_name names item.0 ++ codes "=" ++ signed_decimal item.1
 
 -- the birth, the handle if handles are shown, and the components by rising number
 abbrev pub entity_line : List (List ℕ) → Show → Handle → Birth → List (ComponentId × ℤ) → List ℕ

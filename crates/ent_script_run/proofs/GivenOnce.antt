@@ -16,22 +16,30 @@ use Rattle.ent_script_run.specs.Given.{handles_in_run, NeverWraps}
 use Rattle.ent_alloc.specs.History.{AreGivenOnce}
 use Rattle.ent_script_report.specs.declared.show.Show.{Show}
 
-more_given : (workers : ℕ) (w : World) (frames : List (List (List Operation))) (executions : List Execution) (given : List Handle)
-    → IsSound w.allocator → AreLiving w.allocator w.entities → AreExecutions workers w frames executions
-    → NeverWraps w executions → AreSpent w.allocator given → AllPairs (λ g h. g ≢ h) (given ++ handles_in_run executions)
-more_given workers w frames [] given sound living went wraps once = subst (AllPairs (λ g h. g ≢ h)) (sym (append-nil given)) once.distinct
+more_given : (workers : ℕ) (w : World) (frames : List (List (List Operation)))
+    (executions : List Execution) (given : List Handle)
+    → IsSound w.allocator → AreLiving w.allocator w.entities → AreExecutions workers w frames
+    executions
+    → NeverWraps w executions → AreSpent w.allocator given
+    → AllPairs (λ g h. g ≢ h) (given ++ handles_in_run executions)
+more_given workers w frames [] given sound living went wraps once = subst (AllPairs (λ g h. g ≢ h))
+    (sym (append-nil given)) once.distinct
 more_given workers w [] (e ∷ executions) given sound living went wraps once = absurd went
 more_given workers w (systems ∷ frames) (e ∷ executions) given sound living went wraps once =
     let now = given ++ given_in e.history in
-    subst (AllPairs (λ g h. g ≢ h)) (append_assoc given (given_in e.history) (handles_in_run executions))
+    subst (AllPairs (λ g h. g ≢ h)) (append_assoc given (given_in e.history)
+    (handles_in_run executions))
     (more_given workers (synced w e).world frames executions now
     (frame-sound e.queues e.history w sound living)
     (frame-living e.queues e.history w sound living)
     went.1 wraps.1
     (frame-given e.queues e.history w given sound living went.0.legal wraps.0 once))
 
-pub given_once : (script : Script) (workers : ℕ) (show : Show) (executions : List Execution) (text : List ℕ) → AreLimits script.limits
-    → IsReportOf script workers show executions text → NeverWraps (first_world script.limits) executions → AreGivenOnce (handles_in_run executions)
+pub given_once : (script : Script) (workers : ℕ) (show : Show) (executions : List Execution)
+    (text : List ℕ) → AreLimits script.limits
+    → IsReportOf script workers show executions text → NeverWraps (first_world script.limits)
+    executions → AreGivenOnce (handles_in_run executions)
 given_once script workers show executions text limits report wraps =
     more_given workers (first_world script.limits) script.frames executions []
-    (first_world-sound script.limits limits) (first_world-living script.limits) report.frames wraps (opening-given script.limits)
+    (first_world-sound script.limits limits) (first_world-living script.limits) report.frames wraps
+    (opening-given script.limits)

@@ -63,7 +63,7 @@ where
     Ok(text)
 }
 
-/// Runs a script over a world that begins empty, on 1 to 64 workers, and answers the report: the
+/// Runs a script over a world that begins empty, on 1 to 64 workers, and returns the report: the
 /// text of each frame and of the world that the last one leaves. The script is one that
 /// `ent_script` has read.
 ///
@@ -95,7 +95,8 @@ where
     // However the frames went.
     ensures given_once { IfOk result (λ text. (executions : List Execution)
         → IsReportOf script.now workers show executions text.items
-        → NeverWraps (first_world script.now.limits) executions → AreGivenOnce (handles_in_run executions)) }
+        → NeverWraps (first_world script.now.limits) executions
+        → AreGivenOnce (handles_in_run executions)) }
 {
     report(rt, alloc, script, workers, show)
 }

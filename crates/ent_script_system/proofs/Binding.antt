@@ -21,22 +21,30 @@ pub names_added : (lists : List (List Handle)) → names_of (lists ++ [] ∷ [])
 names_added lists = same_names _ _ (added_at lists)
 
 -- a list that is added binds the next name
-pushed_at : (lists : List (List Handle)) (hs : List Handle) (n : ℕ) → names_of (lists ++ hs ∷ []) n ≡ bound (length lists) hs (names_of lists) n
+pushed_at : (lists : List (List Handle)) (hs : List Handle) (n : ℕ) → names_of (lists ++ hs ∷ []) n
+    ≡ bound (length lists) hs (names_of lists) n
 pushed_at [] hs zero = refl
 pushed_at [] hs (suc n) = ap (λ b. cond b hs []) (sym (eqb-suc-zero n))
 pushed_at (xs ∷ lists) hs zero = ap (λ b. cond b hs xs) (sym (eqb-zero-suc (length lists)))
-pushed_at (xs ∷ lists) hs (suc n) = pushed_at lists hs n ∙ ap (λ b. cond b hs (names_of lists n)) (sym (eqb-suc-suc n (length lists)))
+pushed_at (xs ∷ lists) hs (suc n) = pushed_at lists hs n ∙ ap (λ b. cond b hs (names_of lists n))
+    (sym (eqb-suc-suc n (length lists)))
 
-pub names_pushed : (lists : List (List Handle)) (hs : List Handle) (n : ℕ) → length lists ≡ n → names_of (lists ++ hs ∷ []) ≡ bound n hs (names_of lists)
-names_pushed lists hs n e = same_names _ _ (pushed_at lists hs) ∙ ap (λ m. bound m hs (names_of lists)) e
+pub names_pushed : (lists : List (List Handle)) (hs : List Handle) (n : ℕ) → length lists ≡ n
+    → names_of (lists ++ hs ∷ []) ≡ bound n hs (names_of lists)
+names_pushed lists hs n e = same_names _ _ (pushed_at lists hs)
+    ∙ ap (λ m. bound m hs (names_of lists)) e
 
 -- a list that is put in place of another one
-set_at : (lists : List (List Handle)) (hs : List Handle) (n : ℕ) → n < length lists → (m : ℕ) → names_of (set lists n hs) m ≡ bound n hs (names_of lists) m
+set_at : (lists : List (List Handle)) (hs : List Handle) (n : ℕ) → n < length lists → (m : ℕ)
+    → names_of (set lists n hs) m ≡ bound n hs (names_of lists) m
 set_at [] hs n within m = absurd (omega arith)
 set_at (xs ∷ lists) hs zero within zero = refl
-set_at (xs ∷ lists) hs zero within (suc m) = ap (λ b. cond b hs (names_of lists m)) (sym (eqb-suc-zero m))
+set_at (xs ∷ lists) hs zero within (suc m) = ap (λ b. cond b hs (names_of lists m))
+    (sym (eqb-suc-zero m))
 set_at (xs ∷ lists) hs (suc n) within zero = ap (λ b. cond b hs xs) (sym (eqb-zero-suc n))
-set_at (xs ∷ lists) hs (suc n) within (suc m) = set_at lists hs n (omega arith) m ∙ ap (λ b. cond b hs (names_of lists m)) (sym (eqb-suc-suc m n))
+set_at (xs ∷ lists) hs (suc n) within (suc m) = set_at lists hs n (omega arith) m
+    ∙ ap (λ b. cond b hs (names_of lists m)) (sym (eqb-suc-suc m n))
 
-pub names_set : (lists : List (List Handle)) (hs : List Handle) (n : ℕ) → n < length lists → names_of (set lists n hs) ≡ bound n hs (names_of lists)
+pub names_set : (lists : List (List Handle)) (hs : List Handle) (n : ℕ) → n < length lists
+    → names_of (set lists n hs) ≡ bound n hs (names_of lists)
 names_set lists hs n within = same_names _ _ (set_at lists hs n within)

@@ -17,7 +17,8 @@ one_hp = (hp, pos 1) ∷ []
 
 module _ (view : View) (h k : Handle) (why : Refusal) where
   -- an entity is spawned, and two commands are for it
-  spawned : MayIssue (operation.Spawn one_hp (Some 0) ∷ operation.Despawn (target.Name 0) ∷ operation.Remove hp (target.Name 0) ∷ []) view
+  spawned : MayIssue (operation.Spawn one_hp (Some 0) ∷ operation.Despawn (target.Name 0)
+      ∷ operation.Remove hp (target.Name 0) ∷ []) view
       (Spawn h one_hp ∷ Despawn h ∷ Remove h hp ∷ [])
   spawned = (
     Spawn h one_hp ∷ [],
@@ -34,12 +35,14 @@ module _ (view : View) (h k : Handle) (why : Refusal) where
   )
 
   -- nothing is issued for a name whose spawn was refused
-  never_bound : MayIssue (operation.Spawn one_hp (Some 0) ∷ operation.Insert one_hp (target.Name 0) ∷ []) view (Refused 1 why ∷ [])
+  never_bound : MayIssue (operation.Spawn one_hp (Some 0) ∷ operation.Insert one_hp (target.Name 0)
+      ∷ []) view (Refused 1 why ∷ [])
   never_bound = (Refused 1 why ∷ [], [], refl, refl, ([], [], refl, ([], refl, refl), refl))
 
   -- a name that is bound again stands for what was spawned last, and after a refusal for what it
   -- stood for before
-  bound_again : MayIssue (operation.Spawn [] (Some 0) ∷ operation.SpawnMany 1 [] (Some 0) ∷ operation.Spawn [] (Some 0) ∷ operation.Despawn (target.Name 0) ∷ []) view
+  bound_again : MayIssue (operation.Spawn [] (Some 0) ∷ operation.SpawnMany 1 [] (Some 0)
+      ∷ operation.Spawn [] (Some 0) ∷ operation.Despawn (target.Name 0) ∷ []) view
       (Spawn h [] ∷ SpawnMany (k ∷ []) [] ∷ Refused 1 why ∷ Despawn k ∷ [])
   bound_again = (
     Spawn h [] ∷ [],
@@ -62,7 +65,8 @@ module _ (view : View) (h k : Handle) (why : Refusal) where
   )
 
   -- memory was refused to the second operation: the first has issued its command
-  stopped : MayStop (operation.Spawn one_hp (Some 0) ∷ operation.Despawn (target.Name 0) ∷ []) view (Spawn h one_hp ∷ [])
+  stopped : MayStop (operation.Spawn one_hp (Some 0) ∷ operation.Despawn (target.Name 0) ∷ []) view
+      (Spawn h one_hp ∷ [])
   stopped = inr (
     Spawn h one_hp ∷ [],
     [],

@@ -1,4 +1,4 @@
--- Commands whose reservations an allocator has answered, and the credit has allowed.
+-- Commands whose reservations an allocator has replied to, and the credit has allowed.
 use Rattle.std.proofs.Common.{◌≡◌, ◌∙◌, ap, subst, ℕ, ◌-◌, List, [], ◌∷◌, ◌++◌, map}
 use Rattle.std.specs.List.{flat_map}
 use Rattle.std.proofs.lemmas.Grind.{flat_map-append}
@@ -13,7 +13,7 @@ use Rattle.ent_runner.specs.Frame.{first_call}
 abbrev pub calls_of : List Command → List Call
 calls_of commands = map first_call (flat_map stands_for commands)
 
--- The allocator answered the reservations of the commands, and that much credit was left before.
+-- The allocator has replied to the reservations of the commands, and that much credit was left before.
 pub record IsServed (s : Allocator) (left : ℕ) (commands : List Command) : Type 0 where
   pub legal : IsLegal s (calls_of commands)
   pub within : FitCredit left commands
@@ -28,9 +28,11 @@ left_after left (c ∷ cs) = left_after (left - cost c) cs
 
 legal_first : (s : Allocator) (calls more : List Call) → IsLegal s (calls ++ more) → IsLegal s calls
 legal_first s [] more legal = tt
-legal_first s (call ∷ calls) more legal = (legal.0, legal.1, legal_first (after_take s call.requested) calls more legal.2)
+legal_first s (call ∷ calls) more legal =
+    (legal.0, legal.1, legal_first (after_take s call.requested) calls more legal.2)
 
-legal_rest : (s : Allocator) (calls more : List Call) → IsLegal s (calls ++ more) → IsLegal (after_history s calls) more
+legal_rest : (s : Allocator) (calls more : List Call) → IsLegal s (calls ++ more)
+    → IsLegal (after_history s calls) more
 legal_rest s [] more legal = legal
 legal_rest s (call ∷ calls) more legal = legal_rest (after_take s call.requested) calls more legal.2
 
@@ -38,22 +40,28 @@ within_first : (left : ℕ) (cs ds : List Command) → FitCredit left (cs ++ ds)
 within_first left [] ds within = tt
 within_first left (c ∷ cs) ds within = (within.0, within_first (left - cost c) cs ds within.1)
 
-within_rest : (left : ℕ) (cs ds : List Command) → FitCredit left (cs ++ ds) → FitCredit (left_after left cs) ds
+within_rest : (left : ℕ) (cs ds : List Command) → FitCredit left (cs ++ ds)
+    → FitCredit (left_after left cs) ds
 within_rest left [] ds within = within
 within_rest left (c ∷ cs) ds within = within_rest (left - cost c) cs ds within.1
 
 calls_of-append : (cs ds : List Command) → calls_of (cs ++ ds) ≡ calls_of cs ++ calls_of ds
-calls_of-append cs ds = ap (map first_call) (flat_map-append stands_for cs ds) ∙ map-append first_call (flat_map stands_for cs) (flat_map stands_for ds)
+calls_of-append cs ds = ap (map first_call) (flat_map-append stands_for cs ds)
+    ∙ map-append first_call (flat_map stands_for cs) (flat_map stands_for ds)
 
 -- what is served is served up to any command, and the others are served after it
-pub served_first : (s : Allocator) (left : ℕ) (cs ds : List Command) → IsServed s left (cs ++ ds) → IsServed s left cs
+pub served_first : (s : Allocator) (left : ℕ) (cs ds : List Command) → IsServed s left (cs ++ ds)
+    → IsServed s left cs
 served_first s left cs ds served = record {
-  legal = legal_first s (calls_of cs) (calls_of ds) (subst (IsLegal s) (calls_of-append cs ds) served.legal);
+  legal = legal_first s (calls_of cs) (calls_of ds) (subst (IsLegal s) (calls_of-append cs ds)
+      served.legal);
   within = within_first left cs ds served.within;
 }
 
-pub served_rest : (s : Allocator) (left : ℕ) (cs ds : List Command) → IsServed s left (cs ++ ds) → IsServed (state_after s cs) (left_after left cs) ds
+pub served_rest : (s : Allocator) (left : ℕ) (cs ds : List Command) → IsServed s left (cs ++ ds)
+    → IsServed (state_after s cs) (left_after left cs) ds
 served_rest s left cs ds served = record {
-  legal = legal_rest s (calls_of cs) (calls_of ds) (subst (IsLegal s) (calls_of-append cs ds) served.legal);
+  legal = legal_rest s (calls_of cs) (calls_of ds) (subst (IsLegal s) (calls_of-append cs ds)
+      served.legal);
   within = within_rest left cs ds served.within;
 }

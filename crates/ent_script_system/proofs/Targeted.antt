@@ -12,12 +12,18 @@ use Rattle.ent_script_system.specs.Issuing.{Bindings, IsTargeted, StopsOnEach, S
 use Rattle.ent_script_system.specs.Parts.{names_of, HasIssuedOn, HasStoppedAmong, HasStoppedOn}
 use Rattle.ent_script_system.specs.Parts.{HasStopped}
 
-pub issued_on : (view : View) (names : Bindings) (on : Target) (command : Handle → Command) (before after : Issued) (hs : List Handle) (result : Result (Unit {0}) Memory) → IsTargeted view names on hs → OnOk result (queue_of after ≡ queue_of before ++ map command hs) → OnOk result (HasIssuedOn view names on command before after)
+pub issued_on : (view : View) (names : Bindings) (on : Target) (command : Handle → Command)
+    (before after : Issued) (hs : List Handle) (result : Result (Unit {0}) Memory)
+    → IsTargeted view names on hs → OnOk result (queue_of after ≡ queue_of before ++ map command hs)
+    → OnOk result (HasIssuedOn view names on command before after)
 issued_on view names on command before after hs (Ok u) targeted queue =
     record { issued = map command hs; queue = queue; may = (hs, targeted, refl) }
 issued_on view names on command before after hs (Err e) targeted queue = tt
 
-pub stopped_on : (view : View) (names : Bindings) (on : Target) (command : Handle → Command) (before after : Issued) (hs : List Handle) (result : Result (Unit {0}) Memory) → IsTargeted view names on hs → OnErr result (HasStoppedAmong hs command before after) → OnErr result (HasStoppedOn view names on command before after)
+pub stopped_on : (view : View) (names : Bindings) (on : Target) (command : Handle → Command)
+    (before after : Issued) (hs : List Handle) (result : Result (Unit {0}) Memory)
+    → IsTargeted view names on hs → OnErr result (HasStoppedAmong hs command before after)
+    → OnErr result (HasStoppedOn view names on command before after)
 stopped_on view names on command before after hs (Ok u) targeted stopped = tt
 stopped_on view names on command before after hs (Err e) targeted stopped = record {
   issued = map command stopped.done;
@@ -37,9 +43,12 @@ on_error (Ok u) P holds = tt
 on_error (Err e) P holds = holds
 
 -- the operation is a change of its target
-pub stopped_in : (view : View) (lists : List (List Handle)) (op : Operation) (on : Target) (command : Handle → Command) (before after : Issued) (result : Result (Unit {0}) Memory)
-    → ((issued : List Command) → StopsOnEach view (names_of lists) on command issued → Stops view (names_of lists) op issued)
-    → OnErr result (HasStoppedOn view (names_of lists) on command before after) → OnErr result (HasStopped view op before after lists)
+pub stopped_in : (view : View) (lists : List (List Handle)) (op : Operation) (on : Target)
+    (command : Handle → Command) (before after : Issued) (result : Result (Unit {0}) Memory)
+    → ((issued : List Command) → StopsOnEach view (names_of lists) on command issued
+    → Stops view (names_of lists) op issued)
+    → OnErr result (HasStoppedOn view (names_of lists) on command before after)
+    → OnErr result (HasStopped view op before after lists)
 stopped_in view lists op on command before after (Ok u) is stopped = tt
 stopped_in view lists op on command before after (Err e) is stopped =
     record { issued = stopped.issued; queue = stopped.queue; may = is stopped.issued stopped.may }

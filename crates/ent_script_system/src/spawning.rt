@@ -104,7 +104,8 @@ fn spawn_many_named(
 ) -> Result<(), Memory>
     requires { IsReady commands.old }
     ensures extends { Extends commands.old commands.new }
-    ensures issued { OnOk result ((view : View) → HasIssued view (SpawnMany count bundle (Some name))
+    ensures issued { OnOk result ((view : View)
+        → HasIssued view (SpawnMany count bundle (Some name))
         commands.old commands.new names.old names.new) }
     ensures err { OnErr result (queue_of commands.new ≡ queue_of commands.old) }
 {

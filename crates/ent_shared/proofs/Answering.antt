@@ -1,4 +1,4 @@
--- What a reservation answers.
+-- What a reservation returns.
 use Rattle.std.proofs.Common.{◌≡◌, ℕ, ◌≤◌, ℤ, pos, ◌-ℤ◌, List, [], length, take, refl, sym, ap, ◌∙◌}
 use Rattle.std.proofs.Common.{arith, Ok, Err}
 use Rattle.std.specs.Prelude.{Result, OnErr, Bool, nat_le, true, false, cond}
@@ -21,29 +21,37 @@ reply-none made pool =
     ap (λ b. cond {A = Result (List Handle) Space} b (Ok []) (Err space)) enough
 
 -- a span of n numbers from high down
-pub low_of : (span : Span) (high : ℤ) (n : ℕ) → span ≡ record { high = high; low = high -ℤ pos n } → span.low ≡ span.high -ℤ pos n
+pub low_of : (span : Span) (high : ℤ) (n : ℕ) → span ≡ record { high = high; low = high -ℤ pos n }
+    → span.low ≡ span.high -ℤ pos n
 low_of span high n e = ap (λ (s : Span). s.low) e ∙ sym (ap (λ (s : Span). s.high -ℤ pos n) e)
 
 pub no_space : (r : Result (List Handle) Space) (space : Space) → r ≡ Ok [] → r ≡ Err space → ⊥
 no_space r space good bad = cc
 
 -- whether a reply serves tells whether there was enough
-pub enough_served : (made : ℕ) (pool handles : List Handle) (n : ℕ) → reply_from made pool n ≡ Ok handles → nat_le n (length pool) ≡ true
+pub enough_served : (made : ℕ) (pool handles : List Handle) (n : ℕ) → reply_from made pool n
+    ≡ Ok handles → nat_le n (length pool) ≡ true
 enough_served made pool handles n is =
     let space : Space = record { wanted = n; left = length pool } in
-    let goal : Bool → Type 0 = λ b. cond {A = Result (List Handle) Space} b (Ok (listed made (take n pool))) (Err space) ≡ Ok handles → b ≡ true in
-    let all : goal (nat_le n (length pool)) = elim (nat_le n (length pool)) as goal [ true ↦ (λ e. refl) | false ↦ (λ e. cc) ] in
+    let goal : Bool → Type 0 = λ b. cond {A = Result (List Handle) Space} b
+    (Ok (listed made (take n pool))) (Err space) ≡ Ok handles → b ≡ true in
+    let all : goal (nat_le n (length pool)) = elim (nat_le n (length pool)) as goal
+    [ true ↦ (λ e. refl) | false ↦ (λ e. cc) ] in
     all is
 
 -- a reply that serves n lists n handles
-pub length-served : (made : ℕ) (pool handles : List Handle) (n : ℕ) → reply_from made pool n ≡ Ok handles → length handles ≡ n
+pub length-served : (made : ℕ) (pool handles : List Handle) (n : ℕ) → reply_from made pool n
+    ≡ Ok handles → length handles ≡ n
 length-served made pool handles n is =
     let test = enough_served made pool handles n is in
     let enough : n ≤ length pool = grind (arith, nat_tests) in
     let space : Space = record { wanted = n; left = length pool } in
-    let served : reply_from made pool n ≡ Ok (listed made (take n pool)) = ap (λ (b : Bool). cond {A = Result (List Handle) Space} b (Ok (listed made (take n pool))) (Err space)) test in
+    let served : reply_from made pool n ≡ Ok (listed made (take n pool)) =
+    ap (λ (b : Bool). cond {A = Result (List Handle) Space} b (Ok (listed made (take n pool)))
+    (Err space)) test in
     let same : handles ≡ listed made (take n pool) = cc in
-    ap length same ∙ (length_permutation (take n pool) (listed made (take n pool)) (listed-IsPermutation made (take n pool)) ∙ length-take-le n pool enough)
+    ap length same ∙ (length_permutation (take n pool) (listed made (take n pool))
+    (listed-IsPermutation made (take n pool)) ∙ length-take-le n pool enough)
 
 -- what holds anyway holds after a refusal
 pub on_err : {T E P : Type 0} (r : Result T E) → P → OnErr r P
@@ -51,37 +59,59 @@ on_err (Ok _) p = tt
 on_err (Err _) p = p
 
 -- a span of one number
-pub one_low : (start : Allocator) (high : ℤ) (reply : Result (List Handle) Space) → reply ≡ reply_from start.made (pool_at start high) 1
+pub one_low : (start : Allocator) (high : ℤ) (reply : Result (List Handle) Space) → reply
+    ≡ reply_from start.made (pool_at start high) 1
     → (k : ℕ) → high -ℤ pos 1 ≡ high -ℤ pos k → reply ≡ reply_from start.made (pool_at start high) k
-one_low start high reply is k lowered = let one : 1 ≡ k = omega (arith, ints) in is ∙ ap (reply_from start.made (pool_at start high)) one
+one_low start high reply is k lowered = let one : 1 ≡ k = omega (arith, ints) in is
+    ∙ ap (reply_from start.made (pool_at start high)) one
 
 -- the reply that is recorded is the allocator's
-pub recorded_reply : (r : Record) (start : Allocator) (high : ℤ) (n : ℕ) (span : Span) (reply : Result (List Handle) Space) → r.start ≡ start → span ≡ record { high = high; low = high -ℤ pos n }
-    → ((k : ℕ) → span.low ≡ span.high -ℤ pos k → reply ≡ reply_from start.made (pool_at start span.high) k) → (reservation_at r high n).reply ≡ reply
+pub recorded_reply : (r : Record) (start : Allocator) (high : ℤ) (n : ℕ) (span : Span)
+    (reply : Result (List Handle) Space) → r.start ≡ start → span
+    ≡ record { high = high; low = high -ℤ pos n }
+    → ((k : ℕ) → span.low ≡ span.high -ℤ pos k → reply
+    ≡ reply_from start.made (pool_at start span.high) k) → (reservation_at r high n).reply
+    ≡ reply
 recorded_reply r start high n span reply same is answers =
     let at : span.high ≡ high = ap (λ (s : Span). s.high) is in
-    (λ i. reply_from (same i).made (pool_at (same i) (sym at i)) n) ∙ sym (answers n (low_of span high n is))
+    (λ i. reply_from (same i).made (pool_at (same i) (sym at i)) n)
+    ∙ sym (answers n (low_of span high n is))
 
-pub short_refused : (made : ℕ) (pool : List Handle) (n : ℕ) (refusal : Space) → reply_from made pool n ≡ Err refusal → nat_le n (length pool) ≡ false
+pub short_refused : (made : ℕ) (pool : List Handle) (n : ℕ) (refusal : Space)
+    → reply_from made pool n ≡ Err refusal → nat_le n (length pool) ≡ false
 short_refused made pool n refusal is =
     let space : Space = record { wanted = n; left = length pool } in
-    let goal : Bool → Type 0 = λ b. cond {A = Result (List Handle) Space} b (Ok (listed made (take n pool))) (Err space) ≡ Err refusal → b ≡ false in
-    let all : goal (nat_le n (length pool)) = elim (nat_le n (length pool)) as goal [ true ↦ (λ e. cc) | false ↦ (λ e. refl) ] in
+    let goal : Bool → Type 0 = λ b. cond {A = Result (List Handle) Space} b
+    (Ok (listed made (take n pool))) (Err space) ≡ Err refusal → b ≡ false in
+    let all : goal (nat_le n (length pool)) = elim (nat_le n (length pool)) as goal
+    [ true ↦ (λ e. cc) | false ↦ (λ e. refl) ] in
     all is
 
 -- the floor after a reservation that was served, and after one that was refused
-pub served_floor : (r : Record) (start : Allocator) (high : ℤ) (n : ℕ) (span : Span) (handles : List Handle) (reply : Result (List Handle) Space) → r.start ≡ start → span ≡ record { high = high; low = high -ℤ pos n }
-    → ((k : ℕ) → span.low ≡ span.high -ℤ pos k → reply ≡ reply_from start.made (pool_at start span.high) k) → reply ≡ Ok handles → span.low ≡ (after_reservation r high n).floor
+pub served_floor : (r : Record) (start : Allocator) (high : ℤ) (n : ℕ) (span : Span)
+    (handles : List Handle) (reply : Result (List Handle) Space) → r.start ≡ start → span
+    ≡ record { high = high; low = high -ℤ pos n }
+    → ((k : ℕ) → span.low ≡ span.high -ℤ pos k → reply
+    ≡ reply_from start.made (pool_at start span.high) k) → reply ≡ Ok handles → span.low
+    ≡ (after_reservation r high n).floor
 served_floor r start high n span handles reply same is answers served =
     let at : span.high ≡ high = ap (λ (s : Span). s.high) is in
-    let test : nat_le n (length (pool_at start span.high)) ≡ true = enough_served start.made (pool_at start span.high) handles n (sym (answers n (low_of span high n is)) ∙ served) in
-    let here : nat_le n (length (pool_at r.start high)) ≡ true = (λ i. nat_le n (length (pool_at (same i) (sym at i)))) ∙ test in
+    let test : nat_le n (length (pool_at start span.high)) ≡ true = enough_served start.made
+    (pool_at start span.high) handles n (sym (answers n (low_of span high n is)) ∙ served) in
+    let here : nat_le n (length (pool_at r.start high))
+    ≡ true = (λ i. nat_le n (length (pool_at (same i) (sym at i)))) ∙ test in
     ap (λ (s : Span). s.low) is ∙ sym (ap (λ (b : Bool). cond b (high -ℤ pos n) r.floor) here)
 
-pub refused_floor : (r : Record) (start : Allocator) (high : ℤ) (n : ℕ) (span : Span) (refusal : Space) (reply : Result (List Handle) Space) → r.start ≡ start → span ≡ record { high = high; low = high -ℤ pos n }
-    → ((k : ℕ) → span.low ≡ span.high -ℤ pos k → reply ≡ reply_from start.made (pool_at start span.high) k) → reply ≡ Err refusal → r.floor ≡ (after_reservation r high n).floor
+pub refused_floor : (r : Record) (start : Allocator) (high : ℤ) (n : ℕ) (span : Span)
+    (refusal : Space) (reply : Result (List Handle) Space) → r.start ≡ start → span
+    ≡ record { high = high; low = high -ℤ pos n }
+    → ((k : ℕ) → span.low ≡ span.high -ℤ pos k → reply
+    ≡ reply_from start.made (pool_at start span.high) k) → reply ≡ Err refusal → r.floor
+    ≡ (after_reservation r high n).floor
 refused_floor r start high n span refusal reply same is answers refused =
     let at : span.high ≡ high = ap (λ (s : Span). s.high) is in
-    let test : nat_le n (length (pool_at start span.high)) ≡ false = short_refused start.made (pool_at start span.high) n refusal (sym (answers n (low_of span high n is)) ∙ refused) in
-    let here : nat_le n (length (pool_at r.start high)) ≡ false = (λ i. nat_le n (length (pool_at (same i) (sym at i)))) ∙ test in
+    let test : nat_le n (length (pool_at start span.high)) ≡ false = short_refused start.made
+    (pool_at start span.high) n refusal (sym (answers n (low_of span high n is)) ∙ refused) in
+    let here : nat_le n (length (pool_at r.start high))
+    ≡ false = (λ i. nat_le n (length (pool_at (same i) (sym at i)))) ∙ test in
     sym (ap (λ (b : Bool). cond b (high -ℤ pos n) r.floor) here)

@@ -38,12 +38,16 @@ use Rattle.ent_shared.proofs.Histories.{reservations_are, respects_all, numbers_
 use Rattle.ent_shared.proofs.Settling.{IsLater, legal_from, min_right, floor_below, taken_floor}
 use Rattle.ent_shared.proofs.Settling.{floor_sorted, floor_of_all}
 
-pub sum_requests : (cs : List Reservation) → sum (history.requests_of (map as_call cs)) ≡ sum_by requested cs
+pub sum_requests : (cs : List Reservation) → sum (history.requests_of (map as_call cs))
+    ≡ sum_by requested cs
 sum_requests [] = refl
 sum_requests (c ∷ cs) =
     let rest = sum_requests cs in
-    let first : sum (c.requested ∷ history.requests_of (map as_call cs)) ≡ c.requested + sum (history.requests_of (map as_call cs)) = sum_by-cons (λ (n : ℕ). n) c.requested (history.requests_of (map as_call cs)) in
-    let others : sum_by requested (c ∷ cs) ≡ c.requested + sum_by requested cs = sum_by-cons requested c cs in
+    let first : sum (c.requested ∷ history.requests_of (map as_call cs)) ≡ c.requested
+    + sum (history.requests_of (map as_call cs)) = sum_by-cons (λ (n : ℕ). n) c.requested
+    (history.requests_of (map as_call cs)) in
+    let others : sum_by requested (c ∷ cs) ≡ c.requested + sum_by requested cs =
+    sum_by-cons requested c cs in
     omega arith
 
 few_asked : (n count : ℕ) → n ≤ count * credit → count ≤ 1024 → n ≤ 2 ^ 50
@@ -51,21 +55,26 @@ unfolding credit
 few_asked n count le few = omega arith
 
 -- of two reservations of a list that falls the later one is lower
-falls_apart : (cs : List Reservation) → FallsStrictly cs → AllPairs (λ earlier later. later.high <ℤ earlier.high) cs
+falls_apart : (cs : List Reservation) → FallsStrictly cs
+    → AllPairs (λ earlier later. later.high <ℤ earlier.high) cs
 falls_apart [] falls = λ i j d lt within. absurd (omega arith)
-falls_apart (c ∷ cs) falls = AllPairs-cons (λ earlier later. later.high <ℤ earlier.high) c cs falls.0 (falls_apart cs falls.1)
+falls_apart (c ∷ cs) falls = AllPairs-cons (λ earlier later. later.high <ℤ earlier.high) c cs
+    falls.0 (falls_apart cs falls.1)
 
-module _ (start : Allocator) (count : ℕ) (records : List Record) (at : ℤ) (k : IsClosed start count records at) (sound : IsSound start) (flushed : start.asked ≡ 0) where
+module _ (start : Allocator) (count : ℕ) (records : List Record) (at : ℤ)
+    (k : IsClosed start count records at) (sound : IsSound start) (flushed : start.asked ≡ 0) where
   pub asked_in_all : cursor start ≡ at +ℤ pos (sum_by requested k.log)
   asked_in_all = follow_asked (cursor start) k.log at k.follow
 
   asked_most : sum_by requested k.log ≤ count * credit
   asked_most =
-      let all : sum_by (λ (r : Record). r.left) records + sum_by requested k.log ≤ count * credit = k.credit in
+      let all : sum_by (λ (r : Record). r.left) records + sum_by requested k.log ≤ count
+      * credit = k.credit in
       omega arith
 
   pub cursor_least : count ≤ 1024 → pos (top start) ≤ℤ (at +ℤ pos (2 ^ 50))
-  cursor_least few = let all = asked_in_all in let most = few_asked (sum_by requested k.log) count asked_most few in omega (arith, ints)
+  cursor_least few = let all = asked_in_all in let most = few_asked (sum_by requested k.log) count
+      asked_most few in omega (arith, ints)
 
   pub cursor_greatest : at ≤ℤ pos (top start)
   cursor_greatest = let all = asked_in_all in omega (arith, ints)
@@ -81,13 +90,16 @@ module _ (start : Allocator) (count : ℕ) (records : List Record) (at : ℤ) (k
     itself = record { sound = sound; available_is = refl; made_is = refl }
 
     pub legal : history.IsLegal start (history_of records)
-    legal = subst (history.IsLegal start) (sym history_is) (legal_from start start k.log at itself k.follow k.answered)
+    legal = subst (history.IsLegal start) (sym history_is) (legal_from start start k.log at itself
+        k.follow k.answered)
 
     pub respected : All (Respects (reservations_of records)) records
     respected = respects_all start count records at k whole
 
     pub falls : AllPairs (λ earlier later. later.high <ℤ earlier.high) (reservations_of records)
-    falls = subst (AllPairs (λ earlier later. later.high <ℤ earlier.high)) (sym (reservations_are start count records at k whole)) (falls_apart k.log (follow_falls (cursor start) k.log at k.follow))
+    falls = subst (AllPairs (λ earlier later. later.high <ℤ earlier.high))
+        (sym (reservations_are start count records at k whole))
+        (falls_apart k.log (follow_falls (cursor start) k.log at k.follow))
 
     pub distinct : AllPairs (λ g h. g ≢ h) (history.given_in (history_of records))
     distinct = given_in-distinct start (history_of records) sound legal
@@ -95,7 +107,9 @@ module _ (start : Allocator) (count : ℕ) (records : List Record) (at : ℤ) (k
     pub not_live : All (λ h. ¬ (IsLive start h)) (history.given_in (history_of records))
     not_live = given_in-not_live start (history_of records) sound legal
 
-    pub brought_to_life : (h : Handle) → IsLive (after_flush (history.after_history start (history_of records))) h ↔ IsLive start h ⊎ Contains (history.given_in (history_of records)) h
+    pub brought_to_life : (h : Handle)
+        → IsLive (after_flush (history.after_history start (history_of records))) h ↔ IsLive start h
+        ⊎ Contains (history.given_in (history_of records)) h
     brought_to_life = given_in-bring_to_life start (history_of records) sound legal flushed
 
     -- the least floor tells how many are taken
@@ -103,22 +117,31 @@ module _ (start : Allocator) (count : ℕ) (records : List Record) (at : ℤ) (k
     floor_is =
         let f : ℤ = floor_of start k.log in
         let of_log : least_floor (cursor start) records ≡ f =
-        floor_of_all start at k.log records k.each ∙ (sym (floor_sorted start (own_of_all records)) ∙ ap (floor_of start) (reservations_are start count records at k whole)) in
-        let none : length start.taken ≡ 0 = ap length (flushed-laid_out start sound flushed).taken in
+        floor_of_all start at k.log records k.each ∙ (sym (floor_sorted start (own_of_all records))
+        ∙ ap (floor_of start) (reservations_are start count records at k whole)) in
+        let none : length start.taken ≡ 0 = ap length (flushed-laid_out start sound flushed).taken
+        in
         let below = floor_below start k.log in
         let high : ℤ = pos (top start) -ℤ pos (length start.taken) in
         let down : f ≤ℤ high = omega (arith, ints) in
-        let taken : int_min high f ≡ pos (top start) -ℤ pos (length (history.after_history start (map as_call k.log)).taken) = taken_floor start start k.log at flushed itself k.follow in
-        of_log ∙ (sym (min_right high f down) ∙ (taken ∙ ap (λ (calls : List history.Call). pos (top start) -ℤ pos (length (history.after_history start calls).taken)) (sym history_is)))
+        let taken : int_min high f
+        ≡ pos (top start) -ℤ pos
+        (length (history.after_history start (map as_call k.log)).taken) = taken_floor start
+        start k.log at flushed itself k.follow in
+        of_log ∙ (sym (min_right high f down)
+        ∙ (taken ∙ ap (λ (calls : List history.Call). pos (top start) -ℤ pos
+        (length (history.after_history start calls).taken)) (sym history_is)))
 
     asked_is : sum (history.requests_of (history_of records)) ≡ sum_by requested k.log
-    asked_is = ap (λ (calls : List history.Call). sum (history.requests_of calls)) history_is ∙ sum_requests k.log
+    asked_is = ap (λ (calls : List history.Call). sum (history.requests_of calls)) history_is
+        ∙ sum_requests k.log
 
     final_asked : final.asked ≡ sum_by requested k.log
     final_asked =
         let asked = asked-after_takes start (history.requests_of (history_of records)) in
         let is = asked_is in
-        ap (λ (s : Allocator). s.asked) (after_history-takes start (history_of records)) ∙ omega arith
+        ap (λ (s : Allocator). s.asked) (after_history-takes start (history_of records))
+        ∙ omega arith
 
     -- its cursor is the one that the word told
     pub final_cursor : cursor final ≡ at
@@ -130,20 +153,25 @@ module _ (start : Allocator) (count : ℕ) (records : List Record) (at : ℤ) (k
         omega (arith, ints)
 
     final_sound : IsSound final
-    final_sound = subst IsSound (sym (after_history-takes start (history_of records))) (after_takes-sound start (history.requests_of (history_of records)) sound)
+    final_sound = subst IsSound (sym (after_history-takes start (history_of records)))
+        (after_takes-sound start (history.requests_of (history_of records)) sound)
 
     final_available : available final ≡ available start
-    final_available = ap available (after_history-takes start (history_of records)) ∙ available-after_takes start (history.requests_of (history_of records)) sound
+    final_available = ap available (after_history-takes start (history_of records))
+        ∙ available-after_takes start (history.requests_of (history_of records)) sound
 
     taken_few : length final.taken ≤ top start + (start.limits.slots - start.made)
     taken_few =
-        let all : length (available final) ≡ top start + (start.limits.slots - start.made) = ap length final_available ∙ length-available start sound in
+        let all : length (available final) ≡ top start + (start.limits.slots - start.made) =
+        ap length final_available ∙ length-available start sound in
         let parts = length-append final.taken (final.aside ++ final.pool) in
         omega arith
 
-    taken_all : sum_by requested k.log ≤ top start + (start.limits.slots - start.made) → length final.taken ≡ sum_by requested k.log
+    taken_all : sum_by requested k.log ≤ top start + (start.limits.slots - start.made)
+        → length final.taken ≡ sum_by requested k.log
     taken_all enough =
-        let all : length (available final) ≡ top start + (start.limits.slots - start.made) = ap length final_available ∙ length-available start sound in
+        let all : length (available final) ≡ top start + (start.limits.slots - start.made) =
+        ap length final_available ∙ length-available start sound in
         let asked = final_asked in
         length-taken final final_sound (omega arith) ∙ asked
 
@@ -179,10 +207,17 @@ module _ (start : Allocator) (count : ℕ) (records : List Record) (at : ℤ) (k
       -- settling at these two numbers gives the allocator after the history
       pub settled_is : settled start (asked_at (top start) floor) (asked_at (top start) at) ≡ final
       settled_is =
-          let given : asked_at (top start) floor ≡ length final.taken = (let e = asked_at-is (top start) floor floor_greatest in let here = floor_here in omega (arith, ints)) in
-          let asked : asked_at (top start) at ≡ sum (history.requests_of (history_of records)) = (let e = asked_at-is (top start) at cursor_greatest in let all = asked_in_all in let total = asked_is in omega (arith, ints)) in
-          let long : length final.taken ≡ length (history.given_in (history_of records)) = length_permutation (history.given_in (history_of records)) final.taken (given_in-taken start (history_of records) sound legal flushed) in
-          (λ i. settled start ((given ∙ long) i) (asked i)) ∙ sym (after_history-settled start (history_of records) sound legal flushed)
+          let given : asked_at (top start) floor ≡ length final.taken =
+          (let e = asked_at-is (top start) floor floor_greatest in let here = floor_here in
+          omega (arith, ints)) in
+          let asked : asked_at (top start) at ≡ sum (history.requests_of (history_of records)) =
+          (let e = asked_at-is (top start) at cursor_greatest in let all = asked_in_all in
+          let total = asked_is in omega (arith, ints)) in
+          let long : length final.taken ≡ length (history.given_in (history_of records)) =
+          length_permutation (history.given_in (history_of records)) final.taken
+          (given_in-taken start (history_of records) sound legal flushed) in
+          (λ i. settled start ((given ∙ long) i) (asked i))
+          ∙ sym (after_history-settled start (history_of records) sound legal flushed)
 
 -- what the closing call owes and gives, in the numbers of its code
 pub record Ended (here start : Allocator) (records : List Record) (at floor : ℤ) : Type 0 where
@@ -193,14 +228,18 @@ pub record Ended (here start : Allocator) (records : List Record) (at floor : �
   pub all_given : pos 0 ≤ℤ (at +ℤ pos (here.limits.slots - here.made)) → floor ≡ at
   pub is_legal : history.IsLegal start (history_of records)
   pub respects : All (Respects (reservations_of records)) records
-  pub after : settled here (asked_at (top here) floor) (asked_at (top here) at) ≡ history.after_history start (history_of records)
+  pub after : settled here (asked_at (top here) floor) (asked_at (top here) at)
+      ≡ history.after_history start (history_of records)
   pub all_fall : AllPairs (λ earlier later. later.high <ℤ earlier.high) (reservations_of records)
   pub all_numbers : AllPairs (λ r s. r.number ≢ s.number) records
   pub all_distinct : AllPairs (λ g h. g ≢ h) (history.given_in (history_of records))
   pub none_live : All (λ h. ¬ (IsLive start h)) (history.given_in (history_of records))
-  pub brings_to_life : (h : Handle) → IsLive (after_flush (history.after_history start (history_of records))) h ↔ IsLive start h ⊎ Contains (history.given_in (history_of records)) h
+  pub brings_to_life : (h : Handle)
+      → IsLive (after_flush (history.after_history start (history_of records))) h ↔ IsLive start h
+      ⊎ Contains (history.given_in (history_of records)) h
 
-ended_at : (start : Allocator) (count : ℕ) (records : List Record) (at floor : ℤ) → IsSound start → start.asked ≡ 0 → count ≤ 1024 → length records ≡ count → IsClosed start count records at
+ended_at : (start : Allocator) (count : ℕ) (records : List Record) (at floor : ℤ) → IsSound start
+    → start.asked ≡ 0 → count ≤ 1024 → length records ≡ count → IsClosed start count records at
     → floor ≡ least_floor (pos (top start)) records → Ended start start records at floor
 ended_at start count records at floor sound flushed few whole k is = record {
   least = cursor_least start count records at k sound flushed few;
@@ -219,20 +258,30 @@ ended_at start count records at floor sound flushed few whole k is = record {
 }
 
 -- a cursor between the bounds is what the code makes of it
-pub in_word : (top : ℕ) (z : ℤ) → top < 2 ^ 32 → pos top ≤ℤ (z +ℤ pos (2 ^ 50)) → z ≤ℤ pos top → to_z w64 (of_z w64 z) ≡ z
+pub in_word : (top : ℕ) (z : ℤ) → top < 2 ^ 32 → pos top ≤ℤ (z +ℤ pos (2 ^ 50)) → z ≤ℤ pos top
+    → to_z w64 (of_z w64 z) ≡ z
 in_word top z small least greatest = omega (arith, ints)
 
-pub ended : (here start : Allocator) (n count : ℕ) (key : Opening) (records : List Record) (at floor from : ℤ) → IsStart here → IsSound here → n ≤ 1024 → key ≡ record { entities = here; count = n }
-    → here ≡ start → n ≡ count → length records ≡ count → IsClosed key.entities key.count records at → from ≡ pos (top here) → floor ≡ least_floor (to_z w64 (of_z w64 from)) records
+pub ended : (here start : Allocator) (n count : ℕ) (key : Opening) (records : List Record)
+    (at floor from : ℤ) → IsStart here → IsSound here → n ≤ 1024 → key
+    ≡ record { entities = here; count = n }
+    → here ≡ start → n ≡ count → length records ≡ count → IsClosed key.entities key.count records at
+    → from ≡ pos (top here) → floor ≡ least_floor (to_z w64 (of_z w64 from)) records
     → Ended here start records (to_z w64 (of_z w64 at)) (to_z w64 (of_z w64 floor))
-ended here start n count key records at floor from begins sound few key_is here_is n_is whole closed from_is floor_is =
+ended here start n count key records at floor from begins sound few key_is here_is n_is whole closed
+    from_is floor_is =
     let small = begins.top in
-    let k : IsClosed here n records at = subst (λ (o : Opening). IsClosed o.entities o.count records at) key_is closed in
+    let k : IsClosed here n records at = subst (λ (o : Opening). IsClosed o.entities o.count records
+    at) key_is closed in
     let from_word : to_z w64 (of_z w64 from) ≡ pos (top here) = omega (arith, ints) in
-    let e : Ended here here records at floor = ended_at here n records at floor sound begins.flushed few (whole ∙ sym n_is) k (floor_is ∙ ap (λ (z : ℤ). least_floor z records) from_word) in
+    let e : Ended here here records at floor = ended_at here n records at floor sound begins.flushed
+    few (whole ∙ sym n_is) k (floor_is ∙ ap (λ (z : ℤ). least_floor z records) from_word) in
     let ordered = e.ordered in
     let least = e.least in
     let greatest = e.greatest in
-    let at_word : to_z w64 (of_z w64 at) ≡ at = in_word (top here) at small least (omega (arith, ints)) in
-    let floor_word : to_z w64 (of_z w64 floor) ≡ floor = in_word (top here) floor small (omega (arith, ints)) greatest in
-    subst (λ (x : Allocator × ℤ × ℤ). Ended here x.0 records x.1 x.2) (λ i. (here_is i, sym at_word i, sym floor_word i)) e
+    let at_word : to_z w64 (of_z w64 at) ≡ at = in_word (top here) at small least
+    (omega (arith, ints)) in
+    let floor_word : to_z w64 (of_z w64 floor) ≡ floor = in_word (top here) floor small
+    (omega (arith, ints)) greatest in
+    subst (λ (x : Allocator × ℤ × ℤ). Ended here x.0 records x.1 x.2)
+    (λ i. (here_is i, sym at_word i, sym floor_word i)) e

@@ -28,83 +28,127 @@ use Rattle.ent_shared.proofs.Sorting.{contains_cases, Falls, FallsStrictly, Weig
 use Rattle.ent_shared.proofs.Sorting.{sum_sorted, falls_sorted, same_fall, follow_falls}
 use Rattle.ent_shared.proofs.Sorting.{follow_requests}
 
-pub sum_flat : (f : Reservation → ℕ) (records : List Record) → sum_by f (own_of_all records) ≡ weigh f records
+pub sum_flat : (f : Reservation → ℕ) (records : List Record) → sum_by f (own_of_all records)
+    ≡ weigh f records
 sum_flat f [] = refl
 sum_flat f (r ∷ records) =
     let g : Record → ℕ = λ (x : Record). sum_by f (own_reservations x.entries) in
     let rest = sum_flat f records in
-    let here : sum_by f (own_of_all (r ∷ records)) ≡ sum_by f (own_reservations r.entries) + sum_by f (own_of_all records) = sum_by-append f (own_reservations r.entries) (own_of_all records) in
-    let sums : weigh f (r ∷ records) ≡ sum_by f (own_reservations r.entries) + weigh f records = sum_by-cons g r records in
+    let here : sum_by f (own_of_all (r ∷ records)) ≡ sum_by f (own_reservations r.entries)
+    + sum_by f (own_of_all records) = sum_by-append f (own_reservations r.entries)
+    (own_of_all records) in
+    let sums : weigh f (r ∷ records) ≡ sum_by f (own_reservations r.entries) + weigh f records =
+    sum_by-cons g r records in
     omega arith
 
-all_flat : (P : Reservation → Type 0) (records : List Record) → All (λ (r : Record). All P (own_reservations r.entries)) records → All P (own_of_all records)
+all_flat : (P : Reservation → Type 0) (records : List Record)
+    → All (λ (r : Record). All P (own_reservations r.entries)) records → All P (own_of_all records)
 all_flat P [] all = All-nil P
 all_flat P (r ∷ records) all =
-    All-append P (own_reservations r.entries) (own_of_all records) (All-head (λ (x : Record). All P (own_reservations x.entries)) r records all) (all_flat P records (All-tail (λ (x : Record). All P (own_reservations x.entries)) r records all))
+    All-append P (own_reservations r.entries) (own_of_all records)
+    (All-head (λ (x : Record). All P (own_reservations x.entries)) r records all)
+    (all_flat P records (All-tail (λ (x : Record). All P (own_reservations x.entries)) r records
+    all))
 
 -- the calls by falling high are those that follow each other
-pub reservations_are : (start : Allocator) (count : ℕ) (records : List Record) (at : ℤ) (k : IsClosed start count records at) → length records ≡ count → reservations_of records ≡ k.log
+pub reservations_are : (start : Allocator) (count : ℕ) (records : List Record) (at : ℤ)
+    (k : IsClosed start count records at) → length records ≡ count → reservations_of records ≡ k.log
 reservations_are start count records at k whole =
     let inside : All (Contains k.log) (own_of_all records) = all_flat (Contains k.log) records
-    (All-weaker (IsKept start at k.log) (λ (r : Record). All (Contains k.log) (own_reservations r.entries)) (λ r kept. all_own (Contains k.log) r.entries kept.marks.known) records k.each) in
-    same_fall (reservations_of records) k.log (falls_sorted (own_of_all records)) (follow_falls (cursor start) k.log at k.follow)
+    (All-weaker (IsKept start at k.log) (λ (r : Record). All (Contains k.log)
+    (own_reservations r.entries)) (λ r kept. all_own (Contains k.log) r.entries
+    kept.marks.known) records k.each) in
+    same_fall (reservations_of records) k.log (falls_sorted (own_of_all records))
+    (follow_falls (cursor start) k.log at k.follow)
     (all_sorted (Contains k.log) (own_of_all records) inside)
     (λ f. sum_sorted f (own_of_all records) ∙ (sum_flat f records ∙ k.all whole f))
 
 -- of two calls of a list that falls the higher one stands before
-falls_at : (cs : List Reservation) (i j : ℕ) (d : Reservation) → FallsStrictly cs → i ≤ j → j < length cs → (get_or cs j d).high ≤ℤ (get_or cs i d).high
+falls_at : (cs : List Reservation) (i j : ℕ) (d : Reservation) → FallsStrictly cs → i ≤ j → j
+    < length cs → (get_or cs j d).high ≤ℤ (get_or cs i d).high
 falls_at [] i j d falls le l = absurd (omega arith)
 falls_at (c ∷ cs) zero zero d falls le l = omega (arith, ints)
 falls_at (c ∷ cs) zero (suc j) d falls le l =
     let less : (get_or cs j d).high <ℤ c.high = falls.0 j d (omega arith) in
     omega (arith, ints)
 falls_at (c ∷ cs) (suc i) zero d falls le l = absurd (omega arith)
-falls_at (c ∷ cs) (suc i) (suc j) d falls le l = falls_at cs i j d falls.1 (omega arith) (omega arith)
+falls_at (c ∷ cs) (suc i) (suc j) d falls le l = falls_at cs i j d falls.1 (omega arith)
+    (omega arith)
 
-same_get_or : (cs : List Reservation) (j : ℕ) (a b : Reservation) → j < length cs → get_or cs j b ≡ get_or cs j a
+same_get_or : (cs : List Reservation) (j : ℕ) (a b : Reservation) → j < length cs → get_or cs j b
+    ≡ get_or cs j a
 same_get_or [] j a b l = absurd (omega arith)
 same_get_or (c ∷ cs) zero a b l = refl
 same_get_or (c ∷ cs) (suc j) a b l = same_get_or cs j a b (omega arith)
 
-stands : (cs : List Reservation) (earlier later : Reservation) → FallsStrictly cs → Contains cs earlier → Contains cs later → later.high <ℤ earlier.high → StandsBefore cs earlier later
+stands : (cs : List Reservation) (earlier later : Reservation) → FallsStrictly cs
+    → Contains cs earlier → Contains cs later → later.high <ℤ earlier.high
+    → StandsBefore cs earlier later
 stands cs earlier later falls (i, i_in, i_is) (j, j_in, j_is) lower =
     let before : i < j = dite (dec_lt i j) (λ yes. yes) (λ no. absurd
     (let le : j ≤ i = omega arith in
     let at_j : get_or cs j earlier ≡ later = same_get_or cs j later earlier j_in ∙ j_is in
-    let up : (get_or cs i earlier).high ≤ℤ (get_or cs j earlier).high = falls_at cs j i earlier falls le i_in in
+    let up : (get_or cs i earlier).high ≤ℤ (get_or cs j earlier).high = falls_at cs j i earlier
+    falls le i_in in
     let here : (get_or cs i earlier).high ≡ earlier.high = ap (λ (c : Reservation). c.high) i_is in
     let there : (get_or cs j earlier).high ≡ later.high = ap (λ (c : Reservation). c.high) at_j in
-    omega (arith, ints))) in
-    (i, j, before, slice_get-get_or cs i earlier i_in ∙ ap (λ (c : Reservation). Some c) i_is, slice_get-get_or cs j later j_in ∙ ap (λ (c : Reservation). Some c) j_is)
+    omega (arith, ints))) in (
+      i,
+      j,
+      before,
+      slice_get-get_or cs i earlier i_in ∙ ap (λ (c : Reservation). Some c) i_is,
+      slice_get-get_or cs j later j_in ∙ ap (λ (c : Reservation). Some c) j_is,
+    )
 
-after_one : (cs before : List Reservation) (later : Reservation) → FallsStrictly cs → All (λ (c : Reservation). 0 < c.requested) cs → All (Contains cs) before → Contains cs later
-    → All (λ (earlier : Reservation). later.high ≤ℤ low earlier) before → All (λ (earlier : Reservation). StandsBefore cs earlier later) before
-after_one cs [] later falls requests in_before in_later order = All-nil (λ (earlier : Reservation). StandsBefore cs earlier later)
+after_one : (cs before : List Reservation) (later : Reservation) → FallsStrictly cs
+    → All (λ (c : Reservation). 0 < c.requested) cs → All (Contains cs) before → Contains cs later
+    → All (λ (earlier : Reservation). later.high ≤ℤ low earlier) before
+    → All (λ (earlier : Reservation). StandsBefore cs earlier later) before
+after_one cs [] later falls requests in_before in_later order = All-nil (λ (earlier : Reservation).
+    StandsBefore cs earlier later)
 after_one cs (earlier ∷ before) later falls requests in_before in_later order =
     let O : Reservation → Type 0 = λ (x : Reservation). later.high ≤ℤ low x in
     let inside : Contains cs earlier = All-head (Contains cs) earlier before in_before in
-    let some_request : 0 < earlier.requested = All-contains (λ (c : Reservation). 0 < c.requested) cs earlier requests inside in
+    let some_request : 0 < earlier.requested = All-contains (λ (c : Reservation). 0 < c.requested)
+    cs earlier requests inside in
     let le : later.high ≤ℤ low earlier = All-head O earlier before order in
     All-cons (λ (x : Reservation). StandsBefore cs x later) earlier before
     (stands cs earlier later falls inside in_later (omega (arith, ints)))
-    (after_one cs before later falls requests (All-tail (Contains cs) earlier before in_before) in_later (All-tail O earlier before order))
+    (after_one cs before later falls requests (All-tail (Contains cs) earlier before in_before)
+    in_later (All-tail O earlier before order))
 
-after_all : (cs before after : List Reservation) → FallsStrictly cs → All (λ (c : Reservation). 0 < c.requested) cs → All (Contains cs) before → All (Contains cs) after
-    → All (λ (later : Reservation). All (λ (earlier : Reservation). later.high ≤ℤ low earlier) before) after → All (λ (later : Reservation). All (λ (earlier : Reservation). StandsBefore cs earlier later) before) after
-after_all cs before [] falls requests in_before in_after order = All-nil (λ (later : Reservation). All (λ (earlier : Reservation). StandsBefore cs earlier later) before)
+after_all : (cs before after : List Reservation) → FallsStrictly cs
+    → All (λ (c : Reservation). 0 < c.requested) cs → All (Contains cs) before
+    → All (Contains cs) after
+    → All (λ (later : Reservation). All (λ (earlier : Reservation). later.high ≤ℤ low earlier)
+    before) after
+    → All (λ (later : Reservation). All (λ (earlier : Reservation). StandsBefore cs earlier
+    later) before) after
+after_all cs before [] falls requests in_before in_after order =
+    All-nil (λ (later : Reservation). All (λ (earlier : Reservation). StandsBefore cs earlier later)
+    before)
 after_all cs before (later ∷ after) falls requests in_before in_after order =
-    let O : Reservation → Type 0 = λ (x : Reservation). All (λ (earlier : Reservation). x.high ≤ℤ low earlier) before in
-    All-cons (λ (x : Reservation). All (λ (earlier : Reservation). StandsBefore cs earlier x) before) later after
-    (after_one cs before later falls requests in_before (All-head (Contains cs) later after in_after) (All-head O later after order))
-    (after_all cs before after falls requests in_before (All-tail (Contains cs) later after in_after) (All-tail O later after order))
+    let O : Reservation → Type 0 = λ (x : Reservation).
+    All (λ (earlier : Reservation). x.high ≤ℤ low earlier) before in
+    All-cons (λ (x : Reservation). All (λ (earlier : Reservation). StandsBefore cs earlier x)
+    before) later after
+    (after_one cs before later falls requests in_before (All-head (Contains cs) later after
+    in_after) (All-head O later after order))
+    (after_all cs before after falls requests in_before (All-tail (Contains cs) later after
+    in_after) (All-tail O later after order))
 
 -- what a record knew before its own calls stands before them
-follows : (cs : List Reservation) (es : List RecordEntry) → FallsStrictly cs → All (λ (c : Reservation). 0 < c.requested) cs → All (Contains cs) (known_reservations es) → InOrder es → FollowsEntries cs es
+follows : (cs : List Reservation) (es : List RecordEntry) → FallsStrictly cs
+    → All (λ (c : Reservation). 0 < c.requested) cs → All (Contains cs) (known_reservations es)
+    → InOrder es → FollowsEntries cs es
 follows cs [] falls requests known order = tt
 follows cs (e ∷ es) falls requests known order =
-    let here : All (Contains cs) (reservations_in e) = all_front (Contains cs) (reservations_in e) (known_reservations es) known in
-    let rest : All (Contains cs) (known_reservations es) = all_back (Contains cs) (reservations_in e) (known_reservations es) known in (
-      after_all cs (reservations_in e) (own_reservations es) falls requests here (all_own (Contains cs) es rest) order.0,
+    let here : All (Contains cs) (reservations_in e) = all_front (Contains cs) (reservations_in e)
+    (known_reservations es) known in
+    let rest : All (Contains cs) (known_reservations es) = all_back (Contains cs)
+    (reservations_in e) (known_reservations es) known in (
+      after_all cs (reservations_in e) (own_reservations es) falls requests here
+          (all_own (Contains cs) es rest) order.0,
       follows cs es falls requests rest order.1,
     )
 
@@ -112,81 +156,118 @@ follows cs (e ∷ es) falls requests known order =
 abbrev only : ℕ → (Reservation → ℕ) → Reservation → ℕ
 only caller f c = cond (c.caller == caller) (f c) 0
 
-sum_by_caller : (caller : ℕ) (f : Reservation → ℕ) (cs : List Reservation) → sum_by f (reservations_by caller cs) ≡ sum_by (only caller f) cs
+sum_by_caller : (caller : ℕ) (f : Reservation → ℕ) (cs : List Reservation)
+    → sum_by f (reservations_by caller cs) ≡ sum_by (only caller f) cs
 sum_by_caller caller f [] = refl
 sum_by_caller caller f (c ∷ cs) =
     let rest = sum_by_caller caller f cs in
-    let goal : Bool → Type 0 = λ b. sum_by f (cond b (c ∷ reservations_by caller cs) (reservations_by caller cs)) ≡ cond b (f c) 0 + sum_by (only caller f) cs in
-    let more : sum_by f (c ∷ reservations_by caller cs) ≡ f c + sum_by f (reservations_by caller cs) = sum_by-cons f c (reservations_by caller cs) in
+    let goal : Bool → Type 0 = λ b.
+    sum_by f (cond b (c ∷ reservations_by caller cs) (reservations_by caller cs))
+    ≡ cond b (f c) 0 + sum_by (only caller f) cs in
+    let more : sum_by f (c ∷ reservations_by caller cs) ≡ f c
+    + sum_by f (reservations_by caller cs) = sum_by-cons f c (reservations_by caller cs) in
     let yes : goal true = omega arith in
     let no : goal false = omega arith in
-    let sums : sum_by (only caller f) (c ∷ cs) ≡ only caller f c + sum_by (only caller f) cs = sum_by-cons (only caller f) c cs in
+    let sums : sum_by (only caller f) (c ∷ cs) ≡ only caller f c + sum_by (only caller f) cs =
+    sum_by-cons (only caller f) c cs in
     (elim (c.caller == caller) as goal [ true ↦ yes | false ↦ no ]) ∙ sym sums
 
-own_by_caller : (number caller : ℕ) (f : Reservation → ℕ) (cs : List Reservation) → All (λ (c : Reservation). c.caller ≡ number) cs → sum_by (only caller f) cs ≡ cond (number == caller) (sum_by f cs) 0
+own_by_caller : (number caller : ℕ) (f : Reservation → ℕ) (cs : List Reservation)
+    → All (λ (c : Reservation). c.caller ≡ number) cs → sum_by (only caller f) cs
+    ≡ cond (number == caller) (sum_by f cs) 0
 own_by_caller number caller f [] all =
     let goal : Bool → Type 0 = λ b. 0 ≡ cond {A = ℕ} b 0 0 in
     elim (number == caller) as goal [ true ↦ refl | false ↦ refl ]
 own_by_caller number caller f (c ∷ cs) all =
     let is : c.caller ≡ number = All-head (λ (d : Reservation). d.caller ≡ number) c cs all in
-    let rest = own_by_caller number caller f cs (All-tail (λ (d : Reservation). d.caller ≡ number) c cs all) in
-    let sums : sum_by (only caller f) (c ∷ cs) ≡ only caller f c + sum_by (only caller f) cs = sum_by-cons (only caller f) c cs in
+    let rest = own_by_caller number caller f cs (All-tail (λ (d : Reservation). d.caller ≡ number) c
+    cs all) in
+    let sums : sum_by (only caller f) (c ∷ cs) ≡ only caller f c + sum_by (only caller f) cs =
+    sum_by-cons (only caller f) c cs in
     let all_sums : sum_by f (c ∷ cs) ≡ f c + sum_by f cs = sum_by-cons f c cs in
-    let here : only caller f c ≡ cond (number == caller) (f c) 0 = ap (λ (n : ℕ). cond (n == caller) (f c) 0) is in
-    let goal : Bool → Type 0 = λ b. cond b (f c) 0 + cond b (sum_by f cs) 0 ≡ cond b (f c + sum_by f cs) 0 in
-    let joined : goal (number == caller) = elim (number == caller) as goal [ true ↦ refl | false ↦ refl ] in
-    sums ∙ ((λ i. here i + rest i) ∙ (joined ∙ ap (λ (n : ℕ). cond (number == caller) n 0) (sym all_sums)))
+    let here : only caller f c ≡ cond (number == caller) (f c) 0 =
+    ap (λ (n : ℕ). cond (n == caller) (f c) 0) is in
+    let goal : Bool → Type 0 = λ b. cond b (f c) 0 + cond b (sum_by f cs) 0
+    ≡ cond b (f c + sum_by f cs) 0 in
+    let joined : goal (number == caller) = elim (number == caller) as goal [
+      | true ↦ refl
+      | false ↦ refl
+    ] in
+    sums ∙ ((λ i. here i + rest i)
+    ∙ (joined ∙ ap (λ (n : ℕ). cond (number == caller) n 0) (sym all_sums)))
 
 -- of records with different numbers only the one with this number weighs anything
 abbrev of_number : ℕ → (Record → ℕ) → Record → ℕ
 of_number number g r = cond (r.number == number) (g r) 0
 
-none_of_number : (number : ℕ) (g : Record → ℕ) (rs : List Record) → count_by (λ (r : Record). r.number == number) rs ≡ 0 → sum_by (of_number number g) rs ≡ 0
+none_of_number : (number : ℕ) (g : Record → ℕ) (rs : List Record)
+    → count_by (λ (r : Record). r.number == number) rs ≡ 0 → sum_by (of_number number g) rs ≡ 0
 none_of_number number g [] none = refl
 none_of_number number g (r ∷ rs) none =
-    let counts : count_by (λ (x : Record). x.number == number) (r ∷ rs) ≡ cond (r.number == number) 1 0 + count_by (λ (x : Record). x.number == number) rs = sum_by-cons (λ (x : Record). cond (x.number == number) 1 0) r rs in
-    let sums : sum_by (of_number number g) (r ∷ rs) ≡ of_number number g r + sum_by (of_number number g) rs = sum_by-cons (of_number number g) r rs in
+    let counts : count_by (λ (x : Record). x.number == number) (r ∷ rs)
+    ≡ cond (r.number == number) 1 0 + count_by (λ (x : Record). x.number == number) rs =
+    sum_by-cons (λ (x : Record). cond (x.number == number) 1 0) r rs in
+    let sums : sum_by (of_number number g) (r ∷ rs) ≡ of_number number g r
+    + sum_by (of_number number g) rs = sum_by-cons (of_number number g) r rs in
     let rest = none_of_number number g rs (omega arith) in
     let goal : Bool → Type 0 = λ b. cond {A = ℕ} b 1 0 ≡ 0 → cond b (g r) 0 ≡ 0 in
-    let zero_here : goal (r.number == number) = elim (r.number == number) as goal [ true ↦ (λ e. absurd (omega arith)) | false ↦ (λ e. refl) ] in
+    let zero_here : goal (r.number == number) = elim (r.number == number) as goal
+    [ true ↦ (λ e. absurd (omega arith)) | false ↦ (λ e. refl) ] in
     let here = zero_here (omega arith) in
     omega arith
 
-counted : (number : ℕ) (rs : List Record) (r : Record) → Contains rs r → r.number ≡ number → 1 ≤ count_by (λ (x : Record). x.number == number) rs
+counted : (number : ℕ) (rs : List Record) (r : Record) → Contains rs r → r.number ≡ number → 1
+    ≤ count_by (λ (x : Record). x.number == number) rs
 counted number [] r inside is = absurd (omega arith)
 counted number (x ∷ rs) r inside is =
-    let counts : count_by (λ (y : Record). y.number == number) (x ∷ rs) ≡ cond (x.number == number) 1 0 + count_by (λ (y : Record). y.number == number) rs = sum_by-cons (λ (y : Record). cond (y.number == number) 1 0) x rs in
+    let counts : count_by (λ (y : Record). y.number == number) (x ∷ rs)
+    ≡ cond (x.number == number) 1 0 + count_by (λ (y : Record). y.number == number) rs =
+    sum_by-cons (λ (y : Record). cond (y.number == number) 1 0) x rs in
     ⊎_elim
     (λ (same : r ≡ x).
-    let yes : (x.number == number) ≡ true = eq-eqb x.number number (ap (λ (y : Record). y.number) (sym same) ∙ is) in
-    let one : cond {A = ℕ} (x.number == number) 1 0 ≡ 1 = ap (λ (b : Bool). cond {A = ℕ} b 1 0) yes in
+    let yes : (x.number == number) ≡ true = eq-eqb x.number number
+    (ap (λ (y : Record). y.number) (sym same) ∙ is) in
+    let one : cond {A = ℕ} (x.number == number) 1 0 ≡ 1 = ap (λ (b : Bool). cond {A = ℕ} b 1 0) yes
+    in
     omega arith)
     (λ (behind : Contains rs r). let rest = counted number rs r behind is in omega arith)
     (contains_cases x rs r inside)
 
 -- records of which no two have one number differ in it
-pub numbers_differ : (rs : List Record) → ((k : ℕ) → count_by (λ (r : Record). r.number == k) rs ≤ 1) → AllPairs (λ r s. r.number ≢ s.number) rs
+pub numbers_differ : (rs : List Record) → ((k : ℕ) → count_by (λ (r : Record). r.number == k) rs
+    ≤ 1) → AllPairs (λ r s. r.number ≢ s.number) rs
 numbers_differ [] few = λ i j d lt within. absurd (omega arith)
 numbers_differ (r ∷ rs) few =
     let R : Record → Record → Type 0 = λ x y. x.number ≢ y.number in
-    let counts : (k : ℕ) → count_by (λ (x : Record). x.number == k) (r ∷ rs) ≡ cond (r.number == k) 1 0 + count_by (λ (x : Record). x.number == k) rs = λ k. sum_by-cons (λ (x : Record). cond (x.number == k) 1 0) r rs in
+    let counts : (k : ℕ) → count_by (λ (x : Record). x.number == k) (r ∷ rs)
+    ≡ cond (r.number == k) 1 0 + count_by (λ (x : Record). x.number == k) rs = λ k.
+    sum_by-cons (λ (x : Record). cond (x.number == k) 1 0) r rs in
     let here : All (R r) rs = All-weaker (Contains rs) (R r) (λ s inside same.
-    let one : cond {A = ℕ} (r.number == r.number) 1 0 ≡ 1 = ap (λ (b : Bool). cond {A = ℕ} b 1 0) (eq-eqb r.number r.number refl) in
+    let one : cond {A = ℕ} (r.number == r.number) 1 0 ≡ 1 = ap (λ (b : Bool). cond {A = ℕ} b 1 0)
+    (eq-eqb r.number r.number refl) in
     let more = counted r.number rs s inside (sym same) in
     let all = counts r.number in
     let most = few r.number in
     omega arith) rs (All-contains_itself rs) in
-    AllPairs-cons R r rs here (numbers_differ rs (λ k. let all = counts k in let most = few k in omega arith))
+    AllPairs-cons R r rs here (numbers_differ rs (λ k. let all = counts k in let most = few k in
+    omega arith))
 
-one_of_number : (number : ℕ) (g : Record → ℕ) (rs : List Record) (r : Record) → count_by (λ (x : Record). x.number == number) rs ≤ 1 → Contains rs r → r.number ≡ number → sum_by (of_number number g) rs ≡ g r
+one_of_number : (number : ℕ) (g : Record → ℕ) (rs : List Record) (r : Record)
+    → count_by (λ (x : Record). x.number == number) rs ≤ 1 → Contains rs r → r.number ≡ number
+    → sum_by (of_number number g) rs ≡ g r
 one_of_number number g [] r few inside is = absurd (omega arith)
 one_of_number number g (x ∷ rs) r few inside is =
-    let counts : count_by (λ (y : Record). y.number == number) (x ∷ rs) ≡ cond (x.number == number) 1 0 + count_by (λ (y : Record). y.number == number) rs = sum_by-cons (λ (y : Record). cond (y.number == number) 1 0) x rs in
-    let sums : sum_by (of_number number g) (x ∷ rs) ≡ of_number number g x + sum_by (of_number number g) rs = sum_by-cons (of_number number g) x rs in
+    let counts : count_by (λ (y : Record). y.number == number) (x ∷ rs)
+    ≡ cond (x.number == number) 1 0 + count_by (λ (y : Record). y.number == number) rs =
+    sum_by-cons (λ (y : Record). cond (y.number == number) 1 0) x rs in
+    let sums : sum_by (of_number number g) (x ∷ rs) ≡ of_number number g x
+    + sum_by (of_number number g) rs = sum_by-cons (of_number number g) x rs in
     ⊎_elim
     (λ (same : r ≡ x).
-    let yes : (x.number == number) ≡ true = eq-eqb x.number number (ap (λ (y : Record). y.number) (sym same) ∙ is) in
-    let one : cond {A = ℕ} (x.number == number) 1 0 ≡ 1 = ap (λ (b : Bool). cond {A = ℕ} b 1 0) yes in
+    let yes : (x.number == number) ≡ true = eq-eqb x.number number
+    (ap (λ (y : Record). y.number) (sym same) ∙ is) in
+    let one : cond {A = ℕ} (x.number == number) 1 0 ≡ 1 = ap (λ (b : Bool). cond {A = ℕ} b 1 0) yes
+    in
     let here : of_number number g x ≡ g x = ap (λ (b : Bool). cond b (g x) 0) yes in
     let none = none_of_number number g rs (omega arith) in
     let mine : g x ≡ g r = ap g (sym same) in
@@ -196,41 +277,55 @@ one_of_number number g (x ∷ rs) r few inside is =
     let there = counted number rs r behind is in
     let no : cond {A = ℕ} (x.number == number) 1 0 ≡ 0 = omega arith in
     let goal : Bool → Type 0 = λ b. cond {A = ℕ} b 1 0 ≡ 0 → cond b (g x) 0 ≡ 0 in
-    let zero_here : goal (x.number == number) = elim (x.number == number) as goal [ true ↦ (λ e. absurd (omega arith)) | false ↦ (λ e. refl) ] in
+    let zero_here : goal (x.number == number) = elim (x.number == number) as goal
+    [ true ↦ (λ e. absurd (omega arith)) | false ↦ (λ e. refl) ] in
     let here = zero_here no in
     omega arith)
     (contains_cases x rs r inside)
 
 -- a record's own calls fall
-own_fall : (es : List RecordEntry) → All (λ (c : Reservation). 0 < c.requested) (own_reservations es) → InOrder es → Falls (own_reservations es)
+own_fall : (es : List RecordEntry) → All (λ (c : Reservation). 0 < c.requested)
+    (own_reservations es) → InOrder es → Falls (own_reservations es)
 own_fall [] requests order = tt
 own_fall (Met cs ∷ es) requests order = own_fall es requests order.1
 own_fall (Own c ∷ es) requests order =
-    let some_request : 0 < c.requested = All-head (λ (d : Reservation). 0 < d.requested) c (own_reservations es) requests in
-    let O : Reservation → Type 0 = λ (later : Reservation). All (λ (earlier : Reservation). later.high ≤ℤ low earlier) (c ∷ []) in (
-      All-weaker O (λ (d : Reservation). d.high ≤ℤ c.high) (λ d le. let here : d.high ≤ℤ low c = All-head (λ (earlier : Reservation). d.high ≤ℤ low earlier) c [] le in omega (arith, ints)) (own_reservations es) order.0,
-      own_fall es (All-tail (λ (d : Reservation). 0 < d.requested) c (own_reservations es) requests) order.1,
+    let some_request : 0 < c.requested = All-head (λ (d : Reservation). 0 < d.requested) c
+    (own_reservations es) requests in
+    let O : Reservation → Type 0 = λ (later : Reservation).
+    All (λ (earlier : Reservation). later.high ≤ℤ low earlier) (c ∷ []) in (
+      All-weaker O (λ (d : Reservation). d.high ≤ℤ c.high) (λ d le. let here : d.high ≤ℤ low c =
+          All-head (λ (earlier : Reservation). d.high ≤ℤ low earlier) c [] le in
+          omega (arith, ints)) (own_reservations es) order.0,
+      own_fall es (All-tail (λ (d : Reservation). 0 < d.requested) c (own_reservations es) requests)
+          order.1,
     )
 
-all_by : (P : Reservation → Type 0) (caller : ℕ) (cs : List Reservation) → All P cs → All P (reservations_by caller cs)
+all_by : (P : Reservation → Type 0) (caller : ℕ) (cs : List Reservation) → All P cs
+    → All P (reservations_by caller cs)
 all_by P caller cs all = All-filter (λ (c : Reservation). c.caller == caller) P cs all
 
-strictly_by : (caller : ℕ) (cs : List Reservation) → FallsStrictly cs → FallsStrictly (reservations_by caller cs)
+strictly_by : (caller : ℕ) (cs : List Reservation) → FallsStrictly cs
+    → FallsStrictly (reservations_by caller cs)
 strictly_by caller [] falls = tt
 strictly_by caller (c ∷ cs) falls =
     let rest = strictly_by caller cs falls.1 in
-    let goal : Bool → Type 0 = λ b. FallsStrictly (cond b (c ∷ reservations_by caller cs) (reservations_by caller cs)) in
-    let yes : goal true = (all_by (λ (d : Reservation). d.high <ℤ c.high) caller cs falls.0, rest) in
+    let goal : Bool → Type 0 = λ b. FallsStrictly (cond b (c ∷ reservations_by caller cs)
+    (reservations_by caller cs)) in
+    let yes : goal true = (all_by (λ (d : Reservation). d.high <ℤ c.high) caller cs falls.0, rest)
+    in
     let no : goal false = rest in
     elim (c.caller == caller) as goal [ true ↦ yes | false ↦ no ]
 
-contains_by : (caller : ℕ) (cs : List Reservation) (c : Reservation) → Contains cs c → c.caller ≡ caller → Contains (reservations_by caller cs) c
+contains_by : (caller : ℕ) (cs : List Reservation) (c : Reservation) → Contains cs c → c.caller
+    ≡ caller → Contains (reservations_by caller cs) c
 contains_by caller [] c inside is = absurd (omega arith)
 contains_by caller (d ∷ cs) c inside is =
-    let goal : Bool → Type 0 = λ b. Contains (cond b (d ∷ reservations_by caller cs) (reservations_by caller cs)) c in
+    let goal : Bool → Type 0 = λ b.
+    Contains (cond b (d ∷ reservations_by caller cs) (reservations_by caller cs)) c in
     ⊎_elim
     (λ (same : c ≡ d).
-    let yes : (d.caller == caller) ≡ true = eq-eqb d.caller caller (ap (λ (x : Reservation). x.caller) (sym same) ∙ is) in
+    let yes : (d.caller == caller) ≡ true = eq-eqb d.caller caller
+    (ap (λ (x : Reservation). x.caller) (sym same) ∙ is) in
     let first : goal true = (0, omega arith, sym same) in
     subst goal (sym yes) first)
     (λ (behind : Contains cs c).
@@ -240,13 +335,19 @@ contains_by caller (d ∷ cs) c inside is =
     elim (d.caller == caller) as goal [ true ↦ yes | false ↦ no ])
     (contains_cases d cs c inside)
 
-all_contain_by : (caller : ℕ) (cs own : List Reservation) → All (Contains cs) own → All (λ (c : Reservation). c.caller ≡ caller) own → All (Contains (reservations_by caller cs)) own
+all_contain_by : (caller : ℕ) (cs own : List Reservation) → All (Contains cs) own
+    → All (λ (c : Reservation). c.caller ≡ caller) own → All (Contains (reservations_by caller cs))
+    own
 all_contain_by caller cs [] inside is = All-nil (Contains (reservations_by caller cs))
 all_contain_by caller cs (c ∷ own) inside is =
-    All-cons (Contains (reservations_by caller cs)) c own (contains_by caller cs c (All-head (Contains cs) c own inside) (All-head (λ (d : Reservation). d.caller ≡ caller) c own is))
-    (all_contain_by caller cs own (All-tail (Contains cs) c own inside) (All-tail (λ (d : Reservation). d.caller ≡ caller) c own is))
+    All-cons (Contains (reservations_by caller cs)) c own
+    (contains_by caller cs c (All-head (Contains cs) c own inside)
+    (All-head (λ (d : Reservation). d.caller ≡ caller) c own is))
+    (all_contain_by caller cs own (All-tail (Contains cs) c own inside)
+    (All-tail (λ (d : Reservation). d.caller ≡ caller) c own is))
 
-sum_same : (g h : Record → ℕ) (rs : List Record) → All (λ (r : Record). g r ≡ h r) rs → sum_by g rs ≡ sum_by h rs
+sum_same : (g h : Record → ℕ) (rs : List Record) → All (λ (r : Record). g r ≡ h r) rs → sum_by g rs
+    ≡ sum_by h rs
 sum_same g h [] all = refl
 sum_same g h (r ∷ rs) all =
     let here = All-head (λ (x : Record). g x ≡ h x) r rs all in
@@ -255,33 +356,45 @@ sum_same g h (r ∷ rs) all =
     let other : sum_by h (r ∷ rs) ≡ h r + sum_by h rs = sum_by-cons h r rs in
     omega arith
 
-module _ (start : Allocator) (count : ℕ) (records : List Record) (at : ℤ) (k : IsClosed start count records at) (whole : length records ≡ count) where
+module _ (start : Allocator) (count : ℕ) (records : List Record) (at : ℤ)
+    (k : IsClosed start count records at) (whole : length records ≡ count) where
   respects_one : (r : Record) → Contains records r → Respects (reservations_of records) r
   respects_one r inside =
-      let kept : IsKept start at k.log r = All-contains (IsKept start at k.log) records r k.each inside in
+      let kept : IsKept start at k.log r = All-contains (IsKept start at k.log) records r k.each
+      inside in
       let log : List Reservation = k.log in
       let own : List Reservation = own_reservations r.entries in
       let is : reservations_of records ≡ log = reservations_are start count records at k whole in
       let falls = follow_falls (cursor start) log at k.follow in
       let requests = follow_requests (cursor start) log at k.follow in
       let own_in : All (Contains log) own = all_own (Contains log) r.entries kept.marks.known in
-      let own_requests : All (λ (c : Reservation). 0 < c.requested) own = All-weaker (Contains log) (λ (c : Reservation). 0 < c.requested) (λ c c_in. All-contains (λ (d : Reservation). 0 < d.requested) log c requests c_in) own own_in in
+      let own_requests : All (λ (c : Reservation). 0 < c.requested) own = All-weaker (Contains log)
+      (λ (c : Reservation). 0 < c.requested) (λ c c_in. All-contains (λ (d : Reservation). 0
+      < d.requested) log c requests c_in) own own_in in
       let few = k.numbers r.number in
       let weighs : WeighSame own (reservations_by r.number log) = λ f.
       let g : Record → ℕ = λ (x : Record). sum_by f (own_reservations x.entries) in
       let h : Record → ℕ = λ (x : Record). sum_by (only r.number f) (own_reservations x.entries) in
-      let parted : sum_by h records ≡ sum_by (of_number r.number g) records = sum_same h (of_number r.number g) records
-      (All-weaker (IsKept start at log) (λ (x : Record). h x ≡ of_number r.number g x) (λ x x_kept. own_by_caller x.number r.number f (own_reservations x.entries) x_kept.caller) records k.each) in
-      let alone : sum_by (of_number r.number g) records ≡ g r = one_of_number r.number g records r few inside refl in
+      let parted : sum_by h records ≡ sum_by (of_number r.number g) records =
+      sum_same h (of_number r.number g) records
+      (All-weaker (IsKept start at log) (λ (x : Record). h x ≡ of_number r.number g x)
+      (λ x x_kept. own_by_caller x.number r.number f (own_reservations x.entries) x_kept.caller)
+      records k.each) in
+      let alone : sum_by (of_number r.number g) records ≡ g r = one_of_number r.number g records r
+      few inside refl in
       let all : sum_by h records ≡ sum_by (only r.number f) log = k.all whole (only r.number f) in
       let caller = sum_by_caller r.number f log in
       omega arith in
       let same : own ≡ reservations_by r.number log =
-      same_fall own (reservations_by r.number log) (own_fall r.entries own_requests kept.marks.order) (strictly_by r.number log falls) (all_contain_by r.number log own own_in kept.caller) weighs in
+      same_fall own (reservations_by r.number log)
+      (own_fall r.entries own_requests kept.marks.order) (strictly_by r.number log falls)
+      (all_contain_by r.number log own own_in kept.caller) weighs in
       record {
         own = ap (reservations_by r.number) is ∙ sym same;
-        after = subst (λ (cs : List Reservation). FollowsEntries cs r.entries) (sym is) (follows log r.entries falls requests kept.marks.known kept.marks.order);
+        after = subst (λ (cs : List Reservation). FollowsEntries cs r.entries) (sym is)
+            (follows log r.entries falls requests kept.marks.known kept.marks.order);
       }
 
   pub respects_all : All (Respects (reservations_of records)) records
-  respects_all = All-weaker (Contains records) (Respects (reservations_of records)) respects_one records (All-contains_itself records)
+  respects_all = All-weaker (Contains records) (Respects (reservations_of records)) respects_one
+      records (All-contains_itself records)

@@ -38,58 +38,87 @@ use Rattle.ent_shared.proofs.Closing.{asked_in_all, cursor_least, cursor_greates
 use Rattle.ent_shared.proofs.Closing.{in_word}
 
 -- what lies inside the front of a list is in it
-front_contains : (xs : List Handle) (k n asked : ℕ) → k + n ≤ asked → All (Contains (take asked xs)) (take n (drop k xs))
+front_contains : (xs : List Handle) (k n asked : ℕ) → k + n ≤ asked → All (Contains (take asked xs))
+    (take n (drop k xs))
 front_contains xs k n asked le =
     let P : Handle → Type 0 = Contains (take asked xs) in
-    let all : All P (take (k + n) (take asked xs)) = All-take P (k + n) (take asked xs) (All-contains_itself (take asked xs)) in
+    let all : All P (take (k + n) (take asked xs)) = All-take P (k + n) (take asked xs)
+    (All-contains_itself (take asked xs)) in
     let same : take (k + n) (take asked xs) ≡ take (k + n) xs = take-take (k + n) asked xs le in
     subst (All P) (drop-take k n xs) (All-drop P k (take (k + n) xs) (subst (All P) same all))
 
 -- the handles of a call are in the front that reaches as far
-reservation_contains : (start : Allocator) (c : Reservation) (asked : ℕ) → IsAnswered start c → asked_at (top start) c.high + c.requested ≤ asked → All (Contains (take asked (available start))) (history.handles_in c.reply)
+reservation_contains : (start : Allocator) (c : Reservation) (asked : ℕ) → IsAnswered start c
+    → asked_at (top start) c.high + c.requested ≤ asked
+    → All (Contains (take asked (available start))) (history.handles_in c.reply)
 reservation_contains start c asked answered le =
     let pool : List Handle = pool_at start c.high in
     let P : Handle → Type 0 = Contains (take asked (available start)) in
-    let inside : All P (take c.requested pool) = front_contains (available start) (asked_at (top start) c.high) c.requested asked le in
-    let given : All P (listed start.made (take c.requested pool)) = All-permutation P (take c.requested pool) (listed start.made (take c.requested pool)) (listed-IsPermutation start.made (take c.requested pool)) inside in
+    let inside : All P (take c.requested pool) = front_contains (available start)
+    (asked_at (top start) c.high) c.requested asked le in
+    let given : All P (listed start.made (take c.requested pool)) = All-permutation P
+    (take c.requested pool) (listed start.made (take c.requested pool))
+    (listed-IsPermutation start.made (take c.requested pool)) inside in
     let space : Space = record { wanted = c.requested; left = length pool } in
-    let goal : Bool → Type 0 = λ b. All P (history.handles_in (cond {A = Result (List Handle) Space} b (Ok (listed start.made (take c.requested pool))) (Err space))) in
+    let goal : Bool → Type 0 = λ b.
+    All P (history.handles_in (cond {A = Result (List Handle) Space} b
+    (Ok (listed start.made (take c.requested pool))) (Err space))) in
     subst (λ (r : Result (List Handle) Space). All P (history.handles_in r)) (sym answered)
     (elim (nat_le c.requested (length pool)) as goal [ true ↦ given | false ↦ All-nil P ])
 
-reservations_contain : (start : Allocator) (asked : ℕ) (cs : List Reservation) → All (IsAnswered start) cs → All (λ (c : Reservation). asked_at (top start) c.high + c.requested ≤ asked) cs → All (Contains (take asked (available start))) (handles_of cs)
-reservations_contain start asked [] answered within = All-nil (Contains (take asked (available start)))
+reservations_contain : (start : Allocator) (asked : ℕ) (cs : List Reservation)
+    → All (IsAnswered start) cs → All (λ (c : Reservation). asked_at (top start) c.high
+    + c.requested ≤ asked) cs → All (Contains (take asked (available start))) (handles_of cs)
+reservations_contain start asked [] answered within =
+    All-nil (Contains (take asked (available start)))
 reservations_contain start asked (c ∷ cs) answered within =
     let P : Handle → Type 0 = Contains (take asked (available start)) in
-    let W : Reservation → Type 0 = λ (d : Reservation). asked_at (top start) d.high + d.requested ≤ asked in
+    let W : Reservation → Type 0 = λ (d : Reservation). asked_at (top start) d.high + d.requested
+    ≤ asked in
     All-append P (history.handles_in c.reply) (handles_of cs)
-    (reservation_contains start c asked (All-head (IsAnswered start) c cs answered) (All-head W c cs within))
-    (reservations_contain start asked cs (All-tail (IsAnswered start) c cs answered) (All-tail W c cs within))
+    (reservation_contains start c asked (All-head (IsAnswered start) c cs answered)
+    (All-head W c cs within))
+    (reservations_contain start asked cs (All-tail (IsAnswered start) c cs answered)
+    (All-tail W c cs within))
 
 -- each call lies between the top and the cursor
-reservations_within : (start : Allocator) (high : ℤ) (cs : List Reservation) (end : ℤ) (asked : ℕ) → high ≤ℤ pos (top start) → pos (top start) ≡ end +ℤ pos asked → Follow high cs end
-    → All (λ (c : Reservation). asked_at (top start) c.high + c.requested ≤ asked) cs × (end ≤ℤ high)
-reservations_within start high [] end asked up is f = (All-nil (λ (c : Reservation). asked_at (top start) c.high + c.requested ≤ asked), omega (arith, ints, f))
+reservations_within : (start : Allocator) (high : ℤ) (cs : List Reservation) (end : ℤ) (asked : ℕ)
+    → high ≤ℤ pos (top start) → pos (top start) ≡ end +ℤ pos asked → Follow high cs end
+    → All (λ (c : Reservation). asked_at (top start) c.high + c.requested ≤ asked) cs
+    × (end ≤ℤ high)
+reservations_within start high [] end asked up is f = (
+  All-nil (λ (c : Reservation). asked_at (top start) c.high + c.requested ≤ asked),
+  omega
+      (arith, ints, f),
+)
 reservations_within start high (c ∷ cs) end asked up is f =
     let at : c.high ≡ high = f.0 in
     let rest = reservations_within start (low c) cs end asked (omega (arith, ints)) is f.2 in
     let down : end ≤ℤ low c = rest.1 in
-    let passed : pos (asked_at (top start) c.high) ≡ pos (top start) -ℤ c.high = asked_at-is (top start) c.high (omega (arith, ints)) in
-    (All-cons (λ (d : Reservation). asked_at (top start) d.high + d.requested ≤ asked) c cs (omega (arith, ints)) rest.0, omega (arith, ints))
+    let passed : pos (asked_at (top start) c.high) ≡ pos (top start) -ℤ c.high =
+    asked_at-is (top start) c.high (omega (arith, ints)) in (
+      All-cons (λ (d : Reservation). asked_at (top start) d.high + d.requested ≤ asked) c cs
+          (omega (arith, ints)) rest.0,
+      omega (arith, ints),
+    )
 
 -- what the closing call with lost reservers owes and gives
-pub record Lost (here start : Allocator) (count : ℕ) (records : List Record) (at floor : ℤ) : Type 0 where
-  pub asked : ℕ
-  pub some_asked : sum_by requested_by records ≤ asked
-  pub all_asked : length records ≡ count → sum_by requested_by records ≡ asked
-  pub most_asked : sum_by (λ (r : Record). r.left) records + asked ≤ count * credit
-  pub reached : All (λ (r : Record). cursor (after_loss start asked) ≤ℤ r.mark) records
-  pub whole : length records ≡ count → cursor (after_loss start asked) ≡ cursor (history.after_history start (history_of records))
-  pub least : pos (top here) ≤ℤ (at +ℤ pos (2 ^ 50))
-  pub greatest : floor ≤ℤ pos (top here)
-  pub all_given : pos 0 ≤ℤ (at +ℤ pos (here.limits.slots - here.made)) → floor ≡ at
-  pub after : settled here (asked_at (top here) floor) (asked_at (top here) at) ≡ after_loss start asked
-  pub given : All (λ (r : Record). All (Contains (take asked start.pool)) (handles_of (own_reservations r.entries))) records
+pub record Lost (here start : Allocator) (count : ℕ) (records : List Record) (at floor : ℤ) : Type 0
+  where
+    pub asked : ℕ
+    pub some_asked : sum_by requested_by records ≤ asked
+    pub all_asked : length records ≡ count → sum_by requested_by records ≡ asked
+    pub most_asked : sum_by (λ (r : Record). r.left) records + asked ≤ count * credit
+    pub reached : All (λ (r : Record). cursor (after_loss start asked) ≤ℤ r.mark) records
+    pub whole : length records ≡ count → cursor (after_loss start asked)
+        ≡ cursor (history.after_history start (history_of records))
+    pub least : pos (top here) ≤ℤ (at +ℤ pos (2 ^ 50))
+    pub greatest : floor ≤ℤ pos (top here)
+    pub all_given : pos 0 ≤ℤ (at +ℤ pos (here.limits.slots - here.made)) → floor ≡ at
+    pub after : settled here (asked_at (top here) floor) (asked_at (top here) at)
+        ≡ after_loss start asked
+    pub given : All (λ (r : Record). All (Contains (take asked start.pool))
+        (handles_of (own_reservations r.entries))) records
 
 max_right : (a b : ℤ) → a ≤ℤ b → int_max a b ≡ b
 max_right a b le = grind (arith, ints)
@@ -100,19 +129,26 @@ max_left a b le = grind (arith, ints)
 -- the two numbers that are set
 module _ (start : Allocator) (sound : IsSound start) (flushed : start.asked ≡ 0) where
   all_pool : available start ≡ start.pool
-  all_pool = let f = flushed-laid_out start sound flushed in (λ i. f.taken i ++ (f.aside i ++ start.pool))
+  all_pool = let f = flushed-laid_out start sound flushed in
+      (λ i. f.taken i ++ (f.aside i ++ start.pool))
 
   length_pool : length start.pool ≡ top start + (start.limits.slots - start.made)
   length_pool = ap length (sym all_pool) ∙ length-available start sound
 
-  loss_is : (given asked : ℕ) → given ≤ asked → (given ≡ asked) ⊎ (given ≡ length start.pool) → settled start given asked ≡ after_loss start asked
+  loss_is : (given asked : ℕ) → given ≤ asked → (given ≡ asked) ⊎ (given ≡ length start.pool)
+      → settled start given asked ≡ after_loss start asked
   loss_is given asked le which =
       let f = flushed-laid_out start sound flushed in
-      let front : take given start.pool ≡ take asked start.pool = ⊎_elim (λ (e : given ≡ asked). ap (λ (n : ℕ). take n start.pool) e)
-      (λ (e : given ≡ length start.pool). take_all given start.pool (omega arith) ∙ sym (take_all asked start.pool (omega arith))) which in
+      let front : take given start.pool ≡ take asked start.pool =
+      ⊎_elim (λ (e : given ≡ asked). ap (λ (n : ℕ). take n start.pool) e)
+      (λ (e : given ≡ length start.pool). take_all given start.pool (omega arith)
+      ∙ sym (take_all asked start.pool (omega arith))) which in
       let short = length-take asked start.pool in
-      let none_aside : drop given (take asked start.pool) ≡ [] = ⊎_elim (λ (e : given ≡ asked). drop_all given (take asked start.pool) (omega arith))
-      (λ (e : given ≡ length start.pool). drop_all given (take asked start.pool) (omega arith)) which in
+      let none_aside : drop given (take asked start.pool)
+      ≡ [] = ⊎_elim (λ (e : given ≡ asked). drop_all given (take asked start.pool)
+      (omega arith))
+      (λ (e : given ≡ length start.pool). drop_all given (take asked start.pool) (omega arith))
+      which in
       λ i. record start {
         taken = ((λ j. f.taken j ++ take given start.pool) ∙ front) i;
         aside = ((λ j. f.aside j ++ drop given (take asked start.pool)) ∙ none_aside) i;
@@ -123,12 +159,17 @@ module _ (start : Allocator) (sound : IsSound start) (flushed : start.asked ≡ 
   -- the cursor of the allocator that is left
   cursor-loss : (asked : ℕ) → cursor (after_loss start asked) ≡ cursor start -ℤ pos asked
   cursor-loss asked =
-      let same : available (after_loss start asked) ≡ available start = take-append-drop asked start.pool ∙ sym all_pool in
-      let tops : top (after_loss start asked) ≡ top start = ap (λ (hs : List Handle). length (filter (is_old start.made) hs)) same in
+      let same : available (after_loss start asked) ≡ available start = take-append-drop asked
+      start.pool ∙ sym all_pool in
+      let tops : top (after_loss start asked) ≡ top start =
+      ap (λ (hs : List Handle). length (filter (is_old start.made) hs)) same in
       omega (arith, ints)
 
-lost_at : (start : Allocator) (count : ℕ) (records : List Record) (at floor : ℤ) → IsSound start → start.asked ≡ 0 → count ≤ 1024 → IsClosed start count records at
-    → (floor ≡ at) × (neg_ℤ (pos (start.limits.slots - start.made)) ≤ℤ at) ⊎ (floor ≡ neg_ℤ (pos (start.limits.slots - start.made))) × (at ≤ℤ floor) → Lost start start count records at floor
+lost_at : (start : Allocator) (count : ℕ) (records : List Record) (at floor : ℤ) → IsSound start
+    → start.asked ≡ 0 → count ≤ 1024 → IsClosed start count records at
+    → (floor ≡ at) × (neg_ℤ (pos (start.limits.slots - start.made)) ≤ℤ at)
+    ⊎ (floor ≡ neg_ℤ (pos (start.limits.slots - start.made))) × (at ≤ℤ floor)
+    → Lost start start count records at floor
 lost_at start count records at floor sound flushed few k which =
     let asked : ℕ = sum_by requested k.log in
     let all = asked_in_all start count records at k sound flushed in
@@ -136,56 +177,93 @@ lost_at start count records at floor sound flushed few k which =
     let top_is : pos (top start) ≡ cursor start = omega (arith, ints) in
     let within : pos (top start) ≡ at +ℤ pos asked = top_is ∙ all in
     let pool = length_pool start sound flushed in
-    let floor_in : floor ≤ℤ pos (top start) = ⊎_elim (λ (p : (floor ≡ at) × (neg_ℤ (pos (start.limits.slots - start.made)) ≤ℤ at)). let e = p.0 in omega (arith, ints)) (λ (p : (floor ≡ neg_ℤ (pos (start.limits.slots - start.made))) × (at ≤ℤ floor)). let e = p.0 in omega (arith, ints)) which in
+    let floor_in : floor ≤ℤ pos (top start) =
+    ⊎_elim (λ (p : (floor ≡ at) × (neg_ℤ (pos (start.limits.slots - start.made)) ≤ℤ at)).
+    let e = p.0 in omega (arith, ints))
+    (λ (p : (floor ≡ neg_ℤ (pos (start.limits.slots - start.made))) × (at ≤ℤ floor)). let e =
+    p.0 in omega (arith, ints)) which in
     let a = asked_at-is (top start) at below in
     let g = asked_at-is (top start) floor floor_in in
     let asked_is : asked_at (top start) at ≡ asked = omega (arith, ints) in
     let given : ℕ = asked_at (top start) floor in
     let cases : (given ≡ asked) ⊎ (given ≡ length start.pool) = ⊎_elim
-    (λ (p : (floor ≡ at) × (neg_ℤ (pos (start.limits.slots - start.made)) ≤ℤ at)). inl (ap (asked_at (top start)) p.0 ∙ asked_is))
-    (λ (p : (floor ≡ neg_ℤ (pos (start.limits.slots - start.made))) × (at ≤ℤ floor)). let e = p.0 in inr (omega (arith, ints))) which in
-    let le : given ≤ asked = ⊎_elim (λ (p : (floor ≡ at) × (neg_ℤ (pos (start.limits.slots - start.made)) ≤ℤ at)). let e = p.0 in omega (arith, ints)) (λ (p : (floor ≡ neg_ℤ (pos (start.limits.slots - start.made))) × (at ≤ℤ floor)). let e = p.0 in let l = p.1 in omega (arith, ints)) which in
+    (λ (p : (floor ≡ at) × (neg_ℤ (pos (start.limits.slots - start.made)) ≤ℤ at)).
+    inl (ap (asked_at (top start)) p.0 ∙ asked_is))
+    (λ (p : (floor ≡ neg_ℤ (pos (start.limits.slots - start.made))) × (at ≤ℤ floor)). let e = p.0 in
+    inr (omega (arith, ints))) which in
+    let le : given
+    ≤ asked = ⊎_elim
+    (λ (p : (floor ≡ at) × (neg_ℤ (pos (start.limits.slots - start.made)) ≤ℤ at)). let e =
+    p.0 in omega (arith, ints)) (λ (p : (floor ≡ neg_ℤ (pos (start.limits.slots - start.made)))
+    × (at ≤ℤ floor)). let e = p.0 in let l = p.1 in omega (arith, ints)) which in
     let P : Handle → Type 0 = Contains (take asked start.pool) in
-    let W : Reservation → Type 0 = λ (c : Reservation). asked_at (top start) c.high + c.requested ≤ asked in
-    let log_within : All W k.log = (reservations_within start (cursor start) k.log at asked (omega (arith, ints)) within k.follow).0 in
+    let W : Reservation → Type 0 = λ (c : Reservation). asked_at (top start) c.high + c.requested
+    ≤ asked in
+    let log_within : All W k.log = (reservations_within start (cursor start) k.log at asked
+    (omega (arith, ints)) within k.follow).0 in
     record {
       asked = asked;
       some_asked = k.some requested;
       all_asked = λ all_here. k.all all_here requested;
       most_asked = k.credit;
-      reached = All-weaker (IsKept start at k.log) (λ (r : Record). cursor (after_loss start asked) ≤ℤ r.mark)
-          (λ r kept. let mark = kept.marks.mark in let left = cursor-loss start sound flushed asked in omega (arith, ints)) records k.each;
-      whole = λ all_here. (let left = cursor-loss start sound flushed asked in let other = final_cursor start count records at k sound flushed all_here in omega (arith, ints));
+      reached = All-weaker (IsKept start at k.log) (λ (r : Record). cursor (after_loss start asked)
+          ≤ℤ r.mark)
+          (λ r kept. let mark = kept.marks.mark in let left = cursor-loss start sound flushed asked
+          in omega (arith, ints)) records k.each;
+      whole = λ all_here. (let left = cursor-loss start sound flushed asked in let other =
+          final_cursor start count records at k sound flushed all_here in omega (arith, ints));
       least = cursor_least start count records at k sound flushed few;
       greatest = floor_in;
-      all_given = λ room. ⊎_elim (λ (p : (floor ≡ at) × (neg_ℤ (pos (start.limits.slots - start.made)) ≤ℤ at)). p.0) (λ (p : (floor ≡ neg_ℤ (pos (start.limits.slots - start.made))) × (at ≤ℤ floor)). let e = p.0 in let l = p.1 in omega (arith, ints)) which;
+      all_given = λ room.
+          ⊎_elim (λ (p : (floor ≡ at) × (neg_ℤ (pos (start.limits.slots - start.made)) ≤ℤ at)). p.0)
+          (λ (p : (floor ≡ neg_ℤ (pos (start.limits.slots - start.made))) × (at ≤ℤ floor)). let e =
+          p.0 in let l = p.1 in omega (arith, ints)) which;
       after = ap (settled start given) asked_is ∙ loss_is start sound flushed given asked le cases;
-      given = All-weaker (IsKept start at k.log) (λ (r : Record). All P (handles_of (own_reservations r.entries)))
+      given = All-weaker (IsKept start at k.log)
+          (λ (r : Record). All P (handles_of (own_reservations r.entries)))
           (λ r kept.
-          let own : All (Contains k.log) (own_reservations r.entries) = all_own (Contains k.log) r.entries kept.marks.known in
-          subst (λ (xs : List Handle). All (Contains (take asked xs)) (handles_of (own_reservations r.entries))) (all_pool start sound flushed)
+          let own : All (Contains k.log) (own_reservations r.entries) = all_own (Contains k.log)
+          r.entries kept.marks.known in
+          subst (λ (xs : List Handle). All (Contains (take asked xs))
+          (handles_of (own_reservations r.entries))) (all_pool start sound flushed)
           (reservations_contain start asked (own_reservations r.entries)
-          (All-weaker (Contains k.log) (IsAnswered start) (λ c inside. All-contains (IsAnswered start) k.log c k.answered inside) (own_reservations r.entries) own)
-          (All-weaker (Contains k.log) W (λ c inside. All-contains W k.log c log_within inside) (own_reservations r.entries) own)))
+          (All-weaker (Contains k.log) (IsAnswered start)
+          (λ c inside. All-contains (IsAnswered start) k.log c k.answered inside)
+          (own_reservations r.entries) own)
+          (All-weaker (Contains k.log) W (λ c inside. All-contains W k.log c log_within inside)
+          (own_reservations r.entries) own)))
           records k.each;
     }
 
-pub lost : (here start : Allocator) (n count room : ℕ) (key : Opening) (records : List Record) (at floor roomed : ℤ) → IsStart here → IsSound here → n ≤ 1024 → key ≡ record { entities = here; count = n }
-    → here ≡ start → n ≡ count → IsClosed key.entities key.count records at → room ≡ here.limits.slots - here.made → room < 2 ^ 32 → roomed ≡ pos room
-    → floor ≡ int_max (to_z w64 (of_z w64 at)) (to_z w64 (of_z w64 (pos 0 -ℤ to_z w64 (of_z w64 roomed))))
+pub lost : (here start : Allocator) (n count room : ℕ) (key : Opening) (records : List Record)
+    (at floor roomed : ℤ) → IsStart here → IsSound here → n ≤ 1024 → key
+    ≡ record { entities = here; count = n }
+    → here ≡ start → n ≡ count → IsClosed key.entities key.count records at → room
+    ≡ here.limits.slots - here.made → room < 2 ^ 32 → roomed ≡ pos room
+    → floor ≡ int_max (to_z w64 (of_z w64 at))
+    (to_z w64 (of_z w64 (pos 0 -ℤ to_z w64 (of_z w64 roomed))))
     → Lost here start count records (to_z w64 (of_z w64 at)) (to_z w64 (of_z w64 floor))
-lost here start n count room key records at floor roomed begins sound few key_is here_is n_is closed room_is room_small roomed_is floor_is =
+lost here start n count room key records at floor roomed begins sound few key_is here_is n_is closed
+    room_is room_small roomed_is floor_is =
     let small = begins.top in
     let flushed = begins.flushed in
-    let k : IsClosed here n records at = subst (λ (o : Opening). IsClosed o.entities o.count records at) key_is closed in
+    let k : IsClosed here n records at = subst (λ (o : Opening). IsClosed o.entities o.count records
+    at) key_is closed in
     let least = cursor_least here n records at k sound flushed few in
     let greatest = cursor_greatest here n records at k sound flushed in
     let end : ℤ = neg_ℤ (pos (here.limits.slots - here.made)) in
     let at_word : to_z w64 (of_z w64 at) ≡ at = in_word (top here) at small least greatest in
-    let end_word : to_z w64 (of_z w64 (pos 0 -ℤ to_z w64 (of_z w64 roomed))) ≡ end = omega (arith, ints) in
+    let end_word : to_z w64 (of_z w64 (pos 0 -ℤ to_z w64 (of_z w64 roomed)))
+    ≡ end = omega (arith, ints) in
     let max_is : floor ≡ int_max at end = floor_is ∙ (λ i. int_max (at_word i) (end_word i)) in
-    let which : (floor ≡ at) × (end ≤ℤ at) ⊎ (floor ≡ end) × (at ≤ℤ floor) = by_lt_z {P = (floor ≡ at) × (end ≤ℤ at) ⊎ (floor ≡ end) × (at ≤ℤ floor)} at end
-    (λ less. let is : floor ≡ end = max_is ∙ max_right at end (omega (arith, ints)) in inr (is, omega (arith, ints)))
+    let which : (floor ≡ at) × (end ≤ℤ at) ⊎ (floor ≡ end) × (at ≤ℤ floor) =
+    by_lt_z {P = (floor ≡ at) × (end ≤ℤ at) ⊎ (floor ≡ end) × (at ≤ℤ floor)} at end
+    (λ less. let is : floor ≡ end = max_is ∙ max_right at end (omega (arith, ints)) in
+    inr (is, omega (arith, ints)))
     (λ more. inl (max_is ∙ max_left at end more, more)) in
-    let floor_word : to_z w64 (of_z w64 floor) ≡ floor = ⊎_elim (λ (p : (floor ≡ at) × (end ≤ℤ at)). let e = p.0 in omega (arith, ints)) (λ (p : (floor ≡ end) × (at ≤ℤ floor)). let e = p.0 in omega (arith, ints)) which in
-    subst (λ (x : Allocator × ℕ × ℤ × ℤ). Lost here x.0 x.1 records x.2 x.3) (λ i. (here_is i, n_is i, sym at_word i, sym floor_word i)) (lost_at here n records at floor sound flushed few k which)
+    let floor_word : to_z w64 (of_z w64 floor) ≡ floor = ⊎_elim (λ (p : (floor ≡ at) × (end ≤ℤ at)).
+    let e = p.0 in omega (arith, ints)) (λ (p : (floor ≡ end) × (at ≤ℤ floor)). let e = p.0 in
+    omega (arith, ints)) which in
+    subst (λ (x : Allocator × ℕ × ℤ × ℤ). Lost here x.0 x.1 records x.2 x.3)
+    (λ i. (here_is i, n_is i, sym at_word i, sym floor_word i))
+    (lost_at here n records at floor sound flushed few k which)

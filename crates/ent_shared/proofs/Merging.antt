@@ -11,16 +11,22 @@ use Rattle.ent_shared.specs.Rule.{least_floor}
 use Rattle.ent_shared.proofs.Records.{all_back}
 use Rattle.ent_shared.proofs.Settling.{least_floor-more}
 
-pub item_is : (P : Reserver → Type 0) (items yielded now rest : List Reserver) (r : Reserver) → yielded ++ now ≡ items → now ≡ r ∷ rest → All P items → P r
+pub item_is : (P : Reserver → Type 0) (items yielded now rest : List Reserver) (r : Reserver)
+    → yielded ++ now ≡ items → now ≡ r ∷ rest → All P items → P r
 item_is P items yielded now rest r all first holds =
-    let whole : yielded ++ r ∷ rest ≡ items = ap (λ (xs : List Reserver). yielded ++ xs) (sym first) ∙ all in
+    let whole : yielded ++ r ∷ rest ≡ items = ap (λ (xs : List Reserver). yielded ++ xs) (sym first)
+    ∙ all in
     All-head P r rest (all_back P yielded (r ∷ rest) (subst (All P) (sym whole) holds))
 
-pub items_on : (items yielded now rest : List Reserver) (r : Reserver) → yielded ++ now ≡ items → now ≡ r ∷ rest → (yielded ++ r ∷ []) ++ rest ≡ items
-items_on items yielded now rest r all first = append_assoc yielded (r ∷ []) rest ∙ (ap (λ (xs : List Reserver). yielded ++ xs) (sym first) ∙ all)
+pub items_on : (items yielded now rest : List Reserver) (r : Reserver) → yielded ++ now ≡ items
+    → now ≡ r ∷ rest → (yielded ++ r ∷ []) ++ rest ≡ items
+items_on items yielded now rest r all first = append_assoc yielded (r ∷ []) rest
+    ∙ (ap (λ (xs : List Reserver). yielded ++ xs) (sym first) ∙ all)
 
-pub items_all : (items yielded now : List Reserver) → yielded ++ now ≡ items → now ≡ [] → yielded ≡ items
-items_all items yielded now all none_left = sym (append-nil yielded) ∙ (ap (λ (xs : List Reserver). yielded ++ xs) (sym none_left) ∙ all)
+pub items_all : (items yielded now : List Reserver) → yielded ++ now ≡ items → now ≡ [] → yielded
+    ≡ items
+items_all items yielded now all none_left = sym (append-nil yielded)
+    ∙ (ap (λ (xs : List Reserver). yielded ++ xs) (sym none_left) ∙ all)
 
 pub nothing_left : (rs : List Reserver) → length rs ≡ 0 → rs ≡ []
 nothing_left [] e = refl
@@ -30,22 +36,34 @@ pub length-records_of : (rs : List Reserver) → length (records_of rs) ≡ leng
 length-records_of [] = refl
 length-records_of (r ∷ rs) = ap suc (length-records_of rs)
 
-pub sum_by-records_of : (f : Record → ℕ) (rs : List Reserver) → sum_by f (records_of rs) ≡ sum_by (λ (r : Reserver). f r.own) rs
+pub sum_by-records_of : (f : Record → ℕ) (rs : List Reserver) → sum_by f (records_of rs)
+    ≡ sum_by (λ (r : Reserver). f r.own) rs
 sum_by-records_of f [] = refl
-sum_by-records_of f (r ∷ rs) = sum_by-cons f r.own (records_of rs) ∙ (ap (λ (n : ℕ). f r.own + n) (sum_by-records_of f rs) ∙ sym (sum_by-cons (λ (x : Reserver). f x.own) r rs))
+sum_by-records_of f (r ∷ rs) = sum_by-cons f r.own (records_of rs)
+    ∙ (ap (λ (n : ℕ). f r.own + n) (sum_by-records_of f rs)
+    ∙ sym (sum_by-cons (λ (x : Reserver). f x.own) r rs))
 
-records_of-append : (rs : List Reserver) (r : Reserver) → records_of (rs ++ r ∷ []) ≡ records_of rs ++ r.own ∷ []
+records_of-append : (rs : List Reserver) (r : Reserver) → records_of (rs ++ r ∷ []) ≡ records_of rs
+    ++ r.own ∷ []
 records_of-append [] r = refl
 records_of-append (x ∷ rs) r = ap (λ xs. x.own ∷ xs) (records_of-append rs r)
 
-pub records_on : (before after : List Record) (yielded : List Reserver) (r : Reserver) (records : List Record) → before ≡ records_of yielded → after ≡ before ++ records → records ≡ r.own ∷ [] → after ≡ records_of (yielded ++ r ∷ [])
-records_on before after yielded r records was now one = now ∙ ((λ i. was i ++ one i) ∙ sym (records_of-append yielded r))
+pub records_on : (before after : List Record) (yielded : List Reserver) (r : Reserver)
+    (records : List Record) → before ≡ records_of yielded → after ≡ before ++ records → records
+    ≡ r.own ∷ [] → after ≡ records_of (yielded ++ r ∷ [])
+records_on before after yielded r records was now one = now
+    ∙ ((λ i. was i ++ one i) ∙ sym (records_of-append yielded r))
 
-pub floor_on : (top before after own : ℤ) (yielded : List Reserver) (r : Reserver) → before ≡ least_floor top (records_of yielded) → after ≡ int_min before own → own ≡ r.own.floor → after ≡ least_floor top (records_of (yielded ++ r ∷ []))
+pub floor_on : (top before after own : ℤ) (yielded : List Reserver) (r : Reserver) → before
+    ≡ least_floor top (records_of yielded) → after ≡ int_min before own → own ≡ r.own.floor → after
+    ≡ least_floor top (records_of (yielded ++ r ∷ []))
 floor_on top before after own yielded r was now is =
-    now ∙ ((λ i. int_min (was i) (is i)) ∙ (sym (least_floor-more top (records_of yielded) r.own) ∙ ap (least_floor top) (sym (records_of-append yielded r))))
+    now ∙ ((λ i. int_min (was i) (is i)) ∙ (sym (least_floor-more top (records_of yielded) r.own)
+    ∙ ap (least_floor top) (sym (records_of-append yielded r))))
 
 -- what holds of all records holds of the reservers that have them
-pub all_owners : (P : Record → Type 0) (rs : List Reserver) → All P (records_of rs) → All (λ (r : Reserver). P r.own) rs
+pub all_owners : (P : Record → Type 0) (rs : List Reserver) → All P (records_of rs)
+    → All (λ (r : Reserver). P r.own) rs
 all_owners P [] all = All-nil (λ (r : Reserver). P r.own)
-all_owners P (r ∷ rs) all = All-cons (λ (x : Reserver). P x.own) r rs (All-head P r.own (records_of rs) all) (all_owners P rs (All-tail P r.own (records_of rs) all))
+all_owners P (r ∷ rs) all = All-cons (λ (x : Reserver). P x.own) r rs
+    (All-head P r.own (records_of rs) all) (all_owners P rs (All-tail P r.own (records_of rs) all))

@@ -22,7 +22,8 @@ use Rattle.ent_shared.specs.Rule.{floor_after, floor_of, InOrder, IsKept}
 module _ {X : Type 0} (P : X → Type 0) where
   pub all_front : (xs ys : List X) → All P (xs ++ ys) → All P xs
   all_front [] ys all = All-nil P
-  all_front (x ∷ xs) ys all = All-cons P x xs (All-head P x (xs ++ ys) all) (all_front xs ys (All-tail P x (xs ++ ys) all))
+  all_front (x ∷ xs) ys all = All-cons P x xs (All-head P x (xs ++ ys) all)
+      (all_front xs ys (All-tail P x (xs ++ ys) all))
 
   pub all_back : (xs ys : List X) → All P (xs ++ ys) → All P ys
   all_back [] ys all = all
@@ -31,82 +32,120 @@ module _ {X : Type 0} (P : X → Type 0) where
   pub all_one : (x : X) → P x → All P (x ∷ [])
   all_one x p = All-cons P x [] p (All-nil P)
 
-pub own-made : (es : List RecordEntry) (c : Reservation) → own_reservations (es ++ Own c ∷ []) ≡ own_reservations es ++ c ∷ []
+pub own-made : (es : List RecordEntry) (c : Reservation) → own_reservations (es ++ Own c ∷ [])
+    ≡ own_reservations es ++ c ∷ []
 own-made [] c = refl
 own-made (Own d ∷ es) c = ap (λ ds. d ∷ ds) (own-made es c)
 own-made (Met ds ∷ es) c = own-made es c
 
-pub own-met : (es : List RecordEntry) (cs : List Reservation) → own_reservations (es ++ Met cs ∷ []) ≡ own_reservations es
+pub own-met : (es : List RecordEntry) (cs : List Reservation) → own_reservations (es ++ Met cs ∷ [])
+    ≡ own_reservations es
 own-met [] cs = refl
 own-met (Own d ∷ es) cs = ap (λ ds. d ∷ ds) (own-met es cs)
 own-met (Met ds ∷ es) cs = own-met es cs
 
-pub known-more : (es : List RecordEntry) (e : RecordEntry) → known_reservations (es ++ e ∷ []) ≡ known_reservations es ++ reservations_in e
+pub known-more : (es : List RecordEntry) (e : RecordEntry) → known_reservations (es ++ e ∷ [])
+    ≡ known_reservations es ++ reservations_in e
 known-more [] e = append-nil (reservations_in e)
-known-more (d ∷ es) e = ap (λ cs. reservations_in d ++ cs) (known-more es e) ∙ sym (append_assoc (reservations_in d) (known_reservations es) (reservations_in e))
+known-more (d ∷ es) e = ap (λ cs. reservations_in d ++ cs) (known-more es e)
+    ∙ sym (append_assoc (reservations_in d) (known_reservations es) (reservations_in e))
 
 -- how much a reserver has requested after a reservation and after a meeting
-pub requested-reserved : (r : Record) (high : ℤ) (n : ℕ) → requested_by (after_reservation r high n) ≡ requested_by r + n
+pub requested-reserved : (r : Record) (high : ℤ) (n : ℕ) → requested_by (after_reservation r high n)
+    ≡ requested_by r + n
 requested-reserved r high n =
     let f : Reservation → ℕ = λ (c : Reservation). c.requested in
     let c : Reservation = reservation_at r high n in
     let own : List Reservation = own_reservations r.entries in
-    let sums : sum_by f (own ++ c ∷ []) ≡ sum_by f own + sum_by f (c ∷ []) = sum_by-append f own (c ∷ []) in
+    let sums : sum_by f (own ++ c ∷ []) ≡ sum_by f own + sum_by f (c ∷ []) = sum_by-append f own
+    (c ∷ []) in
     let one : sum_by f (c ∷ []) ≡ n = sum_by-cons f c [] ∙ add-zero n in
     ap (sum_by f) (own-made r.entries c) ∙ (sums ∙ ap (λ (k : ℕ). sum_by f own + k) one)
 
 pub requested-met : (r met : Record) → requested_by (after_meeting r met) ≡ requested_by r
-requested-met r met = ap (sum_by (λ (c : Reservation). c.requested)) (own-met r.entries (known_reservations met.entries))
+requested-met r met = ap (sum_by (λ (c : Reservation). c.requested))
+    (own-met r.entries (known_reservations met.entries))
 
-pub credit-reserved : (r : Record) (high : ℤ) (n : ℕ) → n ≤ r.left → r.left + requested_by r ≡ credit → (after_reservation r high n).left + requested_by (after_reservation r high n) ≡ credit
+pub credit-reserved : (r : Record) (high : ℤ) (n : ℕ) → n ≤ r.left → r.left + requested_by r
+    ≡ credit → (after_reservation r high n).left + requested_by (after_reservation r high n)
+    ≡ credit
 credit-reserved r high n within adds_up = let more = requested-reserved r high n in omega arith
 
-pub credit-met : (r met : Record) → r.left + requested_by r ≡ credit → (after_meeting r met).left + requested_by (after_meeting r met) ≡ credit
+pub credit-met : (r met : Record) → r.left + requested_by r ≡ credit → (after_meeting r met).left
+    + requested_by (after_meeting r met) ≡ credit
 credit-met r met adds_up = ap (λ (k : ℕ). r.left + k) (requested-met r met) ∙ adds_up
 
 -- own reservations are known
-pub all_own : (P : Reservation → Type 0) (es : List RecordEntry) → All P (known_reservations es) → All P (own_reservations es)
+pub all_own : (P : Reservation → Type 0) (es : List RecordEntry) → All P (known_reservations es)
+    → All P (own_reservations es)
 all_own P [] all = All-nil P
-all_own P (Own c ∷ es) all = All-cons P c (own_reservations es) (All-head P c (known_reservations es) all) (all_own P es (All-tail P c (known_reservations es) all))
+all_own P (Own c ∷ es) all = All-cons P c (own_reservations es)
+    (All-head P c (known_reservations es) all)
+    (all_own P es (All-tail P c (known_reservations es) all))
 all_own P (Met cs ∷ es) all = all_own P es (all_back P cs (known_reservations es) all)
 
 -- a reservation after all others
-pub order-made : (es : List RecordEntry) (c : Reservation) → InOrder es → All (λ (d : Reservation). c.high ≤ℤ low d) (known_reservations es) → InOrder (es ++ Own c ∷ [])
-order-made [] c order below = (All-nil (λ (later : Reservation). All (λ (earlier : Reservation). later.high ≤ℤ low earlier) (c ∷ [])), tt)
+pub order-made : (es : List RecordEntry) (c : Reservation) → InOrder es
+    → All (λ (d : Reservation). c.high ≤ℤ low d) (known_reservations es)
+    → InOrder (es ++ Own c ∷ [])
+order-made [] c order below = (
+  All-nil (λ (later : Reservation). All (λ (earlier : Reservation). later.high ≤ℤ low earlier)
+      (c ∷ [])),
+  tt,
+)
 order-made (e ∷ es) c order below =
     let P : Reservation → Type 0 = λ (d : Reservation). c.high ≤ℤ low d in
-    let Q : Reservation → Type 0 = λ (later : Reservation). All (λ (earlier : Reservation). later.high ≤ℤ low earlier) (reservations_in e) in (
-      subst (All Q) (sym (own-made es c)) (All-append Q (own_reservations es) (c ∷ []) order.0 (all_one Q c (all_front P (reservations_in e) (known_reservations es) below))),
+    let Q : Reservation → Type 0 = λ (later : Reservation).
+    All (λ (earlier : Reservation). later.high ≤ℤ low earlier) (reservations_in e) in (
+      subst (All Q) (sym (own-made es c)) (All-append Q (own_reservations es) (c ∷ []) order.0
+          (all_one Q c (all_front P (reservations_in e) (known_reservations es) below))),
       order-made es c order.1 (all_back P (reservations_in e) (known_reservations es) below),
     )
 
-pub order-met : (es : List RecordEntry) (cs : List Reservation) → InOrder es → InOrder (es ++ Met cs ∷ [])
-order-met [] cs order = (All-nil (λ (later : Reservation). All (λ (earlier : Reservation). later.high ≤ℤ low earlier) cs), tt)
-order-met (e ∷ es) cs order =
-    (subst (All (λ (later : Reservation). All (λ (earlier : Reservation). later.high ≤ℤ low earlier) (reservations_in e))) (sym (own-met es cs)) order.0, order-met es cs order.1)
+pub order-met : (es : List RecordEntry) (cs : List Reservation) → InOrder es
+    → InOrder (es ++ Met cs ∷ [])
+order-met [] cs order = (
+  All-nil (λ (later : Reservation). All (λ (earlier : Reservation). later.high ≤ℤ low earlier)
+      cs),
+  tt,
+)
+order-met (e ∷ es) cs order = (
+  subst (All (λ (later : Reservation). All (λ (earlier : Reservation). later.high ≤ℤ low earlier)
+      (reservations_in e))) (sym (own-met es cs)) order.0,
+  order-met es cs order.1,
+)
 
 -- the least of a reservation that is lower than all others
-lower_first : (a b c : ℤ) (served : Bool) → b ≤ℤ a → int_min a (cond served b c) ≡ cond served b (int_min a c)
+lower_first : (a b c : ℤ) (served : Bool) → b ≤ℤ a → int_min a (cond served b c)
+    ≡ cond served b (int_min a c)
 lower_first a b c true le = grind (arith, ints)
 lower_first a b c false le = refl
 
-least_after : (start : Allocator) (at : ℤ) (c : Reservation) → at ≤ℤ low c → at ≤ℤ cursor start → at ≤ℤ floor_after start c
-least_after start at c le top = elim (nat_le c.requested (length (pool_at start c.high))) as (λ b. at ≤ℤ cond b (low c) (cursor start)) [ true ↦ le | false ↦ top ]
+least_after : (start : Allocator) (at : ℤ) (c : Reservation) → at ≤ℤ low c → at ≤ℤ cursor start
+    → at ≤ℤ floor_after start c
+least_after start at c le top = elim (nat_le c.requested (length (pool_at start c.high))) as
+    (λ b. at ≤ℤ cond b (low c) (cursor start)) [ true ↦ le | false ↦ top ]
 
-pub floor-made : (start : Allocator) (cs : List Reservation) (c : Reservation) → All (λ (d : Reservation). low c ≤ℤ low d) cs → low c ≤ℤ cursor start
-    → floor_of start (cs ++ c ∷ []) ≡ cond (nat_le c.requested (length (pool_at start c.high))) (low c) (floor_of start cs)
-floor-made start [] c below top = elim (nat_le c.requested (length (pool_at start c.high))) as (λ b. int_min (cond b (low c) (cursor start)) (cursor start) ≡ cond b (low c) (cursor start)) [
-  | true ↦ grind (arith, ints)
-  | false ↦ grind (arith, ints)
-]
+pub floor-made : (start : Allocator) (cs : List Reservation) (c : Reservation)
+    → All (λ (d : Reservation). low c ≤ℤ low d) cs → low c ≤ℤ cursor start
+    → floor_of start (cs ++ c ∷ []) ≡ cond (nat_le c.requested (length (pool_at start c.high)))
+    (low c) (floor_of start cs)
+floor-made start [] c below top = elim (nat_le c.requested (length (pool_at start c.high))) as
+    (λ b. int_min (cond b (low c) (cursor start)) (cursor start) ≡ cond b (low c) (cursor start)) [
+      | true ↦ grind (arith, ints)
+      | false ↦ grind (arith, ints)
+    ]
 floor-made start (d ∷ cs) c below top =
     let P : Reservation → Type 0 = λ (e : Reservation). low c ≤ℤ low e in
     let rest = floor-made start cs c (All-tail P d cs below) top in
     ap (int_min (floor_after start d)) rest
-    ∙ lower_first (floor_after start d) (low c) (floor_of start cs) (nat_le c.requested (length (pool_at start c.high))) (least_after start (low c) d (All-head P d cs below) top)
+    ∙ lower_first (floor_after start d) (low c) (floor_of start cs)
+    (nat_le c.requested (length (pool_at start c.high)))
+    (least_after start (low c) d (All-head P d cs below) top)
 
 -- a record stays kept while the cursor goes down and the log grows
-pub kept_on : (start : Allocator) (at now : ℤ) (log more : List Reservation) (r : Record) → now ≤ℤ at → IsKept start at log r → IsKept start now (log ++ more) r
+pub kept_on : (start : Allocator) (at now : ℤ) (log more : List Reservation) (r : Record)
+    → now ≤ℤ at → IsKept start at log r → IsKept start now (log ++ more) r
 kept_on start at now log more r le k = record {
   start_is = k.start_is;
   caller = k.caller;
@@ -115,11 +154,13 @@ kept_on start at now log more r le k = record {
     mark = (let m = k.marks.mark in omega (arith, ints));
     below = k.marks.below;
     order = k.marks.order;
-    known = All-weaker (Contains log) (Contains (log ++ more)) (λ c h. Contains-append_left log more c h) (known_reservations r.entries) k.marks.known;
+    known = All-weaker (Contains log) (Contains (log ++ more)) (λ c h. Contains-append_left log more
+        c h) (known_reservations r.entries) k.marks.known;
   };
 }
 
-pub kept_reserved : (start : Allocator) (at : ℤ) (log : List Reservation) (n : ℕ) (r : Record) → n ≤ r.left → at ≤ℤ cursor start → IsKept start at log r
+pub kept_reserved : (start : Allocator) (at : ℤ) (log : List Reservation) (n : ℕ) (r : Record) → n
+    ≤ r.left → at ≤ℤ cursor start → IsKept start at log r
     → IsKept start (at -ℤ pos n) (log ++ reservation_at r at n ∷ []) (after_reservation r at n)
 kept_reserved start at log n r within top k =
     let c : Reservation = reservation_at r at n in
@@ -127,12 +168,16 @@ kept_reserved start at log n r within top k =
     let own : List Reservation = own_reservations es in
     let mark = k.marks.mark in
     let P : Reservation → Type 0 = λ (d : Reservation). at ≤ℤ low d in
-    let below : All P (known_reservations es) = All-weaker (λ (d : Reservation). r.mark ≤ℤ low d) P (λ d h. omega (arith, ints)) (known_reservations es) k.marks.below in
+    let below : All P (known_reservations es) = All-weaker (λ (d : Reservation). r.mark ≤ℤ low d) P
+    (λ d h. omega (arith, ints)) (known_reservations es) k.marks.below in
     let Q : Reservation → Type 0 = λ (d : Reservation). (at -ℤ pos n) ≤ℤ low d in
-    let lower : All Q (known_reservations es) = All-weaker P Q (λ d h. omega (arith, ints)) (known_reservations es) below in
+    let lower : All Q (known_reservations es) = All-weaker P Q (λ d h. omega (arith, ints))
+    (known_reservations es) below in
     record {
       start_is = k.start_is;
-      caller = subst (All (λ (d : Reservation). d.caller ≡ r.number)) (sym (own-made es c)) (All-append (λ (d : Reservation). d.caller ≡ r.number) own (c ∷ []) k.caller (all_one (λ (d : Reservation). d.caller ≡ r.number) c refl));
+      caller = subst (All (λ (d : Reservation). d.caller ≡ r.number)) (sym (own-made es c))
+          (All-append (λ (d : Reservation). d.caller ≡ r.number) own (c ∷ []) k.caller
+          (all_one (λ (d : Reservation). d.caller ≡ r.number) c refl));
       credit = record {
         credit = credit-reserved r at n within k.credit.credit;
         floor =
@@ -141,15 +186,20 @@ kept_reserved start at log n r within top k =
       };
       marks = record {
         mark = omega (arith, ints);
-        below = subst (All Q) (sym (known-more es (Own c))) (All-append Q (known_reservations es) (c ∷ []) lower (all_one Q c (omega (arith, ints))));
+        below = subst (All Q) (sym (known-more es (Own c))) (All-append Q (known_reservations es)
+            (c ∷ []) lower (all_one Q c (omega (arith, ints))));
         order = order-made es c k.marks.order below;
         known = subst (All (Contains (log ++ c ∷ []))) (sym (known-more es (Own c)))
-            (All-append (Contains (log ++ c ∷ [])) (known_reservations es) (c ∷ []) (All-weaker (Contains log) (Contains (log ++ c ∷ [])) (λ d h. Contains-append_left log (c ∷ []) d h) (known_reservations es) k.marks.known)
+            (All-append (Contains (log ++ c ∷ [])) (known_reservations es) (c ∷ [])
+            (All-weaker (Contains log) (Contains (log ++ c ∷ []))
+            (λ d h. Contains-append_left log (c ∷ []) d h) (known_reservations es)
+            k.marks.known)
             (all_one (Contains (log ++ c ∷ [])) c (Contains-push log c)));
       };
     }
 
-pub kept_met : (start : Allocator) (at : ℤ) (log : List Reservation) (r met : Record) → IsKept start at log r → IsKept start at log met → IsKept start at log (after_meeting r met)
+pub kept_met : (start : Allocator) (at : ℤ) (log : List Reservation) (r met : Record)
+    → IsKept start at log r → IsKept start at log met → IsKept start at log (after_meeting r met)
 kept_met start at log r met k m =
     let es : List RecordEntry = r.entries in
     let cs : List Reservation = known_reservations met.entries in
@@ -159,37 +209,57 @@ kept_met start at log r met k m =
     let P : Reservation → Type 0 = λ (d : Reservation). int_min r.mark met.mark ≤ℤ low d in
     record {
       start_is = k.start_is;
-      caller = subst (All (λ (d : Reservation). d.caller ≡ r.number)) (sym (own-met es cs)) k.caller;
+      caller = subst (All (λ (d : Reservation). d.caller ≡ r.number)) (sym (own-met es cs))
+          k.caller;
       credit = record {
         credit = credit-met r met k.credit.credit;
         floor = rw (own-met es cs) k.credit.floor;
       };
       marks = record {
         mark = grind (arith, ints);
-        below = subst (All P) (sym (known-more es (Met cs))) (All-append P (known_reservations es) cs
-            (All-weaker (λ (d : Reservation). r.mark ≤ℤ low d) P (λ d h. grind (arith, ints)) (known_reservations es) k.marks.below)
-            (All-weaker (λ (d : Reservation). met.mark ≤ℤ low d) P (λ d h. grind (arith, ints)) cs m.marks.below));
+        below = subst (All P) (sym (known-more es (Met cs))) (All-append P (known_reservations es)
+            cs
+            (All-weaker (λ (d : Reservation). r.mark ≤ℤ low d) P (λ d h. grind (arith, ints))
+            (known_reservations es) k.marks.below)
+            (All-weaker (λ (d : Reservation). met.mark ≤ℤ low d) P (λ d h. grind (arith, ints)) cs
+            m.marks.below));
         order = order-met es cs k.marks.order;
-        known = subst (All (Contains log)) (sym (known-more es (Met cs))) (All-append (Contains log) (known_reservations es) cs k.marks.known m.marks.known);
+        known = subst (All (Contains log)) (sym (known-more es (Met cs)))
+            (All-append (Contains log) (known_reservations es) cs k.marks.known m.marks.known);
       };
     }
 
 -- a record's mark is below every reservation that it knows, after a reservation and after a meeting
-pub below_reservation : (r : Record) (high : ℤ) (n : ℕ) → All (λ (c : Reservation). r.mark ≤ℤ low c) (known_reservations r.entries) → high ≤ℤ r.mark
-    → All (λ (c : Reservation). (after_reservation r high n).mark ≤ℤ low c) (known_reservations (after_reservation r high n).entries)
+pub below_reservation : (r : Record) (high : ℤ) (n : ℕ) → All (λ (c : Reservation). r.mark ≤ℤ low c)
+    (known_reservations r.entries) → high ≤ℤ r.mark
+    → All (λ (c : Reservation). (after_reservation r high n).mark ≤ℤ low c)
+    (known_reservations (after_reservation r high n).entries)
 below_reservation r high n below le =
     let c : Reservation = reservation_at r high n in
     let Q : Reservation → Type 0 = λ (d : Reservation). (high -ℤ pos n) ≤ℤ low d in
-    let lower : All Q (known_reservations r.entries) = All-weaker (λ (d : Reservation). r.mark ≤ℤ low d) Q (λ d h. omega (arith, ints)) (known_reservations r.entries) below in
-    subst (All Q) (sym (known-more r.entries (Own c))) (All-append Q (known_reservations r.entries) (c ∷ []) lower (all_one Q c (omega (arith, ints))))
+    let lower : All Q (known_reservations r.entries) =
+    All-weaker (λ (d : Reservation). r.mark ≤ℤ low d) Q (λ d h. omega (arith, ints))
+    (known_reservations r.entries) below in
+    subst (All Q) (sym (known-more r.entries (Own c))) (All-append Q (known_reservations r.entries)
+    (c ∷ []) lower (all_one Q c (omega (arith, ints))))
 
-pub met_below : (r met : Record) → All (λ (c : Reservation). met.mark ≤ℤ low c) (known_reservations met.entries) → All (λ (c : Reservation). (after_meeting r met).mark ≤ℤ low c) (known_reservations met.entries)
-met_below r met theirs = All-weaker (λ (d : Reservation). met.mark ≤ℤ low d) (λ (d : Reservation). int_min r.mark met.mark ≤ℤ low d) (λ d h. grind (arith, ints)) (known_reservations met.entries) theirs
+pub met_below : (r met : Record) → All (λ (c : Reservation). met.mark ≤ℤ low c)
+    (known_reservations met.entries)
+    → All (λ (c : Reservation). (after_meeting r met).mark ≤ℤ low c)
+    (known_reservations met.entries)
+met_below r met theirs = All-weaker (λ (d : Reservation). met.mark ≤ℤ low d) (λ (d : Reservation).
+    int_min r.mark met.mark ≤ℤ low d) (λ d h. grind (arith, ints)) (known_reservations met.entries)
+    theirs
 
-pub below_meeting : (r met : Record) → All (λ (c : Reservation). r.mark ≤ℤ low c) (known_reservations r.entries) → All (λ (c : Reservation). met.mark ≤ℤ low c) (known_reservations met.entries)
-    → All (λ (c : Reservation). (after_meeting r met).mark ≤ℤ low c) (known_reservations (after_meeting r met).entries)
+pub below_meeting : (r met : Record) → All (λ (c : Reservation). r.mark ≤ℤ low c)
+    (known_reservations r.entries) → All (λ (c : Reservation). met.mark ≤ℤ low c)
+    (known_reservations met.entries)
+    → All (λ (c : Reservation). (after_meeting r met).mark ≤ℤ low c)
+    (known_reservations (after_meeting r met).entries)
 below_meeting r met mine theirs =
     let P : Reservation → Type 0 = λ (d : Reservation). int_min r.mark met.mark ≤ℤ low d in
-    subst (All P) (sym (known-more r.entries (Met (known_reservations met.entries)))) (All-append P (known_reservations r.entries) (known_reservations met.entries)
-    (All-weaker (λ (d : Reservation). r.mark ≤ℤ low d) P (λ d h. grind (arith, ints)) (known_reservations r.entries) mine)
+    subst (All P) (sym (known-more r.entries (Met (known_reservations met.entries))))
+    (All-append P (known_reservations r.entries) (known_reservations met.entries)
+    (All-weaker (λ (d : Reservation). r.mark ≤ℤ low d) P (λ d h. grind (arith, ints))
+    (known_reservations r.entries) mine)
     (met_below r met theirs))

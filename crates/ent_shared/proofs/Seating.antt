@@ -18,7 +18,9 @@ use Rattle.ent_shared.proofs.Answering.{recorded_reply}
 use Rattle.ent_shared.proofs.Laws.{given-reserved}
 use Rattle.ent_shared.proofs.Records.{below_reservation, below_meeting, credit-reserved, credit-met}
 
-pub seated_reservation : (views after : List (List Record)) (number left n : ℕ) (was high now : ℤ) → IsSeated views number left was → after ≡ (after_reservation (own_of views) high n ∷ []) ∷ [] → high ≤ℤ (own_of views).mark → n ≤ (own_of views).left
+pub seated_reservation : (views after : List (List Record)) (number left n : ℕ) (was high now : ℤ)
+    → IsSeated views number left was → after ≡ (after_reservation (own_of views) high n ∷ []) ∷ []
+    → high ≤ℤ (own_of views).mark → n ≤ (own_of views).left
     → now ≡ (after_reservation (own_of views) high n).floor → IsSeated after number (left - n) now
 seated_reservation views after number left n was high now seated is le within floor =
     subst (λ (vs : List (List Record)). IsSeated vs number (left - n) now) (sym is) (record {
@@ -30,8 +32,11 @@ seated_reservation views after number left n was high now seated is le within fl
       credit = credit-reserved (own_of views) high n within seated.credit;
     })
 
-pub seated_meeting : (views met after : List (List Record)) (number left met_number met_left : ℕ) (floor met_floor : ℤ) → IsSeated views number left floor → IsSeated met met_number met_left met_floor
-    → after ≡ (after_meeting (own_of views) (own_of met) ∷ []) ∷ [] → IsSeated after number left floor
+pub seated_meeting : (views met after : List (List Record)) (number left met_number met_left : ℕ)
+    (floor met_floor : ℤ) → IsSeated views number left floor → IsSeated met met_number met_left
+    met_floor
+    → after ≡ (after_meeting (own_of views) (own_of met) ∷ []) ∷ [] → IsSeated after number left
+    floor
 seated_meeting views met after number left met_number met_left floor met_floor seated other is =
     subst (λ (vs : List (List Record)). IsSeated vs number left floor) (sym is) (record {
       views_is = refl;
@@ -42,18 +47,40 @@ seated_meeting views met after number left met_number met_left floor met_floor s
       credit = credit-met (own_of views) (own_of met) seated.credit;
     })
 
-pub of_reserved : (shared : Shared) (r after : Reserver) (high : ℤ) (n : ℕ) → IsOf shared r → n ≤ r.own.left → after ≡ record r { own = after_reservation r.own high n } → IsOf shared after
-of_reserved shared r after high n of within is = subst (IsOf shared) (sym is) (record { word = of.word; start = of.start; number = of.number; credit = credit-reserved r.own high n within of.credit })
+pub of_reserved : (shared : Shared) (r after : Reserver) (high : ℤ) (n : ℕ) → IsOf shared r → n
+    ≤ r.own.left → after ≡ record r { own = after_reservation r.own high n } → IsOf shared after
+of_reserved shared r after high n of within is = subst (IsOf shared) (sym is)
+    (record {
+      word = of.word;
+      start = of.start;
+      number = of.number;
+      credit = credit-reserved r.own
+          high n within of.credit;
+    })
 
-pub of_met : (shared : Shared) (r met after : Reserver) → IsOf shared r → after ≡ record r { own = after_meeting r.own met.own } → IsOf shared after
-of_met shared r met after of is = subst (IsOf shared) (sym is) (record { word = of.word; start = of.start; number = of.number; credit = credit-met r.own met.own of.credit })
+pub of_met : (shared : Shared) (r met after : Reserver) → IsOf shared r → after
+    ≡ record r { own = after_meeting r.own met.own } → IsOf shared after
+of_met shared r met after of is = subst (IsOf shared) (sym is)
+    (record {
+      word = of.word;
+      start = of.start;
+      number = of.number;
+      credit =
+          credit-met r.own met.own of.credit;
+    })
 
 -- what a reserver was given before, and then what the reply lists
-pub given_now : (views after : List (List Record)) (old : Reserver) (word : TableId) (start : Allocator) (high : ℤ) (n : ℕ) (span : Span) (reply : Result (List Handle) Space)
-    → record { word = word; own = own_of views } ≡ old → after ≡ (after_reservation (own_of views) high n ∷ []) ∷ [] → old.own.start ≡ start → span ≡ record { high = high; low = high -ℤ pos n }
-    → ((k : ℕ) → span.low ≡ span.high -ℤ pos k → reply ≡ reply_from start.made (pool_at start span.high) k) → handles_given (own_of after) ≡ handles_given old.own ++ handles_in reply
+pub given_now : (views after : List (List Record)) (old : Reserver) (word : TableId)
+    (start : Allocator) (high : ℤ) (n : ℕ) (span : Span) (reply : Result (List Handle) Space)
+    → record { word = word; own = own_of views } ≡ old → after
+    ≡ (after_reservation (own_of views) high n ∷ []) ∷ [] → old.own.start ≡ start → span
+    ≡ record { high = high; low = high -ℤ pos n }
+    → ((k : ℕ) → span.low ≡ span.high -ℤ pos k → reply
+    ≡ reply_from start.made (pool_at start span.high) k) → handles_given (own_of after)
+    ≡ handles_given old.own ++ handles_in reply
 given_now views after old word start high n span reply view is same span_is answers =
     ap (λ (vs : List (List Record)). handles_given (own_of vs)) is
     ∙ (ap (λ (r : Reserver). handles_given (after_reservation r.own high n)) view
     ∙ (given-reserved old.own high n
-    ∙ ap (λ (x : Result (List Handle) Space). handles_given old.own ++ handles_in x) (recorded_reply old.own start high n span reply same span_is answers)))
+    ∙ ap (λ (x : Result (List Handle) Space). handles_given old.own ++ handles_in x)
+    (recorded_reply old.own start high n span reply same span_is answers)))

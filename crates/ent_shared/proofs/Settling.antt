@@ -43,22 +43,29 @@ top_later : (start s : Allocator) → IsLater start s → top s ≡ top start
 top_later start s l = λ i. length (filter (is_old (l.made_is i)) (l.available_is i))
 
 pool_later : (start s : Allocator) → IsLater start s → pool_at start (cursor s) ≡ s.pool
-pool_later start s l = (λ i. drop (asked_at (sym (top_later start s l) i) (cursor s)) (sym l.available_is i)) ∙ pool_at-cursor s l.sound
+pool_later start s l = (λ i. drop (asked_at (sym (top_later start s l) i) (cursor s))
+    (sym l.available_is i)) ∙ pool_at-cursor s l.sound
 
 -- the pool where a call's high is the cursor
-pool_there : (start s : Allocator) (c : Reservation) → IsLater start s → c.high ≡ cursor s → pool_at start c.high ≡ s.pool
+pool_there : (start s : Allocator) (c : Reservation) → IsLater start s → c.high ≡ cursor s
+    → pool_at start c.high ≡ s.pool
 pool_there start s c l at = ap (pool_at start) at ∙ pool_later start s l
 
-follow_on : (s : Allocator) (c : Reservation) (cs : List Reservation) (end : ℤ) → IsSound s → c.high ≡ cursor s → Follow (low c) cs end → Follow (cursor (after_take s c.requested)) cs end
-follow_on s c cs end sound at f = subst (λ (z : ℤ). Follow z cs end) (ap (λ (z : ℤ). z -ℤ pos c.requested) at ∙ sym (cursor-after_take s c.requested sound)) f
+follow_on : (s : Allocator) (c : Reservation) (cs : List Reservation) (end : ℤ) → IsSound s → c.high
+    ≡ cursor s → Follow (low c) cs end → Follow (cursor (after_take s c.requested)) cs end
+follow_on s c cs end sound at f = subst (λ (z : ℤ). Follow z cs end)
+    (ap (λ (z : ℤ). z -ℤ pos c.requested) at ∙ sym (cursor-after_take s c.requested sound)) f
 
-pub legal_from : (start s : Allocator) (cs : List Reservation) (end : ℤ) → IsLater start s → Follow (cursor s) cs end → All (IsAnswered start) cs → history.IsLegal s (map as_call cs)
+pub legal_from : (start s : Allocator) (cs : List Reservation) (end : ℤ) → IsLater start s
+    → Follow (cursor s) cs end → All (IsAnswered start) cs → history.IsLegal s (map as_call cs)
 legal_from start s [] end l f answered = tt
 legal_from start s (c ∷ cs) end l f answered =
-    let answer : c.reply ≡ reply_from start.made (pool_at start c.high) c.requested = All-head (IsAnswered start) c cs answered in (
+    let answer : c.reply ≡ reply_from start.made (pool_at start c.high) c.requested =
+    All-head (IsAnswered start) c cs answered in (
       f.1,
       answer ∙ (λ i. reply_from (sym l.made_is i) (pool_there start s c l f.0 i) c.requested),
-      legal_from start (after_take s c.requested) cs end (later_take start s c.requested l) (follow_on s c cs end l.sound f.0 f.2) (All-tail (IsAnswered start) c cs answered),
+      legal_from start (after_take s c.requested) cs end (later_take start s c.requested l)
+          (follow_on s c cs end l.sound f.0 f.2) (All-tail (IsAnswered start) c cs answered),
     )
 
 -- the lesser of two that is known
@@ -85,68 +92,100 @@ floor_below start (c ∷ cs) =
     omega (arith, ints)
 
 -- where the least of these calls ends is told by how many handles are taken after them
-pub taken_floor : (start s : Allocator) (cs : List Reservation) (end : ℤ) → start.asked ≡ 0 → IsLater start s → Follow (cursor s) cs end
-    → int_min (pos (top start) -ℤ pos (length s.taken)) (floor_of start cs) ≡ pos (top start) -ℤ pos (length (history.after_history s (map as_call cs)).taken)
-taken_floor start s [] end flushed l f = min_left (pos (top start) -ℤ pos (length s.taken)) (cursor start) (omega (arith, ints))
+pub taken_floor : (start s : Allocator) (cs : List Reservation) (end : ℤ) → start.asked ≡ 0
+    → IsLater start s → Follow (cursor s) cs end
+    → int_min (pos (top start) -ℤ pos (length s.taken)) (floor_of start cs)
+    ≡ pos (top start) -ℤ pos (length (history.after_history s (map as_call cs)).taken)
+taken_floor start s [] end flushed l f = min_left (pos (top start) -ℤ pos (length s.taken))
+    (cursor start) (omega (arith, ints))
 taken_floor start s (c ∷ cs) end flushed l f =
     let n : ℕ = c.requested in
     let t : Allocator = after_take s n in
     let a : ℤ = pos (top start) -ℤ pos (length s.taken) in
-    let rest = taken_floor start t cs end flushed (later_take start s n l) (follow_on s c cs end l.sound f.0 f.2) in
+    let rest = taken_floor start t cs end flushed (later_take start s n l)
+    (follow_on s c cs end l.sound f.0 f.2) in
     let tops = top_later start s l in
     let high : c.high ≡ cursor s = f.0 in
     let pool : pool_at start c.high ≡ s.pool = pool_there start s c l f.0 in
     let some_request : 0 < n = f.1 in
-    let goal : ℤ → Type 0 = λ z. int_min a (int_min z (floor_of start cs)) ≡ pos (top start) -ℤ pos (length (history.after_history t (map as_call cs)).taken) in
+    let goal : ℤ → Type 0 = λ z. int_min a (int_min z (floor_of start cs))
+    ≡ pos (top start) -ℤ pos (length (history.after_history t (map as_call cs)).taken) in
     ⊎_elim
     (λ (short : length s.pool < n).
-    let test : nat_le n (length (pool_at start c.high)) ≡ false = ap (λ (hs : List Handle). nat_le n (length hs)) pool ∙ lt-leb n (length s.pool) short in
-    let same : length t.taken ≡ length s.taken = ap (λ (x : Allocator). length x.taken) (after_take-refused s n short) in
+    let test : nat_le n (length (pool_at start c.high))
+    ≡ false = ap (λ (hs : List Handle). nat_le n (length hs)) pool
+    ∙ lt-leb n (length s.pool) short in
+    let same : length t.taken ≡ length s.taken = ap (λ (x : Allocator). length x.taken)
+    (after_take-refused s n short) in
     let at_top : a ≤ℤ cursor start = omega (arith, ints) in
-    let begins : int_min a (int_min (cursor start) (floor_of start cs)) ≡ int_min a (floor_of start cs) = sym (min_assoc a (cursor start) (floor_of start cs)) ∙ ap (λ (z : ℤ). int_min z (floor_of start cs)) (min_left a (cursor start) at_top) in
+    let begins : int_min a (int_min (cursor start) (floor_of start cs))
+    ≡ int_min a (floor_of start cs) = sym (min_assoc a (cursor start) (floor_of start cs))
+    ∙ ap (λ (z : ℤ). int_min z (floor_of start cs)) (min_left a (cursor start) at_top) in
     subst goal (sym (ap (λ (b : Bool). cond b (low c) (cursor start)) test))
-    (begins ∙ (ap (λ (k : ℕ). int_min (pos (top start) -ℤ pos k) (floor_of start cs)) (sym same) ∙ rest)))
+    (begins ∙ (ap (λ (k : ℕ). int_min (pos (top start) -ℤ pos k) (floor_of start cs)) (sym same)
+    ∙ rest)))
     (λ (enough : n ≤ length s.pool).
-    let test : nat_le n (length (pool_at start c.high)) ≡ true = ap (λ (hs : List Handle). nat_le n (length hs)) pool ∙ le-leb n (length s.pool) enough in
+    let test : nat_le n (length (pool_at start c.high))
+    ≡ true = ap (λ (hs : List Handle). nat_le n (length hs)) pool
+    ∙ le-leb n (length s.pool) enough in
     let left = length-pool s l.sound in
     let taken : length s.taken ≡ s.asked = length-taken s l.sound (omega arith) in
-    let joined : length t.taken ≡ length (s.taken ++ take n s.pool) = ap (λ (x : Allocator). length x.taken) (after_take-served s n enough) in
-    let more : length (s.taken ++ take n s.pool) ≡ length s.taken + length (take n s.pool) = length-append s.taken (take n s.pool) in
+    let joined : length t.taken ≡ length (s.taken ++ take n s.pool) =
+    ap (λ (x : Allocator). length x.taken) (after_take-served s n enough) in
+    let more : length (s.taken ++ take n s.pool) ≡ length s.taken + length (take n s.pool) =
+    length-append s.taken (take n s.pool) in
     let long : length (take n s.pool) ≡ n = length-take-le n s.pool enough in
     let here : low c ≡ pos (top start) -ℤ pos (length t.taken) = omega (arith, ints) in
     let down : low c ≤ℤ a = omega (arith, ints) in
-    let begins : int_min a (int_min (low c) (floor_of start cs)) ≡ int_min (low c) (floor_of start cs) = sym (min_assoc a (low c) (floor_of start cs)) ∙ ap (λ (z : ℤ). int_min z (floor_of start cs)) (min_right a (low c) down) in
+    let begins : int_min a (int_min (low c) (floor_of start cs))
+    ≡ int_min (low c) (floor_of start cs) = sym (min_assoc a (low c) (floor_of start cs))
+    ∙ ap (λ (z : ℤ). int_min z (floor_of start cs)) (min_right a (low c) down) in
     subst goal (sym (ap (λ (b : Bool). cond b (low c) (cursor start)) test))
     (begins ∙ (ap (λ (z : ℤ). int_min z (floor_of start cs)) here ∙ rest)))
     (cases_lt (length s.pool) n)
 
 -- the floor of a list does not depend on its order
-floor-append : (start : Allocator) (xs ys : List Reservation) → floor_of start (xs ++ ys) ≡ int_min (floor_of start xs) (floor_of start ys)
+floor-append : (start : Allocator) (xs ys : List Reservation) → floor_of start (xs ++ ys)
+    ≡ int_min (floor_of start xs) (floor_of start ys)
 floor-append start [] ys = sym (min_right (cursor start) (floor_of start ys) (floor_below start ys))
-floor-append start (x ∷ xs) ys = ap (int_min (floor_after start x)) (floor-append start xs ys) ∙ sym (min_assoc (floor_after start x) (floor_of start xs) (floor_of start ys))
+floor-append start (x ∷ xs) ys = ap (int_min (floor_after start x)) (floor-append start xs ys)
+    ∙ sym (min_assoc (floor_after start x) (floor_of start xs) (floor_of start ys))
 
-floor_inserted : (start : Allocator) (c : Reservation) (cs : List Reservation) → floor_of start (insert_reservation c cs) ≡ int_min (floor_after start c) (floor_of start cs)
+floor_inserted : (start : Allocator) (c : Reservation) (cs : List Reservation)
+    → floor_of start (insert_reservation c cs) ≡ int_min (floor_after start c) (floor_of start cs)
 floor_inserted start c [] = refl
 floor_inserted start c (d ∷ ds) =
     let rest = floor_inserted start c ds in
     let x : ℤ = floor_after start c in
     let y : ℤ = floor_after start d in
     let z : ℤ = floor_of start ds in
-    let goal : Bool → Type 0 = λ b. floor_of start (cond b (c ∷ d ∷ ds) (d ∷ insert_reservation c ds)) ≡ int_min x (int_min y z) in
-    let no : goal false = ap (int_min y) rest ∙ (sym (min_assoc y x z) ∙ (ap (λ (w : ℤ). int_min w z) (min_comm y x) ∙ min_assoc x y z)) in
+    let goal : Bool → Type 0 = λ b.
+    floor_of start (cond b (c ∷ d ∷ ds) (d ∷ insert_reservation c ds))
+    ≡ int_min x (int_min y z) in
+    let no : goal false = ap (int_min y) rest
+    ∙ (sym (min_assoc y x z) ∙ (ap (λ (w : ℤ). int_min w z) (min_comm y x) ∙ min_assoc x y z))
+    in
     elim (int_lt d.high c.high) as goal [ true ↦ refl | false ↦ no ]
 
-pub floor_sorted : (start : Allocator) (cs : List Reservation) → floor_of start (by_falling_high cs) ≡ floor_of start cs
+pub floor_sorted : (start : Allocator) (cs : List Reservation) → floor_of start (by_falling_high cs)
+    ≡ floor_of start cs
 floor_sorted start [] = refl
-floor_sorted start (c ∷ cs) = floor_inserted start c (by_falling_high cs) ∙ ap (int_min (floor_after start c)) (floor_sorted start cs)
+floor_sorted start (c ∷ cs) = floor_inserted start c (by_falling_high cs)
+    ∙ ap (int_min (floor_after start c)) (floor_sorted start cs)
 
-pub floor_of_all : (start : Allocator) (at : ℤ) (log : List Reservation) (records : List Record) → All (IsKept start at log) records → least_floor (cursor start) records ≡ floor_of start (flat_map (λ (r : Record). own_reservations r.entries) records)
+pub floor_of_all : (start : Allocator) (at : ℤ) (log : List Reservation) (records : List Record)
+    → All (IsKept start at log) records → least_floor (cursor start) records
+    ≡ floor_of start (flat_map (λ (r : Record). own_reservations r.entries) records)
 floor_of_all start at log [] all = refl
 floor_of_all start at log (r ∷ records) all =
     let kept = All-head (IsKept start at log) r records all in
     let rest = floor_of_all start at log records (All-tail (IsKept start at log) r records all) in
-    (λ i. int_min (kept.credit.floor i) (rest i)) ∙ sym (floor-append start (own_reservations r.entries) (flat_map (λ (x : Record). own_reservations x.entries) records))
+    (λ i. int_min (kept.credit.floor i) (rest i))
+    ∙ sym (floor-append start (own_reservations r.entries)
+    (flat_map (λ (x : Record). own_reservations x.entries) records))
 
-pub least_floor-more : (high : ℤ) (rs : List Record) (r : Record) → least_floor high (rs ++ r ∷ []) ≡ int_min (least_floor high rs) r.floor
+pub least_floor-more : (high : ℤ) (rs : List Record) (r : Record) → least_floor high (rs ++ r ∷ [])
+    ≡ int_min (least_floor high rs) r.floor
 least_floor-more high [] r = min_comm r.floor high
-least_floor-more high (x ∷ rs) r = ap (int_min x.floor) (least_floor-more high rs r) ∙ sym (min_assoc x.floor (least_floor high rs) r.floor)
+least_floor-more high (x ∷ rs) r = ap (int_min x.floor) (least_floor-more high rs r)
+    ∙ sym (min_assoc x.floor (least_floor high rs) r.floor)

@@ -16,46 +16,75 @@ abbrev pub seated : TableId → Record → Reserver
 seated word r = record { word = word; own = r }
 
 -- the first reservers are made, and the seat has the other records
-pub record AreShared (start : Allocator) (n number : ℕ) (word : TableId) (made : List Reserver) (seat : TableId) (me : Me (Unit {0}) (List Record)) : Type 0 where
+pub record AreShared (start : Allocator) (n number : ℕ) (word : TableId) (made : List Reserver)
+    (seat : TableId) (me : Me (Unit {0}) (List Record)) : Type 0 where
   pub seat_is : seat ≡ word
   pub left : me ≡ (opened_records start number (n - number), [])
   pub made_is : made ≡ map (seated word) (opened_records start 0 number)
 
-pub opened-first : (start : Allocator) (number n : ℕ) → number < n → opened_records start number (n - number) ≡ opened start number ∷ opened_records start (number + 1) (n - (number + 1))
+pub opened-first : (start : Allocator) (number n : ℕ) → number < n → opened_records start number
+    (n - number) ≡ opened start number ∷ opened_records start (number + 1) (n - (number + 1))
 unfolding opened_records
 opened-first start number n below =
     let more : n - number ≡ suc (n - (number + 1)) = omega arith in
     ap (opened_records start number) more
 
-pub opened-last : (start : Allocator) (from many : ℕ) → opened_records start from (suc many) ≡ opened_records start from many ++ opened start (from + many) ∷ []
+pub opened-last : (start : Allocator) (from many : ℕ) → opened_records start from (suc many)
+    ≡ opened_records start from many ++ opened start (from + many) ∷ []
 unfolding opened_records
 opened-last start from zero = ap (λ (k : ℕ). opened start k ∷ []) (omega arith)
 opened-last start from (suc many) =
     let same : (from + 1) + many ≡ from + suc many = omega arith in
-    ap (λ rs. opened start from ∷ rs) (opened-last start (from + 1) many ∙ ap (λ (k : ℕ). opened_records start (from + 1) many ++ opened start k ∷ []) same)
+    ap (λ rs. opened start from ∷ rs) (opened-last start (from + 1) many
+    ∙ ap (λ (k : ℕ). opened_records start (from + 1) many ++ opened start k ∷ []) same)
 
-pub none_shared : (start : Allocator) (n : ℕ) (word seat : TableId) (made : List Reserver) (me : Me (Unit {0}) (List Record)) → made ≡ [] → seat ≡ word → me ≡ (opened_records start 0 n, []) → AreShared start n 0 word made seat me
+pub none_shared : (start : Allocator) (n : ℕ) (word seat : TableId) (made : List Reserver)
+    (me : Me (Unit {0}) (List Record)) → made ≡ [] → seat ≡ word → me
+    ≡ (opened_records start 0 n, []) → AreShared start n 0 word made seat me
 unfolding opened_records
-none_shared start n word seat made me bare same left = record { seat_is = same; left = left ∙ ap (λ (k : ℕ). (opened_records start 0 k, [])) (omega arith); made_is = bare }
+none_shared start n word seat made me bare same left = record {
+  seat_is = same;
+  left = left
+      ∙ ap (λ (k : ℕ). (opened_records start 0 k, [])) (omega arith);
+  made_is = bare;
+}
 
-map-snoc : (word : TableId) (rs : List Record) (r : Record) → map (seated word) (rs ++ r ∷ []) ≡ map (seated word) rs ++ seated word r ∷ []
+map-snoc : (word : TableId) (rs : List Record) (r : Record) → map (seated word) (rs ++ r ∷ [])
+    ≡ map (seated word) rs ++ seated word r ∷ []
 map-snoc word [] r = refl
 map-snoc word (x ∷ rs) r = ap (λ ys. seated word x ∷ ys) (map-snoc word rs r)
 
-module _ (start : Allocator) (n number : ℕ) (word seat : TableId) (made : List Reserver) (me : Me (Unit {0}) (List Record)) (below : number < n) (d : AreShared start n number word made seat me) where
+module _ (start : Allocator) (n number : ℕ) (word seat : TableId) (made : List Reserver)
+    (me : Me (Unit {0}) (List Record)) (below : number < n) (d : AreShared start n number word made
+    seat me) where
   pub next_is : me.0 ≡ opened start number ∷ opened_records start (number + 1) (n - (number + 1))
   next_is = ap (λ (m : Me (Unit {0}) (List Record)). m.0) d.left ∙ opened-first start number n below
 
-  pub next_seated : (views : List (List Record)) (floor : ℤ) → views ≡ take 1 me.0 ∷ [] → floor ≡ cursor start → IsSeated views number credit floor
+  pub next_seated : (views : List (List Record)) (floor : ℤ) → views ≡ take 1 me.0 ∷ [] → floor
+      ≡ cursor start → IsSeated views number credit floor
   next_seated views floor is at =
-      let one : views ≡ (opened start number ∷ []) ∷ [] = is ∙ ap (λ (rs : List Record). take 1 rs ∷ []) next_is in
-      subst (λ vs. IsSeated vs number credit floor) (sym one) (record { views_is = refl; number_is = refl; left_is = refl; floor_is = at; below = All-nil (λ (c : Reservation). cursor start ≤ℤ low c); credit = omega arith })
+      let one : views ≡ (opened start number ∷ []) ∷ [] = is ∙ ap (λ (rs : List Record). take 1 rs
+      ∷ []) next_is in
+      subst (λ vs. IsSeated vs number credit floor) (sym one)
+      (record {
+        views_is = refl;
+        number_is = refl;
+        left_is = refl;
+        floor_is = at;
+        below =
+            All-nil (λ (c : Reservation). cursor start ≤ℤ low c);
+        credit = omega arith;
+      })
 
-  pub shared_more : (later : TableId) (after : Me (Unit {0}) (List Record)) (r : Reserver) → later ≡ seat → after ≡ (drop 1 me.0, []) → (views : List (List Record)) → views ≡ take 1 me.0 ∷ []
-      → r ≡ record { word = seat; own = own_of views } → (now : List Reserver) → now ≡ made ++ r ∷ [] → AreShared start n (number + 1) word now later after
+  pub shared_more : (later : TableId) (after : Me (Unit {0}) (List Record)) (r : Reserver) → later
+      ≡ seat → after ≡ (drop 1 me.0, []) → (views : List (List Record)) → views ≡ take 1 me.0 ∷ []
+      → r ≡ record { word = seat; own = own_of views } → (now : List Reserver) → now ≡ made ++ r
+      ∷ [] → AreShared start n (number + 1) word now later after
   shared_more later after r same left views is r_is now now_is =
-      let one : views ≡ (opened start number ∷ []) ∷ [] = is ∙ ap (λ (rs : List Record). take 1 rs ∷ []) next_is in
-      let r_seated : r ≡ seated word (opened start number) = r_is ∙ (λ i. record { word = d.seat_is i; own = own_of (one i) }) in
+      let one : views ≡ (opened start number ∷ []) ∷ [] = is ∙ ap (λ (rs : List Record). take 1 rs
+      ∷ []) next_is in
+      let r_seated : r ≡ seated word (opened start number) = r_is
+      ∙ (λ i. record { word = d.seat_is i; own = own_of (one i) }) in
       record {
         seat_is = same ∙ d.seat_is;
         left = left ∙ ap (λ (rs : List Record). (drop 1 rs, [])) next_is;
@@ -63,33 +92,56 @@ module _ (start : Allocator) (n number : ℕ) (word seat : TableId) (made : List
             now_is
             ∙ ((λ i. d.made_is i ++ r_seated i ∷ [])
             ∙ (sym (map-snoc word (opened_records start 0 number) (opened start number))
-            ∙ ap (map (seated word)) (ap (λ (k : ℕ). opened_records start 0 number ++ opened start k ∷ []) (omega arith) ∙ (sym (opened-last start 0 number) ∙ ap (opened_records start 0) (omega arith)))));
+            ∙ ap (map (seated word)) (ap (λ (k : ℕ). opened_records start 0 number ++ opened start k
+            ∷ []) (omega arith) ∙ (sym (opened-last start 0 number)
+            ∙ ap (opened_records start 0) (omega arith)))));
       }
 
-own_again : (word : TableId) (rs : List Record) → map (λ (r : Reserver). r.own) (map (seated word) rs) ≡ rs
+own_again : (word : TableId) (rs : List Record) → map (λ (r : Reserver). r.own)
+    (map (seated word) rs) ≡ rs
 own_again word [] = refl
 own_again word (r ∷ rs) = ap (λ xs. r ∷ xs) (own_again word rs)
 
 -- all are made
-pub all_shared : (start : Allocator) (n : ℕ) (word seat : TableId) (made : List Reserver) (me : Me (Unit {0}) (List Record)) → AreShared start n n word made seat me → map (λ (r : Reserver). r.own) made ≡ opened_records start 0 n
-all_shared start n word seat made me d = ap (map (λ (r : Reserver). r.own)) d.made_is ∙ own_again word (opened_records start 0 n)
+pub all_shared : (start : Allocator) (n : ℕ) (word seat : TableId) (made : List Reserver)
+    (me : Me (Unit {0}) (List Record)) → AreShared start n n word made seat me
+    → map (λ (r : Reserver). r.own) made ≡ opened_records start 0 n
+all_shared start n word seat made me d = ap (map (λ (r : Reserver). r.own)) d.made_is
+    ∙ own_again word (opened_records start 0 n)
 
-all_of : (start : Allocator) (count : ℕ) (word : TableId) (number many : ℕ) → number + many ≤ count → All (IsOf (record { word = word; start = start; count = count })) (map (seated word) (opened_records start number many))
+all_of : (start : Allocator) (count : ℕ) (word : TableId) (number many : ℕ) → number + many ≤ count
+    → All (IsOf (record { word = word; start = start; count = count }))
+    (map (seated word) (opened_records start number many))
 unfolding opened_records
-all_of start count word number zero within = All-nil (IsOf (record { word = word; start = start; count = count }))
+all_of start count word number zero within =
+    All-nil (IsOf (record { word = word; start = start; count = count }))
 all_of start count word number (suc many) within =
-    All-cons (IsOf (record { word = word; start = start; count = count })) (seated word (opened start number)) (map (seated word) (opened_records start (number + 1) many)) (record { word = refl; start = refl; number = omega arith; credit = omega arith }) (all_of start count word (number + 1) many (omega arith))
+    All-cons (IsOf (record { word = word; start = start; count = count }))
+    (seated word (opened start number))
+    (map (seated word) (opened_records start (number + 1) many))
+    (record { word = refl; start = refl; number = omega arith; credit = omega arith })
+    (all_of start count word (number + 1) many (omega arith))
 
-none_used : (start : Allocator) (word : TableId) (number many : ℕ) → All (λ (r : Reserver). r.own.entries ≡ []) (map (seated word) (opened_records start number many))
+none_used : (start : Allocator) (word : TableId) (number many : ℕ)
+    → All (λ (r : Reserver). r.own.entries ≡ [])
+    (map (seated word) (opened_records start number many))
 unfolding opened_records
 none_used start word number zero = All-nil (λ (r : Reserver). r.own.entries ≡ [])
 none_used start word number (suc many) =
-    All-cons (λ (r : Reserver). r.own.entries ≡ []) (seated word (opened start number)) (map (seated word) (opened_records start (number + 1) many)) refl (none_used start word (number + 1) many)
+    All-cons (λ (r : Reserver). r.own.entries ≡ []) (seated word (opened start number))
+    (map (seated word) (opened_records start (number + 1) many)) refl
+    (none_used start word (number + 1) many)
 
-pub all_unused : (start : Allocator) (n : ℕ) (word seat : TableId) (made : List Reserver) (me : Me (Unit {0}) (List Record)) → AreShared start n n word made seat me → All (λ (r : Reserver). r.own.entries ≡ []) made
-all_unused start n word seat made me d = subst (All (λ (r : Reserver). r.own.entries ≡ [])) (sym d.made_is) (none_used start word 0 n)
+pub all_unused : (start : Allocator) (n : ℕ) (word seat : TableId) (made : List Reserver)
+    (me : Me (Unit {0}) (List Record)) → AreShared start n n word made seat me
+    → All (λ (r : Reserver). r.own.entries ≡ []) made
+all_unused start n word seat made me d = subst (All (λ (r : Reserver). r.own.entries ≡ []))
+    (sym d.made_is) (none_used start word 0 n)
 
-pub all_own : (start : Allocator) (n : ℕ) (word seat : TableId) (made : List Reserver) (me : Me (Unit {0}) (List Record)) → AreShared start n n word made seat me
-    → (shared : Shared) → shared ≡ record { word = word; start = start; count = n } → All (IsOf shared) made
+pub all_own : (start : Allocator) (n : ℕ) (word seat : TableId) (made : List Reserver)
+    (me : Me (Unit {0}) (List Record)) → AreShared start n n word made seat me
+    → (shared : Shared) → shared ≡ record { word = word; start = start; count = n }
+    → All (IsOf shared) made
 all_own start n word seat made me d shared is =
-    subst (λ (p : Shared × List Reserver). All (IsOf p.0) p.1) (λ i. (sym is i, sym d.made_is i)) (all_of start n word 0 n (omega arith))
+    subst (λ (p : Shared × List Reserver). All (IsOf p.0) p.1) (λ i. (sym is i, sym d.made_is i))
+    (all_of start n word 0 n (omega arith))

@@ -13,7 +13,8 @@ use Rattle.ent_shared.specs.Record.{low}
 use Rattle.ent_shared.specs.Rule.{Follow}
 use Rattle.ent_shared.specs.Order.{insert_reservation, by_falling_high}
 
-pub contains_cases : {X : Type 0} (y : X) (ys : List X) (x : X) → Contains (y ∷ ys) x → (x ≡ y) ⊎ Contains ys x
+pub contains_cases : {X : Type 0} (y : X) (ys : List X) (x : X) → Contains (y ∷ ys) x → (x ≡ y)
+    ⊎ Contains ys x
 contains_cases y ys x (zero, l, e) = inl (sym e)
 contains_cases y ys x (suc k, l, e) = inr (k, omega arith, e)
 
@@ -33,25 +34,33 @@ FallsStrictly [] = Unit {0}
 FallsStrictly (c ∷ cs) = Above c cs × FallsStrictly cs
 
 module _ (P : Reservation → Type 0) where
-  pub all_inserted : (c : Reservation) (cs : List Reservation) → P c → All P cs → All P (insert_reservation c cs)
+  pub all_inserted : (c : Reservation) (cs : List Reservation) → P c → All P cs
+      → All P (insert_reservation c cs)
   all_inserted c [] p all = All-cons P c [] p all
   all_inserted c (d ∷ ds) p all =
-      elim (int_lt d.high c.high) as (λ b. All P (cond b (c ∷ d ∷ ds) (d ∷ insert_reservation c ds)))
-      [ true ↦ All-cons P c (d ∷ ds) p all | false ↦ All-cons P d (insert_reservation c ds) (All-head P d ds all) (all_inserted c ds p (All-tail P d ds all)) ]
+      elim (int_lt d.high c.high) as
+      (λ b. All P (cond b (c ∷ d ∷ ds) (d ∷ insert_reservation c ds))) [
+        | true ↦ All-cons P c (d ∷ ds) p all
+        | false ↦ All-cons P d (insert_reservation c ds)
+            (All-head P d ds all) (all_inserted c ds p (All-tail P d ds all))
+      ]
 
   pub all_sorted : (cs : List Reservation) → All P cs → All P (by_falling_high cs)
   all_sorted [] all = all
-  all_sorted (c ∷ cs) all = all_inserted c (by_falling_high cs) (All-head P c cs all) (all_sorted cs (All-tail P c cs all))
+  all_sorted (c ∷ cs) all = all_inserted c (by_falling_high cs) (All-head P c cs all)
+      (all_sorted cs (All-tail P c cs all))
 
 module _ (f : Reservation → ℕ) where
-  sum_inserted : (c : Reservation) (cs : List Reservation) → sum_by f (insert_reservation c cs) ≡ f c + sum_by f cs
+  sum_inserted : (c : Reservation) (cs : List Reservation) → sum_by f (insert_reservation c cs)
+      ≡ f c + sum_by f cs
   sum_inserted c [] = sum_by-cons f c []
   sum_inserted c (d ∷ ds) =
       let rest = sum_inserted c ds in
       let first = sum_by-cons f c (d ∷ ds) in
       let others = sum_by-cons f d ds in
       let behind = sum_by-cons f d (insert_reservation c ds) in
-      let goal : Bool → Type 0 = λ b. sum_by f (cond b (c ∷ d ∷ ds) (d ∷ insert_reservation c ds)) ≡ f c + sum_by f (d ∷ ds) in
+      let goal : Bool → Type 0 = λ b. sum_by f (cond b (c ∷ d ∷ ds) (d ∷ insert_reservation c ds))
+      ≡ f c + sum_by f (d ∷ ds) in
       let yes : goal true = first in
       let no : goal false = omega arith in
       elim (int_lt d.high c.high) as goal [ true ↦ yes | false ↦ no ]
@@ -70,15 +79,23 @@ is_less a b h = grind (arith, ints)
 not_less : (a b : ℤ) → b ≤ℤ a → int_lt a b ≡ false
 not_less a b h = grind (arith, ints)
 
-falls_inserted : (c : Reservation) (cs : List Reservation) → Falls cs → Falls (insert_reservation c cs)
+falls_inserted : (c : Reservation) (cs : List Reservation) → Falls cs
+    → Falls (insert_reservation c cs)
 falls_inserted c [] falls = (All-nil (λ (d : Reservation). d.high ≤ℤ c.high), tt)
 falls_inserted c (d ∷ ds) falls =
     let P : Reservation → Type 0 = λ (e : Reservation). e.high ≤ℤ c.high in
     let Q : Reservation → Type 0 = λ (e : Reservation). e.high ≤ℤ d.high in
     let goal : Bool → Type 0 = λ b. Falls (cond b (c ∷ d ∷ ds) (d ∷ insert_reservation c ds)) in
     by_lt_z {P = goal (int_lt d.high c.high)} d.high c.high
-    (λ less. subst goal (sym (is_less d.high c.high less)) (All-cons P d ds (omega (arith, ints)) (All-weaker Q P (λ e le. omega (arith, ints)) ds falls.0), falls))
-    (λ more. subst goal (sym (not_less d.high c.high more)) (all_inserted Q c ds more falls.0, falls_inserted c ds falls.1))
+    (λ less. subst goal (sym (is_less d.high c.high less)) (
+      All-cons P d ds (omega (arith, ints))
+          (All-weaker Q P (λ e le. omega (arith, ints)) ds falls.0),
+      falls,
+    ))
+    (λ more. subst goal (sym (not_less d.high c.high more)) (
+      all_inserted Q c ds more falls.0,
+      falls_inserted c ds falls.1,
+    ))
 
 pub falls_sorted : (cs : List Reservation) → Falls (by_falling_high cs)
 falls_sorted [] = tt
@@ -91,7 +108,8 @@ reaches at c = cond (int_lt c.high at) 0 1
 reaches_not : (at : ℤ) (c : Reservation) → c.high <ℤ at → reaches at c ≡ 0
 reaches_not at c less = ap (λ (b : Bool). cond {A = ℕ} b 0 1) (is_less c.high at less)
 
-none_reach : (at : ℤ) (cs : List Reservation) → All (λ (c : Reservation). c.high <ℤ at) cs → sum_by (reaches at) cs ≡ 0
+none_reach : (at : ℤ) (cs : List Reservation) → All (λ (c : Reservation). c.high <ℤ at) cs
+    → sum_by (reaches at) cs ≡ 0
 none_reach at [] all = refl
 none_reach at (c ∷ cs) all =
     let here = reaches_not at c (All-head (λ (d : Reservation). d.high <ℤ at) c cs all) in
@@ -100,70 +118,98 @@ none_reach at (c ∷ cs) all =
     omega arith
 
 below_at : (at : ℤ) (c : Reservation) → reaches at c ≡ 0 → c.high <ℤ at
-below_at at c is = by_lt_z {P = c.high <ℤ at} c.high at (λ less. less) (λ more. absurd (let b = not_less c.high at more in let one : reaches at c ≡ 1 = ap (λ (b : Bool). cond {A = ℕ} b 0 1) b in omega arith))
+below_at at c is = by_lt_z {P = c.high <ℤ at} c.high at (λ less. less)
+    (λ more. absurd (let b = not_less c.high at more in let one : reaches at c
+    ≡ 1 = ap (λ (b : Bool). cond {A = ℕ} b 0 1) b in omega arith))
 
-reached_by_none : (at : ℤ) (cs : List Reservation) → sum_by (reaches at) cs ≡ 0 → All (λ (c : Reservation). c.high <ℤ at) cs
+reached_by_none : (at : ℤ) (cs : List Reservation) → sum_by (reaches at) cs ≡ 0
+    → All (λ (c : Reservation). c.high <ℤ at) cs
 reached_by_none at [] none = All-nil (λ (c : Reservation). c.high <ℤ at)
 reached_by_none at (c ∷ cs) none =
     let sums = sum_by-cons (reaches at) c cs in
     let here : reaches at c ≡ 0 = omega arith in
     let rest : sum_by (reaches at) cs ≡ 0 = omega arith in
-    All-cons (λ (d : Reservation). d.high <ℤ at) c cs (below_at at c here) (reached_by_none at cs rest)
+    All-cons (λ (d : Reservation). d.high <ℤ at) c cs (below_at at c here)
+    (reached_by_none at cs rest)
 
 -- the two lists weigh the same, however each call is weighed
 abbrev pub WeighSame : List Reservation → List Reservation → Type 0
 WeighSame xs ys = (f : Reservation → ℕ) → sum_by f xs ≡ sum_by f ys
 
-inside_rest : (y : Reservation) (ys xs : List Reservation) → All (λ (c : Reservation). c.high <ℤ y.high) xs → All (Contains (y ∷ ys)) xs → All (Contains ys) xs
+inside_rest : (y : Reservation) (ys xs : List Reservation)
+    → All (λ (c : Reservation). c.high <ℤ y.high) xs → All (Contains (y ∷ ys)) xs
+    → All (Contains ys) xs
 inside_rest y ys [] below within = All-nil (Contains ys)
 inside_rest y ys (x ∷ xs) below within =
     let B : Reservation → Type 0 = λ (c : Reservation). c.high <ℤ y.high in
     let here = All-head B x xs below in
     All-cons (Contains ys) x xs
-    (⊎_elim (λ (e : x ≡ y). absurd (let same : x.high ≡ y.high = ap (λ (c : Reservation). c.high) e in omega (arith, ints))) (λ (inside : Contains ys x). inside) (contains_cases y ys x (All-head (Contains (y ∷ ys)) x xs within)))
+    (⊎_elim (λ (e : x ≡ y). absurd (let same : x.high ≡ y.high = ap (λ (c : Reservation). c.high) e
+    in omega (arith, ints))) (λ (inside : Contains ys x). inside)
+    (contains_cases y ys x (All-head (Contains (y ∷ ys)) x xs within)))
     (inside_rest y ys xs (All-tail B x xs below) (All-tail (Contains (y ∷ ys)) x xs within))
 
-pub same_fall : (xs ys : List Reservation) → Falls xs → FallsStrictly ys → All (Contains ys) xs → WeighSame xs ys → xs ≡ ys
+pub same_fall : (xs ys : List Reservation) → Falls xs → FallsStrictly ys → All (Contains ys) xs
+    → WeighSame xs ys → xs ≡ ys
 same_fall [] [] falls strictly within same = refl
 same_fall [] (y ∷ ys) falls strictly within same =
-    absurd (let one = same (λ _. 1) in let sums = sum_by-cons (λ (c : Reservation). 1) y ys in omega arith)
+    absurd (let one = same (λ _. 1) in let sums = sum_by-cons (λ (c : Reservation). 1) y ys in
+    omega arith)
 same_fall (x ∷ xs) [] falls strictly within same =
-    absurd (let one = same (λ _. 1) in let sums = sum_by-cons (λ (c : Reservation). 1) x xs in omega arith)
+    absurd (let one = same (λ _. 1) in let sums = sum_by-cons (λ (c : Reservation). 1) x xs in
+    omega arith)
 same_fall (x ∷ xs) (y ∷ ys) falls strictly within same =
     let total = same (reaches y.high) in
     let ys_sum = sum_by-cons (reaches y.high) y ys in
     let ys_none = none_reach y.high ys strictly.0 in
-    let y_one : reaches y.high y ≡ 1 = ap (λ (b : Bool). cond {A = ℕ} b 0 1) (not_less y.high y.high (omega (arith, ints))) in
+    let y_one : reaches y.high y ≡ 1 = ap (λ (b : Bool). cond {A = ℕ} b 0 1)
+    (not_less y.high y.high (omega (arith, ints))) in
     let xs_sum = sum_by-cons (reaches y.high) x xs in
     let first : x ≡ y = ⊎_elim (λ (e : x ≡ y). e)
     (λ (inside : Contains ys x).
-    let less : x.high <ℤ y.high = All-contains (λ (d : Reservation). d.high <ℤ y.high) ys x strictly.0 inside in
-    let all_less : All (λ (d : Reservation). d.high <ℤ y.high) xs = All-weaker (λ (d : Reservation). d.high ≤ℤ x.high) (λ (d : Reservation). d.high <ℤ y.high) (λ d le. omega (arith, ints)) xs falls.0 in
+    let less : x.high <ℤ y.high = All-contains (λ (d : Reservation). d.high <ℤ y.high) ys x
+    strictly.0 inside in
+    let all_less : All (λ (d : Reservation). d.high <ℤ y.high) xs =
+    All-weaker (λ (d : Reservation). d.high ≤ℤ x.high) (λ (d : Reservation). d.high <ℤ y.high)
+    (λ d le. omega (arith, ints)) xs falls.0 in
     let none = none_reach y.high xs all_less in
     let x_none = reaches_not y.high x less in
     absurd (omega arith))
     (contains_cases y ys x (All-head (Contains (y ∷ ys)) x xs within)) in
     let x_one : reaches y.high x ≡ 1 = ap (reaches y.high) first ∙ y_one in
-    let rest_below : All (λ (c : Reservation). c.high <ℤ y.high) xs = reached_by_none y.high xs (omega arith) in
-    let rest_within : All (Contains ys) xs = inside_rest y ys xs rest_below (All-tail (Contains (y ∷ ys)) x xs within) in
-    let rest_same : WeighSame xs ys = λ f. (let e = same f in let a = sum_by-cons f x xs in let b = sum_by-cons f y ys in let c : f x ≡ f y = ap f first in omega arith) in
+    let rest_below : All (λ (c : Reservation). c.high <ℤ y.high) xs = reached_by_none y.high xs
+    (omega arith) in
+    let rest_within : All (Contains ys) xs = inside_rest y ys xs rest_below
+    (All-tail (Contains (y ∷ ys)) x xs within) in
+    let rest_same : WeighSame xs ys = λ f. (let e = same f in let a = sum_by-cons f x xs in let b =
+    sum_by-cons f y ys in let c : f x ≡ f y = ap f first in omega arith) in
     let rest = same_fall xs ys falls.1 strictly.1 rest_within rest_same in
     λ i. first i ∷ rest i
 
 -- calls that follow each other fall
-pub follow_below : (high : ℤ) (cs : List Reservation) (end : ℤ) → Follow high cs end → All (λ (c : Reservation). c.high ≤ℤ high) cs
+pub follow_below : (high : ℤ) (cs : List Reservation) (end : ℤ) → Follow high cs end
+    → All (λ (c : Reservation). c.high ≤ℤ high) cs
 follow_below high [] end f = All-nil (λ (c : Reservation). c.high ≤ℤ high)
 follow_below high (c ∷ cs) end f =
     let at : c.high ≡ high = f.0 in
     let rest = follow_below (low c) cs end f.2 in
-    All-cons (λ (d : Reservation). d.high ≤ℤ high) c cs (omega (arith, ints)) (All-weaker (λ (d : Reservation). d.high ≤ℤ low c) (λ (d : Reservation). d.high ≤ℤ high) (λ d le. omega (arith, ints)) cs rest)
+    All-cons (λ (d : Reservation). d.high ≤ℤ high) c cs (omega (arith, ints))
+    (All-weaker (λ (d : Reservation). d.high ≤ℤ low c) (λ (d : Reservation). d.high ≤ℤ high)
+    (λ d le. omega (arith, ints)) cs rest)
 
-pub follow_falls : (high : ℤ) (cs : List Reservation) (end : ℤ) → Follow high cs end → FallsStrictly cs
+pub follow_falls : (high : ℤ) (cs : List Reservation) (end : ℤ) → Follow high cs end
+    → FallsStrictly cs
 follow_falls high [] end f = tt
 follow_falls high (c ∷ cs) end f =
-    let some_request = f.1 in
-    (All-weaker (λ (d : Reservation). d.high ≤ℤ low c) (λ (d : Reservation). d.high <ℤ c.high) (λ d le. omega (arith, ints)) cs (follow_below (low c) cs end f.2), follow_falls (low c) cs end f.2)
+    let some_request = f.1 in (
+      All-weaker (λ (d : Reservation). d.high ≤ℤ low c) (λ (d : Reservation). d.high <ℤ c.high)
+          (λ d le. omega (arith, ints)) cs (follow_below (low c) cs end f.2),
+      follow_falls (low c) cs
+          end f.2,
+    )
 
-pub follow_requests : (high : ℤ) (cs : List Reservation) (end : ℤ) → Follow high cs end → All (λ (c : Reservation). 0 < c.requested) cs
+pub follow_requests : (high : ℤ) (cs : List Reservation) (end : ℤ) → Follow high cs end
+    → All (λ (c : Reservation). 0 < c.requested) cs
 follow_requests high [] end f = All-nil (λ (c : Reservation). 0 < c.requested)
-follow_requests high (c ∷ cs) end f = All-cons (λ (d : Reservation). 0 < d.requested) c cs f.1 (follow_requests (low c) cs end f.2)
+follow_requests high (c ∷ cs) end f = All-cons (λ (d : Reservation). 0 < d.requested) c cs f.1
+    (follow_requests (low c) cs end f.2)

@@ -8,7 +8,8 @@ use mathlib.Core.Option.{some, some-injective, some-ne-none}
 use lib.ListN.{get_elem?}
 
 module _ {X : Type 0} where
-  pub sum_at : (f : X → ℕ) (xs : List X) (i : ℕ) (v w : X) → get_elem? xs i ≡ some v → sum_by f (set xs i w) + f v ≡ sum_by f xs + f w
+  pub sum_at : (f : X → ℕ) (xs : List X) (i : ℕ) (v w : X) → get_elem? xs i ≡ some v
+      → sum_by f (set xs i w) + f v ≡ sum_by f xs + f w
   sum_at f [] i v w e = absurd (some-ne-none v (sym e))
   sum_at f (x ∷ xs) zero v w e =
       let same : f x ≡ f v = ap f (some-injective x v e) in
@@ -18,24 +19,30 @@ module _ {X : Type 0} where
   sum_at f (x ∷ xs) (suc i) v w e =
       let h = sum_at f xs i v w e in
       let before : sum_by f (x ∷ xs) ≡ f x + sum_by f xs = sum_by-cons f x xs in
-      let after : sum_by f (set (x ∷ xs) (suc i) w) ≡ f x + sum_by f (set xs i w) = sum_by-cons f x (set xs i w) in
+      let after : sum_by f (set (x ∷ xs) (suc i) w) ≡ f x + sum_by f (set xs i w) =
+      sum_by-cons f x (set xs i w) in
       omega arith
 
-  pub all_at : (P : X → Type 0) (xs : List X) (i : ℕ) (v : X) → get_elem? xs i ≡ some v → All P xs → P v
+  pub all_at : (P : X → Type 0) (xs : List X) (i : ℕ) (v : X) → get_elem? xs i ≡ some v → All P xs
+      → P v
   all_at P [] i v e all = absurd (some-ne-none v (sym e))
   all_at P (x ∷ xs) zero v e all = subst P (some-injective x v e) (All-head P x xs all)
   all_at P (x ∷ xs) (suc i) v e all = all_at P xs i v e (All-tail P x xs all)
 
   -- two sums make up a third one if their terms do
-  pub sum_parts : (f g h : X → ℕ) (m : ℕ) (xs : List X) → All (λ x. f x + g x ≡ h x * m) xs → sum_by f xs + sum_by g xs ≡ sum_by h xs * m
+  pub sum_parts : (f g h : X → ℕ) (m : ℕ) (xs : List X) → All (λ x. f x + g x ≡ h x * m) xs
+      → sum_by f xs + sum_by g xs ≡ sum_by h xs * m
   sum_parts f g h m [] all = omega arith
   sum_parts f g h m (x ∷ xs) all =
       let here : f x + g x ≡ h x * m = All-head (λ x. f x + g x ≡ h x * m) x xs all in
-      let rest : sum_by f xs + sum_by g xs ≡ sum_by h xs * m = sum_parts f g h m xs (All-tail (λ x. f x + g x ≡ h x * m) x xs all) in
-      let split : (h x + sum_by h xs) * m ≡ h x * m + sum_by h xs * m = add-mul (h x) (sum_by h xs) m in
+      let rest : sum_by f xs + sum_by g xs ≡ sum_by h xs
+      * m = sum_parts f g h m xs (All-tail (λ x. f x + g x ≡ h x * m) x xs all) in
+      let split : (h x + sum_by h xs) * m ≡ h x * m + sum_by h xs * m = add-mul (h x) (sum_by h xs)
+      m in
       rw (sum_by-cons f x xs, sum_by-cons g x xs, sum_by-cons h x xs, split) (omega arith)
 
-  pub all_zero : (f g : X → ℕ) → ((x : X) → f x ≡ 0 → g x ≡ 0) → (xs : List X) → sum_by f xs ≡ 0 → sum_by g xs ≡ 0
+  pub all_zero : (f g : X → ℕ) → ((x : X) → f x ≡ 0 → g x ≡ 0) → (xs : List X) → sum_by f xs ≡ 0
+      → sum_by g xs ≡ 0
   all_zero f g zeros [] is = refl
   all_zero f g zeros (x ∷ xs) is =
       let sums : sum_by f (x ∷ xs) ≡ f x + sum_by f xs = sum_by-cons f x xs in
@@ -45,7 +52,8 @@ module _ {X : Type 0} where
       omega arith
 
   -- where only the element at i weighs anything, all weigh what it weighs
-  pub only_at : (f g : X → ℕ) (xs : List X) (i : ℕ) (v nothing : X) → get_elem? xs i ≡ some v → f nothing ≡ 0 → g nothing ≡ 0
+  pub only_at : (f g : X → ℕ) (xs : List X) (i : ℕ) (v nothing : X) → get_elem? xs i ≡ some v
+      → f nothing ≡ 0 → g nothing ≡ 0
       → ((x : X) → f x ≡ 0 → g x ≡ 0) → sum_by f xs ≡ f v → sum_by g xs ≡ g v
   only_at f g xs i v nothing e f_none g_none zeros is =
       let s = sum_at f xs i v nothing e in

@@ -1,4 +1,4 @@
--- What a reservation answers.
+-- What a reservation returns.
 use Rattle.std.specs.Prelude.{◌≡◌, ℕ, ℤ, ◌≤ℤ◌, List, Result, Ok, Err}
 use Rattle.ent_handle.specs.Handle.{Handle}
 use Rattle.ent_alloc.specs.declared.space.Space.{Space}
@@ -8,7 +8,7 @@ use Rattle.ent_shared.specs.declared.refused.Refused.TheVariants.{Space as OutOf
 use Rattle.ent_shared.specs.Record.{reservation_at, after_reservation}
 use Rattle.ent_shared.specs.Phase.{Shared, Reserver}
 
--- the answer says what the reply says
+-- the result says what the reply says
 abbrev pub Tells : Result (List Handle) Refused → Result (List Handle) Space → Type 0
 Tells (Ok handles) reply = reply ≡ Ok handles
 Tells (Err (OutOfSpace wanted left)) reply = reply ≡ Err (record { wanted = wanted; left = left })
@@ -22,7 +22,7 @@ pub record Reserves (shared : Shared) (old new : Reserver) (n : ℕ)
   pub at_mark : high ≤ℤ old.own.mark
   -- the record ends with it, and nothing else has changed
   pub after : new ≡ record old { own = after_reservation old.own high n }
-  -- the answer is the reply that is recorded
+  -- the result is the reply that is recorded
   pub recorded : Tells answer (reservation_at old.own high n).reply
   -- and that is the reply of an allocator whose cursor is there
   pub reply : (reservation_at old.own high n).reply

@@ -36,7 +36,7 @@ pub record SpansPartition (start : Allocator) (word : ℕ) (views : List (List R
   pub follow : Follow (cursor start) log (cursor_of word)
   pub all : (f : Reservation → ℕ) → sum_by (weigh f) views ≡ sum_by f log
 
--- what a reservation was answered is what the allocator says there
+-- the reply of a reservation is what the allocator says there
 abbrev pub IsAnswered : Allocator → Reservation → Type 0
 IsAnswered start c = c.reply ≡ reply_from start.made (pool_at start c.high) c.requested
 

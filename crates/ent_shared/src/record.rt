@@ -13,7 +13,7 @@ pub struct Reservation {
     pub high: i64,
     /// How many handles were requested.
     pub requested: u32,
-    /// What was answered: the handles, or how many the pool had.
+    /// The reply: the handles, or how many the pool had.
     pub reply: Result<LinkedList<Handle>, Space>,
 }
 

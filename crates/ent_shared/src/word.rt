@@ -47,7 +47,7 @@ pub(crate) fn split_first(word: &Word, all: &mut CursorSeat) -> Badge<SeatRecord
     word.shared.split_seat::<SplitFirst>(all).into_badge()
 }
 
-/// The reservation step: subtracts `n` from the word. Answers the cursor that it found.
+/// The reservation step: subtracts `n` from the word. Returns the cursor that it found.
 pub(crate) fn reserve(word: &Word, badge: &mut Badge<SeatRecords>, n: u32) -> i64
     requires word { (word.now.shared.table_id.words ≡ 1)
         × (badge.old.table_id ≡ word.now.shared.table_id) }

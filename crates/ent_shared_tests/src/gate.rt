@@ -20,7 +20,7 @@ impl Gate {
         }
     }
 
-    /// Enters, and waits until all have entered, though not for ever. Answers whether it saw them.
+    /// Enters, and waits until all have entered, though not for ever. Returns whether it saw them.
     pub fn enter(&self) -> bool {
         self.entered.fetch_add(1, Ordering::SeqCst);
         for _ in 0..TURNS {

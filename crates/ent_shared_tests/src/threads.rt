@@ -53,7 +53,8 @@ fn three_beside<R: Threads + Sync + Abort>(
         rt,
         &mut ||
             requires { (IsOf shared.now a.now.reserver) × (IsOf shared.now b.now.reserver) }
-            ensures { (IsOf shared.entry.now a.exit.now.reserver) × (IsOf shared.entry.now b.exit.now.reserver) }
+            ensures { (IsOf shared.entry.now a.exit.now.reserver)
+                × (IsOf shared.entry.now b.exit.now.reserver) }
         { both_beside(rt, shared, &gate, a, b, 500) },
         &mut || c.singly_beside(shared, &gate, 500),
     );

@@ -32,10 +32,12 @@ use Rattle.ent_storage.proofs.Indexed.{some_entity, get_placed, placed_from_get,
 
 pair_cmp_total : IsTotalOrder pair_cmp
 pair_cmp_total =
-    then_total (on_total (λ (b : Birth × Handle). b.0) birth_cmp_total) (on_total (λ (b : Birth × Handle). b.1) handle_cmp_total)
+    then_total (on_total (λ (b : Birth × Handle). b.0) birth_cmp_total)
+    (on_total (λ (b : Birth × Handle). b.1) handle_cmp_total)
 
 -- an order that does not turn, at handles that differ
-strictly : (r s : Ordering) → is_lt (ordering_reverse (ordering_then r s)) ≡ false → is_eq s ≡ false → ordering_then r s ≡ Less
+strictly : (r s : Ordering) → is_lt (ordering_reverse (ordering_then r s)) ≡ false → is_eq s ≡ false
+    → ordering_then r s ≡ Less
 strictly Less s h n = refl
 strictly Equal Less h n = refl
 strictly Equal Equal h n = cc
@@ -47,19 +49,28 @@ same_entity a b e = ap (λ (o : Option Entity). unwrap_or o a) e
 
 -- ---- membership
 
-contains_map : {X Y : Type 0} (f : X → Y) (xs : List X) (x : X) → Contains xs x → Contains (map f xs) (f x)
-contains_map f xs x h = (h.0, omega (arith, length-map xs f, h.1), get_or-map f xs h.0 x (f x) h.1 ∙ ap f h.2)
+contains_map : {X Y : Type 0} (f : X → Y) (xs : List X) (x : X) → Contains xs x
+    → Contains (map f xs) (f x)
+contains_map f xs x h = (
+  h.0,
+  omega (arith, length-map xs f, h.1),
+  get_or-map f xs h.0 x (f x) h.1
+      ∙ ap f h.2,
+)
 
 later : {X : Type 0} (xs : List X) (y x : X) → Contains xs x → Contains (y ∷ xs) x
 later xs y x h = (suc h.0, omega (arith, h.1), h.2)
 
-contains_filter : {X : Type 0} (p : X → Bool) (xs : List X) (x : X) (k : ℕ) → k < length xs → get_or xs k x ≡ x → p x ≡ true → Contains (filter p xs) x
+contains_filter : {X : Type 0} (p : X → Bool) (xs : List X) (x : X) (k : ℕ) → k < length xs
+    → get_or xs k x ≡ x → p x ≡ true → Contains (filter p xs) x
 contains_filter p [] x k l e pass = absurd (omega arith)
 contains_filter p (y ∷ ys) x zero l e pass =
-    subst (λ b. Contains (cond b (y ∷ filter p ys) (filter p ys)) x) (sym (ap p e ∙ pass)) (0, omega arith, e)
+    subst (λ b. Contains (cond b (y ∷ filter p ys) (filter p ys)) x) (sym (ap p e ∙ pass))
+    (0, omega arith, e)
 contains_filter p (y ∷ ys) x (suc k) l e pass =
     let rest = contains_filter p ys x k (omega arith) e pass in
-    elim (p y) as (λ b. Contains (cond b (y ∷ filter p ys) (filter p ys)) x) [ true ↦ later _ y x rest | false ↦ rest ]
+    elim (p y) as (λ b. Contains (cond b (y ∷ filter p ys) (filter p ys)) x)
+    [ true ↦ later _ y x rest | false ↦ rest ]
 
 pub filter-all : {X : Type 0} (xs : List X) → filter (λ _. true) xs ≡ xs
 filter-all [] = refl
@@ -70,7 +81,8 @@ filter-all (x ∷ xs) = ap (λ ys. x ∷ ys) (filter-all xs)
 abbrev pub born_of : LivingEntity → Birth × Handle
 born_of entity = (entity.birth, entity.handle)
 
-module _ (living : List LivingEntity) (index : FinMap handle_cmp ℕ) (indexed : IsIndexed living index) (passes : Entity → Bool) where
+module _ (living : List LivingEntity) (index : FinMap handle_cmp ℕ)
+    (indexed : IsIndexed living index) (passes : Entity → Bool) where
   -- an entity that passes has this birth and this handle
   pub record IsBorn (b : Birth × Handle) : Type 0 where
     pub entity : Entity
@@ -81,12 +93,17 @@ module _ (living : List LivingEntity) (index : FinMap handle_cmp ℕ) (indexed :
   abbrev pub alike : Birth × Handle → Birth × Handle → Bool
   alike a b = eq_by_cmp handle_cmp a.1 b.1
 
-  pub all_there : All (λ entity. finite.get (entities_of living) entity.handle ≡ Some (entity_of entity)) living
-  all_there k d l = get_placed living index indexed (get_or living k d).handle k d (indexed.each_entity k l d)
+  pub all_there : All (λ entity. finite.get (entities_of living) entity.handle
+      ≡ Some (entity_of entity)) living
+  all_there k d l = get_placed living index indexed (get_or living k d).handle k d
+      (indexed.each_entity k l d)
 
   -- the births are those of the entities that pass, each once
-  module _ (births : List (Birth × Handle)) (all_born : All IsBorn births) (births_apart : IsDistinct alike births)
-      (complete : (i : ℕ) (r : LivingEntity) → i < length living → passes (entity_of (get_or living i r)) ≡ true → Contains births (born_of (get_or living i r)))
+  module _ (births : List (Birth × Handle)) (all_born : All IsBorn births)
+      (births_apart : IsDistinct alike births)
+      (complete : (i : ℕ) (r : LivingEntity) → i < length living
+      → passes (entity_of (get_or living i r)) ≡ true
+      → Contains births (born_of (get_or living i r)))
       (handles : List Handle) (ordered : IsInOrder births handles) where
     abbrev sorted : List (Birth × Handle)
     sorted = ordered.sorted
@@ -96,47 +113,66 @@ module _ (living : List LivingEntity) (index : FinMap handle_cmp ℕ) (indexed :
 
     sorted_apart : IsDistinct alike sorted
     sorted_apart =
-        IsDistinct-IsPermutation alike (λ x y. (eq_by_cmp_equiv handle_cmp_total).symm x.1 y.1) births sorted ordered.permutation births_apart
+        IsDistinct-IsPermutation alike (λ x y. (eq_by_cmp_equiv handle_cmp_total).symm x.1 y.1)
+        births sorted ordered.permutation births_apart
 
-    in_order : (i j : ℕ) (b : Birth × Handle) → i < j → j < length sorted → birth_order (entities_of living) (get_or sorted i b).1 (get_or sorted j b).1 ≡ Less
+    in_order : (i j : ℕ) (b : Birth × Handle) → i < j → j < length sorted
+        → birth_order (entities_of living) (get_or sorted i b).1 (get_or sorted j b).1 ≡ Less
     in_order i j b l k =
         let x = get_or sorted i b in
         let y = get_or sorted j b in
         let born_x : IsBorn (get_or sorted i b) = all_sorted i b (omega arith) in
         let born_y : IsBorn (get_or sorted j b) = all_sorted j b k in
-        let birth_x = ap (λ (o : Option Entity). option_map (λ (e : Entity). e.birth) o) born_x.there ∙ ap Some born_x.birth in
-        let birth_y = ap (λ (o : Option Entity). option_map (λ (e : Entity). e.birth) o) born_y.there ∙ ap Some born_y.birth in
-        let unturned = sorted_far (λ (p q : Birth × Handle). is_lt (pair_cmp p q)) (ranks_by pair_cmp_total (λ p. p)) sorted ordered.in_order i j b (omega arith) k in
+        let birth_x = ap (λ (o : Option Entity). option_map (λ (e : Entity). e.birth) o)
+        born_x.there ∙ ap Some born_x.birth in
+        let birth_y = ap (λ (o : Option Entity). option_map (λ (e : Entity). e.birth) o)
+        born_y.there ∙ ap Some born_y.birth in
+        let unturned = sorted_far (λ (p q : Birth × Handle). is_lt (pair_cmp p q))
+        (ranks_by pair_cmp_total (λ p. p)) sorted ordered.in_order i j b (omega arith) k in
         let turned = ap is_lt (sym (pair_cmp_total.antisymm y x)) ∙ unturned in
         let differ = apart_from_distinct alike sorted i j b sorted_apart l k in
-        (λ t. ordering_then (option_cmp birth_cmp (birth_x t) (birth_y t)) (handle_cmp x.1 y.1)) ∙ strictly (birth_cmp x.0 y.0) (handle_cmp x.1 y.1) turned differ
+        (λ t. ordering_then (option_cmp birth_cmp (birth_x t) (birth_y t)) (handle_cmp x.1 y.1))
+        ∙ strictly (birth_cmp x.0 y.0) (handle_cmp x.1 y.1) turned differ
 
-    rising : AllPairs (λ a b. birth_order (entities_of living) a b ≡ Less) (map (λ (born : Birth × Handle). born.1) sorted)
+    rising : AllPairs (λ a b. birth_order (entities_of living) a b ≡ Less)
+        (map (λ (born : Birth × Handle). born.1) sorted)
     rising i j d l k =
         let b : Birth × Handle = (record { frame = 0; system = 0; ordinal = 0 }, d) in
-        let below : j < length sorted = omega (arith, length-map {B = Handle} sorted (λ born. born.1)) in
+        let below : j < length sorted =
+        omega (arith, length-map {B = Handle} sorted (λ born. born.1)) in
         let at_i = get_or-map (λ (born : Birth × Handle). born.1) sorted i b d (omega arith) in
         let at_j = get_or-map (λ (born : Birth × Handle). born.1) sorted j b d below in
         (λ t. birth_order (entities_of living) (at_i t) (at_j t)) ∙ in_order i j b l below
 
-    from_list : (h : Handle) → Contains (map (λ (born : Birth × Handle). born.1) sorted) h → IsSomeAnd (finite.get (entities_of living) h) (λ e. IsTrue (passes e))
+    from_list : (h : Handle) → Contains (map (λ (born : Birth × Handle). born.1) sorted) h
+        → IsSomeAnd (finite.get (entities_of living) h) (λ e. IsTrue (passes e))
     from_list h at =
         let b : Birth × Handle = (record { frame = 0; system = 0; ordinal = 0 }, h) in
-        let below : at.0 < length sorted = omega (arith, length-map {B = Handle} sorted (λ born. born.1), at.1) in
-        let is = sym (get_or-map (λ (born : Birth × Handle). born.1) sorted at.0 b h below) ∙ at.2 in
+        let below : at.0 < length sorted =
+        omega (arith, length-map {B = Handle} sorted (λ born. born.1), at.1) in
+        let is = sym (get_or-map (λ (born : Birth × Handle). born.1) sorted at.0 b h below)
+        ∙ at.2 in
         let born : IsBorn (get_or sorted at.0 b) = all_sorted at.0 b below in
-        subst (λ (o : Option Entity). IsSomeAnd o (λ e. IsTrue (passes e))) (sym (ap (finite.get (entities_of living)) (sym is) ∙ born.there)) born.pass
+        subst (λ (o : Option Entity). IsSomeAnd o (λ e. IsTrue (passes e)))
+        (sym (ap (finite.get (entities_of living)) (sym is) ∙ born.there)) born.pass
 
-    of_entity : (h : Handle) (e : Entity) (i : ℕ) → finite.get (entities_of living) h ≡ Some e → finite.get index h ≡ Some i → passes e ≡ true → Contains (map (λ (born : Birth × Handle). born.1) sorted) h
+    of_entity : (h : Handle) (e : Entity) (i : ℕ) → finite.get (entities_of living) h ≡ Some e
+        → finite.get index h ≡ Some i → passes e ≡ true
+        → Contains (map (λ (born : Birth × Handle). born.1) sorted) h
     of_entity h e i found placed pass =
         let r : LivingEntity = some_entity h in
         let entity : LivingEntity = get_or living i r in
         let at = indexed.each_place h i placed in
-        let is : entity_of entity ≡ e = same_entity (entity_of entity) e (sym (get_placed living index indexed h i r placed) ∙ found) in
-        let listed = Contains-permutation births sorted (born_of entity) ordered.permutation (complete i r at.0 (ap passes is ∙ pass)) in
-        subst (λ q. Contains (map (λ (born : Birth × Handle). born.1) sorted) q) (at.1 r) (contains_map (λ (born : Birth × Handle). born.1) sorted (born_of entity) listed)
+        let is : entity_of entity ≡ e = same_entity (entity_of entity) e
+        (sym (get_placed living index indexed h i r placed) ∙ found) in
+        let listed = Contains-permutation births sorted (born_of entity) ordered.permutation
+        (complete i r at.0 (ap passes is ∙ pass)) in
+        subst (λ q. Contains (map (λ (born : Birth × Handle). born.1) sorted) q) (at.1 r)
+        (contains_map (λ (born : Birth × Handle). born.1) sorted (born_of entity) listed)
 
-    to_list : (h : Handle) (o : Option Entity) → finite.get (entities_of living) h ≡ o → IsSomeAnd o (λ e. IsTrue (passes e)) → Contains (map (λ (born : Birth × Handle). born.1) sorted) h
+    to_list : (h : Handle) (o : Option Entity) → finite.get (entities_of living) h ≡ o
+        → IsSomeAnd o (λ e. IsTrue (passes e))
+        → Contains (map (λ (born : Birth × Handle). born.1) sorted) h
     to_list h None found pass = absurd pass
     to_list h (Some e) found pass =
         let place = placed_from_get living index indexed h e found in
@@ -159,11 +195,14 @@ module _ (living : List LivingEntity) (index : FinMap handle_cmp ℕ) (indexed :
   all_born : All IsBorn births
   all_born k d l =
       let r : LivingEntity = some_entity d.1 in
-      let below : k < length chosen = omega (arith, length-map {B = Birth × Handle} chosen born_of) in
+      let below : k < length chosen = omega (arith, length-map {B = Birth × Handle} chosen born_of)
+      in
       let at = get_or-map born_of chosen k r d below in
       subst IsBorn (sym at) (record {
         entity = entity_of (get_or chosen k r);
-        there = All-filter (λ entity. passes (entity_of entity)) (λ entity. finite.get (entities_of living) entity.handle ≡ Some (entity_of entity)) living all_there k r below;
+        there = All-filter (λ entity. passes (entity_of entity))
+            (λ entity. finite.get (entities_of living) entity.handle ≡ Some (entity_of entity))
+            living all_there k r below;
         birth = refl;
         pass = filter_passes (λ entity. passes (entity_of entity)) living k r below;
       })
@@ -171,16 +210,23 @@ module _ (living : List LivingEntity) (index : FinMap handle_cmp ℕ) (indexed :
   births_apart : IsDistinct alike births
   births_apart = IsDistinct-from_apart alike births (λ i j d l k.
       let r : LivingEntity = some_entity d.1 in
-      let below : j < length chosen = omega (arith, length-map {B = Birth × Handle} chosen born_of) in
+      let below : j < length chosen = omega (arith, length-map {B = Birth × Handle} chosen born_of)
+      in
       let at_i = get_or-map born_of chosen i r d (omega arith) in
       let at_j = get_or-map born_of chosen j r d below in
-      let differ = AllPairs-filter (λ (a b : LivingEntity). a.handle ≢ b.handle) (λ entity. passes (entity_of entity)) living (λ i j d l k e. let twice : i ≡ j = distinct living index indexed i j d (omega arith) k e in absurd (omega arith)) i j r l below in
+      let differ = AllPairs-filter (λ (a b : LivingEntity). a.handle ≢ b.handle)
+      (λ entity. passes (entity_of entity)) living (λ i j d l k e. let twice : i
+      ≡ j = distinct living index indexed i j d (omega arith) k e in absurd (omega arith)) i j r
+      l below in
       rw (at_i, at_j) (apart handle_cmp_total handle_cmp-IsAntisymmetric _ _ differ))
 
-  complete : (i : ℕ) (r : LivingEntity) → i < length living → passes (entity_of (get_or living i r)) ≡ true → Contains births (born_of (get_or living i r))
+  complete : (i : ℕ) (r : LivingEntity) → i < length living → passes (entity_of (get_or living i r))
+      ≡ true → Contains births (born_of (get_or living i r))
   complete i r l pass =
       let entity : LivingEntity = get_or living i r in
-      contains_map born_of chosen entity (contains_filter (λ entity. passes (entity_of entity)) living entity i l (get_or_default living i entity r l) pass)
+      contains_map born_of chosen entity (contains_filter (λ entity. passes (entity_of entity))
+      living entity i l (get_or_default living i entity r l) pass)
 
-  pub lists : (handles : List Handle) → IsInOrder births handles → ListsByBirth passes (entities_of living) handles
+  pub lists : (handles : List Handle) → IsInOrder births handles
+      → ListsByBirth passes (entities_of living) handles
   lists = lists_of births all_born births_apart complete

@@ -15,17 +15,26 @@ use Rattle.ent_storage.proofs.Indexed.{some_entity, get_read, entities_changed}
 use Rattle.ent_storage.proofs.Counted.{kept_changed}
 use Rattle.ent_storage.proofs.Placed.{handles_changed}
 
-as_set : (living : List LivingEntity) (i : ℕ) (d : LivingEntity) (change : Components → Components) → i < length living → change_at living i change ≡ set living i (record { handle = (get_or living i d).handle; birth = (get_or living i d).birth; components = change (get_or living i d).components })
+as_set : (living : List LivingEntity) (i : ℕ) (d : LivingEntity) (change : Components → Components)
+    → i < length living → change_at living i change
+    ≡ set living i (record {
+      handle = (get_or living i d).handle;
+      birth = (get_or living i d).birth;
+      components = change (get_or living i d).components;
+    })
 as_set [] i d change l = absurd (omega arith)
 as_set (e ∷ living) zero d change l = refl
 as_set (e ∷ living) (suc i) d change l = ap (λ es. e ∷ es) (as_set living i d change (omega arith))
 
-pub length_changed : (living : List LivingEntity) (i : ℕ) (change : Components → Components) → length (change_at living i change) ≡ length living
+pub length_changed : (living : List LivingEntity) (i : ℕ) (change : Components → Components)
+    → length (change_at living i change) ≡ length living
 length_changed [] i change = refl
 length_changed (e ∷ living) zero change = refl
 length_changed (e ∷ living) (suc i) change = ap suc (length_changed living i change)
 
-module _ (living : List LivingEntity) (index : FinMap handle_cmp ℕ) (room : ℕ) (kept : IsKeptIndex living index room) (h : Handle) (i : ℕ) (placed : finite.get (counted living index) h ≡ Some i) where
+module _ (living : List LivingEntity) (index : FinMap handle_cmp ℕ) (room : ℕ)
+    (kept : IsKeptIndex living index room) (h : Handle) (i : ℕ)
+    (placed : finite.get (counted living index) h ≡ Some i) where
   abbrev pub was : LivingEntity
   was = get_or living i (some_entity h)
 
@@ -39,16 +48,26 @@ module _ (living : List LivingEntity) (index : FinMap handle_cmp ℕ) (room : �
   found = get_read living (counted living index) kept.indexed h i placed was read
 
   module _ (change : Components → Components) where
-    is_set : change_at living i change ≡ set living i (record { handle = was.handle; birth = was.birth; components = change was.components })
+    is_set : change_at living i change
+        ≡ set living i (record {
+          handle = was.handle;
+          birth = was.birth;
+          components =
+              change was.components;
+        })
     is_set = as_set living i (some_entity h) change inside
 
-    pub changed_entities : entities_of (change_at living i change) ≡ with_components (entities_of living) h change
+    pub changed_entities : entities_of (change_at living i change)
+        ≡ with_components (entities_of living) h change
     changed_entities =
-        ap entities_of is_set ∙ entities_changed living (counted living index) kept.indexed h i placed was read (change was.components) change refl
+        ap entities_of is_set ∙ entities_changed living (counted living index) kept.indexed h i
+        placed was read (change was.components) change refl
 
     pub changed_handles : handles_by_place (change_at living i change) ≡ handles_by_place living
-    changed_handles = ap handles_by_place is_set ∙ handles_changed living i was read (change was.components)
+    changed_handles = ap handles_by_place is_set ∙ handles_changed living i was read
+        (change was.components)
 
     pub changed_kept : IsKeptIndex (change_at living i change) index room
     changed_kept =
-        subst (λ es. IsKeptIndex es index room) (sym is_set) (kept_changed living index room kept h i placed was read (change was.components))
+        subst (λ es. IsKeptIndex es index room) (sym is_set) (kept_changed living index room kept h
+        i placed was read (change was.components))

@@ -39,155 +39,217 @@ below_less a b l = by (nat_cmp a b) (ranks a b)
     by Equal h = absurd (omega arith)
     by Greater h = absurd (omega arith)
 
-all_above_value : (k n : ℕ) (o : Option ℤ) (items : List (ComponentId × ℤ)) → k < n → T (below_all component_cmp (id_of k) items) → T (below_all component_cmp (id_of k) (with_value o n items))
+all_above_value : (k n : ℕ) (o : Option ℤ) (items : List (ComponentId × ℤ)) → k < n
+    → T (below_all component_cmp (id_of k) items)
+    → T (below_all component_cmp (id_of k) (with_value o n items))
 unfolding id_of
 all_above_value k n None items l rest = rest
 all_above_value k n (Some v) items l rest = both _ _ (below_less k n l) rest
 
-all_above : (k n : ℕ) (columns : List Column) (place : ℕ) → k < n → T (below_all component_cmp (id_of k) (items_from n columns place))
+all_above : (k n : ℕ) (columns : List Column) (place : ℕ) → k < n
+    → T (below_all component_cmp (id_of k) (items_from n columns place))
 all_above k n [] place l = tt
 all_above k n (column ∷ columns) place l =
-    all_above_value k n (map.get column.values place) (items_from (suc n) columns place) l (all_above k (suc n) columns place (omega arith))
+    all_above_value k n (map.get column.values place) (items_from (suc n) columns place) l
+    (all_above k (suc n) columns place (omega arith))
 
-rising_value : (n : ℕ) (o : Option ℤ) (items : List (ComponentId × ℤ)) → T (below_all component_cmp (id_of n) items) → T (is_sorted component_cmp items) → T (is_sorted component_cmp (with_value o n items))
+rising_value : (n : ℕ) (o : Option ℤ) (items : List (ComponentId × ℤ))
+    → T (below_all component_cmp (id_of n) items) → T (is_sorted component_cmp items)
+    → T (is_sorted component_cmp (with_value o n items))
 unfolding id_of
 rising_value n None items above rest = rest
 rising_value n (Some v) items above rest = both _ _ above rest
 
-pub items_rising : (n : ℕ) (columns : List Column) (place : ℕ) → T (is_sorted component_cmp (items_from n columns place))
+pub items_rising : (n : ℕ) (columns : List Column) (place : ℕ)
+    → T (is_sorted component_cmp (items_from n columns place))
 items_rising n [] place = tt
 items_rising n (column ∷ columns) place =
-    rising_value n (map.get column.values place) (items_from (suc n) columns place) (all_above n (suc n) columns place (omega arith)) (items_rising (suc n) columns place)
+    rising_value n (map.get column.values place) (items_from (suc n) columns place)
+    (all_above n (suc n) columns place (omega arith)) (items_rising (suc n) columns place)
 
 -- ---- the value of each component
 
-find_value : (n : ℕ) (o : Option ℤ) (items : List (ComponentId × ℤ)) (id : ComponentId) → (n ≡ id.0) ⊎ (n ≢ id.0) → (n ≡ id.0 → find component_cmp id items ≡ None) → find component_cmp id (with_value o n items) ≡ cond (eq_by_cmp nat_cmp id.0 n) o (find component_cmp id items)
+find_value : (n : ℕ) (o : Option ℤ) (items : List (ComponentId × ℤ)) (id : ComponentId) → (n ≡ id.0)
+    ⊎ (n ≢ id.0) → (n ≡ id.0 → find component_cmp id items ≡ None)
+    → find component_cmp id (with_value o n items) ≡ cond (eq_by_cmp nat_cmp id.0 n) o
+    (find component_cmp id items)
 find_value n None items id (inl e) none =
-    none e ∙ sym (ap (λ t. cond t None (find component_cmp id items)) (tied nat_cmp_total map.nat_cmp-IsAntisymmetric id.0 n (sym e)))
+    none e ∙ sym (ap (λ t. cond t None (find component_cmp id items))
+    (tied nat_cmp_total map.nat_cmp-IsAntisymmetric id.0 n (sym e)))
 find_value n None items id (inr a) none =
-    sym (ap (λ t. cond t None (find component_cmp id items)) (apart nat_cmp_total map.nat_cmp-IsAntisymmetric id.0 n (λ e. a (sym e))))
+    sym (ap (λ t. cond t None (find component_cmp id items))
+    (apart nat_cmp_total map.nat_cmp-IsAntisymmetric id.0 n (λ e. a (sym e))))
 find_value n (Some v) items id c none = refl
 
 -- components of smaller numbers are not among the items
-find_below : (n : ℕ) (columns : List Column) (place : ℕ) (id : ComponentId) → id.0 < n → find component_cmp id (items_from n columns place) ≡ None
+find_below : (n : ℕ) (columns : List Column) (place : ℕ) (id : ComponentId) → id.0 < n
+    → find component_cmp id (items_from n columns place) ≡ None
 find_below n [] place id l = refl
 find_below n (column ∷ columns) place id l =
-    find_value n (map.get column.values place) (items_from (suc n) columns place) id (cases_eq n id.0) (λ e. absurd (omega arith))
-    ∙ ap (λ t. cond t (map.get column.values place) (find component_cmp id (items_from (suc n) columns place))) (apart nat_cmp_total map.nat_cmp-IsAntisymmetric id.0 n (λ e. absurd (omega arith)))
+    find_value n (map.get column.values place) (items_from (suc n) columns place) id
+    (cases_eq n id.0) (λ e. absurd (omega arith))
+    ∙ ap (λ t. cond t (map.get column.values place)
+    (find component_cmp id (items_from (suc n) columns place)))
+    (apart nat_cmp_total map.nat_cmp-IsAntisymmetric id.0 n (λ e. absurd (omega arith)))
     ∙ find_below (suc n) columns place id (omega arith)
 
-find_items : (n : ℕ) (columns : List Column) (place : ℕ) (id : ComponentId) (k : ℕ) → n + k ≡ id.0 → find component_cmp id (items_from n columns place) ≡ map.get (column_at columns k).values place
+find_items : (n : ℕ) (columns : List Column) (place : ℕ) (id : ComponentId) (k : ℕ) → n + k ≡ id.0
+    → find component_cmp id (items_from n columns place) ≡ map.get (column_at columns k).values
+    place
 find_items n [] place id k e = sym (map.get-empty nat_cmp place)
 find_items n (column ∷ columns) place id zero e =
-    find_value n (map.get column.values place) (items_from (suc n) columns place) id (cases_eq n id.0) (λ _. find_below (suc n) columns place id (omega arith))
-    ∙ ap (λ t. cond t (map.get column.values place) (find component_cmp id (items_from (suc n) columns place))) (tied nat_cmp_total map.nat_cmp-IsAntisymmetric id.0 n (omega arith))
+    find_value n (map.get column.values place) (items_from (suc n) columns place) id
+    (cases_eq n id.0) (λ _. find_below (suc n) columns place id (omega arith))
+    ∙ ap (λ t. cond t (map.get column.values place)
+    (find component_cmp id (items_from (suc n) columns place)))
+    (tied nat_cmp_total map.nat_cmp-IsAntisymmetric id.0 n (omega arith))
 find_items n (column ∷ columns) place id (suc k) e =
-    find_value n (map.get column.values place) (items_from (suc n) columns place) id (cases_eq n id.0) (λ f. absurd (omega arith))
-    ∙ ap (λ t. cond t (map.get column.values place) (find component_cmp id (items_from (suc n) columns place))) (apart nat_cmp_total map.nat_cmp-IsAntisymmetric id.0 n (λ f. absurd (omega arith)))
+    find_value n (map.get column.values place) (items_from (suc n) columns place) id
+    (cases_eq n id.0) (λ f. absurd (omega arith))
+    ∙ ap (λ t. cond t (map.get column.values place)
+    (find component_cmp id (items_from (suc n) columns place)))
+    (apart nat_cmp_total map.nat_cmp-IsAntisymmetric id.0 n (λ f. absurd (omega arith)))
     ∙ find_items (suc n) columns place id k (omega arith)
 
-pub get_components : (columns : List Column) (place : ℕ) (id : ComponentId) → map.get (components_at columns place) id ≡ value_at columns place id
+pub get_components : (columns : List Column) (place : ℕ) (id : ComponentId)
+    → map.get (components_at columns place) id ≡ value_at columns place id
 get_components columns place id =
-    map.get-from_sorted component_cmp _ id (items_rising 0 columns place) ∙ find_items 0 columns place id id.0 (omega arith)
+    map.get-from_sorted component_cmp _ id (items_rising 0 columns place)
+    ∙ find_items 0 columns place id id.0 (omega arith)
 
-pub entries_components : (columns : List Column) (place : ℕ) → map.entries (components_at columns place) ≡ items_from 0 columns place
-entries_components columns place = map.entries-from_sorted component_cmp _ (items_rising 0 columns place)
+pub entries_components : (columns : List Column) (place : ℕ)
+    → map.entries (components_at columns place) ≡ items_from 0 columns place
+entries_components columns place = map.entries-from_sorted component_cmp _
+    (items_rising 0 columns place)
 
 -- ---- components of two places, or before and after a change
 
-pub same_components : (old new : List Column) (p q : ℕ) → ((id : ComponentId) → value_at new q id ≡ value_at old p id) → components_at new q ≡ components_at old p
+pub same_components : (old new : List Column) (p q : ℕ) → ((id : ComponentId) → value_at new q id
+    ≡ value_at old p id) → components_at new q ≡ components_at old p
 same_components old new p q are =
-    map.same_map total same _ _ (λ id. get_components new q id ∙ are id ∙ sym (get_components old p id))
+    map.same_map total same _ _ (λ id. get_components new q id ∙ are id
+    ∙ sym (get_components old p id))
 
-pub no_components : (columns : List Column) (place : ℕ) → ((id : ComponentId) → value_at columns place id ≡ None) → components_at columns place ≡ map.empty
+pub no_components : (columns : List Column) (place : ℕ)
+    → ((id : ComponentId) → value_at columns place id ≡ None) → components_at columns place
+    ≡ map.empty
 no_components columns place none =
-    map.same_map total same _ _ (λ id. get_components columns place id ∙ none id ∙ sym (map.get-empty component_cmp id))
+    map.same_map total same _ _ (λ id. get_components columns place id ∙ none id
+    ∙ sym (map.get-empty component_cmp id))
 
 -- ---- one column is changed
 
-pub column_past : (columns : List Column) (n : ℕ) → length columns ≤ n → column_at columns n ≡ no_column
+pub column_past : (columns : List Column) (n : ℕ) → length columns ≤ n → column_at columns n
+    ≡ no_column
 column_past columns n l = get_or_past columns n no_column l
 
 -- a column with room is one of the list
-pub room_inside : (columns : List Column) (n place : ℕ) → HasRoomAt (column_at columns n) place → n < length columns
+pub room_inside : (columns : List Column) (n place : ℕ) → HasRoomAt (column_at columns n) place → n
+    < length columns
 room_inside columns n place room = by (cases_lt n (length columns))
   where
     by : (n < length columns) ⊎ (length columns ≤ n) → n < length columns
     by (inl l) = l
     by (inr l) =
-        let none : HasRoomAt no_column place = subst (λ c. HasRoomAt c place) (column_past columns n l) room in
+        let none : HasRoomAt no_column place = subst (λ c. HasRoomAt c place)
+        (column_past columns n l) room in
         absurd (omega (arith, none.spare (map.get-empty nat_cmp place)))
 
 same_id : (a b : ComponentId) → a.0 ≡ b.0 → a ≡ b
 same_id a b e = λ i. record { 0 = e i }
 
-module _ (old new : List Column) (place : ℕ) (id : ComponentId) (others : (n : ℕ) → n ≢ id.0 → column_at new n ≡ column_at old n) where
+module _ (old new : List Column) (place : ℕ) (id : ComponentId) (others : (n : ℕ) → n ≢ id.0
+    → column_at new n ≡ column_at old n) where
   value_apart : (p : ℕ) (q : ComponentId) → q ≢ id → value_at new p q ≡ value_at old p q
   value_apart p q n = ap (λ (c : Column). map.get c.values p) (others q.0 (λ e. n (same_id q id e)))
 
   -- a value is set at the place
-  module _ (v : ℤ) (set_to : (column_at new id.0).values ≡ map.insert (column_at old id.0).values place v) where
-    value_set : (q : ComponentId) → (q ≡ id) ⊎ (q ≢ id) → value_at new place q ≡ map.get (map.insert (components_at old place) id v) q
+  module _ (v : ℤ) (set_to : (column_at new id.0).values ≡ map.insert (column_at old id.0).values
+      place v) where
+    value_set : (q : ComponentId) → (q ≡ id) ⊎ (q ≢ id) → value_at new place q
+        ≡ map.get (map.insert (components_at old place) id v) q
     value_set q (inl e) =
         ap (λ (c : ComponentId). value_at new place c) e
         ∙ ap (λ (m : Values). map.get m place) set_to
-        ∙ get-insert_same nat_cmp_total map.nat_cmp-IsAntisymmetric (column_at old id.0).values place v place refl
+        ∙ get-insert_same nat_cmp_total map.nat_cmp-IsAntisymmetric (column_at old id.0).values
+        place v place refl
         ∙ sym (get-insert_same total same (components_at old place) id v q e)
     value_set q (inr n) =
-        value_apart place q n ∙ sym (get_components old place q) ∙ sym (get-insert_other total same (components_at old place) id v q n)
+        value_apart place q n ∙ sym (get_components old place q)
+        ∙ sym (get-insert_other total same (components_at old place) id v q n)
 
     pub components_insert : components_at new place ≡ map.insert (components_at old place) id v
     components_insert =
-        map.same_map total same _ _ (λ q. get_components new place q ∙ value_set q (same_or_apart total same q id))
+        map.same_map total same _ _ (λ q. get_components new place q
+        ∙ value_set q (same_or_apart total same q id))
 
-    value_elsewhere : (p : ℕ) → p ≢ place → (q : ComponentId) → (q ≡ id) ⊎ (q ≢ id) → value_at new p q ≡ value_at old p q
+    value_elsewhere : (p : ℕ) → p ≢ place → (q : ComponentId) → (q ≡ id) ⊎ (q ≢ id)
+        → value_at new p q ≡ value_at old p q
     value_elsewhere p far q (inl e) =
         ap (λ (c : ComponentId). value_at new p c) e
         ∙ ap (λ (m : Values). map.get m p) set_to
-        ∙ get-insert_other nat_cmp_total map.nat_cmp-IsAntisymmetric (column_at old id.0).values place v p far
+        ∙ get-insert_other nat_cmp_total map.nat_cmp-IsAntisymmetric (column_at old id.0).values
+        place v p far
         ∙ ap (λ (c : ComponentId). value_at old p c) (sym e)
     value_elsewhere p far q (inr n) = value_apart p q n
 
     pub insert_others : (p : ℕ) (q : ComponentId) → p ≢ place → value_at new p q ≡ value_at old p q
     insert_others p q far = value_elsewhere p far q (same_or_apart total same q id)
 
-    room_by : (n : ℕ) → (n ≡ id.0) ⊎ (n ≢ id.0) → HasRoomAt (column_at old n) place → HasRoomAt (column_at new n) place
+    room_by : (n : ℕ) → (n ≡ id.0) ⊎ (n ≢ id.0) → HasRoomAt (column_at old n) place
+        → HasRoomAt (column_at new n) place
     room_by n (inl e) room =
-        let there : map.get (column_at new n).values place ≡ Some v = ap (λ (k : ℕ). map.get (column_at new k).values place) e ∙ ap (λ (m : Values). map.get m place) set_to ∙ get-insert_same nat_cmp_total map.nat_cmp-IsAntisymmetric (column_at old id.0).values place v place refl in
-        record { spare = λ none. absurd (none-some v (sym none ∙ there)); in_range = λ none. absurd (none-some v (sym none ∙ there)) }
+        let there : map.get (column_at new n).values place
+        ≡ Some v = ap (λ (k : ℕ). map.get (column_at new k).values place) e
+        ∙ ap (λ (m : Values). map.get m place) set_to ∙ get-insert_same nat_cmp_total
+        map.nat_cmp-IsAntisymmetric (column_at old id.0).values place v place refl in
+        record {
+          spare = λ none. absurd (none-some v (sym none ∙ there));
+          in_range = λ none.
+              absurd (none-some v (sym none ∙ there));
+        }
     room_by n (inr far) room = subst (λ c. HasRoomAt c place) (sym (others n far)) room
 
-    pub insert_room : (n : ℕ) → HasRoomAt (column_at old n) place → HasRoomAt (column_at new n) place
+    pub insert_room : (n : ℕ) → HasRoomAt (column_at old n) place → HasRoomAt (column_at new n)
+        place
     insert_room n = room_by n (cases_eq n id.0)
 
   -- a value is taken out at the place
-  module _ (taken : (column_at new id.0).values ≡ map.remove (column_at old id.0).values place) where
-    value_taken : (q : ComponentId) → (q ≡ id) ⊎ (q ≢ id) → value_at new place q ≡ map.get (map.remove (components_at old place) id) q
-    value_taken q (inl e) =
-        ap (λ (c : ComponentId). value_at new place c) e
-        ∙ ap (λ (m : Values). map.get m place) taken
-        ∙ get-remove_same nat_cmp_total map.nat_cmp-IsAntisymmetric (column_at old id.0).values place place refl
-        ∙ sym (get-remove_same total same (components_at old place) id q e)
-    value_taken q (inr n) =
-        value_apart place q n ∙ sym (get_components old place q) ∙ sym (get-remove_other total same (components_at old place) id q n)
+  module _ (taken : (column_at new id.0).values ≡ map.remove (column_at old id.0).values place)
+    where
+      value_taken : (q : ComponentId) → (q ≡ id) ⊎ (q ≢ id) → value_at new place q
+          ≡ map.get (map.remove (components_at old place) id) q
+      value_taken q (inl e) =
+          ap (λ (c : ComponentId). value_at new place c) e
+          ∙ ap (λ (m : Values). map.get m place) taken
+          ∙ get-remove_same nat_cmp_total map.nat_cmp-IsAntisymmetric (column_at old id.0).values
+          place place refl
+          ∙ sym (get-remove_same total same (components_at old place) id q e)
+      value_taken q (inr n) =
+          value_apart place q n ∙ sym (get_components old place q)
+          ∙ sym (get-remove_other total same (components_at old place) id q n)
 
-    pub components_remove : components_at new place ≡ map.remove (components_at old place) id
-    components_remove =
-        map.same_map total same _ _ (λ q. get_components new place q ∙ value_taken q (same_or_apart total same q id))
+      pub components_remove : components_at new place ≡ map.remove (components_at old place) id
+      components_remove =
+          map.same_map total same _ _ (λ q. get_components new place q
+          ∙ value_taken q (same_or_apart total same q id))
 
-    value_left : (p : ℕ) → p ≢ place → (q : ComponentId) → (q ≡ id) ⊎ (q ≢ id) → value_at new p q ≡ value_at old p q
-    value_left p far q (inl e) =
-        ap (λ (c : ComponentId). value_at new p c) e
-        ∙ ap (λ (m : Values). map.get m p) taken
-        ∙ get-remove_other nat_cmp_total map.nat_cmp-IsAntisymmetric (column_at old id.0).values place p far
-        ∙ ap (λ (c : ComponentId). value_at old p c) (sym e)
-    value_left p far q (inr n) = value_apart p q n
+      value_left : (p : ℕ) → p ≢ place → (q : ComponentId) → (q ≡ id) ⊎ (q ≢ id) → value_at new p q
+          ≡ value_at old p q
+      value_left p far q (inl e) =
+          ap (λ (c : ComponentId). value_at new p c) e
+          ∙ ap (λ (m : Values). map.get m p) taken
+          ∙ get-remove_other nat_cmp_total map.nat_cmp-IsAntisymmetric (column_at old id.0).values
+          place p far
+          ∙ ap (λ (c : ComponentId). value_at old p c) (sym e)
+      value_left p far q (inr n) = value_apart p q n
 
-    pub remove_others : (p : ℕ) (q : ComponentId) → p ≢ place → value_at new p q ≡ value_at old p q
-    remove_others p q far = value_left p far q (same_or_apart total same q id)
+      pub remove_others : (p : ℕ) (q : ComponentId) → p ≢ place → value_at new p q ≡ value_at old p q
+      remove_others p q far = value_left p far q (same_or_apart total same q id)
 
 -- the column at the number is written over
-module _ (columns : List Column) (n : ℕ) (was is : Column) (inside : n < length columns) (read : was ≡ get_or columns n was) where
+module _ (columns : List Column) (n : ℕ) (was is : Column) (inside : n < length columns) (read : was
+    ≡ get_or columns n was) where
   pub column_set : column_at (set columns n is) n ≡ is
   column_set = get_or-set_same columns n is no_column inside
 
@@ -195,16 +257,20 @@ module _ (columns : List Column) (n : ℕ) (was is : Column) (inside : n < lengt
   column_kept k far = get_or-set_other columns n k is no_column far
 
 -- a column without values is added
-pub column_pushed : (columns : List Column) (n : ℕ) → column_at (columns ++ no_column ∷ []) n ≡ column_at columns n
+pub column_pushed : (columns : List Column) (n : ℕ) → column_at (columns ++ no_column ∷ []) n
+    ≡ column_at columns n
 column_pushed [] zero = refl
 column_pushed [] (suc n) = refl
 column_pushed (c ∷ columns) zero = refl
 column_pushed (c ∷ columns) (suc n) = column_pushed columns n
 
 -- what is not there stays out
-pub taken_none : (columns : List Column) (place : ℕ) (id : ComponentId) → length columns ≤ id.0 → (value_at columns place id ≡ None) × (components_at columns place ≡ map.remove (components_at columns place) id)
+pub taken_none : (columns : List Column) (place : ℕ) (id : ComponentId) → length columns ≤ id.0
+    → (value_at columns place id ≡ None)
+    × (components_at columns place ≡ map.remove (components_at columns place) id)
 taken_none columns place id l =
-    let none : value_at columns place id ≡ None = ap (λ (c : Column). map.get c.values place) (column_past columns id.0 l) ∙ map.get-empty nat_cmp place in
+    let none : value_at columns place id ≡ None = ap (λ (c : Column). map.get c.values place)
+    (column_past columns id.0 l) ∙ map.get-empty nat_cmp place in
     (none, sym (remove_absent total same _ _ (get_components columns place id ∙ none)))
 
 -- no value moves in a column of no values
@@ -217,46 +283,69 @@ moved_none place last = record {
 
 -- ---- the columns that a loop has passed
 
-pub moved_all : (place last : ℕ) (old new : List Column) → length new ≡ length old → ((k : ℕ) → k < length old → IsMovedDown place last (column_at old k).values (column_at new k).values) → (k : ℕ) → IsMovedDown place last (column_at old k).values (column_at new k).values
+pub moved_all : (place last : ℕ) (old new : List Column) → length new ≡ length old
+    → ((k : ℕ) → k < length old → IsMovedDown place last (column_at old k).values
+    (column_at new k).values) → (k : ℕ) → IsMovedDown place last (column_at old k).values
+    (column_at new k).values
 moved_all place last old new len moved k = by (cases_lt k (length old))
   where
-    by : (k < length old) ⊎ (length old ≤ k) → IsMovedDown place last (column_at old k).values (column_at new k).values
+    by : (k < length old) ⊎ (length old ≤ k) → IsMovedDown place last (column_at old k).values
+        (column_at new k).values
     by (inl l) = moved k l
     by (inr l) =
-        subst (λ (c : Column). IsMovedDown place last (column_at old k).values c.values) (sym (column_past new k (omega arith)))
-        (subst (λ (c : Column). IsMovedDown place last c.values no_column.values) (sym (column_past old k l)) (moved_none place last))
+        subst (λ (c : Column). IsMovedDown place last (column_at old k).values c.values)
+        (sym (column_past new k (omega arith)))
+        (subst (λ (c : Column). IsMovedDown place last c.values no_column.values)
+        (sym (column_past old k l)) (moved_none place last))
 
 -- ---- the items at a place, one by one
 
-count_value : (n : ℕ) (o : Option ℤ) (items : List (ComponentId × ℤ)) → cond (is_some o) 1 0 + length items ≡ length (with_value o n items)
+count_value : (n : ℕ) (o : Option ℤ) (items : List (ComponentId × ℤ)) → cond (is_some o) 1 0
+    + length items ≡ length (with_value o n items)
 count_value n None items = omega arith
 count_value n (Some v) items = omega arith
 
-pub count_items : (n : ℕ) (columns : List Column) (place : ℕ) → count_by (λ column. is_some (map.get column.values place)) columns ≡ length (items_from n columns place)
+pub count_items : (n : ℕ) (columns : List Column) (place : ℕ)
+    → count_by (λ column. is_some (map.get column.values place)) columns
+    ≡ length (items_from n columns place)
 count_items n [] place = refl
 count_items n (column ∷ columns) place =
-    let first = sum_by-cons (λ (column : Column). cond (is_some (map.get column.values place)) 1 0) column columns in
+    let first = sum_by-cons (λ (column : Column). cond (is_some (map.get column.values place)) 1 0)
+    column columns in
     let rest = count_items (suc n) columns place in
-    omega (arith, first, rest, count_value n (map.get column.values place) (items_from (suc n) columns place))
+    omega (
+      arith,
+      first,
+      rest,
+      count_value n (map.get column.values place)
+          (items_from (suc n) columns place),
+    )
 
-pub items_none : (n : ℕ) (columns : List Column) (place : ℕ) → ((k : ℕ) → k < length columns → map.get (column_at columns k).values place ≡ None) → items_from n columns place ≡ []
+pub items_none : (n : ℕ) (columns : List Column) (place : ℕ)
+    → ((k : ℕ) → k < length columns → map.get (column_at columns k).values place ≡ None)
+    → items_from n columns place ≡ []
 items_none n [] place none = refl
 items_none n (column ∷ columns) place none =
     ap (λ (o : Option ℤ). with_value o n (items_from (suc n) columns place)) (none 0 (omega arith))
     ∙ items_none (suc n) columns place (λ k l. none (suc k) (omega arith))
 
-pub items_first : (n : ℕ) (columns : List Column) (place k : ℕ) (v : ℤ) → k < length columns → ((j : ℕ) → j < k → map.get (column_at columns j).values place ≡ None) → map.get (column_at columns k).values place ≡ Some v → items_from n columns place ≡ (record { 0 = n + k }, v) ∷ items_from (n + k + 1) (drop (k + 1) columns) place
+pub items_first : (n : ℕ) (columns : List Column) (place k : ℕ) (v : ℤ) → k < length columns
+    → ((j : ℕ) → j < k → map.get (column_at columns j).values place ≡ None)
+    → map.get (column_at columns k).values place ≡ Some v → items_from n columns place
+    ≡ (record { 0 = n + k }, v) ∷ items_from (n + k + 1) (drop (k + 1) columns) place
 items_first n [] place k v l none here = absurd (omega arith)
 items_first n (column ∷ columns) place zero v l none here =
     let n_is : n ≡ n + 0 = omega arith in
     let next : suc n ≡ n + 0 + 1 = omega arith in
     let one : suc zero ≡ 0 + 1 = omega arith in
     ap (λ (o : Option ℤ). with_value o n (items_from (suc n) columns place)) here
-    ∙ (λ i. (record { 0 = n_is i }, v) ∷ items_from (next i) (drop (one i) (column ∷ columns)) place)
+    ∙ (λ i. (record { 0 = n_is i }, v) ∷ items_from (next i) (drop (one i) (column ∷ columns))
+    place)
 items_first n (column ∷ columns) place (suc k) v l none here =
     let n_is : suc n + k ≡ n + suc k = omega arith in
     let more : suc (k + 1) ≡ suc k + 1 = omega arith in
     ap (λ (o : Option ℤ). with_value o n (items_from (suc n) columns place)) (none 0 (omega arith))
     ∙ items_first (suc n) columns place k v (omega arith) (λ j m. none (suc j) (omega arith)) here
     ∙ (λ i. (record { 0 = n_is i }, v) ∷ items_from (n_is i + 1) (drop (k + 1) columns) place)
-    ∙ (λ i. (record { 0 = n + suc k }, v) ∷ items_from (n + suc k + 1) (drop (more i) (column ∷ columns)) place)
+    ∙ (λ i. (record { 0 = n + suc k }, v) ∷ items_from (n + suc k + 1)
+    (drop (more i) (column ∷ columns)) place)

@@ -32,49 +32,66 @@ use Rattle.ent_storage.proofs.Rising.{get_at, map_insert}
 use Rattle.ent_storage.proofs.Overwritten.{is_sorted-filter, find-filter, passed, is_sorted-set}
 use Rattle.ent_storage.proofs.Overwritten.{find-set_same, find-set_other}
 
-pub stands : (living : List LivingEntity) (q : Handle) (i : ℕ) → has_handle_at living q (Some i) ≡ true → (i < length living) × ((d : LivingEntity) → (get_or living i d).handle ≡ q)
+pub stands : (living : List LivingEntity) (q : Handle) (i : ℕ) → has_handle_at living q (Some i)
+    ≡ true → (i < length living) × ((d : LivingEntity) → (get_or living i d).handle ≡ q)
 stands [] q i e = absurd (false≢true e)
 stands (x ∷ living) q zero e = (omega arith, λ d. same x.handle q (equal _ (subst T (sym e) tt)))
-stands (x ∷ living) q (suc i) e = let rest = stands living q i e in (omega (arith, rest.0), λ d. rest.1 d)
+stands (x ∷ living) q (suc i) e = let rest = stands living q i e in
+    (omega (arith, rest.0), λ d. rest.1 d)
 
-pub stands_from : (living : List LivingEntity) (q : Handle) (i : ℕ) (d : LivingEntity) → i < length living → (get_or living i d).handle ≡ q → has_handle_at living q (Some i) ≡ true
+pub stands_from : (living : List LivingEntity) (q : Handle) (i : ℕ) (d : LivingEntity) → i
+    < length living → (get_or living i d).handle ≡ q → has_handle_at living q (Some i) ≡ true
 stands_from [] q i d l e = absurd (omega arith)
 stands_from (x ∷ living) q zero d l e = tied total same x.handle q e
 stands_from (x ∷ living) q (suc i) d l e = stands_from living q i d (omega arith) e
 
 module _ (living : List LivingEntity) (index : FinMap handle_cmp ℕ) where
-  pub get_counted : (q : Handle) → finite.get (counted living index) q ≡ cond (has_handle_at living q (finite.get index q)) (finite.get index q) None
+  pub get_counted : (q : Handle) → finite.get (counted living index) q
+      ≡ cond (has_handle_at living q (finite.get index q)) (finite.get index q) None
   get_counted q =
-      finite.get-retain_keys index (λ h. has_handle_at living h (finite.get index h)) q (λ x e. ap (λ h. has_handle_at living h (finite.get index h)) (sym (same q x e)))
+      finite.get-retain_keys index (λ h. has_handle_at living h (finite.get index h)) q
+      (λ x e. ap (λ h. has_handle_at living h (finite.get index h)) (sym (same q x e)))
 
-  by_test : (q : Handle) (o : Option ℕ) (b : Bool) (i : ℕ) → has_handle_at living q o ≡ b → cond b o None ≡ Some i → (o ≡ Some i) × (has_handle_at living q (Some i) ≡ true)
+  by_test : (q : Handle) (o : Option ℕ) (b : Bool) (i : ℕ) → has_handle_at living q o ≡ b
+      → cond b o None ≡ Some i → (o ≡ Some i) × (has_handle_at living q (Some i) ≡ true)
   by_test q o true i t e = (e, ap (has_handle_at living q) (sym e) ∙ t)
   by_test q o false i t e = absurd (some_not_none i None e refl)
 
   -- a place that counts is in the index, and has the handle
-  pub counted_gives : (q : Handle) (i : ℕ) → finite.get (counted living index) q ≡ Some i → (finite.get index q ≡ Some i) × (has_handle_at living q (Some i) ≡ true)
+  pub counted_gives : (q : Handle) (i : ℕ) → finite.get (counted living index) q ≡ Some i
+      → (finite.get index q ≡ Some i) × (has_handle_at living q (Some i) ≡ true)
   counted_gives q i e = by_test q (finite.get index q) _ i refl (sym (get_counted q) ∙ e)
 
-  pub counted_has : (q : Handle) (i : ℕ) → finite.get index q ≡ Some i → has_handle_at living q (Some i) ≡ true → finite.get (counted living index) q ≡ Some i
+  pub counted_has : (q : Handle) (i : ℕ) → finite.get index q ≡ Some i
+      → has_handle_at living q (Some i) ≡ true → finite.get (counted living index) q ≡ Some i
   counted_has q i at is =
-      get_counted q ∙ ap (λ o. cond (has_handle_at living q o) o None) at ∙ ap (λ b. cond b (Some i) None) is
+      get_counted q ∙ ap (λ o. cond (has_handle_at living q o) o None) at
+      ∙ ap (λ b. cond b (Some i) None) is
 
-  pub counted_none : (q : Handle) → finite.get index q ≡ None → finite.get (counted living index) q ≡ None
+  pub counted_none : (q : Handle) → finite.get index q ≡ None → finite.get (counted living index) q
+      ≡ None
   counted_none q at = get_counted q ∙ ap (λ o. cond (has_handle_at living q o) o None) at
 
-  pub counted_not : (q : Handle) (i : ℕ) → finite.get index q ≡ Some i → has_handle_at living q (Some i) ≡ false → finite.get (counted living index) q ≡ None
+  pub counted_not : (q : Handle) (i : ℕ) → finite.get index q ≡ Some i
+      → has_handle_at living q (Some i) ≡ false → finite.get (counted living index) q ≡ None
   counted_not q i at is =
-      get_counted q ∙ ap (λ o. cond (has_handle_at living q o) o None) at ∙ ap (λ b. cond b (Some i) None) is
+      get_counted q ∙ ap (λ o. cond (has_handle_at living q o) o None) at
+      ∙ ap (λ b. cond b (Some i) None) is
 
   -- residents with an exact index are indexed by each index that has those places too
-  pub indexed_counted : (exact : FinMap handle_cmp ℕ) → IsIndexed living exact → ((q : Handle) (i : ℕ) → finite.get exact q ≡ Some i → finite.get index q ≡ Some i) → IsIndexed living (counted living index)
+  pub indexed_counted : (exact : FinMap handle_cmp ℕ) → IsIndexed living exact
+      → ((q : Handle) (i : ℕ) → finite.get exact q ≡ Some i → finite.get index q ≡ Some i)
+      → IsIndexed living (counted living index)
   indexed_counted exact indexed has = record {
-    each_entity = λ i l d. counted_has _ i (has _ i (indexed.each_entity i l d)) (stands_from living _ i d l refl);
+    each_entity = λ i l d. counted_has _ i (has _ i (indexed.each_entity i l d))
+        (stands_from living _ i d l refl);
     each_place = λ q i at. stands living q i (counted_gives q i at).1;
   }
 
 -- the index after an entity's place was put in
-pub put_has : (old new : FinMap handle_cmp ℕ) (h : Handle) (n : ℕ) → finite.get new h ≡ Some n → Keeps h old new → (q : Handle) (i : ℕ) → finite.get (finite.insert old h n) q ≡ Some i → finite.get new q ≡ Some i
+pub put_has : (old new : FinMap handle_cmp ℕ) (h : Handle) (n : ℕ) → finite.get new h ≡ Some n
+    → Keeps h old new → (q : Handle) (i : ℕ) → finite.get (finite.insert old h n) q ≡ Some i
+    → finite.get new q ≡ Some i
 put_has old new h n placed kept q i at = by (same_or_apart total same q h)
   where
     by : (q ≡ h) ⊎ (q ≢ h) → finite.get new q ≡ Some i
@@ -82,32 +99,44 @@ put_has old new h n placed kept q i at = by (same_or_apart total same q h)
     by (inr d) = kept q i d (sym (get-insert_other total same old h n q d) ∙ at)
 
 -- the index after an entity has gone, and after the last one has moved
-pub removed_has : (living : List LivingEntity) (index : FinMap handle_cmp ℕ) (h : Handle) (q : Handle) (i : ℕ) → finite.get (finite.remove (counted living index) h) q ≡ Some i → finite.get index q ≡ Some i
+pub removed_has : (living : List LivingEntity) (index : FinMap handle_cmp ℕ) (h : Handle)
+    (q : Handle) (i : ℕ) → finite.get (finite.remove (counted living index) h) q ≡ Some i
+    → finite.get index q ≡ Some i
 removed_has living index h q i at = by (same_or_apart total same q h)
   where
     by : (q ≡ h) ⊎ (q ≢ h) → finite.get index q ≡ Some i
-    by (inl e) = absurd (some_not_none i _ at (get-remove_same total same (counted living index) h q e))
-    by (inr d) = (counted_gives living index q i (sym (get-remove_other total same (counted living index) h q d) ∙ at)).0
+    by (inl e) = absurd (some_not_none i _ at (get-remove_same total same (counted living index) h q
+        e))
+    by (inr d) = (counted_gives living index q i
+        (sym (get-remove_other total same (counted living index) h q d) ∙ at)).0
 
-pub moved_has : (living : List LivingEntity) (index : FinMap handle_cmp ℕ) (h m : Handle) (n : ℕ) (q : Handle) (i : ℕ) → finite.get (finite.insert (finite.remove (counted living index) h) m n) q ≡ Some i → finite.get (finite.insert index m n) q ≡ Some i
+pub moved_has : (living : List LivingEntity) (index : FinMap handle_cmp ℕ) (h m : Handle) (n : ℕ)
+    (q : Handle) (i : ℕ) → finite.get (finite.insert (finite.remove (counted living index) h) m n) q
+    ≡ Some i → finite.get (finite.insert index m n) q ≡ Some i
 moved_has living index h m n q i at = by (same_or_apart total same q m)
   where
     by : (q ≡ m) ⊎ (q ≢ m) → finite.get (finite.insert index m n) q ≡ Some i
-    by (inl e) = get-insert_same total same index m n q e ∙ sym (get-insert_same total same _ m n q e) ∙ at
+    by (inl e) = get-insert_same total same index m n q e
+        ∙ sym (get-insert_same total same _ m n q e) ∙ at
     by (inr d) =
         get-insert_other total same index m n q d
         ∙ removed_has living index h q i (sym (get-insert_other total same _ m n q d) ∙ at)
 
 -- a handle that is there without another one is in the index
-pub moved_counts : (living : List LivingEntity) (index : FinMap handle_cmp ℕ) (h m : Handle) → is_some (finite.get (finite.remove (counted living index) h) m) ≡ true → is_some (finite.get index m) ≡ true
-moved_counts living index h m is = by (finite.get (finite.remove (counted living index) h) m) refl is
+pub moved_counts : (living : List LivingEntity) (index : FinMap handle_cmp ℕ) (h m : Handle)
+    → is_some (finite.get (finite.remove (counted living index) h) m) ≡ true
+    → is_some (finite.get index m) ≡ true
+moved_counts living index h m is = by (finite.get (finite.remove (counted living index) h) m) refl
+    is
   where
-    by : (o : Option ℕ) → finite.get (finite.remove (counted living index) h) m ≡ o → is_some o ≡ true → is_some (finite.get index m) ≡ true
+    by : (o : Option ℕ) → finite.get (finite.remove (counted living index) h) m ≡ o → is_some o
+        ≡ true → is_some (finite.get index m) ≡ true
     by None at e = absurd (false≢true e)
     by (Some i) at e = ap is_some (removed_has living index h m i at)
 
 -- what is left after a sweep counts still
-pub swept_has : (living : List LivingEntity) (index : FinMap handle_cmp ℕ) → HasAll (counted living index) (counted living (counted living index))
+pub swept_has : (living : List LivingEntity) (index : FinMap handle_cmp ℕ)
+    → HasAll (counted living index) (counted living (counted living index))
 swept_has living index q i at =
     counted_has living (counted living index) q i at (counted_gives living index q i at).1
 
@@ -115,37 +144,61 @@ swept_has living index q i at =
 
 pub kept_none : (index : FinMap handle_cmp ℕ) (room : ℕ) → IsKeptIndex [] index room
 kept_none index room = record {
-  indexed = indexed_counted [] index finite.empty indexed_none (λ q i at. absurd (some_not_none i _ at (finite.get-empty handle_cmp q)));
+  indexed = indexed_counted [] index finite.empty indexed_none
+      (λ q i at. absurd (some_not_none i _ at (finite.get-empty handle_cmp q)));
   fits = omega arith;
 }
 
-module _ (living : List LivingEntity) (index : FinMap handle_cmp ℕ) (room : ℕ) (kept : IsKeptIndex living index room) where
-  pub kept_push : (entity : LivingEntity) (new : FinMap handle_cmp ℕ) → finite.get (counted living index) entity.handle ≡ None → length living < room → finite.get new entity.handle ≡ Some (length living) → Keeps entity.handle (counted living index) new → IsKeptIndex (living ++ entity ∷ []) new room
+module _ (living : List LivingEntity) (index : FinMap handle_cmp ℕ) (room : ℕ)
+    (kept : IsKeptIndex living index room) where
+  pub kept_push : (entity : LivingEntity) (new : FinMap handle_cmp ℕ)
+      → finite.get (counted living index) entity.handle ≡ None → length living < room
+      → finite.get new entity.handle ≡ Some (length living)
+      → Keeps entity.handle (counted living index) new → IsKeptIndex (living ++ entity ∷ []) new
+      room
   kept_push entity new none fits placed keeps = record {
-    indexed = indexed_counted (living ++ entity ∷ []) new _ (indexed_push living (counted living index) kept.indexed entity none) (put_has (counted living index) new entity.handle (length living) placed keeps);
+    indexed = indexed_counted (living ++ entity ∷ []) new _
+        (indexed_push living (counted living index) kept.indexed entity none)
+        (put_has (counted living index) new entity.handle (length living) placed keeps);
     fits = omega (arith, length_push living entity, fits);
   }
 
   module _ (h : Handle) (i : ℕ) (placed : finite.get (counted living index) h ≡ Some i) where
-    pub kept_changed : (entity : LivingEntity) → entity ≡ get_or living i entity → (held : Components) → IsKeptIndex (set living i (record { handle = entity.handle; birth = entity.birth; components = held })) index room
+    pub kept_changed : (entity : LivingEntity) → entity ≡ get_or living i entity
+        → (held : Components)
+        → IsKeptIndex
+        (set living i (record { handle = entity.handle; birth = entity.birth; components = held }))
+        index room
     kept_changed entity read held =
-        let changed : LivingEntity = record { handle = entity.handle; birth = entity.birth; components = held } in
-        let at = ap (finite.get (counted living index)) (read_handle living (counted living index) kept.indexed h i placed entity read) ∙ placed in
+        let changed : LivingEntity = record {
+          handle = entity.handle;
+          birth =
+              entity.birth;
+          components = held;
+        } in
+        let at = ap (finite.get (counted living index)) (read_handle living (counted living index)
+        kept.indexed h i placed entity read) ∙ placed in
         record {
-          indexed = indexed_counted (set living i changed) index (counted living index) (indexed_set living (counted living index) kept.indexed i changed at) (λ q i at. (counted_gives living index q i at).0);
+          indexed = indexed_counted (set living i changed) index (counted living index)
+              (indexed_set living (counted living index) kept.indexed i changed at)
+              (λ q i at. (counted_gives living index q i at).0);
           fits = omega (arith, length-set living i changed, kept.fits);
         }
 
     module _ (left : List LivingEntity) (rest : IsMovedInto living i left) where
-      pub kept_moved : i < length left → (entity : LivingEntity) → entity ≡ get_or left i entity → IsKeptIndex left (finite.insert index entity.handle i) room
+      pub kept_moved : i < length left → (entity : LivingEntity) → entity ≡ get_or left i entity
+          → IsKeptIndex left (finite.insert index entity.handle i) room
       kept_moved inside entity read = record {
-        indexed = indexed_counted left (finite.insert index entity.handle i) _ (indexed_moved living (counted living index) kept.indexed h i placed left rest inside entity read) (moved_has living index h entity.handle i);
+        indexed = indexed_counted left (finite.insert index entity.handle i) _
+            (indexed_moved living (counted living index) kept.indexed h i placed left rest inside
+            entity read) (moved_has living index h entity.handle i);
         fits = omega (arith, rest.one_less, kept.fits);
       }
 
       pub kept_popped : length left ≤ i → IsKeptIndex left index room
       kept_popped last = record {
-        indexed = indexed_counted left index _ (indexed_popped living (counted living index) kept.indexed h i placed left rest last) (removed_has living index h);
+        indexed = indexed_counted left index _ (indexed_popped living (counted living index)
+            kept.indexed h i placed left rest last) (removed_has living index h);
         fits = omega (arith, rest.one_less, kept.fits);
       }
 
@@ -154,25 +207,33 @@ module _ (living : List LivingEntity) (index : FinMap handle_cmp ℕ) (room : �
 abbrev pub counts : List LivingEntity → Handle × ℕ → Bool
 counts living pair = has_handle_at living pair.0 (Some pair.1)
 
-module _ (living : List LivingEntity) (pairs : List (Handle × ℕ)) (rising : T (is_sorted handle_cmp pairs)) where
+module _ (living : List LivingEntity) (pairs : List (Handle × ℕ))
+    (rising : T (is_sorted handle_cmp pairs)) where
   abbrev left : List (Handle × ℕ)
   left = filter (counts living) pairs
 
-  passed_is : (q : Handle) (o : Option ℕ) → passed total same (counts living) q o ≡ cond (has_handle_at living q o) o None
+  passed_is : (q : Handle) (o : Option ℕ) → passed total same (counts living) q o
+      ≡ cond (has_handle_at living q o) o None
   passed_is q None = refl
   passed_is q (Some i) = refl
 
-  pub from_sorted_left : finite.from_sorted {R = handle_cmp} (filter (counts living) pairs) ≡ counted living (finite.from_sorted pairs)
+  pub from_sorted_left : finite.from_sorted {R = handle_cmp} (filter (counts living) pairs)
+      ≡ counted living (finite.from_sorted pairs)
   from_sorted_left =
       finite.same_map total same _ _ (λ q.
-      finite.get-from_sorted handle_cmp _ q (is_sorted-filter total same (counts living) pairs rising)
+      finite.get-from_sorted handle_cmp _ q (is_sorted-filter total same (counts living) pairs
+      rising)
       ∙ find-filter total same (counts living) pairs q rising
       ∙ passed_is q (find handle_cmp q pairs)
-      ∙ sym (get_counted living (finite.from_sorted pairs) q ∙ ap (λ o. cond (has_handle_at living q o) o None) (finite.get-from_sorted handle_cmp pairs q rising)))
+      ∙ sym (get_counted living (finite.from_sorted pairs) q
+      ∙ ap (λ o. cond (has_handle_at living q o) o None) (finite.get-from_sorted handle_cmp
+      pairs q rising)))
 
   -- no two of them have the same place
-  apart_places : (i j : ℕ) (d : ℕ) → i < j → j < length (map (λ e. e.1) left) → eqb (get_or (map (λ e. e.1) left) i d) (get_or (map (λ e. e.1) left) j d) ≡ false
-  apart_places i j d l k = by (eqb (get_or (map (λ e. e.1) left) i d) (get_or (map (λ e. e.1) left) j d)) refl
+  apart_places : (i j : ℕ) (d : ℕ) → i < j → j < length (map (λ e. e.1) left)
+      → eqb (get_or (map (λ e. e.1) left) i d) (get_or (map (λ e. e.1) left) j d) ≡ false
+  apart_places i j d l k =
+      by (eqb (get_or (map (λ e. e.1) left) i d) (get_or (map (λ e. e.1) left) j d)) refl
     where
       inside : j < length left
       inside = omega (arith, length-map left (λ (e : Handle × ℕ). e.1), k)
@@ -186,51 +247,87 @@ module _ (living : List LivingEntity) (pairs : List (Handle × ℕ)) (rising : T
       at_j : get_or (map (λ e. e.1) left) j d ≡ (get_or left j unused).1
       at_j = get_or-map (λ (e : Handle × ℕ). e.1) left j unused d inside
 
-      by : (b : Bool) → eqb (get_or (map (λ e. e.1) left) i d) (get_or (map (λ e. e.1) left) j d) ≡ b → b ≡ false
+      by : (b : Bool) → eqb (get_or (map (λ e. e.1) left) i d) (get_or (map (λ e. e.1) left) j d)
+          ≡ b → b ≡ false
       by false e = refl
       by true e =
-          let one : (get_or left i unused).1 ≡ (get_or left j unused).1 = sym at_i ∙ eqb-true (get_or (map (λ e. e.1) left) i d) (get_or (map (λ e. e.1) left) j d) e ∙ at_j in
-          let resident_i = (stands living (get_or left i unused).0 (get_or left i unused).1 (filter_passes (counts living) pairs i unused (omega (arith, inside)))).1 (some_entity unused.0) in
-          let resident_j = (stands living (get_or left j unused).0 (get_or left j unused).1 (filter_passes (counts living) pairs j unused inside)).1 (some_entity unused.0) in
-          let keys : (get_or left i unused).0 ≡ (get_or left j unused).0 = sym resident_i ∙ ap (λ n. (get_or living n (some_entity unused.0)).handle) one ∙ resident_j in
-          let less = rising_at total left i j unused (is_sorted-filter total same (counts living) pairs rising) l inside in
-          let equals : handle_cmp (get_or left i unused).0 (get_or left j unused).0 ≡ Equal = ap (handle_cmp (get_or left i unused).0) (sym keys) ∙ tied_itself total (get_or left i unused).0 in
+          let one : (get_or left i unused).1 ≡ (get_or left j unused).1 = sym at_i
+          ∙ eqb-true (get_or (map (λ e. e.1) left) i d) (get_or (map (λ e. e.1) left) j d) e
+          ∙ at_j in
+          let resident_i = (stands living (get_or left i unused).0 (get_or left i unused).1
+          (filter_passes (counts living) pairs i unused (omega (arith, inside)))).1
+          (some_entity unused.0) in
+          let resident_j = (stands living (get_or left j unused).0 (get_or left j unused).1
+          (filter_passes (counts living) pairs j unused inside)).1 (some_entity unused.0) in
+          let keys : (get_or left i unused).0 ≡ (get_or left j unused).0 = sym resident_i
+          ∙ ap (λ n. (get_or living n (some_entity unused.0)).handle) one ∙ resident_j in
+          let less = rising_at total left i j unused (is_sorted-filter total same (counts living)
+          pairs rising) l inside in
+          let equals : handle_cmp (get_or left i unused).0 (get_or left j unused).0
+          ≡ Equal = ap (handle_cmp (get_or left i unused).0) (sym keys)
+          ∙ tied_itself total (get_or left i unused).0 in
           absurd (subst T (ap is_eq (sym equals ∙ less)) tt)
 
   place_below : (q : ℕ) → Contains (map (λ e. e.1) left) q → q < length living
   place_below q at =
       let unused : Handle × ℕ = (record { index = 0; generation = 0 }, q) in
-      let inside : at.0 < length left = omega (arith, length-map left (λ (e : Handle × ℕ). e.1), at.1) in
+      let inside : at.0 < length left = omega (
+        arith,
+        length-map left (λ (e : Handle × ℕ). e.1),
+        at.1,
+      ) in
       let resident = stands living _ _ (filter_passes (counts living) pairs at.0 unused inside) in
-      omega (arith, resident.0, get_or-map (λ (e : Handle × ℕ). e.1) left at.0 unused q inside, at.2)
+      omega (
+        arith,
+        resident.0,
+        get_or-map (λ (e : Handle × ℕ). e.1) left at.0 unused q inside,
+        at.2,
+      )
 
   -- so there are no more of them than residents
   pub left_fits : length (filter (counts living) pairs) ≤ length living
   left_fits =
-      let counted_places = length-le_from_distinct_below (map (λ e. e.1) left) (length living) (IsDistinct-from_apart eqb _ apart_places) (λ q any. place_below q (Contains-from_any eqb-true q _ any)) in
+      let counted_places = length-le_from_distinct_below (map (λ e. e.1) left) (length living)
+      (IsDistinct-from_apart eqb _ apart_places)
+      (λ q any. place_below q (Contains-from_any eqb-true q _ any)) in
       omega (arith, length-map left (λ (e : Handle × ℕ). e.1), counted_places)
 
 -- ---- a pair is put over one that does not count, or into its gap
 
-module _ (living : List LivingEntity) (pairs : List (Handle × ℕ)) (rising : T (is_sorted handle_cmp pairs)) (k : Handle) (v : ℕ) (p : ℕ) where
-  module _ (inside : p < length pairs) (below : AllWithin (λ e. handle_cmp e.0 k ≡ Less) pairs 0 p) (above : AllWithin (λ e. handle_cmp e.0 k ≡ Greater) pairs (p + 1) (length pairs)) where
+module _ (living : List LivingEntity) (pairs : List (Handle × ℕ))
+    (rising : T (is_sorted handle_cmp pairs)) (k : Handle) (v : ℕ) (p : ℕ) where
+  module _ (inside : p < length pairs) (below : AllWithin (λ e. handle_cmp e.0 k ≡ Less) pairs 0 p)
+      (above : AllWithin (λ e. handle_cmp e.0 k ≡ Greater) pairs (p + 1) (length pairs)) where
     pub over_sorted : T (is_sorted handle_cmp (set pairs p (k, v)))
     over_sorted = is_sorted-set total same k v pairs p rising inside below above
 
-    pub over_placed : finite.get (finite.from_sorted {R = handle_cmp} (set pairs p (k, v))) k ≡ Some v
-    over_placed = finite.get-from_sorted handle_cmp _ k over_sorted ∙ find-set_same total same k v pairs p inside below
+    pub over_placed : finite.get (finite.from_sorted {R = handle_cmp} (set pairs p (k, v))) k
+        ≡ Some v
+    over_placed = finite.get-from_sorted handle_cmp _ k over_sorted ∙ find-set_same total same k v
+        pairs p inside below
 
     module _ (d : Handle × ℕ) (is_gone : counts living (get_or pairs p d) ≡ false) where
       -- a handle that counts is not the one put over
-      other_key : (q : Handle) (i : ℕ) → finite.get (finite.from_sorted {R = handle_cmp} pairs) q ≡ Some i → has_handle_at living q (Some i) ≡ true → (f : Handle × ℕ) → (get_or pairs p f).0 ≢ q
+      other_key : (q : Handle) (i : ℕ) → finite.get (finite.from_sorted {R = handle_cmp} pairs) q
+          ≡ Some i → has_handle_at living q (Some i) ≡ true → (f : Handle × ℕ)
+          → (get_or pairs p f).0 ≢ q
       other_key q i at is f e =
-          let here : (g : Handle × ℕ) → get_or pairs p g ≡ get_or pairs p f = λ g. get_or_default pairs p g f inside in
-          let found = get_at total same pairs rising q p f (record { in_range = inside; has_key = λ g. ap (λ (x : Handle × ℕ). handle_cmp x.0 q) (here g) ∙ ap (λ h. handle_cmp h q) e ∙ tied_itself total q }) in
+          let here : (g : Handle × ℕ) → get_or pairs p g ≡ get_or pairs p f = λ g.
+          get_or_default pairs p g f inside in
+          let found = get_at total same pairs rising q p f
+          (record {
+            in_range = inside;
+            has_key = λ g. ap (λ (x : Handle × ℕ). handle_cmp x.0 q)
+                (here g) ∙ ap (λ h. handle_cmp h q) e ∙ tied_itself total q;
+          }) in
           let places : Some i ≡ Some (get_or pairs p f).1 = sym at ∙ found in
-          let counted_too : counts living (get_or pairs p f) ≡ true = ap (λ h. has_handle_at living h (Some (get_or pairs p f).1)) e ∙ ap (has_handle_at living q) (sym places) ∙ is in
+          let counted_too : counts living (get_or pairs p f)
+          ≡ true = ap (λ h. has_handle_at living h (Some (get_or pairs p f).1)) e
+          ∙ ap (has_handle_at living q) (sym places) ∙ is in
           false≢true (sym is_gone ∙ ap (counts living) (here d) ∙ counted_too)
 
-      pub over_kept : Keeps k (counted living (finite.from_sorted pairs)) (finite.from_sorted (set pairs p (k, v)))
+      pub over_kept : Keeps k (counted living (finite.from_sorted pairs))
+          (finite.from_sorted (set pairs p (k, v)))
       over_kept q i n at =
           let old = counted_gives living (finite.from_sorted pairs) q i at in
           finite.get-from_sorted handle_cmp _ q over_sorted
@@ -238,12 +335,14 @@ module _ (living : List LivingEntity) (pairs : List (Handle × ℕ)) (rising : T
           ∙ sym (finite.get-from_sorted handle_cmp pairs q rising) ∙ old.0
 
   module _ (gap : IsGapFor handle_cmp pairs k p) where
-    pub gap_placed : finite.get (finite.from_sorted {R = handle_cmp} (insert pairs p (k, v))) k ≡ Some v
+    pub gap_placed : finite.get (finite.from_sorted {R = handle_cmp} (insert pairs p (k, v))) k
+        ≡ Some v
     gap_placed =
         ap (λ m. finite.get m k) (map_insert total same pairs rising k p v gap)
         ∙ get-insert_same total same (finite.from_sorted pairs) k v k refl
 
-    pub gap_kept : Keeps k (counted living (finite.from_sorted pairs)) (finite.from_sorted (insert pairs p (k, v)))
+    pub gap_kept : Keeps k (counted living (finite.from_sorted pairs))
+        (finite.from_sorted (insert pairs p (k, v)))
     gap_kept q i n at =
         ap (λ m. finite.get m q) (map_insert total same pairs rising k p v gap)
         ∙ get-insert_other total same (finite.from_sorted pairs) k v q n

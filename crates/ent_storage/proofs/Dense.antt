@@ -17,34 +17,40 @@ use Rattle.ent_storage.proofs.Keys.{get-remove_same, get-remove_other}
 
 -- ---- elements by their positions
 
-pub at_set_same : {X : Type 0} (xs : List X) (i : ℕ) (y : X) → i < length xs → slice_get (set xs i y) i ≡ Some y
+pub at_set_same : {X : Type 0} (xs : List X) (i : ℕ) (y : X) → i < length xs
+    → slice_get (set xs i y) i ≡ Some y
 at_set_same [] i y l = absurd (omega arith)
 at_set_same (x ∷ xs) zero y l = refl
 at_set_same (x ∷ xs) (suc i) y l = at_set_same xs i y (omega arith)
 
-pub at_set_other : {X : Type 0} (xs : List X) (i j : ℕ) (y : X) → j ≢ i → slice_get (set xs i y) j ≡ slice_get xs j
+pub at_set_other : {X : Type 0} (xs : List X) (i j : ℕ) (y : X) → j ≢ i → slice_get (set xs i y) j
+    ≡ slice_get xs j
 at_set_other [] i j y n = refl
 at_set_other (x ∷ xs) zero zero y n = absurd (n refl)
 at_set_other (x ∷ xs) zero (suc j) y n = refl
 at_set_other (x ∷ xs) (suc i) zero y n = refl
 at_set_other (x ∷ xs) (suc i) (suc j) y n = at_set_other xs i j y (λ e. n (ap suc e))
 
-pub at_push_before : {X : Type 0} (xs : List X) (y : X) (k : ℕ) → k < length xs → slice_get (xs ++ y ∷ []) k ≡ slice_get xs k
+pub at_push_before : {X : Type 0} (xs : List X) (y : X) (k : ℕ) → k < length xs
+    → slice_get (xs ++ y ∷ []) k ≡ slice_get xs k
 at_push_before [] y k l = absurd (omega arith)
 at_push_before (x ∷ xs) y zero l = refl
 at_push_before (x ∷ xs) y (suc k) l = at_push_before xs y k (omega arith)
 
-pub at_push_end : {X : Type 0} (xs : List X) (y : X) (k : ℕ) → length xs ≤ k → (z : X) → slice_get (xs ++ y ∷ []) k ≡ Some z → (k ≡ length xs) × (y ≡ z)
+pub at_push_end : {X : Type 0} (xs : List X) (y : X) (k : ℕ) → length xs ≤ k → (z : X)
+    → slice_get (xs ++ y ∷ []) k ≡ Some z → (k ≡ length xs) × (y ≡ z)
 at_push_end [] y zero l z e = (refl, same_Some _ _ e)
 at_push_end [] y (suc k) l z e = absurd (none-some z e)
 at_push_end (x ∷ xs) y zero l z e = absurd (omega arith)
-at_push_end (x ∷ xs) y (suc k) l z e = let rest = at_push_end xs y k (omega arith) z e in (ap suc rest.0, rest.1)
+at_push_end (x ∷ xs) y (suc k) l z e = let rest = at_push_end xs y k (omega arith) z e in
+    (ap suc rest.0, rest.1)
 
 pub at_pushed : {X : Type 0} (xs : List X) (y : X) → slice_get (xs ++ y ∷ []) (length xs) ≡ Some y
 at_pushed [] y = refl
 at_pushed (x ∷ xs) y = at_pushed xs y
 
-pub same_option : {X : Type 0} (a b : Option X) → ((v : X) → a ≡ Some v → b ≡ Some v) → ((v : X) → b ≡ Some v → a ≡ Some v) → a ≡ b
+pub same_option : {X : Type 0} (a b : Option X) → ((v : X) → a ≡ Some v → b ≡ Some v)
+    → ((v : X) → b ≡ Some v → a ≡ Some v) → a ≡ b
 same_option None None f g = refl
 same_option None (Some y) f g = g y refl
 same_option (Some x) None f g = sym (f x refl)
@@ -52,48 +58,64 @@ same_option (Some x) (Some y) f g = g y refl
 
 -- ---- a scan from the front
 
-pub find_at : (D : List (ℕ × ℤ)) (k p : ℕ) (v : ℤ) → slice_get D k ≡ Some (p, v) → ((j : ℕ) (w : ℤ) → j < k → slice_get D j ≢ Some (p, w)) → find nat_cmp p D ≡ Some v
+pub find_at : (D : List (ℕ × ℤ)) (k p : ℕ) (v : ℤ) → slice_get D k ≡ Some (p, v)
+    → ((j : ℕ) (w : ℤ) → j < k → slice_get D j ≢ Some (p, w)) → find nat_cmp p D ≡ Some v
 find_at [] k p v e first = absurd (none-some (p, v) e)
 find_at (x ∷ D) zero p v e first =
     let parts = some_pair_parts x.0 p x.1 v e in
-    ap (λ t. cond t (Some x.1) (find nat_cmp p D)) (tied total same p x.0 (sym parts.0)) ∙ ap Some parts.1
+    ap (λ t. cond t (Some x.1) (find nat_cmp p D)) (tied total same p x.0 (sym parts.0))
+    ∙ ap Some parts.1
 find_at (x ∷ D) (suc k) p v e first =
-    ap (λ t. cond t (Some x.1) (find nat_cmp p D)) (apart total same p x.0 (λ q. first 0 x.1 (omega arith) (ap (λ (n : ℕ). Some (n, x.1)) (sym q))))
+    ap (λ t. cond t (Some x.1) (find nat_cmp p D))
+    (apart total same p x.0
+    (λ q. first 0 x.1 (omega arith) (ap (λ (n : ℕ). Some (n, x.1)) (sym q))))
     ∙ find_at D k p v e (λ j w l. first (suc j) w (omega arith))
 
-find_gives_first : (x : ℕ × ℤ) (D : List (ℕ × ℤ)) (p : ℕ) (v : ℤ) → (find nat_cmp p D ≡ Some v → (k : ℕ) × (slice_get D k ≡ Some (p, v))) → (p ≡ x.0) ⊎ (p ≢ x.0) → find nat_cmp p (x ∷ D) ≡ Some v → (k : ℕ) × (slice_get (x ∷ D) k ≡ Some (p, v))
+find_gives_first : (x : ℕ × ℤ) (D : List (ℕ × ℤ)) (p : ℕ) (v : ℤ)
+    → (find nat_cmp p D ≡ Some v → (k : ℕ) × (slice_get D k ≡ Some (p, v))) → (p ≡ x.0) ⊎ (p ≢ x.0)
+    → find nat_cmp p (x ∷ D) ≡ Some v → (k : ℕ) × (slice_get (x ∷ D) k ≡ Some (p, v))
 find_gives_first x D p v rest (inl q) e =
-    let is = same_Some _ _ (sym (ap (λ t. cond t (Some x.1) (find nat_cmp p D)) (tied total same p x.0 q)) ∙ e) in
+    let is = same_Some _ _
+    (sym (ap (λ t. cond t (Some x.1) (find nat_cmp p D)) (tied total same p x.0 q)) ∙ e) in
     (0, λ i. Some (sym q i, is i))
 find_gives_first x D p v rest (inr n) e =
-    let later = rest (sym (ap (λ t. cond t (Some x.1) (find nat_cmp p D)) (apart total same p x.0 n)) ∙ e) in
+    let later = rest
+    (sym (ap (λ t. cond t (Some x.1) (find nat_cmp p D)) (apart total same p x.0 n)) ∙ e) in
     (suc later.0, later.1)
 
-pub find_gives : (D : List (ℕ × ℤ)) (p : ℕ) (v : ℤ) → find nat_cmp p D ≡ Some v → (k : ℕ) × (slice_get D k ≡ Some (p, v))
+pub find_gives : (D : List (ℕ × ℤ)) (p : ℕ) (v : ℤ) → find nat_cmp p D ≡ Some v → (k : ℕ)
+    × (slice_get D k ≡ Some (p, v))
 find_gives [] p v e = absurd (none-some v e)
-find_gives (x ∷ D) p v e = find_gives_first x D p v (find_gives D p v) (same_or_apart total same p x.0) e
+find_gives (x ∷ D) p v e = find_gives_first x D p v (find_gives D p v)
+    (same_or_apart total same p x.0) e
 
 -- ---- what the vectors stand for
 
 module _ (D : List (ℕ × ℤ)) (S : List ℕ) (dense : IsDense D S) where
-  pub once : (j k p : ℕ) (v w : ℤ) → slice_get D j ≡ Some (p, v) → slice_get D k ≡ Some (p, w) → j ≡ k
+  pub once : (j k p : ℕ) (v w : ℤ) → slice_get D j ≡ Some (p, v) → slice_get D k ≡ Some (p, w) → j
+      ≡ k
   once j k p v w a b = same_Some _ _ (sym (dense.entry j p v a) ∙ dense.entry k p w b)
 
-  pub has : (k p : ℕ) (v : ℤ) → slice_get D k ≡ Some (p, v) → map.get (map.from_entries {R = nat_cmp} D) p ≡ Some v
+  pub has : (k p : ℕ) (v : ℤ) → slice_get D k ≡ Some (p, v)
+      → map.get (map.from_entries {R = nat_cmp} D) p ≡ Some v
   has k p v e =
       map.get-from_entries total D p
       ∙ find_at D k p v e (λ j w l at. let j_is : j ≡ k = once j k p w v at e in omega arith)
 
-  pub at : (p : ℕ) (v : ℤ) → map.get (map.from_entries {R = nat_cmp} D) p ≡ Some v → (k : ℕ) × (slice_get D k ≡ Some (p, v))
+  pub at : (p : ℕ) (v : ℤ) → map.get (map.from_entries {R = nat_cmp} D) p ≡ Some v → (k : ℕ)
+      × (slice_get D k ≡ Some (p, v))
   at p v e = find_gives D p v (sym (map.get-from_entries total D p) ∙ e)
 
   -- a place of which the sparse vector has no entry that counts has no value
-  pub missing : (p : ℕ) → ((k : ℕ) (v : ℤ) → slice_get S p ≡ Some k → slice_get D k ≢ Some (p, v)) → map.get (map.from_entries {R = nat_cmp} D) p ≡ None
+  pub missing : (p : ℕ) → ((k : ℕ) (v : ℤ) → slice_get S p ≡ Some k → slice_get D k ≢ Some (p, v))
+      → map.get (map.from_entries {R = nat_cmp} D) p ≡ None
   missing p nowhere =
-      same_option _ None (λ v e. let h = at p v e in absurd (nowhere h.0 v (dense.entry h.0 p v h.1) h.1)) (λ v e. absurd (none-some v e))
+      same_option _ None (λ v e. let h = at p v e in
+      absurd (nowhere h.0 v (dense.entry h.0 p v h.1) h.1)) (λ v e. absurd (none-some v e))
 
 -- two maps of numbers that have the same values are the same
-same_values : (m n : Values) → ((p : ℕ) (v : ℤ) → map.get m p ≡ Some v → map.get n p ≡ Some v) → ((p : ℕ) (v : ℤ) → map.get n p ≡ Some v → map.get m p ≡ Some v) → m ≡ n
+same_values : (m n : Values) → ((p : ℕ) (v : ℤ) → map.get m p ≡ Some v → map.get n p ≡ Some v)
+    → ((p : ℕ) (v : ℤ) → map.get n p ≡ Some v → map.get m p ≡ Some v) → m ≡ n
 same_values m n there back = map.same_map total same m n (λ p. same_option _ _ (there p) (back p))
 
 -- the list without the pair at position i, which the last one has filled
@@ -103,7 +125,9 @@ pub record IsFilled (D : List (ℕ × ℤ)) (i : ℕ) (L : List (ℕ × ℤ)) : 
   pub moved : i < length L → slice_get L i ≡ slice_get D (length L)
 
 -- what a vector's removal by swapping gives
-pub filled : (D L : List (ℕ × ℤ)) (i n m : ℕ) → n ≡ length D → m ≡ length L → m + 1 ≡ n → ((d : ℕ × ℤ) → i + 1 < n → get_or L i d ≡ get_or D (n - 1) d) × ((k : ℕ) (d : ℕ × ℤ) → k ≢ i → k + 1 < n → get_or L k d ≡ get_or D k d) → IsFilled D i L
+pub filled : (D L : List (ℕ × ℤ)) (i n m : ℕ) → n ≡ length D → m ≡ length L → m + 1 ≡ n
+    → ((d : ℕ × ℤ) → i + 1 < n → get_or L i d ≡ get_or D (n - 1) d)
+    × ((k : ℕ) (d : ℕ × ℤ) → k ≢ i → k + 1 < n → get_or L k d ≡ get_or D k d) → IsFilled D i L
 filled D L i n m whole left one_less by_index = record {
   one_less = omega arith;
   others = λ k apart l.
@@ -124,68 +148,103 @@ module _ (D : List (ℕ × ℤ)) (S : List ℕ) (dense : IsDense D S) where
     inside : i < length D
     inside = slice_get_within D i (p, u) here
 
-    over_dense_at : (k q : ℕ) (w : ℤ) → (k ≡ i) ⊎ (k ≢ i) → slice_get (set D i (p, v)) k ≡ Some (q, w) → slice_get S q ≡ Some k
+    over_dense_at : (k q : ℕ) (w : ℤ) → (k ≡ i) ⊎ (k ≢ i) → slice_get (set D i (p, v)) k
+        ≡ Some (q, w) → slice_get S q ≡ Some k
     over_dense_at k q w (inl e) found =
-        let is = some_pair_parts p q v w (sym (ap (slice_get (set D i (p, v))) e ∙ at_set_same D i (p, v) inside) ∙ found) in
+        let is = some_pair_parts p q v w
+        (sym (ap (slice_get (set D i (p, v))) e ∙ at_set_same D i (p, v) inside) ∙ found) in
         ap (slice_get S) (sym is.0) ∙ dense.entry i p u here ∙ ap Some (sym e)
-    over_dense_at k q w (inr n) found = dense.entry k q w (sym (at_set_other D i k (p, v) n) ∙ found)
+    over_dense_at k q w (inr n) found = dense.entry k q w (sym (at_set_other D i k (p, v) n)
+        ∙ found)
 
     pub over_dense : IsDense (set D i (p, v)) S
     over_dense = record { entry = λ k q w. over_dense_at k q w (cases_eq k i) }
 
-    over_there : (q : ℕ) (w : ℤ) → (q ≡ p) ⊎ (q ≢ p) → map.get (map.from_entries {R = nat_cmp} (set D i (p, v))) q ≡ Some w → map.get (map.insert (map.from_entries {R = nat_cmp} D) p v) q ≡ Some w
+    over_there : (q : ℕ) (w : ℤ) → (q ≡ p) ⊎ (q ≢ p)
+        → map.get (map.from_entries {R = nat_cmp} (set D i (p, v))) q ≡ Some w
+        → map.get (map.insert (map.from_entries {R = nat_cmp} D) p v) q ≡ Some w
     over_there q w (inl e) found =
         get-insert_same total same (map.from_entries {R = nat_cmp} D) p v q e
         ∙ sym (has (set D i (p, v)) S over_dense i p v (at_set_same D i (p, v) inside))
         ∙ ap (map.get (map.from_entries {R = nat_cmp} (set D i (p, v)))) (sym e) ∙ found
     over_there q w (inr n) found =
         let h = at (set D i (p, v)) S over_dense q w found in
-        let other : h.0 ≢ i = λ e. n (sym (some_pair_parts p q v w (sym (ap (slice_get (set D i (p, v))) e ∙ at_set_same D i (p, v) inside) ∙ h.1)).0) in
+        let other : h.0
+        ≢ i = λ e. n (sym
+        (some_pair_parts p q v w
+        (sym (ap (slice_get (set D i (p, v))) e ∙ at_set_same D i (p, v) inside) ∙ h.1)).0) in
         get-insert_other total same (map.from_entries {R = nat_cmp} D) p v q n
         ∙ has D S dense h.0 q w (sym (at_set_other D i h.0 (p, v) other) ∙ h.1)
 
-    over_back : (q : ℕ) (w : ℤ) → (q ≡ p) ⊎ (q ≢ p) → map.get (map.insert (map.from_entries {R = nat_cmp} D) p v) q ≡ Some w → map.get (map.from_entries {R = nat_cmp} (set D i (p, v))) q ≡ Some w
+    over_back : (q : ℕ) (w : ℤ) → (q ≡ p) ⊎ (q ≢ p)
+        → map.get (map.insert (map.from_entries {R = nat_cmp} D) p v) q ≡ Some w
+        → map.get (map.from_entries {R = nat_cmp} (set D i (p, v))) q ≡ Some w
     over_back q w (inl e) found =
         ap (map.get (map.from_entries {R = nat_cmp} (set D i (p, v)))) e
         ∙ has (set D i (p, v)) S over_dense i p v (at_set_same D i (p, v) inside)
         ∙ sym (get-insert_same total same (map.from_entries {R = nat_cmp} D) p v q e) ∙ found
     over_back q w (inr n) found =
-        let h = at D S dense q w (sym (get-insert_other total same (map.from_entries {R = nat_cmp} D) p v q n) ∙ found) in
-        let other : h.0 ≢ i = λ e. n (sym (some_pair_parts p q u w (sym here ∙ ap (slice_get D) (sym e) ∙ h.1)).0) in
+        let h = at D S dense q w
+        (sym (get-insert_other total same (map.from_entries {R = nat_cmp} D) p v q n) ∙ found)
+        in
+        let other : h.0
+        ≢ i = λ e. n (sym (some_pair_parts p q u w (sym here ∙ ap (slice_get D) (sym e)
+        ∙ h.1)).0) in
         has (set D i (p, v)) S over_dense h.0 q w (at_set_other D i h.0 (p, v) other ∙ h.1)
 
-    pub over_values : map.from_entries {R = nat_cmp} (set D i (p, v)) ≡ map.insert (map.from_entries {R = nat_cmp} D) p v
+    pub over_values : map.from_entries {R = nat_cmp} (set D i (p, v))
+        ≡ map.insert (map.from_entries {R = nat_cmp} D) p v
     over_values =
-        same_values _ _ (λ q w. over_there q w (same_or_apart total same q p)) (λ q w. over_back q w (same_or_apart total same q p))
+        same_values _ _ (λ q w. over_there q w (same_or_apart total same q p))
+        (λ q w. over_back q w (same_or_apart total same q p))
 
   -- ---- a place that has none gets a value
-  module _ (p : ℕ) (v : ℤ) (none : map.get (map.from_entries {R = nat_cmp} D) p ≡ None) (room : p < length S) where
-    pushed_at : (k q : ℕ) (w : ℤ) → (k < length D) ⊎ (length D ≤ k) → slice_get (D ++ (p, v) ∷ []) k ≡ Some (q, w) → slice_get (set S p (length D)) q ≡ Some k
+  module _ (p : ℕ) (v : ℤ) (none : map.get (map.from_entries {R = nat_cmp} D) p ≡ None) (room : p
+      < length S) where
+    pushed_at : (k q : ℕ) (w : ℤ) → (k < length D) ⊎ (length D ≤ k) → slice_get (D ++ (p, v) ∷ []) k
+        ≡ Some (q, w) → slice_get (set S p (length D)) q ≡ Some k
     pushed_at k q w (inl l) found =
         let old = sym (at_push_before D (p, v) k l) ∙ found in
-        let other : q ≢ p = λ e. none-some w (sym none ∙ ap (map.get (map.from_entries {R = nat_cmp} D)) (sym e) ∙ has D S dense k q w old) in
+        let other : q
+        ≢ p = λ e. none-some w (sym none ∙ ap (map.get (map.from_entries {R = nat_cmp} D))
+        (sym e) ∙ has D S dense k q w old) in
         at_set_other S p q (length D) other ∙ dense.entry k q w old
     pushed_at k q w (inr l) found =
         let end = at_push_end D (p, v) k l (q, w) found in
-        ap (slice_get (set S p (length D))) (sym (ap (λ (x : ℕ × ℤ). x.0) end.1)) ∙ at_set_same S p (length D) room ∙ ap Some (sym end.0)
+        ap (slice_get (set S p (length D))) (sym (ap (λ (x : ℕ × ℤ). x.0) end.1))
+        ∙ at_set_same S p (length D) room ∙ ap Some (sym end.0)
 
     pub pushed_dense : IsDense (D ++ (p, v) ∷ []) (set S p (length D))
     pushed_dense = record { entry = λ k q w. pushed_at k q w (cases_lt k (length D)) }
 
-    pub pushed_values : map.from_entries {R = nat_cmp} (D ++ (p, v) ∷ []) ≡ map.insert (map.from_entries {R = nat_cmp} D) p v
-    pushed_values = map.from_entries_push total same D p v (sym (map.get-from_entries total D p) ∙ none)
+    pub pushed_values : map.from_entries {R = nat_cmp} (D ++ (p, v) ∷ [])
+        ≡ map.insert (map.from_entries {R = nat_cmp} D) p v
+    pushed_values = map.from_entries_push total same D p v (sym (map.get-from_entries total D p)
+        ∙ none)
 
   -- ---- a pair is taken out, and the last one moves to its position
-  module _ (i p : ℕ) (u : ℤ) (here : slice_get D i ≡ Some (p, u)) (L : List (ℕ × ℤ)) (rest : IsFilled D i L) where
+  module _ (i p : ℕ) (u : ℤ) (here : slice_get D i ≡ Some (p, u)) (L : List (ℕ × ℤ))
+      (rest : IsFilled D i L) where
     -- a pair that is left was there, and its place is another one
-    left_was : (k q : ℕ) (w : ℤ) → (k ≡ i) ⊎ (k ≢ i) → slice_get L k ≡ Some (q, w) → (j : ℕ) × (slice_get D j ≡ Some (q, w)) × (j ≢ i)
+    left_was : (k q : ℕ) (w : ℤ) → (k ≡ i) ⊎ (k ≢ i) → slice_get L k ≡ Some (q, w) → (j : ℕ)
+        × (slice_get D j ≡ Some (q, w)) × (j ≢ i)
     left_was k q w (inl e) found =
-        let l = slice_get_within L k (q, w) found in
-        (length L, sym (rest.moved (omega (arith, rest.one_less))) ∙ ap (slice_get L) (sym e) ∙ found, λ f. absurd (omega (arith, rest.one_less)))
-    left_was k q w (inr n) found = (k, sym (rest.others k n (slice_get_within L k (q, w) found)) ∙ found, n)
+        let l = slice_get_within L k (q, w) found in (
+          length L,
+          sym (rest.moved (omega (arith, rest.one_less))) ∙ ap (slice_get L) (sym e)
+              ∙ found,
+          λ f. absurd (omega (arith, rest.one_less)),
+        )
+    left_was k q w (inr n) found = (
+      k,
+      sym (rest.others k n (slice_get_within L k (q, w) found))
+          ∙ found,
+      n,
+    )
 
     -- a pair of another place is left
-    was_left : (k q : ℕ) (w : ℤ) → (k < length L) ⊎ (length L ≤ k) → k ≢ i → slice_get D k ≡ Some (q, w) → (j : ℕ) × (slice_get L j ≡ Some (q, w))
+    was_left : (k q : ℕ) (w : ℤ) → (k < length L) ⊎ (length L ≤ k) → k ≢ i → slice_get D k
+        ≡ Some (q, w) → (j : ℕ) × (slice_get L j ≡ Some (q, w))
     was_left k q w (inl l) n found = (k, rest.others k n l ∙ found)
     was_left k q w (inr g) n found =
         let l = slice_get_within D k (q, w) found in
@@ -194,23 +253,34 @@ module _ (D : List (ℕ × ℤ)) (S : List ℕ) (dense : IsDense D S) where
         (i, rest.moved (omega (arith, rest.one_less)) ∙ ap (slice_get D) k_is ∙ found)
 
     module _ (S2 : List ℕ) (dense2 : IsDense L S2) where
-      removed_there : (q : ℕ) (w : ℤ) → map.get (map.from_entries {R = nat_cmp} L) q ≡ Some w → map.get (map.remove (map.from_entries {R = nat_cmp} D) p) q ≡ Some w
+      removed_there : (q : ℕ) (w : ℤ) → map.get (map.from_entries {R = nat_cmp} L) q ≡ Some w
+          → map.get (map.remove (map.from_entries {R = nat_cmp} D) p) q ≡ Some w
       removed_there q w found =
           let h = at L S2 dense2 q w found in
           let was = left_was h.0 q w (cases_eq h.0 i) h.1 in
-          let apart : q ≢ p = λ e. was.2 (once D S dense was.0 i p w u (was.1 ∙ (λ j. Some (e j, w))) here) in
-          get-remove_other total same (map.from_entries {R = nat_cmp} D) p q apart ∙ has D S dense was.0 q w was.1
+          let apart : q
+          ≢ p = λ e. was.2 (once D S dense was.0 i p w u (was.1 ∙ (λ j. Some (e j, w))) here) in
+          get-remove_other total same (map.from_entries {R = nat_cmp} D) p q apart
+          ∙ has D S dense was.0 q w was.1
 
-      removed_back : (q : ℕ) (w : ℤ) → (q ≡ p) ⊎ (q ≢ p) → map.get (map.remove (map.from_entries {R = nat_cmp} D) p) q ≡ Some w → map.get (map.from_entries {R = nat_cmp} L) q ≡ Some w
+      removed_back : (q : ℕ) (w : ℤ) → (q ≡ p) ⊎ (q ≢ p)
+          → map.get (map.remove (map.from_entries {R = nat_cmp} D) p) q ≡ Some w
+          → map.get (map.from_entries {R = nat_cmp} L) q ≡ Some w
       removed_back q w (inl e) found =
-          absurd (none-some w (sym (get-remove_same total same (map.from_entries {R = nat_cmp} D) p q e) ∙ found))
+          absurd (none-some w (sym (get-remove_same total same (map.from_entries {R = nat_cmp} D) p
+          q e) ∙ found))
       removed_back q w (inr n) found =
-          let h = at D S dense q w (sym (get-remove_other total same (map.from_entries {R = nat_cmp} D) p q n) ∙ found) in
-          let other : h.0 ≢ i = λ e. n (sym (some_pair_parts p q u w (sym here ∙ ap (slice_get D) (sym e) ∙ h.1)).0) in
+          let h = at D S dense q w
+          (sym (get-remove_other total same (map.from_entries {R = nat_cmp} D) p q n) ∙ found)
+          in
+          let other : h.0
+          ≢ i = λ e. n (sym (some_pair_parts p q u w (sym here ∙ ap (slice_get D) (sym e)
+          ∙ h.1)).0) in
           let stays = was_left h.0 q w (cases_lt h.0 (length L)) other h.1 in
           has L S2 dense2 stays.0 q w stays.1
 
-      pub removed_values : map.from_entries {R = nat_cmp} L ≡ map.remove (map.from_entries {R = nat_cmp} D) p
+      pub removed_values : map.from_entries {R = nat_cmp} L
+          ≡ map.remove (map.from_entries {R = nat_cmp} D) p
       removed_values =
           same_values _ _ removed_there (λ q w. removed_back q w (same_or_apart total same q p))
 
@@ -219,7 +289,8 @@ module _ (D : List (ℕ × ℤ)) (S : List ℕ) (dense : IsDense D S) where
     popped_dense g = record {
       entry = λ k q w found.
           let l = slice_get_within L k (q, w) found in
-          dense.entry k q w (sym (rest.others k (λ e. absurd (omega (arith, rest.one_less))) l) ∙ found);
+          dense.entry k q w (sym (rest.others k (λ e. absurd (omega (arith, rest.one_less))) l)
+          ∙ found);
     }
 
     -- another one: the sparse vector has the new position of the last
@@ -230,60 +301,88 @@ module _ (D : List (ℕ × ℤ)) (S : List ℕ) (dense : IsDense D S) where
       pub in_sparse : m < length S
       in_sparse = slice_get_within S m (length L) (dense.entry (length L) m x last_was)
 
-      refilled_at : (k q : ℕ) (w : ℤ) → (k ≡ i) ⊎ (k ≢ i) → slice_get L k ≡ Some (q, w) → slice_get (set S m i) q ≡ Some k
+      refilled_at : (k q : ℕ) (w : ℤ) → (k ≡ i) ⊎ (k ≢ i) → slice_get L k ≡ Some (q, w)
+          → slice_get (set S m i) q ≡ Some k
       refilled_at k q w (inl e) found =
           let is = some_pair_parts m q x w (sym read ∙ ap (slice_get L) (sym e) ∙ found) in
           ap (slice_get (set S m i)) (sym is.0) ∙ at_set_same S m i in_sparse ∙ ap Some (sym e)
       refilled_at k q w (inr n) found =
           let l = slice_get_within L k (q, w) found in
           let was = sym (rest.others k n l) ∙ found in
-          let other : q ≢ m = λ e. let k_is : k ≡ length L = once D S dense k (length L) m w x (was ∙ (λ j. Some (e j, w))) last_was in omega (arith, rest.one_less) in
+          let other : q ≢ m = λ e. let k_is : k ≡ length L = once D S dense k (length L) m w x
+          (was ∙ (λ j. Some (e j, w))) last_was in omega (arith, rest.one_less) in
           at_set_other S m q i other ∙ dense.entry k q w was
 
       pub refilled_dense : IsDense L (set S m i)
       refilled_dense = record { entry = λ k q w. refilled_at k q w (cases_eq k i) }
 
   -- ---- a value gets another place
-  module _ (i p t : ℕ) (u : ℤ) (here : slice_get D i ≡ Some (p, u)) (free : map.get (map.from_entries {R = nat_cmp} D) t ≡ None) (below : t < p) where
+  module _ (i p t : ℕ) (u : ℤ) (here : slice_get D i ≡ Some (p, u))
+      (free : map.get (map.from_entries {R = nat_cmp} D) t ≡ None) (below : t < p) where
     pub place_inside : p < length S
     place_inside = slice_get_within S p i (dense.entry i p u here)
 
-    renamed_at : (k q : ℕ) (w : ℤ) → (k ≡ i) ⊎ (k ≢ i) → slice_get (set D i (t, u)) k ≡ Some (q, w) → slice_get (set S t i) q ≡ Some k
+    renamed_at : (k q : ℕ) (w : ℤ) → (k ≡ i) ⊎ (k ≢ i) → slice_get (set D i (t, u)) k ≡ Some (q, w)
+        → slice_get (set S t i) q ≡ Some k
     renamed_at k q w (inl e) found =
-        let is = some_pair_parts t q u w (sym (ap (slice_get (set D i (t, u))) e ∙ at_set_same D i (t, u) (slice_get_within D i (p, u) here)) ∙ found) in
+        let is = some_pair_parts t q u w
+        (sym (ap (slice_get (set D i (t, u))) e
+        ∙ at_set_same D i (t, u) (slice_get_within D i (p, u) here)) ∙ found) in
         let room = place_inside in
         ap (slice_get (set S t i)) (sym is.0) ∙ at_set_same S t i (omega arith) ∙ ap Some (sym e)
     renamed_at k q w (inr n) found =
         let was = sym (at_set_other D i k (t, u) n) ∙ found in
-        let other : q ≢ t = λ e. none-some w (sym free ∙ ap (map.get (map.from_entries {R = nat_cmp} D)) (sym e) ∙ has D S dense k q w was) in
+        let other : q
+        ≢ t = λ e. none-some w (sym free ∙ ap (map.get (map.from_entries {R = nat_cmp} D))
+        (sym e) ∙ has D S dense k q w was) in
         at_set_other S t q i other ∙ dense.entry k q w was
 
     pub renamed_dense : IsDense (set D i (t, u)) (set S t i)
     renamed_dense = record { entry = λ k q w. renamed_at k q w (cases_eq k i) }
 
-    renamed_there : (q : ℕ) (w : ℤ) → q ≢ t → map.get (map.from_entries {R = nat_cmp} (set D i (t, u))) q ≡ Some w → (map.get (map.from_entries {R = nat_cmp} D) q ≡ Some w) × (q ≢ p)
+    renamed_there : (q : ℕ) (w : ℤ) → q ≢ t
+        → map.get (map.from_entries {R = nat_cmp} (set D i (t, u))) q ≡ Some w
+        → (map.get (map.from_entries {R = nat_cmp} D) q ≡ Some w) × (q ≢ p)
     renamed_there q w n found =
         let h = at (set D i (t, u)) (set S t i) renamed_dense q w found in
-        let other : h.0 ≢ i = λ e. n (sym (some_pair_parts t q u w (sym (ap (slice_get (set D i (t, u))) e ∙ at_set_same D i (t, u) (slice_get_within D i (p, u) here)) ∙ h.1)).0) in
-        let was = sym (at_set_other D i h.0 (t, u) other) ∙ h.1 in
-        (has D S dense h.0 q w was, λ e. other (once D S dense h.0 i p w u (was ∙ (λ j. Some (e j, w))) here))
+        let other : h.0
+        ≢ i = λ e. n (sym
+        (some_pair_parts t q u w
+        (sym (ap (slice_get (set D i (t, u))) e
+        ∙ at_set_same D i (t, u) (slice_get_within D i (p, u) here)) ∙ h.1)).0) in
+        let was = sym (at_set_other D i h.0 (t, u) other) ∙ h.1 in (
+          has D S dense h.0 q w was,
+          λ e.
+              other (once D S dense h.0 i p w u (was ∙ (λ j. Some (e j, w))) here),
+        )
 
-    renamed_back : (q : ℕ) (w : ℤ) → q ≢ p → map.get (map.from_entries {R = nat_cmp} D) q ≡ Some w → map.get (map.from_entries {R = nat_cmp} (set D i (t, u))) q ≡ Some w
+    renamed_back : (q : ℕ) (w : ℤ) → q ≢ p → map.get (map.from_entries {R = nat_cmp} D) q ≡ Some w
+        → map.get (map.from_entries {R = nat_cmp} (set D i (t, u))) q ≡ Some w
     renamed_back q w n found =
         let h = at D S dense q w found in
-        let other : h.0 ≢ i = λ e. n (sym (some_pair_parts p q u w (sym here ∙ ap (slice_get D) (sym e) ∙ h.1)).0) in
-        has (set D i (t, u)) (set S t i) renamed_dense h.0 q w (at_set_other D i h.0 (t, u) other ∙ h.1)
+        let other : h.0
+        ≢ i = λ e. n (sym (some_pair_parts p q u w (sym here ∙ ap (slice_get D) (sym e)
+        ∙ h.1)).0) in
+        has (set D i (t, u)) (set S t i) renamed_dense h.0 q w (at_set_other D i h.0 (t, u) other
+        ∙ h.1)
 
-    pub renamed_values : IsMovedDown t p (map.from_entries {R = nat_cmp} D) (map.from_entries {R = nat_cmp} (set D i (t, u)))
+    pub renamed_values : IsMovedDown t p (map.from_entries {R = nat_cmp} D)
+        (map.from_entries {R = nat_cmp} (set D i (t, u)))
     renamed_values = record {
-      moved = λ _. has (set D i (t, u)) (set S t i) renamed_dense i t u (at_set_same D i (t, u) (slice_get_within D i (p, u) here)) ∙ sym (has D S dense i p u here);
-      left = same_option _ None (λ v e. absurd ((renamed_there p v (λ f. absurd (omega arith)) e).1 refl)) (λ v e. absurd (none-some v e));
-      others = λ q n m. same_option _ _ (λ v e. (renamed_there q v n e).0) (λ v e. renamed_back q v m e);
+      moved = λ _. has (set D i (t, u)) (set S t i) renamed_dense i t u
+          (at_set_same D i (t, u) (slice_get_within D i (p, u) here))
+          ∙ sym (has D S dense i p u here);
+      left = same_option _ None
+          (λ v e. absurd ((renamed_there p v (λ f. absurd (omega arith)) e).1 refl))
+          (λ v e. absurd (none-some v e));
+      others = λ q n m. same_option _ _ (λ v e. (renamed_there q v n e).0)
+          (λ v e. renamed_back q v m e);
     }
 
 -- ---- what a read of a pair says
 
-pub pair_here : (D : List (ℕ × ℤ)) (i p : ℕ) → i < length D → ((d : ℕ × ℤ) → (get_or D i d).0 ≡ p) → (x : ℕ × ℤ) → slice_get D i ≡ Some (p, (get_or D i x).1)
+pub pair_here : (D : List (ℕ × ℤ)) (i p : ℕ) → i < length D → ((d : ℕ × ℤ) → (get_or D i d).0 ≡ p)
+    → (x : ℕ × ℤ) → slice_get D i ≡ Some (p, (get_or D i x).1)
 pair_here D i p l is x = slice_get-get_or D i x l ∙ (λ j. Some (is x j, (get_or D i x).1))
 
 pub not_past : (i n : ℕ) → i < n → false ≡ ltb i n → ⊥
@@ -293,15 +392,19 @@ pub removed_none : (m : Values) (p : ℕ) → map.get m p ≡ None → m ≡ map
 removed_none m p none = sym (remove_absent total same m p none)
 
 -- a value is taken out, and then the last one moves
-pub moved_down : (place last : ℕ) (old less new : Values) → less ≡ map.remove old place → place < last → IsMovedDown place last less new → IsMovedDown place last old new
+pub moved_down : (place last : ℕ) (old less new : Values) → less ≡ map.remove old place → place
+    < last → IsMovedDown place last less new → IsMovedDown place last old new
 moved_down place last old less new is below down = record {
-  moved = λ l. down.moved l ∙ ap (λ (m : Values). map.get m last) is ∙ get-remove_other total same old place last (λ e. absurd (omega arith));
+  moved = λ l. down.moved l ∙ ap (λ (m : Values). map.get m last) is ∙ get-remove_other total same
+      old place last (λ e. absurd (omega arith));
   left = down.left;
-  others = λ p n m. down.others p n m ∙ ap (λ (m : Values). map.get m p) is ∙ get-remove_other total same old place p n;
+  others = λ p n m. down.others p n m ∙ ap (λ (m : Values). map.get m p) is
+      ∙ get-remove_other total same old place p n;
 }
 
 -- the place was the last
-pub removed_last : (place last : ℕ) (old less : Values) → less ≡ map.remove old place → place ≡ last → IsMovedDown place last old less
+pub removed_last : (place last : ℕ) (old less : Values) → less ≡ map.remove old place → place ≡ last
+    → IsMovedDown place last old less
 removed_last place last old less is e = record {
   moved = λ l. absurd (omega arith);
   left = ap (λ (m : Values). map.get m last) is ∙ get-remove_same total same old place last (sym e);

@@ -32,13 +32,16 @@ module _ {K : Type 0} {R : K → K → Ordering} (o : IsTotalOrder R) (same : Is
 
   module _ {X : Type 0} (m : FinMap R X) (k : K) where
     pub get-insert_same : (v : X) (q : K) → q ≡ k → map.get (map.insert m k v) q ≡ Some v
-    get-insert_same v q e = map.get-insert o m k v q ∙ ap (λ t. cond t (Some v) (map.get m q)) (tied q k e)
+    get-insert_same v q e = map.get-insert o m k v q ∙ ap (λ t. cond t (Some v) (map.get m q))
+        (tied q k e)
 
     pub get-insert_other : (v : X) (q : K) → q ≢ k → map.get (map.insert m k v) q ≡ map.get m q
-    get-insert_other v q n = map.get-insert o m k v q ∙ ap (λ t. cond t (Some v) (map.get m q)) (apart q k n)
+    get-insert_other v q n = map.get-insert o m k v q ∙ ap (λ t. cond t (Some v) (map.get m q))
+        (apart q k n)
 
     pub get-remove_same : (q : K) → q ≡ k → map.get (map.remove m k) q ≡ None
     get-remove_same q e = map.get-remove o m k q ∙ ap (λ t. cond t None (map.get m q)) (tied q k e)
 
     pub get-remove_other : (q : K) → q ≢ k → map.get (map.remove m k) q ≡ map.get m q
-    get-remove_other q n = map.get-remove o m k q ∙ ap (λ t. cond t None (map.get m q)) (apart q k n)
+    get-remove_other q n = map.get-remove o m k q ∙ ap (λ t. cond t None (map.get m q))
+        (apart q k n)

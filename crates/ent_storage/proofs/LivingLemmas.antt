@@ -24,50 +24,78 @@ use Rattle.ent_storage.proofs.ColumnsLemmas.{same_components, no_components, get
 
 abbrev pub entity_at : List Column → ℕ → Resident → LivingEntity
 entity_at columns place resident =
-    record { handle = resident.handle; birth = resident.birth; components = components_at columns place }
+    record {
+      handle = resident.handle;
+      birth = resident.birth;
+      components = components_at columns
+          place;
+    }
 
-pub length_from : (n : ℕ) (residents : List Resident) (columns : List Column) → length (entities_from n residents columns) ≡ length residents
+pub length_from : (n : ℕ) (residents : List Resident) (columns : List Column)
+    → length (entities_from n residents columns) ≡ length residents
 length_from n [] columns = refl
 length_from n (resident ∷ residents) columns = ap suc (length_from (suc n) residents columns)
 
-pub at_from : (n : ℕ) (residents : List Resident) (columns : List Column) (i : ℕ) (resident : Resident) (d : LivingEntity) → i < length residents → get_or (entities_from n residents columns) i d ≡ entity_at columns (n + i) (get_or residents i resident)
+pub at_from : (n : ℕ) (residents : List Resident) (columns : List Column) (i : ℕ)
+    (resident : Resident) (d : LivingEntity) → i < length residents
+    → get_or (entities_from n residents columns) i d
+    ≡ entity_at columns (n + i) (get_or residents i resident)
 at_from n [] columns i resident d l = absurd (omega arith)
-at_from n (r ∷ residents) columns zero resident d l = ap (λ (p : ℕ). entity_at columns p r) (omega arith)
+at_from n (r ∷ residents) columns zero resident d l = ap (λ (p : ℕ). entity_at columns p r)
+    (omega arith)
 at_from n (r ∷ residents) columns (suc i) resident d l =
     let next : suc n + i ≡ n + suc i = omega arith in
-    at_from (suc n) residents columns i resident d (omega arith) ∙ ap (λ (p : ℕ). entity_at columns p (get_or residents i resident)) next
+    at_from (suc n) residents columns i resident d (omega arith)
+    ∙ ap (λ (p : ℕ). entity_at columns p (get_or residents i resident)) next
 
-module _ (residents : List Resident) (columns : List Column) (i : ℕ) (resident : Resident) (d : LivingEntity) (inside : i < length residents) where
-  pub handle_from : (get_or (entities_from 0 residents columns) i d).handle ≡ (get_or residents i resident).handle
-  handle_from = ap (λ (e : LivingEntity). e.handle) (at_from 0 residents columns i resident d inside)
+module _ (residents : List Resident) (columns : List Column) (i : ℕ) (resident : Resident)
+    (d : LivingEntity) (inside : i < length residents) where
+  pub handle_from : (get_or (entities_from 0 residents columns) i d).handle
+      ≡ (get_or residents i resident).handle
+  handle_from = ap (λ (e : LivingEntity). e.handle) (at_from 0 residents columns i resident d
+      inside)
 
-  pub birth_from : (get_or (entities_from 0 residents columns) i d).birth ≡ (get_or residents i resident).birth
+  pub birth_from : (get_or (entities_from 0 residents columns) i d).birth
+      ≡ (get_or residents i resident).birth
   birth_from = ap (λ (e : LivingEntity). e.birth) (at_from 0 residents columns i resident d inside)
 
-  pub components_from : (get_or (entities_from 0 residents columns) i d).components ≡ components_at columns i
+  pub components_from : (get_or (entities_from 0 residents columns) i d).components
+      ≡ components_at columns i
   components_from =
       let at_i : 0 + i ≡ i = omega arith in
-      ap (λ (e : LivingEntity). e.components) (at_from 0 residents columns i resident d inside) ∙ ap (components_at columns) at_i
+      ap (λ (e : LivingEntity). e.components) (at_from 0 residents columns i resident d inside)
+      ∙ ap (components_at columns) at_i
 
-pub inside_from : (residents : List Resident) (columns : List Column) (room : ℕ) (living : Living) (i : ℕ) → record { entities = entities_from 0 residents columns; room = room } ≡ living → i < length living.entities → i < length residents
+pub inside_from : (residents : List Resident) (columns : List Column) (room : ℕ) (living : Living)
+    (i : ℕ) → record { entities = entities_from 0 residents columns; room = room } ≡ living → i
+    < length living.entities → i < length residents
 inside_from residents columns room living i is l =
     omega (arith, l, length_from 0 residents columns, ap (λ (x : Living). length x.entities) is)
 
 -- ---- the columns are changed
 
-pub same_from : (n : ℕ) (residents : List Resident) (old new : List Column) → ((p : ℕ) (id : ComponentId) → n ≤ p → p < n + length residents → value_at new p id ≡ value_at old p id) → entities_from n residents new ≡ entities_from n residents old
+pub same_from : (n : ℕ) (residents : List Resident) (old new : List Column)
+    → ((p : ℕ) (id : ComponentId) → n ≤ p → p < n + length residents → value_at new p id
+    ≡ value_at old p id) → entities_from n residents new ≡ entities_from n residents old
 same_from n [] old new are = refl
 same_from n (resident ∷ residents) old new are =
     let here = same_components old new n n (λ id. are n id (omega arith) (omega arith)) in
-    let rest = same_from (suc n) residents old new (λ p id l g. are p id (omega arith) (omega arith)) in
+    let rest = same_from (suc n) residents old new (λ p id l g. are p id (omega arith)
+    (omega arith)) in
     λ i. record { handle = resident.handle; birth = resident.birth; components = here i } ∷ rest i
 
-pub changed_from : (n : ℕ) (residents : List Resident) (old new : List Column) (i p : ℕ) (change : Components → Components) → n + i ≡ p → components_at new p ≡ change (components_at old p) → ((q : ℕ) (id : ComponentId) → q ≢ p → value_at new q id ≡ value_at old q id) → entities_from n residents new ≡ change_at (entities_from n residents old) i change
+pub changed_from : (n : ℕ) (residents : List Resident) (old new : List Column) (i p : ℕ)
+    (change : Components → Components) → n + i ≡ p → components_at new p
+    ≡ change (components_at old p) → ((q : ℕ) (id : ComponentId) → q ≢ p → value_at new q id
+    ≡ value_at old q id) → entities_from n residents new ≡ change_at (entities_from n residents old)
+    i change
 changed_from n [] old new i p change e here others = refl
 changed_from n (resident ∷ residents) old new zero p change e here others =
     let is : p ≡ n = omega arith in
-    let first : components_at new n ≡ change (components_at old n) = subst (λ (m : ℕ). components_at new m ≡ change (components_at old m)) is here in
-    let rest = same_from (suc n) residents old new (λ q id l g. others q id (λ f. absurd (omega arith))) in
+    let first : components_at new n ≡ change (components_at old n) =
+    subst (λ (m : ℕ). components_at new m ≡ change (components_at old m)) is here in
+    let rest = same_from (suc n) residents old new
+    (λ q id l g. others q id (λ f. absurd (omega arith))) in
     λ j. record { handle = resident.handle; birth = resident.birth; components = first j } ∷ rest j
 changed_from n (resident ∷ residents) old new (suc i) p change e here others =
     let first = same_components old new n n (λ id. others n id (λ f. absurd (omega arith))) in
@@ -76,28 +104,41 @@ changed_from n (resident ∷ residents) old new (suc i) p change e here others =
 
 -- ---- an entity is added
 
-pub pushed_from : (n : ℕ) (residents : List Resident) (columns : List Column) (resident : Resident) → ((id : ComponentId) → value_at columns (n + length residents) id ≡ None) → entities_from n (residents ++ resident ∷ []) columns ≡ entities_from n residents columns ++ record { handle = resident.handle; birth = resident.birth; components = finite.empty } ∷ []
+pub pushed_from : (n : ℕ) (residents : List Resident) (columns : List Column) (resident : Resident)
+    → ((id : ComponentId) → value_at columns (n + length residents) id ≡ None)
+    → entities_from n (residents ++ resident ∷ []) columns ≡ entities_from n residents columns
+    ++ record { handle = resident.handle; birth = resident.birth; components = finite.empty } ∷ []
 pushed_from n [] columns resident none =
     let at_n : n + 0 ≡ n = omega arith in
-    let bare = no_components columns n (λ id. ap (λ (p : ℕ). value_at columns p id) (sym at_n) ∙ none id) in
+    let bare = no_components columns n (λ id. ap (λ (p : ℕ). value_at columns p id) (sym at_n)
+    ∙ none id) in
     λ i. record { handle = resident.handle; birth = resident.birth; components = bare i } ∷ []
 pushed_from n (r ∷ residents) columns resident none =
     let next : suc n + length residents ≡ n + suc (length residents) = omega arith in
-    let rest = pushed_from (suc n) residents columns resident (λ id. ap (λ (p : ℕ). value_at columns p id) next ∙ none id) in
-    λ i. record { handle = r.handle; birth = r.birth; components = components_at columns n } ∷ rest i
+    let rest = pushed_from (suc n) residents columns resident
+    (λ id. ap (λ (p : ℕ). value_at columns p id) next ∙ none id) in
+    λ i. record { handle = r.handle; birth = r.birth; components = components_at columns n }
+    ∷ rest i
 
 -- ---- an entity is taken out, and the last one moves to its place
 
-module _ (residents left : List Resident) (i n m : ℕ) (whole : n ≡ length residents) (rest : m ≡ length left) (one_less : m + 1 ≡ n) (inside : i < n)
-    (by_index : ((d : Resident) → i + 1 < n → get_or left i d ≡ get_or residents (n - 1) d) × ((k : ℕ) (d : Resident) → k ≢ i → k + 1 < n → get_or left k d ≡ get_or residents k d))
-    (old new : List Column) (down : (number : ℕ) → IsMovedDown i (n - 1) (column_at old number).values (column_at new number).values) where
-  at_old : (k : ℕ) (resident : Resident) (d : LivingEntity) → k < n → get_or (entities_from 0 residents old) k d ≡ entity_at old k (get_or residents k resident)
+module _ (residents left : List Resident) (i n m : ℕ) (whole : n ≡ length residents) (rest : m
+    ≡ length left) (one_less : m + 1 ≡ n) (inside : i < n)
+    (by_index : ((d : Resident) → i + 1 < n → get_or left i d ≡ get_or residents (n - 1) d)
+    × ((k : ℕ) (d : Resident) → k ≢ i → k + 1 < n → get_or left k d ≡ get_or residents k d))
+    (old new : List Column) (down : (number : ℕ)
+    → IsMovedDown i (n - 1) (column_at old number).values (column_at new number).values) where
+  at_old : (k : ℕ) (resident : Resident) (d : LivingEntity) → k < n
+      → get_or (entities_from 0 residents old) k d ≡ entity_at old k (get_or residents k resident)
   at_old k resident d l =
-      at_from 0 residents old k resident d (omega arith) ∙ ap (λ (p : ℕ). entity_at old p (get_or residents k resident)) (omega arith)
+      at_from 0 residents old k resident d (omega arith)
+      ∙ ap (λ (p : ℕ). entity_at old p (get_or residents k resident)) (omega arith)
 
-  at_new : (k : ℕ) (resident : Resident) (d : LivingEntity) → k < m → get_or (entities_from 0 left new) k d ≡ entity_at new k (get_or left k resident)
+  at_new : (k : ℕ) (resident : Resident) (d : LivingEntity) → k < m
+      → get_or (entities_from 0 left new) k d ≡ entity_at new k (get_or left k resident)
   at_new k resident d l =
-      at_from 0 left new k resident d (omega arith) ∙ ap (λ (p : ℕ). entity_at new p (get_or left k resident)) (omega arith)
+      at_from 0 left new k resident d (omega arith)
+      ∙ ap (λ (p : ℕ). entity_at new p (get_or left k resident)) (omega arith)
 
   components_moved : i + 1 < n → components_at new i ≡ components_at old (n - 1)
   components_moved room = same_components old new (n - 1) i (λ id. (down id.0).moved (omega arith))
@@ -111,12 +152,17 @@ module _ (residents left : List Resident) (i n m : ℕ) (whole : n ≡ length re
     one_less = omega (arith, length_from 0 left new, length_from 0 residents old);
     moved = λ d room.
         let below : i + 1 < n = omega (arith, length_from 0 residents old) in
-        let last : n - 1 ≡ length (entities_from 0 residents old) - 1 = omega (arith, length_from 0 residents old) in
+        let last : n - 1 ≡ length (entities_from 0 residents old)
+        - 1 = omega (arith, length_from 0 residents old) in
         let resident : Resident = record { handle = d.handle; birth = d.birth } in
         let resident_is = by_index.0 resident below in
         let held = components_moved below in
         at_new i resident d (omega arith)
-        ∙ (λ j. record { handle = (resident_is j).handle; birth = (resident_is j).birth; components = held j })
+        ∙ (λ j. record {
+          handle = (resident_is j).handle;
+          birth = (resident_is j).birth;
+          components = held j;
+        })
         ∙ sym (at_old (n - 1) resident d (omega arith))
         ∙ ap (λ (k : ℕ). get_or (entities_from 0 residents old) k d) last;
     others = λ k d far room.
@@ -125,20 +171,27 @@ module _ (residents left : List Resident) (i n m : ℕ) (whole : n ≡ length re
         let resident_is = by_index.1 k resident far below in
         let held = components_others k far below in
         at_new k resident d (omega arith)
-        ∙ (λ j. record { handle = (resident_is j).handle; birth = (resident_is j).birth; components = held j })
+        ∙ (λ j. record {
+          handle = (resident_is j).handle;
+          birth = (resident_is j).birth;
+          components = held j;
+        })
         ∙ sym (at_old k resident d (omega arith));
   }
 
-  pub moved_within : length new ≡ length old → AreColumnsOf (length residents) old → AreColumnsOf (length left) new
+  pub moved_within : length new ≡ length old → AreColumnsOf (length residents) old
+      → AreColumnsOf (length left) new
   moved_within len within = record {
     none_beyond = λ p id l. by p id l (cases_eq p (n - 1));
     numbered = omega (arith, within.numbered, len);
   }
     where
-      by : (p : ℕ) (id : ComponentId) → length left ≤ p → (p ≡ n - 1) ⊎ (p ≢ n - 1) → value_at new p id ≡ None
+      by : (p : ℕ) (id : ComponentId) → length left ≤ p → (p ≡ n - 1) ⊎ (p ≢ n - 1)
+          → value_at new p id ≡ None
       by p id l (inl e) = ap (λ (q : ℕ). value_at new q id) e ∙ (down id.0).left
       by p id l (inr far) =
-          (down id.0).others p (λ e. absurd (omega arith)) far ∙ within.none_beyond p id (omega arith)
+          (down id.0).others p (λ e. absurd (omega arith)) far
+          ∙ within.none_beyond p id (omega arith)
 
 -- ---- what stays within the residents
 
@@ -148,69 +201,98 @@ none_within = record {
   numbered = omega arith;
 }
 
-pub pushed_within : (residents : List Resident) (resident : Resident) (columns : List Column) → AreColumnsOf (length residents) columns → AreColumnsOf (length (residents ++ resident ∷ [])) columns
+pub pushed_within : (residents : List Resident) (resident : Resident) (columns : List Column)
+    → AreColumnsOf (length residents) columns → AreColumnsOf (length (residents ++ resident ∷ []))
+    columns
 pushed_within residents resident columns within = record {
   none_beyond = λ p id l. within.none_beyond p id (omega (arith, length_push residents resident));
   numbered = within.numbered;
 }
 
-pub changed_within : (count place : ℕ) (old new : List Column) → place < count → length new ≤ 256 → ((p : ℕ) (id : ComponentId) → p ≢ place → value_at new p id ≡ value_at old p id) → AreColumnsOf count old → AreColumnsOf count new
+pub changed_within : (count place : ℕ) (old new : List Column) → place < count → length new ≤ 256
+    → ((p : ℕ) (id : ComponentId) → p ≢ place → value_at new p id ≡ value_at old p id)
+    → AreColumnsOf count old → AreColumnsOf count new
 changed_within count place old new inside numbered others within = record {
   none_beyond = λ p id l. others p id (λ e. absurd (omega arith)) ∙ within.none_beyond p id l;
   numbered = numbered;
 }
 
 -- a slice of a whole vector, written back
-pub written_back : {X : Type 0} (new old : List X) (n : ℕ) → length new ≡ length old → n ≡ length old → take n (new ++ drop (length new) old) ≡ new
+pub written_back : {X : Type 0} (new old : List X) (n : ℕ) → length new ≡ length old → n
+    ≡ length old → take n (new ++ drop (length new) old) ≡ new
 written_back new old n same whole =
     let none : drop (length new) old ≡ [] = drop_all (length new) old (omega arith) in
-    ap (λ rest. take n (new ++ rest)) none ∙ ap (take n) (append-nil new) ∙ take_all n new (omega arith)
+    ap (λ rest. take n (new ++ rest)) none ∙ ap (take n) (append-nil new)
+    ∙ take_all n new (omega arith)
 
 -- what the entity at a place is tested for
-pub handle_get : (residents : List Resident) (columns : List Column) (n i : ℕ) → option_map (λ (e : LivingEntity). e.handle) (slice_get (entities_from n residents columns) i) ≡ option_map (λ (resident : Resident). resident.handle) (slice_get residents i)
+pub handle_get : (residents : List Resident) (columns : List Column) (n i : ℕ)
+    → option_map (λ (e : LivingEntity). e.handle) (slice_get (entities_from n residents columns) i)
+    ≡ option_map (λ (resident : Resident). resident.handle) (slice_get residents i)
 handle_get [] columns n i = refl
 handle_get (resident ∷ residents) columns n zero = refl
 handle_get (resident ∷ residents) columns n (suc i) = handle_get residents columns (suc n) i
 
-pub born_get : (residents : List Resident) (columns : List Column) (n i : ℕ) → born_at (entities_from n residents columns) i ≡ option_map {U = Birth × Handle} (λ (resident : Resident). (resident.birth, resident.handle)) (slice_get residents i)
+pub born_get : (residents : List Resident) (columns : List Column) (n i : ℕ)
+    → born_at (entities_from n residents columns) i ≡ option_map {U = Birth × Handle}
+    (λ (resident : Resident). (resident.birth, resident.handle)) (slice_get residents i)
 born_get [] columns n i = refl
 born_get (resident ∷ residents) columns n zero = refl
 born_get (resident ∷ residents) columns n (suc i) = born_get residents columns (suc n) i
 
 -- the value of a component of the entity at a place
-pub value_get : (residents : List Resident) (columns : List Column) (n i : ℕ) (id : ComponentId) → i < length residents → option_and_then (λ (e : LivingEntity). finite.get e.components id) (slice_get (entities_from n residents columns) i) ≡ value_at columns (n + i) id
+pub value_get : (residents : List Resident) (columns : List Column) (n i : ℕ) (id : ComponentId) → i
+    < length residents → option_and_then (λ (e : LivingEntity). finite.get e.components id)
+    (slice_get (entities_from n residents columns) i) ≡ value_at columns (n + i) id
 value_get [] columns n i id l = absurd (omega arith)
 value_get (resident ∷ residents) columns n zero id l =
     let here : n ≡ n + 0 = omega arith in
     get_components columns n id ∙ ap (λ (p : ℕ). value_at columns p id) here
 value_get (resident ∷ residents) columns n (suc i) id l =
     let next : suc n + i ≡ n + suc i = omega arith in
-    value_get residents columns (suc n) i id (omega arith) ∙ ap (λ (p : ℕ). value_at columns p id) next
+    value_get residents columns (suc n) i id (omega arith) ∙ ap (λ (p : ℕ). value_at columns p id)
+    next
 
-pub value_from : (residents : List Resident) (columns : List Column) (i : ℕ) (id : ComponentId) → AreColumnsOf (length residents) columns → option_and_then (λ (e : LivingEntity). finite.get e.components id) (slice_get (entities_from 0 residents columns) i) ≡ value_at columns i id
+pub value_from : (residents : List Resident) (columns : List Column) (i : ℕ) (id : ComponentId)
+    → AreColumnsOf (length residents) columns
+    → option_and_then (λ (e : LivingEntity). finite.get e.components id)
+    (slice_get (entities_from 0 residents columns) i) ≡ value_at columns i id
 value_from residents columns i id within = by (cases_lt i (length residents))
   where
-    by : (i < length residents) ⊎ (length residents ≤ i) → option_and_then (λ (e : LivingEntity). finite.get e.components id) (slice_get (entities_from 0 residents columns) i) ≡ value_at columns i id
+    by : (i < length residents) ⊎ (length residents ≤ i)
+        → option_and_then (λ (e : LivingEntity). finite.get e.components id)
+        (slice_get (entities_from 0 residents columns) i) ≡ value_at columns i id
     by (inl l) =
         let here : 0 + i ≡ i = omega arith in
         value_get residents columns 0 i id l ∙ ap (λ (p : ℕ). value_at columns p id) here
     by (inr l) =
-        ap (option_and_then (λ (e : LivingEntity). finite.get e.components id)) (slice_get_past (entities_from 0 residents columns) i (omega (arith, length_from 0 residents columns)))
+        ap (option_and_then (λ (e : LivingEntity). finite.get e.components id))
+        (slice_get_past (entities_from 0 residents columns) i
+        (omega (arith, length_from 0 residents columns)))
         ∙ sym (within.none_beyond i id l)
 
 -- a test of the handle at a place
-test_some : (o : Option LivingEntity) (h q : Handle) → option_map (λ (e : LivingEntity). e.handle) o ≡ Some q → option_map_or (λ (e : LivingEntity). eq_by_cmp handle_cmp e.handle h) o false ≡ eq_by_cmp handle_cmp q h
+test_some : (o : Option LivingEntity) (h q : Handle) → option_map (λ (e : LivingEntity). e.handle) o
+    ≡ Some q → option_map_or (λ (e : LivingEntity). eq_by_cmp handle_cmp e.handle h) o false
+    ≡ eq_by_cmp handle_cmp q h
 test_some None h q e = absurd (none-some q e)
 test_some (Some x) h q e = ap (λ (g : Handle). eq_by_cmp handle_cmp g h) (same_Some _ _ e)
 
-test_none : (o : Option LivingEntity) (h : Handle) → option_map (λ (e : LivingEntity). e.handle) o ≡ None → option_map_or (λ (e : LivingEntity). eq_by_cmp handle_cmp e.handle h) o false ≡ false
+test_none : (o : Option LivingEntity) (h : Handle) → option_map (λ (e : LivingEntity). e.handle) o
+    ≡ None → option_map_or (λ (e : LivingEntity). eq_by_cmp handle_cmp e.handle h) o false ≡ false
 test_none None h e = refl
 test_none (Some x) h e = absurd (none-some x.handle (sym e))
 
-pub test_at : (residents : List Resident) (columns : List Column) (i : ℕ) (resident : Resident) (h : Handle) → slice_get residents i ≡ Some resident → has_handle_at (entities_from 0 residents columns) h (Some i) ≡ eq_by_cmp handle_cmp resident.handle h
+pub test_at : (residents : List Resident) (columns : List Column) (i : ℕ) (resident : Resident)
+    (h : Handle) → slice_get residents i ≡ Some resident
+    → has_handle_at (entities_from 0 residents columns) h (Some i)
+    ≡ eq_by_cmp handle_cmp resident.handle h
 test_at residents columns i resident h at =
-    test_some _ h resident.handle (handle_get residents columns 0 i ∙ ap (option_map (λ (r : Resident). r.handle)) at)
+    test_some _ h resident.handle (handle_get residents columns 0 i
+    ∙ ap (option_map (λ (r : Resident). r.handle)) at)
 
-pub test_past : (residents : List Resident) (columns : List Column) (i : ℕ) (h : Handle) → length residents ≤ i → has_handle_at (entities_from 0 residents columns) h (Some i) ≡ false
+pub test_past : (residents : List Resident) (columns : List Column) (i : ℕ) (h : Handle)
+    → length residents ≤ i → has_handle_at (entities_from 0 residents columns) h (Some i) ≡ false
 test_past residents columns i h l =
-    test_none _ h (handle_get residents columns 0 i ∙ ap (option_map (λ (r : Resident). r.handle)) (slice_get_past residents i l))
+    test_none _ h (handle_get residents columns 0 i ∙ ap (option_map (λ (r : Resident). r.handle))
+    (slice_get_past residents i l))

@@ -11,9 +11,15 @@ one_if : (o : Option ℤ) → o ≡ None → 1 ≤ cond (is_none o) 1 0
 one_if o e = rw e (omega arith)
 
 -- a component is missing that one of the items sets
-pub missing_at : (m : Components) (items : List (ComponentId × ℤ)) (i : ℕ) (d : ComponentId × ℤ) → i < length items → map.get m (get_or items i d).0 ≡ None → 0 < missing m items
+pub missing_at : (m : Components) (items : List (ComponentId × ℤ)) (i : ℕ) (d : ComponentId × ℤ) → i
+    < length items → map.get m (get_or items i d).0 ≡ None → 0 < missing m items
 missing_at m items i d l none =
-    omega (arith, one_if _ none, get_or-le-sum_by (λ item. cond (is_none (map.get m item.0)) 1 0) items i d l)
+    omega (
+      arith,
+      one_if _ none,
+      get_or-le-sum_by (λ item. cond (is_none (map.get m item.0)) 1 0)
+          items i d l,
+    )
 
 -- what holds, holds also if a call was refused
 pub on_err : {X E : Type 0} {P : Type 0} (r : Result X E) → P → OnErr r P

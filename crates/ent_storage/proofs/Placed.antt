@@ -16,65 +16,100 @@ use Rattle.ent_storage.proofs.Indexed.{get_placed, get_unplaced}
 same_handle : (g h : Handle) → Some g ≡ Some h → g ≡ h
 same_handle g h e = cc
 
-pub at_place : (living : List LivingEntity) (i : ℕ) (h : Handle) → slice_get (handles_by_place living) i ≡ Some h → (i < length living) × ((d : LivingEntity) → (get_or living i d).handle ≡ h)
+pub at_place : (living : List LivingEntity) (i : ℕ) (h : Handle)
+    → slice_get (handles_by_place living) i ≡ Some h → (i < length living)
+    × ((d : LivingEntity) → (get_or living i d).handle ≡ h)
 at_place [] i h e = absurd (some_not_none h None e refl)
 at_place (x ∷ living) zero h e = (omega arith, λ d. same_handle x.handle h e)
-at_place (x ∷ living) (suc i) h e = let rest = at_place living i h e in (omega (arith, rest.0), λ d. rest.1 d)
+at_place (x ∷ living) (suc i) h e = let rest = at_place living i h e in
+    (omega (arith, rest.0), λ d. rest.1 d)
 
-pub from_place : (living : List LivingEntity) (i : ℕ) (d : LivingEntity) → i < length living → slice_get (handles_by_place living) i ≡ Some (get_or living i d).handle
+pub from_place : (living : List LivingEntity) (i : ℕ) (d : LivingEntity) → i < length living
+    → slice_get (handles_by_place living) i ≡ Some (get_or living i d).handle
 from_place [] i d l = absurd (omega arith)
 from_place (x ∷ living) zero d l = refl
 from_place (x ∷ living) (suc i) d l = from_place living i d (omega arith)
 
-module _ (living : List LivingEntity) (index : FinMap handle_cmp ℕ) (indexed : IsIndexed living index) (h : Handle) (i : ℕ) where
+module _ (living : List LivingEntity) (index : FinMap handle_cmp ℕ)
+    (indexed : IsIndexed living index) (h : Handle) (i : ℕ) where
   -- the index has the place at which the handle stands, and no other one
-  pub placed_from_place : slice_get (handles_by_place living) i ≡ Some h → finite.get index h ≡ Some i
+  pub placed_from_place : slice_get (handles_by_place living) i ≡ Some h → finite.get index h
+      ≡ Some i
   placed_from_place e =
       let at = at_place living i h e in
-      ap (finite.get index) (sym (at.1 (some_entity h))) ∙ indexed.each_entity i at.0 (some_entity h)
+      ap (finite.get index) (sym (at.1 (some_entity h))) ∙ indexed.each_entity i at.0
+      (some_entity h)
 
-  pub place_from_placed : finite.get index h ≡ Some i → slice_get (handles_by_place living) i ≡ Some h
+  pub place_from_placed : finite.get index h ≡ Some i → slice_get (handles_by_place living) i
+      ≡ Some h
   place_from_placed e =
       let at = indexed.each_place h i e in
       from_place living i (some_entity h) at.0 ∙ ap Some (at.1 (some_entity h))
 
-pub is_inside : (handles : List Handle) (i : ℕ) (h : Handle) → slice_get handles i ≡ Some h → i < length handles
+pub is_inside : (handles : List Handle) (i : ℕ) (h : Handle) → slice_get handles i ≡ Some h → i
+    < length handles
 is_inside [] i h e = absurd (some_not_none h None e refl)
 is_inside (x ∷ handles) zero h e = omega arith
 is_inside (x ∷ handles) (suc i) h e = let rest = is_inside handles i h e in omega (arith, rest)
 
 -- an entity that keeps its handle
-handles_set : (living : List LivingEntity) (i : ℕ) (entity : LivingEntity) → ((d : LivingEntity) → i < length living → entity.handle ≡ (get_or living i d).handle) → handles_by_place (set living i entity) ≡ handles_by_place living
+handles_set : (living : List LivingEntity) (i : ℕ) (entity : LivingEntity)
+    → ((d : LivingEntity) → i < length living → entity.handle ≡ (get_or living i d).handle)
+    → handles_by_place (set living i entity) ≡ handles_by_place living
 handles_set [] i entity is = refl
-handles_set (x ∷ living) zero entity is = ap (λ (h : Handle). h ∷ handles_by_place living) (is x (omega arith))
+handles_set (x ∷ living) zero entity is = ap (λ (h : Handle). h ∷ handles_by_place living)
+    (is x (omega arith))
 handles_set (x ∷ living) (suc i) entity is =
-    ap (λ (hs : List Handle). x.handle ∷ hs) (handles_set living i entity (λ d l. is d (omega arith)))
+    ap (λ (hs : List Handle). x.handle ∷ hs)
+    (handles_set living i entity (λ d l. is d (omega arith)))
 
-pub handles_changed : (living : List LivingEntity) (i : ℕ) (entity : LivingEntity) → entity ≡ get_or living i entity → (held : Components) → handles_by_place (set living i (record { handle = entity.handle; birth = entity.birth; components = held })) ≡ handles_by_place living
+pub handles_changed : (living : List LivingEntity) (i : ℕ) (entity : LivingEntity) → entity
+    ≡ get_or living i entity → (held : Components)
+    → handles_by_place
+    (set living i (record { handle = entity.handle; birth = entity.birth; components = held }))
+    ≡ handles_by_place living
 handles_changed living i entity read held =
-    handles_set living i (record { handle = entity.handle; birth = entity.birth; components = held }) (λ d l. ap (λ (r : LivingEntity). r.handle) (read ∙ get_or_default living i entity d l))
+    handles_set living i (record {
+      handle = entity.handle;
+      birth = entity.birth;
+      components =
+          held;
+    }) (λ d l. ap (λ (r : LivingEntity). r.handle) (read ∙ get_or_default living i entity d
+    l))
 
 -- a handle has a place if it is in the map
-pub placed_known : (living : List LivingEntity) (index : FinMap handle_cmp ℕ) → IsIndexed living index → (h : Handle) → is_some (finite.get index h) ≡ is_some (finite.get (entities_of living) h)
+pub placed_known : (living : List LivingEntity) (index : FinMap handle_cmp ℕ)
+    → IsIndexed living index → (h : Handle) → is_some (finite.get index h)
+    ≡ is_some (finite.get (entities_of living) h)
 placed_known living index indexed h = by (finite.get index h) refl
   where
-    by : (o : Option ℕ) → finite.get index h ≡ o → is_some o ≡ is_some (finite.get (entities_of living) h)
+    by : (o : Option ℕ) → finite.get index h ≡ o → is_some o
+        ≡ is_some (finite.get (entities_of living) h)
     by None at = sym (ap is_some (get_unplaced living index indexed h at))
     by (Some i) at = sym (ap is_some (get_placed living index indexed h i (some_entity h) at))
 
 -- the last one has moved into the place
-pub handles_without : (living left : List LivingEntity) (i : ℕ) (h : Handle) → i < length living → IsMovedInto living i left → AreWithout i (handles_by_place living) (handles_by_place left)
+pub handles_without : (living left : List LivingEntity) (i : ℕ) (h : Handle) → i < length living
+    → IsMovedInto living i left → AreWithout i (handles_by_place living) (handles_by_place left)
 handles_without living left i h inside rest = record {
-  one_less = omega (arith, rest.one_less, length-map living (λ (e : LivingEntity). e.handle), length-map left (λ (e : LivingEntity). e.handle));
+  one_less = omega (
+    arith,
+    rest.one_less,
+    length-map living (λ (e : LivingEntity). e.handle),
+    length-map left (λ (e : LivingEntity). e.handle),
+  );
   moved = λ room.
-      let before : i + 1 < length living = omega (arith, length-map living (λ (e : LivingEntity). e.handle), room) in
-      let n_is : length living - 1 ≡ length (handles_by_place living) - 1 = omega (arith, length-map living (λ (e : LivingEntity). e.handle)) in
+      let before : i + 1 < length living =
+      omega (arith, length-map living (λ (e : LivingEntity). e.handle), room) in
+      let n_is : length living - 1 ≡ length (handles_by_place living)
+      - 1 = omega (arith, length-map living (λ (e : LivingEntity). e.handle)) in
       from_place left i (some_entity h) (omega (arith, rest.one_less))
       ∙ ap (λ (r : LivingEntity). Some r.handle) (rest.moved (some_entity h) before)
       ∙ sym (from_place living (length living - 1) (some_entity h) (omega arith))
       ∙ ap (slice_get (handles_by_place living)) n_is;
   others = λ k apart room.
-      let before : k + 1 < length living = omega (arith, length-map living (λ (e : LivingEntity). e.handle), room) in
+      let before : k + 1 < length living =
+      omega (arith, length-map living (λ (e : LivingEntity). e.handle), room) in
       from_place left k (some_entity h) (omega (arith, rest.one_less))
       ∙ ap (λ (r : LivingEntity). Some r.handle) (rest.others k (some_entity h) apart before)
       ∙ sym (from_place living k (some_entity h) (omega arith));

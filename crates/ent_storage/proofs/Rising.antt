@@ -39,89 +39,126 @@ turned : {A : Type 0} (b : Bool) (x y : A) → cond (not b) x y ≡ cond b y x
 turned true x y = refl
 turned false x y = refl
 
-pub turn : {K : Type 0} {R : K → K → Ordering} (o : IsTotalOrder R) (a b : K) (r : Ordering) → R a b ≡ r → R b a ≡ ordering_reverse r
+pub turn : {K : Type 0} {R : K → K → Ordering} (o : IsTotalOrder R) (a b : K) (r : Ordering) → R a b
+    ≡ r → R b a ≡ ordering_reverse r
 turn o a b r e = o.antisymm b a ∙ ap ordering_reverse e
 
 module _ {K X : Type 0} {R : K → K → Ordering} (o : IsTotalOrder R) where
-  below_at : (x : K) (es : List (K × X)) (i : ℕ) (d : K × X) → T (below_all R x es) → i < length es → R x (get_or es i d).0 ≡ Less
+  below_at : (x : K) (es : List (K × X)) (i : ℕ) (d : K × X) → T (below_all R x es) → i < length es
+      → R x (get_or es i d).0 ≡ Less
   below_at x [] i d h l = absurd (omega arith)
   below_at x (e ∷ es) zero d h l = less _ (first _ _ h)
   below_at x (e ∷ es) (suc i) d h l = below_at x es i d (second _ _ h) (omega arith)
 
   -- an earlier key is below a later one
-  pub rising_at : (es : List (K × X)) (i j : ℕ) (d : K × X) → T (is_sorted R es) → i < j → j < length es → R (get_or es i d).0 (get_or es j d).0 ≡ Less
+  pub rising_at : (es : List (K × X)) (i j : ℕ) (d : K × X) → T (is_sorted R es) → i < j → j
+      < length es → R (get_or es i d).0 (get_or es j d).0 ≡ Less
   rising_at [] i j d h l k = absurd (omega arith)
   rising_at (e ∷ es) i zero d h l k = absurd (omega arith)
   rising_at (e ∷ es) zero (suc j) d h l k = below_at e.0 es j d (first _ _ h) (omega arith)
-  rising_at (e ∷ es) (suc i) (suc j) d h l k = rising_at es i j d (second _ _ h) (omega arith) (omega arith)
+  rising_at (e ∷ es) (suc i) (suc j) d h l k = rising_at es i j d (second _ _ h) (omega arith)
+      (omega arith)
 
   -- the premise of a binary search
-  pub searchable : (es : List (K × X)) (k : K) → T (is_sorted R es) → IsNonDecreasingBy (λ e. ordering_index (R e.0 k)) es
+  pub searchable : (es : List (K × X)) (k : K) → T (is_sorted R es)
+      → IsNonDecreasingBy (λ e. ordering_index (R e.0 k)) es
   searchable es k h =
-      searchable_from_sorted o (λ e. e.0) es k (λ i d low high. ap is_lt (turn o _ _ Less (rising_at es i (i + 1) d h (omega arith) high)))
+      searchable_from_sorted o (λ e. e.0) es k
+      (λ i d low high.
+      ap is_lt (turn o _ _ Less (rising_at es i (i + 1) d h (omega arith) high)))
 
-  above_head : (k : K) (e : K × X) (es : List (K × X)) (i : ℕ) (d : K × X) → T (is_sorted R (e ∷ es)) → i < length es → R (get_or es i d).0 k ≡ Equal → R k e.0 ≡ Greater
+  above_head : (k : K) (e : K × X) (es : List (K × X)) (i : ℕ) (d : K × X)
+      → T (is_sorted R (e ∷ es)) → i < length es → R (get_or es i d).0 k ≡ Equal → R k e.0 ≡ Greater
   above_head k e es i d h l t =
-      o.congr k (get_or es i d).0 e.0 (turn o _ _ Equal t) ∙ turn o _ _ Less (below_at e.0 es i d (first _ _ h) l)
+      o.congr k (get_or es i d).0 e.0 (turn o _ _ Equal t)
+      ∙ turn o _ _ Less (below_at e.0 es i d (first _ _ h) l)
 
   -- a key that ties at a position is found there
-  pub find_at : (es : List (K × X)) (k : K) (i : ℕ) (d : K × X) → T (is_sorted R es) → i < length es → R (get_or es i d).0 k ≡ Equal → find R k es ≡ Some (get_or es i d).1
+  pub find_at : (es : List (K × X)) (k : K) (i : ℕ) (d : K × X) → T (is_sorted R es) → i < length es
+      → R (get_or es i d).0 k ≡ Equal → find R k es ≡ Some (get_or es i d).1
   find_at [] k i d h l t = absurd (omega arith)
-  find_at (e ∷ es) k zero d h l t = ap (λ r. cond (is_eq r) (Some e.1) (find R k es)) (turn o _ _ Equal t)
+  find_at (e ∷ es) k zero d h l t = ap (λ r. cond (is_eq r) (Some e.1) (find R k es))
+      (turn o _ _ Equal t)
   find_at (e ∷ es) k (suc i) d h l t =
-      ap (λ r. cond (is_eq r) (Some e.1) (find R k es)) (above_head k e es i d h (omega arith) t) ∙ find_at es k i d (second _ _ h) (omega arith) t
+      ap (λ r. cond (is_eq r) (Some e.1) (find R k es)) (above_head k e es i d h (omega arith) t)
+      ∙ find_at es k i d (second _ _ h) (omega arith) t
 
   -- a key between two positions is not found
-  pub find_gap : (es : List (K × X)) (k : K) (i : ℕ) → AllWithin (λ e. R e.0 k ≡ Less) es 0 i → AllWithin (λ e. R e.0 k ≡ Greater) es i (length es) → find R k es ≡ None
+  pub find_gap : (es : List (K × X)) (k : K) (i : ℕ) → AllWithin (λ e. R e.0 k ≡ Less) es 0 i
+      → AllWithin (λ e. R e.0 k ≡ Greater) es i (length es) → find R k es ≡ None
   find_gap [] k i below above = refl
   find_gap (e ∷ es) k zero below above =
-      ap (λ r. cond (is_eq r) (Some e.1) (find R k es)) (turn o _ _ Greater (above zero e (omega arith) (omega arith)))
-      ∙ find_gap es k zero (λ j d low high. absurd (omega arith)) (λ j d low high. above (suc j) d (omega arith) (omega arith))
+      ap (λ r. cond (is_eq r) (Some e.1) (find R k es))
+      (turn o _ _ Greater (above zero e (omega arith) (omega arith)))
+      ∙ find_gap es k zero (λ j d low high. absurd (omega arith))
+      (λ j d low high. above (suc j) d (omega arith) (omega arith))
   find_gap (e ∷ es) k (suc i) below above =
-      ap (λ r. cond (is_eq r) (Some e.1) (find R k es)) (turn o _ _ Less (below zero e (omega arith) (omega arith)))
-      ∙ find_gap es k i (λ j d low high. below (suc j) d (omega arith) (omega arith)) (λ j d low high. above (suc j) d (omega arith) (omega arith))
+      ap (λ r. cond (is_eq r) (Some e.1) (find R k es))
+      (turn o _ _ Less (below zero e (omega arith) (omega arith)))
+      ∙ find_gap es k i (λ j d low high. below (suc j) d (omega arith) (omega arith))
+      (λ j d low high. above (suc j) d (omega arith) (omega arith))
 
   -- a pair whose key is between two positions is put there
-  pub put_gap : (es : List (K × X)) (k : K) (v : X) (i : ℕ) → i ≤ length es → AllWithin (λ e. R e.0 k ≡ Less) es 0 i → AllWithin (λ e. R e.0 k ≡ Greater) es i (length es) → put R k v es ≡ insert es i (k, v)
+  pub put_gap : (es : List (K × X)) (k : K) (v : X) (i : ℕ) → i ≤ length es
+      → AllWithin (λ e. R e.0 k ≡ Less) es 0 i → AllWithin (λ e. R e.0 k ≡ Greater) es i (length es)
+      → put R k v es ≡ insert es i (k, v)
   put_gap [] k v zero l below above = refl
   put_gap [] k v (suc i) l below above = absurd (omega arith)
   put_gap (e ∷ es) k v zero l below above =
-      ap (λ r. by_order r ((k, v) ∷ e ∷ es) ((e.0, v) ∷ es) (e ∷ put R k v es)) (turn o _ _ Greater (above zero e (omega arith) (omega arith)))
+      ap (λ r. by_order r ((k, v) ∷ e ∷ es) ((e.0, v) ∷ es) (e ∷ put R k v es))
+      (turn o _ _ Greater (above zero e (omega arith) (omega arith)))
   put_gap (e ∷ es) k v (suc i) l below above =
-      ap (λ r. by_order r ((k, v) ∷ e ∷ es) ((e.0, v) ∷ es) (e ∷ put R k v es)) (turn o _ _ Less (below zero e (omega arith) (omega arith)))
-      ∙ ap (λ fs. e ∷ fs) (put_gap es k v i (omega arith) (λ j d low high. below (suc j) d (omega arith) (omega arith)) (λ j d low high. above (suc j) d (omega arith) (omega arith)))
+      ap (λ r. by_order r ((k, v) ∷ e ∷ es) ((e.0, v) ∷ es) (e ∷ put R k v es))
+      (turn o _ _ Less (below zero e (omega arith) (omega arith)))
+      ∙ ap (λ fs. e ∷ fs)
+      (put_gap es k v i (omega arith) (λ j d low high. below (suc j) d (omega arith)
+      (omega arith)) (λ j d low high. above (suc j) d (omega arith) (omega arith)))
 
   -- a pair is put over the one whose key ties
-  pub put_at : (es : List (K × X)) (k : K) (v : X) (i : ℕ) (d : K × X) → T (is_sorted R es) → i < length es → R (get_or es i d).0 k ≡ Equal → put R k v es ≡ set es i ((get_or es i d).0, v)
+  pub put_at : (es : List (K × X)) (k : K) (v : X) (i : ℕ) (d : K × X) → T (is_sorted R es) → i
+      < length es → R (get_or es i d).0 k ≡ Equal → put R k v es ≡ set es i ((get_or es i d).0, v)
   put_at [] k v i d h l t = absurd (omega arith)
   put_at (e ∷ es) k v zero d h l t =
       ap (λ r. by_order r ((k, v) ∷ e ∷ es) ((e.0, v) ∷ es) (e ∷ put R k v es)) (turn o _ _ Equal t)
   put_at (e ∷ es) k v (suc i) d h l t =
-      ap (λ r. by_order r ((k, v) ∷ e ∷ es) ((e.0, v) ∷ es) (e ∷ put R k v es)) (above_head k e es i d h (omega arith) t)
+      ap (λ r. by_order r ((k, v) ∷ e ∷ es) ((e.0, v) ∷ es) (e ∷ put R k v es))
+      (above_head k e es i d h (omega arith) t)
       ∙ ap (λ fs. e ∷ fs) (put_at es k v i d (second _ _ h) (omega arith) t)
 
-  all_stay : (k x : K) (es : List (K × X)) → R x k ≡ Equal → T (below_all R x es) → where_key R (λ y. not (eq_by_cmp R k y)) es ≡ es
+  all_stay : (k x : K) (es : List (K × X)) → R x k ≡ Equal → T (below_all R x es)
+      → where_key R (λ y. not (eq_by_cmp R k y)) es ≡ es
   all_stay k x [] t h = refl
   all_stay k x (e ∷ es) t h =
       let rest = all_stay k x es t (second _ _ h) in
       let here : R k e.0 ≡ Less = sym (o.congr x k e.0 t) ∙ less _ (first _ _ h) in
-      ap (λ r. cond (not (is_eq r)) (e ∷ where_key R (λ y. not (eq_by_cmp R k y)) es) (where_key R (λ y. not (eq_by_cmp R k y)) es)) here ∙ ap (λ fs. e ∷ fs) rest
+      ap (λ r. cond (not (is_eq r)) (e ∷ where_key R (λ y. not (eq_by_cmp R k y)) es)
+      (where_key R (λ y. not (eq_by_cmp R k y)) es)) here ∙ ap (λ fs. e ∷ fs) rest
 
   -- taking a key out takes out the pair that ties
-  pub where_key_at : (es : List (K × X)) (k : K) (i : ℕ) (d : K × X) → T (is_sorted R es) → i < length es → R (get_or es i d).0 k ≡ Equal → where_key R (λ y. not (eq_by_cmp R k y)) es ≡ remove es i
+  pub where_key_at : (es : List (K × X)) (k : K) (i : ℕ) (d : K × X) → T (is_sorted R es) → i
+      < length es → R (get_or es i d).0 k ≡ Equal → where_key R (λ y. not (eq_by_cmp R k y)) es
+      ≡ remove es i
   where_key_at [] k i d h l t = absurd (omega arith)
   where_key_at (e ∷ es) k zero d h l t =
-      ap (λ r. cond (not (is_eq r)) (e ∷ where_key R (λ y. not (eq_by_cmp R k y)) es) (where_key R (λ y. not (eq_by_cmp R k y)) es)) (turn o _ _ Equal t) ∙ all_stay k e.0 es t (first _ _ h)
+      ap (λ r. cond (not (is_eq r)) (e ∷ where_key R (λ y. not (eq_by_cmp R k y)) es)
+      (where_key R (λ y. not (eq_by_cmp R k y)) es)) (turn o _ _ Equal t)
+      ∙ all_stay k e.0 es t (first _ _ h)
   where_key_at (e ∷ es) k (suc i) d h l t =
-      ap (λ r. cond (not (is_eq r)) (e ∷ where_key R (λ y. not (eq_by_cmp R k y)) es) (where_key R (λ y. not (eq_by_cmp R k y)) es)) (above_head k e es i d h (omega arith) t)
+      ap (λ r. cond (not (is_eq r)) (e ∷ where_key R (λ y. not (eq_by_cmp R k y)) es)
+      (where_key R (λ y. not (eq_by_cmp R k y)) es)) (above_head k e es i d h (omega arith) t)
       ∙ ap (λ fs. e ∷ fs) (where_key_at es k i d (second _ _ h) (omega arith) t)
 
   -- the maps of the edited lists
-  pub from_sorted-put : (es : List (K × X)) (k : K) (v : X) → T (is_sorted R es) → map.from_sorted {R = R} (put R k v es) ≡ map.insert (map.from_sorted es) k v
+  pub from_sorted-put : (es : List (K × X)) (k : K) (v : X) → T (is_sorted R es)
+      → map.from_sorted {R = R} (put R k v es) ≡ map.insert (map.from_sorted es) k v
   from_sorted-put es k v h =
-      map.same_entries_map _ _ (map.entries-from_sorted R _ (is_sorted-put R o k v es h) ∙ sym (map.entries-insert o (map.from_sorted es) k v ∙ ap (put R k v) (map.entries-from_sorted R es h)))
+      map.same_entries_map _ _ (map.entries-from_sorted R _ (is_sorted-put R o k v es h)
+      ∙ sym (map.entries-insert o (map.from_sorted es) k v
+      ∙ ap (put R k v) (map.entries-from_sorted R es h)))
 
-  pub from_sorted-where_key : IsAntisymmetric R → (es : List (K × X)) (k : K) → T (is_sorted R es) → map.from_sorted {R = R} (where_key R (λ y. not (eq_by_cmp R k y)) es) ≡ map.remove (map.from_sorted es) k
+  pub from_sorted-where_key : IsAntisymmetric R → (es : List (K × X)) (k : K) → T (is_sorted R es)
+      → map.from_sorted {R = R} (where_key R (λ y. not (eq_by_cmp R k y)) es)
+      ≡ map.remove (map.from_sorted es) k
   from_sorted-where_key same es k h =
       let other : K → Bool = λ y. not (eq_by_cmp R k y) in
       map.same_map o same _ _ (λ q.
@@ -129,17 +166,35 @@ module _ {K X : Type 0} {R : K → K → Ordering} (o : IsTotalOrder R) where
       ∙ find-where_key R other q (λ x t. ap (λ r. not (is_eq r)) (sym (alike_right o q x k t))) es
       ∙ turned (eq_by_cmp R k q) _ _
       ∙ ap (λ b. cond b None (find R q es)) ((eq_by_cmp_equiv o).symm k q)
-      ∙ sym (map.get-remove o (map.from_sorted es) k q ∙ ap (cond (eq_by_cmp R q k) None) (map.get-from_sorted R es q h)))
+      ∙ sym (map.get-remove o (map.from_sorted es) k q ∙ ap (cond (eq_by_cmp R q k) None)
+      (map.get-from_sorted R es q h)))
 
   -- a binary search by key ends at the key, or at the gap for it
-  pub searched : (es : List (K × X)) (k : K) → T (is_sorted R es) → (r : Result ℕ ℕ) → IsSearchInRange r (length es) → IsBinarySearchResult (λ e. R e.0 k) es r → record { found : IfOk r (IsAt R es k); absent : IfErr r (IsGapFor R es k) }
-  searched es k h (Ok i) l at = record { found = record { in_range = l; has_key = at }; absent = tt }
+  pub searched : (es : List (K × X)) (k : K) → T (is_sorted R es) → (r : Result ℕ ℕ)
+      → IsSearchInRange r (length es) → IsBinarySearchResult (λ e. R e.0 k) es r
+      → record { found : IfOk r (IsAt R es k); absent : IfErr r (IsGapFor R es k) }
+  searched es k h (Ok i) l at = record {
+    found = record { in_range = l; has_key = at };
+    absent =
+        tt;
+  }
   searched es k h (Err i) l parted =
       let parts = parted (searchable es k h) in
-      record { found = tt; absent = record { in_range = l; smaller_before = parts.0; greater_after = parts.1 } }
+      record {
+        found = tt;
+        absent = record {
+          in_range = l;
+          smaller_before = parts.0;
+          greater_after =
+              parts.1;
+        };
+      }
 
 -- a key between two neighbours is between all pairs before and all after
-pub gap_from_neighbours : {K X : Type 0} {R : K → K → Ordering} (o : IsTotalOrder R) (es : List (K × X)) (k : K) (p : ℕ) → T (is_sorted R es) → p ≤ length es → ((j : ℕ) → j + 1 ≡ p → HoldsAt (λ e. R e.0 k ≡ Less) es j) → (p < length es → HoldsAt (λ e. R e.0 k ≡ Greater) es p) → IsGapFor R es k p
+pub gap_from_neighbours : {K X : Type 0} {R : K → K → Ordering} (o : IsTotalOrder R)
+    (es : List (K × X)) (k : K) (p : ℕ) → T (is_sorted R es) → p ≤ length es
+    → ((j : ℕ) → j + 1 ≡ p → HoldsAt (λ e. R e.0 k ≡ Less) es j)
+    → (p < length es → HoldsAt (λ e. R e.0 k ≡ Greater) es p) → IsGapFor R es k p
 gap_from_neighbours {K = K} {X = X} {R = R} o es k p rising l before after = record {
   in_range = l;
   smaller_before = λ j d low high. smaller j d high (cases_lt (j + 1) p);
@@ -148,21 +203,28 @@ gap_from_neighbours {K = K} {X = X} {R = R} o es k p rising l before after = rec
   where
     smaller : (j : ℕ) (d : K × X) → j < p → (j + 1 < p) ⊎ (p ≤ j + 1) → R (get_or es j d).0 k ≡ Less
     smaller j d h (inl far) =
-        o.trans _ _ _ (rising_at o es j (p - 1) d rising (omega arith) (omega arith)) (before (p - 1) (omega arith) d)
+        o.trans _ _ _ (rising_at o es j (p - 1) d rising (omega arith) (omega arith))
+        (before (p - 1) (omega arith) d)
     smaller j d h (inr near) = before j (omega arith) d
 
-    greater : (j : ℕ) (d : K × X) → p ≤ j → j < length es → (p < j) ⊎ (j ≤ p) → R (get_or es j d).0 k ≡ Greater
+    greater : (j : ℕ) (d : K × X) → p ≤ j → j < length es → (p < j) ⊎ (j ≤ p)
+        → R (get_or es j d).0 k ≡ Greater
     greater j d h i (inl far) =
-        turn o k (get_or es j d).0 Less (o.trans _ _ _ (turn o (get_or es p d).0 k Greater (after (omega arith) d)) (rising_at o es p j d rising far i))
+        turn o k (get_or es j d).0 Less
+        (o.trans _ _ _ (turn o (get_or es p d).0 k Greater (after (omega arith) d))
+        (rising_at o es p j d rising far i))
     greater j d h i (inr near) =
         let same : p ≡ j = omega arith in
         ap (λ n. R (get_or es n d).0 k) (sym same) ∙ after (omega arith) d
 
-pub from_sorted-nil : {K X : Type 0} (R : K → K → Ordering) → map.from_sorted {X = X} {R = R} [] ≡ map.empty
-from_sorted-nil R = map.empty_of_len _ (map.len-entries _ ∙ ap length (map.entries-from_sorted R [] tt))
+pub from_sorted-nil : {K X : Type 0} (R : K → K → Ordering) → map.from_sorted {X = X} {R = R} []
+    ≡ map.empty
+from_sorted-nil R = map.empty_of_len _ (map.len-entries _
+    ∙ ap length (map.entries-from_sorted R [] tt))
 
 -- what is not there stays out
-pub remove_absent : {K X : Type 0} {R : K → K → Ordering} (o : IsTotalOrder R) → IsAntisymmetric R → (m : map.FinMap R X) (k : K) → map.get m k ≡ None → map.remove m k ≡ m
+pub remove_absent : {K X : Type 0} {R : K → K → Ordering} (o : IsTotalOrder R) → IsAntisymmetric R
+    → (m : map.FinMap R X) (k : K) → map.get m k ≡ None → map.remove m k ≡ m
 remove_absent {K = K} {R = R} o same m k none =
     map.same_map o same _ _ (λ q. map.get-remove o m k q ∙ by q (eq_by_cmp R q k) refl)
   where
@@ -171,35 +233,49 @@ remove_absent {K = K} {R = R} o same m k none =
     by q false e = refl
 
 -- what an edit leaves, if the pairs stand for a map
-module _ {K X : Type 0} {R : K → K → Ordering} (o : IsTotalOrder R) (same : IsAntisymmetric R) (es : List (K × X)) (h : T (is_sorted R es)) (k : K) (i : ℕ) where
-  pub get_at : (d : K × X) → IsAt R es k i → map.get (map.from_sorted {R = R} es) k ≡ Some (get_or es i d).1
+module _ {K X : Type 0} {R : K → K → Ordering} (o : IsTotalOrder R) (same : IsAntisymmetric R)
+    (es : List (K × X)) (h : T (is_sorted R es)) (k : K) (i : ℕ) where
+  pub get_at : (d : K × X) → IsAt R es k i → map.get (map.from_sorted {R = R} es) k
+      ≡ Some (get_or es i d).1
   get_at d at = map.get-from_sorted R es k h ∙ find_at o es k i d h at.in_range (at.has_key d)
 
   pub get_in_gap : IsGapFor R es k i → map.get (map.from_sorted {R = R} es) k ≡ None
-  get_in_gap gap = map.get-from_sorted R es k h ∙ find_gap o es k i gap.smaller_before gap.greater_after
+  get_in_gap gap = map.get-from_sorted R es k h ∙ find_gap o es k i gap.smaller_before
+      gap.greater_after
 
   pub rising_insert : (v : X) → IsGapFor R es k i → T (is_sorted R (insert es i (k, v)))
   rising_insert v gap =
-      subst (λ fs. T (is_sorted R fs)) (put_gap o es k v i gap.in_range gap.smaller_before gap.greater_after) (is_sorted-put R o k v es h)
+      subst (λ fs. T (is_sorted R fs)) (put_gap o es k v i gap.in_range gap.smaller_before
+      gap.greater_after) (is_sorted-put R o k v es h)
 
-  pub map_insert : (v : X) → IsGapFor R es k i → map.from_sorted {R = R} (insert es i (k, v)) ≡ map.insert (map.from_sorted es) k v
+  pub map_insert : (v : X) → IsGapFor R es k i → map.from_sorted {R = R} (insert es i (k, v))
+      ≡ map.insert (map.from_sorted es) k v
   map_insert v gap =
-      ap (λ fs. map.from_sorted {R = R} fs) (sym (put_gap o es k v i gap.in_range gap.smaller_before gap.greater_after)) ∙ from_sorted-put o es k v h
+      ap (λ fs. map.from_sorted {R = R} fs)
+      (sym (put_gap o es k v i gap.in_range gap.smaller_before gap.greater_after))
+      ∙ from_sorted-put o es k v h
 
   put_over : (v : X) → IsAt R es k i → put R k v es ≡ set es i (k, v)
   put_over v at =
-      put_at o es k v i (k, v) h at.in_range (at.has_key (k, v)) ∙ ap (λ x. set es i (x, v)) (same _ _ (at.has_key (k, v)))
+      put_at o es k v i (k, v) h at.in_range (at.has_key (k, v))
+      ∙ ap (λ x. set es i (x, v)) (same _ _ (at.has_key (k, v)))
 
   pub rising_set : (v : X) → IsAt R es k i → T (is_sorted R (set es i (k, v)))
   rising_set v at = subst (λ fs. T (is_sorted R fs)) (put_over v at) (is_sorted-put R o k v es h)
 
-  pub map_set : (v : X) → IsAt R es k i → map.from_sorted {R = R} (set es i (k, v)) ≡ map.insert (map.from_sorted es) k v
-  map_set v at = ap (λ fs. map.from_sorted {R = R} fs) (sym (put_over v at)) ∙ from_sorted-put o es k v h
+  pub map_set : (v : X) → IsAt R es k i → map.from_sorted {R = R} (set es i (k, v))
+      ≡ map.insert (map.from_sorted es) k v
+  map_set v at = ap (λ fs. map.from_sorted {R = R} fs) (sym (put_over v at))
+      ∙ from_sorted-put o es k v h
 
   pub rising_remove : (d : K × X) → IsAt R es k i → T (is_sorted R (remove es i))
   rising_remove d at =
-      subst (λ fs. T (is_sorted R fs)) (where_key_at o es k i d h at.in_range (at.has_key d)) (is_sorted-where_key R (λ y. not (eq_by_cmp R k y)) es h)
+      subst (λ fs. T (is_sorted R fs)) (where_key_at o es k i d h at.in_range (at.has_key d))
+      (is_sorted-where_key R (λ y. not (eq_by_cmp R k y)) es h)
 
-  pub map_remove : (d : K × X) → IsAt R es k i → map.from_sorted {R = R} (remove es i) ≡ map.remove (map.from_sorted es) k
+  pub map_remove : (d : K × X) → IsAt R es k i → map.from_sorted {R = R} (remove es i)
+      ≡ map.remove (map.from_sorted es) k
   map_remove d at =
-      ap (λ fs. map.from_sorted {R = R} fs) (sym (where_key_at o es k i d h at.in_range (at.has_key d))) ∙ from_sorted-where_key o same es k h
+      ap (λ fs. map.from_sorted {R = R} fs)
+      (sym (where_key_at o es k i d h at.in_range (at.has_key d)))
+      ∙ from_sorted-where_key o same es k h

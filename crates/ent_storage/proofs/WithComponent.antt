@@ -27,34 +27,51 @@ use Rattle.ent_storage.proofs.Placed.{from_place}
 use Rattle.ent_storage.proofs.ByBirth.{born_of, IsBorn, alike, all_there, lists_of}
 
 -- a place at which an entity has a value is inside
-value_inside : (living : List LivingEntity) (p : ℕ) (id : ComponentId) (v : ℤ) → IsValueAt living p id v → p < length living
+value_inside : (living : List LivingEntity) (p : ℕ) (id : ComponentId) (v : ℤ)
+    → IsValueAt living p id v → p < length living
 value_inside living p id v is = by (cases_lt p (length living))
   where
     by : (p < length living) ⊎ (length living ≤ p) → p < length living
     by (inl l) = l
     by (inr g) =
-        absurd (none-some v (sym (ap (option_and_then (λ (e : LivingEntity). finite.get e.components id)) (slice_get_past living p g)) ∙ is))
+        absurd (none-some v
+        (sym (ap (option_and_then (λ (e : LivingEntity). finite.get e.components id))
+        (slice_get_past living p g)) ∙ is))
 
-pub pair_inside : (living : List LivingEntity) (id : ComponentId) (pairs : List (ℕ × ℤ)) → ((p : ℕ) (v : ℤ) → Contains pairs (p, v) → IsValueAt living p id v) → (k : ℕ) (d : ℕ × ℤ) → k < length pairs → (get_or pairs k d).0 < length living
+pub pair_inside : (living : List LivingEntity) (id : ComponentId) (pairs : List (ℕ × ℤ))
+    → ((p : ℕ) (v : ℤ) → Contains pairs (p, v) → IsValueAt living p id v) → (k : ℕ) (d : ℕ × ℤ) → k
+    < length pairs → (get_or pairs k d).0 < length living
 pair_inside living id pairs has k d l =
     let pair = get_or pairs k d in
-    value_inside living pair.0 id pair.1 (has pair.0 pair.1 (k, l, get_or_default pairs k (pair.0, pair.1) d l))
+    value_inside living pair.0 id pair.1
+    (has pair.0 pair.1 (k, l, get_or_default pairs k (pair.0, pair.1) d l))
 
 -- the map has at a place's handle what the entity there has
-pub same_value : (living : List LivingEntity) (index : FinMap handle_cmp ℕ) → IsIndexed living index → (id : ComponentId) (p : ℕ) → option_and_then (λ (e : LivingEntity). finite.get e.components id) (slice_get living p) ≡ option_and_then (λ (h : Handle). value_of (entities_of living) h id) (slice_get (handles_by_place living) p)
+pub same_value : (living : List LivingEntity) (index : FinMap handle_cmp ℕ) → IsIndexed living index
+    → (id : ComponentId) (p : ℕ) → option_and_then (λ (e : LivingEntity). finite.get e.components
+    id) (slice_get living p) ≡ option_and_then (λ (h : Handle). value_of (entities_of living) h id)
+    (slice_get (handles_by_place living) p)
 same_value living index indexed id p = by (cases_lt p (length living))
   where
-    by : (p < length living) ⊎ (length living ≤ p) → option_and_then (λ (e : LivingEntity). finite.get e.components id) (slice_get living p) ≡ option_and_then (λ (h : Handle). value_of (entities_of living) h id) (slice_get (handles_by_place living) p)
+    by : (p < length living) ⊎ (length living ≤ p)
+        → option_and_then (λ (e : LivingEntity). finite.get e.components id) (slice_get living p)
+        ≡ option_and_then (λ (h : Handle). value_of (entities_of living) h id)
+        (slice_get (handles_by_place living) p)
     by (inl l) =
         let r : LivingEntity = some_entity (record { index = 0; generation = 0 }) in
         let entity = get_or living p r in
         let there = get_placed living index indexed entity.handle p r (indexed.each_entity p l r) in
-        ap (option_and_then (λ (e : LivingEntity). finite.get e.components id)) (slice_get-get_or living p r l)
+        ap (option_and_then (λ (e : LivingEntity). finite.get e.components id))
+        (slice_get-get_or living p r l)
         ∙ sym (ap (option_and_then (λ (e : Entity). finite.get e.components id)) there)
-        ∙ sym (ap (option_and_then (λ (h : Handle). value_of (entities_of living) h id)) (from_place living p r l))
+        ∙ sym (ap (option_and_then (λ (h : Handle). value_of (entities_of living) h id))
+        (from_place living p r l))
     by (inr g) =
-        ap (option_and_then (λ (e : LivingEntity). finite.get e.components id)) (slice_get_past living p g)
-        ∙ sym (ap (option_and_then (λ (h : Handle). value_of (entities_of living) h id)) (slice_get_past (handles_by_place living) p (omega (arith, length-map living (λ (e : LivingEntity). e.handle)))))
+        ap (option_and_then (λ (e : LivingEntity). finite.get e.components id))
+        (slice_get_past living p g)
+        ∙ sym (ap (option_and_then (λ (h : Handle). value_of (entities_of living) h id))
+        (slice_get_past (handles_by_place living) p
+        (omega (arith, length-map living (λ (e : LivingEntity). e.handle)))))
 
 inner : {X : Type 0} (o x : Option X) → option_map {U = Option X} Some o ≡ Some x → o ≡ x
 inner None x e = absurd (none-some x e)
@@ -64,8 +81,10 @@ some_value : (o : Option ℤ) → is_some o ≡ true → (v : ℤ) × (o ≡ Som
 some_value None e = absurd (false≢true e)
 some_value (Some v) e = (v, refl)
 
-module _ (living : List LivingEntity) (index : FinMap handle_cmp ℕ) (indexed : IsIndexed living index) (id : ComponentId)
-    (pairs : List (ℕ × ℤ)) (births : List (Birth × Handle)) (are : map {B = Option (Birth × Handle)} Some births ≡ map (λ (pair : ℕ × ℤ). born_at living pair.0) pairs)
+module _ (living : List LivingEntity) (index : FinMap handle_cmp ℕ)
+    (indexed : IsIndexed living index) (id : ComponentId)
+    (pairs : List (ℕ × ℤ)) (births : List (Birth × Handle)) (are : map {B = Option (Birth × Handle)}
+    Some births ≡ map (λ (pair : ℕ × ℤ). born_at living pair.0) pairs)
     (has : (p : ℕ) (v : ℤ) → Contains pairs (p, v) → IsValueAt living p id v)
     (all : (p : ℕ) (v : ℤ) → IsValueAt living p id v → Contains pairs (p, v))
     (once : AllPairs (λ a b. a.0 ≢ b.0) pairs) where
@@ -74,9 +93,11 @@ module _ (living : List LivingEntity) (index : FinMap handle_cmp ℕ) (indexed :
 
   as_many : length births ≡ length pairs
   as_many =
-      sym (length-map {B = Option (Birth × Handle)} births Some) ∙ ap length are ∙ length-map pairs (λ (pair : ℕ × ℤ). born_at living pair.0)
+      sym (length-map {B = Option (Birth × Handle)} births Some) ∙ ap length are
+      ∙ length-map pairs (λ (pair : ℕ × ℤ). born_at living pair.0)
 
-  born_pair : (k : ℕ) (d : ℕ × ℤ) → k < length pairs → slice_get births k ≡ born_at living (get_or pairs k d).0
+  born_pair : (k : ℕ) (d : ℕ × ℤ) → k < length pairs → slice_get births k
+      ≡ born_at living (get_or pairs k d).0
   born_pair k d l =
       inner _ _ (sym (slice_get-map {B = Option (Birth × Handle)} Some births k)
       ∙ ap (λ (bs : List (Option (Birth × Handle))). slice_get bs k) are
@@ -84,10 +105,12 @@ module _ (living : List LivingEntity) (index : FinMap handle_cmp ℕ) (indexed :
       ∙ ap (option_map (λ (pair : ℕ × ℤ). born_at living pair.0)) (slice_get-get_or pairs k d l))
 
   -- the birth of the pair at a position is that of the entity at its place
-  birth_is : (k : ℕ) (d : ℕ × ℤ) (r : LivingEntity) → k < length pairs → slice_get births k ≡ Some (born_of (get_or living (get_or pairs k d).0 r))
+  birth_is : (k : ℕ) (d : ℕ × ℤ) (r : LivingEntity) → k < length pairs → slice_get births k
+      ≡ Some (born_of (get_or living (get_or pairs k d).0 r))
   birth_is k d r l =
       born_pair k d l
-      ∙ ap (option_map {U = Birth × Handle} (λ (e : LivingEntity). (e.birth, e.handle))) (slice_get-get_or living (get_or pairs k d).0 r (pair_inside living id pairs has k d l))
+      ∙ ap (option_map {U = Birth × Handle} (λ (e : LivingEntity). (e.birth, e.handle)))
+      (slice_get-get_or living (get_or pairs k d).0 r (pair_inside living id pairs has k d l))
 
   all_born : All (IsBorn living index indexed passes) births
   all_born k b l =
@@ -98,7 +121,8 @@ module _ (living : List LivingEntity) (index : FinMap handle_cmp ℕ) (indexed :
       let inside = pair_inside living id pairs has k d below in
       let at = get_or_from_slice_get births k _ b (birth_is k d r below) in
       let value = has pair.0 pair.1 (k, below, get_or_default pairs k (pair.0, pair.1) d below) in
-      let held = ap (option_and_then (λ (e : LivingEntity). finite.get e.components id)) (sym (slice_get-get_or living pair.0 r inside)) ∙ value in
+      let held = ap (option_and_then (λ (e : LivingEntity). finite.get e.components id))
+      (sym (slice_get-get_or living pair.0 r inside)) ∙ value in
       subst (IsBorn living index indexed passes) (sym at) (record {
         entity = entity_of (get_or living pair.0 r);
         there = all_there living index indexed passes pair.0 r inside;
@@ -115,16 +139,28 @@ module _ (living : List LivingEntity) (index : FinMap handle_cmp ℕ) (indexed :
       let at_j = get_or_from_slice_get births j _ b (birth_is j d r below) in
       let inside_i = pair_inside living id pairs has i d (omega arith) in
       let inside_j = pair_inside living id pairs has j d below in
-      let differ = λ (e : (get_or living (get_or pairs i d).0 r).handle ≡ (get_or living (get_or pairs j d).0 r).handle). once i j d l below (distinct living index indexed (get_or pairs i d).0 (get_or pairs j d).0 r inside_i inside_j e) in
+      let differ = λ (e : (get_or living (get_or pairs i d).0 r).handle
+      ≡ (get_or living (get_or pairs j d).0 r).handle). once i j d l below
+      (distinct living index indexed (get_or pairs i d).0 (get_or pairs j d).0 r inside_i
+      inside_j e) in
       rw (at_i, at_j) (apart handle_cmp_total handle_cmp-IsAntisymmetric _ _ differ))
 
-  complete : (i : ℕ) (r : LivingEntity) → i < length living → passes (entity_of (get_or living i r)) ≡ true → Contains births (born_of (get_or living i r))
+  complete : (i : ℕ) (r : LivingEntity) → i < length living → passes (entity_of (get_or living i r))
+      ≡ true → Contains births (born_of (get_or living i r))
   complete i r l pass =
       let value = some_value _ pass in
-      let here = ap (option_and_then (λ (e : LivingEntity). finite.get e.components id)) (slice_get-get_or living i r l) ∙ value.1 in
+      let here = ap (option_and_then (λ (e : LivingEntity). finite.get e.components id))
+      (slice_get-get_or living i r l) ∙ value.1 in
       let at = all i value.0 here in
-      let born = born_pair at.0 (i, value.0) at.1 ∙ ap (λ (pair : ℕ × ℤ). born_at living pair.0) at.2 ∙ ap (option_map {U = Birth × Handle} (λ (e : LivingEntity). (e.birth, e.handle))) (slice_get-get_or living i r l) in
-      (at.0, omega (arith, as_many, at.1), get_or_from_slice_get births at.0 _ (born_of (get_or living i r)) born)
+      let born = born_pair at.0 (i, value.0) at.1 ∙ ap (λ (pair : ℕ × ℤ). born_at living pair.0)
+      at.2 ∙ ap (option_map {U = Birth × Handle} (λ (e : LivingEntity). (e.birth, e.handle)))
+      (slice_get-get_or living i r l) in (
+        at.0,
+        omega (arith, as_many, at.1),
+        get_or_from_slice_get births at.0 _
+            (born_of (get_or living i r)) born,
+      )
 
-  pub lists_with : (handles : List Handle) → IsInOrder births handles → ListsWith id (entities_of living) handles
+  pub lists_with : (handles : List Handle) → IsInOrder births handles
+      → ListsWith id (entities_of living) handles
   lists_with = lists_of living index indexed passes births all_born births_apart complete

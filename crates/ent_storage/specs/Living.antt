@@ -62,12 +62,17 @@ components_at columns place = map.from_sorted (items_from 0 columns place)
 abbrev pub entities_from : ℕ → List Resident → List Column → List LivingEntity
 entities_from place [] columns = []
 entities_from place (resident ∷ residents) columns =
-    record { handle = resident.handle; birth = resident.birth; components = components_at columns place }
+    record {
+      handle = resident.handle;
+      birth = resident.birth;
+      components = components_at columns place;
+    }
     ∷ entities_from (suc place) residents columns
 
 -- each value belongs to one of the residents, and each column to a component number
 pub record AreColumnsOf (count : ℕ) (columns : List Column) : Type 0 where
-  pub none_beyond : (place : ℕ) (id : ComponentId) → count ≤ place → value_at columns place id ≡ None
+  pub none_beyond : (place : ℕ) (id : ComponentId) → count ≤ place
+      → value_at columns place id ≡ None
   pub numbered : length columns ≤ 256
 
 -- the entities after the components of the one at the place were changed
@@ -82,7 +87,8 @@ IsValueAt living place id v =
     option_and_then (λ e. map.get e.components id) (slice_get living place) ≡ Some v
 
 -- the list without the entity at place i, into which the last one has moved
-pub record IsMovedInto (living : List LivingEntity) (i : ℕ) (left : List LivingEntity) : Type 0 where
+pub record IsMovedInto (living : List LivingEntity) (i : ℕ) (left : List LivingEntity)
+    : Type 0 where
   pub one_less : length left + 1 ≡ length living
   pub moved : (d : LivingEntity) → i + 1 < length living
       → slice_index_or left i d ≡ slice_index_or living (length living - 1) d

@@ -103,7 +103,7 @@ fn set(columns: &mut [SparseSet], place: usize, item: (ComponentId, i64))
     columns[item.0.0 as usize].set(place, item.1);
 }
 
-/// Takes the value of one component at the place out, and answers it.
+/// Takes the value of one component at the place out, and returns it.
 pub fn remove(columns: &mut [SparseSet], place: usize, id: ComponentId) -> Option<i64>
     ensures value { result ≡ value_at columns.old place id }
     ensures here { components_at columns.new place

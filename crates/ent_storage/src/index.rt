@@ -70,7 +70,8 @@ impl Index {
     pub fn put(&mut self, living: &Living, handle: Handle, place: usize)
         requires room { length living.now.entities < self.old.room }
         ensures placed { map.get self.new.by_handle handle ≡ Some place }
-        ensures kept { Keeps handle (counted living.now.entities self.old.by_handle) self.new.by_handle }
+        ensures kept { Keeps handle (counted living.now.entities self.old.by_handle)
+            self.new.by_handle }
         ensures room { self.new.room ≡ self.old.room }
     {
         make_room(&mut self.pairs, living);

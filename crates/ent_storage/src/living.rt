@@ -113,7 +113,8 @@ impl Living {
     /// The value of a component of the entity at the place, if it has the component.
     pub fn value(&self, place: usize, id: ComponentId) -> Option<i64>
         requires { place < length self.now.entities }
-        ensures { HoldsAt (λ entity. result ≡ finite.get entity.components id) self.now.entities place }
+        ensures { HoldsAt (λ entity. result ≡ finite.get entity.components id)
+            self.now.entities place }
     {
         columns::value(&self.columns, place, id)
     }
@@ -121,7 +122,8 @@ impl Living {
     /// The components of the entity at the place and their values, by rising number.
     pub fn items(&self, place: usize) -> Items<'_>
         requires { place < length self.now.entities }
-        ensures { HoldsAt (λ entity. result ≡ finite.entries entity.components) self.now.entities place }
+        ensures { HoldsAt (λ entity. result ≡ finite.entries entity.components)
+            self.now.entities place }
     {
         Items::new(&self.columns, place)
     }
@@ -162,10 +164,11 @@ impl Living {
         Ok(())
     }
 
-    /// Takes a component out of the entity at the place, and answers its value. It takes no memory.
+    /// Takes a component out of the entity at the place, and returns its value. It takes no memory.
     pub fn remove(&mut self, place: usize, id: ComponentId) -> Option<i64>
         requires { place < length self.old.entities }
-        ensures value { HoldsAt (λ entity. result ≡ finite.get entity.components id) self.old.entities place }
+        ensures value { HoldsAt (λ entity. result ≡ finite.get entity.components id)
+            self.old.entities place }
         ensures entities { self.new.entities
             ≡ change_at self.old.entities place (λ held. finite.remove held id) }
         ensures room { self.new.room ≡ self.old.room }
@@ -216,7 +219,8 @@ impl Living {
 
 /// The birth and the handle of each resident.
 fn births(alloc: Global, residents: &[Resident]) -> Result<Vec<(Birth, Handle)>, AllocError>
-    ensures { IfOk result (λ births. births.items ≡ map (λ resident. (resident.birth, resident.handle)) residents.now) }
+    ensures { IfOk result (λ births.
+        births.items ≡ map (λ resident. (resident.birth, resident.handle)) residents.now) }
 {
     residents
         .iter()

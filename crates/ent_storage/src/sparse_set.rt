@@ -97,7 +97,7 @@ impl SparseSet {
         self.sparse.resize(places, 0)
     }
 
-    /// Takes the value of the place out, and answers it. It takes no memory.
+    /// Takes the value of the place out, and returns it. It takes no memory.
     pub fn remove(&mut self, place: usize) -> Option<i64>
         ensures value { result ≡ map.get self.old.values place }
         ensures after { self.new.values ≡ map.remove self.old.values place }
@@ -139,9 +139,11 @@ impl SparseSet {
 /// The position of the pair that the place has in the dense vector.
 fn position_of(dense: &[(usize, i64)], sparse: &[usize], place: usize) -> Option<usize>
     requires { IsDense dense.now sparse.now }
-    ensures found { IfSome result (λ position. HoldsAt (λ pair. pair.0 ≡ place) dense.now position) }
+    ensures found { IfSome result
+        (λ position. HoldsAt (λ pair. pair.0 ≡ place) dense.now position) }
     ensures inside { IfSome result (λ position. position < length dense.now) }
-    ensures absent { result ≡ None → map.get (map.from_entries {R = nat_cmp} dense.now) place ≡ None }
+    ensures absent { result ≡ None
+        → map.get (map.from_entries {R = nat_cmp} dense.now) place ≡ None }
 {
     let position = *sparse.get(place)?;
     let pair = dense.get(position)?;

@@ -230,7 +230,7 @@ impl Storage {
         Ok(())
     }
 
-    /// Takes out the entity at a place, whose handle has to be this one, and answers the handle of
+    /// Takes out the entity at a place, whose handle has to be this one, and returns the handle of
     /// the entity that has moved into the place: the last one, or nobody if it was the last itself.
     /// It takes no memory, and `spare` is then greater by 1.
     ///
@@ -289,7 +289,7 @@ impl Storage {
         Ok(())
     }
 
-    /// Takes the component out of the entity, and answers the value that it had, or `None` if the
+    /// Takes the component out of the entity, and returns the value that it had, or `None` if the
     /// entity does not have it. It takes no memory.
     ///
     /// # Errors

@@ -226,7 +226,7 @@ fn assert_entity(
     }
 }
 
-// What a storage answers of an entity: whether it is there, its birth, its health and its mana.
+// What a storage says of an entity: whether it is there, its birth, its health and its mana.
 fn seen(storage: &Storage, entity: Handle) -> (bool, Option<Birth>, Option<i64>, Option<i64>) {
     (
         storage.contains(entity),

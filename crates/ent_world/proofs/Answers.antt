@@ -8,7 +8,10 @@ use Rattle.ent_storage.specs.declared.fault.StorageFault.{StorageFault}
 use Rattle.ent_storage.specs.declared.fault.StorageFault.TheVariants.{Absent}
 
 -- who is there is taken out
-pub taken_out : {X : Type 0} (m n : EntityMap) (h : Handle) (r : Result X StorageFault) → map.contains_key m h ≡ true
-    → OnOk r (n ≡ map.remove m h) → (IsErrOf r Absent → map.get m h ≡ None) → IfErr r (λ fault. fault ≡ Absent) → n ≡ map.remove m h
+pub taken_out : {X : Type 0} (m n : EntityMap) (h : Handle) (r : Result X StorageFault)
+    → map.contains_key m h ≡ true
+    → OnOk r (n ≡ map.remove m h) → (IsErrOf r Absent → map.get m h ≡ None)
+    → IfErr r (λ fault. fault ≡ Absent) → n ≡ map.remove m h
 taken_out m n h (Ok x) there ok absent only = ok
-taken_out m n h (Err fault) there ok absent only = absurd (true≢false (sym there ∙ ap is_some (absent (ap Err only))))
+taken_out m n h (Err fault) there ok absent only =
+    absurd (true≢false (sym there ∙ ap is_some (absent (ap Err only))))

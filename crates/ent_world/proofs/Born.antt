@@ -40,18 +40,26 @@ no_other h hs apart = by_test (stands_in hs h) refl
   where
     by_test : (b : Bool) → stands_in hs h ≡ b → b ≡ false
     by_test false _ = refl
-    by_test true there = absurd (not_apart h (All-contains (AreApart h) hs h apart (Contains-from_stands_in hs h there)))
+    by_test true there =
+        absurd (not_apart h (All-contains (AreApart h) hs h apart
+        (Contains-from_stands_in hs h there)))
 
 distinct : (hs : List Handle) → AllPairs AreApart hs → AreDistinct hs
 distinct [] apart = tt
-distinct (h ∷ hs) apart = (no_other h hs (AllPairs-head AreApart h hs apart), distinct hs (AllPairs-tail AreApart h hs apart))
+distinct (h ∷ hs) apart = (
+  no_other h hs (AllPairs-head AreApart h hs apart),
+  distinct hs
+      (AllPairs-tail AreApart h hs apart),
+)
 
 -- two tests that agree at each of the handles keep the same
-filter_alike : (p q : Handle → Bool) (hs : List Handle) → ((h : Handle) → stands_in hs h ≡ true → p h ≡ q h) → filter p hs ≡ filter q hs
+filter_alike : (p q : Handle → Bool) (hs : List Handle) → ((h : Handle) → stands_in hs h ≡ true
+    → p h ≡ q h) → filter p hs ≡ filter q hs
 filter_alike p q [] alike = refl
 filter_alike p q (h ∷ hs) alike =
     let first : p h ≡ q h = alike h (ap (λ b. b || stands_in hs h) (itself h)) in
-    let rest = filter_alike p q hs (λ g there. alike g (later (eq_by_cmp handle_cmp g h) (stands_in hs g) there)) in
+    let rest = filter_alike p q hs
+    (λ g there. alike g (later (eq_by_cmp handle_cmp g h) (stands_in hs g) there)) in
     λ i. cond (first i) (h ∷ rest i) (rest i)
   where
     later : (a b : Bool) → b ≡ true → (a || b) ≡ true
@@ -59,18 +67,22 @@ filter_alike p q (h ∷ hs) alike =
     later false b there = there
 
 -- a place of what stands there, and none of what doesn't
-some_place : (q : Handle) (place : ℕ) (hs : List Handle) → stands_in hs q ≡ true → (k : ℕ) × (position_from (eq_by_cmp handle_cmp q) place hs ≡ Some k)
+some_place : (q : Handle) (place : ℕ) (hs : List Handle) → stands_in hs q ≡ true → (k : ℕ)
+    × (position_from (eq_by_cmp handle_cmp q) place hs ≡ Some k)
 some_place q place [] none = absurd (true≢false (sym none))
 some_place q place (h ∷ hs) there =
-    elim (eq_by_cmp handle_cmp q h) as (λ b. (b || stands_in hs q) ≡ true → (k : ℕ) × (cond b (Some place) (position_from (eq_by_cmp handle_cmp q) (place + 1) hs) ≡ Some k)) [
+    elim (eq_by_cmp handle_cmp q h) as (λ b. (b || stands_in hs q) ≡ true → (k : ℕ)
+    × (cond b (Some place) (position_from (eq_by_cmp handle_cmp q) (place + 1) hs) ≡ Some k)) [
       | true ↦ λ _. (place, refl)
       | false ↦ λ others. some_place q (place + 1) hs others
     ] there
 
-no_place : (q : Handle) (place : ℕ) (hs : List Handle) → stands_in hs q ≡ false → position_from (eq_by_cmp handle_cmp q) place hs ≡ None
+no_place : (q : Handle) (place : ℕ) (hs : List Handle) → stands_in hs q ≡ false
+    → position_from (eq_by_cmp handle_cmp q) place hs ≡ None
 no_place q place [] none = refl
 no_place q place (h ∷ hs) none =
-    elim (eq_by_cmp handle_cmp q h) as (λ b. (b || stands_in hs q) ≡ false → cond b (Some place) (position_from (eq_by_cmp handle_cmp q) (place + 1) hs) ≡ None) [
+    elim (eq_by_cmp handle_cmp q h) as (λ b. (b || stands_in hs q) ≡ false
+    → cond b (Some place) (position_from (eq_by_cmp handle_cmp q) (place + 1) hs) ≡ None) [
       | true ↦ λ t. absurd (true≢false t)
       | false ↦ λ others. no_place q (place + 1) hs others
     ] none
@@ -81,54 +93,84 @@ no_place q place (h ∷ hs) none =
 abbrev without : EntityMap → List Handle → List Handle
 without m hs = filter (λ h. not (map.contains_key m h)) hs
 
-apart_in : (h g : Handle) (hs : List Handle) → stands_in hs h ≡ false → stands_in hs g ≡ true → eq_by_cmp handle_cmp g h ≡ false
+apart_in : (h g : Handle) (hs : List Handle) → stands_in hs h ≡ false → stands_in hs g ≡ true
+    → eq_by_cmp handle_cmp g h ≡ false
 apart_in h g hs none there = by_test (eq_by_cmp handle_cmp g h) refl
   where
     by_test : (b : Bool) → eq_by_cmp handle_cmp g h ≡ b → b ≡ false
     by_test false _ = refl
-    by_test true tied = absurd (true≢false (sym there ∙ ap (stands_in hs) (same_handle g h tied) ∙ none))
+    by_test true tied = absurd (true≢false (sym there ∙ ap (stands_in hs) (same_handle g h tied)
+        ∙ none))
 
 module _ (s : Allocator) (phase : ℕ) where
   -- one more entity changes nothing of the others
-  without-entered : (h : Handle) (birth : Birth) (hs : List Handle) (m : EntityMap) → stands_in hs h ≡ false → without (entered s h birth m) hs ≡ without m hs
-  without-entered h birth hs m none = filter_alike (λ g. not (map.contains_key (entered s h birth m) g)) (λ g. not (map.contains_key m g)) hs (λ g there.
+  without-entered : (h : Handle) (birth : Birth) (hs : List Handle) (m : EntityMap) → stands_in hs h
+      ≡ false → without (entered s h birth m) hs ≡ without m hs
+  without-entered h birth hs m none =
+      filter_alike (λ g. not (map.contains_key (entered s h birth m) g))
+      (λ g. not (map.contains_key m g)) hs (λ g there.
       ap (λ o. not (is_some o)) (
       get-entered s h birth m g
-      ∙ ap (λ b. or_born (map.get m g) (given (set.contains s.live g) (given b (Some birth)))) (apart_in h g hs none there)
+      ∙ ap (λ b. or_born (map.get m g) (given (set.contains s.live g) (given b (Some birth))))
+      (apart_in h g hs none there)
       ∙ ap (or_born (map.get m g)) (given-none (set.contains s.live g))
       ∙ or_born-none (map.get m g)))
 
   -- the next one has this place, or an earlier entry counts
   abbrev Places : ℕ → List Handle → EntityMap → Handle → Type 0
-  Places place hs m q = map.get (entered_others s (birth_at phase no_system place) hs m) q ≡ or_born (map.get m q) (birth_by_place phase no_system (position_from (eq_by_cmp handle_cmp q) place (without m hs)))
+  Places place hs m q = map.get (entered_others s (birth_at phase no_system place) hs m) q
+      ≡ or_born (map.get m q)
+      (birth_by_place phase no_system (position_from (eq_by_cmp handle_cmp q) place (without m hs)))
 
-  entered_new : (place : ℕ) (h : Handle) (rest : List Handle) (m : EntityMap) (q : Handle) → set.contains s.live h ≡ true → (b : Bool) → eq_by_cmp handle_cmp q h ≡ b
-      → or_born (or_born (map.get m q) (given (set.contains s.live q) (given b (Some (birth_at phase no_system place))))) (birth_by_place phase no_system (position_from (eq_by_cmp handle_cmp q) (place + 1) rest))
-      ≡ or_born (map.get m q) (birth_by_place phase no_system (cond b (Some place) (position_from (eq_by_cmp handle_cmp q) (place + 1) rest)))
+  entered_new : (place : ℕ) (h : Handle) (rest : List Handle) (m : EntityMap) (q : Handle)
+      → set.contains s.live h ≡ true → (b : Bool) → eq_by_cmp handle_cmp q h ≡ b
+      → or_born (or_born (map.get m q)
+      (given (set.contains s.live q) (given b (Some (birth_at phase no_system place)))))
+      (birth_by_place phase no_system (position_from (eq_by_cmp handle_cmp q) (place + 1) rest))
+      ≡ or_born (map.get m q)
+      (birth_by_place phase no_system
+      (cond b (Some place) (position_from (eq_by_cmp handle_cmp q) (place + 1) rest)))
   entered_new place h rest m q alive true tied =
-      let lives : set.contains s.live q ≡ true = ap (set.contains s.live) (same_handle q h tied) ∙ alive in
-      ap (λ t. or_born (or_born (map.get m q) (given t (Some (birth_at phase no_system place)))) (birth_by_place phase no_system (position_from (eq_by_cmp handle_cmp q) (place + 1) rest))) lives
-      ∙ settled (map.get m q) (birth_by_place phase no_system (position_from (eq_by_cmp handle_cmp q) (place + 1) rest))
+      let lives : set.contains s.live q ≡ true = ap (set.contains s.live) (same_handle q h tied)
+      ∙ alive in
+      ap (λ t. or_born (or_born (map.get m q) (given t (Some (birth_at phase no_system place))))
+      (birth_by_place phase no_system (position_from (eq_by_cmp handle_cmp q) (place + 1)
+      rest))) lives
+      ∙ settled (map.get m q)
+      (birth_by_place phase no_system (position_from (eq_by_cmp handle_cmp q) (place + 1) rest))
     where
-      settled : (o : Option Entity) (others : Option Birth) → or_born (or_born o (Some (birth_at phase no_system place))) others ≡ or_born o (Some (birth_at phase no_system place))
+      settled : (o : Option Entity) (others : Option Birth)
+          → or_born (or_born o (Some (birth_at phase no_system place))) others
+          ≡ or_born o (Some (birth_at phase no_system place))
       settled (Some e) others = refl
       settled None others = refl
   entered_new place h rest m q alive false apart =
-      ap (λ o. or_born o (birth_by_place phase no_system (position_from (eq_by_cmp handle_cmp q) (place + 1) rest)))
+      ap (λ o. or_born o (birth_by_place phase no_system (position_from (eq_by_cmp handle_cmp q)
+      (place + 1) rest)))
       (ap (or_born (map.get m q)) (given-none (set.contains s.live q)) ∙ or_born-none (map.get m q))
 
-  get-entered_others : (place : ℕ) (hs : List Handle) (m : EntityMap) (q : Handle) → AreDistinct hs → ((h : Handle) → stands_in hs h ≡ true → set.contains s.live h ≡ true) → Places place hs m q
+  get-entered_others : (place : ℕ) (hs : List Handle) (m : EntityMap) (q : Handle) → AreDistinct hs
+      → ((h : Handle) → stands_in hs h ≡ true → set.contains s.live h ≡ true) → Places place hs m q
   get-entered_others place [] m q apart alive = sym (or_born-none (map.get m q))
   get-entered_others place (h ∷ hs) m q apart alive =
-      elim (map.contains_key m h) as (λ b. map.get (cond b (entered_others s (birth_at phase no_system place) hs m) (entered_others s (next_birth (birth_at phase no_system place)) hs n)) q
-      ≡ or_born (map.get m q) (birth_by_place phase no_system (position_from (eq_by_cmp handle_cmp q) place (cond (not b) (h ∷ without m hs) (without m hs))))) [
+      elim (map.contains_key m h) as
+      (λ b. map.get (cond b (entered_others s (birth_at phase no_system place) hs m)
+      (entered_others s (next_birth (birth_at phase no_system place)) hs n)) q
+      ≡ or_born (map.get m q)
+      (birth_by_place phase no_system (position_from (eq_by_cmp handle_cmp q) place
+      (cond (not b) (h ∷ without m hs) (without m hs))))) [
         | true ↦ get-entered_others place hs m q apart.1 later
         | false ↦
             ap (λ b. map.get (entered_others s b hs n) q) (next-birth_at phase no_system place)
             ∙ get-entered_others (place + 1) hs n q apart.1 later
-            ∙ ap (λ rest. or_born (map.get n q) (birth_by_place phase no_system (position_from (eq_by_cmp handle_cmp q) (place + 1) rest))) (without-entered h (birth_at phase no_system place) hs m apart.0)
-            ∙ ap (λ o. or_born o (birth_by_place phase no_system (position_from (eq_by_cmp handle_cmp q) (place + 1) (without m hs)))) (get-entered s h (birth_at phase no_system place) m q)
-            ∙ entered_new place h (without m hs) m q (alive h (ap (λ b. b || stands_in hs h) (itself h))) (eq_by_cmp handle_cmp q h) refl
+            ∙ ap (λ rest. or_born (map.get n q)
+            (birth_by_place phase no_system (position_from (eq_by_cmp handle_cmp q) (place + 1)
+            rest))) (without-entered h (birth_at phase no_system place) hs m apart.0)
+            ∙ ap (λ o. or_born o
+            (birth_by_place phase no_system (position_from (eq_by_cmp handle_cmp q) (place + 1)
+            (without m hs)))) (get-entered s h (birth_at phase no_system place) m q)
+            ∙ entered_new place h (without m hs) m q
+            (alive h (ap (λ b. b || stands_in hs h) (itself h))) (eq_by_cmp handle_cmp q h) refl
       ]
     where
       n : EntityMap
@@ -143,26 +185,36 @@ module _ (s : Allocator) (phase : ℕ) where
 
 -- All that are born, in one step.
 
-pub get-with_born : (birth : Handle → Birth) (hs : List Handle) (m : EntityMap) (q : Handle) → map.get (with_born m birth hs) q ≡ cond (stands_in hs q) (Some (newborn (birth q))) (map.get m q)
+pub get-with_born : (birth : Handle → Birth) (hs : List Handle) (m : EntityMap) (q : Handle)
+    → map.get (with_born m birth hs) q ≡ cond (stands_in hs q) (Some (newborn (birth q)))
+    (map.get m q)
 get-with_born birth [] m q = refl
 get-with_born birth (h ∷ hs) m q =
     get-with_born birth hs (map.insert m h (newborn (birth h))) q
-    ∙ ap (cond (stands_in hs q) (Some (newborn (birth q)))) (map.get-insert handle_cmp_total m h (newborn (birth h)) q)
+    ∙ ap (cond (stands_in hs q) (Some (newborn (birth q)))) (map.get-insert handle_cmp_total m h
+    (newborn (birth h)) q)
     ∙ by_test (eq_by_cmp handle_cmp q h) refl
   where
     twice : (b : Bool) (o : Option Entity) → cond b o o ≡ o
     twice true o = refl
     twice false o = refl
 
-    by_test : (b : Bool) → eq_by_cmp handle_cmp q h ≡ b → cond (stands_in hs q) (Some (newborn (birth q))) (cond b (Some (newborn (birth h))) (map.get m q)) ≡ cond (b || stands_in hs q) (Some (newborn (birth q))) (map.get m q)
-    by_test true tied = ap (λ k. cond (stands_in hs q) (Some (newborn (birth q))) (Some (newborn (birth k)))) (sym (same_handle q h tied)) ∙ twice (stands_in hs q) (Some (newborn (birth q)))
+    by_test : (b : Bool) → eq_by_cmp handle_cmp q h ≡ b
+        → cond (stands_in hs q) (Some (newborn (birth q))) (cond b (Some (newborn (birth h)))
+        (map.get m q)) ≡ cond (b || stands_in hs q) (Some (newborn (birth q))) (map.get m q)
+    by_test true tied = ap (λ k. cond (stands_in hs q) (Some (newborn (birth q)))
+        (Some (newborn (birth k)))) (sym (same_handle q h tied))
+        ∙ twice (stands_in hs q) (Some (newborn (birth q)))
     by_test false apart = refl
 
 -- whether a queue lists a handle has nothing to do with phases and systems
-listed_anyhow : (queues : List (List Command)) (phase system other : ℕ) (h : Handle) → is_none (listed_birth 0 other queues h) ≡ not (is_some (listed_birth phase system queues h))
+listed_anyhow : (queues : List (List Command)) (phase system other : ℕ) (h : Handle)
+    → is_none (listed_birth 0 other queues h) ≡ not (is_some (listed_birth phase system queues h))
 listed_anyhow [] phase system other h = refl
 listed_anyhow (q ∷ queues) phase system other h =
-    elim (ordinal_among (handles_listed q) h) as (λ place. is_none (at_ordinal 0 other place (listed_birth 0 (other + 1) queues h)) ≡ not (is_some (at_ordinal phase system place (listed_birth phase (system + 1) queues h)))) [
+    elim (ordinal_among (handles_listed q) h) as
+    (λ place. is_none (at_ordinal 0 other place (listed_birth 0 (other + 1) queues h))
+    ≡ not (is_some (at_ordinal phase system place (listed_birth phase (system + 1) queues h)))) [
       | Some k ↦ refl
       | None ↦ listed_anyhow queues phase (system + 1) (other + 1) h
     ]
@@ -178,28 +230,37 @@ an_entity (Some e) _ = (e, refl)
 -- a flush of a sound allocator whose living ones are those of the map
 module _ (s : Allocator) (m : EntityMap) (sound : IsSound s) (living : AreLiving s m) where
   -- who is born lives, and was not there
-  pub born-alive : (h : Handle) → stands_in (born s) h ≡ true → set.contains (after_flush s).live h ≡ true
-  born-alive h there = All-contains (IsLive (after_flush s)) (born s) h (born-lives s) (Contains-from_stands_in (born s) h there)
+  pub born-alive : (h : Handle) → stands_in (born s) h ≡ true → set.contains (after_flush s).live h
+      ≡ true
+  born-alive h there = All-contains (IsLive (after_flush s)) (born s) h (born-lives s)
+      (Contains-from_stands_in (born s) h there)
 
   born-new : (h : Handle) → stands_in (born s) h ≡ true → map.get m h ≡ None
   born-new h there = no_entity (map.get m h) (living h ∙ by_test (set.contains s.live h) refl)
     where
       by_test : (b : Bool) → set.contains s.live h ≡ b → b ≡ false
       by_test false _ = refl
-      by_test true lived = absurd (All-contains (λ x. ¬ (IsLive s x)) (born s) h (born-not_live s sound) (Contains-from_stands_in (born s) h there) lived)
+      by_test true lived = absurd (All-contains (λ x. ¬ (IsLive s x)) (born s) h
+          (born-not_live s sound) (Contains-from_stands_in (born s) h there) lived)
 
   -- who lives and is not born was there
-  pub lived-before : (h : Handle) → stands_in (born s) h ≡ false → set.contains (after_flush s).live h ≡ true → set.contains s.live h ≡ true
+  pub lived-before : (h : Handle) → stands_in (born s) h ≡ false → set.contains (after_flush s).live
+      h ≡ true → set.contains s.live h ≡ true
   lived-before h none lives = elim (live-after_flush s h lives) [
     | inl before ↦ before
-    | inr taken ↦ absurd (true≢false (sym (stands_in-from_Contains (born s) h (Contains-permutation s.taken (born s) h (born-IsPermutation s) taken)) ∙ none))
+    | inr taken ↦ absurd
+        (true≢false (sym (stands_in-from_Contains (born s) h (Contains-permutation s.taken (born s)
+        h (born-IsPermutation s) taken)) ∙ none))
   ]
 
   -- the map after a flush has those that live then
-  pub living-after : (birth : Handle → Birth) → AreLiving (after_flush s) (with_born m birth (born s))
-  living-after birth h = ap is_some (get-with_born birth (born s) m h) ∙ by_test (stands_in (born s) h) refl
+  pub living-after : (birth : Handle → Birth)
+      → AreLiving (after_flush s) (with_born m birth (born s))
+  living-after birth h = ap is_some (get-with_born birth (born s) m h)
+      ∙ by_test (stands_in (born s) h) refl
     where
-      not_born : stands_in (born s) h ≡ false → (b : Bool) → set.contains (after_flush s).live h ≡ b → set.contains s.live h ≡ b
+      not_born : stands_in (born s) h ≡ false → (b : Bool) → set.contains (after_flush s).live h ≡ b
+          → set.contains s.live h ≡ b
       not_born none true lives = lived-before h none lives
       not_born none false dead = before (set.contains s.live h) refl
         where
@@ -207,7 +268,9 @@ module _ (s : Allocator) (m : EntityMap) (sound : IsSound s) (living : AreLiving
           before false _ = refl
           before true lived = absurd (true≢false (sym (live-stays s h lived) ∙ dead))
 
-      by_test : (b : Bool) → stands_in (born s) h ≡ b → is_some (cond b (Some (newborn (birth h))) (map.get m h)) ≡ set.contains (after_flush s).live h
+      by_test : (b : Bool) → stands_in (born s) h ≡ b
+          → is_some (cond b (Some (newborn (birth h))) (map.get m h))
+          ≡ set.contains (after_flush s).live h
       by_test true there = sym (born-alive h there)
       by_test false none = living h ∙ not_born none (set.contains (after_flush s).live h) refl
 
@@ -218,19 +281,23 @@ module _ (s : Allocator) (m : EntityMap) (sound : IsSound s) (living : AreLiving
     abbrev By : Handle → Option Birth
     By q = listed_birth phase 0 queues q
 
-    listed-get : (q : Handle) → map.get listed q ≡ or_born (map.get m q) (given (set.contains (after_flush s).live q) (By q))
+    listed-get : (q : Handle) → map.get listed q
+        ≡ or_born (map.get m q) (given (set.contains (after_flush s).live q) (By q))
     unfolding listed
     listed-get q = get-entered_queues (after_flush s) phase 0 queues m q
 
-    listed-born : (q : Handle) → stands_in (born s) q ≡ true → map.get listed q ≡ or_born None (By q)
-    listed-born q there = listed-get q ∙ (λ i. or_born (born-new q there i) (given (born-alive q there i) (By q)))
+    listed-born : (q : Handle) → stands_in (born s) q ≡ true → map.get listed q
+        ≡ or_born None (By q)
+    listed-born q there = listed-get q
+        ∙ (λ i. or_born (born-new q there i) (given (born-alive q there i) (By q)))
 
     abbrev others : List Handle
     others = unlisted queues (born s)
 
     -- those without an entity are those that no queue lists
     others_are : without listed (born s) ≡ others
-    others_are = filter_alike (λ h. not (map.contains_key listed h)) (λ h. is_none (listed_birth 0 0 queues h)) (born s) (λ h there.
+    others_are = filter_alike (λ h. not (map.contains_key listed h))
+        (λ h. is_none (listed_birth 0 0 queues h)) (born s) (λ h there.
         ap (λ o. not (is_some o)) (listed-born h there)
         ∙ ap not (some_born (By h))
         ∙ sym (listed_anyhow queues phase 0 0 h))
@@ -243,16 +310,20 @@ module _ (s : Allocator) (m : EntityMap) (sound : IsSound s) (living : AreLiving
     place q = position_from (eq_by_cmp handle_cmp q) 0 others
 
     -- who is born and not listed stands among the others
-    among_others : (q : Handle) → stands_in (born s) q ≡ true → By q ≡ None → stands_in others q ≡ true
+    among_others : (q : Handle) → stands_in (born s) q ≡ true → By q ≡ None → stands_in others q
+        ≡ true
     among_others q there none =
         any-filter_same (eq_by_cmp handle_cmp q) (λ h. is_none (listed_birth 0 0 queues h)) true
-        (λ h tied. ap (λ x. is_none (listed_birth 0 0 queues x)) (sym (same_handle q h tied)) ∙ listed_anyhow queues phase 0 0 q ∙ ap (λ o. not (is_some o)) none) (born s)
+        (λ h tied. ap (λ x. is_none (listed_birth 0 0 queues x)) (sym (same_handle q h tied))
+        ∙ listed_anyhow queues phase 0 0 q ∙ ap (λ o. not (is_some o)) none) (born s)
         ∙ there
 
     not_among : (q : Handle) → stands_in (born s) q ≡ false → stands_in others q ≡ false
     not_among q none =
-        any-filter_same (eq_by_cmp handle_cmp q) (λ h. is_none (listed_birth 0 0 queues h)) (is_none (listed_birth 0 0 queues q))
-        (λ h tied. ap (λ x. is_none (listed_birth 0 0 queues x)) (sym (same_handle q h tied))) (born s)
+        any-filter_same (eq_by_cmp handle_cmp q) (λ h. is_none (listed_birth 0 0 queues h))
+        (is_none (listed_birth 0 0 queues q))
+        (λ h tied. ap (λ x. is_none (listed_birth 0 0 queues x)) (sym (same_handle q h tied)))
+        (born s)
         ∙ neither (is_none (listed_birth 0 0 queues q)) (stands_in (born s) q) none
       where
         neither : (a b : Bool) → b ≡ false → (a && b) ≡ false
@@ -261,54 +332,78 @@ module _ (s : Allocator) (m : EntityMap) (sound : IsSound s) (living : AreLiving
 
     -- who is born has its birth by the queues
     of_born : (q : Handle) → stands_in (born s) q ≡ true → (b : Option Birth) → By q ≡ b
-        → or_born (or_born None b) (birth_by_place phase no_system (place q)) ≡ Some (newborn (unwrap_or b (unlisted_birth phase others q)))
+        → or_born (or_born None b) (birth_by_place phase no_system (place q))
+        ≡ Some (newborn (unwrap_or b (unlisted_birth phase others q)))
     of_born q there (Some b) is = refl
     of_born q there None is =
         let some = some_place q 0 others (among_others q there is) in
         ap (λ p. or_born None (birth_by_place phase no_system p)) some.1
-        ∙ ap (λ p. Some (newborn (record { frame = phase; system = no_system; ordinal = ordinal (unwrap_or p 0) }))) (sym some.1)
+        ∙ ap (λ p. Some
+        (newborn (record {
+          frame = phase;
+          system = no_system;
+          ordinal = ordinal (unwrap_or p 0);
+        }))) (sym some.1)
 
-    of_old : (q : Handle) → stands_in (born s) q ≡ false → (b : Bool) → set.contains (after_flush s).live q ≡ b → or_born (map.get m q) (given b (By q)) ≡ map.get m q
+    of_old : (q : Handle) → stands_in (born s) q ≡ false → (b : Bool)
+        → set.contains (after_flush s).live q ≡ b → or_born (map.get m q) (given b (By q))
+        ≡ map.get m q
     of_old q none false dead = or_born-none (map.get m q)
     of_old q none true lives =
         let some = an_entity (map.get m q) (living q ∙ lived-before q none lives) in
         ap (λ o. or_born o (By q)) some.1 ∙ sym some.1
 
     -- what enters by queues, and then the others, is each with its birth
-    pub births_entered : entered_others (after_flush s) (first_birth phase no_system) (born s) (entered_queues (after_flush s) phase 0 queues m) ≡ with_born m (birth_in phase queues (born s)) (born s)
+    pub births_entered : entered_others (after_flush s) (first_birth phase no_system) (born s)
+        (entered_queues (after_flush s) phase 0 queues m)
+        ≡ with_born m (birth_in phase queues (born s)) (born s)
     unfolding listed
     births_entered = map.same_map handle_cmp_total handle_cmp-IsAntisymmetric _ _ (λ q.
-        get-entered_others (after_flush s) phase 0 (born s) listed q (distinct (born s) (born-apart s sound)) born-alive
-        ∙ ap (λ hs. or_born (map.get listed q) (birth_by_place phase no_system (position_from (eq_by_cmp handle_cmp q) 0 hs))) others_are
+        get-entered_others (after_flush s) phase 0 (born s) listed q
+        (distinct (born s) (born-apart s sound)) born-alive
+        ∙ ap (λ hs. or_born (map.get listed q)
+        (birth_by_place phase no_system (position_from (eq_by_cmp handle_cmp q) 0 hs)))
+        others_are
         ∙ by_test q (stands_in (born s) q) refl
         ∙ sym (get-with_born (birth_in phase queues (born s)) (born s) m q))
       where
         by_test : (q : Handle) (b : Bool) → stands_in (born s) q ≡ b
-            → or_born (map.get listed q) (birth_by_place phase no_system (place q)) ≡ cond b (Some (newborn (birth_in phase queues (born s) q))) (map.get m q)
-        by_test q true there = ap (λ o. or_born o (birth_by_place phase no_system (place q))) (listed-born q there) ∙ of_born q there (By q) refl
+            → or_born (map.get listed q) (birth_by_place phase no_system (place q))
+            ≡ cond b (Some (newborn (birth_in phase queues (born s) q))) (map.get m q)
+        by_test q true there = ap (λ o. or_born o (birth_by_place phase no_system (place q)))
+            (listed-born q there) ∙ of_born q there (By q) refl
         by_test q false none =
-            ap (λ p. or_born (map.get listed q) (birth_by_place phase no_system p)) (no_place q 0 others (not_among q none))
+            ap (λ p. or_born (map.get listed q) (birth_by_place phase no_system p))
+            (no_place q 0 others (not_among q none))
             ∙ or_born-none (map.get listed q)
             ∙ listed-get q
             ∙ of_old q none (set.contains (after_flush s).live q) refl
 
 -- a storage of that map with room for what is taken has room for what is born
-pub room-flushed : (s : Allocator) (store : Store) → IsSound s → AreLiving s store.entities → length s.taken ≤ store.spare → HasRoomForBorn (after_flush s) store
+pub room-flushed : (s : Allocator) (store : Store) → IsSound s → AreLiving s store.entities
+    → length s.taken ≤ store.spare → HasRoomForBorn (after_flush s) store
 room-flushed s store sound living enough = record {
   waiting = born s;
   all = λ h lives absent. by_test h lives absent (stands_in (born s) h) refl;
   room = let same = length_permutation s.taken (born s) (born-IsPermutation s) in omega arith;
 }
   where
-    by_test : (h : Handle) → set.contains (after_flush s).live h ≡ true → map.contains_key store.entities h ≡ false → (b : Bool) → stands_in (born s) h ≡ b → b ≡ true
+    by_test : (h : Handle) → set.contains (after_flush s).live h ≡ true
+        → map.contains_key store.entities h ≡ false → (b : Bool) → stands_in (born s) h ≡ b → b
+        ≡ true
     by_test h lives absent true _ = refl
-    by_test h lives absent false none = absurd (true≢false (sym (living h ∙ lived-before s store.entities sound living h none lives) ∙ absent))
+    by_test h lives absent false none =
+        absurd (true≢false (sym (living h ∙ lived-before s store.entities sound living h none lives)
+        ∙ absent))
 
 -- the map after a flush, the queues' handles, and then all that are born
-pub all_entered : (s t : Allocator) (m n listed_ones last : EntityMap) (phase : ℕ) (queues : List (List Command)) (handles : List Handle) → IsSound s → AreLiving s m
-    → t ≡ after_flush s → n ≡ m → handles ≡ born s → listed_ones ≡ entered_queues t phase 0 queues n → last ≡ entered_others t (first_birth phase no_system) handles listed_ones
+pub all_entered : (s t : Allocator) (m n listed_ones last : EntityMap) (phase : ℕ)
+    (queues : List (List Command)) (handles : List Handle) → IsSound s → AreLiving s m
+    → t ≡ after_flush s → n ≡ m → handles ≡ born s → listed_ones ≡ entered_queues t phase 0 queues n
+    → last ≡ entered_others t (first_birth phase no_system) handles listed_ones
     → last ≡ with_born m (birth_in phase queues (born s)) (born s)
 all_entered s t m n listed_ones last phase queues handles sound living flushed same are first then =
     then
-    ∙ (λ i. entered_others (flushed i) (first_birth phase no_system) (are i) ((first ∙ (λ j. entered_queues (flushed j) phase 0 queues (same j))) i))
+    ∙ (λ i. entered_others (flushed i) (first_birth phase no_system) (are i)
+    ((first ∙ (λ j. entered_queues (flushed j) phase 0 queues (same j))) i))
     ∙ births_entered s m sound living phase queues

@@ -19,9 +19,12 @@ use Rattle.ent_world.specs.Entering.{first_birth, next_birth, birth_after, enter
 use Rattle.ent_world.specs.Entering.{entered_queues}
 
 -- the handles of two lists, one after the other
-pub entered-append : (s : Allocator) (birth : Birth) (xs ys : List Handle) (m : EntityMap) → entered_handles s birth (xs ++ ys) m ≡ entered_handles s (birth_after birth xs) ys (entered_handles s birth xs m)
+pub entered-append : (s : Allocator) (birth : Birth) (xs ys : List Handle) (m : EntityMap)
+    → entered_handles s birth (xs ++ ys) m ≡ entered_handles s (birth_after birth xs) ys
+    (entered_handles s birth xs m)
 entered-append s birth [] ys m = refl
-entered-append s birth (x ∷ xs) ys m = entered-append s (next_birth birth) xs ys (entered s x birth m)
+entered-append s birth (x ∷ xs) ys m = entered-append s (next_birth birth) xs ys
+    (entered s x birth m)
 
 -- what a map has after births: what it had, or else the new entity
 abbrev pub or_born : Option Entity → Option Birth → Option Entity
@@ -42,12 +45,14 @@ pub or_born-none : (o : Option Entity) → or_born o None ≡ o
 or_born-none (Some e) = refl
 or_born-none None = refl
 
-or_born-twice : (o : Option Entity) (a b : Option Birth) → or_born (or_born o a) b ≡ or_born o (first_of a b)
+or_born-twice : (o : Option Entity) (a b : Option Birth) → or_born (or_born o a) b
+    ≡ or_born o (first_of a b)
 or_born-twice (Some e) a b = refl
 or_born-twice None (Some a) b = refl
 or_born-twice None None b = refl
 
-first_of-given : (t : Bool) (a b : Option Birth) → first_of (given t a) (given t b) ≡ given t (first_of a b)
+first_of-given : (t : Bool) (a b : Option Birth) → first_of (given t a) (given t b)
+    ≡ given t (first_of a b)
 first_of-given true a b = refl
 first_of-given false a b = refl
 
@@ -59,8 +64,10 @@ given-none false = refl
 abbrev pub birth_at : ℕ → ℕ → ℕ → Birth
 birth_at phase system place = record { frame = phase; system = system; ordinal = ordinal place }
 
-pub next-birth_at : (phase system place : ℕ) → next_birth (birth_at phase system place) ≡ birth_at phase system (place + 1)
-next-birth_at phase system place = let capped : ordinal (ordinal place + 1) ≡ ordinal (place + 1) = omega arith in λ i. record { frame = phase; system = system; ordinal = capped i }
+pub next-birth_at : (phase system place : ℕ) → next_birth (birth_at phase system place)
+    ≡ birth_at phase system (place + 1)
+next-birth_at phase system place = let capped : ordinal (ordinal place + 1) ≡ ordinal (place + 1) =
+    omega arith in λ i. record { frame = phase; system = system; ordinal = capped i }
 
 -- the test that tells handles apart goes both ways
 pub both_ways : (g h : Handle) → eq_by_cmp handle_cmp g h ≡ eq_by_cmp handle_cmp h g
@@ -68,33 +75,48 @@ both_ways g h = (eq_by_cmp_equiv handle_cmp_total).symm g h
 
 -- One handle.
 
-here : (m n : EntityMap) (h : Handle) (birth : Birth) (t : Bool) (o : Option Entity) → map.get n h ≡ Some (newborn birth) → map.get m h ≡ o → map.get (cond (t && not (is_some o)) n m) h ≡ or_born o (given t (Some birth))
+here : (m n : EntityMap) (h : Handle) (birth : Birth) (t : Bool) (o : Option Entity) → map.get n h
+    ≡ Some (newborn birth) → map.get m h ≡ o → map.get (cond (t && not (is_some o)) n m) h
+    ≡ or_born o (given t (Some birth))
 here m n h birth true (Some e) new old = old
 here m n h birth true None new old = new
 here m n h birth false (Some e) new old = old
 here m n h birth false None new old = old
 
-elsewhere : (m n : EntityMap) (q : Handle) (t : Bool) → map.get n q ≡ map.get m q → map.get (cond t n m) q ≡ map.get m q
+elsewhere : (m n : EntityMap) (q : Handle) (t : Bool) → map.get n q ≡ map.get m q
+    → map.get (cond t n m) q ≡ map.get m q
 elsewhere m n q true same = same
 elsewhere m n q false same = refl
 
-pub get-entered : (s : Allocator) (h : Handle) (birth : Birth) (m : EntityMap) (q : Handle) → map.get (entered s h birth m) q ≡ or_born (map.get m q) (given (set.contains s.live q) (given (eq_by_cmp handle_cmp q h) (Some birth)))
+pub get-entered : (s : Allocator) (h : Handle) (birth : Birth) (m : EntityMap) (q : Handle)
+    → map.get (entered s h birth m) q
+    ≡ or_born (map.get m q)
+    (given (set.contains s.live q) (given (eq_by_cmp handle_cmp q h) (Some birth)))
 get-entered s h birth m q = by_test (eq_by_cmp handle_cmp q h) refl
   where
     n : EntityMap
     n = map.insert m h (newborn birth)
 
-    at_key : (k : Handle) → map.get (map.insert m h (newborn birth)) k ≡ cond (eq_by_cmp handle_cmp k h) (Some (newborn birth)) (map.get m k)
+    at_key : (k : Handle) → map.get (map.insert m h (newborn birth)) k
+        ≡ cond (eq_by_cmp handle_cmp k h) (Some (newborn birth)) (map.get m k)
     at_key k = map.get-insert handle_cmp_total m h (newborn birth) k
 
-    same : map.get (entered s h birth m) h ≡ or_born (map.get m h) (given (set.contains s.live h) (Some birth))
-    same = here m (map.insert m h (newborn birth)) h birth (set.contains s.live h) (map.get m h) (at_key h ∙ ap (λ b. cond b (Some (newborn birth)) (map.get m h)) (itself h)) refl
+    same : map.get (entered s h birth m) h
+        ≡ or_born (map.get m h) (given (set.contains s.live h) (Some birth))
+    same = here m (map.insert m h (newborn birth)) h birth (set.contains s.live h) (map.get m h)
+        (at_key h ∙ ap (λ b. cond b (Some (newborn birth)) (map.get m h)) (itself h)) refl
 
-    by_test : (b : Bool) → eq_by_cmp handle_cmp q h ≡ b → map.get (entered s h birth m) q ≡ or_born (map.get m q) (given (set.contains s.live q) (given b (Some birth)))
-    by_test true tied = subst (λ k. map.get (entered s h birth m) k ≡ or_born (map.get m k) (given (set.contains s.live k) (Some birth))) (sym (same_handle q h tied)) same
+    by_test : (b : Bool) → eq_by_cmp handle_cmp q h ≡ b → map.get (entered s h birth m) q
+        ≡ or_born (map.get m q) (given (set.contains s.live q) (given b (Some birth)))
+    by_test true tied = subst (λ k. map.get (entered s h birth m) k
+        ≡ or_born (map.get m k) (given (set.contains s.live k) (Some birth)))
+        (sym (same_handle q h tied)) same
     by_test false apart =
-        elsewhere m (map.insert m h (newborn birth)) q (set.contains s.live h && not (map.contains_key m h)) (at_key q ∙ ap (λ b. cond b (Some (newborn birth)) (map.get m q)) apart)
-        ∙ sym (ap (or_born (map.get m q)) (given-none (set.contains s.live q)) ∙ or_born-none (map.get m q))
+        elsewhere m (map.insert m h (newborn birth)) q
+        (set.contains s.live h && not (map.contains_key m h)) (at_key q
+        ∙ ap (λ b. cond b (Some (newborn birth)) (map.get m q)) apart)
+        ∙ sym (ap (or_born (map.get m q)) (given-none (set.contains s.live q))
+        ∙ or_born-none (map.get m q))
 
 -- The handles of a system.
 
@@ -102,38 +124,59 @@ get-entered s h birth m q = by_test (eq_by_cmp handle_cmp q h) refl
 abbrev pub birth_by_place : ℕ → ℕ → Option ℕ → Option Birth
 birth_by_place phase system place = option_map (birth_at phase system) place
 
-by_first : (phase system place : ℕ) (b : Bool) (others : Option ℕ) → birth_by_place phase system (cond b (Some place) others) ≡ first_of (given b (Some (birth_at phase system place))) (birth_by_place phase system others)
+by_first : (phase system place : ℕ) (b : Bool) (others : Option ℕ) → birth_by_place phase system
+    (cond b (Some place) others) ≡ first_of (given b (Some (birth_at phase system place)))
+    (birth_by_place phase system others)
 by_first phase system place true others = refl
 by_first phase system place false others = refl
 
-pub get-entered_handles : (s : Allocator) (phase system place : ℕ) (hs : List Handle) (m : EntityMap) (q : Handle)
-    → map.get (entered_handles s (birth_at phase system place) hs m) q ≡ or_born (map.get m q) (given (set.contains s.live q) (birth_by_place phase system (position_from (eq_by_cmp handle_cmp q) place hs)))
-get-entered_handles s phase system place [] m q = sym (ap (or_born (map.get m q)) (given-none (set.contains s.live q)) ∙ or_born-none (map.get m q))
+pub get-entered_handles : (s : Allocator) (phase system place : ℕ) (hs : List Handle)
+    (m : EntityMap) (q : Handle)
+    → map.get (entered_handles s (birth_at phase system place) hs m) q
+    ≡ or_born (map.get m q)
+    (given (set.contains s.live q)
+    (birth_by_place phase system (position_from (eq_by_cmp handle_cmp q) place hs)))
+get-entered_handles s phase system place [] m q =
+    sym (ap (or_born (map.get m q)) (given-none (set.contains s.live q))
+    ∙ or_born-none (map.get m q))
 get-entered_handles s phase system place (h ∷ hs) m q =
     let t = set.contains s.live q in
     let one = given (eq_by_cmp handle_cmp q h) (Some (birth_at phase system place)) in
-    let others = birth_by_place phase system (position_from (eq_by_cmp handle_cmp q) (place + 1) hs) in
+    let others = birth_by_place phase system (position_from (eq_by_cmp handle_cmp q) (place + 1) hs)
+    in
     let n = entered s h (birth_at phase system place) m in
     ap (λ b. map.get (entered_handles s b hs n) q) (next-birth_at phase system place)
     ∙ get-entered_handles s phase system (place + 1) hs n q
     ∙ ap (λ o. or_born o (given t others)) (get-entered s h (birth_at phase system place) m q)
     ∙ or_born-twice (map.get m q) (given t one) (given t others)
-    ∙ ap (or_born (map.get m q)) (first_of-given t one others ∙ ap (given t) (sym (by_first phase system place (eq_by_cmp handle_cmp q h) (position_from (eq_by_cmp handle_cmp q) (place + 1) hs))))
+    ∙ ap (or_born (map.get m q)) (first_of-given t one others
+    ∙ ap (given t)
+    (sym (by_first phase system place (eq_by_cmp handle_cmp q h)
+    (position_from (eq_by_cmp handle_cmp q) (place + 1) hs))))
 
 -- The handles that queues list.
 
-by_queue : (phase system : ℕ) (place : Option ℕ) (others : Option Birth) → at_ordinal phase system place others ≡ first_of (birth_by_place phase system place) others
+by_queue : (phase system : ℕ) (place : Option ℕ) (others : Option Birth)
+    → at_ordinal phase system place others ≡ first_of (birth_by_place phase system place) others
 by_queue phase system None others = refl
 by_queue phase system (Some place) others = refl
 
-pub get-entered_queues : (s : Allocator) (phase system : ℕ) (queues : List (List Command)) (m : EntityMap) (q : Handle)
-    → map.get (entered_queues s phase system queues m) q ≡ or_born (map.get m q) (given (set.contains s.live q) (listed_birth phase system queues q))
-get-entered_queues s phase system [] m q = sym (ap (or_born (map.get m q)) (given-none (set.contains s.live q)) ∙ or_born-none (map.get m q))
+pub get-entered_queues : (s : Allocator) (phase system : ℕ) (queues : List (List Command))
+    (m : EntityMap) (q : Handle)
+    → map.get (entered_queues s phase system queues m) q
+    ≡ or_born (map.get m q) (given (set.contains s.live q) (listed_birth phase system queues q))
+get-entered_queues s phase system [] m q =
+    sym (ap (or_born (map.get m q)) (given-none (set.contains s.live q))
+    ∙ or_born-none (map.get m q))
 get-entered_queues s phase system (queue ∷ queues) m q =
     let t = set.contains s.live q in
     let one = birth_by_place phase system (ordinal_among (handles_listed queue) q) in
     let others = listed_birth phase (system + 1) queues q in
-    get-entered_queues s phase (system + 1) queues (entered_handles s (first_birth phase system) (handles_listed queue) m) q
-    ∙ ap (λ o. or_born o (given t others)) (get-entered_handles s phase system 0 (handles_listed queue) m q)
+    get-entered_queues s phase (system + 1) queues (entered_handles s (first_birth phase system)
+    (handles_listed queue) m) q
+    ∙ ap (λ o. or_born o (given t others)) (get-entered_handles s phase system 0
+    (handles_listed queue) m q)
     ∙ or_born-twice (map.get m q) (given t one) (given t others)
-    ∙ ap (or_born (map.get m q)) (first_of-given t one others ∙ ap (given t) (sym (by_queue phase system (ordinal_among (handles_listed queue) q) others)))
+    ∙ ap (or_born (map.get m q)) (first_of-given t one others
+    ∙ ap (given t) (sym (by_queue phase system (ordinal_among (handles_listed queue) q)
+    others)))

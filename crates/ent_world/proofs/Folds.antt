@@ -10,10 +10,13 @@ use Rattle.ent_world.specs.Command.{after_queues}
 use Rattle.ent_world.specs.Sync.{first_part, stops, cut_commands, cut_queue, cut, stops_in}
 
 -- the next element of a list, of which the first ones are done
-pub next_below : {X : Type 0} (xs rest : List X) (k : ℕ) (x : X) → drop k xs ≡ x ∷ rest → k < length xs
-next_below xs rest k x left = let len : length (drop k xs) ≡ suc (length rest) = ap length left in omega (arith, length-drop k xs)
+pub next_below : {X : Type 0} (xs rest : List X) (k : ℕ) (x : X) → drop k xs ≡ x ∷ rest → k
+    < length xs
+next_below xs rest k x left = let len : length (drop k xs) ≡ suc (length rest) = ap length left in
+    omega (arith, length-drop k xs)
 
-pub next_taken : {X : Type 0} (xs rest : List X) (k : ℕ) (x : X) → drop k xs ≡ x ∷ rest → take (k + 1) xs ≡ take k xs ++ x ∷ []
+pub next_taken : {X : Type 0} (xs rest : List X) (k : ℕ) (x : X) → drop k xs ≡ x ∷ rest
+    → take (k + 1) xs ≡ take k xs ++ x ∷ []
 next_taken xs rest k x left =
     let lt : k < length xs = next_below xs rest k x left in
     let more = drop_more xs k x lt in
@@ -21,7 +24,8 @@ next_taken xs rest k x left =
     let head : get_or xs k x ≡ x = cc in
     take_more xs k x lt ∙ ap (λ y. take k xs ++ y ∷ []) head
 
-pub next_left : {X : Type 0} (xs rest : List X) (k : ℕ) (x : X) → drop k xs ≡ x ∷ rest → rest ≡ drop (k + 1) xs
+pub next_left : {X : Type 0} (xs rest : List X) (k : ℕ) (x : X) → drop k xs ≡ x ∷ rest → rest
+    ≡ drop (k + 1) xs
 next_left xs rest k x left =
     let lt : k < length xs = next_below xs rest k x left in
     let more = drop_more xs k x lt in
@@ -30,38 +34,56 @@ next_left xs rest k x left =
 
 -- some are left before the end
 pub some_left : {X : Type 0} (xs : List X) (k : ℕ) → k < length xs → drop k xs ≡ [] → ⊥
-some_left xs k lt none = let len : length (drop k xs) ≡ 0 = ap length none in omega (arith, length-drop k xs)
+some_left xs k lt none = let len : length (drop k xs) ≡ 0 = ap length none in
+    omega (arith, length-drop k xs)
 
 -- Handles.
 
-on_each-append : (system command : ℕ) (change : Handle → World → World) (xs ys : List Handle) (a : Applied) → on_each system command change (xs ++ ys) a ≡ on_each system command change ys (on_each system command change xs a)
+on_each-append : (system command : ℕ) (change : Handle → World → World) (xs ys : List Handle)
+    (a : Applied) → on_each system command change (xs ++ ys) a ≡ on_each system command change ys
+    (on_each system command change xs a)
 on_each-append system command change [] ys a = refl
-on_each-append system command change (x ∷ xs) ys a = on_each-append system command change xs ys (on_entity system command change x a)
+on_each-append system command change (x ∷ xs) ys a = on_each-append system command change xs ys
+    (on_entity system command change x a)
 
-pub on_each-next : (system command : ℕ) (change : Handle → World → World) (hs rest : List Handle) (k : ℕ) (h : Handle) (a : Applied) → drop k hs ≡ h ∷ rest
-    → on_each system command change (take (k + 1) hs) a ≡ on_entity system command change h (on_each system command change (take k hs) a)
+pub on_each-next : (system command : ℕ) (change : Handle → World → World) (hs rest : List Handle)
+    (k : ℕ) (h : Handle) (a : Applied) → drop k hs ≡ h ∷ rest
+    → on_each system command change (take (k + 1) hs) a ≡ on_entity system command change h
+    (on_each system command change (take k hs) a)
 on_each-next system command change hs rest k h a left =
-    ap (λ xs. on_each system command change xs a) (next_taken hs rest k h left) ∙ on_each-append system command change (take k hs) (h ∷ []) a
+    ap (λ xs. on_each system command change xs a) (next_taken hs rest k h left)
+    ∙ on_each-append system command change (take k hs) (h ∷ []) a
 
 -- Commands.
 
-after_commands-append : (system command : ℕ) (xs ys : List Command) (a : Applied) → after_commands system command (xs ++ ys) a ≡ after_commands system (command + length xs) ys (after_commands system command xs a)
-after_commands-append system command [] ys a = let same : command ≡ command + 0 = omega arith in ap (λ n. after_commands system n ys a) same
+after_commands-append : (system command : ℕ) (xs ys : List Command) (a : Applied)
+    → after_commands system command (xs ++ ys) a ≡ after_commands system (command + length xs) ys
+    (after_commands system command xs a)
+after_commands-append system command [] ys a = let same : command ≡ command + 0 = omega arith in
+    ap (λ n. after_commands system n ys a) same
 after_commands-append system command (x ∷ xs) ys a =
     let same : (command + 1) + length xs ≡ command + length (x ∷ xs) = omega arith in
     after_commands-append system (command + 1) xs ys (after_command system command x a)
-    ∙ ap (λ n. after_commands system n ys (after_commands system (command + 1) xs (after_command system command x a))) same
+    ∙ ap (λ n. after_commands system n ys (after_commands system (command + 1) xs
+    (after_command system command x a))) same
 
-from_start : (system : ℕ) (q ys : List Command) (k : ℕ) (a : Applied) → k < length q → after_commands system 0 (take k q ++ ys) a ≡ after_commands system k ys (after_commands system 0 (take k q) a)
+from_start : (system : ℕ) (q ys : List Command) (k : ℕ) (a : Applied) → k < length q
+    → after_commands system 0 (take k q ++ ys) a ≡ after_commands system k ys
+    (after_commands system 0 (take k q) a)
 from_start system q ys k a lt =
     let same : 0 + length (take k q) ≡ k = omega (arith, length-take k q) in
-    after_commands-append system 0 (take k q) ys a ∙ ap (λ n. after_commands system n ys (after_commands system 0 (take k q) a)) same
+    after_commands-append system 0 (take k q) ys a
+    ∙ ap (λ n. after_commands system n ys (after_commands system 0 (take k q) a)) same
 
-pub after_commands-next : (system : ℕ) (q rest : List Command) (k : ℕ) (c : Command) (a : Applied) → drop k q ≡ c ∷ rest → after_commands system 0 (take (k + 1) q) a ≡ after_command system k c (after_commands system 0 (take k q) a)
+pub after_commands-next : (system : ℕ) (q rest : List Command) (k : ℕ) (c : Command) (a : Applied)
+    → drop k q ≡ c ∷ rest → after_commands system 0 (take (k + 1) q) a
+    ≡ after_command system k c (after_commands system 0 (take k q) a)
 after_commands-next system q rest k c a left =
-    ap (λ cs. after_commands system 0 cs a) (next_taken q rest k c left) ∙ from_start system q (c ∷ []) k a (next_below q rest k c left)
+    ap (λ cs. after_commands system 0 cs a) (next_taken q rest k c left)
+    ∙ from_start system q (c ∷ []) k a (next_below q rest k c left)
 
-first_alone : (done : ℕ) (c : Command) (rest : List Command) → first_part done (c ∷ rest) ≡ first_part done (c ∷ [])
+first_alone : (done : ℕ) (c : Command) (rest : List Command) → first_part done (c ∷ rest)
+    ≡ first_part done (c ∷ [])
 first_alone done (Spawn h items) rest = refl
 first_alone done (SpawnMany hs items) rest = refl
 first_alone done (Insert h items) rest = refl
@@ -78,38 +100,54 @@ stops_alone (Despawn h) rest = refl
 stops_alone (Refused wanted why) rest = refl
 
 -- it stopped at this command
-pub stopped_command : (system : ℕ) (q rest : List Command) (k done : ℕ) (c : Command) (a : Applied) → drop k q ≡ c ∷ rest
-    → after_commands system 0 (cut_commands k done q) a ≡ after_commands system k (first_part done (c ∷ [])) (after_commands system 0 (take k q) a)
+pub stopped_command : (system : ℕ) (q rest : List Command) (k done : ℕ) (c : Command) (a : Applied)
+    → drop k q ≡ c ∷ rest
+    → after_commands system 0 (cut_commands k done q) a
+    ≡ after_commands system k (first_part done (c ∷ [])) (after_commands system 0 (take k q) a)
 stopped_command system q rest k done c a left =
-    ap (λ cs. after_commands system 0 (take k q ++ cs) a) (ap (first_part done) left ∙ first_alone done c rest)
+    ap (λ cs. after_commands system 0 (take k q ++ cs) a) (ap (first_part done) left
+    ∙ first_alone done c rest)
     ∙ from_start system q (first_part done (c ∷ [])) k a (next_below q rest k c left)
 
-pub stop_at : (q rest : List Command) (k done : ℕ) (c : Command) → drop k q ≡ c ∷ rest → done < stops (c ∷ []) → done < stops (drop k q)
+pub stop_at : (q rest : List Command) (k done : ℕ) (c : Command) → drop k q ≡ c ∷ rest → done
+    < stops (c ∷ []) → done < stops (drop k q)
 stop_at q rest k done c left lt = rw (left, stops_alone c rest) lt
 
 -- Queues.
 
-after_queues-append : (system : ℕ) (xs ys : List (List Command)) (a : Applied) → after_queues system (xs ++ ys) a ≡ after_queues (system + length xs) ys (after_queues system xs a)
-after_queues-append system [] ys a = let same : system ≡ system + 0 = omega arith in ap (λ n. after_queues n ys a) same
+after_queues-append : (system : ℕ) (xs ys : List (List Command)) (a : Applied)
+    → after_queues system (xs ++ ys) a ≡ after_queues (system + length xs) ys
+    (after_queues system xs a)
+after_queues-append system [] ys a = let same : system ≡ system + 0 = omega arith in
+    ap (λ n. after_queues n ys a) same
 after_queues-append system (x ∷ xs) ys a =
     let same : (system + 1) + length xs ≡ system + length (x ∷ xs) = omega arith in
     after_queues-append (system + 1) xs ys (after_commands system 0 x a)
     ∙ ap (λ n. after_queues n ys (after_queues (system + 1) xs (after_commands system 0 x a))) same
 
-from_first : (qs ys : List (List Command)) (k : ℕ) (a : Applied) → k < length qs → after_queues 0 (take k qs ++ ys) a ≡ after_queues k ys (after_queues 0 (take k qs) a)
+from_first : (qs ys : List (List Command)) (k : ℕ) (a : Applied) → k < length qs
+    → after_queues 0 (take k qs ++ ys) a ≡ after_queues k ys (after_queues 0 (take k qs) a)
 from_first qs ys k a lt =
     let same : 0 + length (take k qs) ≡ k = omega (arith, length-take k qs) in
-    after_queues-append 0 (take k qs) ys a ∙ ap (λ n. after_queues n ys (after_queues 0 (take k qs) a)) same
+    after_queues-append 0 (take k qs) ys a
+    ∙ ap (λ n. after_queues n ys (after_queues 0 (take k qs) a)) same
 
-pub after_queues-next : (qs : List (List Command)) (k : ℕ) (d : List Command) (a : Applied) → k < length qs → after_queues 0 (take (k + 1) qs) a ≡ after_commands k 0 (get_or qs k d) (after_queues 0 (take k qs) a)
-after_queues-next qs k d a lt = ap (λ xs. after_queues 0 xs a) (take_more qs k d lt) ∙ from_first qs (get_or qs k d ∷ []) k a lt
+pub after_queues-next : (qs : List (List Command)) (k : ℕ) (d : List Command) (a : Applied) → k
+    < length qs → after_queues 0 (take (k + 1) qs) a ≡ after_commands k 0 (get_or qs k d)
+    (after_queues 0 (take k qs) a)
+after_queues-next qs k d a lt = ap (λ xs. after_queues 0 xs a) (take_more qs k d lt)
+    ∙ from_first qs (get_or qs k d ∷ []) k a lt
 
 -- it stopped in this queue
-pub stopped_queue : (qs : List (List Command)) (k command done : ℕ) (d : List Command) (a : Applied) → k < length qs
-    → after_queues 0 (cut k command done qs) a ≡ after_commands k 0 (cut_commands command done (get_or qs k d)) (after_queues 0 (take k qs) a)
+pub stopped_queue : (qs : List (List Command)) (k command done : ℕ) (d : List Command) (a : Applied)
+    → k < length qs
+    → after_queues 0 (cut k command done qs) a
+    ≡ after_commands k 0 (cut_commands command done (get_or qs k d))
+    (after_queues 0 (take k qs) a)
 stopped_queue qs k command done d a lt =
     ap (λ xs. after_queues 0 (take k qs ++ cut_queue command done xs) a) (drop_more qs k d lt)
     ∙ from_first qs (cut_commands command done (get_or qs k d) ∷ []) k a lt
 
-pub stop_in : (qs : List (List Command)) (k command done : ℕ) (d : List Command) → k < length qs → done < stops (drop command (get_or qs k d)) → done < stops_in command (drop k qs)
+pub stop_in : (qs : List (List Command)) (k command done : ℕ) (d : List Command) → k < length qs
+    → done < stops (drop command (get_or qs k d)) → done < stops_in command (drop k qs)
 stop_in qs k command done d lt small = rw (drop_more qs k d lt) small

@@ -19,11 +19,13 @@ use Rattle.ent_world.specs.World.{AreLiving}
 abbrev pub AreKeys : set.FinSet handle_cmp → EntityMap → Type 0
 AreKeys live m = (h : Handle) → map.contains_key m h ≡ set.contains live h
 
-pub some_more : {X : Type 0} (b : Bool) (v : X) (o : Option X) → is_some (cond b (Some v) o) ≡ (b || is_some o)
+pub some_more : {X : Type 0} (b : Bool) (v : X) (o : Option X) → is_some (cond b (Some v) o)
+    ≡ (b || is_some o)
 some_more true v o = refl
 some_more false v o = refl
 
-pub one_less : {X : Type 0} (b : Bool) (o : Option X) → is_some (cond b None o) ≡ (not b && is_some o)
+pub one_less : {X : Type 0} (b : Bool) (o : Option X) → is_some (cond b None o)
+    ≡ (not b && is_some o)
 one_less true o = refl
 one_less false o = refl
 
@@ -32,7 +34,8 @@ pub keys-empty : AreKeys set.empty map.empty
 keys-empty h = ap is_some (map.get-empty handle_cmp h) ∙ sym (set.contains-empty handle_cmp h)
 
 -- one entity more
-pub keys-insert : (live : set.FinSet handle_cmp) (m : EntityMap) (h : Handle) (e : Entity) → AreKeys live m → AreKeys (set.insert live h) (map.insert m h e)
+pub keys-insert : (live : set.FinSet handle_cmp) (m : EntityMap) (h : Handle) (e : Entity)
+    → AreKeys live m → AreKeys (set.insert live h) (map.insert m h e)
 keys-insert live m h e same g =
     ap is_some (map.get-insert handle_cmp_total m h e g)
     ∙ some_more (eq_by_cmp handle_cmp g h) e (map.get m g)
@@ -40,7 +43,8 @@ keys-insert live m h e same g =
     ∙ sym (set.contains-insert handle_cmp_total live h g)
 
 -- one less
-pub keys-remove : (live : set.FinSet handle_cmp) (m : EntityMap) (h : Handle) → AreKeys live m → AreKeys (set.remove live h) (map.remove m h)
+pub keys-remove : (live : set.FinSet handle_cmp) (m : EntityMap) (h : Handle) → AreKeys live m
+    → AreKeys (set.remove live h) (map.remove m h)
 keys-remove live m h same g =
     ap is_some (map.get-remove handle_cmp_total m h g)
     ∙ one_less (eq_by_cmp handle_cmp g h) (map.get m g)
@@ -48,20 +52,30 @@ keys-remove live m h same g =
     ∙ sym (set.contains-remove handle_cmp_total live h g)
 
 -- reservations bring nobody to life
-pub living-history : (s t : Allocator) (calls : List Call) (m : EntityMap) → AreLiving s m → t ≡ after_history s calls → AreLiving t m
+pub living-history : (s t : Allocator) (calls : List Call) (m : EntityMap) → AreLiving s m → t
+    ≡ after_history s calls → AreLiving t m
 living-history s t calls m same after h =
-    same h ∙ ap (λ live. set.contains live h) (sym (ap (λ a. a.live) (after ∙ after_history-takes s calls) ∙ live-after_takes s (requests_of calls)))
+    same h ∙ ap (λ live. set.contains live h)
+    (sym (ap (λ a. a.live) (after ∙ after_history-takes s calls)
+    ∙ live-after_takes s (requests_of calls)))
 
 -- other components of an entity that is there, or of none
-pub keys-components : (live : set.FinSet handle_cmp) (m : EntityMap) (h : Handle) (change : Components → Components) → AreKeys live m → AreKeys live (with_components m h change)
+pub keys-components : (live : set.FinSet handle_cmp) (m : EntityMap) (h : Handle)
+    (change : Components → Components) → AreKeys live m → AreKeys live (with_components m h change)
 keys-components live m h change same g = by_entity (map.get m h) refl ∙ same g
   where
-    is_there : (e : Entity) (f : Entity) → map.get m h ≡ Some e → (b : Bool) → eq_by_cmp handle_cmp g h ≡ b → is_some (cond b (Some f) (map.get m g)) ≡ is_some (map.get m g)
+    is_there : (e : Entity) (f : Entity) → map.get m h ≡ Some e → (b : Bool)
+        → eq_by_cmp handle_cmp g h ≡ b → is_some (cond b (Some f) (map.get m g))
+        ≡ is_some (map.get m g)
     is_there e f there true tied = sym (ap is_some (ap (map.get m) (same_handle g h tied) ∙ there))
     is_there e f there false apart = refl
 
-    by_entity : (o : Option Entity) → map.get m h ≡ o → map.contains_key (option_map_or (λ e. map.insert m h (record e { components = change e.components })) o m) g ≡ map.contains_key m g
+    by_entity : (o : Option Entity) → map.get m h ≡ o
+        → map.contains_key
+        (option_map_or (λ e. map.insert m h (record e { components = change e.components })) o m) g
+        ≡ map.contains_key m g
     by_entity None none = refl
     by_entity (Some e) there =
         let f : Entity = record e { components = change e.components } in
-        ap is_some (map.get-insert handle_cmp_total m h f g) ∙ is_there e f there (eq_by_cmp handle_cmp g h) refl
+        ap is_some (map.get-insert handle_cmp_total m h f g)
+        ∙ is_there e f there (eq_by_cmp handle_cmp g h) refl

@@ -38,17 +38,20 @@ on_err (Err e) test p = p
 
 alone : (made : ℕ) (h : Handle) → listed made (h ∷ []) ≡ h ∷ []
 alone made h =
-    elim (is_old made h) as (λ b. is_fresh made h ≡ not b → reverse (cond b (h ∷ []) []) ++ filter (is_fresh made) (h ∷ []) ≡ h ∷ []) [
+    elim (is_old made h) as (λ b. is_fresh made h ≡ not b → reverse (cond b (h ∷ []) [])
+    ++ filter (is_fresh made) (h ∷ []) ≡ h ∷ []) [
       | true ↦ λ is. ap (λ b. h ∷ cond b (h ∷ []) []) is
       | false ↦ λ is. ap (λ b. cond b (h ∷ []) []) is
     ] (fresh_is_not_old made h)
 
-front_of : (made : ℕ) (pool : List Handle) → 1 ≤ length pool → (h : Handle) × (slice_get pool 0 ≡ Some h) × (listed made (take 1 pool) ≡ h ∷ [])
+front_of : (made : ℕ) (pool : List Handle) → 1 ≤ length pool → (h : Handle)
+    × (slice_get pool 0 ≡ Some h) × (listed made (take 1 pool) ≡ h ∷ [])
 front_of made [] some = absurd (omega arith)
 front_of made (h ∷ pool) some = (h, refl, alone made h)
 
 -- a request for one is given the front of the pool
-pub one_given : (s : Allocator) (given rest : List Handle) (h : Handle) → reply_to s 1 ≡ Ok given → given ≡ h ∷ rest → slice_get s.pool 0 ≡ Some h
+pub one_given : (s : Allocator) (given rest : List Handle) (h : Handle) → reply_to s 1 ≡ Ok given
+    → given ≡ h ∷ rest → slice_get s.pool 0 ≡ Some h
 one_given s given rest h is first =
     let served = served_from s 1 given is in
     let front = front_of s.made s.pool served.0 in
@@ -63,12 +66,15 @@ some_given s given is none =
     let same : front.0 ∷ [] ≡ [] = sym front.2 ∙ sym served.1 ∙ none in
     cc
 
-pub given_new : (s : Allocator) (given rest : List Handle) (h : Handle) → IsSound s → reply_to s 1 ≡ Ok given → given ≡ h ∷ rest → set.contains s.live h ≡ false
+pub given_new : (s : Allocator) (given rest : List Handle) (h : Handle) → IsSound s → reply_to s 1
+    ≡ Ok given → given ≡ h ∷ rest → set.contains s.live h ≡ false
 given_new s given rest h sound is first = by_test (set.contains s.live h) refl
   where
     by_test : (b : Bool) → set.contains s.live h ≡ b → b ≡ false
     by_test false _ = refl
-    by_test true lives = absurd (All-head (λ x. ¬ (IsLive s x)) h rest (subst (All (λ x. ¬ (IsLive s x))) first (reply-not_live s 1 given is sound)) lives)
+    by_test true lives =
+        absurd (All-head (λ x. ¬ (IsLive s x)) h rest (subst (All (λ x. ¬ (IsLive s x))) first
+        (reply-not_live s 1 given is sound)) lives)
 
 pub none_given : (s : Allocator) (space : Space) → reply_to s 1 ≡ Err space → s.pool ≡ []
 none_given s space is = empty s.pool (refused_from s 1 space is).0
@@ -78,24 +84,30 @@ none_given s space is = empty s.pool (refused_from s 1 space is).0
     empty (h ∷ pool) none = absurd (omega arith)
 
 pub pool_some : (s : Allocator) (given : List Handle) → reply_to s 1 ≡ Ok given → s.pool ≡ [] → ⊥
-pool_some s given is none = let served = served_from s 1 given is in let len : length s.pool ≡ 0 = ap length none in omega arith
+pool_some s given is none = let served = served_from s 1 given is in let len : length s.pool
+    ≡ 0 = ap length none in omega arith
 
 -- the reply where nothing is requested
-pub reply_at_top : (s : Allocator) (span : Span) (r : Result (List Handle) Space) → IsSound s → span.high ≡ cursor s → span.low ≡ span.high -ℤ pos 1
-    → ((n : ℕ) → span.low ≡ span.high -ℤ pos n → r ≡ reply_from s.made (pool_at s span.high) n) → r ≡ reply_to s 1
-reply_at_top s span r sound at low reply = reply 1 low ∙ ap (λ high. reply_from s.made (pool_at s high) 1) at ∙ reply-cursor s 1 sound
+pub reply_at_top : (s : Allocator) (span : Span) (r : Result (List Handle) Space) → IsSound s
+    → span.high ≡ cursor s → span.low ≡ span.high -ℤ pos 1
+    → ((n : ℕ) → span.low ≡ span.high -ℤ pos n → r ≡ reply_from s.made (pool_at s span.high) n) → r
+    ≡ reply_to s 1
+reply_at_top s span r sound at low reply = reply 1 low
+    ∙ ap (λ high. reply_from s.made (pool_at s high) 1) at ∙ reply-cursor s 1 sound
 
 pub none_asked : (s : Allocator) → cursor s ≡ pos (top s) → s.asked ≡ 0
 none_asked s at = omega (arith, ints)
 
 -- An entity.
 
-overwritten : (b : Bool) (e f : Entity) (o : Option Entity) → cond b (Some f) (cond b (Some e) o) ≡ cond b (Some f) o
+overwritten : (b : Bool) (e f : Entity) (o : Option Entity) → cond b (Some f) (cond b (Some e) o)
+    ≡ cond b (Some f) o
 overwritten true e f o = refl
 overwritten false e f o = refl
 
 -- the second of two entities under one handle
-insert_twice : (m : EntityMap) (h : Handle) (e f : Entity) → map.insert (map.insert m h e) h f ≡ map.insert m h f
+insert_twice : (m : EntityMap) (h : Handle) (e f : Entity) → map.insert (map.insert m h e) h f
+    ≡ map.insert m h f
 insert_twice m h e f = map.same_map handle_cmp_total handle_cmp-IsAntisymmetric _ _ (λ q.
     map.get-insert handle_cmp_total (map.insert m h e) h f q
     ∙ ap (cond (eq_by_cmp handle_cmp q h) (Some f)) (map.get-insert handle_cmp_total m h e q)
@@ -103,22 +115,30 @@ insert_twice m h e f = map.same_map handle_cmp_total handle_cmp-IsAntisymmetric 
     ∙ sym (map.get-insert handle_cmp_total m h f q))
 
 pub get_inserted : (m : EntityMap) (h : Handle) (e : Entity) → map.get (map.insert m h e) h ≡ Some e
-get_inserted m h e = map.get-insert handle_cmp_total m h e h ∙ ap (λ b. cond b (Some e) (map.get m h)) (itself h)
+get_inserted m h e = map.get-insert handle_cmp_total m h e h
+    ∙ ap (λ b. cond b (Some e) (map.get m h)) (itself h)
 
 -- a newborn entity and its components
-pub made_whole : (m : EntityMap) (h : Handle) (birth : Birth) (items : Bundle) → with_components (map.insert m h (newborn birth)) h (λ held. with_items held items) ≡ map.insert m h (spawned birth items)
+pub made_whole : (m : EntityMap) (h : Handle) (birth : Birth) (items : Bundle)
+    → with_components (map.insert m h (newborn birth)) h (λ held. with_items held items)
+    ≡ map.insert m h (spawned birth items)
 made_whole m h birth items =
     let n = map.insert m h (newborn birth) in
-    ap (λ (o : Option Entity). option_map_or (λ e. map.insert n h (record e { components = with_items e.components items })) o n) (get_inserted m h (newborn birth))
+    ap (λ (o : Option Entity).
+    option_map_or
+    (λ e. map.insert n h (record e { components = with_items e.components items })) o n)
+    (get_inserted m h (newborn birth))
     ∙ insert_twice m h (newborn birth) (spawned birth items)
 
 -- an entity that came and went
-pub taken_back : (m : EntityMap) (h : Handle) (e : Entity) → map.get m h ≡ None → map.remove (map.insert m h e) h ≡ m
+pub taken_back : (m : EntityMap) (h : Handle) (e : Entity) → map.get m h ≡ None
+    → map.remove (map.insert m h e) h ≡ m
 taken_back m h e none = map.same_map handle_cmp_total handle_cmp-IsAntisymmetric _ _ (λ q.
     map.get-remove handle_cmp_total (map.insert m h e) h q
     ∙ ap (cond (eq_by_cmp handle_cmp q h) None) (map.get-insert handle_cmp_total m h e q)
     ∙ by_test q (eq_by_cmp handle_cmp q h) refl)
   where
-    by_test : (q : Handle) (b : Bool) → eq_by_cmp handle_cmp q h ≡ b → cond b None (cond b (Some e) (map.get m q)) ≡ map.get m q
+    by_test : (q : Handle) (b : Bool) → eq_by_cmp handle_cmp q h ≡ b
+        → cond b None (cond b (Some e) (map.get m q)) ≡ map.get m q
     by_test q true tied = sym (ap (map.get m) (same_handle q h tied) ∙ none)
     by_test q false apart = refl

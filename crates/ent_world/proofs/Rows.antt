@@ -30,7 +30,13 @@ abbrev item : ℕ → ℕ → ComponentId × ℤ
 item id value = (record { 0 = id }, pos value)
 
 -- what maps have at a key
-ruleset found = (map.get-empty, map.get-insert, map.get-remove, handle_cmp_total, component_cmp_total)
+ruleset found = (
+  map.get-empty,
+  map.get-insert,
+  map.get-remove,
+  handle_cmp_total,
+  component_cmp_total,
+)
 
 -- a world in which so many handles were reserved, and no other ever lived
 abbrev reserved : ℕ → World
@@ -40,7 +46,8 @@ reserved n =
 
 -- two systems, of which the second one was given its handle first
 abbrev two_systems : Applied
-two_systems = sync ((Spawn (1 v 1) (item 0 5 ∷ []) ∷ []) ∷ (Spawn (0 v 1) (item 0 7 ∷ []) ∷ []) ∷ []) (reserved 2)
+two_systems = sync ((Spawn (1 v 1) (item 0 5 ∷ []) ∷ []) ∷ (Spawn (0 v 1) (item 0 7 ∷ []) ∷ [])
+    ∷ []) (reserved 2)
 
 both_born : born (reserved 2).allocator ≡ 0 v 1 ∷ 1 v 1 ∷ []
 unfolding fresh
@@ -151,7 +158,8 @@ first_with = simp found
 -- the only occupant of a slot with one generation dies: the generations begin anew, and the same
 -- handle can be given again
 abbrev one_generation : World
-one_generation = after_spawn (birth 0 0 0) [] (0 v 1) (first_world (record { slots = 1; generations = 1 }))
+one_generation = after_spawn (birth 0 0 0) [] (0 v 1)
+    (first_world (record { slots = 1; generations = 1 }))
 
 abbrev its_death : List (List Command)
 its_death = (Despawn (0 v 1) ∷ []) ∷ []

@@ -16,7 +16,8 @@ use Rattle.ent_world.proofs.Folds.{next_below}
 use Rattle.ent_world.proofs.Room.{no_more}
 
 -- what is left of a list begins with the element at that place
-at_left : {X : Type 0} (xs rest : List X) (k : ℕ) (x : X) → drop k xs ≡ x ∷ rest → slice_get xs k ≡ Some x
+at_left : {X : Type 0} (xs rest : List X) (k : ℕ) (x : X) → drop k xs ≡ x ∷ rest → slice_get xs k
+    ≡ Some x
 at_left xs rest k x left =
     let lt : k < length xs = next_below xs rest k x left in
     let both : x ∷ rest ≡ get_or xs k x ∷ drop (k + 1) xs = sym left ∙ drop_more xs k x lt in
@@ -24,30 +25,39 @@ at_left xs rest k x left =
     slice_get-get_or xs k x lt ∙ ap Some head
 
 -- there are components to be given
-some_items : (w : World) (items : Bundle) (h : Handle) → 0 < length items → insert_takes_memory w items h ≡ true
+some_items : (w : World) (items : Bundle) (h : Handle) → 0 < length items
+    → insert_takes_memory w items h ≡ true
 some_items w items h some =
     let test : nat_lt 0 (length items) ≡ true = grind (arith, nat_tests) in
     ap (λ b. b || not (lives_in w h)) test
 
 -- to the first of the handles
-pub first_takes_memory : (w : World) (items : Bundle) (hs : List Handle) → (hs ≡ [] → ⊥) → 0 < length items → place_takes_memory w items (slice_get hs 0) ≡ true
+pub first_takes_memory : (w : World) (items : Bundle) (hs : List Handle) → (hs ≡ [] → ⊥) → 0
+    < length items → place_takes_memory w items (slice_get hs 0) ≡ true
 first_takes_memory w items [] some_handle some = absurd (some_handle refl)
 first_takes_memory w items (h ∷ hs) some_handle some = some_items w items h some
 
 -- to the next of them
-pub next_takes_memory : (w : World) (items : Bundle) (hs rest : List Handle) (k : ℕ) (h : Handle) → drop k hs ≡ h ∷ rest → insert_takes_memory w items h ≡ true
+pub next_takes_memory : (w : World) (items : Bundle) (hs rest : List Handle) (k : ℕ) (h : Handle)
+    → drop k hs ≡ h ∷ rest → insert_takes_memory w items h ≡ true
     → place_takes_memory w items (slice_get hs k) ≡ true
-next_takes_memory w items hs rest k h left takes = ap (place_takes_memory w items) (at_left hs rest k h left) ∙ takes
+next_takes_memory w items hs rest k h left takes = ap (place_takes_memory w items)
+    (at_left hs rest k h left) ∙ takes
 
 -- at this command of a queue
-pub takes_memory_in : (w : World) (q rest : List Command) (k done : ℕ) (c : Command) → drop k q ≡ c ∷ rest → command_takes_memory w done c ≡ true → TakesMemoryIn w k done q
-takes_memory_in w q rest k done c left takes = subst (λ o. IsSomeAnd o (λ d. command_takes_memory w done d ≡ true)) (sym (at_left q rest k c left)) takes
+pub takes_memory_in : (w : World) (q rest : List Command) (k done : ℕ) (c : Command) → drop k q ≡ c
+    ∷ rest → command_takes_memory w done c ≡ true → TakesMemoryIn w k done q
+takes_memory_in w q rest k done c left takes =
+    subst (λ o. IsSomeAnd o (λ d. command_takes_memory w done d ≡ true))
+    (sym (at_left q rest k c left)) takes
 
 -- in this queue
-pub takes_memory_at : (w : World) (qs : List (List Command)) (k command done : ℕ) (q : List Command) → k < length qs → q ≡ get_or qs k q → TakesMemoryIn w command done q
+pub takes_memory_at : (w : World) (qs : List (List Command)) (k command done : ℕ) (q : List Command)
+    → k < length qs → q ≡ get_or qs k q → TakesMemoryIn w command done q
     → TakesMemoryAt w k command done qs
 takes_memory_at w qs k command done q lt is takes =
-    subst (λ o. IsSomeAnd o (λ p. TakesMemoryIn w command done p)) (sym (slice_get-get_or qs k q lt ∙ ap Some (sym is))) takes
+    subst (λ o. IsSomeAnd o (λ p. TakesMemoryIn w command done p))
+    (sym (slice_get-get_or qs k q lt ∙ ap Some (sym is))) takes
 
 -- a flush makes slots only for what is reserved
 pub made-le-taken : (s : Allocator) → made_at_flush s ≤ length s.taken

@@ -30,18 +30,23 @@ pub first_world-world : (limits : Limits) → AreLimits limits → IsWorld (firs
 first_world-world limits ok = record { sound = opening-sound limits ok; living = keys-empty }
 
 -- what is reserved is born
-pub after_births-world : (queues : List (List Command)) (w : World) → IsWorld w → IsWorld (after_births queues w)
+pub after_births-world : (queues : List (List Command)) (w : World) → IsWorld w
+    → IsWorld (after_births queues w)
 after_births-world queues w is = record {
   sound = after_flush-sound w.allocator is.sound;
-  living = living-after w.allocator w.entities is.sound is.living (birth_in w.phase queues (born w.allocator));
+  living = living-after w.allocator w.entities is.sound is.living
+      (birth_in w.phase queues (born w.allocator));
 }
 
-front : (pool : List Handle) (h : Handle) → slice_get pool 0 ≡ Some h → (rest : List Handle) × (pool ≡ h ∷ rest)
+front : (pool : List Handle) (h : Handle) → slice_get pool 0 ≡ Some h → (rest : List Handle)
+    × (pool ≡ h ∷ rest)
 front [] h none = cc
 front (g ∷ rest) h first = let same : g ≡ h = cc in (rest, ap (λ x. x ∷ rest) same)
 
 -- the front of the pool comes to life
-pub after_spawn-world : (birth : Birth) (items : Bundle) (h : Handle) (w : World) → IsWorld w → w.allocator.asked ≡ 0 → slice_get w.allocator.pool 0 ≡ Some h → IsWorld (after_spawn birth items h w)
+pub after_spawn-world : (birth : Birth) (items : Bundle) (h : Handle) (w : World) → IsWorld w
+    → w.allocator.asked ≡ 0 → slice_get w.allocator.pool 0 ≡ Some h
+    → IsWorld (after_spawn birth items h w)
 after_spawn-world birth items h w is flushed first =
     let pool = front w.allocator.pool h first in
     record {
@@ -50,31 +55,47 @@ after_spawn-world birth items h w is flushed first =
     }
 
 -- a living entity goes
-pub after_despawn-world : (h : Handle) (w : World) → IsWorld w → w.allocator.asked ≡ 0 → lives_in w h ≡ true → IsWorld (after_despawn h w)
+pub after_despawn-world : (h : Handle) (w : World) → IsWorld w → w.allocator.asked ≡ 0
+    → lives_in w h ≡ true → IsWorld (after_despawn h w)
 after_despawn-world h w is flushed there = record {
   sound = after_free-sound w.allocator h is.sound flushed (sym (is.living h) ∙ there);
   living = keys-remove w.allocator.live w.entities h is.living;
 }
 
 -- an entity has other components
-pub components-world : (change : Components → Components) (h : Handle) (w : World) → IsWorld w → IsWorld (record w { entities = with_components w.entities h change })
-components-world change h w is = record { sound = is.sound; living = keys-components w.allocator.live w.entities h change is.living }
+pub components-world : (change : Components → Components) (h : Handle) (w : World) → IsWorld w
+    → IsWorld (record w { entities = with_components w.entities h change })
+components-world change h w is = record {
+  sound = is.sound;
+  living =
+      keys-components w.allocator.live w.entities h change is.living;
+}
 
 -- a sync point
-pub sync-world : (queues : List (List Command)) (w : World) → IsWorld w → IsWorld (sync queues w).world
-sync-world queues w is = record { sound = sync-sound queues w is.sound is.living; living = sync-living queues w is.sound is.living }
+pub sync-world : (queues : List (List Command)) (w : World) → IsWorld w
+    → IsWorld (sync queues w).world
+sync-world queues w is = record {
+  sound = sync-sound queues w is.sound is.living;
+  living =
+      sync-living queues w is.sound is.living;
+}
 
 -- any commands of a flushed world
-pub commands-world : (queues : List (List Command)) (a b : Applied) → b ≡ after_queues 0 queues a → IsWorld a.world → a.world.allocator.asked ≡ 0 → IsWorld b.world
+pub commands-world : (queues : List (List Command)) (a b : Applied) → b ≡ after_queues 0 queues a
+    → IsWorld a.world → a.world.allocator.asked ≡ 0 → IsWorld b.world
 commands-world queues a b is before flushed =
-    let after = after_queues-keeps IsFlushed flushed-kept 0 queues a (record { asked = flushed; sound = before.sound; living = before.living }) in
-    subst (λ (c : Applied). IsWorld c.world) (sym is) (record { sound = after.sound; living = after.living })
+    let after = after_queues-keeps IsFlushed flushed-kept 0 queues a
+    (record { asked = flushed; sound = before.sound; living = before.living }) in
+    subst (λ (c : Applied). IsWorld c.world) (sym is)
+    (record { sound = after.sound; living = after.living })
 
 -- reservations
-pub after_history-world : (history : List Call) (w : World) → IsWorld w → IsWorld (record w { allocator = after_history w.allocator history })
+pub after_history-world : (history : List Call) (w : World) → IsWorld w
+    → IsWorld (record w { allocator = after_history w.allocator history })
 after_history-world history w is = record {
   sound = history-sound w.allocator history is.sound;
-  living = living-history w.allocator (after_history w.allocator history) history w.entities is.living refl;
+  living = living-history w.allocator (after_history w.allocator history) history w.entities
+      is.living refl;
 }
 
 -- reservations of which some are lost
@@ -85,17 +106,28 @@ loss-sound s asked sound flushed =
     record {
       limits = sound.limits;
       made = sound.made;
-      order = subst (λ hs. hs ≡ filter (is_old s.made) hs ++ fresh s.made (s.limits.slots - s.made)) (sym same) sound.order;
+      order = subst (λ hs. hs ≡ filter (is_old s.made) hs ++ fresh s.made (s.limits.slots - s.made))
+          (sym same) sound.order;
       within = subst (All (IsWithin s.limits)) (sym same) sound.within;
       apart = subst (AllPairs AreApart) (sym same) sound.apart;
       pool = ap (drop asked) (all ∙ sym same);
       aside = λ _. refl;
       live = λ h lives.
           let old = sound.live h lives in
-          record { within = old.within; made = old.made; apart = subst (All (AreApart h)) (sym same) old.apart };
+          record {
+            within = old.within;
+            made = old.made;
+            apart = subst (All (AreApart h)) (sym same)
+                old.apart;
+          };
       one_occupant = sound.one_occupant;
       rows = sound.rows;
     }
 
-pub after_loss-world : (asked : ℕ) (w : World) → IsWorld w → w.allocator.asked ≡ 0 → IsWorld (record w { allocator = after_loss w.allocator asked })
-after_loss-world asked w is flushed = record { sound = loss-sound w.allocator asked is.sound flushed; living = is.living }
+pub after_loss-world : (asked : ℕ) (w : World) → IsWorld w → w.allocator.asked ≡ 0
+    → IsWorld (record w { allocator = after_loss w.allocator asked })
+after_loss-world asked w is flushed = record {
+  sound = loss-sound w.allocator asked is.sound
+      flushed;
+  living = is.living;
+}

@@ -50,7 +50,8 @@ at_ordinal phase system (Some place) others =
 abbrev pub listed_birth : ℕ → ℕ → List (List Command) → Handle → Option Birth
 listed_birth phase system [] h = None
 listed_birth phase system (q ∷ qs) h =
-    at_ordinal phase system (ordinal_among (handles_listed q) h) (listed_birth phase (system + 1) qs h)
+    at_ordinal phase system (ordinal_among (handles_listed q) h)
+    (listed_birth phase (system + 1) qs h)
 
 -- those of the handles that no queue lists
 abbrev pub unlisted : List (List Command) → List Handle → List Handle

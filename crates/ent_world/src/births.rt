@@ -72,7 +72,7 @@ fn enter_queue(
     }
 }
 
-/// Enters the handles of one command, from this birth on, and answers the birth of the next handle.
+/// Enters the handles of one command, from this birth on, and returns the birth of the next handle.
 fn enter_entry(storage: &mut Storage, entities: &Entities, birth: Birth, entry: Entry<'_>) -> Birth
     requires { HasRoomForBorn entities.now storage.old }
     ensures room { HasRoomForBorn entities.now storage.new }
@@ -90,7 +90,7 @@ fn enter_entry(storage: &mut Storage, entities: &Entities, birth: Birth, entry: 
     }
 }
 
-/// Enters the handles, from this birth on, and answers the birth of the next one.
+/// Enters the handles, from this birth on, and returns the birth of the next one.
 fn enter_handles(
     storage: &mut Storage,
     entities: &Entities,

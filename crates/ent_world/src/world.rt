@@ -319,7 +319,7 @@ impl World {
         }
     }
 
-    /// Brings to life what is reserved, each entity with its birth by these queues, and answers the
+    /// Brings to life what is reserved, each entity with its birth by these queues, and returns the
     /// handles in the order of the flush.
     fn bring_to_life(&mut self, queues: &[CommandQueue]) -> Result<Vec<Handle>, Memory>
         requires { length queues.now ≤ 2 ^ 16 }

@@ -13,5 +13,6 @@ Consumes-append (Some all) (Some rest) (Some left) first second taken more =
     taken ∙ (ap (λ bytes. first ++ bytes) more ∙ sym (append_assoc first second left))
 
 -- this many are at most this many
-pub TakesAtMost-Takes : (old new : Option (List ℕ)) (count : ℕ) → Takes old new count → TakesAtMost old new count
+pub TakesAtMost-Takes : (old new : Option (List ℕ)) (count : ℕ) → Takes old new count
+    → TakesAtMost old new count
 TakesAtMost-Takes old new count takes = (takes.0, omega (arith, takes.1), takes.2)

@@ -16,24 +16,30 @@ use Rattle.ent_world.specs.World.{first_world}
 use Rattle.spawnrun_lib.specs.Running.{IsScriptReport}
 
 -- what the run of a script returns is an output
-pub made : (script : Script) (workers : ℕ) (show : Show) (r : Result (Vec ℕ) NoMemory) → IfOk r (λ text. IsReport script workers show text.items)
-    → (workers ≡ 1 → IfOk r (λ text. (other : List ℕ) → IsReport script workers show other → text.items ≡ other))
-    → IfOk r (λ text. (executions : List Execution) → IsReportOf script workers show executions text.items
+pub made : (script : Script) (workers : ℕ) (show : Show) (r : Result (Vec ℕ) NoMemory)
+    → IfOk r (λ text. IsReport script workers show text.items)
+    → (workers ≡ 1 → IfOk r (λ text. (other : List ℕ) → IsReport script workers show other
+    → text.items ≡ other))
+    → IfOk r (λ text. (executions : List Execution) → IsReportOf script workers show executions
+    text.items
     → NeverWraps (first_world script.limits) executions → AreGivenOnce (handles_in_run executions))
     → IfOk r (λ text. IsScriptReport script workers show text.items)
-made script workers show (Ok text) report only once = record { report = report; only = only; given_once = once }
+made script workers show (Ok text) report only once =
+    record { report = report; only = only; given_once = once }
 made script workers show (Err e) report only once = tt
 
 -- a line that refuses a text
 abbrev pub IsRefusal : ReadFault → List ℕ → Type 0
 IsRefusal e line = (e ≢ fault.Memory) × (line ≡ refusal_line e)
 
-pub refusal : (e : ReadFault) (r : Result (Vec ℕ) NoMemory) → OnOk r (e ≢ fault.Memory) → IfOk r (λ line. line.items ≡ refusal_line e) → IfOk r (λ line. IsRefusal e line.items)
+pub refusal : (e : ReadFault) (r : Result (Vec ℕ) NoMemory) → OnOk r (e ≢ fault.Memory)
+    → IfOk r (λ line. line.items ≡ refusal_line e) → IfOk r (λ line. IsRefusal e line.items)
 refusal e (Ok line) refused is = (refused, is)
 refusal e (Err memory) refused is = tt
 
 -- a fault that isn't want of memory is the text's
-pub fault_read : (e : ReadFault) (read : Result Script ReadFault) → e ≢ fault.Memory → ReadsAs (Err e) read → read ≡ Err e
+pub fault_read : (e : ReadFault) (read : Result Script ReadFault) → e ≢ fault.Memory
+    → ReadsAs (Err e) read → read ≡ Err e
 fault_read fault.Json read other exact = exact
 fault_read (fault.Script c) read other exact = exact
 fault_read (fault.Frame f) read other exact = exact

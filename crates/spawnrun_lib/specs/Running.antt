@@ -15,7 +15,8 @@ use Rattle.spawnrun_lib.specs.declared.status.Status.{Status}
 use Rattle.spawnrun_lib.specs.declared.status.Status.TheVariants.{Done, Refused}
 
 -- a report that the run of a script may write
-pub record IsScriptReport (script : Script) (workers : ℕ) (show : Show) (text : List ℕ) : Type 0 where
+pub record IsScriptReport (script : Script) (workers : ℕ) (show : Show) (text : List ℕ)
+    : Type 0 where
   -- the frames may have gone so
   pub report : IsReport script workers show text
   -- one worker writes no other

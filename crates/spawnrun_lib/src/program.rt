@@ -25,7 +25,7 @@ use std::thread::Threads;
 // The exit status for words that are no command line of the program, and for a request for help.
 const LINE_FAULT: u8 = 2;
 
-/// Does what the words after the program's name ask for, and answers the exit status.
+/// Does what the words after the program's name ask for, and returns the exit status.
 ///
 /// | Status | Meaning | On the error stream |
 /// |---|---|---|
@@ -120,7 +120,7 @@ fn refuse_line<E: Sink>(text: Result<String, AllocError>, errors: &mut E) -> u8
     }
 }
 
-/// Ends the program if its words can't be read, and answers the exit status: 3 if memory ran out, 2
+/// Ends the program if its words can't be read, and returns the exit status: 3 if memory ran out, 2
 /// if a word is no UTF-8, else 4. It says on the error stream what `execute` says then.
 pub fn refuse_words<E: Sink>(error: &io::Error, errors: &mut E) -> u8
     ensures status { result ≡ words_status (error_kind error.now) }

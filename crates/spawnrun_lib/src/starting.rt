@@ -8,7 +8,7 @@ use std::io::{Read, Write};
 use std::thread::Threads;
 use std::{env, io};
 
-/// Runs the program on the words that it was started with, and answers its exit status: that of
+/// Runs the program on the words that it was started with, and returns its exit status: that of
 /// `execute`, or of `refuse_words` if the words can't be read.
 pub fn start<R, I: Read + Drop, O: Write + Drop, E: Write + Drop>(
     rt: &R,

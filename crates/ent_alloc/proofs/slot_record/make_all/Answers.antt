@@ -14,8 +14,10 @@ loop-index-init c =
     let made = c.len-made.result in
     let none : made - made ≡ 0 = omega arith in
     record {
-      made = sym (ap (λ (rs : List SlotRecord). c.args.records.now.items ++ rs) (ap (λ n. replicate n new_record) none) ∙ append-nil c.args.records.now.items);
-      listed = sym (ap (λ (hs : List Handle). c.args.out.now.items ++ hs) (ap (fresh made) none ∙ fresh-none made) ∙ append-nil c.args.out.now.items);
+      made = sym (ap (λ (rs : List SlotRecord). c.args.records.now.items ++ rs)
+          (ap (λ n. replicate n new_record) none) ∙ append-nil c.args.records.now.items);
+      listed = sym (ap (λ (hs : List Handle). c.args.out.now.items ++ hs) (ap (fresh made) none
+          ∙ fresh-none made) ∙ append-nil c.args.out.now.items);
       len = omega arith;
       list_len = omega arith;
       capacity = refl;
@@ -35,13 +37,17 @@ loop-index-preserved c =
     record {
       made = c.push_reserved.ensures.items
           ∙ (λ i. c.loop-index.invariant.made i ++ c.new.ensures i ∷ [])
-          ∙ append_assoc c.args.records.now.items (replicate (index - made) new_record) (new_record ∷ [])
-          ∙ ap (λ (rs : List SlotRecord). c.args.records.now.items ++ rs) (replicate-push (index - made) new_record ∙ ap (λ n. replicate n new_record) more);
+          ∙ append_assoc c.args.records.now.items (replicate (index - made) new_record) (new_record
+          ∷ [])
+          ∙ ap (λ (rs : List SlotRecord). c.args.records.now.items ++ rs)
+          (replicate-push (index - made) new_record ∙ ap (λ n. replicate n new_record) more);
       listed = c.push_reserved-in-loop-index.ensures.items
           ∙ (λ i. c.loop-index.invariant.listed i ++ c.first_occupant.ensures i ∷ [])
-          ∙ append_assoc c.args.out.now.items (fresh made (index - made)) (record { index = index; generation = 1 } ∷ [])
+          ∙ append_assoc c.args.out.now.items (fresh made (index - made))
+          (record { index = index; generation = 1 } ∷ [])
           ∙ ap (λ (hs : List Handle). c.args.out.now.items ++ hs)
-          (ap (λ n. fresh made (index - made) ++ record { index = n; generation = 1 } ∷ []) (sym at) ∙ fresh-push made (index - made) ∙ ap (fresh made) more);
+          (ap (λ n. fresh made (index - made) ++ record { index = n; generation = 1 } ∷ []) (sym at)
+          ∙ fresh-push made (index - made) ∙ ap (fresh made) more);
       len = omega arith;
       list_len = omega arith;
       capacity = omega arith;

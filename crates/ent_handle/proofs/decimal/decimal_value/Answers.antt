@@ -10,5 +10,6 @@ unwrap-text-requires c =
 pub returns : goal.returns
 returns c =
     let same : c.unwrap-text.result.now ≡ c.args.bytes.now = grind arith in
-    let v = parsed c.args.bytes.now c.unwrap-text.result.now c.parse.result c.ok.result c.requires same c.parse.ensures.value.0 c.ok.ensures.value in
+    let v = parsed c.args.bytes.now c.unwrap-text.result.now c.parse.result c.ok.result c.requires
+    same c.parse.ensures.value.0 c.ok.ensures.value in
     record { value = v.value; in_range = v.in_range }

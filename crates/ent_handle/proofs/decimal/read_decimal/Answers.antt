@@ -6,12 +6,31 @@ use Rattle.ent_handle.proofs.decimal.read_decimal.Goals as goal
 pub returns : goal.returns
 returns c =
     let bytes = c.args.bytes.now in
-    let v : IsValue bytes c.decimal_value.result = record { value = c.decimal_value.ensures.value; in_range = c.decimal_value.ensures.in_range } in
-    let e = c.ok_or.ensures.value ∙ number_from_value bytes c.decimal_value.result (sym c.is_decimal.ensures ∙ c.if-not-is_decimal.false) v in
-    record { found = number_found _ _ e; only = number_only _ _ e; shape = number_shape bytes _ e; range = number_range bytes _ e; exact = e }
+    let v : IsValue bytes c.decimal_value.result =
+    record {
+      value = c.decimal_value.ensures.value;
+      in_range =
+          c.decimal_value.ensures.in_range;
+    } in
+    let e = c.ok_or.ensures.value ∙ number_from_value bytes c.decimal_value.result
+    (sym c.is_decimal.ensures ∙ c.if-not-is_decimal.false) v in
+    record {
+      found = number_found _ _ e;
+      only = number_only _ _ e;
+      shape = number_shape bytes _ e;
+      range = number_range bytes _ e;
+      exact = e;
+    }
 
 pub returns-then-not-is_decimal : goal.returns-then-not-is_decimal
 returns-then-not-is_decimal c =
     let bytes = c.args.bytes.now in
     let e = sym (number_of_none bytes (sym c.is_decimal.ensures ∙ c.if-not-is_decimal.true)) in
-    record { found = tt; only = number_only _ _ e; shape = number_shape bytes _ e; range = number_range bytes _ e; exact = e }
+    record {
+      found = tt;
+      only = number_only _ _ e;
+      shape = number_shape bytes _ e;
+      range =
+          number_range bytes _ e;
+      exact = e;
+    }

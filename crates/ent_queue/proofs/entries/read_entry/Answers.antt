@@ -4,77 +4,110 @@ use Rattle.ent_queue.proofs.entries.read_entry.Goals as goal
 
 pub read_handle-handle-requires : goal.read_handle-handle-requires
 read_handle-handle-requires c =
-    let f = (begins_kinds c.args.bytes.now c.requires).spawn (sym c.read_u8-kind.ensures.value ∙ c.in-0.is) in
+    let f = (begins_kinds c.args.bytes.now c.requires).spawn (sym c.read_u8-kind.ensures.value
+    ∙ c.in-0.is) in
     rw c.read_u8-kind.ensures.rest (record { long = f.long; is = f.is })
 
 pub read-bundle-requires : goal.read-bundle-requires
 read-bundle-requires c =
-    let f = (begins_kinds c.args.bytes.now c.requires).spawn (sym c.read_u8-kind.ensures.value ∙ c.in-0.is) in
-    rw (c.read_handle-handle.ensures.rest, c.read_u8-kind.ensures.rest) (record { header = f.bundle.header; items = f.bundle.items; is = f.bundle.is })
+    let f = (begins_kinds c.args.bytes.now c.requires).spawn (sym c.read_u8-kind.ensures.value
+    ∙ c.in-0.is) in
+    rw (c.read_handle-handle.ensures.rest, c.read_u8-kind.ensures.rest)
+    (record { header = f.bundle.header; items = f.bundle.items; is = f.bundle.is })
 
 pub returns-in-0-clause-rest : goal.returns-in-0-clause-rest
 returns-in-0-clause-rest c =
-    let f = (begins_kinds c.args.bytes.now c.requires).spawn (sym c.read_u8-kind.ensures.value ∙ c.in-0.is) in
-    c.read-bundle.ensures.rest ∙ rw (c.read_handle-handle.ensures.rest, c.read_u8-kind.ensures.rest) f.bundle.rest_is
+    let f = (begins_kinds c.args.bytes.now c.requires).spawn (sym c.read_u8-kind.ensures.value
+    ∙ c.in-0.is) in
+    c.read-bundle.ensures.rest ∙ rw (c.read_handle-handle.ensures.rest, c.read_u8-kind.ensures.rest)
+    f.bundle.rest_is
 
 pub read_u32-count-requires : goal.read_u32-count-requires
 read_u32-count-requires c =
-    let f = (begins_kinds c.args.bytes.now c.requires).spawn_many (sym c.read_u8-kind.ensures.value ∙ c.in-1.is) in
+    let f = (begins_kinds c.args.bytes.now c.requires).spawn_many (sym c.read_u8-kind.ensures.value
+    ∙ c.in-1.is) in
     rw c.read_u8-kind.ensures.rest f.header
 
 pub read-handles-requires : goal.read-handles-requires
 read-handles-requires c =
-    let f = (begins_kinds c.args.bytes.now c.requires).spawn_many (sym c.read_u8-kind.ensures.value ∙ c.in-1.is) in
-    rw (c.read_u32-count.ensures.value, c.read_u32-count.ensures.rest, c.read_u8-kind.ensures.rest) (record { long = f.long; each = f.each })
+    let f = (begins_kinds c.args.bytes.now c.requires).spawn_many (sym c.read_u8-kind.ensures.value
+    ∙ c.in-1.is) in
+    rw (c.read_u32-count.ensures.value, c.read_u32-count.ensures.rest, c.read_u8-kind.ensures.rest)
+    (record { long = f.long; each = f.each })
 
 pub read-bundle-requires-in-1 : goal.read-bundle-requires-in-1
 read-bundle-requires-in-1 c =
-    let f = (begins_kinds c.args.bytes.now c.requires).spawn_many (sym c.read_u8-kind.ensures.value ∙ c.in-1.is) in
-    rw (c.read-handles.ensures.rest, c.read_u32-count.ensures.value, c.read_u32-count.ensures.rest, c.read_u8-kind.ensures.rest) (record { header = f.bundle.header; items = f.bundle.items; is = f.bundle.is })
+    let f = (begins_kinds c.args.bytes.now c.requires).spawn_many (sym c.read_u8-kind.ensures.value
+    ∙ c.in-1.is) in
+    rw (
+      c.read-handles.ensures.rest,
+      c.read_u32-count.ensures.value,
+      c.read_u32-count.ensures.rest,
+      c.read_u8-kind.ensures.rest,
+    )
+    (record { header = f.bundle.header; items = f.bundle.items; is = f.bundle.is })
 
 pub returns-in-1-clause-rest : goal.returns-in-1-clause-rest
 returns-in-1-clause-rest c =
-    let f = (begins_kinds c.args.bytes.now c.requires).spawn_many (sym c.read_u8-kind.ensures.value ∙ c.in-1.is) in
-    c.read-bundle-in-1.ensures.rest ∙ rw (c.read-handles.ensures.rest, c.read_u32-count.ensures.value, c.read_u32-count.ensures.rest, c.read_u8-kind.ensures.rest) f.bundle.rest_is
+    let f = (begins_kinds c.args.bytes.now c.requires).spawn_many (sym c.read_u8-kind.ensures.value
+    ∙ c.in-1.is) in
+    c.read-bundle-in-1.ensures.rest
+    ∙ rw (
+      c.read-handles.ensures.rest,
+      c.read_u32-count.ensures.value,
+      c.read_u32-count.ensures.rest,
+      c.read_u8-kind.ensures.rest,
+    ) f.bundle.rest_is
 
 pub read_handle-handle-requires-in-2 : goal.read_handle-handle-requires-in-2
 read_handle-handle-requires-in-2 c =
-    let f = (begins_kinds c.args.bytes.now c.requires).insert (sym c.read_u8-kind.ensures.value ∙ c.in-2.is) in
+    let f = (begins_kinds c.args.bytes.now c.requires).insert (sym c.read_u8-kind.ensures.value
+    ∙ c.in-2.is) in
     rw c.read_u8-kind.ensures.rest (record { long = f.long; is = f.is })
 
 pub read-bundle-requires-in-2 : goal.read-bundle-requires-in-2
 read-bundle-requires-in-2 c =
-    let f = (begins_kinds c.args.bytes.now c.requires).insert (sym c.read_u8-kind.ensures.value ∙ c.in-2.is) in
-    rw (c.read_handle-handle-in-2.ensures.rest, c.read_u8-kind.ensures.rest) (record { header = f.bundle.header; items = f.bundle.items; is = f.bundle.is })
+    let f = (begins_kinds c.args.bytes.now c.requires).insert (sym c.read_u8-kind.ensures.value
+    ∙ c.in-2.is) in
+    rw (c.read_handle-handle-in-2.ensures.rest, c.read_u8-kind.ensures.rest)
+    (record { header = f.bundle.header; items = f.bundle.items; is = f.bundle.is })
 
 pub returns-in-2-clause-rest : goal.returns-in-2-clause-rest
 returns-in-2-clause-rest c =
-    let f = (begins_kinds c.args.bytes.now c.requires).insert (sym c.read_u8-kind.ensures.value ∙ c.in-2.is) in
-    c.read-bundle-in-2.ensures.rest ∙ rw (c.read_handle-handle-in-2.ensures.rest, c.read_u8-kind.ensures.rest) f.bundle.rest_is
+    let f = (begins_kinds c.args.bytes.now c.requires).insert (sym c.read_u8-kind.ensures.value
+    ∙ c.in-2.is) in
+    c.read-bundle-in-2.ensures.rest
+    ∙ rw (c.read_handle-handle-in-2.ensures.rest, c.read_u8-kind.ensures.rest) f.bundle.rest_is
 
 pub read_handle-handle-requires-in-3 : goal.read_handle-handle-requires-in-3
 read_handle-handle-requires-in-3 c =
-    let f = (begins_kinds c.args.bytes.now c.requires).remove (sym c.read_u8-kind.ensures.value ∙ c.in-3.is) in
+    let f = (begins_kinds c.args.bytes.now c.requires).remove (sym c.read_u8-kind.ensures.value
+    ∙ c.in-3.is) in
     rw c.read_u8-kind.ensures.rest (record { long = f.long; is = f.is })
 
 pub read_u8-id-requires : goal.read_u8-id-requires
 read_u8-id-requires c =
-    let f = (begins_kinds c.args.bytes.now c.requires).remove (sym c.read_u8-kind.ensures.value ∙ c.in-3.is) in
+    let f = (begins_kinds c.args.bytes.now c.requires).remove (sym c.read_u8-kind.ensures.value
+    ∙ c.in-3.is) in
     rw (c.read_handle-handle-in-3.ensures.rest, c.read_u8-kind.ensures.rest) f.more
 
 pub returns-in-3-clause-rest : goal.returns-in-3-clause-rest
 returns-in-3-clause-rest c =
-    let f = (begins_kinds c.args.bytes.now c.requires).remove (sym c.read_u8-kind.ensures.value ∙ c.in-3.is) in
-    c.read_u8-id.ensures.rest ∙ rw (c.read_handle-handle-in-3.ensures.rest, c.read_u8-kind.ensures.rest) f.rest_is
+    let f = (begins_kinds c.args.bytes.now c.requires).remove (sym c.read_u8-kind.ensures.value
+    ∙ c.in-3.is) in
+    c.read_u8-id.ensures.rest
+    ∙ rw (c.read_handle-handle-in-3.ensures.rest, c.read_u8-kind.ensures.rest) f.rest_is
 
 pub read_handle-handle-requires-in-4 : goal.read_handle-handle-requires-in-4
 read_handle-handle-requires-in-4 c =
-    let f = (begins_kinds c.args.bytes.now c.requires).despawn (sym c.read_u8-kind.ensures.value ∙ c.in-4.is) in
+    let f = (begins_kinds c.args.bytes.now c.requires).despawn (sym c.read_u8-kind.ensures.value
+    ∙ c.in-4.is) in
     rw c.read_u8-kind.ensures.rest (record { long = f.long; is = f.is })
 
 pub returns-in-4-clause-rest : goal.returns-in-4-clause-rest
 returns-in-4-clause-rest c =
-    let f = (begins_kinds c.args.bytes.now c.requires).despawn (sym c.read_u8-kind.ensures.value ∙ c.in-4.is) in
+    let f = (begins_kinds c.args.bytes.now c.requires).despawn (sym c.read_u8-kind.ensures.value
+    ∙ c.in-4.is) in
     c.read_handle-handle-in-4.ensures.rest ∙ rw c.read_u8-kind.ensures.rest f.rest_is
 
 pub read_u32-wanted-requires : goal.read_u32-wanted-requires
@@ -89,11 +122,16 @@ read_reason-why-requires c =
     let value = c.read_u8-kind.ensures.value in
     let last : 4 < slice_index c.args.bytes.now 0 = omega arith in
     let f = (begins_kinds c.args.bytes.now c.requires).refused last in
-    rw (c.read_u32-wanted.ensures.value, c.read_u32-wanted.ensures.rest, c.read_u8-kind.ensures.rest) (record { long = f.long; is = f.is })
+    rw (
+      c.read_u32-wanted.ensures.value,
+      c.read_u32-wanted.ensures.rest,
+      c.read_u8-kind.ensures.rest,
+    ) (record { long = f.long; is = f.is })
 
 pub returns-in_default-clause-rest : goal.returns-in_default-clause-rest
 returns-in_default-clause-rest c =
     let value = c.read_u8-kind.ensures.value in
     let last : 4 < slice_index c.args.bytes.now 0 = omega arith in
     let f = (begins_kinds c.args.bytes.now c.requires).refused last in
-    c.read_reason-why.ensures.rest ∙ rw (c.read_u32-wanted.ensures.rest, c.read_u8-kind.ensures.rest) f.rest_is
+    c.read_reason-why.ensures.rest
+    ∙ rw (c.read_u32-wanted.ensures.rest, c.read_u8-kind.ensures.rest) f.rest_is

@@ -4,4 +4,5 @@ use Rattle.ent_queue.proofs.Few.{few_items}
 use Rattle.ent_queue.proofs.writing.write_bundle.Goals as goal
 
 pub overflow_cast-items : goal.overflow_cast-items
-overflow_cast-items c = let few = few_items c.args.items.now c.requires.is in Fits-of_lt (omega arith)
+overflow_cast-items c = let few = few_items c.args.items.now c.requires.is in
+    Fits-of_lt (omega arith)

@@ -9,23 +9,31 @@ use Rattle.ent_replay.proofs.reading.read_schedule.Goals as goal
 pub returns-clause-found : goal.returns-clause-found
 returns-clause-found c =
     let text = c.args.text.now in
-    let e = ends c.loop-rest.events.items (vec_len c.loop-rest.events) c.loop-rest.rest.now (schedule_of text) (eqb-true _ _ (sym c.loop-rest-test.ensures)) c.loop-rest.invariant in
+    let e = ends c.loop-rest.events.items (vec_len c.loop-rest.events) c.loop-rest.rest.now
+    (schedule_of text) (eqb-true _ _ (sym c.loop-rest-test.ensures)) c.loop-rest.invariant in
     schedule_found text c.loop-rest.events.items e
 
 pub returns-clause-only : goal.returns-clause-only
 returns-clause-only c = λ events fits spelled.
     let text = c.args.text.now in
-    let e = ends c.loop-rest.events.items (vec_len c.loop-rest.events) c.loop-rest.rest.now (schedule_of text) (eqb-true _ _ (sym c.loop-rest-test.ensures)) c.loop-rest.invariant in
+    let e = ends c.loop-rest.events.items (vec_len c.loop-rest.events) c.loop-rest.rest.now
+    (schedule_of text) (eqb-true _ _ (sym c.loop-rest-test.ensures)) c.loop-rest.invariant in
     sym (schedule_again text events fits spelled) ∙ e
 
 pub returns-in-Err-clause-only : goal.returns-in-Err-clause-only
 returns-in-Err-clause-only c = λ events fits spelled.
     let text = c.args.text.now in
-    let e = stops c.loop-rest.events.items (vec_len c.loop-rest.events) c.loop-rest.rest.now c.first_line.result.0.now c.first_line.result.1.now c.in-Err.cause (schedule_of text) c.first_line.ensures.lines (sym c.in-Err.ensures) c.loop-rest.invariant in
-    sym (schedule_again text events fits spelled) ∙ e ∙ ap (λ (n : ℕ). Err (Line (n + 1) c.in-Err.cause)) (sym c.len.ensures)
+    let e = stops c.loop-rest.events.items (vec_len c.loop-rest.events) c.loop-rest.rest.now
+    c.first_line.result.0.now c.first_line.result.1.now c.in-Err.cause (schedule_of text)
+    c.first_line.ensures.lines (sym c.in-Err.ensures) c.loop-rest.invariant in
+    sym (schedule_again text events fits spelled) ∙ e
+    ∙ ap (λ (n : ℕ). Err (Line (n + 1) c.in-Err.cause)) (sym c.len.ensures)
 
 pub returns-in-Err-clause-refused : goal.returns-in-Err-clause-refused
 returns-in-Err-clause-refused c =
     let text = c.args.text.now in
-    let e = stops c.loop-rest.events.items (vec_len c.loop-rest.events) c.loop-rest.rest.now c.first_line.result.0.now c.first_line.result.1.now c.in-Err.cause (schedule_of text) c.first_line.ensures.lines (sym c.in-Err.ensures) c.loop-rest.invariant in
-    schedule_refused text (Line (c.len.result + 1) c.in-Err.cause) (e ∙ ap (λ (n : ℕ). Err (Line (n + 1) c.in-Err.cause)) (sym c.len.ensures))
+    let e = stops c.loop-rest.events.items (vec_len c.loop-rest.events) c.loop-rest.rest.now
+    c.first_line.result.0.now c.first_line.result.1.now c.in-Err.cause (schedule_of text)
+    c.first_line.ensures.lines (sym c.in-Err.ensures) c.loop-rest.invariant in
+    schedule_refused text (Line (c.len.result + 1) c.in-Err.cause)
+    (e ∙ ap (λ (n : ℕ). Err (Line (n + 1) c.in-Err.cause)) (sym c.len.ensures))

@@ -5,12 +5,32 @@ use Rattle.ent_replay.proofs.writing.append_spaced.Goals as goal
 
 pub returns-in_err-append-clause-full : goal.returns-in_err-append-clause-full
 returns-in_err-append-clause-full c =
-    let fits = spaced_fits c.args.out.now.items c.loop-handle.out.items c.args.handles.now c.loop-handle.handle-index c.handle-item.result c.loop-handle-test.true c.handle-item.is c.loop-handle.invariant.told in
+    let fits = spaced_fits c.args.out.now.items c.loop-handle.out.items c.args.handles.now
+    c.loop-handle.handle-index c.handle-item.result c.loop-handle-test.true c.handle-item.is
+    c.loop-handle.invariant.told in
     let p = err_from_is_err_and c.from_residual.result c.from_residual.ensures.1 in
-    rw p.1 (omega (arith, fits, c.in_err-append.ensures.full, c.loop-handle.out.ok, c.args.out.now.ok))
+    rw p.1 (omega (
+      arith,
+      fits,
+      c.in_err-append.ensures.full,
+      c.loop-handle.out.ok,
+      c.args.out.now.ok,
+    ))
 
 pub returns-in_err-write_text-clause-full : goal.returns-in_err-write_text-clause-full
 returns-in_err-write_text-clause-full c =
-    let fits = spaced_fits c.args.out.now.items c.loop-handle.out.items c.args.handles.now c.loop-handle.handle-index c.handle-item.result c.loop-handle-test.true c.handle-item.is c.loop-handle.invariant.told in
-    let p = err_from_is_err_and c.from_residual-in_err-write_text.result c.from_residual-in_err-write_text.ensures.1 in
-    rw p.1 (omega (arith, fits, c.in_err-write_text.ensures.full, c.loop-handle.out.ok, c.args.out.now.ok, c.append.new.out.ok, ap length c.in_ok-append.ensures.ok ∙ length-append c.loop-handle.out.items (32 ∷ [])))
+    let fits = spaced_fits c.args.out.now.items c.loop-handle.out.items c.args.handles.now
+    c.loop-handle.handle-index c.handle-item.result c.loop-handle-test.true c.handle-item.is
+    c.loop-handle.invariant.told in
+    let p = err_from_is_err_and c.from_residual-in_err-write_text.result
+    c.from_residual-in_err-write_text.ensures.1 in
+    rw p.1 (omega (
+      arith,
+      fits,
+      c.in_err-write_text.ensures.full,
+      c.loop-handle.out.ok,
+      c.args.out.now.ok,
+      c.append.new.out.ok,
+      ap length c.in_ok-append.ensures.ok
+          ∙ length-append c.loop-handle.out.items (32 ∷ []),
+    ))

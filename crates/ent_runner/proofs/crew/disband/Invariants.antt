@@ -11,8 +11,12 @@ invariant-loop-worker l = record {
   all : l.yielded ++ l.worker-iterator.rest.items ≡ l.fn.workers.items;
   reservers : l.reservers.items ≡ map (λ (w : Worker). w.reserver) l.yielded;
   claimers : l.claimers.items ≡ map (λ (w : Worker). w.claimer) l.yielded;
-  places : queues_placed (flat_map (λ (w : Worker). w.issued.items) l.worker-iterator.rest.items) l.places ≡ queues_placed (flat_map (λ (w : Worker). w.issued.items) l.fn.workers.items) l.initial.places;
-  inside : All (λ (w : Worker). All (λ (i : SystemQueue). i.system < length l.places) w.issued.items) l.worker-iterator.rest.items;
-  reservers_fit : vec_len l.reservers + length l.worker-iterator.rest.items ≤ vec_capacity l.reservers;
+  places : queues_placed (flat_map (λ (w : Worker). w.issued.items) l.worker-iterator.rest.items)
+      l.places ≡ queues_placed (flat_map (λ (w : Worker). w.issued.items) l.fn.workers.items)
+      l.initial.places;
+  inside : All (λ (w : Worker). All (λ (i : SystemQueue). i.system < length l.places)
+      w.issued.items) l.worker-iterator.rest.items;
+  reservers_fit : vec_len l.reservers + length l.worker-iterator.rest.items
+      ≤ vec_capacity l.reservers;
   claimers_fit : vec_len l.claimers + length l.worker-iterator.rest.items ≤ vec_capacity l.claimers;
 }

@@ -6,8 +6,10 @@ use Rattle.ent_runner.proofs.crew.recruit.Given as goal
 -- so far each reserver has a worker, and the claimers go from the last one on
 abbrev pub invariant-loop-reserver : goal.invariant-loop-reserver
 invariant-loop-reserver l = record {
-  all : map (λ (w : Worker). w.reserver) l.workers.items ++ l.reserver-iterator.rest.items ≡ l.fn.reservers.items;
-  claimers : l.claimers.items ++ reverse (map (λ (w : Worker). w.claimer) l.workers.items) ≡ l.fn.claimers.items;
+  all : map (λ (w : Worker). w.reserver) l.workers.items ++ l.reserver-iterator.rest.items
+      ≡ l.fn.reservers.items;
+  claimers : l.claimers.items ++ reverse (map (λ (w : Worker). w.claimer) l.workers.items)
+      ≡ l.fn.claimers.items;
   same : length l.claimers.items ≡ length l.reserver-iterator.rest.items;
   room : vec_len l.workers + length l.reserver-iterator.rest.items ≤ vec_capacity l.workers;
   fresh : All (λ (w : Worker). w.issued.items ≡ []) l.workers.items;

@@ -7,5 +7,6 @@ use Rattle.ent_runner.proofs.placing.place.Given as goal
 abbrev pub invariant-loop-one : goal.invariant-loop-one
 invariant-loop-one l = record {
   inside : All (λ i. i.system < length l.places) l.one-iterator.rest.items;
-  same : queues_placed l.one-iterator.rest.items l.places ≡ queues_placed l.fn.issued.items l.initial.places;
+  same : queues_placed l.one-iterator.rest.items l.places ≡ queues_placed l.fn.issued.items
+      l.initial.places;
 }

@@ -6,5 +6,6 @@ use Rattle.ent_script.proofs.frames.systems.Given as goal
 
 abbrev pub invariant-loop-number : goal.invariant-loop-number
 invariant-loop-number l =
-    onto l.systems.items (numbered (system_of l.components l.frame) l.number (from l.values l.number))
+    onto l.systems.items (numbered (system_of l.components l.frame) l.number
+    (from l.values l.number))
     ≡ numbered (system_of l.components l.frame) 0 (map view l.values)

@@ -20,20 +20,25 @@ loop-value-preserved c =
     let names = c.loop-value.names in
     let t = c.in_ok-text.text.now in
     let found : new_name names (view v) ≡ Some t =
-    sym c.new_name.ensures ∙ ap (option_map (λ (text : Bor (List ℕ)). text.now)) c.in_ok-text.ensures.ok_part in
+    sym c.new_name.ensures ∙ ap (option_map (λ (text : Bor (List ℕ)). text.now))
+    c.in_ok-text.ensures.ok_part in
     let facts = new_name_is names (view v) t found in
-    let added : c.add.new.self ≡ names ++ t ∷ [] = c.in_ok-add.ensures.ok ∙ with_new names t facts.1 in
-    let means = ap (λ (ns : List (List ℕ)). ok_or (new_name ns (view v)) script_cause.Components) (sym c.loop-value.invariant.names)
+    let added : c.add.new.self ≡ names ++ t ∷ [] = c.in_ok-add.ensures.ok
+    ∙ with_new names t facts.1 in
+    let means = ap (λ (ns : List (List ℕ)). ok_or (new_name ns (view v)) script_cause.Components)
+    (sym c.loop-value.invariant.names)
     ∙ ap (λ (o : Option (List ℕ)). ok_or o script_cause.Components) found in
     let longer : length c.add.new.self ≡ length (names ++ t ∷ []) = ap length added in
     record {
       few = omega (arith, longer, length-append names (t ∷ []), c.loop-value.invariant.few);
       names = c.in_ok-add.ensures.ok
           ∙ ap (λ (o : Option (List ℕ)). with_part names o) (sym facts.0)
-          ∙ ap (λ (ns : List (List ℕ)). with_part ns (as_name (view v))) c.loop-value.invariant.names
+          ∙ ap (λ (ns : List (List ℕ)). with_part ns (as_name (view v)))
+          c.loop-value.invariant.names
           ∙ sym (names_on as_name vs i v c.loop-value-test.true c.value-item.is);
       rest = ap (λ (done : List (List ℕ)). onto done (numbered f (i + 1) (from vs (i + 1)))) added
-          ∙ goes_on f vs i v names t (numbered f 0 (map view vs)) c.loop-value-test.true c.value-item.is means c.loop-value.invariant.rest;
+          ∙ goes_on f vs i v names t (numbered f 0 (map view vs)) c.loop-value-test.true
+          c.value-item.is means c.loop-value.invariant.rest;
     }
 
 pub returns-in_err-text-clause-names : goal.returns-in_err-text-clause-names
@@ -45,10 +50,13 @@ returns-in_err-text-clause-names c =
     let names = c.loop-value.names in
     let total = numbered f 0 (map view vs) in
     let found : new_name names (view v) ≡ None =
-    sym c.new_name.ensures ∙ ap (option_map (λ (text : Bor (List ℕ)). text.now)) c.in_err-text.ensures.ok_part in
-    let means = ap (λ (ns : List (List ℕ)). ok_or (new_name ns (view v)) script_cause.Components) (sym c.loop-value.invariant.names)
+    sym c.new_name.ensures ∙ ap (option_map (λ (text : Bor (List ℕ)). text.now))
+    c.in_err-text.ensures.ok_part in
+    let means = ap (λ (ns : List (List ℕ)). ok_or (new_name ns (view v)) script_cause.Components)
+    (sym c.loop-value.invariant.names)
     ∙ ap (λ (o : Option (List ℕ)). ok_or o script_cause.Components) found in
     let is : c.from_residual.result ≡ Err (fault.Script script_cause.Components) = search rules in
-    let e = stops f vs i v names script_cause.Components total c.loop-value-test.true c.value-item.is means c.loop-value.invariant.rest in
+    let e = stops f vs i v names script_cause.Components total c.loop-value-test.true
+    c.value-item.is means c.loop-value.invariant.rest in
     subst (λ (r : Result (List (List ℕ)) ReadFault). ReadsAs r (in_script total)) (sym is)
     (ap (in_script {A = List (List ℕ)}) e)

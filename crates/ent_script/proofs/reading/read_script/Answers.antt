@@ -18,5 +18,6 @@ returns-in-Ok-clause-exact c =
 
 pub returns-else-is_memory-clause-exact : goal.returns-else-is_memory-clause-exact
 returns-else-is_memory-clause-exact c =
-    let refused = c.in-Err.ensures.err (λ memory. false≢true (sym c.if-is_memory.false ∙ c.is_memory.ensures.1 memory)) in
+    let refused = c.in-Err.ensures.err (λ memory. false≢true (sym c.if-is_memory.false
+    ∙ c.is_memory.ensures.1 memory)) in
     ap (λ (o : Option Data). ok_or o Json >>= script_of) (json_none c.args.text.now refused)

@@ -6,6 +6,14 @@ use Rattle.ent_script_report.proofs.frame.append_faults.Goals as goal
 
 pub returns-in_err-append_fault-clause-full : goal.returns-in_err-append_fault-clause-full
 returns-in_err-append_fault-clause-full c =
-    let fits = part_fits (fault_line c.args.show) c.args.out.now.items c.loop-fault.out.items c.args.faults.now c.loop-fault.fault-index c.fault-item.result c.loop-fault-test.true c.fault-item.is c.loop-fault.invariant.told in
+    let fits = part_fits (fault_line c.args.show) c.args.out.now.items c.loop-fault.out.items
+    c.args.faults.now c.loop-fault.fault-index c.fault-item.result c.loop-fault-test.true
+    c.fault-item.is c.loop-fault.invariant.told in
     let p = err_from_is_err_and c.from_residual.result c.from_residual.ensures.1 in
-    rw p.1 (omega (arith, fits, c.in_err-append_fault.ensures.full, c.loop-fault.out.ok, c.args.out.now.ok))
+    rw p.1 (omega (
+      arith,
+      fits,
+      c.in_err-append_fault.ensures.full,
+      c.loop-fault.out.ok,
+      c.args.out.now.ok,
+    ))

@@ -6,7 +6,8 @@ use Rattle.ent_script_report.proofs.frame.append_faults.Given as goal
 
 abbrev pub invariant-loop-fault : goal.invariant-loop-fault
 invariant-loop-fault l = record {
-  told : l.out.items ++ flat_map (fault_line l.show) (drop l.fault-index l.faults) ≡ l.fn.out.items ++ flat_map (fault_line l.fn.show) l.faults;
+  told : l.out.items ++ flat_map (fault_line l.show) (drop l.fault-index l.faults) ≡ l.fn.out.items
+      ++ flat_map (fault_line l.fn.show) l.faults;
   kept : take (vec_len l.fn.out) l.out.items ≡ l.fn.out.items;
   capacity : vec_capacity l.fn.out ≤ vec_capacity l.out;
 }

@@ -5,6 +5,7 @@ use Rattle.ent_script_report.proofs.world.append_items.Given as goal
 
 abbrev pub invariant-loop-item : goal.invariant-loop-item
 invariant-loop-item l = record {
-  told : l.out.items ++ flat_map (item_text (map string_bytes l.names)) l.item-iterator ≡ l.fn.out.items ++ flat_map (item_text (map string_bytes l.names)) l.fn.items;
+  told : l.out.items ++ flat_map (item_text (map string_bytes l.names)) l.item-iterator
+      ≡ l.fn.out.items ++ flat_map (item_text (map string_bytes l.names)) l.fn.items;
   kept : take (vec_len l.fn.out) l.out.items ≡ l.fn.out.items;
 }

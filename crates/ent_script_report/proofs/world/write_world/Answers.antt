@@ -6,5 +6,7 @@ use Rattle.ent_script_report.proofs.world.write_world.Goals as goal
 pub returns-else-is_err-clause-only : goal.returns-else-is_err-clause-only
 returns-else-is_err-clause-only c =
     on_ok_weaker c.append_world-written.result
-    (λ p text is. p.2 ∙ ap (λ (t : List ℕ). c.args.out.now.items ++ t) (one_text (map string_bytes c.args.names.now) c.args.show c.args.world.now.entities p.0 text p.1 is))
+    (λ p text is. p.2 ∙ ap (λ (t : List ℕ). c.args.out.now.items ++ t)
+    (one_text (map string_bytes c.args.names.now) c.args.show c.args.world.now.entities p.0 text
+    p.1 is))
     c.append_world-written.ensures.ok

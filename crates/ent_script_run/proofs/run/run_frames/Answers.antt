@@ -13,13 +13,18 @@ loop-number-preserved g c =
     let systems = c.index-frames-number.result in
     let report = c.in_ok-report.report in
     let went = c.in_ok-report.ensures.went in
-    let ends : Ends MayIssue systems c.args.workers c.loop-number.world went.0 c.run.new.world report.born.items report.faults.items =
-    subst (λ (ss : List (List Operation)). Ends MayIssue ss c.args.workers c.loop-number.world went.0 c.run.new.world report.born.items report.faults.items) c.systems.ensures went.1 in
+    let ends : Ends MayIssue systems c.args.workers c.loop-number.world went.0 c.run.new.world
+    report.born.items report.faults.items =
+    subst (λ (ss : List (List Operation)). Ends MayIssue ss c.args.workers c.loop-number.world
+    went.0 c.run.new.world report.born.items report.faults.items) c.systems.ensures went.1 in
     record {
       flushed = c.in_ok-report.ensures.flushed;
       run =
-          subst (λ (text : List ℕ). HaveGone (take (i + 1) frames) c.args.workers c.args.show c.args.world.now c.run.new.world text)
+          subst (λ (text : List ℕ). HaveGone (take (i + 1) frames) c.args.workers c.args.show
+          c.args.world.now c.run.new.world text)
           (sym c.in_ok-write_frame.ensures.ok)
-          (has_run c.args.workers c.args.show c.args.world.now c.loop-number.world c.run.new.world frames i systems c.loop-number.text.items went.0
-          report.born.items report.faults.items c.loop-number-test.true c.index-frames-number.is c.loop-number.invariant.run ends);
+          (has_run c.args.workers c.args.show c.args.world.now c.loop-number.world c.run.new.world
+          frames i systems c.loop-number.text.items went.0
+          report.born.items report.faults.items c.loop-number-test.true c.index-frames-number.is
+          c.loop-number.invariant.run ends);
     }

@@ -15,4 +15,5 @@ returns-clause-only g c alone =
 pub returns-clause-given_once : goal.returns-clause-given_once
 returns-clause-given_once g c =
     IfOk-weaker c.report.result _ _ (λ text is executions report wraps.
-    given_once c.args.script.now c.args.workers c.args.show executions text.items c.requires.ranges.limits report wraps) c.report.ensures
+    given_once c.args.script.now c.args.workers c.args.show executions text.items
+    c.requires.ranges.limits report wraps) c.report.ensures

@@ -10,7 +10,10 @@ use Rattle.ent_shared.proofs.shared.end_phase.Goals as goal
 pub merge-requires-clause-word : goal.merge-requires-clause-word
 merge-requires-clause-word c =
     let i = c.loop-reserver.invariant in
-    let own = item_is (λ (r : Reserver). r.word ≡ c.args.word.shared.table_id) c.args.reservers.items c.loop-reserver.yielded c.loop-reserver.reserver-iterator.rest.items c.next.new.self.rest.items c.in-Some.reserver i.all c.in-Some.ensures.steps.0 c.requires.own in
+    let own = item_is (λ (r : Reserver). r.word ≡ c.args.word.shared.table_id)
+    c.args.reservers.items c.loop-reserver.yielded c.loop-reserver.reserver-iterator.rest.items
+    c.next.new.self.rest.items c.in-Some.reserver i.all c.in-Some.ensures.steps.0 c.requires.own
+    in
     (c.requires.word.0, i.seat, ap (λ (r : Reserver). r.word) c.reserver.view_is ∙ own, i.bare)
 
 pub loop-reserver-preserved : goal.loop-reserver-preserved
@@ -18,38 +21,52 @@ loop-reserver-preserved c =
     let i = c.loop-reserver.invariant in
     let view = c.reserver.invariant in
     record {
-      all = items_on c.args.reservers.items c.loop-reserver.yielded c.loop-reserver.reserver-iterator.rest.items c.next.new.self.rest.items c.in-Some.reserver i.all c.in-Some.ensures.steps.0;
+      all = items_on c.args.reservers.items c.loop-reserver.yielded
+          c.loop-reserver.reserver-iterator.rest.items c.next.new.self.rest.items c.in-Some.reserver
+          i.all c.in-Some.ensures.steps.0;
       seat = c.merge.ensures.kept ∙ i.seat;
       bare = c.merge.ensures.merges.0;
       records =
-          records_on c.loop-reserver.all.me.0 c.merge.new.all.me.0 c.loop-reserver.yielded c.in-Some.reserver (own_of c.reserver.inside.badge.views ∷ []) i.records
-          (c.merge.ensures.merges.1 (own_of c.reserver.inside.badge.views ∷ []) view.views_is) (ap (λ (r : Reserver). r.own ∷ []) c.reserver.view_is);
+          records_on c.loop-reserver.all.me.0 c.merge.new.all.me.0 c.loop-reserver.yielded
+          c.in-Some.reserver (own_of c.reserver.inside.badge.views ∷ []) i.records
+          (c.merge.ensures.merges.1 (own_of c.reserver.inside.badge.views ∷ []) view.views_is)
+          (ap (λ (r : Reserver). r.own ∷ []) c.reserver.view_is);
       floor =
           let fits = c.min-floor.type_inv in
           let ranges = c.reserver.ranges in
-          let after : to_z w64 (of_z w64 c.min-floor.result) ≡ c.min-floor.result = omega (arith, ints) in
-          let own : to_z w64 (of_z w64 c.reserver.inside.floor) ≡ c.reserver.inside.floor = omega (arith, ints) in
-          floor_on (to_z w64 (of_z w64 c.args.top)) (to_z w64 c.loop-reserver.floor-bits) (to_z w64 (of_z w64 c.min-floor.result)) (to_z w64 (of_z w64 c.reserver.inside.floor)) c.loop-reserver.yielded c.in-Some.reserver i.floor
+          let after : to_z w64 (of_z w64 c.min-floor.result) ≡ c.min-floor.result =
+          omega (arith, ints) in
+          let own : to_z w64 (of_z w64 c.reserver.inside.floor) ≡ c.reserver.inside.floor =
+          omega (arith, ints) in
+          floor_on (to_z w64 (of_z w64 c.args.top)) (to_z w64 c.loop-reserver.floor-bits)
+          (to_z w64 (of_z w64 c.min-floor.result)) (to_z w64 (of_z w64 c.reserver.inside.floor))
+          c.loop-reserver.yielded c.in-Some.reserver i.floor
           (after ∙ c.min-floor.ensures.value)
           (own ∙ (view.floor_is ∙ ap (λ (r : Reserver). r.own.floor) c.reserver.view_is));
     }
 
 pub close-requires : goal.close-requires
-close-requires c = record { word = (c.requires.word.0, c.requires.word.1, c.loop-reserver.invariant.seat) }
+close-requires c =
+    record { word = (c.requires.word.0, c.requires.word.1, c.loop-reserver.invariant.seat) }
 
 -- all that were handed in were taken in
 all_in : (c : goal.After-close) → c.loop-reserver.yielded ≡ c.args.reservers.items
 all_in c =
     let ok = c.loop-reserver.reserver-iterator.rest.ok in
-    items_all c.args.reservers.items c.loop-reserver.yielded c.loop-reserver.reserver-iterator.rest.items c.loop-reserver.invariant.all (nothing_left c.loop-reserver.reserver-iterator.rest.items (sym ok.0 ∙ c.in-None.ensures.steps.0))
+    items_all c.args.reservers.items c.loop-reserver.yielded
+    c.loop-reserver.reserver-iterator.rest.items c.loop-reserver.invariant.all
+    (nothing_left c.loop-reserver.reserver-iterator.rest.items (sym ok.0
+    ∙ c.in-None.ensures.steps.0))
 
 pub returns-clause-cursor : goal.returns-clause-cursor
 returns-clause-cursor c =
     let i = c.loop-reserver.invariant in
-    let records : c.loop-reserver.all.me.0 ≡ records_of c.args.reservers.items = i.records ∙ ap records_of (all_in c) in
+    let records : c.loop-reserver.all.me.0 ≡ records_of c.args.reservers.items = i.records
+    ∙ ap records_of (all_in c) in
     let fits = c.close.type_inv in
     let at : to_z w64 (of_z w64 c.close.result) ≡ c.close.result = omega (arith, ints) in
-    rw at (subst (λ (rs : List Record). IsClosed c.args.word.shared.key.entities c.args.word.shared.key.count rs c.close.result) records c.close.ensures)
+    rw at (subst (λ (rs : List Record). IsClosed c.args.word.shared.key.entities
+    c.args.word.shared.key.count rs c.close.result) records c.close.ensures)
 
 pub returns-clause-floor : goal.returns-clause-floor
 returns-clause-floor c =

@@ -8,12 +8,14 @@ use Rattle.ent_shared.proofs.word.close.Goals as goal
 least : (c : goal.After-free) → offset ≤ c.word-last.result + 2 ^ 50
 least c =
     let f = c.close_with-closed.ensures.values.2 in
-    subst (λ w. offset ≤ w + 2 ^ 50) (last_word _ _ f.0 f.1.0 _ c.word-last.result f.2 c.word-last.ensures) (word_least _ _ f.0 f.1.0)
+    subst (λ w. offset ≤ w + 2 ^ 50) (last_word _ _ f.0 f.1.0 _ c.word-last.result f.2
+    c.word-last.ensures) (word_least _ _ f.0 f.1.0)
 
 greatest : (c : goal.After-free) → c.word-last.result < offset + 2 ^ 32
 greatest c =
     let f = c.close_with-closed.ensures.values.2 in
-    subst (λ w. w < offset + 2 ^ 32) (last_word _ _ f.0 f.1.0 _ c.word-last.result f.2 c.word-last.ensures) (word_greatest _ _ f.0 f.1.0)
+    subst (λ w. w < offset + 2 ^ 32) (last_word _ _ f.0 f.1.0 _ c.word-last.result f.2
+    c.word-last.ensures) (word_greatest _ _ f.0 f.1.0)
 
 pub overflow_cast-result : goal.overflow_cast-result
 overflow_cast-result c = word_fits c.word-last.result (greatest c)
@@ -25,4 +27,5 @@ pub returns : goal.returns
 returns c =
     let f = c.close_with-closed.ensures.values.2 in
     rw (cursor_is c.word-last.result (least c) (greatest c))
-    (ends _ _ f.0 f.1.0 c.args.all.id c.args.all.me.0 f.1.1 (cursor_of c.word-last.result) (ap cursor_of (last_word _ _ f.0 f.1.0 _ c.word-last.result f.2 c.word-last.ensures)))
+    (ends _ _ f.0 f.1.0 c.args.all.id c.args.all.me.0 f.1.1 (cursor_of c.word-last.result)
+    (ap cursor_of (last_word _ _ f.0 f.1.0 _ c.word-last.result f.2 c.word-last.ensures)))

@@ -17,17 +17,22 @@ pub fetch_sub-found-requires : goal.fetch_sub-found-requires
 fetch_sub-found-requires c = (
   search rules,
   search rules,
-  reserves_at _ _ _ _ c.into_seat-seat.result.me (own_of c.args.badge.now.views) c.args.n c.into.result (seat c) c.into_seat-seat.ensures.3 c.into.ensures c.requires.some c.requires.credit,
+  reserves_at _ _ _ _ c.into_seat-seat.result.me (own_of c.args.badge.now.views) c.args.n
+      c.into.result (seat c) c.into_seat-seat.ensures.3 c.into.ensures c.requires.some
+      c.requires.credit,
 )
 
 -- what the step tells
-told : (c : goal.After-drop-badge) → AfterReserve c.args.n (own_of c.args.badge.now.views) c.fetch_sub-found.result c.fetch_sub-found.new.seat.me.0
+told : (c : goal.After-drop-badge) → AfterReserve c.args.n (own_of c.args.badge.now.views)
+    c.fetch_sub-found.result c.fetch_sub-found.new.seat.me.0
 told c =
     let e = c.into_seat-seat.ensures.2 in
     let same = c.replace.ensures.value in
     let alone = c.requires.alone in
     let n = c.into.ensures in
-    subst (λ k. AfterReserve k (own_of c.args.badge.now.views) c.fetch_sub-found.result c.fetch_sub-found.new.seat.me.0) n (c.fetch_sub-found.ensures.2.1 (own_of c.args.badge.now.views) cc)
+    subst (λ k. AfterReserve k (own_of c.args.badge.now.views) c.fetch_sub-found.result
+    c.fetch_sub-found.new.seat.me.0) n
+    (c.fetch_sub-found.ensures.2.1 (own_of c.args.badge.now.views) cc)
 
 pub overflow_cast-result : goal.overflow_cast-result
 overflow_cast-result c = word_fits c.fetch_sub-found.result (told c).greatest

@@ -11,14 +11,24 @@ use Rattle.ent_storage.proofs.columns.reserve_all.Goals as goal
 -- the item for which memory was refused is missing
 pub returns-in_err-reserve-clause-growing : goal.returns-in_err-reserve-clause-growing
 returns-in_err-reserve-clause-growing c =
-    let item : ComponentId × ℤ = get_or c.args.items.now c.loop-item.item-index (record { 0 = 0 }, pos 0) in
-    let same = ap (λ (m : Values). map.get m c.args.place) (c.loop-item.invariant.values item.0.0) in
-    let none = get_components c.args.columns.now.items c.args.place item.0 ∙ sym same ∙ c.in_err-reserve.ensures.growing in
-    on_err _ (missing_at (components_at c.args.columns.now.items c.args.place) c.args.items.now c.loop-item.item-index (record { 0 = 0 }, pos 0) (omega arith) none)
+    let item : ComponentId × ℤ = get_or c.args.items.now c.loop-item.item-index
+    (record { 0 = 0 }, pos 0) in
+    let same = ap (λ (m : Values). map.get m c.args.place) (c.loop-item.invariant.values item.0.0)
+    in
+    let none = get_components c.args.columns.now.items c.args.place item.0 ∙ sym same
+    ∙ c.in_err-reserve.ensures.growing in
+    on_err _ (missing_at (components_at c.args.columns.now.items c.args.place) c.args.items.now
+    c.loop-item.item-index (record { 0 = 0 }, pos 0) (omega arith) none)
 
 pub loop-item-preserved : goal.loop-item-preserved
 loop-item-preserved c = record {
   values = λ n. c.reserve.ensures.values n ∙ c.loop-item.invariant.values n;
-  room = λ k d l. below_more (λ k. (d : ComponentId × ℤ) → HasRoomAt (column_at c.reserve.new.columns.items (get_or c.args.items.now k d).0.0) c.args.place) _ (λ k l d. c.reserve.ensures.kept _ (c.loop-item.invariant.room k d l)) (λ d. subst (λ (item : ComponentId × ℤ). HasRoomAt (column_at c.reserve.new.columns.items item.0.0) c.args.place) (get_or_default c.args.items.now c.loop-item.item-index (record { 0 = 0 }, pos 0) d (omega arith)) c.in_ok-reserve.ensures.ok) k l d;
+  room = λ k d l. below_more (λ k. (d : ComponentId × ℤ)
+      → HasRoomAt (column_at c.reserve.new.columns.items (get_or c.args.items.now k d).0.0)
+      c.args.place) _ (λ k l d. c.reserve.ensures.kept _ (c.loop-item.invariant.room k d l))
+      (λ d. subst (λ (item : ComponentId × ℤ).
+      HasRoomAt (column_at c.reserve.new.columns.items item.0.0) c.args.place)
+      (get_or_default c.args.items.now c.loop-item.item-index (record { 0 = 0 }, pos 0) d
+      (omega arith)) c.in_ok-reserve.ensures.ok) k l d;
   numbered = c.reserve.ensures.numbered;
 }

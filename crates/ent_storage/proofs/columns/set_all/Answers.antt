@@ -15,9 +15,14 @@ loop-item-preserved c =
     let old = c.loop-item.columns in
     let new = c.set.new.columns in
     let below : i < length items = omega arith in
-    let set_here = components_insert old new c.args.place item.0 c.set.ensures.others item.1 c.set.ensures.set in
+    let set_here = components_insert old new c.args.place item.0 c.set.ensures.others item.1
+    c.set.ensures.set in
     record {
-      here = ap (λ (m : Components). with_items m (drop (i + 1) items)) set_here ∙ sym (at_drop_more (with_items (components_at old c.args.place)) items i none below) ∙ c.loop-item.invariant.here;
-      others = λ other id far. insert_others old new c.args.place item.0 c.set.ensures.others item.1 c.set.ensures.set other id far ∙ c.loop-item.invariant.others other id far;
-      room = λ k d l. insert_room old new c.args.place item.0 c.set.ensures.others item.1 c.set.ensures.set (get_or items k d).0.0 (c.loop-item.invariant.room k d l);
+      here = ap (λ (m : Components). with_items m (drop (i + 1) items)) set_here
+          ∙ sym (at_drop_more (with_items (components_at old c.args.place)) items i none below)
+          ∙ c.loop-item.invariant.here;
+      others = λ other id far. insert_others old new c.args.place item.0 c.set.ensures.others item.1
+          c.set.ensures.set other id far ∙ c.loop-item.invariant.others other id far;
+      room = λ k d l. insert_room old new c.args.place item.0 c.set.ensures.others item.1
+          c.set.ensures.set (get_or items k d).0.0 (c.loop-item.invariant.room k d l);
     }

@@ -7,7 +7,8 @@ use Rattle.ent_storage.proofs.Overwritten.{is_sorted-filter}
 use Rattle.ent_storage.proofs.index.sweep.Goals as goal
 
 -- what is left are the pairs that count
-left : (c : goal.After-retain) → c.retain.new.self.items ≡ filter (counts c.args.living.now.entities) c.args.pairs.now.items
+left : (c : goal.After-retain) → c.retain.new.self.items
+    ≡ filter (counts c.args.living.now.entities) c.args.pairs.now.items
 left c = filter_same _ _ _ (λ x b f' k. search rules) _ _ c.retain.ensures.filtered
 
 pub returns-clause-sorted : goal.returns-clause-sorted

@@ -10,14 +10,20 @@ use Rattle.ent_storage.proofs.living.has_handle_at.Goals as goal
 pub returns-in-Some : goal.returns-in-Some
 returns-in-Some c =
     let look = rw c.deref.ensures.value at c.in-Some.ensures.lookup in
-    let at = slice_get-get_or c.living.inside.residents.items c.args.place c.in-Some.entity.now look.3.0 ∙ ap Some (sym (look.3.1 c.in-Some.entity.now)) in
-    let tests : c.eq.result ≡ eq_by_cmp handle_cmp c.in-Some.entity.now.handle c.args.handle = search rules in
+    let at = slice_get-get_or c.living.inside.residents.items c.args.place c.in-Some.entity.now
+    look.3.0 ∙ ap Some (sym (look.3.1 c.in-Some.entity.now)) in
+    let tests : c.eq.result ≡ eq_by_cmp handle_cmp c.in-Some.entity.now.handle c.args.handle =
+    search rules in
     tests
-    ∙ sym (test_at c.living.inside.residents.items c.living.inside.columns.items c.args.place c.in-Some.entity.now c.args.handle at)
-    ∙ ap (λ (l : Living). has_handle_at l.entities c.args.handle (Some c.args.place)) c.living.view_is
+    ∙ sym (test_at c.living.inside.residents.items c.living.inside.columns.items c.args.place
+    c.in-Some.entity.now c.args.handle at)
+    ∙ ap (λ (l : Living). has_handle_at l.entities c.args.handle (Some c.args.place))
+    c.living.view_is
 
 pub returns-in-None : goal.returns-in-None
 returns-in-None c =
     let look = rw c.deref.ensures.value at c.in-None.ensures.lookup in
-    sym (test_past c.living.inside.residents.items c.living.inside.columns.items c.args.place c.args.handle look.3)
-    ∙ ap (λ (l : Living). has_handle_at l.entities c.args.handle (Some c.args.place)) c.living.view_is
+    sym (test_past c.living.inside.residents.items c.living.inside.columns.items c.args.place
+    c.args.handle look.3)
+    ∙ ap (λ (l : Living). has_handle_at l.entities c.args.handle (Some c.args.place))
+    c.living.view_is

@@ -7,5 +7,6 @@ use Rattle.ent_world.proofs.births.enter_others.Given as goal
 abbrev pub invariant-loop-handle : goal.invariant-loop-handle
 invariant-loop-handle l = record {
   room : HasRoomForBorn l.entities l.storage;
-  entered : entered_others l.entities l.birth (drop l.handle-index l.handles) l.storage.entities ≡ entered_others l.entities (first_birth l.phase no_system) l.handles l.fn.storage.entities;
+  entered : entered_others l.entities l.birth (drop l.handle-index l.handles) l.storage.entities
+      ≡ entered_others l.entities (first_birth l.phase no_system) l.handles l.fn.storage.entities;
 }

@@ -18,7 +18,9 @@ loop-entry-preserved c =
       room = done.room;
       entered = rw (done.entered, done.next) (
           sym (entered-append s c.loop-entry.birth (listed_by command) (handles_listed rest) m)
-          ∙ ap (λ hs. entered_handles s c.loop-entry.birth hs m) (sym (flat_map-cons listed_by command rest))
-          ∙ ap (λ q. entered_handles s c.loop-entry.birth (handles_listed q) m) (sym c.in-Some.ensures.steps)
+          ∙ ap (λ hs. entered_handles s c.loop-entry.birth hs m)
+          (sym (flat_map-cons listed_by command rest))
+          ∙ ap (λ q. entered_handles s c.loop-entry.birth (handles_listed q) m)
+          (sym c.in-Some.ensures.steps)
           ∙ c.loop-entry.invariant.entered);
     }

@@ -11,7 +11,8 @@ returns-in_default-clause-space c =
     let span = c.new.result in
     let high = ap (λ p. p.high) c.new.ensures.value in
     let low = ap (λ p. p.low) c.new.ensures.value in
-    let at : span.high ≡ cursor s = omega (arith, ints, high, c.cursor.ensures.value, c.if-cursor-top.false) in
+    let at : span.high ≡ cursor s =
+    omega (arith, ints, high, c.cursor.ensures.value, c.if-cursor-top.false) in
     let one : span.low ≡ span.high -ℤ pos 1 = omega (arith, ints, high, low) in
     let reply = reply_at_top s span c.reply.result c.cursor.ensures.sound at one c.reply.ensures in
     let none : s.asked ≡ 0 = omega (arith, ints, high, c.top.ensures, c.from-top.ensures, at) in
@@ -23,7 +24,8 @@ unreachable-requires c =
     let span = c.new.result in
     let high = ap (λ p. p.high) c.new.ensures.value in
     let low = ap (λ p. p.low) c.new.ensures.value in
-    let at : span.high ≡ cursor s = omega (arith, ints, high, c.cursor.ensures.value, c.if-cursor-top.false) in
+    let at : span.high ≡ cursor s =
+    omega (arith, ints, high, c.cursor.ensures.value, c.if-cursor-top.false) in
     let one : span.low ≡ span.high -ℤ pos 1 = omega (arith, ints, high, low) in
     let reply = reply_at_top s span c.reply.result c.cursor.ensures.sound at one c.reply.ensures in
     some_given s c.in-Ok.given (sym reply ∙ c.in-Ok.is) (c.in_default-next.ensures.steps).0
@@ -34,10 +36,12 @@ returns-clause-front c =
     let span = c.new.result in
     let high = ap (λ p. p.high) c.new.ensures.value in
     let low = ap (λ p. p.low) c.new.ensures.value in
-    let at : span.high ≡ cursor s = omega (arith, ints, high, c.cursor.ensures.value, c.if-cursor-top.false) in
+    let at : span.high ≡ cursor s =
+    omega (arith, ints, high, c.cursor.ensures.value, c.if-cursor-top.false) in
     let one : span.low ≡ span.high -ℤ pos 1 = omega (arith, ints, high, low) in
     let reply = reply_at_top s span c.reply.result c.cursor.ensures.sound at one c.reply.ensures in
-    one_given s c.in-Ok.given c.next.new.self c.in-Some.handle (sym reply ∙ c.in-Ok.is) c.in-Some.ensures.steps
+    one_given s c.in-Ok.given c.next.new.self c.in-Some.handle (sym reply ∙ c.in-Ok.is)
+    c.in-Some.ensures.steps
 
 pub returns-clause-new : goal.returns-clause-new
 returns-clause-new c =
@@ -45,10 +49,12 @@ returns-clause-new c =
     let span = c.new.result in
     let high = ap (λ p. p.high) c.new.ensures.value in
     let low = ap (λ p. p.low) c.new.ensures.value in
-    let at : span.high ≡ cursor s = omega (arith, ints, high, c.cursor.ensures.value, c.if-cursor-top.false) in
+    let at : span.high ≡ cursor s =
+    omega (arith, ints, high, c.cursor.ensures.value, c.if-cursor-top.false) in
     let one : span.low ≡ span.high -ℤ pos 1 = omega (arith, ints, high, low) in
     let reply = reply_at_top s span c.reply.result c.cursor.ensures.sound at one c.reply.ensures in
-    given_new s c.in-Ok.given c.next.new.self c.in-Some.handle c.cursor.ensures.sound (sym reply ∙ c.in-Ok.is) c.in-Some.ensures.steps
+    given_new s c.in-Ok.given c.next.new.self c.in-Some.handle c.cursor.ensures.sound (sym reply
+    ∙ c.in-Ok.is) c.in-Some.ensures.steps
 
 pub returns-clause-space : goal.returns-clause-space
 returns-clause-space c =
@@ -56,7 +62,8 @@ returns-clause-space c =
     let span = c.new.result in
     let high = ap (λ p. p.high) c.new.ensures.value in
     let low = ap (λ p. p.low) c.new.ensures.value in
-    let at : span.high ≡ cursor s = omega (arith, ints, high, c.cursor.ensures.value, c.if-cursor-top.false) in
+    let at : span.high ≡ cursor s =
+    omega (arith, ints, high, c.cursor.ensures.value, c.if-cursor-top.false) in
     let one : span.low ≡ span.high -ℤ pos 1 = omega (arith, ints, high, low) in
     let reply = reply_at_top s span c.reply.result c.cursor.ensures.sound at one c.reply.ensures in
     (λ e. cc, λ (flushed, none). absurd (pool_some s c.in-Ok.given (sym reply ∙ c.in-Ok.is) none))

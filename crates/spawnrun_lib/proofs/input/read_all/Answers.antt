@@ -12,7 +12,8 @@ returns-then-count-room-clause-stops g c = λ _. (
 )
 
 pub returns-then-count-room-clause-at_most : goal.returns-then-count-room-clause-at_most
-returns-then-count-room-clause-at_most g c = λ _. TakesAtMost-Takes _ _ _ (returns-then-count-room-clause-stops g c refl)
+returns-then-count-room-clause-at_most g c = λ _. TakesAtMost-Takes _ _ _
+    (returns-then-count-room-clause-stops g c refl)
 
 pub returns-in_err-extend_from_slice-clause-at_most : goal.returns-in_err-extend_from_slice-clause-at_most
 returns-in_err-extend_from_slice-clause-at_most g c = λ _. (

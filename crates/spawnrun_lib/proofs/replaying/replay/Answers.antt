@@ -16,47 +16,70 @@ pub returns-in-Ok-read_schedule-clause-done : goal.returns-in-Ok-read_schedule-c
 returns-in-Ok-read_schedule-clause-done g c =
     let input = g.I.Source.remaining c.args.input.now in
     let events = c.in-Ok-read_schedule.events.items in
-    let fits : length c.in-Ok.bytes.items ≤ input_limit = omega (arith, c.in-Ok.bytes.ok.0, c.in-Ok.ensures.within) in
-    let spelled : schedule_of c.in-Ok.bytes.items ≡ Ok events = ap schedule_of (sym c.deref.ensures.value) ∙ c.in-Ok-read_schedule.ensures.exact in
-    reported _ (λ bytes text. ReplayEnds c.args.limits bytes Done text) input Done c.write.result c.outcome_text.result (outcome_lines (outcomes_of (starting c.args.limits) events)) _ _ (λ e. cc)
+    let fits : length c.in-Ok.bytes.items ≤ input_limit =
+    omega (arith, c.in-Ok.bytes.ok.0, c.in-Ok.ensures.within) in
+    let spelled : schedule_of c.in-Ok.bytes.items ≡ Ok events =
+    ap schedule_of (sym c.deref.ensures.value) ∙ c.in-Ok-read_schedule.ensures.exact in
+    reported _ (λ bytes text. ReplayEnds c.args.limits bytes Done text) input Done c.write.result
+    c.outcome_text.result (outcome_lines (outcomes_of (starting c.args.limits) events)) _ _
+    (λ e. cc)
     (λ bytes told. let same = told_is input c.in-Ok.bytes.items bytes c.in-Ok.ensures.whole told in
-    runs events (subst (λ known. length known ≤ input_limit) same fits) (subst (λ known. schedule_of known ≡ Ok events) same spelled))
-    (rw c.deref-in-Ok-read_schedule.ensures.value at c.outcome_text.ensures) c.write.ensures.written c.write.ensures.memory
+    runs events (subst (λ known. length known ≤ input_limit) same fits)
+    (subst (λ known. schedule_of known ≡ Ok events) same spelled))
+    (rw c.deref-in-Ok-read_schedule.ensures.value at c.outcome_text.ensures) c.write.ensures.written
+    c.write.ensures.memory
 
 pub returns-in-Err-Line-clause-refused : goal.returns-in-Err-Line-clause-refused
 returns-in-Err-Line-clause-refused g c =
     let input = g.I.Source.remaining c.args.input.now in
     let line = c.in-Err-Line.line in
     let cause = c.in-Err-Line.cause in
-    let fits : length c.in-Ok.bytes.items ≤ input_limit = omega (arith, c.in-Ok.bytes.ok.0, c.in-Ok.ensures.within) in
+    let fits : length c.in-Ok.bytes.items ≤ input_limit =
+    omega (arith, c.in-Ok.bytes.ok.0, c.in-Ok.ensures.within) in
     let refused = rw c.in-Err-Line.field-0-is at c.in-Err-Line.ensures.exact in
-    let spelled : schedule_of c.in-Ok.bytes.items ≡ Err (Line line cause) = ap schedule_of (sym c.deref.ensures.value) ∙ refused in
-    reported _ (λ bytes text. ReplayEnds c.args.limits bytes Refused text) input Refused c.refuse.result c.refused_line-text.result (refused_line line cause) _ _ (λ e. cc)
+    let spelled : schedule_of c.in-Ok.bytes.items ≡ Err (Line line cause) =
+    ap schedule_of (sym c.deref.ensures.value) ∙ refused in
+    reported _ (λ bytes text. ReplayEnds c.args.limits bytes Refused text) input Refused
+    c.refuse.result c.refused_line-text.result (refused_line line cause) _ _ (λ e. cc)
     (λ bytes told. let same = told_is input c.in-Ok.bytes.items bytes c.in-Ok.ensures.whole told in
-    spells_none line cause (subst (λ known. length known ≤ input_limit) same fits) (subst (λ known. schedule_of known ≡ Err (Line line cause)) same spelled))
-    (rw (c.in-Err-Line.line-is, c.in-Err-Line.cause-is) at c.refused_line-text.ensures) c.refuse.ensures.written c.refuse.ensures.memory
+    spells_none line cause (subst (λ known. length known ≤ input_limit) same fits)
+    (subst (λ known. schedule_of known ≡ Err (Line line cause)) same spelled))
+    (rw (c.in-Err-Line.line-is, c.in-Err-Line.cause-is) at c.refused_line-text.ensures)
+    c.refuse.ensures.written c.refuse.ensures.memory
 
 pub returns-in-Err-TooLong-clause-refused : goal.returns-in-Err-TooLong-clause-refused
 returns-in-Err-TooLong-clause-refused g c =
-    reported _ (λ bytes text. ReplayEnds c.args.limits bytes Refused text) (g.I.Source.remaining c.args.input.now) Refused c.refuse-in-Err-TooLong.result c.size_line.result
+    reported _ (λ bytes text. ReplayEnds c.args.limits bytes Refused text)
+    (g.I.Source.remaining c.args.input.now) Refused c.refuse-in-Err-TooLong.result
+    c.size_line.result
     size_line _ _ (λ e. cc)
-    (λ bytes told. is_too_long (is_longer _ input_limit bytes (c.in-Err-TooLong.ensures.too_long (ap (λ (fault : InputFault). Err fault) c.in-Err-TooLong.field-0-is)) told)) c.size_line.ensures c.refuse-in-Err-TooLong.ensures.written c.refuse-in-Err-TooLong.ensures.memory
+    (λ bytes told.
+    is_too_long (is_longer _ input_limit bytes (c.in-Err-TooLong.ensures.too_long
+    (ap (λ (fault : InputFault). Err fault) c.in-Err-TooLong.field-0-is)) told))
+    c.size_line.ensures c.refuse-in-Err-TooLong.ensures.written
+    c.refuse-in-Err-TooLong.ensures.memory
 
 pub returns-in-Err-Line-clause-advised : goal.returns-in-Err-Line-clause-advised
 returns-in-Err-Line-clause-advised g c = λ refused same.
     let input = g.I.Source.remaining c.args.input.now in
     let line = c.in-Err-Line.line in
     let cause = c.in-Err-Line.cause in
-    let fits : length c.in-Ok.bytes.items ≤ input_limit = omega (arith, c.in-Ok.bytes.ok.0, c.in-Ok.ensures.within) in
+    let fits : length c.in-Ok.bytes.items ≤ input_limit =
+    omega (arith, c.in-Ok.bytes.ok.0, c.in-Ok.ensures.within) in
     let fault = rw c.in-Err-Line.field-0-is at c.in-Err-Line.ensures.exact in
-    let spelled : schedule_of c.in-Ok.bytes.items ≡ Err (Line line cause) = ap schedule_of (sym c.deref.ensures.value) ∙ fault in
+    let spelled : schedule_of c.in-Ok.bytes.items ≡ Err (Line line cause) =
+    ap schedule_of (sym c.deref.ensures.value) ∙ fault in
     advised AdvisesOnSchedule input _ _ _
     (λ bytes told. let is = told_is input c.in-Ok.bytes.items bytes c.in-Ok.ensures.whole told in
-    schedule_none line cause _ (subst (λ known. length known ≤ input_limit) is fits) (subst (λ known. schedule_of known ≡ Err (Line line cause)) is spelled))
+    schedule_none line cause _ (subst (λ known. length known ≤ input_limit) is fits)
+    (subst (λ known. schedule_of known ≡ Err (Line line cause)) is spelled))
     (rw (c.line_wants.ensures, c.in-Err-Line.cause-is) at c.refuse.ensures.advised refused same)
 
 pub returns-in-Err-TooLong-clause-advised : goal.returns-in-Err-TooLong-clause-advised
 returns-in-Err-TooLong-clause-advised g c = λ refused same.
     advised AdvisesOnSchedule (g.I.Source.remaining c.args.input.now) _ _ _
-    (λ bytes told. schedule_long (is_longer _ input_limit bytes (c.in-Err-TooLong.ensures.too_long (ap (λ (fault : InputFault). Err fault) c.in-Err-TooLong.field-0-is)) told))
+    (λ bytes told.
+    schedule_long
+    (is_longer _ input_limit bytes (c.in-Err-TooLong.ensures.too_long
+    (ap (λ (fault : InputFault). Err fault) c.in-Err-TooLong.field-0-is)) told))
     (rw c.size_wants.ensures at c.refuse-in-Err-TooLong.ensures.advised refused same)

@@ -15,39 +15,55 @@ pub returns-in-Ok-read_script-clause-done : goal.returns-in-Ok-read_script-claus
 returns-in-Ok-read_script-clause-done g c =
     let input = g.I.Source.remaining c.args.input.now in
     let script = c.in-Ok-read_script.script in
-    let fits : length c.in-Ok.bytes.items ≤ input_limit = omega (arith, c.in-Ok.bytes.ok.0, c.in-Ok.ensures.within) in
-    let means : script_of_text c.in-Ok.bytes.items ≡ Ok script = ap script_of_text (sym c.deref.ensures.value) ∙ c.in-Ok-read_script.ensures.exact in
-    written _ (λ bytes text. RunEnds c.args.workers c.args.show bytes Done text) (IsScriptReport script c.args.workers c.args.show) input Done c.write.result c.run_script-report.result
+    let fits : length c.in-Ok.bytes.items ≤ input_limit =
+    omega (arith, c.in-Ok.bytes.ok.0, c.in-Ok.ensures.within) in
+    let means : script_of_text c.in-Ok.bytes.items ≡ Ok script = ap script_of_text
+    (sym c.deref.ensures.value) ∙ c.in-Ok-read_script.ensures.exact in
+    written _ (λ bytes text. RunEnds c.args.workers c.args.show bytes Done text)
+    (IsScriptReport script c.args.workers c.args.show) input Done c.write.result
+    c.run_script-report.result
     _ _ (λ e. cc)
-    (λ bytes lines told output. let same = told_is input c.in-Ok.bytes.items bytes c.in-Ok.ensures.whole told in
-    runs script lines (subst (λ known. length known ≤ input_limit) same fits) (subst (λ known. script_of_text known ≡ Ok script) same means) output)
-    (made script c.args.workers c.args.show c.run_script-report.result c.run_script-report.ensures.report c.run_script-report.ensures.only c.run_script-report.ensures.given_once)
+    (λ bytes lines told output. let same = told_is input c.in-Ok.bytes.items bytes
+    c.in-Ok.ensures.whole told in
+    runs script lines (subst (λ known. length known ≤ input_limit) same fits)
+    (subst (λ known. script_of_text known ≡ Ok script) same means) output)
+    (made script c.args.workers c.args.show c.run_script-report.result
+    c.run_script-report.ensures.report c.run_script-report.ensures.only
+    c.run_script-report.ensures.given_once)
     c.write.ensures.written c.write.ensures.memory
 
 pub returns-in-Ok-clause-refused : goal.returns-in-Ok-clause-refused
 returns-in-Ok-clause-refused g c =
     let input = g.I.Source.remaining c.args.input.now in
     let fault = c.in-Err.fault in
-    let fits : length c.in-Ok.bytes.items ≤ input_limit = omega (arith, c.in-Ok.bytes.ok.0, c.in-Ok.ensures.within) in
+    let fits : length c.in-Ok.bytes.items ≤ input_limit =
+    omega (arith, c.in-Ok.bytes.ok.0, c.in-Ok.ensures.within) in
     let read : ReadsAs (Err fault) (script_of_text c.in-Ok.bytes.items) =
-    subst (λ known. ReadsAs (Err fault) (script_of_text known)) c.deref.ensures.value c.in-Err.ensures.exact in
-    written _ (λ bytes text. RunEnds c.args.workers c.args.show bytes Refused text) (IsRefusal fault) input Refused c.refuse.result c.refusal_line-line.result
+    subst (λ known. ReadsAs (Err fault) (script_of_text known)) c.deref.ensures.value
+    c.in-Err.ensures.exact in
+    written _ (λ bytes text. RunEnds c.args.workers c.args.show bytes Refused text)
+    (IsRefusal fault) input Refused c.refuse.result c.refusal_line-line.result
     _ _ (λ e. cc)
-    (λ bytes lines told line. let same = told_is input c.in-Ok.bytes.items bytes c.in-Ok.ensures.whole told in
+    (λ bytes lines told line. let same = told_is input c.in-Ok.bytes.items bytes
+    c.in-Ok.ensures.whole told in
     subst (RunEnds c.args.workers c.args.show bytes Refused) (sym line.1)
     (means_none fault (subst (λ known. length known ≤ input_limit) same fits)
     (subst (λ known. script_of_text known ≡ Err fault) same (fault_read fault _ line.0 read))))
-    (refusal fault c.refusal_line-line.result c.refusal_line-line.ensures.refused c.refusal_line-line.ensures.line)
+    (refusal fault c.refusal_line-line.result c.refusal_line-line.ensures.refused
+    c.refusal_line-line.ensures.line)
     c.refuse.ensures.written c.refuse.ensures.memory
 
 pub returns-in-Ok-clause-advised : goal.returns-in-Ok-clause-advised
 returns-in-Ok-clause-advised g c = λ refused same.
     let input = g.I.Source.remaining c.args.input.now in
     let fault = c.in-Err.fault in
-    let fits : length c.in-Ok.bytes.items ≤ input_limit = omega (arith, c.in-Ok.bytes.ok.0, c.in-Ok.ensures.within) in
+    let fits : length c.in-Ok.bytes.items ≤ input_limit =
+    omega (arith, c.in-Ok.bytes.ok.0, c.in-Ok.ensures.within) in
     let read : ReadsAs (Err fault) (script_of_text c.in-Ok.bytes.items) =
-    subst (λ known. ReadsAs (Err fault) (script_of_text known)) c.deref.ensures.value c.in-Err.ensures.exact in
-    let other = had_memory _ _ Refused c.refuse.result c.refusal_line-line.result (λ e. cc) c.refusal_line-line.ensures.refused c.refuse.ensures.memory refused in
+    subst (λ known. ReadsAs (Err fault) (script_of_text known)) c.deref.ensures.value
+    c.in-Err.ensures.exact in
+    let other = had_memory _ _ Refused c.refuse.result c.refusal_line-line.result (λ e. cc)
+    c.refusal_line-line.ensures.refused c.refuse.ensures.memory refused in
     advised AdvisesOnScript input _ _ _
     (λ bytes told. let is = told_is input c.in-Ok.bytes.items bytes c.in-Ok.ensures.whole told in
     script_none fault _ (subst (λ known. length known ≤ input_limit) is fits)
@@ -56,13 +72,20 @@ returns-in-Ok-clause-advised g c = λ refused same.
 
 pub returns-in-Err-TooLong-clause-refused : goal.returns-in-Err-TooLong-clause-refused
 returns-in-Err-TooLong-clause-refused g c =
-    reported _ (λ bytes text. RunEnds c.args.workers c.args.show bytes Refused text) (g.I.Source.remaining c.args.input.now) Refused c.refuse-in-Err-TooLong.result c.size_line.result
+    reported _ (λ bytes text. RunEnds c.args.workers c.args.show bytes Refused text)
+    (g.I.Source.remaining c.args.input.now) Refused c.refuse-in-Err-TooLong.result
+    c.size_line.result
     size_line _ _ (λ e. cc)
-    (λ bytes told. is_too_long (is_longer _ input_limit bytes (c.in-Err-TooLong.ensures.too_long (ap (λ (fault : InputFault). Err fault) c.in-Err-TooLong.field-0-is)) told))
-    c.size_line.ensures c.refuse-in-Err-TooLong.ensures.written c.refuse-in-Err-TooLong.ensures.memory
+    (λ bytes told.
+    is_too_long (is_longer _ input_limit bytes (c.in-Err-TooLong.ensures.too_long
+    (ap (λ (fault : InputFault). Err fault) c.in-Err-TooLong.field-0-is)) told))
+    c.size_line.ensures c.refuse-in-Err-TooLong.ensures.written
+    c.refuse-in-Err-TooLong.ensures.memory
 
 pub returns-in-Err-TooLong-clause-advised : goal.returns-in-Err-TooLong-clause-advised
 returns-in-Err-TooLong-clause-advised g c = λ refused same.
     advised AdvisesOnScript (g.I.Source.remaining c.args.input.now) _ _ _
-    (λ bytes told. script_long (is_longer _ input_limit bytes (c.in-Err-TooLong.ensures.too_long (ap (λ (fault : InputFault). Err fault) c.in-Err-TooLong.field-0-is)) told))
+    (λ bytes told.
+    script_long (is_longer _ input_limit bytes (c.in-Err-TooLong.ensures.too_long
+    (ap (λ (fault : InputFault). Err fault) c.in-Err-TooLong.field-0-is)) told))
     (rw c.size_wants.ensures at c.refuse-in-Err-TooLong.ensures.advised refused same)

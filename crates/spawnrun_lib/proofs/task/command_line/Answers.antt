@@ -11,7 +11,8 @@ pub returns-in_err-matches-clause-refused : goal.returns-in_err-matches-clause-r
 returns-in_err-matches-clause-refused g c =
     let words : List (List ℕ) = map g.S.AsStr.text c.args.words.now in
     let is = IsProgram-names _ _ c.in_ok-program.ensures refl in
-    only_memory _ _ (takes program words ≡ true) c.from_residual-in_err-matches.ensures.1 (λ yes. c.in_err-matches.ensures.passes (is.taken words yes))
+    only_memory _ _ (takes program words ≡ true) c.from_residual-in_err-matches.ensures.1
+    (λ yes. c.in_err-matches.ensures.passes (is.taken words yes))
 
 pub returns-in_err-matches-clause-fault : goal.returns-in_err-matches-clause-fault
 returns-in_err-matches-clause-fault g c =
@@ -24,33 +25,43 @@ returns-in_err-matches-clause-fault g c =
 pub limits_of-requires-clause-slots : goal.limits_of-requires-clause-slots
 limits_of-requires-clause-slots g c =
     let words : List (List ℕ) = map g.S.AsStr.text c.args.words.now in
-    let met = MeetsTask-parse _ words _ (IsProgram-names _ _ c.in_ok-program.ensures refl) c.in_ok-matches.ensures.kinds c.in_ok-matches.ensures.matches in
-    (replay_asked _ _ met.asked (subcommand_met-named words _ met _ _ _ (codes "replay") c.subcommand.ensures.name c.subcommand.ensures.rows c.unwrap.ensures c.in-replay.is)).0
+    let met = MeetsTask-parse _ words _ (IsProgram-names _ _ c.in_ok-program.ensures refl)
+    c.in_ok-matches.ensures.kinds c.in_ok-matches.ensures.matches in
+    (replay_asked _ _ met.asked (subcommand_met-named words _ met _ _ _ (codes "replay")
+    c.subcommand.ensures.name c.subcommand.ensures.rows c.unwrap.ensures c.in-replay.is)).0
 
 pub limits_of-requires-clause-generations : goal.limits_of-requires-clause-generations
 limits_of-requires-clause-generations g c =
     let words : List (List ℕ) = map g.S.AsStr.text c.args.words.now in
-    let met = MeetsTask-parse _ words _ (IsProgram-names _ _ c.in_ok-program.ensures refl) c.in_ok-matches.ensures.kinds c.in_ok-matches.ensures.matches in
-    (replay_asked _ _ met.asked (subcommand_met-named words _ met _ _ _ (codes "replay") c.subcommand.ensures.name c.subcommand.ensures.rows c.unwrap.ensures c.in-replay.is)).1
+    let met = MeetsTask-parse _ words _ (IsProgram-names _ _ c.in_ok-program.ensures refl)
+    c.in_ok-matches.ensures.kinds c.in_ok-matches.ensures.matches in
+    (replay_asked _ _ met.asked (subcommand_met-named words _ met _ _ _ (codes "replay")
+    c.subcommand.ensures.name c.subcommand.ensures.rows c.unwrap.ensures c.in-replay.is)).1
 
 pub workers_of-requires : goal.workers_of-requires
 workers_of-requires g c =
     let words : List (List ℕ) = map g.S.AsStr.text c.args.words.now in
-    let met = MeetsTask-parse _ words _ (IsProgram-names _ _ c.in_ok-program.ensures refl) c.in_ok-matches.ensures.kinds c.in_ok-matches.ensures.matches in
-    (run_asked _ _ met.asked (subcommand_met-named words _ met _ _ _ (codes "run") c.subcommand.ensures.name c.subcommand.ensures.rows c.unwrap.ensures c.in-run.is)).0
+    let met = MeetsTask-parse _ words _ (IsProgram-names _ _ c.in_ok-program.ensures refl)
+    c.in_ok-matches.ensures.kinds c.in_ok-matches.ensures.matches in
+    (run_asked _ _ met.asked (subcommand_met-named words _ met _ _ _ (codes "run")
+    c.subcommand.ensures.name c.subcommand.ensures.rows c.unwrap.ensures c.in-run.is)).0
 
 pub show_of-requires : goal.show_of-requires
 show_of-requires g c =
     let words : List (List ℕ) = map g.S.AsStr.text c.args.words.now in
-    let met = MeetsTask-parse _ words _ (IsProgram-names _ _ c.in_ok-program.ensures refl) c.in_ok-matches.ensures.kinds c.in_ok-matches.ensures.matches in
-    (run_asked _ _ met.asked (subcommand_met-named words _ met _ _ _ (codes "run") c.subcommand.ensures.name c.subcommand.ensures.rows c.unwrap.ensures c.in-run.is)).1
+    let met = MeetsTask-parse _ words _ (IsProgram-names _ _ c.in_ok-program.ensures refl)
+    c.in_ok-matches.ensures.kinds c.in_ok-matches.ensures.matches in
+    (run_asked _ _ met.asked (subcommand_met-named words _ met _ _ _ (codes "run")
+    c.subcommand.ensures.name c.subcommand.ensures.rows c.unwrap.ensures c.in-run.is)).1
 
 pub returns-in-replay-clause-asked : goal.returns-in-replay-clause-asked
 returns-in-replay-clause-asked g c =
     let words : List (List ℕ) = map g.S.AsStr.text c.args.words.now in
-    let met = MeetsTask-parse _ words _ (IsProgram-names _ _ c.in_ok-program.ensures refl) c.in_ok-matches.ensures.kinds c.in_ok-matches.ensures.matches in (
+    let met = MeetsTask-parse _ words _ (IsProgram-names _ _ c.in_ok-program.ensures refl)
+    c.in_ok-matches.ensures.kinds c.in_ok-matches.ensures.matches in (
       rows_of (found_of c.unwrap.result.1.now),
-      subcommand_met-named words _ met _ _ _ (codes "replay") c.subcommand.ensures.name c.subcommand.ensures.rows c.unwrap.ensures c.in-replay.is,
+      subcommand_met-named words _ met _ _ _ (codes "replay") c.subcommand.ensures.name
+          c.subcommand.ensures.rows c.unwrap.ensures c.in-replay.is,
       c.limits_of.ensures.slots,
       c.limits_of.ensures.generations,
       c.limits_of.ensures.within,
@@ -59,9 +70,11 @@ returns-in-replay-clause-asked g c =
 pub returns-in-run-clause-asked : goal.returns-in-run-clause-asked
 returns-in-run-clause-asked g c =
     let words : List (List ℕ) = map g.S.AsStr.text c.args.words.now in
-    let met = MeetsTask-parse _ words _ (IsProgram-names _ _ c.in_ok-program.ensures refl) c.in_ok-matches.ensures.kinds c.in_ok-matches.ensures.matches in (
+    let met = MeetsTask-parse _ words _ (IsProgram-names _ _ c.in_ok-program.ensures refl)
+    c.in_ok-matches.ensures.kinds c.in_ok-matches.ensures.matches in (
       rows_of (found_of c.unwrap.result.1.now),
-      subcommand_met-named words _ met _ _ _ (codes "run") c.subcommand.ensures.name c.subcommand.ensures.rows c.unwrap.ensures c.in-run.is,
+      subcommand_met-named words _ met _ _ _ (codes "run") c.subcommand.ensures.name
+          c.subcommand.ensures.rows c.unwrap.ensures c.in-run.is,
       c.workers_of.ensures.number,
       c.workers_of.ensures.within,
       c.show_of.ensures,
@@ -70,16 +83,20 @@ returns-in-run-clause-asked g c =
 pub returns-in-replay-clause-taken : goal.returns-in-replay-clause-taken
 returns-in-replay-clause-taken g c =
     let words : List (List ℕ) = map g.S.AsStr.text c.args.words.now in
-    (MeetsTask-parse _ words _ (IsProgram-names _ _ c.in_ok-program.ensures refl) c.in_ok-matches.ensures.kinds c.in_ok-matches.ensures.matches).no_fault
+    (MeetsTask-parse _ words _ (IsProgram-names _ _ c.in_ok-program.ensures refl)
+    c.in_ok-matches.ensures.kinds c.in_ok-matches.ensures.matches).no_fault
 
 pub returns-in-run-clause-taken : goal.returns-in-run-clause-taken
 returns-in-run-clause-taken g c =
     let words : List (List ℕ) = map g.S.AsStr.text c.args.words.now in
-    (MeetsTask-parse _ words _ (IsProgram-names _ _ c.in_ok-program.ensures refl) c.in_ok-matches.ensures.kinds c.in_ok-matches.ensures.matches).no_fault
+    (MeetsTask-parse _ words _ (IsProgram-names _ _ c.in_ok-program.ensures refl)
+    c.in_ok-matches.ensures.kinds c.in_ok-matches.ensures.matches).no_fault
 
 pub unreachable-requires : goal.unreachable-requires
 unreachable-requires g c =
     let words : List (List ℕ) = map g.S.AsStr.text c.args.words.now in
-    let met = MeetsTask-parse _ words _ (IsProgram-names _ _ c.in_ok-program.ensures refl) c.in_ok-matches.ensures.kinds c.in_ok-matches.ensures.matches in
+    let met = MeetsTask-parse _ words _ (IsProgram-names _ _ c.in_ok-program.ensures refl)
+    c.in_ok-matches.ensures.kinds c.in_ok-matches.ensures.matches in
     none_other _ met.asked c.subcommand.result (c.subcommand.ensures.name ∙ met.name)
-    (subst (λ r. IfSome r (λ p. (p.0.now ≡ codes "replay" → ⊥) × (p.0.now ≡ codes "run" → ⊥))) (sym c.unwrap.ensures) (c.in_default.not-replay, c.in_default.not-run))
+    (subst (λ r. IfSome r (λ p. (p.0.now ≡ codes "replay" → ⊥) × (p.0.now ≡ codes "run" → ⊥)))
+    (sym c.unwrap.ensures) (c.in_default.not-replay, c.in_default.not-run))

@@ -6,18 +6,22 @@ use Rattle.spawnrun_lib.proofs.task.limits_of.Goals as goal
 
 pub unwrap-slots-requires : goal.unwrap-slots-requires
 unwrap-slots-requires c =
-    let read = number_read 32 (codes "slots") 4294967295 (found_of c.args.options.now) c.get_one.result (lit< tt) c.requires.slots c.get_one.ensures.value in
+    let read = number_read 32 (codes "slots") 4294967295 (found_of c.args.options.now)
+    c.get_one.result (lit< tt) c.requires.slots c.get_one.ensures.value in
     ap is_some read.1
 
 pub unwrap-generations-requires : goal.unwrap-generations-requires
 unwrap-generations-requires c =
-    let read = number_read 32 (codes "generations") 2147483647 (found_of c.args.options.now) c.get_one-2.result (lit< tt) c.requires.generations c.get_one-2.ensures.value in
+    let read = number_read 32 (codes "generations") 2147483647 (found_of c.args.options.now)
+    c.get_one-2.result (lit< tt) c.requires.generations c.get_one-2.ensures.value in
     ap is_some read.1
 
 pub unwrap-requires : goal.unwrap-requires
 unwrap-requires c =
-    let slots = number_read 32 (codes "slots") 4294967295 (found_of c.args.options.now) c.get_one.result (lit< tt) c.requires.slots c.get_one.ensures.value in
-    let generations = number_read 32 (codes "generations") 2147483647 (found_of c.args.options.now) c.get_one-2.result (lit< tt) c.requires.generations c.get_one-2.ensures.value in
+    let slots = number_read 32 (codes "slots") 4294967295 (found_of c.args.options.now)
+    c.get_one.result (lit< tt) c.requires.slots c.get_one.ensures.value in
+    let generations = number_read 32 (codes "generations") 2147483647 (found_of c.args.options.now)
+    c.get_one-2.result (lit< tt) c.requires.generations c.get_one-2.ensures.value in
     let same_slots : c.unwrap-slots.result ≡ slots.0 = cc in
     let same_generations : c.unwrap-generations.result ≡ generations.0 = cc in
     c.new.ensures.in_range.1 (record {
@@ -29,14 +33,17 @@ unwrap-requires c =
 
 pub returns-clause-slots : goal.returns-clause-slots
 returns-clause-slots c =
-    let slots = number_read 32 (codes "slots") 4294967295 (found_of c.args.options.now) c.get_one.result (lit< tt) c.requires.slots c.get_one.ensures.value in
+    let slots = number_read 32 (codes "slots") 4294967295 (found_of c.args.options.now)
+    c.get_one.result (lit< tt) c.requires.slots c.get_one.ensures.value in
     let same_slots : c.unwrap-slots.result ≡ slots.0 = cc in
     let made = rw c.unwrap.ensures at c.new.ensures.value in
     slots.4 ∙ ap (λ n. Some n) (sym (ap (λ (l : Limits). l.slots) made ∙ same_slots))
 
 pub returns-clause-generations : goal.returns-clause-generations
 returns-clause-generations c =
-    let generations = number_read 32 (codes "generations") 2147483647 (found_of c.args.options.now) c.get_one-2.result (lit< tt) c.requires.generations c.get_one-2.ensures.value in
+    let generations = number_read 32 (codes "generations") 2147483647 (found_of c.args.options.now)
+    c.get_one-2.result (lit< tt) c.requires.generations c.get_one-2.ensures.value in
     let same_generations : c.unwrap-generations.result ≡ generations.0 = cc in
     let made = rw c.unwrap.ensures at c.new.ensures.value in
-    generations.4 ∙ ap (λ n. Some n) (sym (ap (λ (l : Limits). l.generations) made ∙ same_generations))
+    generations.4
+    ∙ ap (λ n. Some n) (sym (ap (λ (l : Limits). l.generations) made ∙ same_generations))

@@ -7,14 +7,21 @@ pub returns-clause-value : goal.returns-clause-value
 returns-clause-value c =
     let e = c.self.inside in
     let inv = c.self.invariant in
-    let made : e.slots.made ≡ c.args.self.now.made = ap (λ (s : Allocator). s.made) c.self.view_is in
-    let slots : e.slots.limits.slots ≡ c.args.self.now.limits.slots = ap (λ (s : Allocator). s.limits.slots) c.self.view_is in
-    let all : length (available c.args.self.now) ≡ length e.slots.pending + (e.slots.limits.slots - e.slots.made) =
-    ap (λ (s : Allocator). length (available s)) (sym c.self.view_is) ∙ ap length (available_is e.slots e.requests.asked e.requests.served inv.given_least) ∙ length-idle e.slots in
+    let made : e.slots.made ≡ c.args.self.now.made = ap (λ (s : Allocator). s.made) c.self.view_is
+    in
+    let slots : e.slots.limits.slots ≡ c.args.self.now.limits.slots =
+    ap (λ (s : Allocator). s.limits.slots) c.self.view_is in
+    let all : length (available c.args.self.now) ≡ length e.slots.pending
+    + (e.slots.limits.slots - e.slots.made) =
+    ap (λ (s : Allocator). length (available s)) (sym c.self.view_is)
+    ∙ ap length (available_is e.slots e.requests.asked e.requests.served inv.given_least)
+    ∙ length-idle e.slots in
     omega arith
 
 pub returns-clause-fits : goal.returns-clause-fits
 returns-clause-fits c =
-    let made : c.self.inside.slots.made ≡ c.args.self.now.made = ap (λ (s : Allocator). s.made) c.self.view_is in
-    let slots : c.self.inside.slots.limits.slots ≡ c.args.self.now.limits.slots = ap (λ (s : Allocator). s.limits.slots) c.self.view_is in
+    let made : c.self.inside.slots.made ≡ c.args.self.now.made = ap (λ (s : Allocator). s.made)
+    c.self.view_is in
+    let slots : c.self.inside.slots.limits.slots ≡ c.args.self.now.limits.slots =
+    ap (λ (s : Allocator). s.limits.slots) c.self.view_is in
     omega arith

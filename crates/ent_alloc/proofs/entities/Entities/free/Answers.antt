@@ -12,12 +12,20 @@ invariant_of-self-2 c =
     let h = c.args.handle in
     let r = c.self.inside.slots in
     let requests = c.self.inside.requests in
-    let none = none_asked c.needs_flush.result c.args.self.now.asked c.needs_flush.ensures c.if-needs_flush.false in
-    let rest = rest_is r requests.asked requests.served c.args.self.now c.self.invariant c.self.view_is none in
+    let none = none_asked c.needs_flush.result c.args.self.now.asked c.needs_flush.ensures
+    c.if-needs_flush.false in
+    let rest = rest_is r requests.asked requests.served c.args.self.now c.self.invariant
+    c.self.view_is none in
     let idle = none_is r requests c.args.self.now c.self.invariant c.self.view_is none in
     let sound = subst IsSound c.self.view_is c.self.invariant.sound in
-    let lives : sets.contains c.args.self.now.live h ≡ true = sym (ap (λ (s : Allocator). sets.contains s.live h) c.self.view_is) ∙ sym c.is_alive.ensures ∙ c.if-not-is_alive.false in
-    closed c.release.new.self (record r { live = sets.remove r.live h; rows = maps.remove r.rows h; pending = r.pending ++ next r.limits h ∷ [] })
+    let lives : sets.contains c.args.self.now.live h
+    ≡ true = sym (ap (λ (s : Allocator). sets.contains s.live h) c.self.view_is)
+    ∙ sym c.is_alive.ensures ∙ c.if-not-is_alive.false in
+    closed c.release.new.self (record r {
+      live = sets.remove r.live h;
+      rows = maps.remove r.rows h;
+      pending = r.pending ++ next r.limits h ∷ [];
+    })
     requests (after_free c.args.self.now h) c.in_ok-next.ensures.ok idle
     (free_is r h ∙ ap (λ s. after_free s h) rest)
     (after_free-sound c.args.self.now h sound none lives)
@@ -27,9 +35,17 @@ returns-clause-ok c =
     let h = c.args.handle in
     let r = c.self.inside.slots in
     let requests = c.self.inside.requests in
-    let none = none_asked c.needs_flush.result c.args.self.now.asked c.needs_flush.ensures c.if-needs_flush.false in
-    let rest = rest_is r requests.asked requests.served c.args.self.now c.self.invariant c.self.view_is none in
+    let none = none_asked c.needs_flush.result c.args.self.now.asked c.needs_flush.ensures
+    c.if-needs_flush.false in
+    let rest = rest_is r requests.asked requests.served c.args.self.now c.self.invariant
+    c.self.view_is none in
     let idle = none_is r requests c.args.self.now c.self.invariant c.self.view_is none in
-    closed_is c.release.new.self (record r { live = sets.remove r.live h; rows = maps.remove r.rows h; pending = r.pending ++ next r.limits h ∷ [] })
+    closed_is c.release.new.self
+    (record r {
+      live = sets.remove r.live h;
+      rows = maps.remove r.rows h;
+      pending = r.pending
+          ++ next r.limits h ∷ [];
+    })
     requests (after_free c.args.self.now h) c.in_ok-next.ensures.ok idle
     (free_is r h ∙ ap (λ s. after_free s h) rest)

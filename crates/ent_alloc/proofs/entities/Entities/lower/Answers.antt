@@ -18,7 +18,8 @@ new-span-requires-clause-greatest c =
     let r = e.slots in
     let s = c.args.self.now in
     let inv = c.self.invariant in
-    let tops : top s ≡ length r.pending = ap top (sym c.self.view_is) ∙ top_is r e.requests.asked e.requests.served inv.given_least inv.sound in
+    let tops : top s ≡ length r.pending = ap top (sym c.self.view_is)
+    ∙ top_is r e.requests.asked e.requests.served inv.given_least inv.sound in
     let all = length_available r e.requests.asked e.requests.served s inv c.self.view_is in
     let has = c.available-available.ensures.value in
     let fits = c.available-available.ensures.fits in
@@ -38,8 +39,12 @@ invariant_of-self c =
     let few = c.requires in
     let keeps : Requests → Type 0 = λ q. AreReserved r q.asked q.served in
     elim (cases_lt c.available-available.result (e.requests.asked + n)) [
-      | inl short ↦ subst keeps (sym (c.and-self-inside.ensures.refused short)) (refused_reserved r e.requests.asked e.requests.served n s inv c.self.view_is (omega arith) (omega arith))
-      | inr enough ↦ subst keeps (sym (c.and-self-inside.ensures.served enough)) (served_reserved r e.requests.asked e.requests.served n s inv c.self.view_is (omega arith) (omega arith))
+      | inl short ↦ subst keeps (sym (c.and-self-inside.ensures.refused short))
+          (refused_reserved r e.requests.asked e.requests.served n s inv c.self.view_is
+          (omega arith) (omega arith))
+      | inr enough ↦ subst keeps (sym (c.and-self-inside.ensures.served enough))
+          (served_reserved r e.requests.asked e.requests.served n s inv c.self.view_is (omega arith)
+          (omega arith))
     ]
 
 pub returns-clause-step : goal.returns-clause-step
@@ -54,17 +59,24 @@ returns-clause-step c =
     let has = c.available-available.ensures.value in
     let few = c.requires in
     elim (cases_lt c.available-available.result (e.requests.asked + n)) [
-      | inl short ↦ ap (λ (q : Requests). allocator_of r q.asked q.served) (c.and-self-inside.ensures.refused short) ∙ refused_view r e.requests.asked e.requests.served n s inv c.self.view_is (omega arith)
-      | inr enough ↦ ap (λ (q : Requests). allocator_of r q.asked q.served) (c.and-self-inside.ensures.served enough) ∙ served_view r e.requests.asked e.requests.served n s inv c.self.view_is (omega arith)
+      | inl short ↦ ap (λ (q : Requests). allocator_of r q.asked q.served)
+          (c.and-self-inside.ensures.refused short) ∙ refused_view r e.requests.asked
+          e.requests.served n s inv c.self.view_is (omega arith)
+      | inr enough ↦ ap (λ (q : Requests). allocator_of r q.asked q.served)
+          (c.and-self-inside.ensures.served enough) ∙ served_view r e.requests.asked
+          e.requests.served n s inv c.self.view_is (omega arith)
     ]
 
 pub returns-clause-valid : goal.returns-clause-valid
 returns-clause-valid c =
     let inv = c.self.invariant in
     let s = c.args.self.now in
-    let asks : c.self.inside.requests.asked ≡ s.asked = ap (λ (t : Allocator). t.asked) c.self.view_is in
+    let asks : c.self.inside.requests.asked ≡ s.asked = ap (λ (t : Allocator). t.asked)
+    c.self.view_is in
     let small = inv.asked_in in
     let fits = c.cursor.type_inv in
     let word : to_z w64 (of_z w64 c.cursor.result) ≡ c.cursor.result = omega (arith, ints) in
-    IsSpanOf-after_take s _ c.new-span.result c.args.n (subst IsSound c.self.view_is inv.sound) (omega arith) (omega arith) (returns-clause-step c)
-    (c.new-span.ensures.value ∙ (λ i. let high = (word ∙ c.cursor.ensures.value) i in record { high = high; low = high -ℤ pos c.args.n }))
+    IsSpanOf-after_take s _ c.new-span.result c.args.n (subst IsSound c.self.view_is inv.sound)
+    (omega arith) (omega arith) (returns-clause-step c)
+    (c.new-span.ensures.value ∙ (λ i. let high = (word ∙ c.cursor.ensures.value) i in
+    record { high = high; low = high -ℤ pos c.args.n }))

@@ -10,7 +10,9 @@ use Rattle.ent_alloc.proofs.Meaning.{rows-sound}
 use Rattle.ent_alloc.proofs.entities.Entities.set_row.Goals as goal
 
 -- a row changes nothing that the requests speak of
-with_row : (r : Roster) (asked given : ℕ) (h : Handle) (row : ℕ) → AreReserved r asked given → IsLive (allocator_of r asked given) h → AreReserved (record r { rows = maps.insert r.rows h row }) asked given
+with_row : (r : Roster) (asked given : ℕ) (h : Handle) (row : ℕ) → AreReserved r asked given
+    → IsLive (allocator_of r asked given) h
+    → AreReserved (record r { rows = maps.insert r.rows h row }) asked given
 with_row r asked given h row reserved lives = record {
   sound = rows-sound (allocator_of r asked given) h row reserved.sound lives;
   asked_in = reserved.asked_in;
@@ -23,4 +25,6 @@ pub invariant_of-self : goal.invariant_of-self
 invariant_of-self c =
     let e = c.self.inside in
     let P : Roster → Type 0 = λ r. AreReserved r e.requests.asked e.requests.served in
-    subst P (sym c.set_row.ensures) (with_row e.slots e.requests.asked e.requests.served c.args.handle c.args.row c.self.invariant (ap (λ (s : Allocator). sets.contains s.live c.args.handle) c.self.view_is ∙ c.requires))
+    subst P (sym c.set_row.ensures) (with_row e.slots e.requests.asked e.requests.served
+    c.args.handle c.args.row c.self.invariant
+    (ap (λ (s : Allocator). sets.contains s.live c.args.handle) c.self.view_is ∙ c.requires))

@@ -17,13 +17,17 @@ or-false true = refl
 or-false false = refl
 
 -- the state of a handle that isn't alive, by the test whether it is reserved
-told : (s : Allocator) (r : Roster) (asked given : ℕ) (h : Handle) → AreReserved r asked given → allocator_of r asked given ≡ s → (reserved : Bool) → sets.contains r.live h ≡ false
-    → reserved ≡ (stands_in (drop (length r.pending - given) r.pending) h || stands_in (fresh r.made (given - length r.pending)) h)
+told : (s : Allocator) (r : Roster) (asked given : ℕ) (h : Handle) → AreReserved r asked given
+    → allocator_of r asked given ≡ s → (reserved : Bool) → sets.contains r.live h ≡ false
+    → reserved ≡ (stands_in (drop (length r.pending - given) r.pending) h || stands_in
+    (fresh r.made (given - length r.pending)) h)
     → {b : Bool} → reserved ≡ b → cond b Reserved Gone ≡ state_of s h
 told s r asked given h inv view reserved dead is test =
     let taken : stands_in s.taken h ≡ reserved =
-    sym (ap (λ (s : Allocator). stands_in s.taken h) view) ∙ sym (stands_in_taken r asked given inv.given_least inv.given_in inv.sound h) ∙ sym is in
-    let gone : sets.contains s.live h ≡ false = sym (ap (λ (s : Allocator). sets.contains s.live h) view) ∙ dead in
+    sym (ap (λ (s : Allocator). stands_in s.taken h) view)
+    ∙ sym (stands_in_taken r asked given inv.given_least inv.given_in inv.sound h) ∙ sym is in
+    let gone : sets.contains s.live h
+    ≡ false = sym (ap (λ (s : Allocator). sets.contains s.live h) view) ∙ dead in
     λ i. cond (sym gone i) Alive (cond (sym (taken ∙ test) i) Reserved Gone)
 
 pub returns-then-reserved : goal.returns-then-reserved
@@ -35,28 +39,40 @@ returns-then-reserved c =
     elim c.match-occupancy_of.branch [
       | in-Some-Pending w ↦
           (let field = w.in-Some-Pending.field-0 in
-          let waits = (w.kept.ensures ∙ ap (λ n. n - e.requests.served) c.waiting-waiting.ensures.value) in
+          let waits = (w.kept.ensures ∙ ap (λ n. n - e.requests.served)
+          c.waiting-waiting.ensures.value) in
           let made = w.in-Some-Pending.ensures.made in
-          told s r e.requests.asked e.requests.served c.args.handle inv c.self.view_is c.match-occupancy_of.reserved
+          told s r e.requests.asked e.requests.served c.args.handle inv c.self.view_is
+          c.match-occupancy_of.reserved
           (w.in-Some-Pending.ensures.lives ∙ ap is_alive w.in-Some-Pending.field-0-is)
-          (sym ((λ i. stands_in (drop (sym waits i) r.pending) c.args.handle || stands_in (fresh r.made (e.requests.served - length r.pending)) c.args.handle)
-          ∙ (λ i. (w.in-Some-Pending.ensures.waits w.kept.result ∙ ap (λ o. is_pending_from o w.kept.result) w.in-Some-Pending.field-0-is) i
-          || fresh_no c.args.handle r.made (e.requests.served - length r.pending) (λ _ after _. absurd (omega arith)) i)
+          (sym ((λ i. stands_in (drop (sym waits i) r.pending) c.args.handle || stands_in
+          (fresh r.made (e.requests.served - length r.pending)) c.args.handle)
+          ∙ (λ i. (w.in-Some-Pending.ensures.waits w.kept.result
+          ∙ ap (λ o. is_pending_from o w.kept.result) w.in-Some-Pending.field-0-is) i
+          || fresh_no c.args.handle r.made (e.requests.served - length r.pending)
+          (λ _ after _. absurd (omega arith)) i)
           ∙ or-false (leb w.kept.result w.in-Some-Pending.position)
           ∙ sym (w.reserved-is ∙ ap (leb w.kept.result) w.in-Some-Pending.position-is)))
           c.if-reserved.true)
       | in-None w ↦
           (let news = e.requests.served - length r.pending in
           let made : c.args.handle.index < r.made = w.is_made.ensures.0 w.if-is_made.true in
-          told s r e.requests.asked e.requests.served c.args.handle inv c.self.view_is c.match-occupancy_of.reserved
+          told s r e.requests.asked e.requests.served c.args.handle inv c.self.view_is
+          c.match-occupancy_of.reserved
           w.in-None.ensures.lives
-          (w.reserved-is ∙ (λ i. sym (w.in-None.ensures.waits (length r.pending - e.requests.served)) i || sym (fresh_no c.args.handle r.made news (λ _ after _. absurd (omega arith))) i))
+          (w.reserved-is
+          ∙ (λ i. sym (w.in-None.ensures.waits (length r.pending - e.requests.served)) i || sym
+          (fresh_no c.args.handle r.made news (λ _ after _. absurd (omega arith))) i))
           c.if-reserved.true)
       | in-None-2 w ↦
-          (let news = (w.fresh.ensures ∙ ap (λ n. e.requests.served - n) c.waiting-waiting.ensures.value) in
-          told s r e.requests.asked e.requests.served c.args.handle inv c.self.view_is c.match-occupancy_of.reserved
+          (let news = (w.fresh.ensures ∙ ap (λ n. e.requests.served - n)
+          c.waiting-waiting.ensures.value) in
+          told s r e.requests.asked e.requests.served c.args.handle inv c.self.view_is
+          c.match-occupancy_of.reserved
           w.in-None.ensures.lives
-          (w.reserved-is ∙ w.is_next-reserved.ensures ∙ (λ i. sym (w.in-None.ensures.waits (length r.pending - e.requests.served)) i || stands_in (fresh r.made (news i)) c.args.handle))
+          (w.reserved-is ∙ w.is_next-reserved.ensures
+          ∙ (λ i. sym (w.in-None.ensures.waits (length r.pending - e.requests.served)) i ||
+          stands_in (fresh r.made (news i)) c.args.handle))
           c.if-reserved.true)
     ]
 
@@ -69,27 +85,39 @@ returns-else-reserved c =
     elim c.match-occupancy_of.branch [
       | in-Some-Pending w ↦
           (let field = w.in-Some-Pending.field-0 in
-          let waits = (w.kept.ensures ∙ ap (λ n. n - e.requests.served) c.waiting-waiting.ensures.value) in
+          let waits = (w.kept.ensures ∙ ap (λ n. n - e.requests.served)
+          c.waiting-waiting.ensures.value) in
           let made = w.in-Some-Pending.ensures.made in
-          told s r e.requests.asked e.requests.served c.args.handle inv c.self.view_is c.match-occupancy_of.reserved
+          told s r e.requests.asked e.requests.served c.args.handle inv c.self.view_is
+          c.match-occupancy_of.reserved
           (w.in-Some-Pending.ensures.lives ∙ ap is_alive w.in-Some-Pending.field-0-is)
-          (sym ((λ i. stands_in (drop (sym waits i) r.pending) c.args.handle || stands_in (fresh r.made (e.requests.served - length r.pending)) c.args.handle)
-          ∙ (λ i. (w.in-Some-Pending.ensures.waits w.kept.result ∙ ap (λ o. is_pending_from o w.kept.result) w.in-Some-Pending.field-0-is) i
-          || fresh_no c.args.handle r.made (e.requests.served - length r.pending) (λ _ after _. absurd (omega arith)) i)
+          (sym ((λ i. stands_in (drop (sym waits i) r.pending) c.args.handle || stands_in
+          (fresh r.made (e.requests.served - length r.pending)) c.args.handle)
+          ∙ (λ i. (w.in-Some-Pending.ensures.waits w.kept.result
+          ∙ ap (λ o. is_pending_from o w.kept.result) w.in-Some-Pending.field-0-is) i
+          || fresh_no c.args.handle r.made (e.requests.served - length r.pending)
+          (λ _ after _. absurd (omega arith)) i)
           ∙ or-false (leb w.kept.result w.in-Some-Pending.position)
           ∙ sym (w.reserved-is ∙ ap (leb w.kept.result) w.in-Some-Pending.position-is)))
           c.if-reserved.false)
       | in-None w ↦
           (let news = e.requests.served - length r.pending in
           let made : c.args.handle.index < r.made = w.is_made.ensures.0 w.if-is_made.true in
-          told s r e.requests.asked e.requests.served c.args.handle inv c.self.view_is c.match-occupancy_of.reserved
+          told s r e.requests.asked e.requests.served c.args.handle inv c.self.view_is
+          c.match-occupancy_of.reserved
           w.in-None.ensures.lives
-          (w.reserved-is ∙ (λ i. sym (w.in-None.ensures.waits (length r.pending - e.requests.served)) i || sym (fresh_no c.args.handle r.made news (λ _ after _. absurd (omega arith))) i))
+          (w.reserved-is
+          ∙ (λ i. sym (w.in-None.ensures.waits (length r.pending - e.requests.served)) i || sym
+          (fresh_no c.args.handle r.made news (λ _ after _. absurd (omega arith))) i))
           c.if-reserved.false)
       | in-None-2 w ↦
-          (let news = (w.fresh.ensures ∙ ap (λ n. e.requests.served - n) c.waiting-waiting.ensures.value) in
-          told s r e.requests.asked e.requests.served c.args.handle inv c.self.view_is c.match-occupancy_of.reserved
+          (let news = (w.fresh.ensures ∙ ap (λ n. e.requests.served - n)
+          c.waiting-waiting.ensures.value) in
+          told s r e.requests.asked e.requests.served c.args.handle inv c.self.view_is
+          c.match-occupancy_of.reserved
           w.in-None.ensures.lives
-          (w.reserved-is ∙ w.is_next-reserved.ensures ∙ (λ i. sym (w.in-None.ensures.waits (length r.pending - e.requests.served)) i || stands_in (fresh r.made (news i)) c.args.handle))
+          (w.reserved-is ∙ w.is_next-reserved.ensures
+          ∙ (λ i. sym (w.in-None.ensures.waits (length r.pending - e.requests.served)) i ||
+          stands_in (fresh r.made (news i)) c.args.handle))
           c.if-reserved.false)
     ]

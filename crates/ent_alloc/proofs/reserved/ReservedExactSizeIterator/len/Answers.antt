@@ -5,4 +5,5 @@ use Rattle.ent_alloc.proofs.reserved.ReservedExactSizeIterator.len.Goals as goal
 pub returns-clause-value : goal.returns-clause-value
 returns-clause-value c =
     let r = c.self.inside in
-    sym (length-reserved_handles r.slots.now r.position r.end r.index r.index_end r.left c.self.invariant) ∙ ap length c.self.view_is
+    sym (length-reserved_handles r.slots.now r.position r.end r.index r.index_end r.left
+    c.self.invariant) ∙ ap length c.self.view_is

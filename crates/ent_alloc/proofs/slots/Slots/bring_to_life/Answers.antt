@@ -13,20 +13,28 @@ use Rattle.ent_alloc.proofs.Reused.{length-reused}
 use Rattle.ent_alloc.proofs.slots.Slots.bring_to_life.Goals as goal
 
 -- the slices that were lent are the vectors' items
-written : (lent records new : List SlotRecord) (slots pending : List ℕ) (kept : ℕ) → lent ≡ records → slots ≡ pending → new ≡ reused lent (take (length slots - kept) (drop kept slots)) → new ≡ reused records (drop kept pending)
+written : (lent records new : List SlotRecord) (slots pending : List ℕ) (kept : ℕ) → lent ≡ records
+    → slots ≡ pending → new ≡ reused lent (take (length slots - kept) (drop kept slots)) → new
+    ≡ reused records (drop kept pending)
 written lent records new slots pending kept same same_pending is =
-    is ∙ (λ i. reused (same i) (take_rest slots kept i)) ∙ ap (λ ps. reused records (drop kept ps)) same_pending
+    is ∙ (λ i. reused (same i) (take_rest slots kept i)) ∙ ap (λ ps. reused records (drop kept ps))
+    same_pending
 
 -- the handles that waited are those of the pending slots
-waited : (lent records : List SlotRecord) (slots pending : List ℕ) (kept : ℕ) → lent ≡ records → slots ≡ pending → map (handle_at lent) (take (length slots - kept) (drop kept slots)) ≡ drop kept (map (handle_at records) pending)
+waited : (lent records : List SlotRecord) (slots pending : List ℕ) (kept : ℕ) → lent ≡ records
+    → slots ≡ pending → map (handle_at lent) (take (length slots - kept) (drop kept slots))
+    ≡ drop kept (map (handle_at records) pending)
 waited lent records slots pending kept same same_pending =
-    (λ i. map (handle_at (same i)) (take_rest slots kept i)) ∙ ap (λ ps. map (handle_at records) (drop kept ps)) same_pending ∙ sym (drop-map (handle_at records) kept pending)
+    (λ i. map (handle_at (same i)) (take_rest slots kept i))
+    ∙ ap (λ ps. map (handle_at records) (drop kept ps)) same_pending
+    ∙ sym (drop-map (handle_at records) kept pending)
 
 pub reuse_all-requires-clause-room : goal.reuse_all-requires-clause-room
 reuse_all-requires-clause-room c =
     let slots = c.deref.result.now in
     let kept = c.args.kept in
-    let count : length (take (length slots - kept) (drop kept slots)) ≡ length slots - kept = ap length (take_rest slots kept) ∙ length-drop kept slots in
+    let count : length (take (length slots - kept) (drop kept slots)) ≡ length slots
+    - kept = ap length (take_rest slots kept) ∙ length-drop kept slots in
     let len = c.make_all.ensures.len in
     let capacity = c.make_all.ensures.capacity in
     let room = c.in_ok-reserve-2.ensures.ok in
@@ -42,14 +50,29 @@ invariant_of-self-2 c =
     let kept = c.args.kept in
     let grown = records ++ replicate n new_record in
     let made : length records ≡ c.args.self.now.made = ap (λ (r : Roster). r.made) c.self.view_is in
-    let slots : e.limits.slots ≡ c.args.self.now.limits.slots = ap (λ (r : Roster). r.limits.slots) c.self.view_is in
-    let waits : length pending ≡ length c.args.self.now.pending = sym (length-map pending (handle_at records)) ∙ ap (λ (r : Roster). length r.pending) c.self.view_is in
-    let is_grown : c.make_all.new.records.items ≡ grown = c.make_all.ensures.records ∙ ap (λ (rs : List SlotRecord). rs ++ replicate n new_record) c.in_ok-reserve.ensures.items in
-    let is = written c.deref_mut.result.now grown c.reuse_all.new.records c.deref.result.now pending kept (c.deref_mut.ensures.value ∙ is_grown) c.deref.ensures.value c.reuse_all.ensures.records in
-    let long : length c.reuse_all.new.records ≡ c.make_all.new.records.len = ap length is ∙ length-reused grown (drop kept pending) ∙ sym (ap length is_grown) ∙ omega arith in
-    let linked = make_keeps_links e.limits records pending e.live n c.self.invariant (omega arith) in
-    let more : e.live + n + (length pending - kept) ≡ e.live + (n + (c.len.result - kept)) = omega arith in
-    rw (with_items_is c.make_all.new.records c.reuse_all.new.records long, is, c.truncate.ensures.items, ← more)
+    let slots : e.limits.slots ≡ c.args.self.now.limits.slots = ap (λ (r : Roster). r.limits.slots)
+    c.self.view_is in
+    let waits : length pending ≡ length c.args.self.now.pending =
+    sym (length-map pending (handle_at records)) ∙ ap (λ (r : Roster). length r.pending)
+    c.self.view_is in
+    let is_grown : c.make_all.new.records.items ≡ grown = c.make_all.ensures.records
+    ∙ ap (λ (rs : List SlotRecord). rs ++ replicate n new_record) c.in_ok-reserve.ensures.items
+    in
+    let is = written c.deref_mut.result.now grown c.reuse_all.new.records c.deref.result.now pending
+    kept (c.deref_mut.ensures.value ∙ is_grown) c.deref.ensures.value
+    c.reuse_all.ensures.records in
+    let long : length c.reuse_all.new.records ≡ c.make_all.new.records.len = ap length is
+    ∙ length-reused grown (drop kept pending) ∙ sym (ap length is_grown) ∙ omega arith in
+    let linked = make_keeps_links e.limits records pending e.live n c.self.invariant (omega arith)
+    in
+    let more : e.live + n + (length pending - kept) ≡ e.live + (n + (c.len.result - kept)) =
+    omega arith in
+    rw (
+      with_items_is c.make_all.new.records c.reuse_all.new.records long,
+      is,
+      c.truncate.ensures.items,
+      ← more,
+    )
     (reuse_keeps_links e.limits grown pending (e.live + n) kept linked (omega arith))
 
 pub returns-clause-ok : goal.returns-clause-ok
@@ -61,17 +84,35 @@ returns-clause-ok c =
     let kept = c.args.kept in
     let grown = records ++ replicate n new_record in
     let made : length records ≡ c.args.self.now.made = ap (λ (r : Roster). r.made) c.self.view_is in
-    let slots : e.limits.slots ≡ c.args.self.now.limits.slots = ap (λ (r : Roster). r.limits.slots) c.self.view_is in
-    let waits : length pending ≡ length c.args.self.now.pending = sym (length-map pending (handle_at records)) ∙ ap (λ (r : Roster). length r.pending) c.self.view_is in
-    let is_grown : c.make_all.new.records.items ≡ grown = c.make_all.ensures.records ∙ ap (λ (rs : List SlotRecord). rs ++ replicate n new_record) c.in_ok-reserve.ensures.items in
-    let is = written c.deref_mut.result.now grown c.reuse_all.new.records c.deref.result.now pending kept (c.deref_mut.ensures.value ∙ is_grown) c.deref.ensures.value c.reuse_all.ensures.records in
-    let long : length c.reuse_all.new.records ≡ c.make_all.new.records.len = ap length is ∙ length-reused grown (drop kept pending) ∙ sym (ap length is_grown) ∙ omega arith in
-    let linked = make_keeps_links e.limits records pending e.live n c.self.invariant (omega arith) in
+    let slots : e.limits.slots ≡ c.args.self.now.limits.slots = ap (λ (r : Roster). r.limits.slots)
+    c.self.view_is in
+    let waits : length pending ≡ length c.args.self.now.pending =
+    sym (length-map pending (handle_at records)) ∙ ap (λ (r : Roster). length r.pending)
+    c.self.view_is in
+    let is_grown : c.make_all.new.records.items ≡ grown = c.make_all.ensures.records
+    ∙ ap (λ (rs : List SlotRecord). rs ++ replicate n new_record) c.in_ok-reserve.ensures.items
+    in
+    let is = written c.deref_mut.result.now grown c.reuse_all.new.records c.deref.result.now pending
+    kept (c.deref_mut.ensures.value ∙ is_grown) c.deref.ensures.value
+    c.reuse_all.ensures.records in
+    let long : length c.reuse_all.new.records ≡ c.make_all.new.records.len = ap length is
+    ∙ length-reused grown (drop kept pending) ∙ sym (ap length is_grown) ∙ omega arith in
+    let linked = make_keeps_links e.limits records pending e.live n c.self.invariant (omega arith)
+    in
     let room : length records + n ≤ e.limits.slots = omega arith in
-    (λ i. roster_of e.limits ((with_items_is c.make_all.new.records c.reuse_all.new.records long ∙ is) i) (c.truncate.ensures.items i))
+    (λ i. roster_of e.limits ((with_items_is c.make_all.new.records c.reuse_all.new.records long
+    ∙ is) i) (c.truncate.ensures.items i))
     ∙ roster_of-reuse e.limits grown pending (e.live + n) kept linked (omega arith)
-    ∙ (λ i. let r : Roster = (roster_of-make e.limits records pending e.live n c.self.invariant room ∙ ap (λ (r : Roster). record r { live = sets.union r.live (sets.from_list (fresh r.made n)); made = r.made + n }) c.self.view_is) i in
-    record r { live = sets.union r.live (sets.from_list (drop kept r.pending)); pending = take kept r.pending })
+    ∙ (λ i. let r : Roster = (roster_of-make e.limits records pending e.live n c.self.invariant room
+    ∙ ap (λ (r : Roster). record r {
+      live = sets.union r.live (sets.from_list (fresh r.made n));
+      made = r.made + n;
+    }) c.self.view_is) i in
+    record r {
+      live = sets.union r.live (sets.from_list (drop kept r.pending));
+      pending =
+          take kept r.pending;
+    })
 
 pub returns-clause-born : goal.returns-clause-born
 returns-clause-born c =
@@ -82,14 +123,26 @@ returns-clause-born c =
     let kept = c.args.kept in
     let grown = records ++ replicate n new_record in
     let made : length records ≡ c.args.self.now.made = ap (λ (r : Roster). r.made) c.self.view_is in
-    let slots : e.limits.slots ≡ c.args.self.now.limits.slots = ap (λ (r : Roster). r.limits.slots) c.self.view_is in
-    let is_grown : c.make_all.new.records.items ≡ grown = c.make_all.ensures.records ∙ ap (λ (rs : List SlotRecord). rs ++ replicate n new_record) c.in_ok-reserve.ensures.items in
+    let slots : e.limits.slots ≡ c.args.self.now.limits.slots = ap (λ (r : Roster). r.limits.slots)
+    c.self.view_is in
+    let is_grown : c.make_all.new.records.items ≡ grown = c.make_all.ensures.records
+    ∙ ap (λ (rs : List SlotRecord). rs ++ replicate n new_record) c.in_ok-reserve.ensures.items
+    in
     let room : length records + n ≤ e.limits.slots = omega arith in
     let len = c.in_ok-reserve.ensures.len in
     let first : c.reserve.new.self.len ≡ c.args.self.now.made = omega arith in
-    let old : map (handle_at c.deref_mut.result.now) (take (length c.deref.result.now - kept) (drop kept c.deref.result.now)) ≡ drop kept c.args.self.now.pending =
-    waited c.deref_mut.result.now grown c.deref.result.now pending kept (c.deref_mut.ensures.value ∙ is_grown) c.deref.ensures.value
-    ∙ ap (λ (r : Roster). drop kept r.pending) (roster_of-make e.limits records pending e.live n c.self.invariant room ∙ ap (λ (r : Roster). record r { live = sets.union r.live (sets.from_list (fresh r.made n)); made = r.made + n }) c.self.view_is) in
+    let old : map (handle_at c.deref_mut.result.now) (take (length c.deref.result.now - kept)
+    (drop kept c.deref.result.now)) ≡ drop kept c.args.self.now.pending =
+    waited c.deref_mut.result.now grown c.deref.result.now pending kept (c.deref_mut.ensures.value
+    ∙ is_grown) c.deref.ensures.value
+    ∙ ap (λ (r : Roster). drop kept r.pending) (roster_of-make e.limits records pending e.live n
+    c.self.invariant room
+    ∙ ap (λ (r : Roster). record r {
+      live = sets.union r.live (sets.from_list (fresh r.made n));
+      made = r.made + n;
+    }) c.self.view_is) in
     c.reuse_all.ensures.listed
-    ∙ (λ i. (c.make_all.ensures.listed ∙ (λ j. c.in_ok-reserve-2.ensures.items j ++ fresh (first j) n)) i ++ old i)
-    ∙ append_assoc c.args.out.now.items (fresh c.args.self.now.made n) (drop kept c.args.self.now.pending)
+    ∙ (λ i. (c.make_all.ensures.listed ∙ (λ j. c.in_ok-reserve-2.ensures.items j
+    ++ fresh (first j) n)) i ++ old i)
+    ∙ append_assoc c.args.out.now.items (fresh c.args.self.now.made n)
+    (drop kept c.args.self.now.pending)

@@ -11,12 +11,17 @@ returns-then-generation-eq1 c =
     let first = c.if-generation-eq1.true in
     let past = c.index.result - c.made.result in
     elim (cases_lt past c.args.count) [
-      | inl within ↦ lt-ltb past c.args.count within ∙ sym (fresh_yes c.args.handle c.args.self.now.made c.args.count (omega arith) (omega arith) (omega arith))
-      | inr beyond ↦ le-ltb past c.args.count beyond ∙ sym (fresh_no c.args.handle c.args.self.now.made c.args.count (λ _ _ below. absurd (omega arith)))
+      | inl within ↦ lt-ltb past c.args.count within
+          ∙ sym (fresh_yes c.args.handle c.args.self.now.made c.args.count (omega arith)
+          (omega arith) (omega arith))
+      | inr beyond ↦ le-ltb past c.args.count beyond
+          ∙ sym (fresh_no c.args.handle c.args.self.now.made c.args.count
+          (λ _ _ below. absurd (omega arith)))
     ]
 
 pub returns-else-generation-eq1 : goal.returns-else-generation-eq1
 returns-else-generation-eq1 c =
     let later = c.if-generation-eq1.false in
     ne_eqb c.generation.result 1 later
-    ∙ sym (fresh_no c.args.handle c.args.self.now.made c.args.count (λ first _ _. later (c.generation.ensures ∙ first)))
+    ∙ sym (fresh_no c.args.handle c.args.self.now.made c.args.count
+    (λ first _ _. later (c.generation.ensures ∙ first)))

@@ -18,7 +18,8 @@ returns-clause-lives c =
     sym (ap (λ (r : Roster). sets.contains r.live h) c.self.view_is)
     ∙ contains_occupants e.records.items h
     ∙ is_occupant-occupancy e.records.items h
-    ∙ sym (ap lives (c.occupancy_of.ensures ∙ ap (λ records. occupancy_of records h) c.deref.ensures.value))
+    ∙ sym (ap lives (c.occupancy_of.ensures ∙ ap (λ records. occupancy_of records h)
+    c.deref.ensures.value))
 
 pub returns-clause-row : goal.returns-clause-row
 returns-clause-row c =
@@ -27,21 +28,26 @@ returns-clause-row c =
     sym (ap (λ (r : Roster). maps.get r.rows h) c.self.view_is)
     ∙ get_rows e.records.items h
     ∙ row_at-occupancy e.records.items h
-    ∙ sym (ap row_kept (c.occupancy_of.ensures ∙ ap (λ records. occupancy_of records h) c.deref.ensures.value))
+    ∙ sym (ap row_kept (c.occupancy_of.ensures ∙ ap (λ records. occupancy_of records h)
+    c.deref.ensures.value))
 
 pub returns-clause-waits : goal.returns-clause-waits
 returns-clause-waits c from =
     let e = c.self.inside in
     let h = c.args.handle in
     sym (ap (λ (r : Roster). stands_in (drop from r.pending) h) c.self.view_is)
-    ∙ sym (stands_in-pending e.limits e.records.items e.pending.items e.live c.self.invariant h from)
+    ∙ sym (stands_in-pending e.limits e.records.items e.pending.items e.live c.self.invariant h
+    from)
     ∙ waits_at-occupancy e.records.items h from
-    ∙ sym (ap (λ o. waits_from o from) (c.occupancy_of.ensures ∙ ap (λ records. occupancy_of records h) c.deref.ensures.value))
+    ∙ sym (ap (λ o. waits_from o from) (c.occupancy_of.ensures
+    ∙ ap (λ records. occupancy_of records h) c.deref.ensures.value))
 
 pub returns-clause-made : goal.returns-clause-made
 returns-clause-made c =
     let e = c.self.inside in
     let h = c.args.handle in
-    let is = c.occupancy_of.ensures ∙ ap (λ records. occupancy_of records h) c.deref.ensures.value in
+    let is = c.occupancy_of.ensures ∙ ap (λ records. occupancy_of records h) c.deref.ensures.value
+    in
     subst (λ (r : Roster). OnSome c.occupancy_of.result (h.index < r.made)) c.self.view_is
-    (subst (λ (o : Option Occupancy). OnSome o (h.index < length e.records.items)) (sym is) (made-occupancy e.records.items h))
+    (subst (λ (o : Option Occupancy). OnSome o (h.index < length e.records.items)) (sym is)
+    (made-occupancy e.records.items h))

@@ -16,9 +16,13 @@ invariant_of-self-2 c =
     let index = c.in_ok-index.index in
     let rest = c.pop.new.self.items in
     let last = c.in_ok-index.ensures.items in
-    let made = last_made e.limits e.records.items e.pending.items rest e.live index c.self.invariant last in
-    let read : c.index_mut-record.result.now ≡ record_at e.records.items index = get_or_read e.records.items index c.index_mut-record.result.now made c.index_mut-record.ensures.value no_slot in
-    rw (ap (λ (r : SlotRecord). r.generation) read) (reuse_last_keeps_links e.limits e.records.items e.pending.items rest e.live index c.self.invariant last)
+    let made = last_made e.limits e.records.items e.pending.items rest e.live index c.self.invariant
+    last in
+    let read : c.index_mut-record.result.now ≡ record_at e.records.items index =
+    get_or_read e.records.items index c.index_mut-record.result.now made
+    c.index_mut-record.ensures.value no_slot in
+    rw (ap (λ (r : SlotRecord). r.generation) read) (reuse_last_keeps_links e.limits e.records.items
+    e.pending.items rest e.live index c.self.invariant last)
 
 pub returns-clause-last : goal.returns-clause-last
 returns-clause-last c =
@@ -26,8 +30,11 @@ returns-clause-last c =
     let index = c.in_ok-index.index in
     let rest = c.pop.new.self.items in
     let last = c.in_ok-index.ensures.items in
-    let made = last_made e.limits e.records.items e.pending.items rest e.live index c.self.invariant last in
-    let read : c.index_mut-record.result.now ≡ record_at e.records.items index = get_or_read e.records.items index c.index_mut-record.result.now made c.index_mut-record.ensures.value no_slot in
+    let made = last_made e.limits e.records.items e.pending.items rest e.live index c.self.invariant
+    last in
+    let read : c.index_mut-record.result.now ≡ record_at e.records.items index =
+    get_or_read e.records.items index c.index_mut-record.result.now made
+    c.index_mut-record.ensures.value no_slot in
     sym (ap (λ (r : Roster). slice_get r.pending (length r.pending - 1)) c.self.view_is)
     ∙ last_handle e.limits e.records.items e.pending.items rest e.live index c.self.invariant last
     ∙ (λ i. Some (record { index = index; generation = (sym read i).generation }))
@@ -39,9 +46,21 @@ returns-clause-some c =
     let index = c.in_ok-index.index in
     let rest = c.pop.new.self.items in
     let last = c.in_ok-index.ensures.items in
-    let made = last_made e.limits e.records.items e.pending.items rest e.live index c.self.invariant last in
-    let read : c.index_mut-record.result.now ≡ record_at e.records.items index = get_or_read e.records.items index c.index_mut-record.result.now made c.index_mut-record.ensures.value no_slot in
-    let h : c.from_parts.result ≡ handle_at e.records.items index = c.from_parts.ensures ∙ (λ i. record { index = index; generation = (read i).generation }) in
-    (λ i. roster_of e.limits (set e.records.items index (record { generation = (read i).generation; occupancy = Alive })) rest)
-    ∙ roster_of-reuse_last e.limits e.records.items e.pending.items rest e.live index c.self.invariant last
-    ∙ (λ i. let r : Roster = c.self.view_is i in record r { live = sets.union r.live (sets.from_list (sym h i ∷ [])); pending = take (length r.pending - 1) r.pending })
+    let made = last_made e.limits e.records.items e.pending.items rest e.live index c.self.invariant
+    last in
+    let read : c.index_mut-record.result.now ≡ record_at e.records.items index =
+    get_or_read e.records.items index c.index_mut-record.result.now made
+    c.index_mut-record.ensures.value no_slot in
+    let h : c.from_parts.result ≡ handle_at e.records.items index = c.from_parts.ensures
+    ∙ (λ i. record { index = index; generation = (read i).generation }) in
+    (λ i. roster_of e.limits
+    (set e.records.items index (record { generation = (read i).generation; occupancy = Alive }))
+    rest)
+    ∙ roster_of-reuse_last e.limits e.records.items e.pending.items rest e.live index
+    c.self.invariant last
+    ∙ (λ i. let r : Roster = c.self.view_is i in
+    record r {
+      live = sets.union r.live (sets.from_list (sym h i ∷ []));
+      pending =
+          take (length r.pending - 1) r.pending;
+    })

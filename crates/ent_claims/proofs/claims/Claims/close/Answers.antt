@@ -6,19 +6,25 @@ use Rattle.ent_claims.specs.Claims.{Claims}
 use Rattle.ent_claims.proofs.Closing.{records_of, items_all, first, apart, claimed, once}
 use Rattle.ent_claims.proofs.claims.Claims.close.Goals as goal
 
-closed : (c : goal.After-close) → AreClaimsClosed c.args.self.numbers c.args.self.workers (records_of c.args.claimers.items)
+closed : (c : goal.After-close) → AreClaimsClosed c.args.self.numbers c.args.self.workers
+    (records_of c.args.claimers.items)
 closed c =
     let i = c.loop-claimer.invariant in
     let ok = c.loop-claimer.claimer-iterator.rest.ok in
-    let all = items_all c.args.claimers.items c.loop-claimer.yielded c.loop-claimer.claimer-iterator.rest.items i.all (sym ok.0 ∙ c.in-None.ensures.steps.0) in
-    let records : c.loop-claimer.all.me.0 ≡ records_of c.args.claimers.items = i.records ∙ ap records_of all in
+    let all = items_all c.args.claimers.items c.loop-claimer.yielded
+    c.loop-claimer.claimer-iterator.rest.items i.all (sym ok.0 ∙ c.in-None.ensures.steps.0) in
+    let records : c.loop-claimer.all.me.0 ≡ records_of c.args.claimers.items = i.records
+    ∙ ap records_of all in
     let key = c.self.invariant.key_is in
-    let numbers = ap (λ (k : Opening). k.numbers) key ∙ ap (λ (s : Claims). s.numbers) c.self.view_is in
+    let numbers = ap (λ (k : Opening). k.numbers) key ∙ ap (λ (s : Claims). s.numbers)
+    c.self.view_is in
     let workers = ap (λ (s : Claims). s.workers) c.self.view_is in
-    subst (λ (p : (ℕ × ℕ) × List ClaimRecord). AreClaimsClosed p.0.0 p.0.1 p.1) (λ k. ((numbers k, workers k), records k)) c.close.ensures
+    subst (λ (p : (ℕ × ℕ) × List ClaimRecord). AreClaimsClosed p.0.0 p.0.1 p.1)
+    (λ k. ((numbers k, workers k), records k)) c.close.ensures
 
 some : (c : goal.After-close) → 0 < c.args.self.workers
-some c = subst (λ (k : ℕ). 0 < k) (ap (λ (s : Claims). s.workers) c.self.view_is) c.self.invariant.some_workers
+some c = subst (λ (k : ℕ). 0 < k) (ap (λ (s : Claims). s.workers) c.self.view_is)
+    c.self.invariant.some_workers
 
 pub returns-clause-first : goal.returns-clause-first
 returns-clause-first c = first _ _ c.args.claimers.items c.requires.all (closed c)

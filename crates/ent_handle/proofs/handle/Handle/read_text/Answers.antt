@@ -10,7 +10,14 @@ pub returns-in_default : goal.returns-in_default
 returns-in_default c =
     let text = c.args.bytes.now in
     let e = sym (handle_of_whole text c.in_default.ensures.none) in
-    record { found = tt; only = handle_only text _ e; shape = handle_shape text _ e; range = handle_range text _ e; exact = e }
+    record {
+      found = tt;
+      only = handle_only text _ e;
+      shape = handle_shape text _ e;
+      range =
+          handle_range text _ e;
+      exact = e;
+    }
 
 pub returns-then-not-is_decimal : goal.returns-then-not-is_decimal
 returns-then-not-is_decimal c =
@@ -19,16 +26,36 @@ returns-then-not-is_decimal c =
     let generation = c.in-Some.generation.now in
     let which : (is_decimal index ≡ false) ⊎ (is_decimal generation ≡ false) =
     elim c.then-not-is_decimal.branch [
-      | then-not-is_decimal-via-then-not-is_decimal w ↦ inl (sym c.is_decimal.ensures ∙ w.if-not-is_decimal.true)
-      | then-not-is_decimal-via-else-not-is_decimal+then-not-is_decimal-2 w ↦ inr (sym w.is_decimal-else-not-is_decimal.ensures ∙ w.if-not-is_decimal-2.true)
+      | then-not-is_decimal-via-then-not-is_decimal w ↦ inl (sym c.is_decimal.ensures
+          ∙ w.if-not-is_decimal.true)
+      | then-not-is_decimal-via-else-not-is_decimal+then-not-is_decimal-2 w ↦ inr
+          (sym w.is_decimal-else-not-is_decimal.ensures ∙ w.if-not-is_decimal-2.true)
     ] in
-    let e = sym (shapeless_parts text index generation c.in-Some.ensures.found c.in-Some.ensures.first which) in
-    record { found = tt; only = handle_only text _ e; shape = handle_shape text _ e; range = handle_range text _ e; exact = e }
+    let e = sym (shapeless_parts text index generation c.in-Some.ensures.found
+    c.in-Some.ensures.first which) in
+    record {
+      found = tt;
+      only = handle_only text _ e;
+      shape = handle_shape text _ e;
+      range =
+          handle_range text _ e;
+      exact = e;
+    }
 
 pub returns : goal.returns
 returns c =
     let text = c.args.bytes.now in
     let index = c.in-Some.index.now in
     let generation = c.in-Some.generation.now in
-    let e = c.ok_or.ensures.value ∙ read_parts text index generation c.in-Some.ensures.found c.in-Some.ensures.first (sym c.is_decimal.ensures ∙ c.if-not-is_decimal.false) (sym c.is_decimal-else-not-is_decimal.ensures ∙ c.if-not-is_decimal-2.false) c.of_decimals.result c.of_decimals.ensures.value c.of_decimals.ensures.in_range in
-    record { found = handle_found text _ e; only = handle_only text _ e; shape = handle_shape text _ e; range = handle_range text _ e; exact = e }
+    let e = c.ok_or.ensures.value ∙ read_parts text index generation c.in-Some.ensures.found
+    c.in-Some.ensures.first (sym c.is_decimal.ensures ∙ c.if-not-is_decimal.false)
+    (sym c.is_decimal-else-not-is_decimal.ensures ∙ c.if-not-is_decimal-2.false)
+    c.of_decimals.result c.of_decimals.ensures.value c.of_decimals.ensures.in_range in
+    record {
+      found = handle_found text _ e;
+      only = handle_only text _ e;
+      shape = handle_shape text _
+          e;
+      range = handle_range text _ e;
+      exact = e;
+    }

@@ -15,49 +15,81 @@ use Rattle.ent_queue.proofs.Rising.{refill_whole}
 use Rattle.ent_queue.proofs.bundle.Bundle.put.Goals as goal
 
 -- what is written over
-over : (c : goal.After-self-1) → refill (length c.self.inside.items.items) c.self.inside.items.items (set c.deref_mut.result.now c.in-Ok.place ((get_or c.deref_mut.result.now c.in-Ok.place (record { 0 = 0 }, pos 0)).0, cast_signed w64 (cast_unsigned w64 c.args.value))) ≡ put component_cmp c.args.id c.args.value c.self.inside.items.items
+over : (c : goal.After-self-1) → refill (length c.self.inside.items.items) c.self.inside.items.items
+    (set c.deref_mut.result.now c.in-Ok.place (
+      (get_or c.deref_mut.result.now c.in-Ok.place (record { 0 = 0 }, pos 0)).0,
+      cast_signed w64
+          (cast_unsigned w64 c.args.value),
+    )) ≡ put component_cmp c.args.id c.args.value
+    c.self.inside.items.items
 over c =
     let es = c.self.inside.items.items in
     let place = c.in-Ok.place in
-    let at = subst (λ xs. IsPlaceOf xs c.args.id.0 place) c.as_slice.ensures c.in-Ok.ensures.found in
+    let at = subst (λ xs. IsPlaceOf xs c.args.id.0 place) c.as_slice.ensures c.in-Ok.ensures.found
+    in
     let written = set es place ((get_or es place (record { 0 = 0 }, pos 0)).0, c.args.value) in
-    ap (λ xs. refill (length es) es (set xs place ((get_or xs place (record { 0 = 0 }, pos 0)).0, cast_signed w64 (cast_unsigned w64 c.args.value)))) c.deref_mut.ensures.value
-    ∙ ap (λ z. refill (length es) es (set es place ((get_or es place (record { 0 = 0 }, pos 0)).0, z))) (to_z-of_z w64 c.args.value c.ranges.value)
+    ap (λ xs. refill (length es) es
+    (set xs place (
+      (get_or xs place (record { 0 = 0 }, pos 0)).0,
+      cast_signed w64
+          (cast_unsigned w64 c.args.value),
+    ))) c.deref_mut.ensures.value
+    ∙ ap (λ z. refill (length es) es
+    (set es place ((get_or es place (record { 0 = 0 }, pos 0)).0, z)))
+    (to_z-of_z w64 c.args.value c.ranges.value)
     ∙ refill_whole es written (length-set es place _)
-    ∙ sym (put_over c.args.id c.args.value es place at.within at.lower at.here (record { 0 = 0 }, pos 0))
+    ∙ sym (put_over c.args.id c.args.value es place at.within at.lower at.here
+    (record { 0 = 0 }, pos 0))
 
 pub invariant_of-self : goal.invariant_of-self
-invariant_of-self c =
-    (subst IsBundle (sym (over c)) (bundle_put c.args.id c.args.value c.in-Ok.ensures.number c.ranges.value c.self.inside.items.items c.self.invariant.0), c.self.invariant.1)
+invariant_of-self c = (
+  subst IsBundle (sym (over c)) (bundle_put c.args.id c.args.value c.in-Ok.ensures.number
+      c.ranges.value c.self.inside.items.items c.self.invariant.0),
+  c.self.invariant.1,
+)
 
 pub returns-in-Ok-clause-ok : goal.returns-in-Ok-clause-ok
 returns-in-Ok-clause-ok c = over c ∙ ap (put component_cmp c.args.id c.args.value) c.self.view_is
 
 -- what is added
-added : (c : goal.In_ok-insert-in-Err) → c.insert.new.self.items ≡ put component_cmp c.args.id c.args.value c.self.inside.items.items
+added : (c : goal.In_ok-insert-in-Err) → c.insert.new.self.items ≡ put component_cmp c.args.id
+    c.args.value c.self.inside.items.items
 added c =
     let es = c.self.inside.items.items in
-    let at = subst (λ xs. IsGapFor xs c.args.id.0 c.in-Err.place) c.as_slice.ensures c.in-Err.ensures.absent in
-    c.in_ok-insert-in-Err.ensures.ok ∙ ap (λ z. insert es c.in-Err.place (c.args.id, z)) (to_z-of_z w64 c.args.value c.ranges.value) ∙ sym (put_between c.args.id c.args.value es c.in-Err.place at.within at.lower at.greater)
+    let at = subst (λ xs. IsGapFor xs c.args.id.0 c.in-Err.place) c.as_slice.ensures
+    c.in-Err.ensures.absent in
+    c.in_ok-insert-in-Err.ensures.ok ∙ ap (λ z. insert es c.in-Err.place (c.args.id, z))
+    (to_z-of_z w64 c.args.value c.ranges.value)
+    ∙ sym (put_between c.args.id c.args.value es c.in-Err.place at.within at.lower at.greater)
 
 pub invariant_of-self-in-Continue-1 : goal.invariant_of-self-in-Continue-1
-invariant_of-self-in-Continue-1 c =
-    (subst IsBundle (sym (added c)) (bundle_put c.args.id c.args.value c.in-Err.ensures.number c.ranges.value c.self.inside.items.items c.self.invariant.0), omega (arith, c.insert.ensures.capacity, c.self.invariant.1))
+invariant_of-self-in-Continue-1 c = (
+  subst IsBundle (sym (added c)) (bundle_put c.args.id c.args.value c.in-Err.ensures.number
+      c.ranges.value c.self.inside.items.items c.self.invariant.0),
+  omega
+      (arith, c.insert.ensures.capacity, c.self.invariant.1),
+)
 
 pub returns-in_ok-insert-in-Err-clause-ok : goal.returns-in_ok-insert-in-Err-clause-ok
-returns-in_ok-insert-in-Err-clause-ok c = added c ∙ ap (put component_cmp c.args.id c.args.value) c.self.view_is
+returns-in_ok-insert-in-Err-clause-ok c = added c ∙ ap (put component_cmp c.args.id c.args.value)
+    c.self.view_is
 
 pub returns-in_err-insert-in-Err-clause-memory : goal.returns-in_err-insert-in-Err-clause-memory
 returns-in_err-insert-in-Err-clause-memory c =
     let es = c.self.inside.items.items in
-    let at = subst (λ xs. IsGapFor xs c.args.id.0 c.in-Err.place) c.as_slice.ensures c.in-Err.ensures.absent in
-    let none = find_between c.args.id c.args.value es c.in-Err.place c.self.invariant.0.rising at.within at.lower at.greater in
+    let at = subst (λ xs. IsGapFor xs c.args.id.0 c.in-Err.place) c.as_slice.ensures
+    c.in-Err.ensures.absent in
+    let none = find_between c.args.id c.args.value es c.in-Err.place c.self.invariant.0.rising
+    at.within at.lower at.greater in
     let full : 4 ≤ length es =
     elim (cases_lt c.self.inside.items.capacity (length es + 1)) [
       | inl below ↦ omega (arith, below, c.self.invariant.1)
       | inr room ↦ absurd (false≢true (c.in_err-insert-in-Err.ensures.succeeds room))
     ] in
-    OnErr-always c.from_residual.result (subst (λ xs. (4 ≤ length xs) × (find component_cmp c.args.id xs ≡ None)) c.self.view_is (full, none))
+    OnErr-always c.from_residual.result
+    (subst (λ xs. (4 ≤ length xs) × (find component_cmp c.args.id xs ≡ None)) c.self.view_is
+    (full, none))
 
 pub place_of-requires : goal.place_of-requires
-place_of-requires c = subst AreRising (sym c.as_slice.ensures) (are_rising c.self.inside.items.items c.self.invariant.0.rising)
+place_of-requires c = subst AreRising (sym c.as_slice.ensures) (are_rising c.self.inside.items.items
+    c.self.invariant.0.rising)

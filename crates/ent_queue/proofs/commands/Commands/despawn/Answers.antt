@@ -6,5 +6,15 @@ use Rattle.ent_queue.proofs.commands.Commands.despawn.Goals as goal
 
 pub returns-clause-extends : goal.returns-clause-extends
 returns-clause-extends c =
-    let a = added_none (reserver_of c.args.self.now).own (Despawn c.args.handle) c.despawn.result (queue_of c.args.self.now) c.despawn.new.self refl tt c.despawn.ensures.ok c.despawn.ensures.err in
-    record { same = refl; shared = refl; ready = c.requires; added = a.added; queue = a.queue; gains = a.gains }
+    let a = added_none (reserver_of c.args.self.now).own (Despawn c.args.handle) c.despawn.result
+    (queue_of c.args.self.now) c.despawn.new.self refl tt c.despawn.ensures.ok
+    c.despawn.ensures.err in
+    record {
+      same = refl;
+      shared = refl;
+      ready = c.requires;
+      added = a.added;
+      queue =
+          a.queue;
+      gains = a.gains;
+    }

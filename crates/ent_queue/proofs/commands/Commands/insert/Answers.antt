@@ -6,5 +6,15 @@ use Rattle.ent_queue.proofs.commands.Commands.insert.Goals as goal
 
 pub returns-clause-extends : goal.returns-clause-extends
 returns-clause-extends c =
-    let a = added_none (reserver_of c.args.self.now).own (Insert c.args.handle c.items.result.now) c.insert.result (queue_of c.args.self.now) c.insert.new.self refl tt c.insert.ensures.ok c.insert.ensures.err in
-    record { same = refl; shared = refl; ready = c.requires; added = a.added; queue = a.queue; gains = a.gains }
+    let a = added_none (reserver_of c.args.self.now).own (Insert c.args.handle c.items.result.now)
+    c.insert.result (queue_of c.args.self.now) c.insert.new.self refl tt c.insert.ensures.ok
+    c.insert.ensures.err in
+    record {
+      same = refl;
+      shared = refl;
+      ready = c.requires;
+      added = a.added;
+      queue =
+          a.queue;
+      gains = a.gains;
+    }

@@ -6,5 +6,15 @@ use Rattle.ent_queue.proofs.commands.Commands.remove.Goals as goal
 
 pub returns-clause-extends : goal.returns-clause-extends
 returns-clause-extends c =
-    let a = added_none (reserver_of c.args.self.now).own (Remove c.args.handle c.args.id) c.remove.result (queue_of c.args.self.now) c.remove.new.self refl tt c.remove.ensures.ok c.remove.ensures.err in
-    record { same = refl; shared = refl; ready = c.requires; added = a.added; queue = a.queue; gains = a.gains }
+    let a = added_none (reserver_of c.args.self.now).own (Remove c.args.handle c.args.id)
+    c.remove.result (queue_of c.args.self.now) c.remove.new.self refl tt c.remove.ensures.ok
+    c.remove.ensures.err in
+    record {
+      same = refl;
+      shared = refl;
+      ready = c.requires;
+      added = a.added;
+      queue =
+          a.queue;
+      gains = a.gains;
+    }

@@ -5,5 +5,16 @@ use Rattle.ent_queue.proofs.commands.Commands.spawn.Goals as goal
 
 pub returns-clause-extends : goal.returns-clause-extends
 returns-clause-extends c =
-    let a = added_spawn (shared_of c.args.self.now) (reserver_of c.args.self.now) c.spawn.new.reserver (queue_of c.args.self.now) c.spawn.new.self c.items.result.now c.spawn.result c.spawn.ensures.ok c.spawn.ensures.refused c.spawn.ensures.memory c.spawn.ensures.answers in
-    record { same = refl; shared = refl; ready = c.spawn.ensures.stays; added = a.added; queue = a.queue; gains = a.gains }
+    let a = added_spawn (shared_of c.args.self.now) (reserver_of c.args.self.now)
+    c.spawn.new.reserver (queue_of c.args.self.now) c.spawn.new.self c.items.result.now
+    c.spawn.result c.spawn.ensures.ok c.spawn.ensures.refused c.spawn.ensures.memory
+    c.spawn.ensures.answers in
+    record {
+      same = refl;
+      shared = refl;
+      ready = c.spawn.ensures.stays;
+      added = a.added;
+      queue =
+          a.queue;
+      gains = a.gains;
+    }

@@ -6,10 +6,15 @@ use Rattle.ent_queue.specs.Unpacking.{unpacked_handle}
 use Rattle.ent_queue.proofs.handles_ref.HandlesIterator.next.Goals as goal
 
 pub handle_of_bits-requires : goal.handle_of_bits-requires
-handle_of_bits-requires c = All-head IsHandle _ _ (subst (λ bytes. All IsHandle (map unpacked_handle bytes)) c.in_ok-first.ensures.cases.0 c.self.invariant)
+handle_of_bits-requires c = All-head IsHandle _ _
+    (subst (λ bytes. All IsHandle (map unpacked_handle bytes)) c.in_ok-first.ensures.cases.0
+    c.self.invariant)
 
 pub invariant_of-self : goal.invariant_of-self
-invariant_of-self c = All-tail IsHandle _ _ (subst (λ bytes. All IsHandle (map unpacked_handle bytes)) c.in_ok-first.ensures.cases.0 c.self.invariant)
+invariant_of-self c = All-tail IsHandle _ _
+    (subst (λ bytes. All IsHandle (map unpacked_handle bytes)) c.in_ok-first.ensures.cases.0
+    c.self.invariant)
 
 pub returns-clause-steps : goal.returns-clause-steps
-returns-clause-steps c = sym c.self.view_is ∙ ap (map unpacked_handle) c.in_ok-first.ensures.cases.0 ∙ ap (λ h. h ∷ map unpacked_handle c.in_ok-first.others.now) (sym c.handle_of.ensures)
+returns-clause-steps c = sym c.self.view_is ∙ ap (map unpacked_handle) c.in_ok-first.ensures.cases.0
+    ∙ ap (λ h. h ∷ map unpacked_handle c.in_ok-first.others.now) (sym c.handle_of.ensures)

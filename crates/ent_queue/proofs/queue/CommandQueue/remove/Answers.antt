@@ -12,15 +12,22 @@ overflow_add-self c =
     Fits-of_lt (omega (arith, few, c.self.inside.bytes.ok.0, c.self.inside.bytes.small))
 
 -- the bytes after the command
-written : (c : goal.After-self-1) → c.write_remove.new.bytes.items ≡ c.self.inside.bytes.items ++ command_bytes (Remove c.args.handle c.args.id)
-written c = c.write_remove.ensures.items ∙ ap (λ bytes. bytes ++ command_bytes (Remove c.args.handle c.args.id)) c.in_ok-reserve.ensures.items
+written : (c : goal.After-self-1) → c.write_remove.new.bytes.items ≡ c.self.inside.bytes.items
+    ++ command_bytes (Remove c.args.handle c.args.id)
+written c = c.write_remove.ensures.items
+    ∙ ap (λ bytes. bytes ++ command_bytes (Remove c.args.handle c.args.id))
+    c.in_ok-reserve.ensures.items
 
-after : (c : goal.After-self-1) → Pushed c.self.inside.count c.self.inside.bytes.items (Remove c.args.handle c.args.id)
-after c = pushed c.self.inside.count c.self.inside.bytes.items (Remove c.args.handle c.args.id) c.self.invariant (c.write_remove.ensures.handle, c.write_remove.ensures.id)
+after : (c : goal.After-self-1) → Pushed c.self.inside.count c.self.inside.bytes.items
+    (Remove c.args.handle c.args.id)
+after c = pushed c.self.inside.count c.self.inside.bytes.items (Remove c.args.handle c.args.id)
+    c.self.invariant (c.write_remove.ensures.handle, c.write_remove.ensures.id)
 
 pub invariant_of-self-2 : goal.invariant_of-self-2
-invariant_of-self-2 c = subst (ArePacked (c.self.inside.count + 1)) (sym (written c)) (after c).packed
+invariant_of-self-2 c = subst (ArePacked (c.self.inside.count + 1)) (sym (written c))
+    (after c).packed
 
 pub returns-clause-ok : goal.returns-clause-ok
 returns-clause-ok c =
-    ap (unpacked_commands (c.self.inside.count + 1)) (written c) ∙ (after c).commands ∙ ap (λ commands. commands ++ Remove c.args.handle c.args.id ∷ []) c.self.view_is
+    ap (unpacked_commands (c.self.inside.count + 1)) (written c) ∙ (after c).commands
+    ∙ ap (λ commands. commands ++ Remove c.args.handle c.args.id ∷ []) c.self.view_is

@@ -24,43 +24,84 @@ pub invariant_of-self-in-Ok : goal.invariant_of-self-in-Ok
 invariant_of-self-in-Ok c =
     let hs = c.in-Ok.given in
     let command = SpawnMany hs c.args.items.now in
-    let written = c.write_bundle.ensures.items ∙ ap (λ bytes. bytes ++ bundle_bytes c.args.items.now) c.write_many.ensures.items ∙ many_written c.reserve.new.self.items hs c.args.items.now c.args.n c.in-Ok.ensures.length ∙ ap (λ bytes. bytes ++ command_bytes command) c.in_ok-reserve.ensures.items in
-    let few : length hs < 2 ^ 32 = subst (λ k. k < 2 ^ 32) (sym c.in-Ok.ensures.length) c.write_many.ensures.number in
-    let after = pushed c.self.inside.count c.self.inside.bytes.items command c.self.invariant (few, c.write_many.ensures.each, c.requires.is) in
+    let written = c.write_bundle.ensures.items
+    ∙ ap (λ bytes. bytes ++ bundle_bytes c.args.items.now) c.write_many.ensures.items
+    ∙ many_written c.reserve.new.self.items hs c.args.items.now c.args.n c.in-Ok.ensures.length
+    ∙ ap (λ bytes. bytes ++ command_bytes command) c.in_ok-reserve.ensures.items in
+    let few : length hs < 2 ^ 32 = subst (λ k. k < 2 ^ 32) (sym c.in-Ok.ensures.length)
+    c.write_many.ensures.number in
+    let after = pushed c.self.inside.count c.self.inside.bytes.items command c.self.invariant
+    (few, c.write_many.ensures.each, c.requires.is) in
     subst (ArePacked (c.self.inside.count + 1)) (sym written) after.packed
 
 pub returns-in-Ok-clause-ok : goal.returns-in-Ok-clause-ok
 returns-in-Ok-clause-ok c =
     let hs = c.in-Ok.given in
     let command = SpawnMany hs c.args.items.now in
-    let written = c.write_bundle.ensures.items ∙ ap (λ bytes. bytes ++ bundle_bytes c.args.items.now) c.write_many.ensures.items ∙ many_written c.reserve.new.self.items hs c.args.items.now c.args.n c.in-Ok.ensures.length ∙ ap (λ bytes. bytes ++ command_bytes command) c.in_ok-reserve.ensures.items in
-    let few : length hs < 2 ^ 32 = subst (λ k. k < 2 ^ 32) (sym c.in-Ok.ensures.length) c.write_many.ensures.number in
-    let after = pushed c.self.inside.count c.self.inside.bytes.items command c.self.invariant (few, c.write_many.ensures.each, c.requires.is) in
-    ap (unpacked_commands (c.self.inside.count + 1)) written ∙ after.commands ∙ ap (λ commands. commands ++ command ∷ []) c.self.view_is
-    ∙ ap (λ gs. c.args.self.now ++ SpawnMany gs c.args.items.now ∷ []) (sym (c.write_many.ensures.handles ∙ ap (λ gs. gs ++ hs) c.in_ok-handles.ensures.items))
+    let written = c.write_bundle.ensures.items
+    ∙ ap (λ bytes. bytes ++ bundle_bytes c.args.items.now) c.write_many.ensures.items
+    ∙ many_written c.reserve.new.self.items hs c.args.items.now c.args.n c.in-Ok.ensures.length
+    ∙ ap (λ bytes. bytes ++ command_bytes command) c.in_ok-reserve.ensures.items in
+    let few : length hs < 2 ^ 32 = subst (λ k. k < 2 ^ 32) (sym c.in-Ok.ensures.length)
+    c.write_many.ensures.number in
+    let after = pushed c.self.inside.count c.self.inside.bytes.items command c.self.invariant
+    (few, c.write_many.ensures.each, c.requires.is) in
+    ap (unpacked_commands (c.self.inside.count + 1)) written ∙ after.commands
+    ∙ ap (λ commands. commands ++ command ∷ []) c.self.view_is
+    ∙ ap (λ gs. c.args.self.now ++ SpawnMany gs c.args.items.now ∷ [])
+    (sym (c.write_many.ensures.handles ∙ ap (λ gs. gs ++ hs) c.in_ok-handles.ensures.items))
 
 pub invariant_of-self-in-Err-1 : goal.invariant_of-self-in-Err-1
 invariant_of-self-in-Err-1 c =
     let command = Refused c.args.n c.in-Err.why in
-    let written = c.write_refused.ensures.items ∙ ap (λ bytes. bytes ++ command_bytes command) c.in_ok-reserve.ensures.items in
-    let answers : IsReply c.args.shared.now c.args.reserver.now c.reserve_many.new.reserver c.args.n (Err c.in-Err.why) = record { quota = c.in-Err.ensures.quota; nothing = c.in-Err.ensures.nothing; gains = c.in-Err.ensures.gains } in
-    let is = is_refusal c.args.shared.now c.args.reserver.now c.reserve_many.new.reserver c.args.n c.in-Err.why answers c.write_refused.ensures.why in
-    let after = pushed c.self.inside.count c.self.inside.bytes.items command c.self.invariant (c.write_refused.ensures.wanted, is) in
+    let written = c.write_refused.ensures.items ∙ ap (λ bytes. bytes ++ command_bytes command)
+    c.in_ok-reserve.ensures.items in
+    let answers : IsReply c.args.shared.now c.args.reserver.now c.reserve_many.new.reserver c.args.n
+    (Err c.in-Err.why) = record {
+      quota = c.in-Err.ensures.quota;
+      nothing =
+          c.in-Err.ensures.nothing;
+      gains = c.in-Err.ensures.gains;
+    } in
+    let is = is_refusal c.args.shared.now c.args.reserver.now c.reserve_many.new.reserver c.args.n
+    c.in-Err.why answers c.write_refused.ensures.why in
+    let after = pushed c.self.inside.count c.self.inside.bytes.items command c.self.invariant
+    (c.write_refused.ensures.wanted, is) in
     subst (ArePacked (c.self.inside.count + 1)) (sym written) after.packed
 
 pub returns-in-Err-clause-refused : goal.returns-in-Err-clause-refused
 returns-in-Err-clause-refused c =
     let command = Refused c.args.n c.in-Err.why in
-    let written = c.write_refused.ensures.items ∙ ap (λ bytes. bytes ++ command_bytes command) c.in_ok-reserve.ensures.items in
-    let answers : IsReply c.args.shared.now c.args.reserver.now c.reserve_many.new.reserver c.args.n (Err c.in-Err.why) = record { quota = c.in-Err.ensures.quota; nothing = c.in-Err.ensures.nothing; gains = c.in-Err.ensures.gains } in
-    let is = is_refusal c.args.shared.now c.args.reserver.now c.reserve_many.new.reserver c.args.n c.in-Err.why answers c.write_refused.ensures.why in
-    let after = pushed c.self.inside.count c.self.inside.bytes.items command c.self.invariant (c.write_refused.ensures.wanted, is) in
+    let written = c.write_refused.ensures.items ∙ ap (λ bytes. bytes ++ command_bytes command)
+    c.in_ok-reserve.ensures.items in
+    let answers : IsReply c.args.shared.now c.args.reserver.now c.reserve_many.new.reserver c.args.n
+    (Err c.in-Err.why) = record {
+      quota = c.in-Err.ensures.quota;
+      nothing =
+          c.in-Err.ensures.nothing;
+      gains = c.in-Err.ensures.gains;
+    } in
+    let is = is_refusal c.args.shared.now c.args.reserver.now c.reserve_many.new.reserver c.args.n
+    c.in-Err.why answers c.write_refused.ensures.why in
+    let after = pushed c.self.inside.count c.self.inside.bytes.items command c.self.invariant
+    (c.write_refused.ensures.wanted, is) in
     ap (unpacked_commands (c.self.inside.count + 1)) written ∙ after.commands
-    ∙ ap (λ commands. commands ++ command ∷ []) c.self.view_is ∙ ap (λ more. c.args.self.now ++ more) (sym (ap (refused_by c.args.n) c.from.ensures ∙ refused_by_fault c.args.n c.in-Err.why))
+    ∙ ap (λ commands. commands ++ command ∷ []) c.self.view_is
+    ∙ ap (λ more. c.args.self.now ++ more) (sym (ap (refused_by c.args.n) c.from.ensures
+    ∙ refused_by_fault c.args.n c.in-Err.why))
 
-pub returns-in-Ok-clause-answers : goal.returns-in-Ok-clause-answers
-returns-in-Ok-clause-answers c answer e =
+pub returns-in-Ok-clause-replies : goal.returns-in-Ok-clause-replies
+returns-in-Ok-clause-replies c answer e =
     let hs = c.in-Ok.given in
-    let listed : Ok hs ≡ answer = queued_ok answer hs (ap Ok (sym (c.write_many.ensures.handles ∙ ap (λ gs. gs ++ hs) c.in_ok-handles.ensures.items)) ∙ e) in
-    let given : IsReply c.args.shared.now c.args.reserver.now c.reserve_many.new.reserver c.args.n (Ok hs) = record { quota = c.in-Ok.ensures.quota; nothing = c.in-Ok.ensures.nothing; gains = c.in-Ok.ensures.gains } in
-    subst (IsReply c.args.shared.now c.args.reserver.now c.reserve_many.new.reserver c.args.n) listed given
+    let listed : Ok hs ≡ answer = queued_ok answer hs
+    (ap Ok (sym (c.write_many.ensures.handles
+    ∙ ap (λ gs. gs ++ hs) c.in_ok-handles.ensures.items)) ∙ e) in
+    let given : IsReply c.args.shared.now c.args.reserver.now c.reserve_many.new.reserver c.args.n
+    (Ok hs) = record {
+      quota = c.in-Ok.ensures.quota;
+      nothing = c.in-Ok.ensures.nothing;
+      gains =
+          c.in-Ok.ensures.gains;
+    } in
+    subst (IsReply c.args.shared.now c.args.reserver.now c.reserve_many.new.reserver c.args.n)
+    listed given

@@ -10,12 +10,16 @@ use Rattle.ent_replay.proofs.by_caller.ByCaller.replace.Goals.{in-Some, in_defau
 
 pub returns : goal.returns
 returns g c =
-    let there : IsSome (tree.get nat_cmp c.self.inside.values c.args.caller) = subst IsSome (sym (ap (λ m. map.get m c.args.caller) c.self.view_is) ∙ get-of_tree c.self.inside.values c.args.caller) c.requires in
+    let there : IsSome (tree.get nat_cmp c.self.inside.values c.args.caller) =
+    subst IsSome (sym (ap (λ m. map.get m c.args.caller) c.self.view_is)
+    ∙ get-of_tree c.self.inside.values c.args.caller) c.requires in
     elim c.match-get_mut.branch [
       | in-Some w ↦
           ap (λ (x : Inside g.row.V.Denot). map.from_entries x.values.entries) w.self-inside-is
           ∙ ap map.from_entries (c.get_mut.follows.holds c.args.value).0
           ∙ from_entries-set c.self.inside.values.entries c.args.caller c.args.value there
           ∙ ap (λ m. map.insert m c.args.caller c.args.value) c.self.view_is
-      | in_default w ↦ absurd (no_test (subst IsSome (sym (ap option_copied_mut (sym w.in_default.is) ∙ c.get_mut.ensures.value)) there))
+      | in_default w ↦ absurd
+          (no_test (subst IsSome (sym (ap option_copied_mut (sym w.in_default.is)
+          ∙ c.get_mut.ensures.value)) there))
     ]

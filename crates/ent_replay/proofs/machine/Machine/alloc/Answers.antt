@@ -29,7 +29,8 @@ pub returns-then-not-is_empty : goal.returns-then-not-is_empty
 returns-then-not-is_empty c =
     let e = c.self.inside in
     let before = machine_state e.entities e.spent e.calls in
-    done on_alloc before c.args.self.now c.self.view_is (Err fault.Busy) (Err fault.Busy) refl c.args.self.now before (sym c.self.view_is)
+    done on_alloc before c.args.self.now c.self.view_is (Err fault.Busy) (Err fault.Busy) refl
+    c.args.self.now before (sym c.self.view_is)
     (busy-alloc e.entities e.spent e.calls (λ none. no_test (c.if-not-is_empty.ensures.1 none)))
 
 pub invariant_of-self : goal.invariant_of-self
@@ -40,10 +41,15 @@ invariant_of-self c =
       | in-Ok w ↦
           let h = w.in-Ok.handle in
           subst (λ s. AreConsistent s e.spent e.calls) (sym w.in-Ok.ensures.ok)
-          (alloc-consistent e.entities e.spent e.calls none h c.self.invariant (λ some. ok_not_err h why.NeedsFlush (w.in-Ok.ensures.needs_flush.1 some)) w.in-Ok.ensures.front)
-      | in-Err-NeedsFlush w ↦ subst (λ s. AreConsistent s e.spent e.calls) (sym w.in-Err-NeedsFlush.ensures.err) c.self.invariant
-      | in-Err-Space w ↦ subst (λ s. AreConsistent s e.spent e.calls) (sym w.in-Err-Space.ensures.err) c.self.invariant
-      | in-Err-Memory w ↦ subst (λ s. AreConsistent s e.spent e.calls) (sym w.in-Err-Memory.ensures.err) c.self.invariant
+          (alloc-consistent e.entities e.spent e.calls none h c.self.invariant
+          (λ some. ok_not_err h why.NeedsFlush (w.in-Ok.ensures.needs_flush.1 some))
+          w.in-Ok.ensures.front)
+      | in-Err-NeedsFlush w ↦ subst (λ s. AreConsistent s e.spent e.calls)
+          (sym w.in-Err-NeedsFlush.ensures.err) c.self.invariant
+      | in-Err-Space w ↦ subst (λ s. AreConsistent s e.spent e.calls)
+          (sym w.in-Err-Space.ensures.err) c.self.invariant
+      | in-Err-Memory w ↦ subst (λ s. AreConsistent s e.spent e.calls)
+          (sym w.in-Err-Memory.ensures.err) c.self.invariant
     ]
 
 pub returns : goal.returns
@@ -55,24 +61,37 @@ returns c =
     elim c.match-alloc.branch [
       | in-Ok w ↦
           let h = w.in-Ok.handle in
-          done on_alloc before c.args.self.now c.self.view_is c.match-alloc.result (Ok (outcome.Handle h)) w.result-is after (machine_state (after_alloc e.entities h) e.spent e.calls)
+          done on_alloc before c.args.self.now c.self.view_is c.match-alloc.result
+          (Ok (outcome.Handle h)) w.result-is after (machine_state (after_alloc e.entities h)
+          e.spent e.calls)
           (ap (λ (s : Allocator). machine_state s e.spent e.calls) w.in-Ok.ensures.ok)
-          (alloc-given e.entities e.spent e.calls none h (λ some. ok_not_err h why.NeedsFlush (w.in-Ok.ensures.needs_flush.1 some)) w.in-Ok.ensures.front)
+          (alloc-given e.entities e.spent e.calls none h (λ some. ok_not_err h why.NeedsFlush
+          (w.in-Ok.ensures.needs_flush.1 some)) w.in-Ok.ensures.front)
       | in-Err-NeedsFlush w ↦
           let why = w.in-Err-NeedsFlush in
-          done on_alloc before c.args.self.now c.self.view_is c.match-alloc.result (Ok outcome.NeedsFlush) w.result-is after before
+          done on_alloc before c.args.self.now c.self.view_is c.match-alloc.result
+          (Ok outcome.NeedsFlush) w.result-is after before
           (ap (λ (s : Allocator). machine_state s e.spent e.calls) why.ensures.err)
-          (alloc-needs_flush e.entities e.spent e.calls none (why.ensures.needs_flush.0 (ap Err why.field-0-is)))
+          (alloc-needs_flush e.entities e.spent e.calls none
+          (why.ensures.needs_flush.0 (ap Err why.field-0-is)))
       | in-Err-Space w ↦
           let why = w.in-Err-Space in
           let both = why.ensures.space.0 (ap Err why.field-0-is) in
-          done on_alloc before c.args.self.now c.self.view_is c.match-alloc.result (Ok (outcome.Space 1 0)) w.result-is after before
+          done on_alloc before c.args.self.now c.self.view_is c.match-alloc.result
+          (Ok (outcome.Space 1 0)) w.result-is after before
           (ap (λ (s : Allocator). machine_state s e.spent e.calls) why.ensures.err)
           (alloc-space e.entities e.spent e.calls none both.0 both.1)
       | in-Err-Memory w ↦
           let why = w.in-Err-Memory in
-          refused on_alloc before c.args.self.now c.self.view_is c.match-alloc.result w.result-is after (ap (λ (s : Allocator). machine_state s e.spent e.calls) why.ensures.err)
-          (alloc-takes_memory e.entities e.spent e.calls none c.self.invariant.sound (λ some. not_needs_flush why.field-0 why.field-0-is (why.ensures.needs_flush.1 some))
-          (λ empty. not_space why.field-0 why.field-0-is (why.ensures.space.1 (flushed (λ some. not_needs_flush why.field-0 why.field-0-is (why.ensures.needs_flush.1 some)), empty)))
+          refused on_alloc before c.args.self.now c.self.view_is c.match-alloc.result w.result-is
+          after (ap (λ (s : Allocator). machine_state s e.spent e.calls) why.ensures.err)
+          (alloc-takes_memory e.entities e.spent e.calls none c.self.invariant.sound
+          (λ some. not_needs_flush why.field-0 why.field-0-is (why.ensures.needs_flush.1 some))
+          (λ empty. not_space why.field-0 why.field-0-is
+          (why.ensures.space.1 (
+            flushed (λ some. not_needs_flush why.field-0 why.field-0-is
+                (why.ensures.needs_flush.1 some)),
+            empty,
+          )))
           (why.ensures.memory (ap Err why.field-0-is)))
     ]

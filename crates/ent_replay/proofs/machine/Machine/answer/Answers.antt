@@ -17,22 +17,35 @@ pub returns-in_default : goal.returns-in_default
 returns-in_default c =
     let e = c.self.inside in
     let before = machine_state e.entities e.spent e.calls in
-    done (λ v. on_answer v c.args.caller) before c.args.self.now c.self.view_is (Err fault.NotOpen) (Err fault.NotOpen) refl c.args.self.now before (sym c.self.view_is)
-    (answer-not_open e.entities e.spent e.calls c.args.caller (omega arith) (sym c.get.ensures ∙ c.in_default.is))
+    done (λ v. on_answer v c.args.caller) before c.args.self.now c.self.view_is (Err fault.NotOpen)
+    (Err fault.NotOpen) refl c.args.self.now before (sym c.self.view_is)
+    (answer-not_open e.entities e.spent e.calls c.args.caller (omega arith) (sym c.get.ensures
+    ∙ c.in_default.is))
 
 pub returns-in_default-span : goal.returns-in_default-span
 returns-in_default-span c =
     let e = c.self.inside in
     let before = machine_state e.entities e.spent e.calls in
-    done (λ v. on_answer v c.args.caller) before c.args.self.now c.self.view_is (Err fault.NotStepped) (Err fault.NotStepped) refl c.args.self.now before (sym c.self.view_is)
-    (answer-not_stepped e.entities e.spent e.calls c.args.caller (omega arith) c.in-Some.call (sym c.get.ensures ∙ c.in-Some.is) c.in_default-span.is)
+    done (λ v. on_answer v c.args.caller) before c.args.self.now c.self.view_is
+    (Err fault.NotStepped) (Err fault.NotStepped) refl c.args.self.now before
+    (sym c.self.view_is)
+    (answer-not_stepped e.entities e.spent e.calls c.args.caller (omega arith) c.in-Some.call
+    (sym c.get.ensures ∙ c.in-Some.is) c.in_default-span.is)
 
 pub reply-requires : goal.reply-requires
 reply-requires c =
-    let passed = c.self.invariant.spans c.args.caller c.in-Some.call c.in-Some-span.span (sym c.get.ensures ∙ c.in-Some.is) c.in-Some-span.is in
-    let small = c.self.invariant.requests c.args.caller c.in-Some.call (sym c.get.ensures ∙ c.in-Some.is) in
+    let passed = c.self.invariant.spans c.args.caller c.in-Some.call c.in-Some-span.span
+    (sym c.get.ensures ∙ c.in-Some.is) c.in-Some-span.is in
+    let small = c.self.invariant.requests c.args.caller c.in-Some.call (sym c.get.ensures
+    ∙ c.in-Some.is) in
     let low = passed.low in
-    record { least = passed.least; passed = passed.high; short = omega (arith, ints); ordered = omega (arith, ints) }
+    record {
+      least = passed.least;
+      passed = passed.high;
+      short = omega (arith, ints);
+      ordered =
+          omega (arith, ints);
+    }
 
 pub returns-in-Err-listed : goal.returns-in-Err-listed
 returns-in-Err-listed c =
@@ -40,21 +53,29 @@ returns-in-Err-listed c =
     let before = machine_state e.entities e.spent e.calls in
     let call = c.in-Some.call in
     let span = c.in-Some-span.span in
-    let passed = c.self.invariant.spans c.args.caller call span (sym c.get.ensures ∙ c.in-Some.is) c.in-Some-span.is in
+    let passed = c.self.invariant.spans c.args.caller call span (sym c.get.ensures ∙ c.in-Some.is)
+    c.in-Some-span.is in
     let says = c.reply.ensures call.requested passed.low in
-    refused (λ v. on_answer v c.args.caller) before c.args.self.now c.self.view_is (Err fault.Memory) refl c.args.self.now (sym c.self.view_is)
-    (ap (λ p. event_takes_memory before p.0) (answer-answered e.entities e.spent e.calls c.args.caller (omega arith) call (sym c.get.ensures ∙ c.in-Some.is) span c.in-Some-span.is)
+    refused (λ v. on_answer v c.args.caller) before c.args.self.now c.self.view_is
+    (Err fault.Memory) refl c.args.self.now (sym c.self.view_is)
+    (ap (λ p. event_takes_memory before p.0) (answer-answered e.entities e.spent e.calls
+    c.args.caller (omega arith) call (sym c.get.ensures ∙ c.in-Some.is) span c.in-Some-span.is)
     ∙ ap (λ (r : Reply). event_takes_memory before (Ok (reported r))) (sym says ∙ c.in-Ok.is)
     ∙ listed-takes_memory before _ c.in-Err-listed.ensures.memory)
 
 pub invariant_of-self : goal.invariant_of-self
 invariant_of-self c =
     let e = c.self.inside in
-    let unchanged : c.match-reply.self-inside ≡ e = elim c.match-reply.branch [ in-Ok+in-Ok-listed w ↦ w.self-inside-is | in-Err w ↦ w.self-inside-is ] in
-    let calls = c.remove.ensures ∙ ap (λ (x : Inside). finite.remove x.calls c.args.caller) unchanged in
-    subst (λ m. AreConsistent c.match-reply.self-inside.entities c.match-reply.self-inside.spent m) (sym calls)
-    (subst (λ (x : Inside). AreConsistent x.entities x.spent (finite.remove e.calls c.args.caller)) (sym unchanged)
-    (answer-consistent e.entities e.spent e.calls c.args.caller (omega arith) c.in-Some.call (sym c.get.ensures ∙ c.in-Some.is) c.self.invariant c.in-Some-span.span c.in-Some-span.is))
+    let unchanged : c.match-reply.self-inside ≡ e = elim c.match-reply.branch
+    [ in-Ok+in-Ok-listed w ↦ w.self-inside-is | in-Err w ↦ w.self-inside-is ] in
+    let calls = c.remove.ensures ∙ ap (λ (x : Inside). finite.remove x.calls c.args.caller)
+    unchanged in
+    subst (λ m. AreConsistent c.match-reply.self-inside.entities c.match-reply.self-inside.spent m)
+    (sym calls)
+    (subst (λ (x : Inside). AreConsistent x.entities x.spent (finite.remove e.calls c.args.caller))
+    (sym unchanged)
+    (answer-consistent e.entities e.spent e.calls c.args.caller (omega arith) c.in-Some.call
+    (sym c.get.ensures ∙ c.in-Some.is) c.self.invariant c.in-Some-span.span c.in-Some-span.is))
 
 pub returns : goal.returns
 returns c =
@@ -62,17 +83,27 @@ returns c =
     let before = machine_state e.entities e.spent e.calls in
     let call = c.in-Some.call in
     let span = c.in-Some-span.span in
-    let passed = c.self.invariant.spans c.args.caller call span (sym c.get.ensures ∙ c.in-Some.is) c.in-Some-span.is in
+    let passed = c.self.invariant.spans c.args.caller call span (sym c.get.ensures ∙ c.in-Some.is)
+    c.in-Some-span.is in
     let says = c.reply.ensures call.requested passed.low in
-    let unchanged : c.match-reply.self-inside ≡ e = elim c.match-reply.branch [ in-Ok+in-Ok-listed w ↦ w.self-inside-is | in-Err w ↦ w.self-inside-is ] in
-    let calls = c.remove.ensures ∙ ap (λ (x : Inside). finite.remove x.calls c.args.caller) unchanged in
-    let told : c.match-reply.outcome ≡ reported (reply_from e.entities.made (pool_at e.entities span.high) call.requested) = elim c.match-reply.branch [
-      | in-Ok+in-Ok-listed w ↦ w.outcome-is ∙ ap outcome.Handles w.in-Ok-listed.ensures.ok ∙ ap reported (sym w.in-Ok.is ∙ says)
+    let unchanged : c.match-reply.self-inside ≡ e = elim c.match-reply.branch
+    [ in-Ok+in-Ok-listed w ↦ w.self-inside-is | in-Err w ↦ w.self-inside-is ] in
+    let calls = c.remove.ensures ∙ ap (λ (x : Inside). finite.remove x.calls c.args.caller)
+    unchanged in
+    let told : c.match-reply.outcome
+    ≡ reported (reply_from e.entities.made (pool_at e.entities span.high) call.requested) =
+    elim c.match-reply.branch [
+      | in-Ok+in-Ok-listed w ↦ w.outcome-is ∙ ap outcome.Handles w.in-Ok-listed.ensures.ok
+          ∙ ap reported (sym w.in-Ok.is ∙ says)
       | in-Err w ↦ w.outcome-is ∙ ap reported (sym w.in-Err.is ∙ says)
     ] in
-    done (λ v. on_answer v c.args.caller) before c.args.self.now c.self.view_is (Ok c.match-reply.outcome) (Ok (reported (reply_from e.entities.made (pool_at e.entities span.high) call.requested)))
+    done (λ v. on_answer v c.args.caller) before c.args.self.now c.self.view_is
+    (Ok c.match-reply.outcome)
+    (Ok (reported (reply_from e.entities.made (pool_at e.entities span.high) call.requested)))
     (ap (λ (o : Outcome). Ok o) told)
-    (machine_state c.match-reply.self-inside.entities c.match-reply.self-inside.spent c.remove.new.self)
+    (machine_state c.match-reply.self-inside.entities c.match-reply.self-inside.spent
+    c.remove.new.self)
     (machine_state e.entities e.spent (finite.remove e.calls c.args.caller))
     (λ i. machine_state (unchanged i).entities (unchanged i).spent (calls i))
-    (answer-answered e.entities e.spent e.calls c.args.caller (omega arith) call (sym c.get.ensures ∙ c.in-Some.is) span c.in-Some-span.is)
+    (answer-answered e.entities e.spent e.calls c.args.caller (omega arith) call (sym c.get.ensures
+    ∙ c.in-Some.is) span c.in-Some-span.is)

@@ -17,11 +17,13 @@ pub returns-then-not-is_empty : goal.returns-then-not-is_empty
 returns-then-not-is_empty c =
     let e = c.self.inside in
     let before = machine_state e.entities e.spent e.calls in
-    done on_flush before c.args.self.now c.self.view_is (Err fault.Busy) (Err fault.Busy) refl c.args.self.now before (sym c.self.view_is)
+    done on_flush before c.args.self.now c.self.view_is (Err fault.Busy) (Err fault.Busy) refl
+    c.args.self.now before (sym c.self.view_is)
     (busy-flush e.entities e.spent e.calls (λ none. no_test (c.if-not-is_empty.ensures.1 none)))
 
 -- what has an element that passes has an element
-some_of_filter : {X : Type 0} (p : X → Bool) (xs : List X) → 0 < length (filter p xs) → 0 < length xs
+some_of_filter : {X : Type 0} (p : X → Bool) (xs : List X) → 0 < length (filter p xs) → 0
+    < length xs
 some_of_filter p [] some = some
 some_of_filter p (x ∷ xs) some = omega arith
 
@@ -30,13 +32,16 @@ returns-then-is_err c =
     let e = c.self.inside in
     let none = c.if-not-is_empty.ensures.0 refl in
     let before = machine_state e.entities e.spent e.calls in
-    let unchanged : c.flush.new.self ≡ e.entities = on_err c.flush.result c.if-is_err.ensures.value c.flush.ensures.err in
+    let unchanged : c.flush.new.self ≡ e.entities = on_err c.flush.result c.if-is_err.ensures.value
+    c.flush.ensures.err in
     let empty : vec_len c.new-born.result ≡ 0 = c.new-born.ensures.len in
-    let some : 0 < length e.entities.taken = elim (on_err c.flush.result c.if-is_err.ensures.value c.flush.ensures.memory) [
+    let some : 0 < length e.entities.taken = elim (on_err c.flush.result c.if-is_err.ensures.value
+    c.flush.ensures.memory) [
       | inl fresh ↦ some_of_filter (is_fresh e.entities.made) e.entities.taken fresh
       | inr lacking ↦ omega arith
     ] in
-    refused on_flush before c.args.self.now c.self.view_is (Err fault.Memory) refl (machine_state c.flush.new.self e.spent e.calls)
+    refused on_flush before c.args.self.now c.self.view_is (Err fault.Memory) refl
+    (machine_state c.flush.new.self e.spent e.calls)
     (ap (λ s. machine_state s e.spent e.calls) unchanged)
     (flush-takes_memory e.entities e.spent e.calls none some)
 
@@ -44,19 +49,27 @@ pub invariant_of-self-2 : goal.invariant_of-self-2
 invariant_of-self-2 c =
     let e = c.self.inside in
     let none = c.if-not-is_empty.ensures.0 refl in
-    let flushed : c.flush.new.self ≡ after_flush e.entities = on_ok c.flush.result c.if-is_err.ensures.value c.flush.ensures.ok in
+    let flushed : c.flush.new.self ≡ after_flush e.entities = on_ok c.flush.result
+    c.if-is_err.ensures.value c.flush.ensures.ok in
     subst (λ s. AreConsistent s c.clear.new.self e.calls) (sym flushed)
-    (subst (λ m. AreConsistent (after_flush e.entities) m e.calls) (sym c.clear.ensures) (flush-consistent e.entities e.spent e.calls none c.self.invariant))
+    (subst (λ m. AreConsistent (after_flush e.entities) m e.calls) (sym c.clear.ensures)
+    (flush-consistent e.entities e.spent e.calls none c.self.invariant))
 
 pub returns : goal.returns
 returns c =
     let e = c.self.inside in
     let none = c.if-not-is_empty.ensures.0 refl in
     let before = machine_state e.entities e.spent e.calls in
-    let flushed : c.flush.new.self ≡ after_flush e.entities = on_ok c.flush.result c.if-is_err.ensures.value c.flush.ensures.ok in
-    let items : c.flush.new.out.items ≡ c.new-born.result.items ++ born e.entities = on_ok c.flush.result c.if-is_err.ensures.value c.flush.ensures.born in
-    let listed : c.new.result ≡ born e.entities = c.new.ensures ∙ items ∙ ap (λ hs. hs ++ born e.entities) c.new-born.ensures.items in
-    done on_flush before c.args.self.now c.self.view_is (Ok (outcome.Born c.new.result)) (Ok (outcome.Born (born e.entities))) (ap (λ (hs : List Handle). Ok (outcome.Born hs)) listed)
-    (machine_state c.flush.new.self c.clear.new.self e.calls) (machine_state (after_flush e.entities) finite.empty e.calls)
+    let flushed : c.flush.new.self ≡ after_flush e.entities = on_ok c.flush.result
+    c.if-is_err.ensures.value c.flush.ensures.ok in
+    let items : c.flush.new.out.items ≡ c.new-born.result.items ++ born e.entities =
+    on_ok c.flush.result c.if-is_err.ensures.value c.flush.ensures.born in
+    let listed : c.new.result ≡ born e.entities = c.new.ensures ∙ items
+    ∙ ap (λ hs. hs ++ born e.entities) c.new-born.ensures.items in
+    done on_flush before c.args.self.now c.self.view_is (Ok (outcome.Born c.new.result))
+    (Ok (outcome.Born (born e.entities))) (ap (λ (hs : List Handle). Ok (outcome.Born hs))
+    listed)
+    (machine_state c.flush.new.self c.clear.new.self e.calls)
+    (machine_state (after_flush e.entities) finite.empty e.calls)
     (λ i. machine_state (flushed i) (c.clear.ensures i) e.calls)
     (flush-flushed e.entities e.spent e.calls none)

@@ -29,8 +29,10 @@ pub returns-then-not-is_empty : goal.returns-then-not-is_empty
 returns-then-not-is_empty c =
     let e = c.self.inside in
     let before = machine_state e.entities e.spent e.calls in
-    done (λ v. on_free v c.args.handle) before c.args.self.now c.self.view_is (Err fault.Busy) (Err fault.Busy) refl c.args.self.now before (sym c.self.view_is)
-    (busy-free e.entities e.spent e.calls (λ none. no_test (c.if-not-is_empty.ensures.1 none)) c.args.handle)
+    done (λ v. on_free v c.args.handle) before c.args.self.now c.self.view_is (Err fault.Busy)
+    (Err fault.Busy) refl c.args.self.now before (sym c.self.view_is)
+    (busy-free e.entities e.spent e.calls (λ none. no_test (c.if-not-is_empty.ensures.1 none))
+    c.args.handle)
 
 pub invariant_of-self : goal.invariant_of-self
 invariant_of-self c =
@@ -39,10 +41,15 @@ invariant_of-self c =
     elim c.match-free.branch [
       | in-Ok w ↦
           subst (λ s. AreConsistent s e.spent e.calls) (sym w.in-Ok.ensures.ok)
-          (free-consistent e.entities e.spent e.calls none c.args.handle c.self.invariant (λ some. ok_not_err w.in-Ok.freed why.NeedsFlush (w.in-Ok.ensures.needs_flush.1 some)) w.in-Ok.ensures.lived)
-      | in-Err-NeedsFlush w ↦ subst (λ s. AreConsistent s e.spent e.calls) (sym w.in-Err-NeedsFlush.ensures.err) c.self.invariant
-      | in-Err-NotAlive w ↦ subst (λ s. AreConsistent s e.spent e.calls) (sym w.in-Err-NotAlive.ensures.err) c.self.invariant
-      | in-Err-Memory w ↦ subst (λ s. AreConsistent s e.spent e.calls) (sym w.in-Err-Memory.ensures.err) c.self.invariant
+          (free-consistent e.entities e.spent e.calls none c.args.handle c.self.invariant
+          (λ some. ok_not_err w.in-Ok.freed why.NeedsFlush (w.in-Ok.ensures.needs_flush.1 some))
+          w.in-Ok.ensures.lived)
+      | in-Err-NeedsFlush w ↦ subst (λ s. AreConsistent s e.spent e.calls)
+          (sym w.in-Err-NeedsFlush.ensures.err) c.self.invariant
+      | in-Err-NotAlive w ↦ subst (λ s. AreConsistent s e.spent e.calls)
+          (sym w.in-Err-NotAlive.ensures.err) c.self.invariant
+      | in-Err-Memory w ↦ subst (λ s. AreConsistent s e.spent e.calls)
+          (sym w.in-Err-Memory.ensures.err) c.self.invariant
     ]
 
 pub returns : goal.returns
@@ -55,26 +62,40 @@ returns c =
     elim c.match-free.branch [
       | in-Ok w ↦
           let freed = w.in-Ok.freed in
-          let wrapped : freed.wrapped ≡ wraps e.entities.limits h = same_test freed.wrapped h.generation e.entities.limits.generations w.in-Ok.ensures.wrapped in
-          done (λ v. on_free v h) before c.args.self.now c.self.view_is c.match-free.result (Ok (outcome.Freed h (next e.entities.limits h) (wraps e.entities.limits h)))
+          let wrapped : freed.wrapped ≡ wraps e.entities.limits h = same_test freed.wrapped
+          h.generation e.entities.limits.generations w.in-Ok.ensures.wrapped in
+          done (λ v. on_free v h) before c.args.self.now c.self.view_is c.match-free.result
+          (Ok (outcome.Freed h (next e.entities.limits h) (wraps e.entities.limits h)))
           (w.result-is ∙ (λ i. Ok (outcome.Freed h (w.in-Ok.ensures.next i) (wrapped i))))
           after (machine_state (after_free e.entities h) e.spent e.calls)
           (ap (λ (s : Allocator). machine_state s e.spent e.calls) w.in-Ok.ensures.ok)
-          (free-freed e.entities e.spent e.calls none h (λ some. ok_not_err freed why.NeedsFlush (w.in-Ok.ensures.needs_flush.1 some)) w.in-Ok.ensures.lived)
+          (free-freed e.entities e.spent e.calls none h (λ some. ok_not_err freed why.NeedsFlush
+          (w.in-Ok.ensures.needs_flush.1 some)) w.in-Ok.ensures.lived)
       | in-Err-NeedsFlush w ↦
           let why = w.in-Err-NeedsFlush in
-          done (λ v. on_free v h) before c.args.self.now c.self.view_is c.match-free.result (Ok outcome.NeedsFlush) w.result-is after before
+          done (λ v. on_free v h) before c.args.self.now c.self.view_is c.match-free.result
+          (Ok outcome.NeedsFlush) w.result-is after before
           (ap (λ (s : Allocator). machine_state s e.spent e.calls) why.ensures.err)
-          (free-needs_flush e.entities e.spent e.calls none h (why.ensures.needs_flush.0 (ap Err why.field-0-is)))
+          (free-needs_flush e.entities e.spent e.calls none h
+          (why.ensures.needs_flush.0 (ap Err why.field-0-is)))
       | in-Err-NotAlive w ↦
           let why = w.in-Err-NotAlive in
           let both = why.ensures.not_alive.0 (ap Err why.field-0-is) in
-          done (λ v. on_free v h) before c.args.self.now c.self.view_is c.match-free.result (Ok outcome.NotAlive) w.result-is after before
+          done (λ v. on_free v h) before c.args.self.now c.self.view_is c.match-free.result
+          (Ok outcome.NotAlive) w.result-is after before
           (ap (λ (s : Allocator). machine_state s e.spent e.calls) why.ensures.err)
           (free-not_alive e.entities e.spent e.calls none h both.0 both.1)
       | in-Err-Memory w ↦
           let why = w.in-Err-Memory in
-          refused (λ v. on_free v h) before c.args.self.now c.self.view_is c.match-free.result w.result-is after (ap (λ (s : Allocator). machine_state s e.spent e.calls) why.ensures.err)
-          (free-takes_memory e.entities e.spent e.calls none h (λ some. not_needs_flush why.field-0 why.field-0-is (why.ensures.needs_flush.1 some))
-          (λ gone. not_gone why.field-0 why.field-0-is (why.ensures.not_alive.1 (flushed (λ some. not_needs_flush why.field-0 why.field-0-is (why.ensures.needs_flush.1 some)), gone))))
+          refused (λ v. on_free v h) before c.args.self.now c.self.view_is c.match-free.result
+          w.result-is after (ap (λ (s : Allocator). machine_state s e.spent e.calls)
+          why.ensures.err)
+          (free-takes_memory e.entities e.spent e.calls none h (λ some. not_needs_flush why.field-0
+          why.field-0-is (why.ensures.needs_flush.1 some))
+          (λ gone. not_gone why.field-0 why.field-0-is
+          (why.ensures.not_alive.1 (
+            flushed (λ some. not_needs_flush why.field-0 why.field-0-is
+                (why.ensures.needs_flush.1 some)),
+            gone,
+          ))))
     ]

@@ -10,8 +10,11 @@ invariant_of-result c =
     let s = c.new-entities.result in
     subst (λ m. AreConsistent s m c.new-2.result) (sym c.new.ensures)
     (subst (λ m. AreConsistent s finite.empty m) (sym c.new-2.ensures)
-    (subst (λ t. AreConsistent t finite.empty finite.empty) (sym c.new-entities.ensures) (starting-consistent c.args.limits (subst IsSound c.new-entities.ensures c.cursor.ensures.sound))))
+    (subst (λ t. AreConsistent t finite.empty finite.empty) (sym c.new-entities.ensures)
+    (starting-consistent c.args.limits (subst IsSound c.new-entities.ensures
+    c.cursor.ensures.sound))))
 
 pub returns : goal.returns
 returns c =
-    (λ i. Ok (machine_state (c.new-entities.ensures i) (c.new.ensures i) (c.new-2.ensures i))) ∙ ap Ok (starting_is c.args.limits)
+    (λ i. Ok (machine_state (c.new-entities.ensures i) (c.new.ensures i) (c.new-2.ensures i)))
+    ∙ ap Ok (starting_is c.args.limits)

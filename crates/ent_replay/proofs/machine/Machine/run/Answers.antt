@@ -17,34 +17,49 @@ use Rattle.ent_replay.proofs.Schedules.{after_events-append, outcomes_of-append}
 use Rattle.ent_replay.proofs.machine.Machine.run.Goals as goal
 
 -- all outcomes, where the loop has seen all events
-all_outcomes : (s : MachineState) (outcomes : List (Result Outcome ReplayFault)) (events : List Event) (done : ℕ) → length events ≤ done → outcomes ≡ outcomes_of s (take done events) → outcomes ≡ outcomes_of s events
+all_outcomes : (s : MachineState) (outcomes : List (Result Outcome ReplayFault))
+    (events : List Event) (done : ℕ) → length events ≤ done → outcomes
+    ≡ outcomes_of s (take done events) → outcomes ≡ outcomes_of s events
 all_outcomes s outcomes events done seen is = is ∙ ap (outcomes_of s) (take_all done events seen)
 
 pub returns-clause-history : goal.returns-clause-history
 returns-clause-history c =
-    let all = all_outcomes c.args.self.now c.loop-done.outcomes.items c.args.events.now c.loop-done.done (omega arith) c.loop-done.invariant.1 in
-    λ rest. subst (StandInHistory (new_phase c.args.self.now) c.args.self.now c.args.events.now) (sym all) (linear c.args.self.now c.args.events.now rest)
+    let all = all_outcomes c.args.self.now c.loop-done.outcomes.items c.args.events.now
+    c.loop-done.done (omega arith) c.loop-done.invariant.1 in
+    λ rest. subst (StandInHistory (new_phase c.args.self.now) c.args.self.now c.args.events.now)
+    (sym all) (linear c.args.self.now c.args.events.now rest)
 
 pub returns-clause-given_once : goal.returns-clause-given_once
 returns-clause-given_once c =
-    let all = all_outcomes c.args.self.now c.loop-done.outcomes.items c.args.events.now c.loop-done.done (omega arith) c.loop-done.invariant.1 in
+    let all = all_outcomes c.args.self.now c.loop-done.outcomes.items c.args.events.now
+    c.loop-done.done (omega arith) c.loop-done.invariant.1 in
     let e = c.self.inside in
     λ fresh. subst (λ results. AreGivenOnce (given_by_all results)) (sym all)
-    (subst (λ (s : MachineState). NoneWrapped (outcomes_of s c.args.events.now) → AreGivenOnce (given_by_all (outcomes_of s c.args.events.now))) c.self.view_is
-    (given_once (machine_state e.entities e.spent e.calls) c.args.events.now c.self.invariant.sound c.self.invariant.once)
+    (subst (λ (s : MachineState). NoneWrapped (outcomes_of s c.args.events.now)
+    → AreGivenOnce (given_by_all (outcomes_of s c.args.events.now))) c.self.view_is
+    (given_once (machine_state e.entities e.spent e.calls) c.args.events.now c.self.invariant.sound
+    c.self.invariant.once)
     (subst NoneWrapped all fresh))
 
 pub loop-done-preserved : goal.loop-done-preserved
 loop-done-preserved c =
     let event = c.index-events-done.result in
-    let other : c.step-outcome.result ≢ Err fault.Memory = λ is. no_test (c.if-is_out_of_memory.ensures.1 is) in
-    let more : take (c.loop-done.done + 1) c.args.events.now ≡ take c.loop-done.done c.args.events.now ++ event ∷ [] = take_more c.args.events.now c.loop-done.done event (omega arith) ∙ ap (λ (x : Event). take c.loop-done.done c.args.events.now ++ x ∷ []) (sym c.index-events-done.is) in (
+    let other : c.step-outcome.result ≢ Err fault.Memory = λ is.
+    no_test (c.if-is_out_of_memory.ensures.1 is) in
+    let more : take (c.loop-done.done + 1) c.args.events.now
+    ≡ take c.loop-done.done c.args.events.now ++ event ∷ [] = take_more c.args.events.now
+    c.loop-done.done event (omega arith)
+    ∙ ap (λ (x : Event). take c.loop-done.done c.args.events.now ++ x ∷ [])
+    (sym c.index-events-done.is) in (
       c.step-outcome.ensures.state other ∙ ap (λ s. after_event s event) c.loop-done.invariant.0
-          ∙ sym (after_events-append c.args.self.now (take c.loop-done.done c.args.events.now) (event ∷ []))
+          ∙ sym (after_events-append c.args.self.now (take c.loop-done.done c.args.events.now)
+          (event ∷ []))
           ∙ ap (after_events c.args.self.now) (sym more),
       c.push_reserved.ensures.items
-          ∙ (λ i. c.loop-done.invariant.1 i ++ (c.step-outcome.ensures.outcome other ∙ ap (λ s. outcome_of s event) c.loop-done.invariant.0) i ∷ [])
-          ∙ sym (outcomes_of-append c.args.self.now (take c.loop-done.done c.args.events.now) (event ∷ []))
+          ∙ (λ i. c.loop-done.invariant.1 i ++ (c.step-outcome.ensures.outcome other
+          ∙ ap (λ s. outcome_of s event) c.loop-done.invariant.0) i ∷ [])
+          ∙ sym (outcomes_of-append c.args.self.now (take c.loop-done.done c.args.events.now) (event
+          ∷ []))
           ∙ ap (outcomes_of c.args.self.now) (sym more),
       omega arith,
       omega arith,

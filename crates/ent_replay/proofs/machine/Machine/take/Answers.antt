@@ -16,23 +16,30 @@ pub returns-in_default : goal.returns-in_default
 returns-in_default c =
     let e = c.self.inside in
     let before = machine_state e.entities e.spent e.calls in
-    done (λ v. on_step v c.args.caller) before c.args.self.now c.self.view_is (Err fault.NotOpen) (Err fault.NotOpen) refl c.args.self.now before (sym c.self.view_is)
-    (step-not_open e.entities e.spent e.calls c.args.caller (omega arith) (sym c.get.ensures ∙ c.in_default.is))
+    done (λ v. on_step v c.args.caller) before c.args.self.now c.self.view_is (Err fault.NotOpen)
+    (Err fault.NotOpen) refl c.args.self.now before (sym c.self.view_is)
+    (step-not_open e.entities e.spent e.calls c.args.caller (omega arith) (sym c.get.ensures
+    ∙ c.in_default.is))
 
 pub returns-then-is_some : goal.returns-then-is_some
 returns-then-is_some c =
     let e = c.self.inside in
     let before = machine_state e.entities e.spent e.calls in
     let passed = some_of c.in-Some.call.span c.if-is_some.ensures in
-    done (λ v. on_step v c.args.caller) before c.args.self.now c.self.view_is (Err fault.AlreadyStepped) (Err fault.AlreadyStepped) refl c.args.self.now before (sym c.self.view_is)
-    (step-stepped e.entities e.spent e.calls c.args.caller (omega arith) c.in-Some.call (sym c.get.ensures ∙ c.in-Some.is) passed.0 passed.1)
+    done (λ v. on_step v c.args.caller) before c.args.self.now c.self.view_is
+    (Err fault.AlreadyStepped) (Err fault.AlreadyStepped) refl c.args.self.now before
+    (sym c.self.view_is)
+    (step-stepped e.entities e.spent e.calls c.args.caller (omega arith) c.in-Some.call
+    (sym c.get.ensures ∙ c.in-Some.is) passed.0 passed.1)
 
 pub lower-span-requires : goal.lower-span-requires
 lower-span-requires c =
     let e = c.self.inside in
     let waits = none_of c.in-Some.call.span c.if-is_some.ensures in
-    let bound = awaited-bound e.entities e.spent e.calls c.args.caller (omega arith) c.self.invariant c.in-Some.call (sym c.get.ensures ∙ c.in-Some.is) in
-    let asks : unasked c.in-Some.call.requested c.in-Some.call.span ≡ c.in-Some.call.requested = ap (unasked c.in-Some.call.requested) waits in
+    let bound = awaited-bound e.entities e.spent e.calls c.args.caller (omega arith)
+    c.self.invariant c.in-Some.call (sym c.get.ensures ∙ c.in-Some.is) in
+    let asks : unasked c.in-Some.call.requested c.in-Some.call.span ≡ c.in-Some.call.requested =
+    ap (unasked c.in-Some.call.requested) waits in
     omega arith
 
 pub invariant_of-self : goal.invariant_of-self
@@ -40,10 +47,13 @@ invariant_of-self c =
     let e = c.self.inside in
     let call = c.in-Some.call in
     let waits = none_of call.span c.if-is_some.ensures in
-    let calls = c.replace.ensures ∙ ap (λ (x : Span). finite.insert e.calls c.args.caller (record { requested = call.requested; span = Some x })) c.lower-span.ensures.span in
+    let calls = c.replace.ensures
+    ∙ ap (λ (x : Span). finite.insert e.calls c.args.caller
+    (record { requested = call.requested; span = Some x })) c.lower-span.ensures.span in
     subst (λ s. AreConsistent s e.spent c.replace.new.self) (sym c.lower-span.ensures.step)
     (subst (λ m. AreConsistent (after_take e.entities call.requested) e.spent m) (sym calls)
-    (step-consistent e.entities e.spent e.calls c.args.caller (omega arith) call (sym c.get.ensures ∙ c.in-Some.is) c.self.invariant waits))
+    (step-consistent e.entities e.spent e.calls c.args.caller (omega arith) call (sym c.get.ensures
+    ∙ c.in-Some.is) c.self.invariant waits))
 
 pub returns : goal.returns
 returns c =
@@ -51,12 +61,26 @@ returns c =
     let before = machine_state e.entities e.spent e.calls in
     let call = c.in-Some.call in
     let waits = none_of call.span c.if-is_some.ensures in
-    let calls = c.replace.ensures ∙ ap (λ (x : Span). finite.insert e.calls c.args.caller (record { requested = call.requested; span = Some x })) c.lower-span.ensures.span in
-    let word : to_z w64 (of_z w64 c.lower-span.result.low) ≡ c.lower-span.result.low = omega (arith, ints) in
-    let low : to_z w64 (of_z w64 c.lower-span.result.low) ≡ cursor e.entities -ℤ pos call.requested = word ∙ ap (λ (x : Span). x.low) c.lower-span.ensures.span in
-    done (λ v. on_step v c.args.caller) before c.args.self.now c.self.view_is (Ok (outcome.Cursor (to_z w64 (of_z w64 c.lower-span.result.low)))) (Ok (outcome.Cursor (cursor e.entities -ℤ pos call.requested)))
+    let calls = c.replace.ensures
+    ∙ ap (λ (x : Span). finite.insert e.calls c.args.caller
+    (record { requested = call.requested; span = Some x })) c.lower-span.ensures.span in
+    let word : to_z w64 (of_z w64 c.lower-span.result.low) ≡ c.lower-span.result.low =
+    omega (arith, ints) in
+    let low : to_z w64 (of_z w64 c.lower-span.result.low)
+    ≡ cursor e.entities -ℤ pos call.requested = word
+    ∙ ap (λ (x : Span). x.low) c.lower-span.ensures.span in
+    done (λ v. on_step v c.args.caller) before c.args.self.now c.self.view_is
+    (Ok (outcome.Cursor (to_z w64 (of_z w64 c.lower-span.result.low))))
+    (Ok (outcome.Cursor (cursor e.entities -ℤ pos call.requested)))
     (ap (λ z. Ok (outcome.Cursor z)) low)
     (machine_state c.lower-span.new.self e.spent c.replace.new.self)
-    (machine_state (after_take e.entities call.requested) e.spent (finite.insert e.calls c.args.caller (record { requested = call.requested; span = Some (record { high = cursor e.entities; low = cursor e.entities -ℤ pos call.requested }) })))
+    (machine_state (after_take e.entities call.requested) e.spent
+    (finite.insert e.calls c.args.caller
+    (record {
+      requested = call.requested;
+      span =
+          Some (record { high = cursor e.entities; low = cursor e.entities -ℤ pos call.requested });
+    })))
     (λ i. machine_state (c.lower-span.ensures.step i) e.spent (calls i))
-    (step-taken e.entities e.spent e.calls c.args.caller (omega arith) call (sym c.get.ensures ∙ c.in-Some.is) c.self.invariant.sound waits)
+    (step-taken e.entities e.spent e.calls c.args.caller (omega arith) call (sym c.get.ensures
+    ∙ c.in-Some.is) c.self.invariant.sound waits)

@@ -12,7 +12,8 @@ invariant-loop-system g l = record {
   reserver : IsOf l.stage.shared.now l.self.reserver;
   claimer : IsClaimerOf l.stage.claims.now l.self.claimer;
   inside : All (λ (i : SystemQueue). i.system < length l.stage.systems.now) l.self.issued.items;
-  ran : HasRun g.S.System.may_issue l.stage.systems.now l.stage.view l.initial.self.reserver.own l.self.reserver.own l.self.claimer.own.claims l.self.issued.items;
+  ran : HasRun g.S.System.may_issue l.stage.systems.now l.stage.view l.initial.self.reserver.own
+      l.self.reserver.own l.self.claimer.own.claims l.self.issued.items;
   stopped : l.self.stopped ≡ l.initial.self.stopped;
   room : vec_len l.self.issued < vec_capacity l.self.issued;
 }

@@ -8,6 +8,8 @@ invariant_of-self-2 c =
     let names = c.self.inside.list.items in
     let none = none_of _ _ c.contains_key.ensures c.if-contains_key.false in
     let added = places_added names c.self.inside.places c.insert.new.self c.args.name _
-    (ap length (c.as_slice-place.ensures.value ∙ c.in_ok-reserve.ensures.items)) c.self.invariant none c.in_ok-insert.ensures.updates in
-    let items = c.push_reserved.ensures.items ∙ ap (λ (ns : List (Bor (List ℕ))). ns ++ c.args.name ∷ []) c.in_ok-reserve.ensures.items in
+    (ap length (c.as_slice-place.ensures.value ∙ c.in_ok-reserve.ensures.items)) c.self.invariant
+    none c.in_ok-insert.ensures.updates in
+    let items = c.push_reserved.ensures.items ∙ ap (λ (ns : List (Bor (List ℕ))). ns ++ c.args.name
+    ∷ []) c.in_ok-reserve.ensures.items in
     subst (λ (ns : List (Bor (List ℕ))). HavePlaces ns c.insert.new.self) (sym items) added

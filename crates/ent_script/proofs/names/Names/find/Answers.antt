@@ -6,5 +6,7 @@ pub returns-clause-within : goal.returns-clause-within
 returns-clause-within c =
     let seen = map (λ (n : Bor (List ℕ)). n.now) c.self.inside.list.items in
     let e = c.copied.ensures ∙ c.get.ensures.value ∙ c.self.invariant c.args.name.now in
-    let inside = subst (λ (found : Option ℕ). IfSome found (λ p. p < length seen)) (sym e) (place_of_within c.args.name.now seen) in
-    subst (λ (names : List (List ℕ)). IfSome c.copied.result (λ p. p < length names)) c.self.view_is inside
+    let inside = subst (λ (found : Option ℕ). IfSome found (λ p. p < length seen)) (sym e)
+    (place_of_within c.args.name.now seen) in
+    subst (λ (names : List (List ℕ)). IfSome c.copied.result (λ p. p < length names)) c.self.view_is
+    inside

@@ -12,7 +12,8 @@ items_of list = list.items
 pub returns : goal.returns
 returns c =
     let lists = c.self.inside.lists.items in
-    let within : c.args.name < length (map items_of lists) = omega (arith, ap length c.self.view_is, c.requires) in
+    let within : c.args.name < length (map items_of lists) =
+    omega (arith, ap length c.self.view_is, c.requires) in
     ap names_of (map-set items_of lists c.args.name c.args.list)
     ∙ names_set (map items_of lists) c.args.list.items c.args.name within
     ∙ ap (bound c.args.name c.args.list.items) (ap names_of c.self.view_is)

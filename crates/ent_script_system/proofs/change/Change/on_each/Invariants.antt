@@ -7,5 +7,6 @@ use Rattle.ent_script_system.proofs.change.Change.on_each.Given as goal
 abbrev pub invariant-loop-handle : goal.invariant-loop-handle
 invariant-loop-handle l = record {
   extends : Extends l.initial.commands l.commands;
-  queue : queue_of l.commands ≡ queue_of l.initial.commands ++ map (command_on l.self) (take l.handle-index l.handles);
+  queue : queue_of l.commands ≡ queue_of l.initial.commands
+      ++ map (command_on l.self) (take l.handle-index l.handles);
 }

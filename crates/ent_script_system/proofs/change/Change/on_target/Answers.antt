@@ -11,7 +11,8 @@ pub returns-in-Handle-clause-issued : goal.returns-in-Handle-clause-issued
 returns-in-Handle-clause-issued c =
     let h = c.in-Handle.handle in
     issued_on _ _ _ _ _ _ (h ∷ []) _
-    (subst (λ (on : Target). IsTargeted c.args.view.now (names_of c.args.names.now) on (h ∷ [])) (sym c.in-Handle.is) refl)
+    (subst (λ (on : Target). IsTargeted c.args.view.now (names_of c.args.names.now) on (h ∷ []))
+    (sym c.in-Handle.is) refl)
     c.on_each-in-Handle.ensures.ok
 
 pub returns-in_ok-with-in-Each-clause-issued : goal.returns-in_ok-with-in-Each-clause-issued
@@ -19,9 +20,11 @@ returns-in_ok-with-in-Each-clause-issued c =
     let view = c.args.view.now in
     let hs = c.deref.result.now in
     let lists : ListsWith c.in-Each.id view.entities hs =
-    subst (λ (xs : List Handle). ListsWith c.in-Each.id view.entities xs) (sym c.deref.ensures.value) c.in_ok-with-in-Each.ensures in
+    subst (λ (xs : List Handle). ListsWith c.in-Each.id view.entities xs)
+    (sym c.deref.ensures.value) c.in_ok-with-in-Each.ensures in
     issued_on _ _ _ _ _ _ hs _
-    (subst (λ (on : Target). IsTargeted view (names_of c.args.names.now) on hs) (sym c.in-Each.is) lists)
+    (subst (λ (on : Target). IsTargeted view (names_of c.args.names.now) on hs) (sym c.in-Each.is)
+    lists)
     c.on_each-in-Each.ensures.ok
 
 pub returns-in_ok-with-in-Each-clause-stopped : goal.returns-in_ok-with-in-Each-clause-stopped
@@ -29,7 +32,9 @@ returns-in_ok-with-in-Each-clause-stopped c =
     let view = c.args.view.now in
     let hs = c.deref.result.now in
     let lists : ListsWith c.in-Each.id view.entities hs =
-    subst (λ (xs : List Handle). ListsWith c.in-Each.id view.entities xs) (sym c.deref.ensures.value) c.in_ok-with-in-Each.ensures in
+    subst (λ (xs : List Handle). ListsWith c.in-Each.id view.entities xs)
+    (sym c.deref.ensures.value) c.in_ok-with-in-Each.ensures in
     stopped_on _ _ _ _ _ _ hs _
-    (subst (λ (on : Target). IsTargeted view (names_of c.args.names.now) on hs) (sym c.in-Each.is) lists)
+    (subst (λ (on : Target). IsTargeted view (names_of c.args.names.now) on hs) (sym c.in-Each.is)
+    lists)
     c.on_each-in-Each.ensures.stopped

@@ -10,13 +10,16 @@ use Rattle.ent_script_system.proofs.script_system.ScriptSystemSystem.run.Goals a
 pub loop-operation-preserved : goal.loop-operation-preserved
 loop-operation-preserved c = record {
   extends = extends_then _ _ _ c.loop-operation.invariant.extends c.in_ok-issue.ensures.extends;
-  run = has_gone_on _ _ _ _ _ _ _ _ _ c.loop-operation-test.true c.operation-item.is c.loop-operation.invariant.run c.in_ok-issue.ensures.issued;
+  run = has_gone_on _ _ _ _ _ _ _ _ _ c.loop-operation-test.true c.operation-item.is
+      c.loop-operation.invariant.run c.in_ok-issue.ensures.issued;
 }
 
 pub returns-clause-may : goal.returns-clause-may
 returns-clause-may c empty =
     let ops = c.operations-operation-items.result.now in
-    let none : drop c.loop-operation.operation-index ops ≡ [] = drop_all _ _ c.loop-operation-test.false in
-    subst (λ (os : List Operation). MayIssue os c.args.view.now (queue_of c.loop-operation.commands))
+    let none : drop c.loop-operation.operation-index ops
+    ≡ [] = drop_all _ _ c.loop-operation-test.false in
+    subst (λ (os : List Operation). MayIssue os c.args.view.now
+    (queue_of c.loop-operation.commands))
     (c.operations-operation-items.ensures ∙ c.self.view_is)
     (has_ended _ ops _ _ _ _ none c.loop-operation.invariant.run empty)

@@ -6,5 +6,6 @@ use Rattle.ent_script_system.proofs.script_system.ScriptSystemSystem.run.Given a
 abbrev pub invariant-loop-operation : goal.invariant-loop-operation
 invariant-loop-operation l = record {
   extends : Extends l.initial.commands l.commands;
-  run : HasRun l.view l.operation-items l.operation-index (names_of l.names) (queue_of l.initial.commands) (queue_of l.commands);
+  run : HasRun l.view l.operation-items l.operation-index (names_of l.names)
+      (queue_of l.initial.commands) (queue_of l.commands);
 }

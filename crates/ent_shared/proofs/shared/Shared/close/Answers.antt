@@ -10,19 +10,31 @@ use Rattle.ent_shared.proofs.shared.Shared.close.Goals as goal
 use Rattle.std.proofs.Common.{to_z, of_z, w64}
 
 -- what is known before the allocator is settled, and after it
-known : (c : goal.After-entities-2-1) → Ended c.self.inside.entities c.args.self.start (records_of c.args.reservers.items) (to_z w64 (of_z w64 c.end_phase-cursor.result.0)) (to_z w64 (of_z w64 c.end_phase-cursor.result.1))
+known : (c : goal.After-entities-2-1) → Ended c.self.inside.entities c.args.self.start
+    (records_of c.args.reservers.items) (to_z w64 (of_z w64 c.end_phase-cursor.result.0))
+    (to_z w64 (of_z w64 c.end_phase-cursor.result.1))
 known c =
     let phase = c.self.invariant in
-    ended c.self.inside.entities c.args.self.start c.self.inside.count c.args.self.count c.self.inside.word.shared.key (records_of c.args.reservers.items) c.end_phase-cursor.result.0 c.end_phase-cursor.result.1 c.from.result
-    phase.begins phase.sound phase.few phase.key_is (ap (λ (s : Shared). s.start) c.self.view_is) (ap (λ (s : Shared). s.count) c.self.view_is)
-    (length-records_of c.args.reservers.items ∙ c.requires.all) c.end_phase-cursor.ensures.cursor (c.from.ensures ∙ ap pos c.top.ensures) c.end_phase-cursor.ensures.floor
+    ended c.self.inside.entities c.args.self.start c.self.inside.count c.args.self.count
+    c.self.inside.word.shared.key (records_of c.args.reservers.items)
+    c.end_phase-cursor.result.0 c.end_phase-cursor.result.1 c.from.result
+    phase.begins phase.sound phase.few phase.key_is (ap (λ (s : Shared). s.start) c.self.view_is)
+    (ap (λ (s : Shared). s.count) c.self.view_is)
+    (length-records_of c.args.reservers.items ∙ c.requires.all) c.end_phase-cursor.ensures.cursor
+    (c.from.ensures ∙ ap pos c.top.ensures) c.end_phase-cursor.ensures.floor
 
-after : (c : goal.After-settle) → Ended c.self.inside.entities c.args.self.start (records_of c.args.reservers.items) (to_z w64 (of_z w64 c.end_phase-cursor.result.0)) (to_z w64 (of_z w64 c.end_phase-cursor.result.1))
+after : (c : goal.After-settle) → Ended c.self.inside.entities c.args.self.start
+    (records_of c.args.reservers.items) (to_z w64 (of_z w64 c.end_phase-cursor.result.0))
+    (to_z w64 (of_z w64 c.end_phase-cursor.result.1))
 after c =
     let phase = c.self.invariant in
-    ended c.self.inside.entities c.args.self.start c.self.inside.count c.args.self.count c.self.inside.word.shared.key (records_of c.args.reservers.items) c.end_phase-cursor.result.0 c.end_phase-cursor.result.1 c.from.result
-    phase.begins phase.sound phase.few phase.key_is (ap (λ (s : Shared). s.start) c.self.view_is) (ap (λ (s : Shared). s.count) c.self.view_is)
-    (length-records_of c.args.reservers.items ∙ c.requires.all) c.end_phase-cursor.ensures.cursor (c.from.ensures ∙ ap pos c.top.ensures) c.end_phase-cursor.ensures.floor
+    ended c.self.inside.entities c.args.self.start c.self.inside.count c.args.self.count
+    c.self.inside.word.shared.key (records_of c.args.reservers.items)
+    c.end_phase-cursor.result.0 c.end_phase-cursor.result.1 c.from.result
+    phase.begins phase.sound phase.few phase.key_is (ap (λ (s : Shared). s.start) c.self.view_is)
+    (ap (λ (s : Shared). s.count) c.self.view_is)
+    (length-records_of c.args.reservers.items ∙ c.requires.all) c.end_phase-cursor.ensures.cursor
+    (c.from.ensures ∙ ap pos c.top.ensures) c.end_phase-cursor.ensures.floor
 
 pub settle-requires-clause-least : goal.settle-requires-clause-least
 settle-requires-clause-least c = (known c).least
@@ -62,5 +74,6 @@ returns-clause-not_live c = (after c).none_live
 
 pub returns-clause-brings_to_life : goal.returns-clause-brings_to_life
 returns-clause-brings_to_life c = λ h.
-    subst (λ (s : Allocator). IsLive (after_flush s) h ↔ IsLive c.args.self.start h ⊎ Contains (given_in (history_of (records_of c.args.reservers.items))) h)
+    subst (λ (s : Allocator). IsLive (after_flush s) h ↔ IsLive c.args.self.start h
+    ⊎ Contains (given_in (history_of (records_of c.args.reservers.items))) h)
     (sym (c.settle.ensures.settled ∙ (after c).after)) ((after c).brings_to_life h)

@@ -12,19 +12,31 @@ use Rattle.ent_shared.proofs.Merging.{length-records_of, sum_by-records_of, all_
 use Rattle.ent_shared.proofs.shared.Shared.close_lost.Goals as goal
 
 -- what is known before the allocator is settled, and after it
-known : (c : goal.After-max) → Lost c.self.inside.entities c.args.self.start c.args.self.count (records_of c.args.reservers.items) (to_z w64 (of_z w64 c.end_phase-cursor.result.0)) (to_z w64 (of_z w64 c.max.result))
+known : (c : goal.After-max) → Lost c.self.inside.entities c.args.self.start c.args.self.count
+    (records_of c.args.reservers.items) (to_z w64 (of_z w64 c.end_phase-cursor.result.0))
+    (to_z w64 (of_z w64 c.max.result))
 known c =
     let phase = c.self.invariant in
-    lost c.self.inside.entities c.args.self.start c.self.inside.count c.args.self.count c.room.result c.self.inside.word.shared.key (records_of c.args.reservers.items) c.end_phase-cursor.result.0 c.max.result c.from-2.result
-    phase.begins phase.sound phase.few phase.key_is (ap (λ (s : Shared). s.start) c.self.view_is) (ap (λ (s : Shared). s.count) c.self.view_is)
-    c.end_phase-cursor.ensures.cursor c.room.ensures c.room.type_inv (c.from-2.ensures) c.max.ensures.value
+    lost c.self.inside.entities c.args.self.start c.self.inside.count c.args.self.count
+    c.room.result c.self.inside.word.shared.key (records_of c.args.reservers.items)
+    c.end_phase-cursor.result.0 c.max.result c.from-2.result
+    phase.begins phase.sound phase.few phase.key_is (ap (λ (s : Shared). s.start) c.self.view_is)
+    (ap (λ (s : Shared). s.count) c.self.view_is)
+    c.end_phase-cursor.ensures.cursor c.room.ensures c.room.type_inv (c.from-2.ensures)
+    c.max.ensures.value
 
-after : (c : goal.After-settle) → Lost c.self.inside.entities c.args.self.start c.args.self.count (records_of c.args.reservers.items) (to_z w64 (of_z w64 c.end_phase-cursor.result.0)) (to_z w64 (of_z w64 c.max.result))
+after : (c : goal.After-settle) → Lost c.self.inside.entities c.args.self.start c.args.self.count
+    (records_of c.args.reservers.items) (to_z w64 (of_z w64 c.end_phase-cursor.result.0))
+    (to_z w64 (of_z w64 c.max.result))
 after c =
     let phase = c.self.invariant in
-    lost c.self.inside.entities c.args.self.start c.self.inside.count c.args.self.count c.room.result c.self.inside.word.shared.key (records_of c.args.reservers.items) c.end_phase-cursor.result.0 c.max.result c.from-2.result
-    phase.begins phase.sound phase.few phase.key_is (ap (λ (s : Shared). s.start) c.self.view_is) (ap (λ (s : Shared). s.count) c.self.view_is)
-    c.end_phase-cursor.ensures.cursor c.room.ensures c.room.type_inv (c.from-2.ensures) c.max.ensures.value
+    lost c.self.inside.entities c.args.self.start c.self.inside.count c.args.self.count
+    c.room.result c.self.inside.word.shared.key (records_of c.args.reservers.items)
+    c.end_phase-cursor.result.0 c.max.result c.from-2.result
+    phase.begins phase.sound phase.few phase.key_is (ap (λ (s : Shared). s.start) c.self.view_is)
+    (ap (λ (s : Shared). s.count) c.self.view_is)
+    c.end_phase-cursor.ensures.cursor c.room.ensures c.room.type_inv (c.from-2.ensures)
+    c.max.ensures.value
 
 pub settle-requires-clause-least : goal.settle-requires-clause-least
 settle-requires-clause-least c = (known c).least
@@ -41,33 +53,44 @@ left_is c = c.settle.ensures.settled ∙ (after c).after
 
 pub returns-clause-after : goal.returns-clause-after
 returns-clause-after c =
-    let asked : c.settle.new.self.asked ≡ (after c).asked = ap (λ (s : Allocator). s.asked) (left_is c) in
+    let asked : c.settle.new.self.asked ≡ (after c).asked = ap (λ (s : Allocator). s.asked)
+    (left_is c) in
     left_is c ∙ ap (after_loss c.args.self.start) (sym asked)
 
 pub returns-clause-least : goal.returns-clause-least
 returns-clause-least c =
     let l = after c in
-    let own : sum_by requested_by (records_of c.args.reservers.items) ≡ sum_by (λ (r : Reserver). requested_by r.own) c.args.reservers.items = sum_by-records_of requested_by c.args.reservers.items in
-    subst (λ (s : Allocator). sum_by (λ (r : Reserver). requested_by r.own) c.args.reservers.items ≤ s.asked) (sym (left_is c)) (subst (λ (n : ℕ). n ≤ l.asked) own l.some_asked)
+    let own : sum_by requested_by (records_of c.args.reservers.items)
+    ≡ sum_by (λ (r : Reserver). requested_by r.own) c.args.reservers.items = sum_by-records_of
+    requested_by c.args.reservers.items in
+    subst (λ (s : Allocator). sum_by (λ (r : Reserver). requested_by r.own) c.args.reservers.items
+    ≤ s.asked) (sym (left_is c)) (subst (λ (n : ℕ). n ≤ l.asked) own l.some_asked)
 
 pub returns-clause-asked : goal.returns-clause-asked
 returns-clause-asked c = λ all_here.
     let l = after c in
-    let own : sum_by requested_by (records_of c.args.reservers.items) ≡ sum_by (λ (r : Reserver). requested_by r.own) c.args.reservers.items = sum_by-records_of requested_by c.args.reservers.items in
-    sym own ∙ l.all_asked (length-records_of c.args.reservers.items ∙ all_here) ∙ ap (λ (s : Allocator). s.asked) (sym (left_is c))
+    let own : sum_by requested_by (records_of c.args.reservers.items)
+    ≡ sum_by (λ (r : Reserver). requested_by r.own) c.args.reservers.items = sum_by-records_of
+    requested_by c.args.reservers.items in
+    sym own ∙ l.all_asked (length-records_of c.args.reservers.items ∙ all_here)
+    ∙ ap (λ (s : Allocator). s.asked) (sym (left_is c))
 
 pub returns-clause-most : goal.returns-clause-most
 returns-clause-most c =
     let l = after c in
-    let own : sum_by (λ (r : Record). r.left) (records_of c.args.reservers.items) ≡ sum_by (λ (r : Reserver). r.own.left) c.args.reservers.items = sum_by-records_of (λ (r : Record). r.left) c.args.reservers.items in
-    subst (λ (s : Allocator). sum_by (λ (r : Reserver). r.own.left) c.args.reservers.items + s.asked ≤ c.args.self.count * credit) (sym (left_is c))
+    let own : sum_by (λ (r : Record). r.left) (records_of c.args.reservers.items)
+    ≡ sum_by (λ (r : Reserver). r.own.left) c.args.reservers.items = sum_by-records_of
+    (λ (r : Record). r.left) c.args.reservers.items in
+    subst (λ (s : Allocator). sum_by (λ (r : Reserver). r.own.left) c.args.reservers.items + s.asked
+    ≤ c.args.self.count * credit) (sym (left_is c))
     (subst (λ (n : ℕ). n + l.asked ≤ c.args.self.count * credit) own l.most_asked)
 
 pub returns-clause-reached : goal.returns-clause-reached
 returns-clause-reached c =
     let l = after c in
     all_owners (λ (r : Record). cursor c.settle.new.self ≤ℤ r.mark) c.args.reservers.items
-    (subst (λ (s : Allocator). All (λ (r : Record). cursor s ≤ℤ r.mark) (records_of c.args.reservers.items)) (sym (left_is c)) l.reached)
+    (subst (λ (s : Allocator). All (λ (r : Record). cursor s ≤ℤ r.mark)
+    (records_of c.args.reservers.items)) (sym (left_is c)) l.reached)
 
 pub returns-clause-whole : goal.returns-clause-whole
 returns-clause-whole c = λ all_here.
@@ -76,5 +99,8 @@ returns-clause-whole c = λ all_here.
 pub returns-clause-given : goal.returns-clause-given
 returns-clause-given c =
     let l = after c in
-    all_owners (λ (r : Record). All (Contains c.settle.new.self.taken) (handles_of (own_reservations r.entries))) c.args.reservers.items
-    (subst (λ (s : Allocator). All (λ (r : Record). All (Contains s.taken) (handles_of (own_reservations r.entries))) (records_of c.args.reservers.items)) (sym (left_is c)) l.given)
+    all_owners (λ (r : Record). All (Contains c.settle.new.self.taken)
+    (handles_of (own_reservations r.entries))) c.args.reservers.items
+    (subst (λ (s : Allocator).
+    All (λ (r : Record). All (Contains s.taken) (handles_of (own_reservations r.entries)))
+    (records_of c.args.reservers.items)) (sym (left_is c)) l.given)

@@ -8,14 +8,20 @@ use Rattle.ent_shared.proofs.Seating.{seated_meeting, of_met}
 use Rattle.ent_shared.proofs.shared.Shared.meet.Goals as goal
 
 pub invariant_of-a : goal.invariant_of-a
-invariant_of-a c = seated_meeting c.a.inside.badge.views c.b.inside.badge.views c.meet.new.a.views _ _ _ _ _ _ c.a.invariant c.b.invariant c.meet.ensures.meets
+invariant_of-a c = seated_meeting c.a.inside.badge.views c.b.inside.badge.views c.meet.new.a.views _
+    _ _ _ _ _ c.a.invariant c.b.invariant c.meet.ensures.meets
 
 pub returns-clause-first : goal.returns-clause-first
 returns-clause-first c =
     of_met c.args.self.now c.args.a.now c.args.b.now _ c.requires.first
-    (λ i. record { word = (c.meet.ensures.same.0 ∙ ap (λ (r : Reserver). r.word) c.a.view_is) i; own = (ap own_of c.meet.ensures.meets ∙ (λ j. after_meeting (c.a.view_is j).own (c.b.view_is j).own)) i })
+    (λ i. record {
+      word = (c.meet.ensures.same.0 ∙ ap (λ (r : Reserver). r.word) c.a.view_is) i;
+      own = (ap own_of c.meet.ensures.meets
+          ∙ (λ j. after_meeting (c.a.view_is j).own (c.b.view_is j).own)) i;
+    })
 
 pub returns-clause-given : goal.returns-clause-given
 returns-clause-given c =
     ap (λ (views : List (List Record)). handles_given (own_of views)) c.meet.ensures.meets
-    ∙ (given-after_meeting (own_of c.a.inside.badge.views) (own_of c.b.inside.badge.views) ∙ ap (λ (r : Reserver). handles_given r.own) c.a.view_is)
+    ∙ (given-after_meeting (own_of c.a.inside.badge.views) (own_of c.b.inside.badge.views)
+    ∙ ap (λ (r : Reserver). handles_given r.own) c.a.view_is)

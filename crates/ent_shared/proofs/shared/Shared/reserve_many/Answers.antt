@@ -18,11 +18,17 @@ use Rattle.ent_shared.proofs.shared.Shared.reserve_many.Goals as goal
 
 pub unreachable-requires : goal.unreachable-requires
 unreachable-requires c =
-    no_space c.reply.result c.in_default.field-0 (c.reply.ensures 0 (low_of c.new.result _ 0 c.new.ensures.value) ∙ reply-none c.self.inside.entities.made (pool_at c.self.inside.entities c.new.result.high)) c.in_default.is
+    no_space c.reply.result c.in_default.field-0
+    (c.reply.ensures 0 (low_of c.new.result _ 0 c.new.ensures.value)
+    ∙ reply-none c.self.inside.entities.made (pool_at c.self.inside.entities c.new.result.high))
+    c.in_default.is
 
 pub returns-then-n-eq0-clause-nothing : goal.returns-then-n-eq0-clause-nothing
 returns-then-n-eq0-clause-nothing c = λ n.
-    let is : c.reply.result ≡ Ok [] = c.reply.ensures 0 (low_of c.new.result _ 0 c.new.ensures.value) ∙ reply-none c.self.inside.entities.made (pool_at c.self.inside.entities c.new.result.high) in
+    let is : c.reply.result
+    ≡ Ok [] = c.reply.ensures 0 (low_of c.new.result _ 0 c.new.ensures.value)
+    ∙ reply-none c.self.inside.entities.made (pool_at c.self.inside.entities c.new.result.high)
+    in
     let found = c.in-Ok.is in
     let same : c.in-Ok.nothing ≡ [] = cc in
     (ap Ok same, refl)
@@ -31,9 +37,13 @@ pub reply-requires-2 : goal.reply-requires-2
 reply-requires-2 c =
     let fits = c.reserve.type_inv in
     let least = c.reserve.ensures.least in
-    let start : (own_of c.reserver.inside.badge.views).start ≡ c.self.inside.entities = ap (λ (r : Reserver). r.own.start) c.reserver.view_is ∙ (c.requires.start ∙ sym (ap (λ (s : Shared). s.start) c.self.view_is)) in
-    let below : c.reserve.result ≤ℤ cursor c.self.inside.entities = subst (λ (s : Allocator). c.reserve.result ≤ℤ cursor s) start c.reserve.ensures.greatest in
-    let passed : to_z w64 (of_z w64 c.reserve.result) ≤ℤ pos (top c.self.inside.entities) = omega (arith, ints) in
+    let start : (own_of c.reserver.inside.badge.views).start ≡ c.self.inside.entities =
+    ap (λ (r : Reserver). r.own.start) c.reserver.view_is
+    ∙ (c.requires.start ∙ sym (ap (λ (s : Shared). s.start) c.self.view_is)) in
+    let below : c.reserve.result ≤ℤ cursor c.self.inside.entities =
+    subst (λ (s : Allocator). c.reserve.result ≤ℤ cursor s) start c.reserve.ensures.greatest in
+    let passed : to_z w64 (of_z w64 c.reserve.result) ≤ℤ pos (top c.self.inside.entities) =
+    omega (arith, ints) in
     c.new-span.ensures.valid c.self.inside.entities passed
 
 pub invariant_of-reserver-2 : goal.invariant_of-reserver-2
@@ -42,67 +52,138 @@ invariant_of-reserver-2 c =
     let least = c.reserve.ensures.least in
     let few = c.ranges.n in
     let word : to_z w64 (of_z w64 c.reserve.result) ≡ c.reserve.result = omega (arith, ints) in
-    let span : c.new-span.result ≡ record { high = c.reserve.result; low = c.reserve.result -ℤ pos c.args.n } = c.new-span.ensures.value ∙ (λ i. record { high = word i; low = word i -ℤ pos c.args.n }) in
-    let low : c.new-span.result.low ≡ c.reserve.result -ℤ pos c.args.n = ap (λ (s : Span). s.low) span in
-    let low_word : to_z w64 (of_z w64 c.new-span.result.low) ≡ c.new-span.result.low = omega (arith, ints) in
-    let start : (own_of c.reserver.inside.badge.views).start ≡ c.self.inside.entities = ap (λ (r : Reserver). r.own.start) c.reserver.view_is ∙ (c.requires.start ∙ sym (ap (λ (s : Shared). s.start) c.self.view_is)) in
-    subst (λ (k : ℕ). IsSeated c.reserve.new.badge.views c.reserver.inside.number (c.reserver.inside.left - k) (to_z w64 (of_z w64 c.new-span.result.low))) (sym c.from-2.ensures)
-    (seated_reservation c.reserver.inside.badge.views c.reserve.new.badge.views c.reserver.inside.number c.reserver.inside.left c.args.n c.reserver.inside.floor c.reserve.result (to_z w64 (of_z w64 c.new-span.result.low))
+    let span : c.new-span.result ≡ record {
+      high = c.reserve.result;
+      low = c.reserve.result -ℤ pos
+          c.args.n;
+    } = c.new-span.ensures.value
+    ∙ (λ i. record { high = word i; low = word i -ℤ pos c.args.n }) in
+    let low : c.new-span.result.low ≡ c.reserve.result -ℤ pos c.args.n = ap (λ (s : Span). s.low)
+    span in
+    let low_word : to_z w64 (of_z w64 c.new-span.result.low) ≡ c.new-span.result.low =
+    omega (arith, ints) in
+    let start : (own_of c.reserver.inside.badge.views).start ≡ c.self.inside.entities =
+    ap (λ (r : Reserver). r.own.start) c.reserver.view_is
+    ∙ (c.requires.start ∙ sym (ap (λ (s : Shared). s.start) c.self.view_is)) in
+    subst (λ (k : ℕ). IsSeated c.reserve.new.badge.views c.reserver.inside.number
+    (c.reserver.inside.left - k) (to_z w64 (of_z w64 c.new-span.result.low)))
+    (sym c.from-2.ensures)
+    (seated_reservation c.reserver.inside.badge.views c.reserve.new.badge.views
+    c.reserver.inside.number c.reserver.inside.left c.args.n c.reserver.inside.floor
+    c.reserve.result (to_z w64 (of_z w64 c.new-span.result.low))
     c.reserver.invariant c.reserve.ensures.gains c.reserve.ensures.mark (omega arith)
-    (low_word ∙ served_floor (own_of c.reserver.inside.badge.views) c.self.inside.entities c.reserve.result c.args.n c.new-span.result _ c.reply-2.result start span c.reply-2.ensures c.in_ok-handles.was))
+    (low_word ∙ served_floor (own_of c.reserver.inside.badge.views) c.self.inside.entities
+    c.reserve.result c.args.n c.new-span.result _ c.reply-2.result start span c.reply-2.ensures
+    c.in_ok-handles.was))
 
 pub invariant_of-reserver : goal.invariant_of-reserver
 invariant_of-reserver c =
     let fits = c.reserve.type_inv in
     let word : to_z w64 (of_z w64 c.reserve.result) ≡ c.reserve.result = omega (arith, ints) in
-    let span : c.new-span.result ≡ record { high = c.reserve.result; low = c.reserve.result -ℤ pos c.args.n } = c.new-span.ensures.value ∙ (λ i. record { high = word i; low = word i -ℤ pos c.args.n }) in
-    let start : (own_of c.reserver.inside.badge.views).start ≡ c.self.inside.entities = ap (λ (r : Reserver). r.own.start) c.reserver.view_is ∙ (c.requires.start ∙ sym (ap (λ (s : Shared). s.start) c.self.view_is)) in
-    subst (λ (k : ℕ). IsSeated c.reserve.new.badge.views c.reserver.inside.number (c.reserver.inside.left - k) c.reserver.inside.floor) (sym c.from-2.ensures)
-    (seated_reservation c.reserver.inside.badge.views c.reserve.new.badge.views c.reserver.inside.number c.reserver.inside.left c.args.n c.reserver.inside.floor c.reserve.result c.reserver.inside.floor
+    let span : c.new-span.result ≡ record {
+      high = c.reserve.result;
+      low = c.reserve.result -ℤ pos
+          c.args.n;
+    } = c.new-span.ensures.value
+    ∙ (λ i. record { high = word i; low = word i -ℤ pos c.args.n }) in
+    let start : (own_of c.reserver.inside.badge.views).start ≡ c.self.inside.entities =
+    ap (λ (r : Reserver). r.own.start) c.reserver.view_is
+    ∙ (c.requires.start ∙ sym (ap (λ (s : Shared). s.start) c.self.view_is)) in
+    subst (λ (k : ℕ). IsSeated c.reserve.new.badge.views c.reserver.inside.number
+    (c.reserver.inside.left - k) c.reserver.inside.floor) (sym c.from-2.ensures)
+    (seated_reservation c.reserver.inside.badge.views c.reserve.new.badge.views
+    c.reserver.inside.number c.reserver.inside.left c.args.n c.reserver.inside.floor
+    c.reserve.result c.reserver.inside.floor
     c.reserver.invariant c.reserve.ensures.gains c.reserve.ensures.mark (omega arith)
-    (c.reserver.invariant.floor_is ∙ refused_floor (own_of c.reserver.inside.badge.views) c.self.inside.entities c.reserve.result c.args.n c.new-span.result _ c.reply-2.result start span c.reply-2.ensures c.in_err-handles.was))
+    (c.reserver.invariant.floor_is ∙ refused_floor (own_of c.reserver.inside.badge.views)
+    c.self.inside.entities c.reserve.result c.args.n c.new-span.result _ c.reply-2.result start
+    span c.reply-2.ensures c.in_err-handles.was))
 
 pub returns-then-n-eq0-clause-length : goal.returns-then-n-eq0-clause-length
 returns-then-n-eq0-clause-length c =
-    length-served c.self.inside.entities.made (pool_at c.self.inside.entities c.new.result.high) c.in-Ok.nothing 0 (sym (c.reply.ensures 0 (low_of c.new.result _ 0 c.new.ensures.value)) ∙ c.in-Ok.is) ∙ sym c.if-n-eq0.true
+    length-served c.self.inside.entities.made (pool_at c.self.inside.entities c.new.result.high)
+    c.in-Ok.nothing 0 (sym (c.reply.ensures 0 (low_of c.new.result _ 0 c.new.ensures.value))
+    ∙ c.in-Ok.is) ∙ sym c.if-n-eq0.true
 
 pub returns-clause-stays : goal.returns-clause-stays
 returns-clause-stays c =
-    let left : c.reserver.inside.left ≡ c.args.reserver.now.own.left = c.reserver.invariant.left_is ∙ ap (λ (r : Reserver). r.own.left) c.reserver.view_is in
-    of_reserved c.args.self.now c.args.reserver.now _ c.reserve.result c.args.n c.requires (omega arith)
-    (λ i. record { word = (c.reserve.ensures.same ∙ ap (λ (r : Reserver). r.word) c.reserver.view_is) i; own = (ap own_of c.reserve.ensures.gains ∙ ap (λ (r : Reserver). after_reservation r.own c.reserve.result c.args.n) c.reserver.view_is) i })
+    let left : c.reserver.inside.left ≡ c.args.reserver.now.own.left = c.reserver.invariant.left_is
+    ∙ ap (λ (r : Reserver). r.own.left) c.reserver.view_is in
+    of_reserved c.args.self.now c.args.reserver.now _ c.reserve.result c.args.n c.requires
+    (omega arith)
+    (λ i. record {
+      word = (c.reserve.ensures.same ∙ ap (λ (r : Reserver). r.word)
+          c.reserver.view_is) i;
+      own = (ap own_of c.reserve.ensures.gains
+          ∙ ap (λ (r : Reserver). after_reservation r.own c.reserve.result c.args.n)
+          c.reserver.view_is) i;
+    })
 
 pub returns-clause-length : goal.returns-clause-length
 returns-clause-length c =
-    length-served _ _ c.in_ok-handles.handles c.args.n (sym (c.reply-2.ensures c.args.n (low_of c.new-span.result _ c.args.n c.new-span.ensures.value)) ∙ c.in_ok-handles.was)
+    length-served _ _ c.in_ok-handles.handles c.args.n
+    (sym (c.reply-2.ensures c.args.n (low_of c.new-span.result _ c.args.n
+    c.new-span.ensures.value)) ∙ c.in_ok-handles.was)
 
 pub returns-in_err-handles-clause-stays : goal.returns-in_err-handles-clause-stays
 returns-in_err-handles-clause-stays c =
-    let left : c.reserver.inside.left ≡ c.args.reserver.now.own.left = c.reserver.invariant.left_is ∙ ap (λ (r : Reserver). r.own.left) c.reserver.view_is in
-    of_reserved c.args.self.now c.args.reserver.now _ c.reserve.result c.args.n c.requires (omega arith)
-    (λ i. record { word = (c.reserve.ensures.same ∙ ap (λ (r : Reserver). r.word) c.reserver.view_is) i; own = (ap own_of c.reserve.ensures.gains ∙ ap (λ (r : Reserver). after_reservation r.own c.reserve.result c.args.n) c.reserver.view_is) i })
+    let left : c.reserver.inside.left ≡ c.args.reserver.now.own.left = c.reserver.invariant.left_is
+    ∙ ap (λ (r : Reserver). r.own.left) c.reserver.view_is in
+    of_reserved c.args.self.now c.args.reserver.now _ c.reserve.result c.args.n c.requires
+    (omega arith)
+    (λ i. record {
+      word = (c.reserve.ensures.same ∙ ap (λ (r : Reserver). r.word)
+          c.reserver.view_is) i;
+      own = (ap own_of c.reserve.ensures.gains
+          ∙ ap (λ (r : Reserver). after_reservation r.own c.reserve.result c.args.n)
+          c.reserver.view_is) i;
+    })
 
 pub returns-then-n-eq0-clause-given : goal.returns-then-n-eq0-clause-given
 returns-then-n-eq0-clause-given c =
-    let is : c.reply.result ≡ Ok [] = c.reply.ensures 0 (low_of c.new.result _ 0 c.new.ensures.value) ∙ reply-none c.self.inside.entities.made (pool_at c.self.inside.entities c.new.result.high) in
+    let is : c.reply.result
+    ≡ Ok [] = c.reply.ensures 0 (low_of c.new.result _ 0 c.new.ensures.value)
+    ∙ reply-none c.self.inside.entities.made (pool_at c.self.inside.entities c.new.result.high)
+    in
     let found = c.in-Ok.is in
     let none : c.in-Ok.nothing ≡ [] = cc in
-    sym (append-nil (handles_given c.args.reserver.now.own)) ∙ ap (λ (handles : List Handle). handles_given c.args.reserver.now.own ++ handles) (sym none)
+    sym (append-nil (handles_given c.args.reserver.now.own))
+    ∙ ap (λ (handles : List Handle). handles_given c.args.reserver.now.own ++ handles)
+    (sym none)
 
 pub returns-clause-given : goal.returns-clause-given
 returns-clause-given c =
     let fits = c.reserve.type_inv in
     let word : to_z w64 (of_z w64 c.reserve.result) ≡ c.reserve.result = omega (arith, ints) in
-    let span : c.new-span.result ≡ record { high = c.reserve.result; low = c.reserve.result -ℤ pos c.args.n } = c.new-span.ensures.value ∙ (λ i. record { high = word i; low = word i -ℤ pos c.args.n }) in
-    let start : c.args.reserver.now.own.start ≡ c.self.inside.entities = c.requires.start ∙ sym (ap (λ (s : Shared). s.start) c.self.view_is) in
-    given_now c.reserver.inside.badge.views c.reserve.new.badge.views c.args.reserver.now _ c.self.inside.entities c.reserve.result c.args.n c.new-span.result c.reply-2.result c.reserver.view_is c.reserve.ensures.gains start span c.reply-2.ensures
-    ∙ ap (λ (reply : Result (List Handle) Space). handles_given c.args.reserver.now.own ++ handles_in reply) c.in_ok-handles.was
+    let span : c.new-span.result ≡ record {
+      high = c.reserve.result;
+      low = c.reserve.result -ℤ pos
+          c.args.n;
+    } = c.new-span.ensures.value
+    ∙ (λ i. record { high = word i; low = word i -ℤ pos c.args.n }) in
+    let start : c.args.reserver.now.own.start ≡ c.self.inside.entities = c.requires.start
+    ∙ sym (ap (λ (s : Shared). s.start) c.self.view_is) in
+    given_now c.reserver.inside.badge.views c.reserve.new.badge.views c.args.reserver.now _
+    c.self.inside.entities c.reserve.result c.args.n c.new-span.result c.reply-2.result
+    c.reserver.view_is c.reserve.ensures.gains start span c.reply-2.ensures
+    ∙ ap (λ (reply : Result (List Handle) Space). handles_given c.args.reserver.now.own
+    ++ handles_in reply) c.in_ok-handles.was
 
 pub returns-in_err-handles-clause-refused : goal.returns-in_err-handles-clause-refused
 returns-in_err-handles-clause-refused c =
     let fits = c.reserve.type_inv in
     let word : to_z w64 (of_z w64 c.reserve.result) ≡ c.reserve.result = omega (arith, ints) in
-    let span : c.new-span.result ≡ record { high = c.reserve.result; low = c.reserve.result -ℤ pos c.args.n } = c.new-span.ensures.value ∙ (λ i. record { high = word i; low = word i -ℤ pos c.args.n }) in
-    let start : c.args.reserver.now.own.start ≡ c.self.inside.entities = c.requires.start ∙ sym (ap (λ (s : Shared). s.start) c.self.view_is) in
-    on_err c.from_residual.result (given_now c.reserver.inside.badge.views c.reserve.new.badge.views c.args.reserver.now _ c.self.inside.entities c.reserve.result c.args.n c.new-span.result c.reply-2.result c.reserver.view_is c.reserve.ensures.gains start span c.reply-2.ensures
-    ∙ (ap (λ (reply : Result (List Handle) Space). handles_given c.args.reserver.now.own ++ handles_in reply) c.in_err-handles.was ∙ append-nil (handles_given c.args.reserver.now.own)))
+    let span : c.new-span.result ≡ record {
+      high = c.reserve.result;
+      low = c.reserve.result -ℤ pos
+          c.args.n;
+    } = c.new-span.ensures.value
+    ∙ (λ i. record { high = word i; low = word i -ℤ pos c.args.n }) in
+    let start : c.args.reserver.now.own.start ≡ c.self.inside.entities = c.requires.start
+    ∙ sym (ap (λ (s : Shared). s.start) c.self.view_is) in
+    on_err c.from_residual.result (given_now c.reserver.inside.badge.views c.reserve.new.badge.views
+    c.args.reserver.now _ c.self.inside.entities c.reserve.result c.args.n c.new-span.result
+    c.reply-2.result c.reserver.view_is c.reserve.ensures.gains start span c.reply-2.ensures
+    ∙ (ap (λ (reply : Result (List Handle) Space). handles_given c.args.reserver.now.own
+    ++ handles_in reply) c.in_err-handles.was
+    ∙ append-nil (handles_given c.args.reserver.now.own)))

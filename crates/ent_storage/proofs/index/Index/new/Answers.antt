@@ -7,5 +7,6 @@ use Rattle.ent_storage.proofs.index.Index.new.Goals as goal
 
 pub returns : goal.returns
 returns c =
-    let by_handle = ap (λ es. map.from_sorted {R = handle_cmp} es) c.new.ensures.items ∙ from_sorted-nil handle_cmp in
+    let by_handle = ap (λ es. map.from_sorted {R = handle_cmp} es) c.new.ensures.items
+    ∙ from_sorted-nil handle_cmp in
     same_places _ _ by_handle (omega arith)

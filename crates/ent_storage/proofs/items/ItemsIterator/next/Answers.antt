@@ -11,7 +11,8 @@ use Rattle.ent_storage.proofs.items.ItemsIterator.next.Goals as goal
 -- no column has a value at the place
 pub returns-in_err-skipped-clause-steps : goal.returns-in_err-skipped-clause-steps
 returns-in_err-skipped-clause-steps c =
-    let none = items_none c.self.inside.number c.self.inside.columns.now c.self.inside.place (c.in_err-skipped.ensures.absent refl) in
+    let none = items_none c.self.inside.number c.self.inside.columns.now c.self.inside.place
+    (c.in_err-skipped.ensures.absent refl) in
     let nil = sym c.self.view_is ∙ none in
     rw c.from_residual.ensures (nil, nil)
 
@@ -20,8 +21,11 @@ overflow_sub-self c =
     let columns = c.self.inside.columns.now in
     let k = c.in_ok-skipped.skipped in
     let found = c.in_ok-skipped.ensures.found in
-    let here = ap (λ (m : Column). map.get m.values c.self.inside.place) (get_or_default columns k no_column c.index-self-skipped.result found.inside) ∙ sym c.in_ok-value.ensures in
-    let split = items_first c.self.inside.number columns c.self.inside.place k c.in_ok-value.value found.inside found.before here in
+    let here = ap (λ (m : Column). map.get m.values c.self.inside.place)
+    (get_or_default columns k no_column c.index-self-skipped.result found.inside)
+    ∙ sym c.in_ok-value.ensures in
+    let split = items_first c.self.inside.number columns c.self.inside.place k c.in_ok-value.value
+    found.inside found.before here in
     omega (arith, c.self.invariant.left, ap length split)
 
 pub invariant_of-self : goal.invariant_of-self
@@ -29,13 +33,26 @@ invariant_of-self c =
     let columns = c.self.inside.columns.now in
     let k = c.in_ok-skipped.skipped in
     let found = c.in_ok-skipped.ensures.found in
-    let here = ap (λ (m : Column). map.get m.values c.self.inside.place) (get_or_default columns k no_column c.index-self-skipped.result found.inside) ∙ sym c.in_ok-value.ensures in
-    let split = items_first c.self.inside.number columns c.self.inside.place k c.in_ok-value.value found.inside found.before here in
+    let here = ap (λ (m : Column). map.get m.values c.self.inside.place)
+    (get_or_default columns k no_column c.index-self-skipped.result found.inside)
+    ∙ sym c.in_ok-value.ensures in
+    let split = items_first c.self.inside.number columns c.self.inside.place k c.in_ok-value.value
+    found.inside found.before here in
     let place_is : c.self.inside.number + k + 1 ≡ c.self.inside.number + (k + 1) = omega arith in
-    let rest : items_from (c.self.inside.number + k + 1) (drop (k + 1) columns) c.self.inside.place ≡ items_from (c.self.inside.number + (k + 1)) c.after-self-inside.result.now c.self.inside.place = λ i. items_from (place_is i) (sym c.after-self-inside.ensures i) c.self.inside.place in
+    let rest : items_from (c.self.inside.number + k + 1) (drop (k + 1) columns) c.self.inside.place
+    ≡ items_from (c.self.inside.number + (k + 1)) c.after-self-inside.result.now
+    c.self.inside.place = λ i. items_from (place_is i) (sym c.after-self-inside.ensures i)
+    c.self.inside.place in
     record {
       left = omega (arith, c.self.invariant.left, ap length split, ap length rest);
-      numbered = omega (arith, c.self.invariant.numbered, found.inside, ap length c.after-self-inside.ensures, length-drop (k + 1) columns);
+      numbered = omega (
+        arith,
+        c.self.invariant.numbered,
+        found.inside,
+        ap length
+            c.after-self-inside.ensures,
+        length-drop (k + 1) columns,
+      );
     }
 
 pub returns-clause-steps : goal.returns-clause-steps
@@ -43,13 +60,23 @@ returns-clause-steps c =
     let columns = c.self.inside.columns.now in
     let k = c.in_ok-skipped.skipped in
     let found = c.in_ok-skipped.ensures.found in
-    let here = ap (λ (m : Column). map.get m.values c.self.inside.place) (get_or_default columns k no_column c.index-self-skipped.result found.inside) ∙ sym c.in_ok-value.ensures in
-    let split = items_first c.self.inside.number columns c.self.inside.place k c.in_ok-value.value found.inside found.before here in
+    let here = ap (λ (m : Column). map.get m.values c.self.inside.place)
+    (get_or_default columns k no_column c.index-self-skipped.result found.inside)
+    ∙ sym c.in_ok-value.ensures in
+    let split = items_first c.self.inside.number columns c.self.inside.place k c.in_ok-value.value
+    found.inside found.before here in
     let place_is : c.self.inside.number + k + 1 ≡ c.self.inside.number + (k + 1) = omega arith in
-    let rest : items_from (c.self.inside.number + k + 1) (drop (k + 1) columns) c.self.inside.place ≡ items_from (c.self.inside.number + (k + 1)) c.after-self-inside.result.now c.self.inside.place = λ i. items_from (place_is i) (sym c.after-self-inside.ensures i) c.self.inside.place in
+    let rest : items_from (c.self.inside.number + k + 1) (drop (k + 1) columns) c.self.inside.place
+    ≡ items_from (c.self.inside.number + (k + 1)) c.after-self-inside.result.now
+    c.self.inside.place = λ i. items_from (place_is i) (sym c.after-self-inside.ensures i)
+    c.self.inside.place in
     let fits : SFits w64 c.in_ok-value.value = search rules in
     sym c.self.view_is ∙ split
-    ∙ (λ i. (record { 0 = c.self.inside.number + k }, sym (to_z-of_z w64 c.in_ok-value.value fits) i) ∷ rest i)
+    ∙ (λ i. (
+      record { 0 = c.self.inside.number + k },
+      sym (to_z-of_z w64 c.in_ok-value.value fits)
+          i,
+    ) ∷ rest i)
 
 pub returns-clause-goes : goal.returns-clause-goes
 returns-clause-goes c = let h = returns-clause-steps c in grind (arith, h)

@@ -6,12 +6,15 @@ use Rattle.ent_storage.proofs.living.Living.birth.Goals as goal
 
 pub index-requires : goal.index-requires
 index-requires c =
-    let inside = inside_from c.self.inside.residents.items c.self.inside.columns.items _ c.args.self.now c.args.place c.self.view_is c.requires in
+    let inside = inside_from c.self.inside.residents.items c.self.inside.columns.items _
+    c.args.self.now c.args.place c.self.view_is c.requires in
     omega (arith, inside, c.self.inside.residents.ok.0)
 
 pub returns : goal.returns
 returns c d =
-    let inside = inside_from c.self.inside.residents.items c.self.inside.columns.items _ c.args.self.now c.args.place c.self.view_is c.requires in
+    let inside = inside_from c.self.inside.residents.items c.self.inside.columns.items _
+    c.args.self.now c.args.place c.self.view_is c.requires in
     ap (λ (resident : Resident). resident.birth) c.index.ensures
-    ∙ sym (birth_from c.self.inside.residents.items c.self.inside.columns.items c.args.place c.index.result.now d inside)
+    ∙ sym (birth_from c.self.inside.residents.items c.self.inside.columns.items c.args.place
+    c.index.result.now d inside)
     ∙ ap (λ (l : Living). (get_or l.entities c.args.place d).birth) c.self.view_is

@@ -6,12 +6,15 @@ use Rattle.ent_storage.proofs.living.Living.handle.Goals as goal
 
 pub index-requires : goal.index-requires
 index-requires c =
-    let inside = inside_from c.self.inside.residents.items c.self.inside.columns.items _ c.args.self.now c.args.place c.self.view_is c.requires in
+    let inside = inside_from c.self.inside.residents.items c.self.inside.columns.items _
+    c.args.self.now c.args.place c.self.view_is c.requires in
     omega (arith, inside, c.self.inside.residents.ok.0)
 
 pub returns : goal.returns
 returns c d =
-    let inside = inside_from c.self.inside.residents.items c.self.inside.columns.items _ c.args.self.now c.args.place c.self.view_is c.requires in
+    let inside = inside_from c.self.inside.residents.items c.self.inside.columns.items _
+    c.args.self.now c.args.place c.self.view_is c.requires in
     ap (λ (resident : Resident). resident.handle) c.index.ensures
-    ∙ sym (handle_from c.self.inside.residents.items c.self.inside.columns.items c.args.place c.index.result.now d inside)
+    ∙ sym (handle_from c.self.inside.residents.items c.self.inside.columns.items c.args.place
+    c.index.result.now d inside)
     ∙ ap (λ (l : Living). (get_or l.entities c.args.place d).handle) c.self.view_is

@@ -13,33 +13,53 @@ use Rattle.ent_storage.proofs.living.Living.insert.Goals as goal
 pub returns-in_err-reserve_all-clause-err : goal.returns-in_err-reserve_all-clause-err
 returns-in_err-reserve_all-clause-err c =
     on_err _
-    (same_from 0 c.self.inside.residents.items c.self.inside.columns.items c.reserve_all.new.columns.items (λ p id _ _. ap (λ (m : Values). finite.get m p) (c.in_err-reserve_all.ensures.values id.0))
+    (same_from 0 c.self.inside.residents.items c.self.inside.columns.items
+    c.reserve_all.new.columns.items (λ p id _ _. ap (λ (m : Values). finite.get m p)
+    (c.in_err-reserve_all.ensures.values id.0))
     ∙ ap (λ (l : Living). l.entities) c.self.view_is)
 
 pub returns-in_err-reserve_all-clause-growing : goal.returns-in_err-reserve_all-clause-growing
 returns-in_err-reserve_all-clause-growing c =
-    on_err {P = (d : LivingEntity) → 0 < missing (get_or c.args.self.now.entities c.args.place d).components c.args.items.now} _ (λ d.
-    let inside = inside_from c.self.inside.residents.items c.self.inside.columns.items _ c.args.self.now c.args.place c.self.view_is c.requires in
+    on_err {P = (d : LivingEntity) → 0
+    < missing (get_or c.args.self.now.entities c.args.place d).components c.args.items.now} _
+    (λ d.
+    let inside = inside_from c.self.inside.residents.items c.self.inside.columns.items _
+    c.args.self.now c.args.place c.self.view_is c.requires in
     let resident : Resident = record { handle = d.handle; birth = d.birth } in
-    let held = sym (components_from c.self.inside.residents.items c.self.inside.columns.items c.args.place resident d inside) ∙ ap (λ (l : Living). (get_or l.entities c.args.place d).components) c.self.view_is in
-    subst (λ (m : Components). 0 < missing m c.args.items.now) held c.in_err-reserve_all.ensures.growing)
+    let held = sym (components_from c.self.inside.residents.items c.self.inside.columns.items
+    c.args.place resident d inside)
+    ∙ ap (λ (l : Living). (get_or l.entities c.args.place d).components) c.self.view_is in
+    subst (λ (m : Components). 0 < missing m c.args.items.now) held
+    c.in_err-reserve_all.ensures.growing)
 
 pub invariant_of-self-2 : goal.invariant_of-self-2
 invariant_of-self-2 c =
     let set_all_len = rw c.deref_mut.ensures.value at c.set_all.ensures.len in
     let set_all_others = rw c.deref_mut.ensures.value at c.set_all.ensures.others in
-    let inside = inside_from c.self.inside.residents.items c.self.inside.columns.items _ c.args.self.now c.args.place c.self.view_is c.requires in
+    let inside = inside_from c.self.inside.residents.items c.self.inside.columns.items _
+    c.args.self.now c.args.place c.self.view_is c.requires in
     let numbered = c.in_ok-reserve_all.ensures.numbered in
-    rw (written_back c.set_all.new.columns c.reserve_all.new.columns.items c.reserve_all.new.columns.len set_all_len c.reserve_all.new.columns.ok.0)
-    (changed_within (length c.self.inside.residents.items) c.args.place c.self.inside.columns.items c.set_all.new.columns inside (omega (arith, set_all_len, numbered)) (λ p id far. set_all_others p id far ∙ ap (λ (m : Values). finite.get m p) (c.in_ok-reserve_all.ensures.values id.0)) c.self.invariant)
+    rw (written_back c.set_all.new.columns c.reserve_all.new.columns.items
+    c.reserve_all.new.columns.len set_all_len c.reserve_all.new.columns.ok.0)
+    (changed_within (length c.self.inside.residents.items) c.args.place c.self.inside.columns.items
+    c.set_all.new.columns inside (omega (arith, set_all_len, numbered))
+    (λ p id far. set_all_others p id far ∙ ap (λ (m : Values). finite.get m p)
+    (c.in_ok-reserve_all.ensures.values id.0)) c.self.invariant)
 
 pub returns-clause-ok : goal.returns-clause-ok
 returns-clause-ok c =
     let set_all_len = rw c.deref_mut.ensures.value at c.set_all.ensures.len in
     let set_all_others = rw c.deref_mut.ensures.value at c.set_all.ensures.others in
     let set_all_here = rw c.deref_mut.ensures.value at c.set_all.ensures.here in
-    let same = same_components c.self.inside.columns.items c.reserve_all.new.columns.items c.args.place c.args.place (λ id. ap (λ (m : Values). finite.get m c.args.place) (c.in_ok-reserve_all.ensures.values id.0)) in
+    let same = same_components c.self.inside.columns.items c.reserve_all.new.columns.items
+    c.args.place c.args.place (λ id. ap (λ (m : Values). finite.get m c.args.place)
+    (c.in_ok-reserve_all.ensures.values id.0)) in
     let here = set_all_here ∙ ap (λ (m : Components). with_items m c.args.items.now) same in
-    rw (written_back c.set_all.new.columns c.reserve_all.new.columns.items c.reserve_all.new.columns.len set_all_len c.reserve_all.new.columns.ok.0)
-    (changed_from 0 c.self.inside.residents.items c.self.inside.columns.items c.set_all.new.columns c.args.place c.args.place (λ held. with_items held c.args.items.now) (omega arith) here (λ p id far. set_all_others p id far ∙ ap (λ (m : Values). finite.get m p) (c.in_ok-reserve_all.ensures.values id.0))
-    ∙ ap (λ (l : Living). change_at l.entities c.args.place (λ held. with_items held c.args.items.now)) c.self.view_is)
+    rw (written_back c.set_all.new.columns c.reserve_all.new.columns.items
+    c.reserve_all.new.columns.len set_all_len c.reserve_all.new.columns.ok.0)
+    (changed_from 0 c.self.inside.residents.items c.self.inside.columns.items c.set_all.new.columns
+    c.args.place c.args.place (λ held. with_items held c.args.items.now) (omega arith) here
+    (λ p id far. set_all_others p id far ∙ ap (λ (m : Values). finite.get m p)
+    (c.in_ok-reserve_all.ensures.values id.0))
+    ∙ ap (λ (l : Living). change_at l.entities c.args.place
+    (λ held. with_items held c.args.items.now)) c.self.view_is)

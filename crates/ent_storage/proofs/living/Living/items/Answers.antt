@@ -12,9 +12,14 @@ new-requires c = rw c.deref.ensures.value c.self.invariant.numbered
 
 pub returns : goal.returns
 returns c d =
-    let inside = inside_from c.self.inside.residents.items c.self.inside.columns.items _ c.args.self.now c.args.place c.self.view_is c.requires in
+    let inside = inside_from c.self.inside.residents.items c.self.inside.columns.items _
+    c.args.self.now c.args.place c.self.view_is c.requires in
     let resident : Resident = record { handle = d.handle; birth = d.birth } in
     c.new.ensures
-    ∙ ap (λ (columns : List Column). finite.entries (components_at columns c.args.place)) c.deref.ensures.value
-    ∙ ap (λ (m : Components). finite.entries m) (sym (components_from c.self.inside.residents.items c.self.inside.columns.items c.args.place resident d inside))
-    ∙ ap (λ (l : Living). finite.entries (get_or l.entities c.args.place d).components) c.self.view_is
+    ∙ ap (λ (columns : List Column). finite.entries (components_at columns c.args.place))
+    c.deref.ensures.value
+    ∙ ap (λ (m : Components). finite.entries m)
+    (sym (components_from c.self.inside.residents.items c.self.inside.columns.items c.args.place
+    resident d inside))
+    ∙ ap (λ (l : Living). finite.entries (get_or l.entities c.args.place d).components)
+    c.self.view_is

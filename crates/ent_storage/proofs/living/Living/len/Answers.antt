@@ -4,4 +4,12 @@ use Rattle.ent_storage.proofs.LivingLemmas.{length_from}
 use Rattle.ent_storage.proofs.living.Living.len.Goals as goal
 
 pub returns : goal.returns
-returns c = omega (arith, c.len.ensures, c.self.inside.residents.ok.0, length_from 0 c.self.inside.residents.items c.self.inside.columns.items, ap (λ (l : Living). length l.entities) c.self.view_is)
+returns c = omega (
+  arith,
+  c.len.ensures,
+  c.self.inside.residents.ok.0,
+  length_from 0
+      c.self.inside.residents.items c.self.inside.columns.items,
+  ap (λ (l : Living).
+      length l.entities) c.self.view_is,
+)

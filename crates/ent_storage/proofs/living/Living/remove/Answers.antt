@@ -12,25 +12,37 @@ pub invariant_of-self : goal.invariant_of-self
 invariant_of-self c =
     let remove_len = rw c.deref_mut.ensures.value at c.remove.ensures.len in
     let remove_others = rw c.deref_mut.ensures.value at c.remove.ensures.others in
-    let inside = inside_from c.self.inside.residents.items c.self.inside.columns.items _ c.args.self.now c.args.place c.self.view_is c.requires in
-    rw (written_back c.remove.new.columns c.self.inside.columns.items c.self.inside.columns.len remove_len c.self.inside.columns.ok.0)
-    (changed_within (length c.self.inside.residents.items) c.args.place c.self.inside.columns.items c.remove.new.columns inside (omega (arith, remove_len, c.self.invariant.numbered)) remove_others c.self.invariant)
+    let inside = inside_from c.self.inside.residents.items c.self.inside.columns.items _
+    c.args.self.now c.args.place c.self.view_is c.requires in
+    rw (written_back c.remove.new.columns c.self.inside.columns.items c.self.inside.columns.len
+    remove_len c.self.inside.columns.ok.0)
+    (changed_within (length c.self.inside.residents.items) c.args.place c.self.inside.columns.items
+    c.remove.new.columns inside (omega (arith, remove_len, c.self.invariant.numbered))
+    remove_others c.self.invariant)
 
 pub returns-clause-value : goal.returns-clause-value
 returns-clause-value c d =
     let remove_value = rw c.deref_mut.ensures.value at c.remove.ensures.value in
-    let inside = inside_from c.self.inside.residents.items c.self.inside.columns.items _ c.args.self.now c.args.place c.self.view_is c.requires in
+    let inside = inside_from c.self.inside.residents.items c.self.inside.columns.items _
+    c.args.self.now c.args.place c.self.view_is c.requires in
     let resident : Resident = record { handle = d.handle; birth = d.birth } in
     remove_value
     ∙ sym (get_components c.self.inside.columns.items c.args.place c.args.id)
-    ∙ ap (λ (m : Components). finite.get m c.args.id) (sym (components_from c.self.inside.residents.items c.self.inside.columns.items c.args.place resident d inside))
-    ∙ ap (λ (l : Living). finite.get (get_or l.entities c.args.place d).components c.args.id) c.self.view_is
+    ∙ ap (λ (m : Components). finite.get m c.args.id)
+    (sym (components_from c.self.inside.residents.items c.self.inside.columns.items c.args.place
+    resident d inside))
+    ∙ ap (λ (l : Living). finite.get (get_or l.entities c.args.place d).components c.args.id)
+    c.self.view_is
 
 pub returns-clause-entities : goal.returns-clause-entities
 returns-clause-entities c =
     let remove_len = rw c.deref_mut.ensures.value at c.remove.ensures.len in
     let remove_others = rw c.deref_mut.ensures.value at c.remove.ensures.others in
     let remove_here = rw c.deref_mut.ensures.value at c.remove.ensures.here in
-    rw (written_back c.remove.new.columns c.self.inside.columns.items c.self.inside.columns.len remove_len c.self.inside.columns.ok.0)
-    (changed_from 0 c.self.inside.residents.items c.self.inside.columns.items c.remove.new.columns c.args.place c.args.place (λ held. finite.remove held c.args.id) (omega arith) remove_here (λ q id far. remove_others q id far)
-    ∙ ap (λ (l : Living). change_at l.entities c.args.place (λ held. finite.remove held c.args.id)) c.self.view_is)
+    rw (written_back c.remove.new.columns c.self.inside.columns.items c.self.inside.columns.len
+    remove_len c.self.inside.columns.ok.0)
+    (changed_from 0 c.self.inside.residents.items c.self.inside.columns.items c.remove.new.columns
+    c.args.place c.args.place (λ held. finite.remove held c.args.id) (omega arith) remove_here
+    (λ q id far. remove_others q id far)
+    ∙ ap (λ (l : Living). change_at l.entities c.args.place (λ held. finite.remove held c.args.id))
+    c.self.view_is)

@@ -9,9 +9,14 @@ use Rattle.ent_storage.proofs.living.Living.value.Goals as goal
 
 pub returns : goal.returns
 returns c d =
-    let inside = inside_from c.self.inside.residents.items c.self.inside.columns.items _ c.args.self.now c.args.place c.self.view_is c.requires in
+    let inside = inside_from c.self.inside.residents.items c.self.inside.columns.items _
+    c.args.self.now c.args.place c.self.view_is c.requires in
     let resident : Resident = record { handle = d.handle; birth = d.birth } in
     c.value.ensures
-    ∙ rw c.deref.ensures.value (sym (get_components c.self.inside.columns.items c.args.place c.args.id))
-    ∙ ap (λ (m : Components). finite.get m c.args.id) (sym (components_from c.self.inside.residents.items c.self.inside.columns.items c.args.place resident d inside))
-    ∙ ap (λ (l : Living). finite.get (get_or l.entities c.args.place d).components c.args.id) c.self.view_is
+    ∙ rw c.deref.ensures.value
+    (sym (get_components c.self.inside.columns.items c.args.place c.args.id))
+    ∙ ap (λ (m : Components). finite.get m c.args.id)
+    (sym (components_from c.self.inside.residents.items c.self.inside.columns.items c.args.place
+    resident d inside))
+    ∙ ap (λ (l : Living). finite.get (get_or l.entities c.args.place d).components c.args.id)
+    c.self.view_is

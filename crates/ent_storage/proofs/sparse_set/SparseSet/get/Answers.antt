@@ -11,7 +11,9 @@ returns c =
     let at = rw c.deref.ensures.value at c.in_ok-position.ensures.found in
     let inside = rw c.deref.ensures.value at c.in_ok-position.ensures.inside in
     let here = pair_here D c.in_ok-position.position c.args.place inside at c.index.result.now in
-    let found = has D c.self.inside.sparse.items c.self.invariant c.in_ok-position.position c.args.place _ here in
+    let found = has D c.self.inside.sparse.items c.self.invariant c.in_ok-position.position
+    c.args.place _ here in
     let read = ap (λ (e : ℕ × ℤ). Some e.1) c.index.ensures in
     let fits : SFits w64 c.index.result.now.1 = search rules in
-    ap Some (to_z-of_z w64 c.index.result.now.1 fits) ∙ read ∙ sym (ap (λ (m : Column). map.get m.values c.args.place) (sym c.self.view_is) ∙ found)
+    ap Some (to_z-of_z w64 c.index.result.now.1 fits) ∙ read
+    ∙ sym (ap (λ (m : Column). map.get m.values c.args.place) (sym c.self.view_is) ∙ found)

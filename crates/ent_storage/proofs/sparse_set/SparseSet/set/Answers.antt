@@ -14,29 +14,35 @@ returns-in-Some c =
     let inside = rw c.deref.ensures.value at c.in-Some.ensures.inside in
     let here = pair_here D c.in-Some.position c.args.place inside at (c.args.place, c.args.value) in
     rw (to_z-of_z w64 c.args.value fits)
-    (over_values D c.self.inside.sparse.items c.self.invariant c.in-Some.position c.args.place _ c.args.value here)
+    (over_values D c.self.inside.sparse.items c.self.invariant c.in-Some.position c.args.place _
+    c.args.value here)
     ∙ ap (λ (m : Column). map.insert m.values c.args.place c.args.value) c.self.view_is
 
 -- the place has no value
-none_there : (c : goal.After-push_reserved) → map.get (map.from_entries {R = nat_cmp} c.self.inside.dense.items) c.args.place ≡ None
+none_there : (c : goal.After-push_reserved)
+    → map.get (map.from_entries {R = nat_cmp} c.self.inside.dense.items) c.args.place ≡ None
 none_there c = rw c.deref.ensures.value at (c.in-None.ensures.absent refl)
 
 in_sparse : (c : goal.After-push_reserved) → c.args.place < length c.self.inside.sparse.items
 in_sparse c =
-    let none = ap (λ (m : Column). map.get m.values c.args.place) (sym c.self.view_is) ∙ none_there c in
+    let none = ap (λ (m : Column). map.get m.values c.args.place) (sym c.self.view_is)
+    ∙ none_there c in
     let room = c.requires.in_range none in
     omega (arith, room, ap (λ (m : Column). m.places) c.self.view_is, c.self.inside.sparse.ok.0)
 
 pub invariant_of-self-in-None : goal.invariant_of-self-in-None
 invariant_of-self-in-None c =
     let fits : SFits w64 c.args.value = search rules in
-    let len : c.len.result ≡ length c.self.inside.dense.items = omega (arith, c.len.ensures, c.self.inside.dense.ok.0) in
+    let len : c.len.result ≡ length c.self.inside.dense.items =
+    omega (arith, c.len.ensures, c.self.inside.dense.ok.0) in
     rw (c.push_reserved.ensures.items, to_z-of_z w64 c.args.value fits, len)
-    (pushed_dense c.self.inside.dense.items c.self.inside.sparse.items c.self.invariant c.args.place c.args.value (none_there c) (in_sparse c))
+    (pushed_dense c.self.inside.dense.items c.self.inside.sparse.items c.self.invariant c.args.place
+    c.args.value (none_there c) (in_sparse c))
 
 pub returns-in-None : goal.returns-in-None
 returns-in-None c =
     let fits : SFits w64 c.args.value = search rules in
     rw (c.push_reserved.ensures.items, to_z-of_z w64 c.args.value fits)
-    (pushed_values c.self.inside.dense.items c.self.inside.sparse.items c.self.invariant c.args.place c.args.value (none_there c) (in_sparse c))
+    (pushed_values c.self.inside.dense.items c.self.inside.sparse.items c.self.invariant
+    c.args.place c.args.value (none_there c) (in_sparse c))
     ∙ ap (λ (m : Column). map.insert m.values c.args.place c.args.value) c.self.view_is

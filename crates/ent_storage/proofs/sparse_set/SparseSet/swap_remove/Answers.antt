@@ -14,8 +14,10 @@ relocate-requires-clause-free c =
 
 pub returns-then-place-last : goal.returns-then-place-last
 returns-then-place-last c =
-    moved_down c.args.place c.args.last _ _ _ c.remove.ensures.after c.if-place-last.true c.relocate.ensures
+    moved_down c.args.place c.args.last _ _ _ c.remove.ensures.after c.if-place-last.true
+    c.relocate.ensures
 
 pub returns-else-place-last : goal.returns-else-place-last
 returns-else-place-last c =
-    removed_last c.args.place c.args.last _ _ c.remove.ensures.after (omega (arith, c.requires, c.if-place-last.false))
+    removed_last c.args.place c.args.last _ _ c.remove.ensures.after
+    (omega (arith, c.requires, c.if-place-last.false))

@@ -12,8 +12,10 @@ returns-clause-at c i =
     let index = counted living c.self.inside.index.by_handle in
     let answer = c.place.ensures in
     let places = ap (λ (s : Store). slice_get s.places i) c.self.view_is in (
-      λ e. sym places ∙ place_from_placed living index c.self.invariant.indexed c.args.handle i (sym answer ∙ e),
-      λ e. answer ∙ placed_from_place living index c.self.invariant.indexed c.args.handle i (places ∙ e),
+      λ e. sym places ∙ place_from_placed living index c.self.invariant.indexed c.args.handle i
+          (sym answer ∙ e),
+      λ e. answer ∙ placed_from_place living index c.self.invariant.indexed c.args.handle i (places
+          ∙ e),
     )
 
 pub returns-clause-there : goal.returns-clause-there

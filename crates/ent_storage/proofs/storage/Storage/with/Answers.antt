@@ -13,4 +13,7 @@ births_at-requires c k d l =
 pub returns : goal.returns
 returns c =
     let are = ap (λ (s : Store). s.entities) c.self.view_is in
-    rw (← are) (lists_with c.self.inside.living.entities (counted c.self.inside.living.entities c.self.inside.index.by_handle) c.self.invariant.indexed c.args.id c.pairs.result.now c.in_ok-births.births.items c.in_ok-births.ensures c.pairs.ensures.has c.pairs.ensures.all c.pairs.ensures.once _ c.in_ok-handles_in_order.ensures)
+    rw (← are) (lists_with c.self.inside.living.entities (counted c.self.inside.living.entities
+    c.self.inside.index.by_handle) c.self.invariant.indexed c.args.id c.pairs.result.now
+    c.in_ok-births.births.items c.in_ok-births.ensures c.pairs.ensures.has c.pairs.ensures.all
+    c.pairs.ensures.once _ c.in_ok-handles_in_order.ensures)

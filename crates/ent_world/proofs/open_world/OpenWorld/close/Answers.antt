@@ -6,10 +6,20 @@ use Rattle.ent_world.proofs.open_world.OpenWorld.close.Goals as goal
 
 pub invariant_of-result : goal.invariant_of-result
 invariant_of-result c =
-    let w : World = record { allocator = c.self.inside.shared.start; phase = c.self.inside.phase; entities = c.self.inside.storage.entities } in
-    rw c.close.ensures.after (after_history-world (history_of (records_of c.args.reservers.items)) w c.self.invariant.world)
+    let w : World = record {
+      allocator = c.self.inside.shared.start;
+      phase = c.self.inside.phase;
+      entities = c.self.inside.storage.entities;
+    } in
+    rw c.close.ensures.after (after_history-world (history_of (records_of c.args.reservers.items)) w
+    c.self.invariant.world)
 
 pub returns-clause-world : goal.returns-clause-world
 returns-clause-world c =
-    let w : World = record { allocator = c.self.inside.shared.start; phase = c.self.inside.phase; entities = c.self.inside.storage.entities } in
-    rw c.close.ensures.after (after_history-world (history_of (records_of c.args.reservers.items)) w c.self.invariant.world)
+    let w : World = record {
+      allocator = c.self.inside.shared.start;
+      phase = c.self.inside.phase;
+      entities = c.self.inside.storage.entities;
+    } in
+    rw c.close.ensures.after (after_history-world (history_of (records_of c.args.reservers.items)) w
+    c.self.invariant.world)

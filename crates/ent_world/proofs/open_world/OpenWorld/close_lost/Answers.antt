@@ -4,5 +4,10 @@ use Rattle.ent_world.proofs.open_world.OpenWorld.close_lost.Goals as goal
 
 pub invariant_of-result : goal.invariant_of-result
 invariant_of-result c =
-    let w : World = record { allocator = c.self.inside.shared.start; phase = c.self.inside.phase; entities = c.self.inside.storage.entities } in
-    rw c.close_lost.ensures.after (after_loss-world c.close_lost.result.asked w c.self.invariant.world c.self.invariant.flushed)
+    let w : World = record {
+      allocator = c.self.inside.shared.start;
+      phase = c.self.inside.phase;
+      entities = c.self.inside.storage.entities;
+    } in
+    rw c.close_lost.ensures.after (after_loss-world c.close_lost.result.asked w
+    c.self.invariant.world c.self.invariant.flushed)

@@ -14,13 +14,17 @@ returns-in-Err-clause-err c =
     let start = applied c.args.self.now c.args.faults.now.items in
     let before = after_queues 0 (take k qs) start in
     c.in-Err.ensures.err
-    ∙ ap (after_commands k 0 (cut_commands c.in-Err.command c.in-Err.done q)) c.loop-system.invariant.so_far
-    ∙ ap (λ p. after_commands k 0 (cut_commands c.in-Err.command c.in-Err.done p) before) c.index-queues-system.is
+    ∙ ap (after_commands k 0 (cut_commands c.in-Err.command c.in-Err.done q))
+    c.loop-system.invariant.so_far
+    ∙ ap (λ p. after_commands k 0 (cut_commands c.in-Err.command c.in-Err.done p) before)
+    c.index-queues-system.is
     ∙ sym (stopped_queue qs k c.in-Err.command c.in-Err.done q start c.loop-system-test.true)
 
 pub returns-in-Err-clause-memory : goal.returns-in-Err-clause-memory
 returns-in-Err-clause-memory c =
-    takes_memory_at c.apply_queue.new.self c.args.queues.now c.loop-system.system c.in-Err.command c.in-Err.done c.index-queues-system.result c.loop-system-test.true c.index-queues-system.is c.in-Err.ensures.memory
+    takes_memory_at c.apply_queue.new.self c.args.queues.now c.loop-system.system c.in-Err.command
+    c.in-Err.done c.index-queues-system.result c.loop-system-test.true c.index-queues-system.is
+    c.in-Err.ensures.memory
 
 -- one queue more
 pub loop-system-preserved : goal.loop-system-preserved

@@ -8,10 +8,16 @@ pub invariant_of-self-2 : goal.invariant_of-self-2
 invariant_of-self-2 c =
     let m = c.self.inside.storage.entities in
     let h = c.args.handle in
-    let w : World = record { allocator = c.self.inside.entities; phase = c.self.inside.phase; entities = m } in
+    let w : World = record {
+      allocator = c.self.inside.entities;
+      phase = c.self.inside.phase;
+      entities = m;
+    } in
     let lived = c.self.invariant.living h ∙ c.in_ok-freed.ensures.lived in
-    let gone = taken_out m c.despawn.new.self.entities h c.despawn.result lived c.despawn.ensures.ok c.despawn.ensures.absent.0 c.despawn.ensures.only_absent in
-    let none : 0 < c.self.inside.entities.asked → ⊥ = λ some. let refused = c.in_ok-freed.ensures.needs_flush.1 some in cc in
+    let gone = taken_out m c.despawn.new.self.entities h c.despawn.result lived c.despawn.ensures.ok
+    c.despawn.ensures.absent.0 c.despawn.ensures.only_absent in
+    let none : 0 < c.self.inside.entities.asked → ⊥ = λ some. let refused =
+    c.in_ok-freed.ensures.needs_flush.1 some in cc in
     let flushed : c.self.inside.entities.asked ≡ 0 = omega arith in
     rw (gone, c.in_ok-freed.ensures.ok) (after_despawn-world h w c.self.invariant flushed lived)
 
@@ -19,9 +25,15 @@ pub returns-clause-world : goal.returns-clause-world
 returns-clause-world c =
     let m = c.self.inside.storage.entities in
     let h = c.args.handle in
-    let w : World = record { allocator = c.self.inside.entities; phase = c.self.inside.phase; entities = m } in
+    let w : World = record {
+      allocator = c.self.inside.entities;
+      phase = c.self.inside.phase;
+      entities = m;
+    } in
     let lived = c.self.invariant.living h ∙ c.in_ok-freed.ensures.lived in
-    let gone = taken_out m c.despawn.new.self.entities h c.despawn.result lived c.despawn.ensures.ok c.despawn.ensures.absent.0 c.despawn.ensures.only_absent in
-    let none : 0 < c.self.inside.entities.asked → ⊥ = λ some. let refused = c.in_ok-freed.ensures.needs_flush.1 some in cc in
+    let gone = taken_out m c.despawn.new.self.entities h c.despawn.result lived c.despawn.ensures.ok
+    c.despawn.ensures.absent.0 c.despawn.ensures.only_absent in
+    let none : 0 < c.self.inside.entities.asked → ⊥ = λ some. let refused =
+    c.in_ok-freed.ensures.needs_flush.1 some in cc in
     let flushed : c.self.inside.entities.asked ≡ 0 = omega arith in
     rw (gone, c.in_ok-freed.ensures.ok) (after_despawn-world h w c.self.invariant flushed lived)

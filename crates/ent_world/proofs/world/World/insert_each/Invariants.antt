@@ -7,5 +7,6 @@ abbrev pub invariant-loop-done : goal.invariant-loop-done
 invariant-loop-done l = record {
   flushed : l.self.allocator.asked ≡ 0;
   left : l.left ≡ drop l.done l.fn.handles;
-  so_far : applied l.self l.faults.items ≡ on_each l.system l.command (after_insert l.fn.bundle) (take l.done l.fn.handles) (applied l.fn.self l.fn.faults.items);
+  so_far : applied l.self l.faults.items ≡ on_each l.system l.command (after_insert l.fn.bundle)
+      (take l.done l.fn.handles) (applied l.fn.self l.fn.faults.items);
 }

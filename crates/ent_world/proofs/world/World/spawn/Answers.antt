@@ -16,9 +16,11 @@ invariant_of-self-in-Err c =
     let e = spawned c.args.birth c.items.result.now in
     let made = c.in_ok-make.ensures.ok in
     let none = no_entity (map.get m h) (c.self.invariant.living h ∙ c.in_ok-handle.ensures.new) in
-    let gone = taken_out c.make.new.storage.entities c.despawn.new.self.entities h c.despawn.result (ap (λ n. map.contains_key n h) made ∙ ap is_some (get_inserted m h e))
+    let gone = taken_out c.make.new.storage.entities c.despawn.new.self.entities h c.despawn.result
+    (ap (λ n. map.contains_key n h) made ∙ ap is_some (get_inserted m h e))
     c.despawn.ensures.ok c.despawn.ensures.absent.0 c.despawn.ensures.only_absent in
-    let back : c.despawn.new.self.entities ≡ m = gone ∙ ap (λ n. map.remove n h) made ∙ taken_back m h e none in
+    let back : c.despawn.new.self.entities ≡ m = gone ∙ ap (λ n. map.remove n h) made
+    ∙ taken_back m h e none in
     rw (back, c.in-Err.ensures.err) c.self.invariant
 
 pub returns-in-Err-clause-err : goal.returns-in-Err-clause-err
@@ -28,21 +30,30 @@ returns-in-Err-clause-err c =
     let e = spawned c.args.birth c.items.result.now in
     let made = c.in_ok-make.ensures.ok in
     let none = no_entity (map.get m h) (c.self.invariant.living h ∙ c.in_ok-handle.ensures.new) in
-    let gone = taken_out c.make.new.storage.entities c.despawn.new.self.entities h c.despawn.result (ap (λ n. map.contains_key n h) made ∙ ap is_some (get_inserted m h e))
+    let gone = taken_out c.make.new.storage.entities c.despawn.new.self.entities h c.despawn.result
+    (ap (λ n. map.contains_key n h) made ∙ ap is_some (get_inserted m h e))
     c.despawn.ensures.ok c.despawn.ensures.absent.0 c.despawn.ensures.only_absent in
-    let back : c.despawn.new.self.entities ≡ m = gone ∙ ap (λ n. map.remove n h) made ∙ taken_back m h e none in
+    let back : c.despawn.new.self.entities ≡ m = gone ∙ ap (λ n. map.remove n h) made
+    ∙ taken_back m h e none in
     let same = c.in-Err.ensures.err in
-    (λ i. record { allocator = same i; phase = c.self.inside.phase; entities = back i }) ∙ c.self.view_is
+    (λ i. record { allocator = same i; phase = c.self.inside.phase; entities = back i })
+    ∙ c.self.view_is
 
 -- the handle that the allocator gave is the one under which the entity was made
 pub invariant_of-self-in_default : goal.invariant_of-self-in_default
 invariant_of-self-in_default c =
     let h = c.in_ok-handle.handle in
-    let w : World = record { allocator = c.self.inside.entities; phase = c.self.inside.phase; entities = c.self.inside.storage.entities } in
-    let fronts : Some c.in_default.field-0 ≡ Some h = sym c.in_default.ensures.front ∙ c.in_ok-handle.ensures.front in
+    let w : World = record {
+      allocator = c.self.inside.entities;
+      phase = c.self.inside.phase;
+      entities = c.self.inside.storage.entities;
+    } in
+    let fronts : Some c.in_default.field-0 ≡ Some h = sym c.in_default.ensures.front
+    ∙ c.in_ok-handle.ensures.front in
     let same : c.in_default.field-0 ≡ h = cc in
     rw (c.in_ok-make.ensures.ok, c.in_default.ensures.ok, same)
-    (after_spawn-world c.args.birth c.items.result.now h w c.self.invariant c.in_ok-handle.ensures.flushed c.in_ok-handle.ensures.front)
+    (after_spawn-world c.args.birth c.items.result.now h w c.self.invariant
+    c.in_ok-handle.ensures.flushed c.in_ok-handle.ensures.front)
 
 pub returns-in-Err-clause-world : goal.returns-in-Err-clause-world
 returns-in-Err-clause-world c =
@@ -51,16 +62,24 @@ returns-in-Err-clause-world c =
     let e = spawned c.args.birth c.items.result.now in
     let made = c.in_ok-make.ensures.ok in
     let none = no_entity (map.get m h) (c.self.invariant.living h ∙ c.in_ok-handle.ensures.new) in
-    let gone = taken_out c.make.new.storage.entities c.despawn.new.self.entities h c.despawn.result (ap (λ n. map.contains_key n h) made ∙ ap is_some (get_inserted m h e))
+    let gone = taken_out c.make.new.storage.entities c.despawn.new.self.entities h c.despawn.result
+    (ap (λ n. map.contains_key n h) made ∙ ap is_some (get_inserted m h e))
     c.despawn.ensures.ok c.despawn.ensures.absent.0 c.despawn.ensures.only_absent in
-    let back : c.despawn.new.self.entities ≡ m = gone ∙ ap (λ n. map.remove n h) made ∙ taken_back m h e none in
+    let back : c.despawn.new.self.entities ≡ m = gone ∙ ap (λ n. map.remove n h) made
+    ∙ taken_back m h e none in
     rw (back, c.in-Err.ensures.err) c.self.invariant
 
 pub returns-clause-world : goal.returns-clause-world
 returns-clause-world c =
     let h = c.in_ok-handle.handle in
-    let w : World = record { allocator = c.self.inside.entities; phase = c.self.inside.phase; entities = c.self.inside.storage.entities } in
-    let fronts : Some c.in_default.field-0 ≡ Some h = sym c.in_default.ensures.front ∙ c.in_ok-handle.ensures.front in
+    let w : World = record {
+      allocator = c.self.inside.entities;
+      phase = c.self.inside.phase;
+      entities = c.self.inside.storage.entities;
+    } in
+    let fronts : Some c.in_default.field-0 ≡ Some h = sym c.in_default.ensures.front
+    ∙ c.in_ok-handle.ensures.front in
     let same : c.in_default.field-0 ≡ h = cc in
     rw (c.in_ok-make.ensures.ok, c.in_default.ensures.ok, same)
-    (after_spawn-world c.args.birth c.items.result.now h w c.self.invariant c.in_ok-handle.ensures.flushed c.in_ok-handle.ensures.front)
+    (after_spawn-world c.args.birth c.items.result.now h w c.self.invariant
+    c.in_ok-handle.ensures.flushed c.in_ok-handle.ensures.front)
