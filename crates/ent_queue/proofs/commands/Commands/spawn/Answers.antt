@@ -8,7 +8,7 @@ returns-clause-extends c =
     let a = added_spawn (shared_of c.args.self.now) (reserver_of c.args.self.now)
     c.spawn.new.reserver (queue_of c.args.self.now) c.spawn.new.self c.items.result.now
     c.spawn.result c.spawn.ensures.ok c.spawn.ensures.refused c.spawn.ensures.memory
-    c.spawn.ensures.answers in
+    c.spawn.ensures.replies in
     record {
       same = refl;
       shared = refl;

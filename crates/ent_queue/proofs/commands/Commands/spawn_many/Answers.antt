@@ -8,7 +8,7 @@ returns-clause-extends c =
     let a = added_many (shared_of c.args.self.now) (reserver_of c.args.self.now)
     c.spawn_many.new.reserver (queue_of c.args.self.now) c.spawn_many.new.self c.args.n
     c.items.result.now c.spawn_many.result c.spawn_many.ensures.ok c.spawn_many.ensures.refused
-    c.spawn_many.ensures.memory c.spawn_many.ensures.answers c.spawn_many.ensures.length in
+    c.spawn_many.ensures.memory c.spawn_many.ensures.replies c.spawn_many.ensures.length in
     record {
       same = refl;
       shared = refl;
