@@ -28,19 +28,19 @@ operation_cause_text cause.Target = codes "target"
 operation_cause_text cause.Handle = codes "handle"
 
 -- a space, and the decimal of a number
-abbrev pub place : ℕ → List ℕ
-place n = 32 ∷ decimal n
+abbrev pub spaced_number : ℕ → List ℕ
+spaced_number n = 32 ∷ decimal n
 
 -- where an operation stands, and what is wrong with it
 abbrev pub operation_place : ℕ → ℕ → ℕ → Cause → List ℕ
-operation_place f s o c = place f ++ place s ++ place o ++ 32 ∷ operation_cause_text c
+operation_place f s o c = spaced_number f ++ spaced_number s ++ spaced_number o ++ 32 ∷ operation_cause_text c
 
 -- want of memory has no text, since no line is written of it
 abbrev pub refusal_text : ReadFault → List ℕ
 refusal_text fault.Json = codes "refused json"
 refusal_text (fault.Script c) = codes "refused script " ++ script_cause_text c
-refusal_text (fault.Frame f) = codes "refused frame" ++ place f
-refusal_text (fault.System f s) = codes "refused system" ++ place f ++ place s
+refusal_text (fault.Frame f) = codes "refused frame" ++ spaced_number f
+refusal_text (fault.System f s) = codes "refused system" ++ spaced_number f ++ spaced_number s
 refusal_text (fault.Operation f s o c) =
     codes "refused operation" ++ operation_place f s o c
 refusal_text fault.Memory = []

@@ -1,6 +1,6 @@
 ghost use Rattle.std.specs.Prelude.{◌≡◌, ◌≢◌, ◌+◌, ◌<◌, ◌≤◌, ◌∷◌, ◌++◌, length, take, codes};
 ghost use Rattle.std.specs.Prelude.{OnOk, OnErr, vec_len, vec_capacity};
-ghost use Rattle.ent_script.specs.Refusal.{operation_cause_text, script_cause_text, place};
+ghost use Rattle.ent_script.specs.Refusal.{operation_cause_text, script_cause_text, spaced_number};
 ghost use Rattle.ent_script.specs.Refusal.{operation_place, refusal_text, refusal_line};
 
 use crate::cause::{Cause, ScriptCause};
@@ -19,9 +19,9 @@ fn append(out: &mut Vec<u8>, text: &[u8]) -> Result<(), Memory>
 
 /// Appends a space and the decimal of a number.
 fn append_place(out: &mut Vec<u8>, number: usize) -> Result<(), Memory>
-    ensures ok { OnOk result (out.new.items ≡ out.old.items ++ place number) }
+    ensures ok { OnOk result (out.new.items ≡ out.old.items ++ spaced_number number) }
     ensures kept { OnErr result (take (vec_len out.old) out.new.items ≡ out.old.items) }
-    ensures full { OnErr result (vec_capacity out.old < vec_len out.old + length (place number)) }
+    ensures full { OnErr result (vec_capacity out.old < vec_len out.old + length (spaced_number number)) }
     ensures capacity { vec_capacity out.old ≤ vec_capacity out.new }
 {
     append(out, b" ")?;
@@ -30,10 +30,10 @@ fn append_place(out: &mut Vec<u8>, number: usize) -> Result<(), Memory>
 
 /// Appends the numbers of a system and of its frame.
 fn append_system(out: &mut Vec<u8>, frame: usize, system: usize) -> Result<(), Memory>
-    ensures ok { OnOk result (out.new.items ≡ out.old.items ++ place frame ++ place system) }
+    ensures ok { OnOk result (out.new.items ≡ out.old.items ++ spaced_number frame ++ spaced_number system) }
     ensures kept { OnErr result (take (vec_len out.old) out.new.items ≡ out.old.items) }
     ensures full { OnErr result (vec_capacity out.old
-        < vec_len out.old + length (place frame ++ place system)) }
+        < vec_len out.old + length (spaced_number frame ++ spaced_number system)) }
     ensures capacity { vec_capacity out.old ≤ vec_capacity out.new }
 {
     append_place(out, frame)?;
@@ -42,10 +42,10 @@ fn append_system(out: &mut Vec<u8>, frame: usize, system: usize) -> Result<(), M
 
 fn append_cause(out: &mut Vec<u8>, operation: usize, cause: Cause) -> Result<(), Memory>
     ensures ok { OnOk result (out.new.items
-        ≡ out.old.items ++ place operation ++ 32 ∷ operation_cause_text cause) }
+        ≡ out.old.items ++ spaced_number operation ++ 32 ∷ operation_cause_text cause) }
     ensures kept { OnErr result (take (vec_len out.old) out.new.items ≡ out.old.items) }
     ensures full { OnErr result (vec_capacity out.old
-        < vec_len out.old + length (place operation ++ 32 ∷ operation_cause_text cause)) }
+        < vec_len out.old + length (spaced_number operation ++ 32 ∷ operation_cause_text cause)) }
     ensures capacity { vec_capacity out.old ≤ vec_capacity out.new }
 {
     append_place(out, operation)?;
@@ -56,18 +56,18 @@ fn append_cause(out: &mut Vec<u8>, operation: usize, cause: Cause) -> Result<(),
 /// Appends the numbers of an operation, its system and its frame, and what is wrong with it.
 fn append_operation(
     out: &mut Vec<u8>,
-    place: (usize, usize, usize),
+    at: (usize, usize, usize),
     cause: Cause,
 ) -> Result<(), Memory>
     ensures ok { OnOk result (out.new.items
-        ≡ out.old.items ++ operation_place place.0 place.1 place.2 cause) }
+        ≡ out.old.items ++ operation_place at.0 at.1 at.2 cause) }
     ensures kept { OnErr result (take (vec_len out.old) out.new.items ≡ out.old.items) }
     ensures full { OnErr result (vec_capacity out.old
-        < vec_len out.old + length (operation_place place.0 place.1 place.2 cause)) }
+        < vec_len out.old + length (operation_place at.0 at.1 at.2 cause)) }
     ensures capacity { vec_capacity out.old ≤ vec_capacity out.new }
 {
-    append_system(out, place.0, place.1)?;
-    append_cause(out, place.2, cause)
+    append_system(out, at.0, at.1)?;
+    append_cause(out, at.2, cause)
 }
 
 fn append_script_text(out: &mut Vec<u8>, cause: ScriptCause) -> Result<(), Memory>
@@ -84,10 +84,10 @@ fn append_script_text(out: &mut Vec<u8>, cause: ScriptCause) -> Result<(), Memor
 
 fn append_frame_text(out: &mut Vec<u8>, frame: usize) -> Result<(), Memory>
     ensures ok { OnOk result (out.new.items
-        ≡ out.old.items ++ codes "refused frame" ++ place frame) }
+        ≡ out.old.items ++ codes "refused frame" ++ spaced_number frame) }
     ensures kept { OnErr result (take (vec_len out.old) out.new.items ≡ out.old.items) }
     ensures full { OnErr result (vec_capacity out.old
-        < vec_len out.old + length (codes "refused frame" ++ place frame)) }
+        < vec_len out.old + length (codes "refused frame" ++ spaced_number frame)) }
     ensures capacity { vec_capacity out.old ≤ vec_capacity out.new }
 {
     append(out, b"refused frame")?;
@@ -96,10 +96,10 @@ fn append_frame_text(out: &mut Vec<u8>, frame: usize) -> Result<(), Memory>
 
 fn append_system_text(out: &mut Vec<u8>, frame: usize, system: usize) -> Result<(), Memory>
     ensures ok { OnOk result (out.new.items
-        ≡ out.old.items ++ codes "refused system" ++ place frame ++ place system) }
+        ≡ out.old.items ++ codes "refused system" ++ spaced_number frame ++ spaced_number system) }
     ensures kept { OnErr result (take (vec_len out.old) out.new.items ≡ out.old.items) }
     ensures full { OnErr result (vec_capacity out.old
-        < vec_len out.old + length (codes "refused system" ++ place frame ++ place system)) }
+        < vec_len out.old + length (codes "refused system" ++ spaced_number frame ++ spaced_number system)) }
     ensures capacity { vec_capacity out.old ≤ vec_capacity out.new }
 {
     append(out, b"refused system")?;
@@ -108,20 +108,20 @@ fn append_system_text(out: &mut Vec<u8>, frame: usize, system: usize) -> Result<
 
 fn append_operation_text(
     out: &mut Vec<u8>,
-    place: (usize, usize, usize),
+    at: (usize, usize, usize),
     cause: Cause,
 ) -> Result<(), Memory>
     ensures ok { OnOk result (out.new.items
         ≡ out.old.items ++ codes "refused operation"
-        ++ operation_place place.0 place.1 place.2 cause) }
+        ++ operation_place at.0 at.1 at.2 cause) }
     ensures kept { OnErr result (take (vec_len out.old) out.new.items ≡ out.old.items) }
     ensures full { OnErr result (vec_capacity out.old
         < vec_len out.old
-        + length (codes "refused operation" ++ operation_place place.0 place.1 place.2 cause)) }
+        + length (codes "refused operation" ++ operation_place at.0 at.1 at.2 cause)) }
     ensures capacity { vec_capacity out.old ≤ vec_capacity out.new }
 {
     append(out, b"refused operation")?;
-    append_operation(out, place, cause)
+    append_operation(out, at, cause)
 }
 
 fn append_text(fault: ReadFault, out: &mut Vec<u8>) -> Result<(), Memory>
