@@ -41,7 +41,7 @@ pub record IsClaimerOf (claims : Claims) (c : Claimer) : Type 0 where
   -- so it has claimed no more than there are
   pub fits : length c.own.claims ≤ claims.numbers
 
--- the claimer at this place has claimed the number
+-- the claimer of this number has claimed the number
 abbrev pub IsClaimedBy : List Claimer → ℕ → ℕ → Type 0
 IsClaimedBy claimers n k =
     (c : Claimer) × (slice_get claimers k ≡ Some c) × Contains c.own.claims n

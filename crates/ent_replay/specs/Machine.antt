@@ -21,7 +21,7 @@ use Rattle.ent_replay.specs.Held.{all_held}
 abbrev pub map_values : {X Y : Type 0} → (X → Y) → finite.FinMap nat_cmp X → finite.FinMap nat_cmp Y
 map_values f m = finite.from_entries (map (λ e. (e.0, f e.1)) (finite.entries m))
 
--- The places that a call's step passed tell its reply, whatever was taken since.
+-- The positions that a call's step passed tell its reply, whatever was taken since.
 abbrev pub open_call_of : Allocator → StoredCall → OpenCall
 open_call_of s call = record {
   requested = call.requested;

@@ -1,4 +1,4 @@
--- Names, and their places among others.
+-- Names, and their numbers among others.
 use Rattle.std.specs.Prelude.{ℕ, Bool, ◌==◌, ◌+◌, ◌&&◌, ◌||◌, List, [], ◌∷◌, ◌++◌, length, nat_le}
 use Rattle.std.specs.Prelude.{if◌then◌else◌, Option, Some, None, option_map, option_and_then}
 use Rattle.std.specs.Prelude.{is_some}
@@ -20,7 +20,7 @@ is_name text = nat_le 1 (length text) && nat_le (length text) 32 && list_all is_
 abbrev pub as_name : Data → Option (List ℕ)
 as_name d = option_and_then (λ text. if is_name text then Some text else None) (as_str d)
 
--- the place at which a name stands among others
+-- the number of a name among others
 abbrev pub number_among : List ℕ → List (List ℕ) → Option ℕ
 number_among name [] = None
 number_among name (first ∷ others) =

@@ -13,7 +13,7 @@ use Rattle.ent_script.specs.declared.target.Target.TheVariants as target
 abbrev pub IsBundleOf : ℕ → List (ComponentId × ℤ) → Type 0
 IsBundleOf components bundle = AllByRecursion (λ item. item.0.0 < components) bundle
 
--- ---- names: before the operation at place n of a system, at most n names are bound
+-- ---- names: before operation n of a system, at most n names are bound
 
 -- one of these, or the next
 abbrev pub IsBindingAt : ℕ → Option ℕ → Type 0
@@ -25,7 +25,7 @@ IsTargetAt components n (target.Name name) = name < n
 IsTargetAt components n (target.Handle h) = Unit {0}
 IsTargetAt components n (target.Each c) = c.0 < components
 
--- the operation at place n of its system
+-- operation n of its system
 abbrev pub IsOperationAt : ℕ → ℕ → Operation → Type 0
 IsOperationAt components n (operation.Spawn bundle binds) =
     IsBundleOf components bundle × IsBindingAt n binds
@@ -37,7 +37,7 @@ IsOperationAt components n (operation.Remove c on) =
     (c.0 < components) × IsTargetAt components n on
 IsOperationAt components n (operation.Despawn on) = IsTargetAt components n on
 
--- those from place n on
+-- those from number n on
 abbrev pub AreOperationsFrom : ℕ → ℕ → List Operation → Type 0
 AreOperationsFrom components n [] = Unit {0}
 AreOperationsFrom components n (op ∷ ops) =

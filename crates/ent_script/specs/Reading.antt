@@ -98,7 +98,7 @@ with_of components (Some d) = read_bundle components (Some d)
 unfoldable pub count_of : Option Data → Result ℕ Cause
 count_of part = ok_or (option_and_then (whole_within 0 65536) part) cause.Count
 
--- the number of the name that an `as` binds: its place among the names bound so far, or the next
+-- the number of the name that an `as` binds: its number among the names bound so far, or the next
 unfoldable pub binding_of : List (List ℕ) → Option Data → Result (Option ℕ) Cause
 binding_of bound None = Ok None
 binding_of bound (Some d) = do

@@ -57,7 +57,7 @@ impl<'a> Names<'a> {
         self.list.len()
     }
 
-    /// The place of a name.
+    /// The number of a name.
     pub(crate) fn find(&self, name: &str) -> Option<usize>
         ensures value { result ≡ number_among name.now self.now }
         ensures within { IfSome result (λ place. place < length self.now) }

@@ -5,7 +5,7 @@ use ent_alloc::Limits;
 use std::marker::Model;
 
 /// A script: the limits of its allocator, the names of its components, and its frames in order.
-/// The component at place `i` has the number `i`.
+/// The component at index `i` has the number `i`.
 #[derive(Drop)]
 pub struct Script {
     limits: Limits,

@@ -24,7 +24,7 @@ kind_text s (kind.NotAlive h) = codes " not alive" ++ shown_handle s h
 kind_text s (kind.Space wanted left) = codes " space" ++ counts_text wanted left
 kind_text s (kind.Quota left) = codes " quota left " ++ decimal left
 
--- the system, the place of the command in its queue, and why it had no effect
+-- the system, the number of the command in its queue, and why it had no effect
 abbrev pub fault_line : Show → Fault → List ℕ
 fault_line s fault =
     codes "fault " ++ decimal fault.system ++ codes " " ++ decimal fault.command

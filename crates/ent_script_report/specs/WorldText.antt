@@ -20,7 +20,7 @@ place_text b = codes "." ++ decimal b.system ++ codes "." ++ decimal b.ordinal
 abbrev pub birth_text : Birth → List ℕ
 birth_text b = decimal b.frame ++ place_text b
 
--- the name at the component's place in the list; nothing if the list is too short
+-- the name at the component's number in the list; nothing if the list is too short
 abbrev pub component_name : List (List ℕ) → ComponentId → List ℕ
 component_name names id = unwrap_or (slice_get names id.0) []
 

@@ -145,7 +145,7 @@ fn append_world(
 /// Appends the text of a world: a line for each living entity in the order of births, as
 /// `0.1.0 1v1 hp=7`, and then how many there are, as `alive 2`.
 ///
-/// `names` has the name of each component at the place of its number. A component without a name
+/// `names` has the name of each component at the index of its number. A component without a name
 /// there is written as if its name were empty.
 ///
 /// Beside the sort of the entities by birth, it takes time linear in what it appends.

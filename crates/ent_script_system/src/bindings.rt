@@ -43,7 +43,7 @@ impl Bindings {
         }
     }
 
-    /// Makes a place for the name. A list that is added is empty.
+    /// Makes room for the name. A list that is added is empty.
     pub(crate) fn reach(&mut self, name: usize) -> Result<(), Memory>
         ensures same { OnOk result (names_of self.new ≡ names_of self.old) }
         ensures long { OnOk result (name < length self.new) }

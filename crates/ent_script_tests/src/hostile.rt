@@ -124,7 +124,7 @@ fn numbers(rt: HostRuntime) -> Result<(), Fail> {
     Ok(())
 }
 
-// Numbers at other places.
+// Numbers elsewhere.
 const PLACES: [(&[u8], &[u8]); 7] = [
     (
         b"{\"components\":[],\"frames\":[[[{\"spawn_many\":-0}]]]}",

@@ -73,7 +73,7 @@ abbrev pub refused : Refusal → FaultKind
 refused (refusal.Space wanted left) = kind.Space wanted left
 refused (refusal.Quota left) = kind.Quota left
 
--- a command of a system, by its place in the system's queue
+-- a command of a system, by its number in the system's queue
 abbrev pub after_command : ℕ → ℕ → Command → Applied → Applied
 after_command system command (Spawn h items) a = on_entity system command (after_insert items) h a
 after_command system command (SpawnMany hs items) a =

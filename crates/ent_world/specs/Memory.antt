@@ -10,7 +10,7 @@ use Rattle.ent_world.specs.World.{World, lives_in}
 abbrev pub insert_takes_memory : World → Bundle → Handle → Bool
 insert_takes_memory w items h = nat_lt 0 (length items) || not (lives_in w h)
 
--- the same of one of many, if there is one at that place
+-- the same of one of many, if there is one of that number
 abbrev pub place_takes_memory : World → Bundle → Option Handle → Bool
 place_takes_memory w items None = false
 place_takes_memory w items (Some h) = insert_takes_memory w items h

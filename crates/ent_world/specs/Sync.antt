@@ -35,17 +35,17 @@ abbrev pub no_system : ℕ
 no_system = 2 ^ 32 - 1
 
 abbrev pub ordinal : ℕ → ℕ
-ordinal place = min place (2 ^ 32 - 1)
+ordinal n = min n (2 ^ 32 - 1)
 
--- the first place of a handle among others, if it stands there
+-- how many stand before a handle among others, if it is among them
 abbrev pub ordinal_among : List Handle → Handle → Option ℕ
 ordinal_among handles h = position_from (eq_by_cmp handle_cmp h) 0 handles
 
 -- the birth by the first queue that lists the handle
 abbrev pub at_ordinal : ℕ → ℕ → Option ℕ → Option Birth → Option Birth
 at_ordinal phase system None others = others
-at_ordinal phase system (Some place) others =
-    Some (record { frame = phase; system = system; ordinal = ordinal place })
+at_ordinal phase system (Some before) others =
+    Some (record { frame = phase; system = system; ordinal = ordinal before })
 
 abbrev pub listed_birth : ℕ → ℕ → List (List Command) → Handle → Option Birth
 listed_birth phase system [] h = None
@@ -57,7 +57,7 @@ listed_birth phase system (q ∷ qs) h =
 abbrev pub unlisted : List (List Command) → List Handle → List Handle
 unlisted queues handles = filter (λ h. is_none (listed_birth 0 0 queues h)) handles
 
--- the birth of a handle that no queue lists: its place among such handles
+-- the birth of a handle that no queue lists: such handles are numbered
 abbrev pub unlisted_birth : ℕ → List Handle → Handle → Birth
 unlisted_birth phase others h =
     record {
@@ -92,7 +92,7 @@ after_births queues w = record {
 abbrev pub sync : List (List Command) → World → Applied
 sync queues w = after_queues 0 queues (applied (after_births queues w) [])
 
--- A command as far as its first handles go; only a spawn of many has more than one place to stop.
+-- A command as far as its first handles go; only a spawn of many has more than one stop.
 abbrev pub first_part : ℕ → List Command → List Command
 first_part done [] = []
 first_part done (Spawn h items ∷ cs) = []
@@ -119,7 +119,7 @@ abbrev pub sync_until : ℕ → ℕ → ℕ → List (List Command) → World �
 sync_until system command done queues w =
     after_queues 0 (cut system command done queues) (applied (after_births queues w) [])
 
--- at how many places the first of the commands can stop: before each of its handles
+-- how many stops the first of the commands has: before each of its handles
 abbrev pub stops : List Command → ℕ
 stops [] = 0
 stops (Spawn h items ∷ cs) = 1

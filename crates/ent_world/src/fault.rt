@@ -23,9 +23,9 @@ pub enum FaultKind {
 /// A command that had no effect, or one handle of it.
 #[derive(Clone, Copy, Debug, PartialEq, Eq)]
 pub struct Fault {
-    /// The place of the system's queue among those that were applied, from 0.
+    /// The number of the system's queue among those that were applied, from 0.
     pub system: usize,
-    /// The place of the command in that queue, from 0.
+    /// The number of the command in that queue, from 0.
     pub command: usize,
     /// Why it had no effect.
     pub kind: FaultKind,
@@ -51,7 +51,7 @@ pub enum SyncFault {
     Memory {
         /// The system at whose command it stopped.
         system: usize,
-        /// The place of that command in its queue.
+        /// The number of that command in its queue.
         command: usize,
         /// How many handles of that command are done. It is 0 except at a spawn of many.
         done: usize,

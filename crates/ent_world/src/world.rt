@@ -149,7 +149,7 @@ impl World {
         self.entities.needs_flush()
     }
 
-    /// Brings to life what is reserved. Each entity has the birth of its place among those that are
+    /// Brings to life what is reserved. Each entity has the birth of its number among those that are
     /// born, by no system, and no components.
     ///
     /// # Errors

@@ -78,7 +78,7 @@ abbrev pub program_of : Bor (List (Bor Text)) → App
 program_of names =
     with_subcommand (with_subcommand top_command replay_command.top) (run_command names).top
 
--- references to these texts, all to one place: clap reads the texts alone
+-- references to these texts, all to one address: clap reads the texts alone
 abbrev pub placed_texts : List Text → Bor (List (Bor Text))
 placed_texts texts = record {
   ref_ptr = (0, 0);
