@@ -11,7 +11,7 @@ pub mod RequestLaws
 pub mod Settled
 pub mod Spans
 pub mod GivenOnce
-pub mod Rows
+pub mod WorkedRequests
 pub mod Occupants
 pub mod Reused
 pub mod Linked

@@ -11,4 +11,4 @@ pub mod Pushes
 pub mod Gaining
 pub mod Issuing
 pub mod Extending
-pub mod Rows
+pub mod WorkedQueues

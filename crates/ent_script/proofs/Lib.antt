@@ -6,4 +6,4 @@ pub mod Keys
 pub mod Numbering
 pub mod Texts
 pub mod Ranges
-pub mod Rows
+pub mod WorkedScripts

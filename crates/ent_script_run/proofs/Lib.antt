@@ -1,4 +1,4 @@
 pub mod Running
 pub mod OneReport
 pub mod GivenOnce
-pub mod Rows
+pub mod WorkedReports

@@ -2,7 +2,7 @@ pub mod Binding
 pub mod Bundles
 pub mod OneCourse
 mod RisingLists
-mod Rows
+mod WorkedSystems
 pub mod Running
 mod Served
 pub mod Targeted

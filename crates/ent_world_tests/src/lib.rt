@@ -8,8 +8,8 @@ mod limits;
 #[cfg(test)]
 mod memory;
 #[cfg(test)]
-mod rows;
-#[cfg(test)]
 mod scene;
 #[cfg(test)]
 mod shown;
+#[cfg(test)]
+mod worked_syncs;
