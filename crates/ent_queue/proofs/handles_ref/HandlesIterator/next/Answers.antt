@@ -5,8 +5,8 @@ use Rattle.ent_handle.specs.Handle.{IsHandle}
 use Rattle.ent_queue.specs.Unpacking.{unpacked_handle}
 use Rattle.ent_queue.proofs.handles_ref.HandlesIterator.next.Goals as goal
 
-pub handle_of_bits-requires : goal.handle_of_bits-requires
-handle_of_bits-requires c = All-head IsHandle _ _
+pub handle_of-requires : goal.handle_of-requires
+handle_of-requires c = All-head IsHandle _ _
     (subst (λ bytes. All IsHandle (map unpacked_handle bytes)) c.in_ok-first.ensures.cases.0
     c.self.invariant)
 
