@@ -9,8 +9,8 @@ use Rattle.ent_alloc.specs.Entities.{idle, allocator_of, beneath, AreReserved}
 use Rattle.ent_alloc.specs.Reserved.{reserved_handles}
 use Rattle.ent_alloc.proofs.Listing.{reserved_handles-pending, reserved_handles-fresh}
 use Rattle.ent_alloc.proofs.Listing.{reserved_handles-none}
-use Rattle.ent_alloc.proofs.Meaning.{asked_at-is, pool_at_is, pending_below, reply_served}
-use Rattle.ent_alloc.proofs.Meaning.{reply_refused, length_left}
+use Rattle.ent_alloc.proofs.Meaning.{asked_at-is, pool_at_is, pending_below, length_left}
+use Rattle.ent_alloc.proofs.MeaningOfReplies.{reply_served, reply_refused}
 
 module _ (r : Roster) (asked given : ℕ) (high : ℤ) (s : Allocator)
     (reserved : AreReserved r asked given) (view : allocator_of r asked given ≡ s) where

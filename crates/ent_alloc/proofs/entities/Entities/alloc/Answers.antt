@@ -1,11 +1,11 @@
-use Rattle.std.proofs.Common.{◌≡◌, ℕ, ◌+◌, ◌-◌, ◌<◌, ◌≤◌, List, [], ◌∷◌, length, slice_get}
-use Rattle.std.proofs.Common.{Some, Result, Ok, Err, take, reverse, ◌++◌, refl, sym, ap, subst, ◌∙◌}
+use Rattle.std.proofs.Common.{◌≡◌, ℕ, ◌+◌, ◌-◌, ◌<◌, ◌≤◌, List, [], ◌∷◌, length, slice_get, Some}
+use Rattle.std.proofs.Common.{Result, Ok, Err, take, reverse, ◌++◌, refl, sym, ap, subst, ◌∙◌}
 use Rattle.std.proofs.Common.{arith}
 use Rattle.std.specs.FinSet as sets
 use Rattle.std.proofs.lemmas.List.{nil_from_length}
 use Rattle.std.proofs.lemmas.Option.{slice_get_within}
-use Rattle.ent_handle.specs.Handle.{Handle}
 use Rattle.std.specs.Result.{IsErrAnd, IsErrOf}
+use Rattle.ent_handle.specs.Handle.{Handle}
 use Rattle.ent_alloc.specs.declared.fault.AllocFault.{AllocFault}
 use Rattle.ent_alloc.specs.declared.fault.AllocFault.TheVariants.{Memory, Space}
 use Rattle.ent_alloc.specs.Sequential.{Allocator, after_alloc, fresh, top}
@@ -13,9 +13,10 @@ use Rattle.ent_alloc.specs.Roster.{Roster}
 use Rattle.ent_alloc.specs.Sound.{IsSound}
 use Rattle.ent_alloc.specs.Entities.{allocator_of}
 use Rattle.ent_alloc.proofs.Soundness.{after_alloc-sound}
-use Rattle.ent_alloc.proofs.Meaning.{none_is, rest_is, closed, closed_is, none_asked}
-use Rattle.ent_alloc.proofs.Meaning.{alloc_old_front, alloc_old_is, alloc_fresh_front}
-use Rattle.ent_alloc.proofs.Meaning.{alloc_fresh_is, length-idle, top_is}
+use Rattle.ent_alloc.proofs.Meaning.{none_is, rest_is, closed, closed_is, none_asked, length-idle}
+use Rattle.ent_alloc.proofs.Meaning.{top_is}
+use Rattle.ent_alloc.proofs.MeaningOfAlloc.{alloc_old_front, alloc_old_is, alloc_fresh_front}
+use Rattle.ent_alloc.proofs.MeaningOfAlloc.{alloc_fresh_is}
 use Rattle.ent_alloc.proofs.entities.Entities.alloc.Goals as goal
 
 -- the length of the pool if nothing is reserved

@@ -1,6 +1,6 @@
 use Rattle.std.specs.Prelude.{vec_capacity}
-use Rattle.std.proofs.Common.{◌≡◌, ℕ, ◌<◌, ◌⊎◌, inl, inr, vec_len, Result, Ok, Err, OnErr, ◌+◌}
-use Rattle.std.proofs.Common.{◌-◌, ◌++◌, List, length, take, drop, sym, ap, subst, ◌∙◌, arith}
+use Rattle.std.proofs.Common.{◌≡◌, ℕ, ◌<◌, ◌⊎◌, inl, inr, vec_len, Result, Ok, Err, OnErr, ◌+◌, ◌-◌}
+use Rattle.std.proofs.Common.{◌++◌, List, length, take, drop, sym, ap, subst, ◌∙◌, arith}
 use Rattle.std.specs.FinSet as sets
 use Rattle.std.proofs.lemmas.List.{length-take-le}
 use Rattle.ent_handle.specs.Handle.{Handle}
@@ -10,7 +10,7 @@ use Rattle.ent_alloc.specs.Sound.{IsSound}
 use Rattle.ent_alloc.specs.Entities.{idle}
 use Rattle.ent_alloc.proofs.Soundness.{after_flush-sound}
 use Rattle.ent_alloc.proofs.Meaning.{length-idle, closed, closed_is}
-use Rattle.ent_alloc.proofs.Meaning.{made_at_flush_is, flush_is, born_is_listed}
+use Rattle.ent_alloc.proofs.MeaningOfFlush.{made_at_flush_is, flush_is, born_is_listed}
 use Rattle.ent_alloc.proofs.entities.Entities.flush.Goals as goal
 
 -- the roster after so many new slots and with so many pending ones kept

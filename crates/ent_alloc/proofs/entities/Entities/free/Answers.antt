@@ -4,7 +4,8 @@ use Rattle.std.specs.FinMap as maps
 use Rattle.ent_alloc.specs.Sequential.{Allocator, after_free, next}
 use Rattle.ent_alloc.specs.Sound.{IsSound}
 use Rattle.ent_alloc.proofs.Soundness.{after_free-sound}
-use Rattle.ent_alloc.proofs.Meaning.{none_is, rest_is, closed, closed_is, none_asked, free_is}
+use Rattle.ent_alloc.proofs.Meaning.{none_is, rest_is, closed, closed_is, none_asked}
+use Rattle.ent_alloc.proofs.MeaningOfAlloc.{free_is}
 use Rattle.ent_alloc.proofs.entities.Entities.free.Goals as goal
 
 pub invariant_of-self-2 : goal.invariant_of-self-2

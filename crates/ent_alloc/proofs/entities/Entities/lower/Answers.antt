@@ -7,9 +7,9 @@ use Rattle.ent_alloc.specs.Sequential.{Allocator, top}
 use Rattle.ent_alloc.specs.Entities.{allocator_of, AreReserved}
 use Rattle.ent_alloc.specs.Sound.{IsSound}
 use Rattle.ent_alloc.proofs.Spans.{IsSpanOf-after_take}
-use Rattle.ent_alloc.proofs.Meaning.{top_is, length_available, served_view, served_reserved}
-use Rattle.ent_alloc.proofs.Meaning.{refused_view}
-use Rattle.ent_alloc.proofs.Meaning.{refused_reserved}
+use Rattle.ent_alloc.proofs.Meaning.{top_is, length_available}
+use Rattle.ent_alloc.proofs.MeaningOfRequests.{served_view, served_reserved, refused_view}
+use Rattle.ent_alloc.proofs.MeaningOfRequests.{refused_reserved}
 use Rattle.ent_alloc.proofs.entities.Entities.lower.Goals as goal
 
 pub new-span-requires-clause-greatest : goal.new-span-requires-clause-greatest

@@ -5,8 +5,9 @@ use Rattle.ent_alloc.specs.Limits.{Limits}
 use Rattle.ent_alloc.specs.Sequential.{top, pool_at}
 use Rattle.ent_alloc.specs.Entities.{beneath}
 use Rattle.ent_alloc.proofs.FreshHandles.{fresh-none}
-use Rattle.ent_alloc.proofs.Meaning.{top_is, asked_at-is, reply_none}
+use Rattle.ent_alloc.proofs.Meaning.{top_is, asked_at-is}
 use Rattle.ent_alloc.proofs.OneReply.{replied, several, short_of, left_is}
+use Rattle.ent_alloc.proofs.MeaningOfReplies.{reply_none}
 use Rattle.ent_alloc.proofs.entities.Entities.reply.Goals as goal
 
 pub returns-then-low-high : goal.returns-then-low-high

@@ -3,7 +3,8 @@ use Rattle.std.proofs.lemmas.Int.{ints}
 use Rattle.ent_alloc.specs.Sequential.{top, asked_at, settled, Allocator}
 use Rattle.ent_alloc.specs.Sound.{IsSound}
 use Rattle.ent_alloc.proofs.Settled.{length-all, settled-requests}
-use Rattle.ent_alloc.proofs.Meaning.{asked_at-is, top_is, settled_view, settled_reserved}
+use Rattle.ent_alloc.proofs.Meaning.{asked_at-is, top_is}
+use Rattle.ent_alloc.proofs.MeaningOfRequests.{settled_view, settled_reserved}
 use Rattle.ent_alloc.proofs.entities.Entities.settle.Goals as goal
 
 pub distance-requires-2-clause-passed : goal.distance-requires-2-clause-passed

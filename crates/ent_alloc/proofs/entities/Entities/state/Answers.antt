@@ -1,5 +1,5 @@
-use Rattle.std.proofs.Common.{◌≡◌, refl, ℕ, ◌-◌, ◌<◌, ◌||◌, Bool, true, false, cond}
-use Rattle.std.proofs.Common.{length, drop, leb, sym, ap, ◌∙◌, arith}
+use Rattle.std.proofs.Common.{◌≡◌, refl, ℕ, ◌-◌, ◌<◌, ◌||◌, Bool, true, false, cond, length, drop}
+use Rattle.std.proofs.Common.{leb, sym, ap, ◌∙◌, arith}
 use Rattle.std.specs.FinSet as sets
 use Rattle.ent_handle.specs.Handle.{Handle}
 use Rattle.ent_alloc.specs.declared.state.State.TheVariants.{Alive, Reserved, Gone}
@@ -8,7 +8,7 @@ use Rattle.ent_alloc.specs.Roster.{Roster}
 use Rattle.ent_alloc.specs.Slots.{is_alive, is_pending_from}
 use Rattle.ent_alloc.specs.Entities.{allocator_of, AreReserved}
 use Rattle.ent_alloc.proofs.Looked.{fresh_no}
-use Rattle.ent_alloc.proofs.Meaning.{stands_in_taken}
+use Rattle.ent_alloc.proofs.MeaningOfFlush.{stands_in_taken}
 use Rattle.ent_alloc.proofs.entities.Entities.state.Goals as goal
 use Rattle.ent_alloc.proofs.entities.Entities.state.Goals.{in-Some-Pending, in-None, in-None-2}
 

@@ -6,9 +6,10 @@ use Rattle.ent_alloc.specs.Roster.{Roster}
 use Rattle.ent_alloc.specs.declared.slot_record.Occupancy.{Occupancy}
 use Rattle.ent_alloc.specs.Sequential.{stands_in}
 use Rattle.ent_alloc.specs.Slots.{occupancy_of, lives, row_kept, waits_from}
-use Rattle.ent_alloc.proofs.Occupants.{contains_occupants, get_rows}
+use Rattle.ent_alloc.proofs.Occupants.{contains_occupants}
 use Rattle.ent_alloc.proofs.Looked.{is_occupant-occupancy, row_at-occupancy, waits_at-occupancy}
 use Rattle.ent_alloc.proofs.Looked.{made-occupancy, stands_in-pending}
+use Rattle.ent_alloc.proofs.KeptRows.{get_rows}
 use Rattle.ent_alloc.proofs.slots.Slots.occupancy_of.Goals as goal
 
 pub returns-clause-lives : goal.returns-clause-lives

@@ -10,8 +10,9 @@ use Rattle.ent_alloc.specs.Sequential.{next}
 use Rattle.ent_alloc.specs.Roster.{Roster}
 use Rattle.ent_alloc.specs.Slots.{roster_of}
 use Rattle.ent_alloc.proofs.Occupants.{is_occupant, contains_occupants}
-use Rattle.ent_alloc.proofs.Linked.{occupant_made, occupant_generation, next_generation, one_lives}
-use Rattle.ent_alloc.proofs.Linked.{release_keeps_links, roster_of-release}
+use Rattle.ent_alloc.proofs.LivingOccupant.{occupant_made, occupant_generation}
+use Rattle.ent_alloc.proofs.Released.{next_generation, one_lives, release_keeps_links}
+use Rattle.ent_alloc.proofs.Released.{roster_of-release}
 use Rattle.ent_alloc.proofs.slots.Slots.release.Goals as goal
 
 -- who is in the set is a occupant

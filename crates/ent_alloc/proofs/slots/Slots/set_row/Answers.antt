@@ -7,8 +7,8 @@ use Rattle.ent_alloc.specs.declared.slot_record.Occupancy.TheVariants.{AliveWith
 use Rattle.ent_alloc.specs.Roster.{Roster}
 use Rattle.ent_alloc.specs.Slots.{roster_of, record_at, no_slot}
 use Rattle.ent_alloc.proofs.Occupants.{is_occupant, contains_occupants}
-use Rattle.ent_alloc.proofs.Linked.{occupant_made}
 use Rattle.ent_alloc.proofs.Looked.{set_row_keeps_links, roster_of-set_row}
+use Rattle.ent_alloc.proofs.LivingOccupant.{occupant_made}
 use Rattle.ent_alloc.proofs.slots.Slots.set_row.Goals as goal
 
 pub index_mut-requires : goal.index_mut-requires

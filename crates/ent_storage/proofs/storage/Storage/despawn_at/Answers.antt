@@ -6,9 +6,10 @@ use Rattle.ent_storage.specs.Living.{LivingEntity}
 use Rattle.std.proofs.lemmas.List.{length-map, get_or_default}
 use Rattle.std.proofs.lemmas.Option.{slice_get_past}
 use Rattle.ent_storage.specs.Indexed.{counted, handles_by_place}
-use Rattle.ent_storage.proofs.Indexed.{some_entity, moved_is_there, entities_moved, entities_popped}
+use Rattle.ent_storage.proofs.Indexed.{some_entity}
 use Rattle.ent_storage.proofs.Counted.{kept_moved, kept_popped, moved_counts}
 use Rattle.ent_storage.proofs.Placed.{placed_from_place, from_place, handles_without, at_place}
+use Rattle.ent_storage.proofs.TakenOut.{moved_is_there, entities_moved, entities_popped}
 use Rattle.ent_storage.proofs.storage.Storage.despawn_at.Goals as goal
 
 -- the place is one of the entities'

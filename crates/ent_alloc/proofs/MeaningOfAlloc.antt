@@ -1,0 +1,130 @@
+-- What `alloc` and `free` make of the roster is the allocator's step.
+use Rattle.std.proofs.Common.{◌≡◌, ◌+◌, ◌-◌, ◌<◌, true, false, cond, ◌||◌, List, [], ◌∷◌, ◌++◌}
+use Rattle.std.proofs.Common.{length, take, drop, reverse, sym, ap, ◌∙◌, arith, suc, slice_get}
+use Rattle.std.proofs.Common.{Some, subst, All}
+use Rattle.std.specs.Ordering.{eq_by_cmp}
+use Rattle.std.specs.FinSet as sets
+use Rattle.std.specs.FinMap as maps
+use Rattle.std.proofs.lemmas.Bool.{lt-ltb, le-ltb}
+use Rattle.std.proofs.lemmas.List.{take_all, reverse-append, take_more, nil_from_length}
+use Rattle.std.proofs.lemmas.List.Elements.{All-head}
+use Rattle.std.proofs.lemmas.Option.{get_or_from_slice_get}
+use Rattle.std.proofs.Math.Bool.{or_comm, or-false}
+use Rattle.ent_handle.specs.Handle.{Handle, handle_cmp, handle_cmp_total}
+use Rattle.ent_handle.specs.Handle.{handle_cmp-IsAntisymmetric}
+use Rattle.ent_alloc.specs.Roster.{Roster}
+use Rattle.ent_alloc.specs.Sequential.{fresh, is_old, after_alloc, after_free, next}
+use Rattle.ent_alloc.specs.Sound.{IsSound}
+use Rattle.ent_alloc.specs.Entities.{idle, allocator_of}
+use Rattle.ent_alloc.proofs.FreshHandles.{fresh-next}
+use Rattle.ent_alloc.proofs.HandleSets.{contains-union_list}
+use Rattle.ent_alloc.proofs.Meaning.{pending_below}
+
+-- one handle that comes to life
+pub union_one : (live : sets.FinSet handle_cmp) (h : Handle)
+    → sets.union live (sets.from_list (h ∷ [])) ≡ sets.insert live h
+union_one live h =
+    sets.same_set handle_cmp_total handle_cmp-IsAntisymmetric _ _ (λ q.
+    contains-union_list live (h ∷ []) q
+    ∙ or_comm (sets.contains live q) (eq_by_cmp handle_cmp q h || false)
+    ∙ (λ i. or-false (eq_by_cmp handle_cmp q h) i || sets.contains live q)
+    ∙ sym (sets.contains-insert handle_cmp_total live h q))
+
+-- ---- alloc
+
+-- the last that waits is the first to be given
+last_first : (pending : List Handle) (h : Handle) → 0 < length pending
+    → slice_get pending (length pending - 1) ≡ Some h → reverse pending ≡ h
+    ∷ reverse (take (length pending - 1) pending)
+last_first pending h some last =
+    let at : length pending - 1 + 1 ≡ length pending = omega arith in
+    ap reverse (sym (take_all (length pending) pending (omega arith))
+    ∙ ap (λ n. take n pending) (sym at) ∙ take_more pending (length pending - 1) h (omega arith)
+    ∙ ap (λ x. take (length pending - 1) pending ++ x ∷ [])
+    (get_or_from_slice_get pending (length pending - 1) h h last))
+    ∙ reverse-append (take (length pending - 1) pending) (h ∷ [])
+
+pub alloc_old_front : (r : Roster) (h : Handle) → 0 < length r.pending
+    → slice_get r.pending (length r.pending - 1) ≡ Some h → idle r ≡ h
+    ∷ (reverse (take (length r.pending - 1) r.pending) ++ fresh r.made (r.limits.slots - r.made))
+alloc_old_front r h some last = ap (λ hs. hs ++ fresh r.made (r.limits.slots - r.made))
+    (last_first r.pending h some last)
+
+pub alloc_old_is : (r : Roster) (h : Handle) → IsSound (allocator_of r 0 0) → 0 < length r.pending
+    → slice_get r.pending (length r.pending - 1) ≡ Some h
+    → allocator_of (record r {
+      live = sets.union r.live (sets.from_list (h ∷ []));
+      pending =
+          take (length r.pending - 1) r.pending;
+    }) 0 0 ≡ after_alloc (allocator_of r 0 0) h
+alloc_old_is r h sound some last =
+    let below : h.index < r.made = All-head (λ x. x.index < r.made) h
+    (reverse (take (length r.pending - 1) r.pending))
+    (subst (All (λ x. x.index < r.made)) (last_first r.pending h some last)
+    (pending_below r 0 0 (omega arith) sound)) in
+    let old : is_old r.made h ≡ true = lt-ltb h.index r.made below in
+    λ i. record {
+      limits = r.limits;
+      live = union_one r.live h i;
+      rows = r.rows;
+      pool = sym (ap (drop 1) (alloc_old_front r h some last)) i;
+      taken = [];
+      aside = [];
+      made = cond (sym old i) r.made (r.made + 1);
+      asked = 0;
+    }
+
+pub alloc_fresh_front : (r : Roster) → length r.pending ≡ 0 → r.made < r.limits.slots → idle r
+    ≡ record { index = r.made; generation = 1 } ∷ fresh (r.made + 1) (r.limits.slots - (r.made + 1))
+alloc_fresh_front r none room =
+    let more : r.limits.slots - r.made ≡ suc (r.limits.slots - (r.made + 1)) = omega arith in
+    ap (λ hs. reverse hs ++ fresh r.made (r.limits.slots - r.made)) (nil_from_length r.pending none)
+    ∙ ap (fresh r.made) more
+    ∙ fresh-next r.made (r.limits.slots - (r.made + 1))
+
+pub alloc_fresh_is : (r : Roster) (h : Handle) → length r.pending ≡ 0 → r.made < r.limits.slots → h
+    ≡ record { index = r.made; generation = 1 }
+    → allocator_of (record r {
+      live = sets.union r.live (sets.from_list (h ∷ []));
+      made = r.made
+          + 1;
+    }) 0 0 ≡ after_alloc (allocator_of r 0 0) h
+alloc_fresh_is r h none room first =
+    let new : is_old r.made h ≡ false = le-ltb h.index r.made (let at : h.index
+    ≡ r.made = ap (λ (x : Handle). x.index) first in omega arith) in
+    λ i. record {
+      limits = r.limits;
+      live = union_one r.live h i;
+      rows = r.rows;
+      pool = (ap (λ hs. reverse hs ++ fresh (r.made + 1) (r.limits.slots - (r.made + 1)))
+          (nil_from_length r.pending none) ∙ sym (ap (drop 1) (alloc_fresh_front r none room))) i;
+      taken = [];
+      aside = [];
+      made = cond (sym new i) r.made (r.made + 1);
+      asked = 0;
+    }
+
+-- ---- free
+
+pub free_is : (r : Roster) (h : Handle)
+    → allocator_of (record r {
+      live = sets.remove r.live h;
+      rows = maps.remove r.rows h;
+      pending =
+          r.pending ++ next r.limits h ∷ [];
+    }) 0 0 ≡ after_free (allocator_of r 0 0) h
+free_is r h =
+    let front : reverse (r.pending ++ next r.limits h ∷ [])
+    ++ fresh r.made (r.limits.slots - r.made) ≡ next r.limits h ∷ idle r =
+    ap (λ hs. hs ++ fresh r.made (r.limits.slots - r.made))
+    (reverse-append r.pending (next r.limits h ∷ [])) in
+    λ i. record {
+      limits = r.limits;
+      live = sets.remove r.live h;
+      rows = maps.remove r.rows h;
+      pool = front i;
+      taken = [];
+      aside = [];
+      made = r.made;
+      asked = 0;
+    }
