@@ -67,6 +67,12 @@ module _ (r : Roster) (asked given : ℕ) (within : given ≤ asked)
   top_is = ap (λ hs. length (filter (is_old r.made) hs)) (available_is r asked given within)
       ∙ ap length old_is ∙ length-reverse r.pending
 
+-- the top, by the vectors
+pub top_view : (r : Roster) (asked given : ℕ) (s : Allocator) → AreReserved r asked given
+    → allocator_of r asked given ≡ s → top s ≡ length r.pending
+top_view r asked given s reserved view =
+    ap top (sym view) ∙ top_is r asked given reserved.given_least reserved.sound
+
 -- nothing is reserved
 pub flushed : (r : Roster) (asked given : ℕ) → asked ≡ 0 → given ≤ asked
     → allocator_of r asked given ≡ allocator_of r 0 0
@@ -167,3 +173,22 @@ none_asked b n tells is =
       | inl some ↦ absurd (false≢true (subst IsTrue is (tells.1 some)))
       | inr none ↦ omega arith
     ]
+
+-- an allocator that nothing is reserved of
+pub record IsAtRest (r : Roster) (requests : Requests) (s : Allocator) : Type 0 where
+  pub asked : s.asked ≡ 0
+  pub requests_is : requests ≡ none
+  pub view : allocator_of r 0 0 ≡ s
+  pub sound : IsSound s
+
+pub at_rest : (r : Roster) (requests : Requests) (s : Allocator) (b : Bool) → AreReserved r
+    requests.asked requests.served → allocator_of r requests.asked requests.served ≡ s
+    → (IsTrue b ↔ (0 < s.asked)) → b ≡ false → IsAtRest r requests s
+at_rest r requests s b reserved view tells is =
+    let asked = none_asked b s.asked tells is in
+    record {
+      asked = asked;
+      requests_is = none_is r requests s reserved view asked;
+      view = rest_is r requests.asked requests.served s reserved view asked;
+      sound = subst IsSound view reserved.sound;
+    }

@@ -8,17 +8,19 @@ use Rattle.std.specs.FinMap as maps
 use Rattle.std.proofs.lemmas.Bool.{lt-ltb, le-ltb}
 use Rattle.std.proofs.lemmas.List.{take_all, reverse-append, take_more, nil_from_length}
 use Rattle.std.proofs.lemmas.List.Elements.{All-head}
-use Rattle.std.proofs.lemmas.Option.{get_or_from_slice_get}
+use Rattle.std.proofs.lemmas.Option.{get_or_from_slice_get, slice_get_within}
 use Rattle.std.proofs.Math.Bool.{or_comm, or-false}
 use Rattle.ent_handle.specs.Handle.{Handle, handle_cmp, handle_cmp_total}
 use Rattle.ent_handle.specs.Handle.{handle_cmp-IsAntisymmetric}
 use Rattle.ent_alloc.specs.Roster.{Roster}
-use Rattle.ent_alloc.specs.Sequential.{fresh, is_old, after_alloc, after_free, next}
+use Rattle.ent_alloc.specs.declared.requests.Requests.{Requests}
+use Rattle.ent_alloc.specs.Sequential.{Allocator, fresh, is_old, after_alloc, after_free, next}
 use Rattle.ent_alloc.specs.Sound.{IsSound}
-use Rattle.ent_alloc.specs.Entities.{idle, allocator_of}
+use Rattle.ent_alloc.specs.Entities.{idle, allocator_of, AreReserved}
 use Rattle.ent_alloc.proofs.FreshHandles.{fresh-next}
 use Rattle.ent_alloc.proofs.HandleSets.{contains-union_list}
-use Rattle.ent_alloc.proofs.Meaning.{pending_below}
+use Rattle.ent_alloc.proofs.Soundness.{after_alloc-sound}
+use Rattle.ent_alloc.proofs.Meaning.{pending_below, length-idle, IsAtRest, closed, closed_is}
 
 -- one handle that comes to life
 pub union_one : (live : sets.FinSet handle_cmp) (h : Handle)
@@ -50,13 +52,20 @@ pub alloc_old_front : (r : Roster) (h : Handle) → 0 < length r.pending
 alloc_old_front r h some last = ap (λ hs. hs ++ fresh r.made (r.limits.slots - r.made))
     (last_first r.pending h some last)
 
+-- the roster after the slot that waits last got its next occupant, and after one was made
+abbrev pub reused_roster : Roster → Handle → Roster
+reused_roster r h = record r {
+  live = sets.union r.live (sets.from_list (h ∷ []));
+  pending = take (length r.pending - 1) r.pending;
+}
+
+abbrev pub made_roster : Roster → Handle → Roster
+made_roster r h =
+    record r { live = sets.union r.live (sets.from_list (h ∷ [])); made = r.made + 1 }
+
 pub alloc_old_is : (r : Roster) (h : Handle) → IsSound (allocator_of r 0 0) → 0 < length r.pending
     → slice_get r.pending (length r.pending - 1) ≡ Some h
-    → allocator_of (record r {
-      live = sets.union r.live (sets.from_list (h ∷ []));
-      pending =
-          take (length r.pending - 1) r.pending;
-    }) 0 0 ≡ after_alloc (allocator_of r 0 0) h
+    → allocator_of (reused_roster r h) 0 0 ≡ after_alloc (allocator_of r 0 0) h
 alloc_old_is r h sound some last =
     let below : h.index < r.made = All-head (λ x. x.index < r.made) h
     (reverse (take (length r.pending - 1) r.pending))
@@ -84,11 +93,7 @@ alloc_fresh_front r none room =
 
 pub alloc_fresh_is : (r : Roster) (h : Handle) → length r.pending ≡ 0 → r.made < r.limits.slots → h
     ≡ record { index = r.made; generation = 1 }
-    → allocator_of (record r {
-      live = sets.union r.live (sets.from_list (h ∷ []));
-      made = r.made
-          + 1;
-    }) 0 0 ≡ after_alloc (allocator_of r 0 0) h
+    → allocator_of (made_roster r h) 0 0 ≡ after_alloc (allocator_of r 0 0) h
 alloc_fresh_is r h none room first =
     let new : is_old r.made h ≡ false = le-ltb h.index r.made (let at : h.index
     ≡ r.made = ap (λ (x : Handle). x.index) first in omega arith) in
@@ -104,15 +109,70 @@ alloc_fresh_is r h none room first =
       asked = 0;
     }
 
+module _ (r : Roster) (requests : Requests) (s : Allocator) (rest : IsAtRest r requests s) where
+  pool_is : idle r ≡ s.pool
+  pool_is = ap (λ (t : Allocator). t.pool) rest.view
+
+  pub length_pool : length s.pool ≡ length r.pending + (r.limits.slots - r.made)
+  length_pool = sym (ap length pool_is) ∙ length-idle r
+
+  -- the slot that waits last gets its next occupant
+  module _ (h : Handle) (last : slice_get r.pending (length r.pending - 1) ≡ Some h) where
+    some_wait : 0 < length r.pending
+    some_wait = let within = slice_get_within r.pending (length r.pending - 1) h last in omega arith
+
+    pub reused_front : s.pool ≡ h ∷ (reverse (take (length r.pending - 1) r.pending)
+        ++ fresh r.made (r.limits.slots - r.made))
+    reused_front = sym pool_is ∙ alloc_old_front r h some_wait last
+
+    reused_is : allocator_of (reused_roster r h) 0 0 ≡ after_alloc s h
+    reused_is =
+        alloc_old_is r h (subst IsSound (sym rest.view) rest.sound) some_wait last
+        ∙ ap (λ t. after_alloc t h) rest.view
+
+    pub reused_view : (new : Roster) → new ≡ reused_roster r h
+        → allocator_of new requests.asked requests.served ≡ after_alloc s h
+    reused_view new is = closed_is new (reused_roster r h) requests (after_alloc s h) is
+        rest.requests_is reused_is
+
+    pub reused_reserved : (new : Roster) → new ≡ reused_roster r h → AreReserved new requests.asked
+        requests.served
+    reused_reserved new is = closed new (reused_roster r h) requests (after_alloc s h) is
+        rest.requests_is reused_is (after_alloc-sound s h _ rest.sound rest.asked reused_front)
+
+  -- no slot waits, and one is made
+  module _ (h : Handle) (none_waits : length r.pending ≡ 0) (room : r.made < r.limits.slots)
+      (first : h ≡ record { index = r.made; generation = 1 }) where
+    pub made_front : s.pool ≡ h ∷ fresh (r.made + 1) (r.limits.slots - (r.made + 1))
+    made_front =
+        sym pool_is ∙ alloc_fresh_front r none_waits room
+        ∙ ap (λ (x : Handle). x ∷ fresh (r.made + 1) (r.limits.slots - (r.made + 1))) (sym first)
+
+    made_is : allocator_of (made_roster r h) 0 0 ≡ after_alloc s h
+    made_is = alloc_fresh_is r h none_waits room first ∙ ap (λ t. after_alloc t h) rest.view
+
+    pub made_view : (new : Roster) → new ≡ made_roster r h
+        → allocator_of new requests.asked requests.served ≡ after_alloc s h
+    made_view new is = closed_is new (made_roster r h) requests (after_alloc s h) is
+        rest.requests_is made_is
+
+    pub made_reserved : (new : Roster) → new ≡ made_roster r h → AreReserved new requests.asked
+        requests.served
+    made_reserved new is = closed new (made_roster r h) requests (after_alloc s h) is
+        rest.requests_is made_is (after_alloc-sound s h _ rest.sound rest.asked made_front)
+
 -- ---- free
 
+-- the roster after an occupant was taken out
+abbrev pub freed_roster : Roster → Handle → Roster
+freed_roster r h = record r {
+  live = sets.remove r.live h;
+  rows = maps.remove r.rows h;
+  pending = r.pending ++ next r.limits h ∷ [];
+}
+
 pub free_is : (r : Roster) (h : Handle)
-    → allocator_of (record r {
-      live = sets.remove r.live h;
-      rows = maps.remove r.rows h;
-      pending =
-          r.pending ++ next r.limits h ∷ [];
-    }) 0 0 ≡ after_free (allocator_of r 0 0) h
+    → allocator_of (freed_roster r h) 0 0 ≡ after_free (allocator_of r 0 0) h
 free_is r h =
     let front : reverse (r.pending ++ next r.limits h ∷ [])
     ++ fresh r.made (r.limits.slots - r.made) ≡ next r.limits h ∷ idle r =

@@ -34,6 +34,15 @@ live_after live news olds =
     ∙ sym (list_any-append (eq_by_cmp handle_cmp q) (reverse olds) news))
     ∙ sym (contains-union_list live (reverse olds ++ news) q))
 
+-- the roster after so many new slots and with so many pending ones kept
+abbrev pub flushed_roster : Roster → ℕ → ℕ → Roster
+flushed_roster r kept news = record r {
+  live = sets.union (sets.union r.live (sets.from_list (fresh r.made news)))
+      (sets.from_list (drop kept r.pending));
+  pending = take kept r.pending;
+  made = r.made + news;
+}
+
 module _ (r : Roster) (asked given : ℕ) (within : given ≤ asked) (enough : given ≤ length r.pending
     + (r.limits.slots - r.made)) (sound : IsSound (allocator_of r asked given)) where
   abbrev pub kept : ℕ
@@ -41,14 +50,6 @@ module _ (r : Roster) (asked given : ℕ) (within : given ≤ asked) (enough : g
 
   abbrev pub news : ℕ
   news = given - length r.pending
-
-  abbrev pub flushed_roster : Roster
-  flushed_roster = record r {
-    live = sets.union (sets.union r.live (sets.from_list (fresh r.made news)))
-        (sets.from_list (drop kept r.pending));
-    pending = take kept r.pending;
-    made = r.made + news;
-  }
 
   waits_below : All (λ h. h.index < r.made) (reverse r.pending)
   waits_below = pending_below r asked given within sound
@@ -90,9 +91,10 @@ module _ (r : Roster) (asked given : ℕ) (within : given ≤ asked) (enough : g
   born_is_listed = (λ i. taken_fresh i ++ reverse (taken_old i))
       ∙ ap (λ hs. fresh r.made news ++ hs) (reverse-reverse (drop kept r.pending))
 
-  pub flush_is : allocator_of flushed_roster 0 0 ≡ after_flush (allocator_of r asked given)
+  pub flush_is : allocator_of (flushed_roster r kept news) 0 0 ≡ after_flush (allocator_of r asked given)
   flush_is =
-      let live_is : flushed_roster.live ≡ sets.union r.live (sets.from_list (take given (idle r))) =
+      let live_is : (flushed_roster r kept news).live
+      ≡ sets.union r.live (sets.from_list (take given (idle r))) =
       live_after r.live (fresh r.made news) (drop kept r.pending)
       ∙ ap (λ hs. sets.union r.live (sets.from_list hs)) (sym taken_is) in
       let made_is : r.made + news ≡ r.made + made_at_flush (allocator_of r asked given) =
