@@ -209,8 +209,10 @@ module _ (limits : Limits) (records : List SlotRecord) (pending : List ℕ) (liv
     abbrev grown : List SlotRecord
     grown = records ++ replicate count new_record
 
-    old_stays : (index : ℕ) → index < length records → record_at grown index ≡ record_at records index
-    old_stays index made = get_or_append_left records (replicate count new_record) no_slot index made
+    old_stays : (index : ℕ) → index < length records → record_at grown index
+        ≡ record_at records index
+    old_stays index made =
+        get_or_append_left records (replicate count new_record) no_slot index made
 
     new_is : (index : ℕ) → length records ≤ index → index < length grown → record_at grown index
         ≡ new_record
@@ -287,11 +289,12 @@ module _ (limits : Limits) (records : List SlotRecord) (pending : List ℕ) (liv
               (sym (ap (λ (r : SlotRecord). r.occupancy) (old_stays index made)) ∙ is);
         }
 
-    pub roster_of-make : roster_of limits grown pending ≡ record (roster_of limits records pending) {
-      live = sets.union (roster_of limits records pending).live
-          (sets.from_list (fresh (roster_of limits records pending).made count));
-      made = (roster_of limits records pending).made + count;
-    }
+    pub roster_of-make : roster_of limits grown pending
+        ≡ record (roster_of limits records pending) {
+          live = sets.union (roster_of limits records pending).live
+              (sets.from_list (fresh (roster_of limits records pending).made count));
+          made = (roster_of limits records pending).made + count;
+        }
     roster_of-make =
         let zero_plus : 0 + length records ≡ length records = omega arith in
         let live_is =

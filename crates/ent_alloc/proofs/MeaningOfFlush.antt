@@ -91,7 +91,8 @@ module _ (r : Roster) (asked given : ℕ) (within : given ≤ asked) (enough : g
   born_is_listed = (λ i. taken_fresh i ++ reverse (taken_old i))
       ∙ ap (λ hs. fresh r.made news ++ hs) (reverse-reverse (drop kept r.pending))
 
-  pub flush_is : allocator_of (flushed_roster r kept news) 0 0 ≡ after_flush (allocator_of r asked given)
+  pub flush_is : allocator_of (flushed_roster r kept news) 0 0 ≡ after_flush
+      (allocator_of r asked given)
   flush_is =
       let live_is : (flushed_roster r kept news).live
       ≡ sets.union r.live (sets.from_list (take given (idle r))) =

@@ -17,7 +17,8 @@ pub record IsBelowTop (r : Roster) (high : ℤ) : Type 0 where
   pub within : high ≤ℤ pos (length r.pending)
   pub distance : pos (beneath r high) ≡ pos (length r.pending) -ℤ high
 
-pub below_top : (r : Roster) (asked given : ℕ) (s : Allocator) (high : ℤ) → AreReserved r asked given
+pub below_top : (r : Roster) (asked given : ℕ) (s : Allocator) (high : ℤ)
+    → AreReserved r asked given
     → allocator_of r asked given ≡ s → high ≤ℤ pos (top s) → IsBelowTop r high
 below_top r asked given s high reserved view passed =
     let tops = top_view r asked given s reserved view in

@@ -46,7 +46,8 @@ module _ {X : Type 0} (n : ℕ) (xs : List X) where
       ]
 
 -- a test of the elements doesn't see their order
-pub list_any-reverse : (p : Handle → Bool) (hs : List Handle) → list_any p (reverse hs) ≡ list_any p hs
+pub list_any-reverse : (p : Handle → Bool) (hs : List Handle) → list_any p (reverse hs)
+    ≡ list_any p hs
 list_any-reverse p [] = refl
 list_any-reverse p (h ∷ hs) =
     ap (list_any p) (reverse-append (h ∷ []) hs)

@@ -6,8 +6,8 @@ ghost use Rattle.std.specs.FinSet as set;
 ghost use Rattle.std.specs.FinMap as map;
 ghost use Rattle.ent_alloc.specs.Sequential.{opening, top, cursor, available, asked_at, pool_at};
 ghost use Rattle.ent_alloc.specs.Sequential.{reply_from, listed_alone, born, made_at_flush, next};
-ghost use Rattle.ent_alloc.specs.Sequential.{state_of, settled, after_take, after_flush, after_alloc};
-ghost use Rattle.ent_alloc.specs.Sequential.{after_free, after_set_row};
+ghost use Rattle.ent_alloc.specs.Sequential.{state_of, settled, after_take, after_flush};
+ghost use Rattle.ent_alloc.specs.Sequential.{after_alloc, after_free, after_set_row};
 ghost use Rattle.ent_alloc.specs.Sound.{IsSound};
 ghost use Rattle.ent_alloc.specs.Span.{IsSpanOf};
 

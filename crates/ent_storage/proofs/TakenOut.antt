@@ -42,7 +42,8 @@ module _ (living : List LivingEntity) (index : FinMap handle_cmp ℕ)
         ∙ placed))
 
     -- another handle has another place
-    elsewhere : (q : Handle) (k : ℕ) (d : LivingEntity) → q ≢ h → finite.get index q ≡ Some k → k ≢ i
+    elsewhere : (q : Handle) (k : ℕ) (d : LivingEntity) → q ≢ h → finite.get index q ≡ Some k
+        → k ≢ i
     elsewhere q k d n at e =
         n (sym ((indexed.each_place q k at).1 d) ∙ ap (λ (j : ℕ). (get_or living j d).handle) e
         ∙ (indexed.each_place h i placed).1 d)
@@ -142,7 +143,8 @@ module _ (living : List LivingEntity) (index : FinMap handle_cmp ℕ)
           (λ q. get_left q (same_or_apart total same q h) _ refl)
 
     -- the index, if the entity was the last
-    pub without_last : i + 1 ≡ length living → IsIndexWithout index living h i (finite.remove index h)
+    pub without_last : i + 1 ≡ length living → IsIndexWithout index living h i
+        (finite.remove index h)
     without_last last = record {
       gone = get-remove_same total same index h h refl;
       stay = λ q k n l at. get-remove_other total same index h q n ∙ at;
@@ -168,7 +170,8 @@ module _ (living : List LivingEntity) (index : FinMap handle_cmp ℕ)
           ∙ placed_last) in
           absurd (omega arith)
 
-      pub without_moved : IsIndexWithout index living h i (finite.insert (finite.remove index h) m i)
+      pub without_moved : IsIndexWithout index living h i
+          (finite.insert (finite.remove index h) m i)
       without_moved = record {
         gone = get-insert_other total same (finite.remove index h) m i h not_gone
             ∙ get-remove_same total same index h h refl;

@@ -79,34 +79,40 @@ invariant_of-self-then-room-gt0 c =
     let one = made (goal.at.invariant_of-self-then-room-gt0 c).In_ok-make_one in
     made_reserved c.self.inside.slots c.self.inside.requests c.args.self.now
     (rest (goal.at.invariant_of-self-then-room-gt0 c).Else-needs_flush) c.in_ok-make_one.field-0
-    one.none_waits (some_room (goal.at.invariant_of-self-then-room-gt0 c).Then-room-gt0) one.first c.make_one.new.self
+    one.none_waits (some_room (goal.at.invariant_of-self-then-room-gt0 c).Then-room-gt0) one.first
+    c.make_one.new.self
     one.new_is
 
 pub returns-in-Some-clause-front : goal.returns-in-Some-clause-front
 returns-in-Some-clause-front c =
-    ap (λ (hs : List Handle). slice_get hs 0) (reused_front c.self.inside.slots c.self.inside.requests c.args.self.now
+    ap (λ (hs : List Handle). slice_get hs 0)
+    (reused_front c.self.inside.slots c.self.inside.requests c.args.self.now
     (rest (goal.at.returns-in-Some-clause-front c).Else-needs_flush) c.in-Some.handle
     c.in-Some.ensures.last)
 
 pub returns-in-Some-clause-ok : goal.returns-in-Some-clause-ok
 returns-in-Some-clause-ok c =
     reused_view c.self.inside.slots c.self.inside.requests c.args.self.now
-    (rest (goal.at.returns-in-Some-clause-ok c).Else-needs_flush) c.in-Some.handle c.in-Some.ensures.last
+    (rest (goal.at.returns-in-Some-clause-ok c).Else-needs_flush) c.in-Some.handle
+    c.in-Some.ensures.last
     c.reuse_last.new.self c.in-Some.ensures.some
 
 pub returns-in_ok-make_one-clause-front : goal.returns-in_ok-make_one-clause-front
 returns-in_ok-make_one-clause-front c =
     let one = made (goal.at.returns-in_ok-make_one-clause-front c).In_ok-make_one in
-    ap (λ (hs : List Handle). slice_get hs 0) (made_front c.self.inside.slots c.self.inside.requests c.args.self.now
+    ap (λ (hs : List Handle). slice_get hs 0)
+    (made_front c.self.inside.slots c.self.inside.requests c.args.self.now
     (rest (goal.at.returns-in_ok-make_one-clause-front c).Else-needs_flush) c.in_ok-make_one.field-0
-    one.none_waits (some_room (goal.at.returns-in_ok-make_one-clause-front c).Then-room-gt0) one.first)
+    one.none_waits (some_room (goal.at.returns-in_ok-make_one-clause-front c).Then-room-gt0)
+    one.first)
 
 pub returns-in_ok-make_one-clause-ok : goal.returns-in_ok-make_one-clause-ok
 returns-in_ok-make_one-clause-ok c =
     let one = made (goal.at.returns-in_ok-make_one-clause-ok c).In_ok-make_one in
     made_view c.self.inside.slots c.self.inside.requests c.args.self.now
     (rest (goal.at.returns-in_ok-make_one-clause-ok c).Else-needs_flush) c.in_ok-make_one.field-0
-    one.none_waits (some_room (goal.at.returns-in_ok-make_one-clause-ok c).Then-room-gt0) one.first c.make_one.new.self
+    one.none_waits (some_room (goal.at.returns-in_ok-make_one-clause-ok c).Then-room-gt0) one.first
+    c.make_one.new.self
     one.new_is
 
 pub returns-in_ok-make_one-clause-space : goal.returns-in_ok-make_one-clause-space

@@ -9,7 +9,8 @@ use Rattle.ent_alloc.specs.Sound.{IsSound}
 use Rattle.ent_alloc.specs.Entities.{idle, allocator_of}
 use Rattle.ent_alloc.proofs.Soundness.{after_flush-sound}
 use Rattle.ent_alloc.proofs.Meaning.{length-idle, closed, closed_is}
-use Rattle.ent_alloc.proofs.MeaningOfFlush.{flushed_roster, made_at_flush_is, flush_is, born_is_listed}
+use Rattle.ent_alloc.proofs.MeaningOfFlush.{flushed_roster, made_at_flush_is, flush_is}
+use Rattle.ent_alloc.proofs.MeaningOfFlush.{born_is_listed}
 use Rattle.ent_alloc.proofs.entities.Entities.flush.Goals.{After-fresh-fresh, In_ok-bring_to_life}
 use Rattle.ent_alloc.proofs.entities.Entities.flush.Goals as goal
 

@@ -13,7 +13,8 @@ rest : (c : Else-needs_flush) → IsAtRest c.self.inside.slots c.self.inside.req
 rest c = at_rest c.self.inside.slots c.self.inside.requests c.args.self.now c.needs_flush.result
     c.self.invariant c.self.view_is c.needs_flush.ensures c.if-needs_flush.false
 
-freed_is : (c : Else-needs_flush) → allocator_of (freed_roster c.self.inside.slots c.args.handle) 0 0
+freed_is : (c : Else-needs_flush) → allocator_of
+    (freed_roster c.self.inside.slots c.args.handle) 0 0
     ≡ after_free c.args.self.now c.args.handle
 freed_is c = free_is c.self.inside.slots c.args.handle
     ∙ ap (λ s. after_free s c.args.handle) (rest c).view

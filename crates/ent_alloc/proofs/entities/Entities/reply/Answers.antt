@@ -25,7 +25,8 @@ returns-then-low-high c =
     let at = lies (goal.at.returns-then-low-high c).After-self in
     λ n requested.
     let none : n ≡ 0 = (let same = c.if-low-high.true in omega (arith, ints)) in
-    ap Ok (c.new.ensures ∙ fresh-none 0) ∙ reply_none e.slots (beneath e.slots c.args.span.high) n none
+    ap Ok (c.new.ensures ∙ fresh-none 0) ∙ reply_none e.slots
+    (beneath e.slots c.args.span.high) n none
     ∙ replied e.slots e.requests.asked e.requests.served c.args.span.high c.args.self.now
     c.self.invariant c.self.view_is n
 
@@ -113,7 +114,8 @@ returns c =
     ap Ok c.new-2.ensures
     ∙ several e.slots e.requests.asked e.requests.served c.args.span.high c.args.self.now
     c.self.invariant c.self.view_is n 0 0
-    (c.made-made.result + nat_abs (to_z w64 (of_z w64 (pos 0 -ℤ to_z w64 (of_z w64 c.args.span.high)))))
+    (c.made-made.result + nat_abs
+    (to_z w64 (of_z w64 (pos 0 -ℤ to_z w64 (of_z w64 c.args.span.high)))))
     (c.from.result + nat_abs (to_z w64 (of_z w64 (pos 0 -ℤ to_z w64 (of_z w64 c.args.span.low)))))
     (omega (arith, ints)) (omega (arith, ints)) (omega (arith, ints)) (omega (arith, ints))
     (omega (arith, ints))

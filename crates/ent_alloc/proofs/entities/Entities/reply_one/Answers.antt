@@ -41,4 +41,5 @@ returns-else-index-from c =
     let index : ℕ = c.from.result
     + nat_abs (to_z w64 (of_z w64 (pos 0 -ℤ to_z w64 (of_z w64 c.args.high)))) in
     one_refused e.slots e.requests.asked e.requests.served c.args.high c.args.self.now
-    c.self.invariant c.self.view_is index at.within (omega (arith, ints)) (omega arith) (omega arith)
+    c.self.invariant c.self.view_is index at.within (omega (arith, ints)) (omega arith)
+    (omega arith)

@@ -138,7 +138,8 @@ returns-clause-born c =
     let first : c.reserve.new.self.len ≡ c.args.self.now.made = omega arith in
     let old : map (handle_at c.deref_mut.result.now) (take (length c.deref.result.now - kept)
     (drop kept c.deref.result.now)) ≡ drop kept c.args.self.now.pending =
-    waited c.deref_mut.result.now (records ++ replicate n new_record) c.deref.result.now pending kept
+    waited c.deref_mut.result.now (records ++ replicate n new_record)
+    c.deref.result.now pending kept
     (c.deref_mut.ensures.value ∙ all.grown_is) c.deref.ensures.value
     ∙ ap (λ (r : Roster). drop kept r.pending) (roster_of-make e.limits records pending e.live n
     c.self.invariant all.room

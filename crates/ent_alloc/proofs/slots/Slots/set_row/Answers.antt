@@ -44,7 +44,8 @@ invariant_of-self c =
     let lives = lives (goal.at.invariant_of-self c).After-self in
     let generation_is = generation_is (goal.at.invariant_of-self c).After-index_mut
     (occupant_made e.records.items h lives) in
-    rw (generation_is, c.index.ensures) (set_row_keeps_links e.limits e.records.items e.pending.items e.live h
+    rw (generation_is, c.index.ensures)
+    (set_row_keeps_links e.limits e.records.items e.pending.items e.live h
     c.args.row c.self.invariant lives)
 
 pub returns : goal.returns
