@@ -11,7 +11,7 @@ const FREED: usize = 4;
 #[inline(never)]
 pub fn alloc_with_free(handles: u32, rounds: u32) -> u64 {
     let mut entities = Entities::default();
-    let mut given = places(handles);
+    let mut given = room_for(handles);
     let mut sum: u64 = 0;
     for _ in 0..=rounds {
         alloc_all(&mut entities, &mut given);
@@ -22,7 +22,7 @@ pub fn alloc_with_free(handles: u32, rounds: u32) -> u64 {
 
 #[inline(never)]
 pub fn alloc_fresh(handles: u32, rounds: u32) -> u64 {
-    let mut given = places(handles);
+    let mut given = room_for(handles);
     for _ in 0..=rounds {
         let mut entities = Entities::default();
         alloc_all(&mut entities, &mut given);
@@ -33,7 +33,7 @@ pub fn alloc_fresh(handles: u32, rounds: u32) -> u64 {
 #[inline(never)]
 pub fn state(handles: u32, rounds: u32) -> u64 {
     let mut entities = Entities::default();
-    let mut given = places(handles);
+    let mut given = room_for(handles);
     alloc_all(&mut entities, &mut given);
     for handle in given.iter().step_by(FREED) {
         let _ = entities.free(*handle);
@@ -48,7 +48,7 @@ pub fn state(handles: u32, rounds: u32) -> u64 {
 #[inline(never)]
 pub fn reserve_in_bulk(handles: u32, rounds: u32) -> u64 {
     let mut entities = Entities::default();
-    let mut given = places(handles);
+    let mut given = room_for(handles);
     let mut born = Vec::new();
     let mut sum: u64 = 0;
     for _ in 0..=rounds {
@@ -61,7 +61,7 @@ pub fn reserve_in_bulk(handles: u32, rounds: u32) -> u64 {
 #[inline(never)]
 pub fn reserve_singly(handles: u32, rounds: u32) -> u64 {
     let mut entities = Entities::default();
-    let mut given = places(handles);
+    let mut given = room_for(handles);
     let mut born = Vec::new();
     let mut sum: u64 = 0;
     for _ in 0..=rounds {
@@ -71,7 +71,7 @@ pub fn reserve_singly(handles: u32, rounds: u32) -> u64 {
     in_order(&born, in_order(&given, sum))
 }
 
-fn places(handles: u32) -> Vec<Handle> {
+fn room_for(handles: u32) -> Vec<Handle> {
     let placeholder = Handle {
         index: 0,
         generation: 1,
@@ -80,9 +80,9 @@ fn places(handles: u32) -> Vec<Handle> {
 }
 
 fn alloc_all(entities: &mut Entities, given: &mut [Handle]) {
-    for place in given {
+    for one in given {
         if let Ok(handle) = entities.alloc() {
-            *place = handle;
+            *one = handle;
         }
     }
 }
@@ -117,10 +117,10 @@ fn reserve_bulks(entities: &mut Entities, given: &mut [Handle]) {
     if entities.needs_flush() {
         return;
     }
-    for places in given.chunks_mut(BULK) {
-        if let Some(reserved) = entities.reserve_many(places.len() as u32) {
-            for (place, handle) in places.iter_mut().zip(reserved) {
-                *place = handle;
+    for bulk in given.chunks_mut(BULK) {
+        if let Some(reserved) = entities.reserve_many(bulk.len() as u32) {
+            for (one, handle) in bulk.iter_mut().zip(reserved) {
+                *one = handle;
             }
         }
     }
@@ -130,9 +130,9 @@ fn reserve_each(entities: &mut Entities, given: &mut [Handle]) {
     if entities.needs_flush() {
         return;
     }
-    for place in given {
+    for one in given {
         if let Some(handle) = entities.reserve() {
-            *place = handle;
+            *one = handle;
         }
     }
 }

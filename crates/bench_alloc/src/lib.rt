@@ -20,7 +20,7 @@ const FREED: usize = 4;
 #[unsafe(no_mangle)]
 pub extern "C" fn alloc_with_free(alloc: Global, handles: u32, rounds: u32) -> u64 {
     let mut entities = Entities::new(alloc, Limits::default_limits());
-    let Ok(mut given) = places(alloc, handles) else {
+    let Ok(mut given) = room_for(alloc, handles) else {
         return 0;
     };
     let mut sum: u64 = 0;
@@ -34,7 +34,7 @@ pub extern "C" fn alloc_with_free(alloc: Global, handles: u32, rounds: u32) -> u
 /// Gives handles of fresh slots, of a new allocator in each round.
 #[unsafe(no_mangle)]
 pub extern "C" fn alloc_fresh(alloc: Global, handles: u32, rounds: u32) -> u64 {
-    let Ok(mut given) = places(alloc, handles) else {
+    let Ok(mut given) = room_for(alloc, handles) else {
         return 0;
     };
     for _ in 0..=rounds {
@@ -48,7 +48,7 @@ pub extern "C" fn alloc_fresh(alloc: Global, handles: u32, rounds: u32) -> u64 {
 #[unsafe(no_mangle)]
 pub extern "C" fn state(alloc: Global, handles: u32, rounds: u32) -> u64 {
     let mut entities = Entities::new(alloc, Limits::default_limits());
-    let Ok(mut given) = places(alloc, handles) else {
+    let Ok(mut given) = room_for(alloc, handles) else {
         return 0;
     };
     alloc_all(&mut entities, &mut given);
@@ -66,7 +66,7 @@ pub extern "C" fn state(alloc: Global, handles: u32, rounds: u32) -> u64 {
 #[unsafe(no_mangle)]
 pub extern "C" fn reserve_in_bulk(alloc: Global, handles: u32, rounds: u32) -> u64 {
     let mut entities = Entities::new(alloc, Limits::default_limits());
-    let Ok(mut given) = places(alloc, handles) else {
+    let Ok(mut given) = room_for(alloc, handles) else {
         return 0;
     };
     let mut born = Vec::new(alloc);
@@ -82,7 +82,7 @@ pub extern "C" fn reserve_in_bulk(alloc: Global, handles: u32, rounds: u32) -> u
 #[unsafe(no_mangle)]
 pub extern "C" fn reserve_singly(alloc: Global, handles: u32, rounds: u32) -> u64 {
     let mut entities = Entities::new(alloc, Limits::default_limits());
-    let Ok(mut given) = places(alloc, handles) else {
+    let Ok(mut given) = room_for(alloc, handles) else {
         return 0;
     };
     let mut born = Vec::new(alloc);
@@ -95,16 +95,16 @@ pub extern "C" fn reserve_singly(alloc: Global, handles: u32, rounds: u32) -> u6
 }
 
 /// Room for that many handles.
-fn places(alloc: Global, handles: u32) -> Result<Vec<Handle>, AllocError>
+fn room_for(alloc: Global, handles: u32) -> Result<Vec<Handle>, AllocError>
     ensures { IfOk result (λ v. vec_len v ≡ handles) }
 {
     vec![in alloc; Handle::new(0, 1).unwrap(); handles as usize]
 }
 
 fn alloc_all(entities: &mut Entities, given: &mut [Handle]) {
-    for place in given {
+    for one in given {
         if let Ok(handle) = entities.alloc() {
-            *place = handle;
+            *one = handle;
         }
     }
 }
@@ -144,20 +144,20 @@ fn reserve_bulks(entities: &mut Entities, given: &mut [Handle])
     if entities.needs_flush() {
         return;
     }
-    for places in given.chunks_mut(BULK) {
-        reserve(entities, places);
+    for bulk in given.chunks_mut(BULK) {
+        reserve(entities, bulk);
     }
 }
 
-fn reserve(entities: &mut Entities, places: &mut [Handle])
-    requires few { length places.old < 2 ^ 32 }
-    requires within { entities.old.asked + length places.old ≤ 2 ^ 50 }
-    ensures { entities.new.asked ≡ entities.old.asked + length places.old }
+fn reserve(entities: &mut Entities, given: &mut [Handle])
+    requires few { length given.old < 2 ^ 32 }
+    requires within { entities.old.asked + length given.old ≤ 2 ^ 50 }
+    ensures { entities.new.asked ≡ entities.old.asked + length given.old }
 {
-    let span = entities.lower(places.len() as u32);
+    let span = entities.lower(given.len() as u32);
     if let Ok(reserved) = entities.reply(span) {
-        for (place, handle) in places.iter_mut().zip(reserved) {
-            *place = handle;
+        for (one, handle) in given.iter_mut().zip(reserved) {
+            *one = handle;
         }
     }
 }
@@ -168,10 +168,10 @@ fn reserve_each(entities: &mut Entities, given: &mut [Handle])
     if entities.needs_flush() {
         return;
     }
-    for place in given {
+    for one in given {
         let span = entities.lower(1);
         if let Ok(handle) = entities.reply_one(span.high) {
-            *place = handle;
+            *one = handle;
         }
     }
 }

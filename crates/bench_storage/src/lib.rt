@@ -136,13 +136,8 @@ fn reborn_all(storage: &mut Storage, entities: u32, stride: u32) -> u32
 {
     let mut done = 0;
     for i in 0..entities {
-        let birth = Birth {
-            frame: 0,
-            system: 0,
-            ordinal: i,
-        };
         if storage
-            .born(occupant(i, entities, stride, 2), birth)
+            .born(occupant(i, entities, stride, 2), birth(i))
             .is_ok()
         {
             done += 1;
@@ -174,12 +169,7 @@ fn replace_all(storage: &mut Storage, entities: u32, stride: u32, generation: u3
     for i in 0..entities {
         let old = occupant(i, entities, stride, generation);
         let new = occupant(i, entities, stride, generation + 1);
-        let birth = Birth {
-            frame: 0,
-            system: 0,
-            ordinal: i,
-        };
-        if storage.despawn(old).is_ok() && storage.born(new, birth).is_ok() {
+        if storage.despawn(old).is_ok() && storage.born(new, birth(i)).is_ok() {
             done += 1;
         }
     }
@@ -191,12 +181,7 @@ fn born_all(storage: &mut Storage, entities: u32, stride: u32) -> u32
 {
     let mut done = 0;
     for i in 0..entities {
-        let birth = Birth {
-            frame: 0,
-            system: 0,
-            ordinal: i,
-        };
-        if storage.born(handle(i, entities, stride), birth).is_ok() {
+        if storage.born(handle(i, entities, stride), birth(i)).is_ok() {
             done += 1;
         }
     }
@@ -296,6 +281,14 @@ fn despawn_at_all(storage: &mut Storage, entities: u32, stride: u32) -> u32
         }
     }
     done
+}
+
+fn birth(ordinal: u32) -> Birth {
+    Birth {
+        frame: 0,
+        system: 0,
+        ordinal,
+    }
 }
 
 /// The handle of the i-th call.

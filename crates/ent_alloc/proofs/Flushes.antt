@@ -1,19 +1,16 @@
--- What a flush brings to life: exactly what was taken, the fresh handles in rising order of index.
-use Rattle.std.proofs.Common.{◌≡◌, sym, subst, ◌-◌, ◌<◌, ◌++◌, length, get_or, take, reverse}
-use Rattle.std.proofs.Common.{filter, All, AllPairs, Contains, IsPermutation, ◌⊎◌}
+-- What a flush brings to life: exactly what was taken.
+use Rattle.std.proofs.Common.{◌++◌, get_or, reverse, filter, All, AllPairs, Contains, IsPermutation}
+use Rattle.std.proofs.Common.{◌⊎◌}
 use Rattle.std.proofs.lemmas.List.Elements.{All-contains_itself}
 use Rattle.std.proofs.lemmas.List.Sorted.{IsPermutation-refl, IsPermutation-trans}
 use Rattle.std.proofs.lemmas.List.Sorted.{IsPermutation-append, IsPermutation-append_comm}
 use Rattle.std.proofs.lemmas.List.Sorted.{IsPermutation-reverse, IsPermutation-filter_both}
 use Rattle.std.proofs.lemmas.List.Sorted.{All-permutation}
 use Rattle.ent_handle.specs.Handle.{Handle}
-use Rattle.ent_alloc.specs.Sequential.{Allocator, after_flush, born, fresh, top, is_old, is_fresh}
+use Rattle.ent_alloc.specs.Sequential.{Allocator, after_flush, born, is_old, is_fresh}
 use Rattle.ent_alloc.specs.Sound.{IsSound, AreApart, IsLive}
 use Rattle.ent_alloc.proofs.ListLaws.{AllPairs-left, AllPairs-IsPermutation, All-left}
-use Rattle.ent_alloc.proofs.FreshHandles.{AllPairs-fresh}
 use Rattle.ent_alloc.proofs.HandleSets.{in_union_list, union_list_keeps, union_list_has}
-use Rattle.ent_alloc.proofs.LaidOut.{old_ones}
-use Rattle.ent_alloc.proofs.Taken.{taken-old, taken-fresh}
 use Rattle.ent_alloc.proofs.Replies.{fresh_is_not_old, apart_both, not_apart}
 
 -- who is alive after a flush was alive or was taken
@@ -47,16 +44,6 @@ born-lives s = All-permutation (IsLive (after_flush s)) s.taken (born s) (born-I
     (λ k d lt. taken-lives s _ (All-contains_itself s.taken k d lt))
 
 module _ (s : Allocator) (h : IsSound s) where
-  -- the first occupants of the new slots, and then the old handles, the last of the pool first
-  pub born_is : born s ≡ fresh s.made (length s.taken - top s)
-      ++ reverse (take (length s.taken) (old_ones s))
-  born_is = rw (taken-fresh s h, taken-old s h)
-
-  -- the fresh ones rise in index
-  pub born-fresh_rise : AllPairs (λ g h. g.index < h.index) (filter (is_fresh s.made) s.taken)
-  born-fresh_rise = subst (AllPairs (λ g h. g.index < h.index)) (sym (taken-fresh s h))
-      (AllPairs-fresh s.made (length s.taken - top s))
-
   -- no two are of one slot
   pub born-apart : AllPairs AreApart (born s)
   born-apart = AllPairs-IsPermutation AreApart apart_both s.taken (born s) (born-IsPermutation s)

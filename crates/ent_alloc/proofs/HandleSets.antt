@@ -63,10 +63,11 @@ stands_in-from_Contains handles h has = list_any-from_Contains (eq_by_cmp_equiv 
 -- what is there after an insert was inserted or was there
 pub in_inserted : (s : Handles) (h x : Handle) → IsTrue (set.contains (set.insert s h) x) → (x ≡ h)
     ⊎ IsTrue (set.contains s x)
-in_inserted s h x e = elim (either_true _ _ (sym (set.contains-insert handle_cmp_total s h x) ∙ e)) [
-  | inl here ↦ inl (same_handle x h here)
-  | inr before ↦ inr before
-]
+in_inserted s h x e = elim (either_true _ _
+    (sym (set.contains-insert handle_cmp_total s h x) ∙ e)) [
+      | inl here ↦ inl (same_handle x h here)
+      | inr before ↦ inr before
+    ]
 
 -- what was inserted is there
 pub inserted : (s : Handles) (h : Handle) → IsTrue (set.contains (set.insert s h) h)
@@ -130,8 +131,11 @@ pub in_removed_keys : (m : map.FinMap handle_cmp ℕ) (h x : Handle)
 in_removed_keys m h x e = elim (eq_by_cmp handle_cmp x h) as (λ b. eq_by_cmp handle_cmp x h ≡ b
     → is_some (cond b None (map.get m x)) ≡ true → (x ≢ h) × IsTrue (map.contains_key m x)) [
       | true ↦ λ _ none. absurd (true≢false (sym none))
-      | false ↦ λ other has.
-          (λ same. true≢false (sym (ap (eq_by_cmp handle_cmp x) (sym same) ∙ itself x) ∙ other), has)
+      | false ↦ λ other has. (
+        λ same. true≢false (sym (ap (eq_by_cmp handle_cmp x) (sym same) ∙ itself x)
+            ∙ other),
+        has,
+      )
     ] refl (sym (ap is_some (map.get-remove handle_cmp_total m h x)) ∙ e)
 
 -- one occupant more, of a slot that has none
@@ -166,8 +170,10 @@ one_occupant_joined live more apart among one g h in_g in_h same =
         | inr h_new ↦ absurd (All-contains (AreApart g) more h (apart g g_before) h_new same)
       ]
       | inr g_new ↦ elim (in_union_list live more h in_h) [
-        | inl h_before ↦ absurd (All-contains (AreApart h) more g (apart h h_before) g_new (sym same))
-        | inr h_new ↦ same_from_AllPairs AreApart more g h among g_new h_new (λ not_same. not_same same)
+        | inl h_before ↦ absurd (All-contains (AreApart h) more g (apart h h_before) g_new
+            (sym same))
+        | inr h_new ↦ same_from_AllPairs AreApart more g h among g_new h_new
+            (λ not_same. not_same same)
             (λ not_same. not_same (sym same))
       ]
     ]

@@ -1,11 +1,11 @@
--- Laws of lists: filters that keep all or nothing, parts of joined lists, and pairs.
+-- Laws of lists: filters that keep all or nothing, parts of joined lists, pairs, and functions that
+-- agree on a list.
 use Rattle.std.proofs.Common.{◌≡◌, refl, sym, ap, ◌∙◌, ℕ, zero, suc, ◌+◌, ◌-◌, ◌<◌, Bool, true}
-use Rattle.std.proofs.Common.{false, eqb, List, [], ◌∷◌, ◌++◌, length, get_or, take, drop, reverse}
-use Rattle.std.proofs.Common.{filter, All, AllPairs, Contains, arith, cond, ◌==◌, ◌≢◌, swap}
-use Rattle.std.proofs.Common.{IsPermutation, eq-eqb, ne_eqb, inl, inr, subst₂}
+use Rattle.std.proofs.Common.{false, eqb, List, [], ◌∷◌, ◌++◌, length, get_or, take, drop, filter}
+use Rattle.std.proofs.Common.{All, AllPairs, Contains, arith, cond, ◌==◌, ◌≢◌, swap, IsPermutation}
+use Rattle.std.proofs.Common.{eq-eqb, ne_eqb, inl, inr, subst₂, map}
 use Rattle.std.proofs.lemmas.List.{get_or-take, get_or-drop, get_or_append_left, length-append}
-use Rattle.std.proofs.lemmas.List.{length-take, length-drop, length-reverse, get_or-reverse}
-use Rattle.std.proofs.lemmas.List.{get_or_default}
+use Rattle.std.proofs.lemmas.List.{length-take, length-drop, get_or_default}
 use Rattle.std.proofs.lemmas.Bool.{cases_lt, cases_eq}
 use Rattle.std.proofs.lemmas.Bool.Decides.{nat_tests}
 use Rattle.std.proofs.lemmas.List.Edits.{Swapped, length-swap, swapped_from_swap}
@@ -122,14 +122,6 @@ module _ {X : Type 0} (R : X → X → Type 0) where
       (All-append (R x) xs ys (AllPairs-head x xs h) (All-head (λ x. All (R x) ys) x xs across))
       (AllPairs-append xs ys (AllPairs-tail x xs h) k (All-tail (λ x. All (R x) ys) x xs across))
 
-  -- the other way round, where the relation goes both ways
-  pub AllPairs-reverse : ((x y : X) → R x y → R y x) → (xs : List X) → AllPairs R xs
-      → AllPairs R (reverse xs)
-  AllPairs-reverse both xs h i j d lt in_part =
-      let n : length (reverse xs) ≡ length xs = length-reverse xs in
-      rw (get_or-reverse xs i d (omega arith), get_or-reverse xs j d (omega arith))
-      (both _ _ (h (length xs - 1 - j) (length xs - 1 - i) d (omega arith) (omega arith)))
-
   -- two elements at their positions
   AllPairs-at : (xs : List X) (x y : X) (i j : ℕ) → AllPairs R xs → i < j → j < length xs
       → get_or xs i x ≡ x → get_or xs j y ≡ y → R x y
@@ -219,3 +211,10 @@ module _ {X : Type 0} (R : X → X → Type 0) (both : (x y : X) → R x y → R
   AllPairs-IsPermutation xs ys moved h i j d lt within =
       IsPermutation-keeps xs AtPositions (positions_from_pairs xs h) (λ l a b la lb k.
       swap_keeps l a b la lb k) ys moved i j d (omega arith) (omega arith) within
+
+-- two functions that agree at each element of a list
+pub map_alike : {X : Type 0} (f g : ℕ → X) (xs : List ℕ)
+    → ((k : ℕ) → k < length xs → f (get_or xs k 0) ≡ g (get_or xs k 0)) → map f xs ≡ map g xs
+map_alike f g [] alike = refl
+map_alike f g (x ∷ xs) alike = λ i. alike 0 (omega arith) i
+    ∷ map_alike f g xs (λ k below. alike (suc k) (omega arith)) i

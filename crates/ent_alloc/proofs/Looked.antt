@@ -14,7 +14,7 @@ use Rattle.std.proofs.lemmas.List.{get_or-drop, get_or-map, get_or_past, length-
 use Rattle.std.proofs.lemmas.List.{length-set, get_or-set_same, get_or-set_other}
 use Rattle.ent_handle.specs.Handle.{Handle, handle_cmp, handle_cmp_total}
 use Rattle.ent_handle.specs.Handle.{handle_cmp-IsAntisymmetric}
-use Rattle.ent_alloc.proofs.ListLaws.{eqb_sym}
+use Rattle.ent_alloc.proofs.ListLaws.{eqb_sym, map_alike}
 use Rattle.ent_alloc.specs.Limits.{Limits}
 use Rattle.ent_alloc.specs.Sequential.{fresh, stands_in}
 use Rattle.ent_alloc.specs.declared.slot_record.SlotRecord.{SlotRecord}
@@ -25,10 +25,11 @@ use Rattle.ent_alloc.specs.Slots.{record_at, no_slot, handle_at, rows_from, is_p
 use Rattle.ent_alloc.specs.Slots.{waits_from, roster_of, AreLinked}
 use Rattle.ent_alloc.proofs.HandleSets.{Contains-from_stands_in, stands_in-from_Contains}
 use Rattle.ent_alloc.proofs.FreshHandles.{length-fresh, get_or-fresh}
-use Rattle.ent_alloc.proofs.Occupants.{is_occupant, has_occupant, row_at, contains_occupants}
-use Rattle.ent_alloc.proofs.Occupants.{is_occupant-set, row_at-set, get_rows, ties, one}
-use Rattle.ent_alloc.proofs.Occupants.{length-occupants-set}
-use Rattle.ent_alloc.proofs.Linked.{occupant_made, occupant_alive, occupant_generation, map_alike}
+use Rattle.ent_alloc.proofs.Occupants.{is_occupant, has_occupant, contains_occupants}
+use Rattle.ent_alloc.proofs.Occupants.{is_occupant-set, ties, one, length-occupants-set}
+use Rattle.ent_alloc.proofs.LivingOccupant.{occupant_made, occupant_alive, occupant_generation}
+use Rattle.ent_alloc.proofs.LivingOccupant.{is_occupant-same_slot, row_at-same_slot}
+use Rattle.ent_alloc.proofs.KeptRows.{row_at, row_at-set, get_rows}
 
 -- the handle is the next one of a slot that waits at this position or after it
 abbrev pub waits_at : List SlotRecord → Handle → ℕ → Bool
@@ -309,10 +310,8 @@ module _ (limits : Limits) (records : List SlotRecord) (pending : List ℕ) (liv
     where
       here : (q : Handle) → eqb q.index h.index ≡ true → is_occupant records q
           ≡ has_occupant labelled q.generation
-      here q e =
-          ap (λ n. has_occupant (record_at records n) q.generation) (eqb-true q.index h.index e)
-          ∙ (λ i. occupant_alive records h lives i && eqb (record_at records h.index).generation
-          q.generation)
+      here q e = is_occupant-same_slot records h q lives e
+          ∙ ap (λ n. eqb n q.generation) (sym (occupant_generation records h lives))
 
   new_rows : maps.from_entries {R = handle_cmp} (rows_from 0 relabelled)
       ≡ maps.insert (maps.from_entries (rows_from 0 records)) h row
@@ -324,19 +323,9 @@ module _ (limits : Limits) (records : List SlotRecord) (pending : List ℕ) (liv
       (cond ((ap (λ n. eqb n q.generation) (occupant_generation records h lives)
       ∙ eqb_sym h.generation q.generation) i) (Some row) None) (row_at records q))
       ∙ new_row (eqb q.index h.index) (eqb q.generation h.generation) (Some row) (row_at records q)
-      (here q)
+      (row_at-same_slot records h q lives)
       ∙ (λ i. cond (sym (ties q h) i) (Some row) (sym (get_rows records q) i))
       ∙ sym (maps.get-insert handle_cmp_total (maps.from_entries (rows_from 0 records)) h row q))
-    where
-      here : (q : Handle) → eqb q.index h.index ≡ true → eqb q.generation h.generation ≡ false
-          → row_at records q ≡ None
-      here q e ne =
-          ap (λ n. row_at records (record { index = n; generation = q.generation }))
-          (eqb-true q.index h.index e)
-          ∙ (λ i. cond (eqb (occupant_generation records h lives i) q.generation)
-          (row_of (record_at records h.index).occupancy) None)
-          ∙ (λ i. cond ((eqb_sym h.generation q.generation ∙ ne) i)
-          (row_of (record_at records h.index).occupancy) None)
 
   pub roster_of-set_row : roster_of limits relabelled pending
       ≡ record (roster_of limits records pending)

@@ -1,26 +1,24 @@
 -- What the set of occupants holds, and how many they are.
 use Rattle.std.proofs.Common.{◌≡◌, ℕ, ◌+◌, ◌-◌, ◌<◌, Bool, true, false, cond, ◌&&◌, ◌||◌, eqb, leb}
 use Rattle.std.proofs.Common.{List, [], ◌∷◌, ◌++◌, length, get_or, set, refl, sym, ap, ◌∙◌, arith}
-use Rattle.std.proofs.Common.{inl, inr, suc, zero, replicate, Option, None, Some}
+use Rattle.std.proofs.Common.{inl, inr, suc, zero, replicate}
 use Rattle.std.specs.List.{list_any}
 use Rattle.std.specs.Ordering.{eq_by_cmp, nat_cmp, is_eq, ordering_then}
 use Rattle.std.specs.declared.cmp.Ordering.{Ordering}
 use Rattle.std.specs.declared.cmp.Ordering.TheVariants.{Less, Equal, Greater}
 use Rattle.std.specs.FinSet as sets
-use Rattle.std.specs.FinMap as maps
 use Rattle.std.proofs.lemmas.Bool.Decides.{nat_tests}
 use Rattle.std.proofs.lemmas.Bool.{cases_order, cases_eq, eq-eqb, ne_eqb, lt-leb, le-leb, cond-true}
 use Rattle.std.proofs.lemmas.Bool.{cond-false}
+use Rattle.std.proofs.lemmas.List.{get_or-set_same, get_or-set_other}
+use Rattle.std.proofs.Math.Bool.{or-false, and-false}
+use Rattle.std.proofs.lemmas.List.Folds.{list_any-append}
 use Rattle.ent_handle.specs.Handle.{Handle, handle_cmp, handle_cmp_total}
 use Rattle.ent_handle.specs.Handle.{handle_cmp-IsAntisymmetric}
 use Rattle.ent_alloc.proofs.ListLaws.{eqb_sym}
 use Rattle.ent_alloc.specs.declared.slot_record.SlotRecord.{SlotRecord}
-use Rattle.ent_alloc.specs.Slots.{occupants, record_at, no_slot, is_alive, row_of, rows_from}
-use Rattle.ent_alloc.specs.Slots.{with_row, new_record}
+use Rattle.ent_alloc.specs.Slots.{occupants, record_at, no_slot, is_alive, new_record}
 use Rattle.ent_alloc.specs.Sequential.{fresh}
-use Rattle.std.specs.FinMap.{find}
-use Rattle.std.specs.Option.{is_some}
-use Rattle.std.proofs.lemmas.List.{get_or-set_same, get_or-set_other}
 
 -- ---- looking a handle up
 
@@ -31,14 +29,6 @@ has_occupant r generation = is_alive r.occupancy && eqb r.generation generation
 -- the handle names the living occupant of its slot
 abbrev pub is_occupant : List SlotRecord → Handle → Bool
 is_occupant records h = has_occupant (record_at records h.index) h.generation
-
--- the row that a record keeps with its occupant of a generation
-abbrev pub row_in : SlotRecord → ℕ → Option ℕ
-row_in r generation = cond (eqb r.generation generation) (row_of r.occupancy) None
-
--- the row that is kept with the occupant that a handle names
-abbrev pub row_at : List SlotRecord → Handle → Option ℕ
-row_at records h = row_in (record_at records h.index) h.generation
 
 -- the test of two orderings, one after the other
 is_eq-then : (x y : Ordering) → is_eq (ordering_then x y) ≡ (is_eq x && is_eq y)
@@ -56,10 +46,6 @@ ties a b =
     is_eq-then (nat_cmp a.index b.index) (nat_cmp a.generation b.generation)
     ∙ (λ i. is_eq-nat_cmp a.index b.index i && is_eq-nat_cmp a.generation b.generation i)
 
-and-false : (b : Bool) → (b && false) ≡ false
-and-false true = refl
-and-false false = refl
-
 -- what stands in the list of the occupants from an index on
 abbrev at_from : ℕ → List SlotRecord → Handle → Bool
 at_from index records q = leb index q.index && has_occupant
@@ -70,10 +56,6 @@ one_occupant : (alive : Bool) (rest : List Handle) (h q : Handle)
     ≡ ((alive && eq_by_cmp handle_cmp q h) || list_any (eq_by_cmp handle_cmp q) rest)
 one_occupant true rest h q = refl
 one_occupant false rest h q = refl
-
-or-false : (b : Bool) → (b || false) ≡ b
-or-false true = refl
-or-false false = refl
 
 here : (alive a b h : Bool) → a ≡ b → ((alive && (true && a)) || (false && h))
     ≡ (true && (alive && b))
@@ -176,7 +158,7 @@ len_occupants index (r ∷ records) =
     (len_occupants (index + 1) records)
 
 -- which record stands at an index after one is set
-pub record-set : (records : List SlotRecord) (index : ℕ) (r : SlotRecord) (at : ℕ) → index
+record-set : (records : List SlotRecord) (index : ℕ) (r : SlotRecord) (at : ℕ) → index
     < length records → record_at (set records index r) at
     ≡ cond (eqb at index) r (record_at records at)
 record-set records index r at within =
@@ -188,130 +170,25 @@ record-set records index r at within =
           ∙ sym (cond-false (eqb at index) r (record_at records at) (ne_eqb at index ne))
     ]
 
--- ---- the rows
-
-abbrev row_from : ℕ → List SlotRecord → Handle → Option ℕ
-row_from index records q = cond (leb index q.index)
-    (row_in (get_or records (q.index - index) no_slot) q.generation) None
-
-abbrev nothing : Option ℕ
-nothing = None
-
-cond-none : (b c : Bool) → cond b (cond c nothing nothing) nothing ≡ nothing
-cond-none true true = refl
-cond-none true false = refl
-cond-none false c = refl
-
-found : (h q : Handle) (row : Option ℕ) (entries : List (Handle × ℕ))
-    → find handle_cmp q (with_row h row entries) ≡ cond (eq_by_cmp handle_cmp q h)
-    (cond (is_some row) row (find handle_cmp q entries)) (find handle_cmp q entries)
-found h q None entries = same (eq_by_cmp handle_cmp q h)
-  where
-    same : (b : Bool) → find handle_cmp q entries ≡ cond b (find handle_cmp q entries)
-        (find handle_cmp q entries)
-    same true = refl
-    same false = refl
-found h q (Some row) entries = refl
-
-row_here : (row : Option ℕ) → cond (is_some row) row None ≡ row
-row_here None = refl
-row_here (Some x) = refl
-
-row_split : (g : Bool) (row : Option ℕ) → cond g (cond (is_some row) row None) None
-    ≡ cond g row None
-row_split true row = row_here row
-row_split false row = refl
-
-row_head : (index : ℕ) (r : SlotRecord) (records : List SlotRecord) (q : Handle)
-    → cond (eqb q.index index && eqb q.generation r.generation) (cond (is_some (row_of r.occupancy))
-    (row_of r.occupancy) (row_from (index + 1) records q)) (row_from (index + 1) records q)
-    ≡ row_from index (r ∷ records) q
-row_head index r records q =
-    elim (cases_order q.index index) [
-      | inl e ↦
-          let E : eqb q.index index ≡ true = eq-eqb q.index index e in
-          let L : leb (index + 1) q.index ≡ false = lt-leb (index + 1) q.index (omega arith) in
-          let M : leb index q.index ≡ true = le-leb index q.index (omega arith) in
-          let zero_off : q.index - index ≡ 0 = omega arith in
-          let gone : row_from (index + 1) records q ≡ None = λ i.
-          cond (L i) (row_in (get_or records (q.index - (index + 1)) no_slot) q.generation) None
-          in
-          (λ i. cond (E i && eqb q.generation r.generation) (cond (is_some (row_of r.occupancy))
-          (row_of r.occupancy) (gone i)) (gone i))
-          ∙ row_split (eqb q.generation r.generation) (row_of r.occupancy)
-          ∙ (λ i. cond (eqb_sym q.generation r.generation i) (row_of r.occupancy) None)
-          ∙ sym (λ i. cond (M i) (row_in (get_or (r ∷ records) (zero_off i) no_slot) q.generation)
-          None)
-      | inr (inl l) ↦
-          let E : eqb q.index index ≡ false = ne_eqb q.index index (λ e. absurd (omega arith)) in
-          let L : leb (index + 1) q.index ≡ false = lt-leb (index + 1) q.index (omega arith) in
-          let M : leb index q.index ≡ false = lt-leb index q.index (omega arith) in
-          let gone : row_from (index + 1) records q ≡ None = λ i.
-          cond (L i) (row_in (get_or records (q.index - (index + 1)) no_slot) q.generation) None
-          in
-          (λ i. cond (E i && eqb q.generation r.generation) (cond (is_some (row_of r.occupancy))
-          (row_of r.occupancy) (row_from (index + 1) records q))
-          (row_from (index + 1) records q))
-          ∙ gone
-          ∙ sym (λ i. cond (M i) (row_in (get_or (r ∷ records) (q.index - index) no_slot)
-          q.generation) None)
-      | inr (inr g) ↦
-          let E : eqb q.index index ≡ false = ne_eqb q.index index (λ e. absurd (omega arith)) in
-          let L : leb (index + 1) q.index ≡ true = le-leb (index + 1) q.index (omega arith) in
-          let M : leb index q.index ≡ true = le-leb index q.index (omega arith) in
-          let off : q.index - index ≡ suc (q.index - (index + 1)) = omega arith in
-          (λ i. cond (E i && eqb q.generation r.generation) (cond (is_some (row_of r.occupancy))
-          (row_of r.occupancy) (row_from (index + 1) records q))
-          (row_from (index + 1) records q))
-          ∙ (λ i. cond (L i) (row_in (get_or records (q.index - (index + 1)) no_slot) q.generation)
-          None)
-          ∙ sym (λ i. cond (M i) (row_in (get_or (r ∷ records) (off i) no_slot) q.generation) None)
-    ]
-
-find-rows_from : (index : ℕ) (records : List SlotRecord) (q : Handle)
-    → find handle_cmp q (rows_from index records) ≡ row_from index records q
-find-rows_from index [] q = sym (cond-none (leb index q.index) (eqb 0 q.generation))
-find-rows_from index (r ∷ records) q =
-    found (record { index = index; generation = r.generation }) q (row_of r.occupancy)
-    (rows_from (index + 1) records)
-    ∙ (λ i. cond (ties q (record { index = index; generation = r.generation }) i)
-    (cond (is_some (row_of r.occupancy)) (row_of r.occupancy)
-    (find-rows_from (index + 1) records q i)) (find-rows_from (index + 1) records q i))
-    ∙ row_head index r records q
-
--- the map of the rows returns with these
-pub get_rows : (records : List SlotRecord) (q : Handle)
-    → maps.get {R = handle_cmp} (maps.from_entries (rows_from 0 records)) q ≡ row_at records q
-get_rows records q =
-    let all : leb 0 q.index ≡ true = le-leb 0 q.index (omega arith) in
-    let off : q.index - 0 ≡ q.index = omega arith in
-    maps.get-from_entries handle_cmp_total (rows_from 0 records) q ∙ find-rows_from 0 records q
-    ∙ (λ i. cond (all i) (row_in (get_or records (off i) no_slot) q.generation) None)
-
 -- ---- one record set
 
--- the set and the map see one record set at its index alone
+-- what is read of the records sees one record set at its index alone
+pub read-set : {A : Type 0} (f : SlotRecord → A) (records : List SlotRecord) (index : ℕ)
+    (r : SlotRecord) (at : ℕ) → index < length records → f (record_at (set records index r) at)
+    ≡ cond (eqb at index) (f r) (f (record_at records at))
+read-set f records index r at within = ap f (record-set records index r at within)
+    ∙ out (eqb at index)
+  where
+    out : (b : Bool) → f (cond b r (record_at records at)) ≡ cond b (f r) (f (record_at records at))
+    out true = refl
+    out false = refl
+
+-- so does the set
 pub is_occupant-set : (records : List SlotRecord) (index : ℕ) (r : SlotRecord) (q : Handle) → index
     < length records → is_occupant (set records index r) q
     ≡ cond (eqb q.index index) (has_occupant r q.generation) (is_occupant records q)
-is_occupant-set records index r q within = ap (λ at. has_occupant at q.generation)
-    (record-set records index r q.index within) ∙ out (eqb q.index index)
-  where
-    out : (b : Bool) → has_occupant (cond b r (record_at records q.index)) q.generation
-        ≡ cond b (has_occupant r q.generation) (is_occupant records q)
-    out true = refl
-    out false = refl
-
-pub row_at-set : (records : List SlotRecord) (index : ℕ) (r : SlotRecord) (q : Handle) → index
-    < length records → row_at (set records index r) q
-    ≡ cond (eqb q.index index) (row_in r q.generation) (row_at records q)
-row_at-set records index r q within = ap (λ at. row_in at q.generation)
-    (record-set records index r q.index within) ∙ out (eqb q.index index)
-  where
-    out : (b : Bool) → row_in (cond b r (record_at records q.index)) q.generation
-        ≡ cond b (row_in r q.generation) (row_at records q)
-    out true = refl
-    out false = refl
+is_occupant-set records index r q =
+    read-set (λ (x : SlotRecord). has_occupant x q.generation) records index r q.index
 
 -- a test as a number
 abbrev pub one : Bool → ℕ
@@ -341,31 +218,7 @@ length-occupants-set from (x ∷ records) (suc index) r within =
     (occupants (from + 1) records) in
     omega (arith, new, old, length-occupants-set (from + 1) records index r (omega arith))
 
--- a record without a row in the place of another one leaves the rows
-pub rows_from-set : (from : ℕ) (records : List SlotRecord) (index : ℕ) (r : SlotRecord)
-    → row_of r.occupancy ≡ None → row_of (record_at records index).occupancy ≡ None
-    → rows_from from (set records index r) ≡ rows_from from records
-rows_from-set from [] index r new old = refl
-rows_from-set from (x ∷ records) zero r new old =
-    (λ i. with_row (record { index = from; generation = r.generation }) (new i)
-    (rows_from (from + 1) records))
-    ∙ sym (λ i. with_row (record { index = from; generation = x.generation }) (old i)
-    (rows_from (from + 1) records))
-rows_from-set from (x ∷ records) (suc index) r new old =
-    ap (λ rest. with_row (record { index = from; generation = x.generation }) (row_of x.occupancy)
-    rest) (rows_from-set (from + 1) records index r new old)
-
 -- ---- records put at the end
-
-list_any-append : (p : Handle → Bool) (xs ys : List Handle) → list_any p (xs ++ ys)
-    ≡ (list_any p xs || list_any p ys)
-list_any-append p [] ys = refl
-list_any-append p (x ∷ xs) ys = ap (λ b. p x || b) (list_any-append p xs ys)
-    ∙ or_assoc (p x) (list_any p xs) (list_any p ys)
-  where
-    or_assoc : (a b c : Bool) → (a || (b || c)) ≡ ((a || b) || c)
-    or_assoc true b c = refl
-    or_assoc false b c = refl
 
 -- the set of two lists is the union of theirs
 pub from_list-append : (xs ys : List Handle) → sets.from_list {R = handle_cmp} (xs ++ ys)
@@ -402,14 +255,3 @@ unfolding fresh
 occupants-new from zero = refl
 occupants-new from (suc count) = ap (λ rest. record { index = from; generation = 1 } ∷ rest)
     (occupants-new (from + 1) count)
-
-rows_from-new : (from count : ℕ) → rows_from from (replicate count new_record) ≡ []
-rows_from-new from zero = refl
-rows_from-new from (suc count) = rows_from-new (from + 1) count
-
-pub rows_from-made : (from count : ℕ) (records : List SlotRecord)
-    → rows_from from (records ++ replicate count new_record) ≡ rows_from from records
-rows_from-made from count [] = rows_from-new from count
-rows_from-made from count (r ∷ records) =
-    ap (λ rest. with_row (record { index = from; generation = r.generation }) (row_of r.occupancy)
-    rest) (rows_from-made (from + 1) count records)

@@ -4,13 +4,26 @@ use Rattle.std.proofs.Common.{[], ◌∷◌, slice_get, Some, refl, sym, ap, ◌
 use Rattle.std.proofs.lemmas.Int.{ints}
 use Rattle.ent_handle.specs.Handle.{Handle}
 use Rattle.ent_alloc.specs.Roster.{Roster}
-use Rattle.ent_alloc.specs.Sequential.{Allocator, reply_from, pool_at}
+use Rattle.ent_alloc.specs.Sequential.{Allocator, reply_from, pool_at, top}
 use Rattle.ent_alloc.specs.Entities.{idle, allocator_of, beneath, AreReserved}
 use Rattle.ent_alloc.specs.Reserved.{reserved_handles}
 use Rattle.ent_alloc.proofs.Listing.{reserved_handles-pending, reserved_handles-fresh}
 use Rattle.ent_alloc.proofs.Listing.{reserved_handles-none}
-use Rattle.ent_alloc.proofs.Meaning.{asked_at-is, pool_at_is, pending_below, reply_served}
-use Rattle.ent_alloc.proofs.Meaning.{reply_refused, length_left}
+use Rattle.ent_alloc.proofs.Meaning.{top_view, asked_at-is, pool_at_is, pending_below, length_left}
+use Rattle.ent_alloc.proofs.MeaningOfReplies.{reply_served, reply_refused}
+
+-- a position that is at most the top, in the numbers of the vectors
+pub record IsBelowTop (r : Roster) (high : ℤ) : Type 0 where
+  pub within : high ≤ℤ pos (length r.pending)
+  pub distance : pos (beneath r high) ≡ pos (length r.pending) -ℤ high
+
+pub below_top : (r : Roster) (asked given : ℕ) (s : Allocator) (high : ℤ)
+    → AreReserved r asked given
+    → allocator_of r asked given ≡ s → high ≤ℤ pos (top s) → IsBelowTop r high
+below_top r asked given s high reserved view passed =
+    let tops = top_view r asked given s reserved view in
+    let within : high ≤ℤ pos (length r.pending) = omega (arith, ints) in
+    record { within = within; distance = asked_at-is (length r.pending) high within }
 
 module _ (r : Roster) (asked given : ℕ) (high : ℤ) (s : Allocator)
     (reserved : AreReserved r asked given) (view : allocator_of r asked given ≡ s) where

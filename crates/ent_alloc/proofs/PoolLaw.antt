@@ -33,40 +33,35 @@ pub reply-cursor : (s : Allocator) (n : ℕ) → IsSound s → reply_from s.made
     ≡ reply_to s n
 reply-cursor s n h = ap (λ pool. reply_from s.made pool n) (pool_at-cursor s h)
 
+-- what a served request and a refused one both leave
+after_take-either : {A : Type 0} (f : Allocator → A) (x : A) (s : Allocator) (n : ℕ)
+    → f (record s { taken = s.taken ++ take n s.pool; pool = drop n s.pool; asked = s.asked + n })
+    ≡ x → f (record s { aside = s.aside ++ s.pool; pool = []; asked = s.asked + n }) ≡ x
+    → f (after_take s n) ≡ x
+after_take-either f x s n served refused = elim (cases_lt (length s.pool) n) [
+  | inl short ↦ ap f (after_take-refused s n short) ∙ refused
+  | inr enough ↦ ap f (after_take-served s n enough) ∙ served
+]
+
 -- a request leaves the limits as they are
 pub limits-after_take : (s : Allocator) (n : ℕ) → (after_take s n).limits ≡ s.limits
-limits-after_take s n = elim (cases_lt (length s.pool) n) [
-  | inl short ↦ rw (after_take-refused s n short)
-  | inr enough ↦ rw (after_take-served s n enough)
-]
+limits-after_take s n = after_take-either (λ t. t.limits) s.limits s n refl refl
 
 -- who is alive
 pub live-after_take : (s : Allocator) (n : ℕ) → (after_take s n).live ≡ s.live
-live-after_take s n = elim (cases_lt (length s.pool) n) [
-  | inl short ↦ rw (after_take-refused s n short)
-  | inr enough ↦ rw (after_take-served s n enough)
-]
+live-after_take s n = after_take-either (λ t. t.live) s.live s n refl refl
 
 -- the rows
 pub rows-after_take : (s : Allocator) (n : ℕ) → (after_take s n).rows ≡ s.rows
-rows-after_take s n = elim (cases_lt (length s.pool) n) [
-  | inl short ↦ rw (after_take-refused s n short)
-  | inr enough ↦ rw (after_take-served s n enough)
-]
+rows-after_take s n = after_take-either (λ t. t.rows) s.rows s n refl refl
 
 -- the made slots
 pub made-after_take : (s : Allocator) (n : ℕ) → (after_take s n).made ≡ s.made
-made-after_take s n = elim (cases_lt (length s.pool) n) [
-  | inl short ↦ rw (after_take-refused s n short)
-  | inr enough ↦ rw (after_take-served s n enough)
-]
+made-after_take s n = after_take-either (λ t. t.made) s.made s n refl refl
 
 -- the request is added
 pub asked-after_take : (s : Allocator) (n : ℕ) → (after_take s n).asked ≡ s.asked + n
-asked-after_take s n = elim (cases_lt (length s.pool) n) [
-  | inl short ↦ rw (after_take-refused s n short)
-  | inr enough ↦ rw (after_take-served s n enough)
-]
+asked-after_take s n = after_take-either (λ t. t.asked) (s.asked + n) s n refl refl
 
 -- the front of the pool goes, served or not
 pub pool-after_take : (s : Allocator) (n : ℕ) → (after_take s n).pool ≡ drop n s.pool
@@ -104,27 +99,30 @@ available-after_takes s [] h = refl
 available-after_takes s (n ∷ requests) h = available-after_takes (after_take s n) requests
     (after_take-sound s n h) ∙ available-after_take s n h
 
+-- what each request leaves, all leave
+after_takes-leave : {A : Type 0} (f : Allocator → A)
+    → ((s : Allocator) (n : ℕ) → f (after_take s n) ≡ f s) → (s : Allocator) (requests : List ℕ)
+    → f (after_takes s requests) ≡ f s
+after_takes-leave f each s [] = refl
+after_takes-leave f each s (n ∷ requests) =
+    after_takes-leave f each (after_take s n) requests ∙ each s n
+
 -- the limits stay
 pub limits-after_takes : (s : Allocator) (requests : List ℕ) → (after_takes s requests).limits
     ≡ s.limits
-limits-after_takes s [] = refl
-limits-after_takes s (n ∷ requests) = limits-after_takes (after_take s n) requests
-    ∙ limits-after_take s n
+limits-after_takes = after_takes-leave (λ t. t.limits) limits-after_take
 
 -- who is alive stays
 pub live-after_takes : (s : Allocator) (requests : List ℕ) → (after_takes s requests).live ≡ s.live
-live-after_takes s [] = refl
-live-after_takes s (n ∷ requests) = live-after_takes (after_take s n) requests ∙ live-after_take s n
+live-after_takes = after_takes-leave (λ t. t.live) live-after_take
 
 -- the rows stay
 pub rows-after_takes : (s : Allocator) (requests : List ℕ) → (after_takes s requests).rows ≡ s.rows
-rows-after_takes s [] = refl
-rows-after_takes s (n ∷ requests) = rows-after_takes (after_take s n) requests ∙ rows-after_take s n
+rows-after_takes = after_takes-leave (λ t. t.rows) rows-after_take
 
 -- the made slots stay
 pub made-after_takes : (s : Allocator) (requests : List ℕ) → (after_takes s requests).made ≡ s.made
-made-after_takes s [] = refl
-made-after_takes s (n ∷ requests) = made-after_takes (after_take s n) requests ∙ made-after_take s n
+made-after_takes = after_takes-leave (λ t. t.made) made-after_take
 
 -- all requests are added
 pub asked-after_takes : (s : Allocator) (requests : List ℕ) → (after_takes s requests).asked

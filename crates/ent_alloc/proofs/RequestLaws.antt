@@ -1,14 +1,14 @@
 -- All replies to requests in turn, taken together: no handle twice, none alive before, and a flush
 -- brings to life exactly those.
 use Rattle.std.proofs.Common.{get_or, IsTrue, ◌≡◌, refl, sym, subst, ℕ, List, [], ◌∷◌, ◌++◌, All}
-use Rattle.std.proofs.Common.{AllPairs, Contains, IsPermutation, Ok, Err, ◌⊎◌, ◌↔◌}
-use Rattle.std.proofs.Common.{append-nil, append_assoc, inl, inr}
+use Rattle.std.proofs.Common.{AllPairs, Contains, IsPermutation, Ok, Err, ◌⊎◌, ◌↔◌, append-nil}
+use Rattle.std.proofs.Common.{append_assoc, inl, inr}
 use Rattle.std.specs.FinSet as set
 use Rattle.std.proofs.lemmas.List.Sorted.{IsPermutation-refl, IsPermutation-sym}
 use Rattle.std.proofs.lemmas.List.Sorted.{IsPermutation-trans, IsPermutation-append_left}
 use Rattle.std.proofs.lemmas.List.Sorted.{All-permutation, Contains-permutation}
 use Rattle.ent_handle.specs.Handle.{Handle}
-use Rattle.ent_alloc.specs.Sequential.{Allocator, after_take, after_flush, reply_to, born}
+use Rattle.ent_alloc.specs.Sequential.{Allocator, after_take, after_flush, reply_to}
 use Rattle.ent_alloc.specs.Sound.{IsSound, AreApart, IsLive}
 use Rattle.ent_alloc.specs.Given.{AreSpent}
 use Rattle.ent_alloc.specs.History.{handles_in}
@@ -18,7 +18,7 @@ use Rattle.ent_alloc.proofs.LaidOut.{flushed-laid_out}
 use Rattle.ent_alloc.proofs.PoolLaw.{after_takes, live-after_takes, after_takes-sound}
 use Rattle.ent_alloc.proofs.Replies.{taken-IsPermutation, taken-after_refused, apart_both}
 use Rattle.ent_alloc.proofs.Replies.{not_apart}
-use Rattle.ent_alloc.proofs.Flushes.{live-after_flush, live-stays, taken-lives, born-IsPermutation}
+use Rattle.ent_alloc.proofs.Flushes.{live-after_flush, live-stays, taken-lives}
 use Rattle.ent_alloc.proofs.GivenOnce.{take-given, refused-given}
 
 -- the handles of all replies to requests in turn
@@ -85,13 +85,6 @@ module _ (s : Allocator) (requests : List ℕ) (h : IsSound s) where
       let none : s.taken ≡ [] = (flushed-laid_out s h flushed).taken in
       subst (λ taken. IsPermutation (taken ++ given_by s requests) (after_takes s requests).taken)
       none (taken-after_takes s requests)
-
-  -- and all that a flush then brings to life
-  pub born-since_flush : s.asked ≡ 0 → IsPermutation (given_by s requests)
-      (born (after_takes s requests))
-  born-since_flush flushed = IsPermutation-trans (given_by s requests)
-      (after_takes s requests).taken (born (after_takes s requests)) (taken-since_flush flushed)
-      (born-IsPermutation (after_takes s requests))
 
   -- so then exactly those are alive, and who was
   pub live-since_flush : s.asked ≡ 0 → (x : Handle) → IsLive (after_flush (after_takes s requests))

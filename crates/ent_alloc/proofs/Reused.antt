@@ -17,8 +17,8 @@ use Rattle.ent_alloc.specs.declared.slot_record.Occupancy.TheVariants.{Alive, Al
 use Rattle.ent_alloc.specs.Slots.{occupants, record_at, no_slot, is_alive, row_of, rows_from, reuse}
 use Rattle.ent_alloc.specs.Slots.{reused, handle_at}
 use Rattle.ent_alloc.proofs.Occupants.{is_occupant, has_occupant, contains_occupants}
-use Rattle.ent_alloc.proofs.Occupants.{is_occupant-set, length-occupants-set, rows_from-set, ties}
-use Rattle.ent_alloc.proofs.Occupants.{one}
+use Rattle.ent_alloc.proofs.Occupants.{is_occupant-set, length-occupants-set, ties, one}
+use Rattle.ent_alloc.proofs.KeptRows.{rows_from-set}
 
 -- The slots of these indexes wait at the positions from a first one on.
 pub record Wait (records : List SlotRecord) (from : ℕ) (indices : List ℕ) : Type 0 where

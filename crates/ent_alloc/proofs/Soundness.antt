@@ -2,24 +2,25 @@
 use Rattle.std.proofs.Common.{◌≡◌, refl, sym, ap, ◌∙◌, subst, ℕ, zero, suc, ◌+◌, ◌-◌, ◌<◌, ◌≤◌}
 use Rattle.std.proofs.Common.{true, false, true≢false, List, [], ◌∷◌, ◌++◌, length, get_or, take}
 use Rattle.std.proofs.Common.{drop, All, arith, append-nil, lt-ltb, le-ltb, is_some, ◌==◌, ◌≢◌}
-use Rattle.std.proofs.Common.{eq-eqb, ne_eqb, inl, inr}
+use Rattle.std.proofs.Common.{eq-eqb, ne_eqb, inl, inr, Bool, cond, Some, Option, ◌⊎◌}
 use Rattle.std.proofs.lemmas.Bool.{cases_lt, cases_eq}
 use Rattle.std.specs.FinSet as set
+use Rattle.std.specs.Ordering.{eq_by_cmp}
 use Rattle.std.specs.FinMap as map
 use Rattle.std.proofs.lemmas.List.{drop-drop, drop_all}
 use Rattle.std.proofs.lemmas.List.Elements.{All-drop, All-head, All-tail, All-nil, All-cons}
 use Rattle.std.proofs.lemmas.List.Elements.{All-weaker, All-filter}
 use Rattle.std.proofs.lemmas.List.Kept.{AllPairs-filter, AllPairs-cons}
-use Rattle.ent_handle.specs.Handle.{Handle, handle_cmp}
+use Rattle.ent_handle.specs.Handle.{Handle, handle_cmp, handle_cmp_total}
 use Rattle.ent_alloc.specs.Limits.{Limits, AreLimits}
 use Rattle.ent_alloc.specs.Sequential.{Allocator, opening, available, after_take, after_flush}
-use Rattle.ent_alloc.specs.Sequential.{after_alloc, after_free, next, fresh, is_old}
+use Rattle.ent_alloc.specs.Sequential.{after_alloc, after_free, next, fresh, is_old, after_set_row}
 use Rattle.ent_alloc.specs.Sound.{IsSound, IsWithin, AreApart, IsLive}
 use Rattle.ent_alloc.proofs.ListLaws.{AllPairs-left, AllPairs-across, All-left, AllPairs-drop}
 use Rattle.ent_alloc.proofs.ListLaws.{AllPairs-head, AllPairs-tail}
 use Rattle.ent_alloc.proofs.FreshHandles.{fresh-next, fresh-none, first_of_slot}
 use Rattle.ent_alloc.proofs.HandleSets.{inserted_keeps, in_removed, removed_keeps, in_removed_keys}
-use Rattle.ent_alloc.proofs.HandleSets.{union_list_keeps, one_occupant_inserted}
+use Rattle.ent_alloc.proofs.HandleSets.{union_list_keeps, one_occupant_inserted, same_handle}
 use Rattle.ent_alloc.proofs.HandleSets.{one_occupant_joined, of_inserted, of_joined}
 use Rattle.ent_alloc.proofs.LaidOut.{old_ones, old_ones_below, IsLaidOut, laid_out-sound}
 use Rattle.ent_alloc.proofs.LaidOut.{flushed-laid_out, apart_by_made}
@@ -298,3 +299,34 @@ flush-laid_out s h =
 -- what was taken comes to life
 pub after_flush-sound : (s : Allocator) → IsSound s → IsSound (after_flush s)
 after_flush-sound s h = laid_out-sound (after_flush s) _ (flush-laid_out s h)
+
+either_row : (same : Bool) (row : ℕ) (old : Option ℕ) → is_some (cond same (Some row) old) ≡ true
+    → (same ≡ true) ⊎ (is_some old ≡ true)
+either_row true row old is = inl refl
+either_row false row old is = inr is
+
+-- a row kept with a living handle
+pub after_set_row-sound : (s : Allocator) (h : Handle) (row : ℕ) → IsSound s → IsLive s h
+    → IsSound (after_set_row s h row)
+after_set_row-sound s h row sound lives = record {
+  limits = sound.limits;
+  made = sound.made;
+  order = sound.order;
+  within = sound.within;
+  apart = sound.apart;
+  pool = sound.pool;
+  aside = sound.aside;
+  live = λ x is. record {
+    within = (sound.live x is).within;
+    made = (sound.live x is).made;
+    apart =
+        (sound.live x is).apart;
+  };
+  one_occupant = sound.one_occupant;
+  rows = λ x is.
+      elim (either_row (eq_by_cmp handle_cmp x h) row (map.get s.rows x)
+      (ap is_some (sym (map.get-insert handle_cmp_total s.rows h row x)) ∙ is)) [
+        | inl same ↦ subst (IsLive s) (sym (same_handle x h same)) lives
+        | inr old ↦ sound.rows x old
+      ];
+}

@@ -8,11 +8,11 @@ use Rattle.std.proofs.lemmas.List.{take-append-drop, length-append, length-drop,
 use Rattle.std.proofs.lemmas.List.Elements.{All-take, All-append, All-weaker}
 use Rattle.ent_handle.specs.Handle.{Handle}
 use Rattle.ent_alloc.specs.Sequential.{Allocator, top, available, after_take, after_flush, fresh}
-use Rattle.ent_alloc.specs.Sequential.{is_old, is_fresh}
+use Rattle.ent_alloc.specs.Sequential.{is_fresh}
 use Rattle.ent_alloc.specs.Sound.{IsSound}
 use Rattle.ent_alloc.proofs.ListLaws.{take-nil, drop-nil}
-use Rattle.ent_alloc.proofs.FreshHandles.{All-fresh, old_of_joined, fresh_of_joined, take_joined}
-use Rattle.ent_alloc.proofs.FreshHandles.{drop_joined, length-fresh}
+use Rattle.ent_alloc.proofs.FreshHandles.{All-fresh, fresh_of_joined, take_joined, drop_joined}
+use Rattle.ent_alloc.proofs.FreshHandles.{length-fresh}
 use Rattle.ent_alloc.proofs.LaidOut.{old_ones, old_ones_below}
 
 -- something was passed over, or something is left
@@ -83,11 +83,6 @@ module _ (s : Allocator) (h : IsSound s) where
   taken_old_below : All (λ h. h.index < s.made) (take (length s.taken) (old_ones s))
   taken_old_below = All-take (λ h. h.index < s.made) (length s.taken) (old_ones s)
       (old_ones_below s)
-
-  -- the old ones of what is taken
-  pub taken-old : filter (is_old s.made) s.taken ≡ take (length s.taken) (old_ones s)
-  taken-old = ap (filter (is_old s.made)) taken-parts ∙ old_of_joined s.made (length s.taken
-      - top s) (take (length s.taken) (old_ones s)) taken_old_below
 
   -- the fresh ones
   pub taken-fresh : filter (is_fresh s.made) s.taken ≡ fresh s.made (length s.taken - top s)

@@ -5,10 +5,9 @@ ghost use Rattle.std.specs.Prelude.{[], ◌∷◌, ◌++◌, length, slice_get, 
 ghost use Rattle.std.specs.FinSet as set;
 ghost use Rattle.std.specs.FinMap as map;
 ghost use Rattle.ent_alloc.specs.Sequential.{opening, top, cursor, available, asked_at, pool_at};
-ghost use Rattle.ent_alloc.specs.Sequential.{reply_from, listed_alone};
-ghost use Rattle.ent_alloc.specs.Sequential.{born, made_at_flush, next, state_of, settled};
-ghost use Rattle.ent_alloc.specs.Sequential.{after_flush, after_alloc, after_free, after_set_row};
-ghost use Rattle.ent_alloc.specs.Sequential.{after_take};
+ghost use Rattle.ent_alloc.specs.Sequential.{reply_from, listed_alone, born, made_at_flush, next};
+ghost use Rattle.ent_alloc.specs.Sequential.{state_of, settled, after_take, after_flush};
+ghost use Rattle.ent_alloc.specs.Sequential.{after_alloc, after_free, after_set_row};
 ghost use Rattle.ent_alloc.specs.Sound.{IsSound};
 ghost use Rattle.ent_alloc.specs.Span.{IsSpanOf};
 

@@ -244,7 +244,8 @@ module _ (old new : List Column) (place : ℕ) (id : ComponentId) (others : (n :
           ∙ ap (λ (c : ComponentId). value_at old p c) (sym e)
       value_left p far q (inr n) = value_apart p q n
 
-      pub remove_others : (p : ℕ) (q : ComponentId) → p ≢ place → value_at new p q ≡ value_at old p q
+      pub remove_others : (p : ℕ) (q : ComponentId) → p ≢ place → value_at new p q
+          ≡ value_at old p q
       remove_others p q far = value_left p far q (same_or_apart total same q id)
 
 -- the column at the number is written over

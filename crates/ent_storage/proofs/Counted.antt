@@ -25,12 +25,13 @@ use Rattle.ent_storage.specs.Indexed.{IsIndexed, IsKeptIndex, has_handle_at, cou
 use Rattle.ent_storage.proofs.Keys.{tied, same_or_apart, get-insert_same, get-insert_other}
 use Rattle.ent_storage.proofs.Keys.{get-remove_same, get-remove_other}
 use Rattle.ent_storage.proofs.Indexed.{some_not_none, some_entity, indexed_set, indexed_push}
-use Rattle.ent_storage.proofs.Indexed.{indexed_moved, indexed_popped, indexed_none, read_handle}
+use Rattle.ent_storage.proofs.Indexed.{indexed_none, read_handle}
 use Rattle.ent_storage.specs.Components.{Components}
 use Rattle.ent_storage.proofs.Rising.{equal, rising_at}
 use Rattle.ent_storage.proofs.Rising.{get_at, map_insert}
 use Rattle.ent_storage.proofs.Overwritten.{is_sorted-filter, find-filter, passed, is_sorted-set}
 use Rattle.ent_storage.proofs.Overwritten.{find-set_same, find-set_other}
+use Rattle.ent_storage.proofs.TakenOut.{indexed_moved, indexed_popped}
 
 pub stands : (living : List LivingEntity) (q : Handle) (i : ℕ) → has_handle_at living q (Some i)
     ≡ true → (i < length living) × ((d : LivingEntity) → (get_or living i d).handle ≡ q)

@@ -1,93 +1,20 @@
 -- The dense and the sparse vector of a component: what they stand for, after each change.
-use Rattle.std.proofs.Common.{◌≡◌, ◌≢◌, ℕ, ℤ, zero, suc, ◌+◌, ◌-◌, ◌<◌, ◌≤◌, false, cond}
-use Rattle.std.proofs.Common.{◌⊎◌, inl, inr, List, [], ◌∷◌, ◌++◌, length, set, get_or, Option}
-use Rattle.std.proofs.Common.{Some, None, slice_get, refl, sym, ap, ◌∙◌, arith}
+use Rattle.std.proofs.Common.{◌≡◌, ◌≢◌, ℕ, ℤ, ◌+◌, ◌-◌, ◌<◌, ◌≤◌, false, ◌⊎◌, inl, inr, List, []}
+use Rattle.std.proofs.Common.{◌∷◌, ◌++◌, length, set, get_or, Some, None, slice_get, refl, sym, ap}
+use Rattle.std.proofs.Common.{◌∙◌, arith, ltb, lt-ltb, pos}
 use Rattle.std.proofs.lemmas.Option.{same_Some, some_pair_parts, slice_get_within, none-some}
 use Rattle.std.proofs.lemmas.Option.{slice_get-get_or}
-use Rattle.std.proofs.Common.{ltb, lt-ltb, pos}
 use Rattle.std.proofs.lemmas.Bool.{false≢true, cases_lt, cases_eq}
 use Rattle.std.specs.Ordering.{nat_cmp}
 use Rattle.std.specs.Cmp.{nat_cmp_total as total}
 use Rattle.std.specs.FinMap as map
-use Rattle.std.specs.FinMap.{find, nat_cmp-IsAntisymmetric as same}
+use Rattle.std.specs.FinMap.{nat_cmp-IsAntisymmetric as same}
 use Rattle.ent_storage.specs.SparseSet.{Values, IsDense, IsMovedDown}
 use Rattle.ent_storage.proofs.Rising.{remove_absent}
-use Rattle.ent_storage.proofs.Keys.{tied, apart, same_or_apart, get-insert_same, get-insert_other}
+use Rattle.ent_storage.proofs.Keys.{same_or_apart, get-insert_same, get-insert_other}
 use Rattle.ent_storage.proofs.Keys.{get-remove_same, get-remove_other}
-
--- ---- elements by their positions
-
-pub at_set_same : {X : Type 0} (xs : List X) (i : ℕ) (y : X) → i < length xs
-    → slice_get (set xs i y) i ≡ Some y
-at_set_same [] i y l = absurd (omega arith)
-at_set_same (x ∷ xs) zero y l = refl
-at_set_same (x ∷ xs) (suc i) y l = at_set_same xs i y (omega arith)
-
-pub at_set_other : {X : Type 0} (xs : List X) (i j : ℕ) (y : X) → j ≢ i → slice_get (set xs i y) j
-    ≡ slice_get xs j
-at_set_other [] i j y n = refl
-at_set_other (x ∷ xs) zero zero y n = absurd (n refl)
-at_set_other (x ∷ xs) zero (suc j) y n = refl
-at_set_other (x ∷ xs) (suc i) zero y n = refl
-at_set_other (x ∷ xs) (suc i) (suc j) y n = at_set_other xs i j y (λ e. n (ap suc e))
-
-pub at_push_before : {X : Type 0} (xs : List X) (y : X) (k : ℕ) → k < length xs
-    → slice_get (xs ++ y ∷ []) k ≡ slice_get xs k
-at_push_before [] y k l = absurd (omega arith)
-at_push_before (x ∷ xs) y zero l = refl
-at_push_before (x ∷ xs) y (suc k) l = at_push_before xs y k (omega arith)
-
-pub at_push_end : {X : Type 0} (xs : List X) (y : X) (k : ℕ) → length xs ≤ k → (z : X)
-    → slice_get (xs ++ y ∷ []) k ≡ Some z → (k ≡ length xs) × (y ≡ z)
-at_push_end [] y zero l z e = (refl, same_Some _ _ e)
-at_push_end [] y (suc k) l z e = absurd (none-some z e)
-at_push_end (x ∷ xs) y zero l z e = absurd (omega arith)
-at_push_end (x ∷ xs) y (suc k) l z e = let rest = at_push_end xs y k (omega arith) z e in
-    (ap suc rest.0, rest.1)
-
-pub at_pushed : {X : Type 0} (xs : List X) (y : X) → slice_get (xs ++ y ∷ []) (length xs) ≡ Some y
-at_pushed [] y = refl
-at_pushed (x ∷ xs) y = at_pushed xs y
-
-pub same_option : {X : Type 0} (a b : Option X) → ((v : X) → a ≡ Some v → b ≡ Some v)
-    → ((v : X) → b ≡ Some v → a ≡ Some v) → a ≡ b
-same_option None None f g = refl
-same_option None (Some y) f g = g y refl
-same_option (Some x) None f g = sym (f x refl)
-same_option (Some x) (Some y) f g = g y refl
-
--- ---- a scan from the front
-
-pub find_at : (D : List (ℕ × ℤ)) (k p : ℕ) (v : ℤ) → slice_get D k ≡ Some (p, v)
-    → ((j : ℕ) (w : ℤ) → j < k → slice_get D j ≢ Some (p, w)) → find nat_cmp p D ≡ Some v
-find_at [] k p v e first = absurd (none-some (p, v) e)
-find_at (x ∷ D) zero p v e first =
-    let parts = some_pair_parts x.0 p x.1 v e in
-    ap (λ t. cond t (Some x.1) (find nat_cmp p D)) (tied total same p x.0 (sym parts.0))
-    ∙ ap Some parts.1
-find_at (x ∷ D) (suc k) p v e first =
-    ap (λ t. cond t (Some x.1) (find nat_cmp p D))
-    (apart total same p x.0
-    (λ q. first 0 x.1 (omega arith) (ap (λ (n : ℕ). Some (n, x.1)) (sym q))))
-    ∙ find_at D k p v e (λ j w l. first (suc j) w (omega arith))
-
-find_gives_first : (x : ℕ × ℤ) (D : List (ℕ × ℤ)) (p : ℕ) (v : ℤ)
-    → (find nat_cmp p D ≡ Some v → (k : ℕ) × (slice_get D k ≡ Some (p, v))) → (p ≡ x.0) ⊎ (p ≢ x.0)
-    → find nat_cmp p (x ∷ D) ≡ Some v → (k : ℕ) × (slice_get (x ∷ D) k ≡ Some (p, v))
-find_gives_first x D p v rest (inl q) e =
-    let is = same_Some _ _
-    (sym (ap (λ t. cond t (Some x.1) (find nat_cmp p D)) (tied total same p x.0 q)) ∙ e) in
-    (0, λ i. Some (sym q i, is i))
-find_gives_first x D p v rest (inr n) e =
-    let later = rest
-    (sym (ap (λ t. cond t (Some x.1) (find nat_cmp p D)) (apart total same p x.0 n)) ∙ e) in
-    (suc later.0, later.1)
-
-pub find_gives : (D : List (ℕ × ℤ)) (p : ℕ) (v : ℤ) → find nat_cmp p D ≡ Some v → (k : ℕ)
-    × (slice_get D k ≡ Some (p, v))
-find_gives [] p v e = absurd (none-some v e)
-find_gives (x ∷ D) p v e = find_gives_first x D p v (find_gives D p v)
-    (same_or_apart total same p x.0) e
+use Rattle.ent_storage.proofs.ElementsAt.{at_set_same, at_set_other, at_push_before, at_push_end}
+use Rattle.ent_storage.proofs.ElementsAt.{same_option, find_at, find_gives}
 
 -- ---- what the vectors stand for
 

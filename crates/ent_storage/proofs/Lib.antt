@@ -3,6 +3,7 @@ pub mod Changed
 pub mod ColumnsLemmas
 pub mod Counted
 pub mod Dense
+pub mod ElementsAt
 pub mod Indexed
 pub mod Keys
 pub mod LivingLemmas
@@ -12,4 +13,5 @@ pub mod Overwritten
 pub mod Placed
 pub mod PlacesLemmas
 pub mod Rising
+pub mod TakenOut
 pub mod WithComponent

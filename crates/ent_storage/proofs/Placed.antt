@@ -1,17 +1,16 @@
 -- The handles at the places of the residents.
 use Rattle.std.proofs.Common.{◌≡◌, ℕ, zero, suc, ◌+◌, ◌-◌, ◌<◌, List, [], ◌∷◌, length, get_or, set}
-use Rattle.std.proofs.Common.{Some}
-use Rattle.std.proofs.Common.{None, Option, is_some, slice_get, refl, sym, ap, ◌∙◌, arith}
+use Rattle.std.proofs.Common.{Some, None, Option, is_some, slice_get, refl, sym, ap, ◌∙◌, arith}
 use Rattle.std.proofs.lemmas.List.{length-map, get_or_default}
-use Rattle.ent_storage.specs.Components.{Components}
 use Rattle.std.specs.FinMap as finite
 use Rattle.std.specs.FinMap.{FinMap}
+use Rattle.ent_storage.specs.Components.{Components}
 use Rattle.ent_handle.specs.Handle.{Handle, handle_cmp}
 use Rattle.ent_storage.specs.Living.{LivingEntity, IsMovedInto}
-use Rattle.ent_storage.specs.Indexed.{IsIndexed, entities_of, handles_by_place}
+use Rattle.ent_storage.specs.EntityMap.{Store}
+use Rattle.ent_storage.specs.Indexed.{IsIndexed, entity_of, entities_of, handles_by_place}
 use Rattle.ent_storage.specs.Places.{AreWithout}
-use Rattle.ent_storage.proofs.Indexed.{some_entity, some_not_none}
-use Rattle.ent_storage.proofs.Indexed.{get_placed, get_unplaced}
+use Rattle.ent_storage.proofs.Indexed.{some_entity, some_not_none, get_placed, get_unplaced}
 
 same_handle : (g h : Handle) → Some g ≡ Some h → g ≡ h
 same_handle g h e = cc
@@ -45,6 +44,26 @@ module _ (living : List LivingEntity) (index : FinMap handle_cmp ℕ)
   place_from_placed e =
       let at = indexed.each_place h i e in
       from_place living i (some_entity h) at.0 ∙ ap Some (at.1 (some_entity h))
+
+-- the entity whose handle stands at a place
+pub record IsEntityAt (living : List LivingEntity) (s : Store) (h : Handle) (i : ℕ) : Type 0 where
+  pub inside : i < length living
+  pub found : finite.get s.entities h ≡ Some (entity_of (get_or living i (some_entity h)))
+
+pub entity_at : (living : List LivingEntity) (index : FinMap handle_cmp ℕ) (spare : ℕ) (s : Store)
+    → IsIndexed living index → record {
+      entities = entities_of living;
+      places = handles_by_place living;
+      spare = spare;
+    } ≡ s → (h : Handle) (i : ℕ) → slice_get s.places i ≡ Some h → IsEntityAt living s h i
+entity_at living index spare s indexed view h i at =
+    let here = ap (λ (s : Store). slice_get s.places i) view ∙ at in
+    record {
+      inside = (at_place living i h here).0;
+      found = ap (λ (s : Store). finite.get s.entities h) (sym view)
+          ∙ get_placed living index indexed h i (some_entity h) (placed_from_place living index
+          indexed h i here);
+    }
 
 pub is_inside : (handles : List Handle) (i : ℕ) (h : Handle) → slice_get handles i ≡ Some h → i
     < length handles

@@ -1,21 +1,20 @@
 -- Lists of pairs whose keys strictly rise: what a search finds, and what an edit at its position
 -- leaves.
 use Rattle.std.proofs.Common.{◌≡◌, ℕ, zero, suc, ◌+◌, ◌-◌, ◌<◌, ◌≤◌, ◌⊎◌, inl, inr, Bool, true}
-use Rattle.std.proofs.Common.{false, cond, not, ◌&&◌}
-use Rattle.std.proofs.Common.{T, List, [], ◌∷◌, length, get_or, set, Some, None, Result, Ok, Err}
-use Rattle.std.proofs.Common.{IfOk, IfErr, Ordering, refl, sym, ap, subst, ◌∙◌, arith}
+use Rattle.std.proofs.Common.{false, cond, ◌&&◌, T, List, [], ◌∷◌, length, get_or, set, Some, None}
+use Rattle.std.proofs.Common.{Result, Ok, Err, IfOk, IfErr, Ordering, refl, sym, ap, subst, ◌∙◌}
+use Rattle.std.proofs.Common.{arith}
 use Rattle.std.specs.declared.cmp.Ordering.TheVariants.{Less, Equal, Greater}
 use Rattle.std.specs.Ordering.{is_lt, is_eq, eq_by_cmp, ordering_reverse, ordering_index}
-use Rattle.std.specs.Cmp.{IsTotalOrder, alike_right, eq_by_cmp_equiv}
-use Rattle.std.specs.List.{insert, remove, AllWithin, HoldsAt}
+use Rattle.std.specs.Cmp.{IsTotalOrder}
+use Rattle.std.specs.List.{insert, AllWithin, HoldsAt}
 use Rattle.std.specs.List.Sorted.{IsNonDecreasingBy, IsSearchInRange, IsBinarySearchResult}
 use Rattle.std.proofs.lemmas.List.Sorted.{searchable_from_sorted}
 use Rattle.std.proofs.lemmas.Bool.{cases_lt}
 use Rattle.std.specs.FinMap as map
-use Rattle.ent_storage.specs.Position.{IsAt, IsGapFor}
 use Rattle.std.specs.FinMap.{IsAntisymmetric, find, put, is_sorted}
-use Rattle.std.specs.FinMap.Entries.{below_all, where_key, by_order, is_sorted-put}
-use Rattle.std.specs.FinMap.Entries.{is_sorted-where_key, find-where_key}
+use Rattle.std.specs.FinMap.Entries.{below_all, by_order, is_sorted-put}
+use Rattle.ent_storage.specs.Position.{IsAt, IsGapFor}
 
 pub first : (a b : Bool) → T (a && b) → T a
 first true b h = tt
@@ -34,10 +33,6 @@ pub equal : (r : Ordering) → T (is_eq r) → r ≡ Equal
 equal Less h = absurd h
 equal Equal h = refl
 equal Greater h = absurd h
-
-turned : {A : Type 0} (b : Bool) (x y : A) → cond (not b) x y ≡ cond b y x
-turned true x y = refl
-turned false x y = refl
 
 pub turn : {K : Type 0} {R : K → K → Ordering} (o : IsTotalOrder R) (a b : K) (r : Ordering) → R a b
     ≡ r → R b a ≡ ordering_reverse r
@@ -125,29 +120,6 @@ module _ {K X : Type 0} {R : K → K → Ordering} (o : IsTotalOrder R) where
       (above_head k e es i d h (omega arith) t)
       ∙ ap (λ fs. e ∷ fs) (put_at es k v i d (second _ _ h) (omega arith) t)
 
-  all_stay : (k x : K) (es : List (K × X)) → R x k ≡ Equal → T (below_all R x es)
-      → where_key R (λ y. not (eq_by_cmp R k y)) es ≡ es
-  all_stay k x [] t h = refl
-  all_stay k x (e ∷ es) t h =
-      let rest = all_stay k x es t (second _ _ h) in
-      let here : R k e.0 ≡ Less = sym (o.congr x k e.0 t) ∙ less _ (first _ _ h) in
-      ap (λ r. cond (not (is_eq r)) (e ∷ where_key R (λ y. not (eq_by_cmp R k y)) es)
-      (where_key R (λ y. not (eq_by_cmp R k y)) es)) here ∙ ap (λ fs. e ∷ fs) rest
-
-  -- taking a key out takes out the pair that ties
-  pub where_key_at : (es : List (K × X)) (k : K) (i : ℕ) (d : K × X) → T (is_sorted R es) → i
-      < length es → R (get_or es i d).0 k ≡ Equal → where_key R (λ y. not (eq_by_cmp R k y)) es
-      ≡ remove es i
-  where_key_at [] k i d h l t = absurd (omega arith)
-  where_key_at (e ∷ es) k zero d h l t =
-      ap (λ r. cond (not (is_eq r)) (e ∷ where_key R (λ y. not (eq_by_cmp R k y)) es)
-      (where_key R (λ y. not (eq_by_cmp R k y)) es)) (turn o _ _ Equal t)
-      ∙ all_stay k e.0 es t (first _ _ h)
-  where_key_at (e ∷ es) k (suc i) d h l t =
-      ap (λ r. cond (not (is_eq r)) (e ∷ where_key R (λ y. not (eq_by_cmp R k y)) es)
-      (where_key R (λ y. not (eq_by_cmp R k y)) es)) (above_head k e es i d h (omega arith) t)
-      ∙ ap (λ fs. e ∷ fs) (where_key_at es k i d (second _ _ h) (omega arith) t)
-
   -- the maps of the edited lists
   pub from_sorted-put : (es : List (K × X)) (k : K) (v : X) → T (is_sorted R es)
       → map.from_sorted {R = R} (put R k v es) ≡ map.insert (map.from_sorted es) k v
@@ -155,19 +127,6 @@ module _ {K X : Type 0} {R : K → K → Ordering} (o : IsTotalOrder R) where
       map.same_entries_map _ _ (map.entries-from_sorted R _ (is_sorted-put R o k v es h)
       ∙ sym (map.entries-insert o (map.from_sorted es) k v
       ∙ ap (put R k v) (map.entries-from_sorted R es h)))
-
-  pub from_sorted-where_key : IsAntisymmetric R → (es : List (K × X)) (k : K) → T (is_sorted R es)
-      → map.from_sorted {R = R} (where_key R (λ y. not (eq_by_cmp R k y)) es)
-      ≡ map.remove (map.from_sorted es) k
-  from_sorted-where_key same es k h =
-      let other : K → Bool = λ y. not (eq_by_cmp R k y) in
-      map.same_map o same _ _ (λ q.
-      map.get-from_sorted R _ q (is_sorted-where_key R other es h)
-      ∙ find-where_key R other q (λ x t. ap (λ r. not (is_eq r)) (sym (alike_right o q x k t))) es
-      ∙ turned (eq_by_cmp R k q) _ _
-      ∙ ap (λ b. cond b None (find R q es)) ((eq_by_cmp_equiv o).symm k q)
-      ∙ sym (map.get-remove o (map.from_sorted es) k q ∙ ap (cond (eq_by_cmp R q k) None)
-      (map.get-from_sorted R es q h)))
 
   -- a binary search by key ends at the key, or at the gap for it
   pub searched : (es : List (K × X)) (k : K) → T (is_sorted R es) → (r : Result ℕ ℕ)
@@ -267,15 +226,3 @@ module _ {K X : Type 0} {R : K → K → Ordering} (o : IsTotalOrder R) (same : 
       ≡ map.insert (map.from_sorted es) k v
   map_set v at = ap (λ fs. map.from_sorted {R = R} fs) (sym (put_over v at))
       ∙ from_sorted-put o es k v h
-
-  pub rising_remove : (d : K × X) → IsAt R es k i → T (is_sorted R (remove es i))
-  rising_remove d at =
-      subst (λ fs. T (is_sorted R fs)) (where_key_at o es k i d h at.in_range (at.has_key d))
-      (is_sorted-where_key R (λ y. not (eq_by_cmp R k y)) es h)
-
-  pub map_remove : (d : K × X) → IsAt R es k i → map.from_sorted {R = R} (remove es i)
-      ≡ map.remove (map.from_sorted es) k
-  map_remove d at =
-      ap (λ fs. map.from_sorted {R = R} fs)
-      (sym (where_key_at o es k i d h at.in_range (at.has_key d)))
-      ∙ from_sorted-where_key o same es k h

@@ -28,8 +28,8 @@ const SYSTEMS: [Role; 6] = [
     Role::Launch(Launch { count: 3 }),
     Role::Age(Age { limit: 2 }),
     Role::Launch(Launch { count: 1 }),
-    Role::Aim(Aim { place: 0 }),
-    Role::Aim(Aim { place: 8 }),
+    Role::Aim(Aim { rank: 0 }),
+    Role::Aim(Aim { rank: 8 }),
     Role::Launch(Launch { count: 2 }),
 ];
 

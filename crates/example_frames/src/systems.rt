@@ -85,8 +85,8 @@ impl Age {
 /// this one is a fault, which the report lists.
 #[derive(Clone, Copy)]
 pub struct Aim {
-    /// Its place among the projectiles by birth: 0 is the eldest.
-    pub place: usize,
+    /// Its rank among the projectiles by birth: 0 is the eldest.
+    pub rank: usize,
 }
 
 impl System for Aim {
@@ -98,7 +98,7 @@ impl System for Aim {
         view: &View<'_>,
         commands: &mut Commands<'_>,
     ) -> Result<(), Memory> {
-        match view.with(AGE)?.get(self.place) {
+        match view.with(AGE)?.get(self.rank) {
             Some(handle) => commands.insert(*handle, one(alloc, TARGET, 1)?),
             None => Ok(()),
         }

@@ -2,5 +2,5 @@ use Rattle.std.proofs.Common.{◌≤◌}
 use Rattle.bench_alloc.proofs.reserve_each.Given as goal
 
 -- each step requests one handle
-abbrev pub invariant-loop-place : goal.invariant-loop-place
-invariant-loop-place l = l.entities.asked ≤ l.place-index
+abbrev pub invariant-loop-one : goal.invariant-loop-one
+invariant-loop-one l = l.entities.asked ≤ l.one-index

@@ -1,40 +1,51 @@
-use Rattle.std.proofs.Common.{arith}
-use Rattle.ent_handle.specs.Handle.{handle_cmp_total as total}
+use Rattle.std.proofs.Common.{◌≡◌, ℕ, ◌+◌, ◌<◌, List, length, arith}
+use Rattle.std.specs.List.{AllWithin}
+use Rattle.std.specs.declared.cmp.Ordering.TheVariants.{Less, Greater}
+use Rattle.ent_handle.specs.Handle.{Handle, handle_cmp, handle_cmp_total as total}
 use Rattle.ent_handle.specs.Handle.{handle_cmp-IsAntisymmetric as same}
+use Rattle.ent_storage.specs.Indexed.{IsFree}
 use Rattle.ent_storage.proofs.Counted.{over_sorted, over_placed, over_kept, gap_placed, gap_kept}
 use Rattle.ent_storage.proofs.Rising.{rising_insert}
+use Rattle.ent_storage.proofs.index.put_in_gap.Goals.{In-Some}
 use Rattle.ent_storage.proofs.index.put_in_gap.Goals as goal
 
--- over a pair beside the gap
-pub returns-in-Some-clause-sorted : goal.returns-in-Some-clause-sorted
-returns-in-Some-clause-sorted c =
+-- over a pair beside the gap: those before it are smaller, and those after it are greater
+record IsBeside (pairs : List (Handle × ℕ)) (k : Handle) (p : ℕ) : Type 0 where
+  inside : p < length pairs
+  below : AllWithin (λ e. handle_cmp e.0 k ≡ Less) pairs 0 p
+  above : AllWithin (λ e. handle_cmp e.0 k ≡ Greater) pairs (p + 1) (length pairs)
+
+free : (c : In-Some) → IsFree c.args.living.now.entities c.args.pairs.now.items c.in-Some.other
+free c = rw c.deref.ensures.value at c.in-Some.ensures.free
+
+beside : (c : In-Some) → IsBeside c.args.pairs.now.items c.args.pair.0 c.in-Some.other
+beside c =
     let gap = c.requires.gap in
     let near = c.in-Some.ensures.beside in
-    let free = rw c.deref.ensures.value at c.in-Some.ensures.free in
+    record {
+      inside = (free c).inside;
+      below = λ j d low high. gap.smaller_before j d low (omega (arith, near.0));
+      above = λ j d low high. gap.greater_after j d (omega (arith, near.1)) high;
+    }
+
+pub returns-in-Some-clause-sorted : goal.returns-in-Some-clause-sorted
+returns-in-Some-clause-sorted c =
+    let at = beside (goal.at.returns-in-Some-clause-sorted c).In-Some in
     over_sorted c.args.living.now.entities c.args.pairs.now.items c.requires.sorted c.args.pair.0
-    c.args.pair.1 c.in-Some.other free.inside (λ j d low high. gap.smaller_before j d low
-    (omega (arith, near.0))) (λ j d low high. gap.greater_after j d (omega (arith, near.1))
-    high)
+    c.args.pair.1 c.in-Some.other at.inside at.below at.above
 
 pub returns-in-Some-clause-placed : goal.returns-in-Some-clause-placed
 returns-in-Some-clause-placed c =
-    let gap = c.requires.gap in
-    let near = c.in-Some.ensures.beside in
-    let free = rw c.deref.ensures.value at c.in-Some.ensures.free in
+    let at = beside (goal.at.returns-in-Some-clause-placed c).In-Some in
     over_placed c.args.living.now.entities c.args.pairs.now.items c.requires.sorted c.args.pair.0
-    c.args.pair.1 c.in-Some.other free.inside (λ j d low high. gap.smaller_before j d low
-    (omega (arith, near.0))) (λ j d low high. gap.greater_after j d (omega (arith, near.1))
-    high)
+    c.args.pair.1 c.in-Some.other at.inside at.below at.above
 
 pub returns-in-Some-clause-kept : goal.returns-in-Some-clause-kept
 returns-in-Some-clause-kept c =
-    let gap = c.requires.gap in
-    let near = c.in-Some.ensures.beside in
-    let free = rw c.deref.ensures.value at c.in-Some.ensures.free in
+    let at = beside (goal.at.returns-in-Some-clause-kept c).In-Some in
     over_kept c.args.living.now.entities c.args.pairs.now.items c.requires.sorted c.args.pair.0
-    c.args.pair.1 c.in-Some.other free.inside (λ j d low high. gap.smaller_before j d low
-    (omega (arith, near.0))) (λ j d low high. gap.greater_after j d (omega (arith, near.1))
-    high) c.args.pair (free.gone c.args.pair)
+    c.args.pair.1 c.in-Some.other at.inside at.below at.above c.args.pair
+    ((free (goal.at.returns-in-Some-clause-kept c).In-Some).gone c.args.pair)
 
 -- between the two
 pub returns-in-None-clause-sorted : goal.returns-in-None-clause-sorted

@@ -1,51 +1,40 @@
-use Rattle.std.proofs.Common.{◌≡◌, ◌++◌, [], ◌∷◌, true, sym, ap, subst, ◌∙◌}
+use Rattle.std.proofs.Common.{◌≡◌, true, sym, ap, ◌∙◌}
 use Rattle.std.specs.FinSet as sets
-use Rattle.std.specs.FinMap as maps
-use Rattle.ent_alloc.specs.Sequential.{Allocator, after_free, next}
-use Rattle.ent_alloc.specs.Sound.{IsSound}
+use Rattle.ent_alloc.specs.Sequential.{Allocator, after_free}
+use Rattle.ent_alloc.specs.Entities.{allocator_of}
 use Rattle.ent_alloc.proofs.Soundness.{after_free-sound}
-use Rattle.ent_alloc.proofs.Meaning.{none_is, rest_is, closed, closed_is, none_asked, free_is}
+use Rattle.ent_alloc.proofs.Meaning.{IsAtRest, at_rest, closed, closed_is}
+use Rattle.ent_alloc.proofs.MeaningOfAlloc.{freed_roster, free_is}
+use Rattle.ent_alloc.proofs.entities.Entities.free.Goals.{Else-needs_flush}
 use Rattle.ent_alloc.proofs.entities.Entities.free.Goals as goal
+
+-- nothing is reserved
+rest : (c : Else-needs_flush) → IsAtRest c.self.inside.slots c.self.inside.requests c.args.self.now
+rest c = at_rest c.self.inside.slots c.self.inside.requests c.args.self.now c.needs_flush.result
+    c.self.invariant c.self.view_is c.needs_flush.ensures c.if-needs_flush.false
+
+freed_is : (c : Else-needs_flush) → allocator_of
+    (freed_roster c.self.inside.slots c.args.handle) 0 0
+    ≡ after_free c.args.self.now c.args.handle
+freed_is c = free_is c.self.inside.slots c.args.handle
+    ∙ ap (λ s. after_free s c.args.handle) (rest c).view
 
 pub invariant_of-self-2 : goal.invariant_of-self-2
 invariant_of-self-2 c =
     let h = c.args.handle in
     let r = c.self.inside.slots in
-    let requests = c.self.inside.requests in
-    let none = none_asked c.needs_flush.result c.args.self.now.asked c.needs_flush.ensures
-    c.if-needs_flush.false in
-    let rest = rest_is r requests.asked requests.served c.args.self.now c.self.invariant
-    c.self.view_is none in
-    let idle = none_is r requests c.args.self.now c.self.invariant c.self.view_is none in
-    let sound = subst IsSound c.self.view_is c.self.invariant.sound in
+    let at = (goal.at.invariant_of-self-2 c).Else-needs_flush in
+    let rest = rest at in
     let lives : sets.contains c.args.self.now.live h
     ≡ true = sym (ap (λ (s : Allocator). sets.contains s.live h) c.self.view_is)
     ∙ sym c.is_alive.ensures ∙ c.if-not-is_alive.false in
-    closed c.release.new.self (record r {
-      live = sets.remove r.live h;
-      rows = maps.remove r.rows h;
-      pending = r.pending ++ next r.limits h ∷ [];
-    })
-    requests (after_free c.args.self.now h) c.in_ok-next.ensures.ok idle
-    (free_is r h ∙ ap (λ s. after_free s h) rest)
-    (after_free-sound c.args.self.now h sound none lives)
+    closed c.release.new.self (freed_roster r h) c.self.inside.requests
+    (after_free c.args.self.now h) c.in_ok-next.ensures.ok rest.requests_is (freed_is at)
+    (after_free-sound c.args.self.now h rest.sound rest.asked lives)
 
 pub returns-clause-ok : goal.returns-clause-ok
 returns-clause-ok c =
-    let h = c.args.handle in
-    let r = c.self.inside.slots in
-    let requests = c.self.inside.requests in
-    let none = none_asked c.needs_flush.result c.args.self.now.asked c.needs_flush.ensures
-    c.if-needs_flush.false in
-    let rest = rest_is r requests.asked requests.served c.args.self.now c.self.invariant
-    c.self.view_is none in
-    let idle = none_is r requests c.args.self.now c.self.invariant c.self.view_is none in
-    closed_is c.release.new.self
-    (record r {
-      live = sets.remove r.live h;
-      rows = maps.remove r.rows h;
-      pending = r.pending
-          ++ next r.limits h ∷ [];
-    })
-    requests (after_free c.args.self.now h) c.in_ok-next.ensures.ok idle
-    (free_is r h ∙ ap (λ s. after_free s h) rest)
+    let at = (goal.at.returns-clause-ok c).Else-needs_flush in
+    closed_is c.release.new.self (freed_roster c.self.inside.slots c.args.handle)
+    c.self.inside.requests (after_free c.args.self.now c.args.handle) c.in_ok-next.ensures.ok
+    (rest at).requests_is (freed_is at)

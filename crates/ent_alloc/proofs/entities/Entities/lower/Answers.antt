@@ -1,29 +1,39 @@
 use Rattle.std.proofs.Common.{◌≡◌, ◌+◌, pos, ◌-ℤ◌, ap, subst, sym, ◌∙◌, arith, to_z, of_z, w64}
-use Rattle.std.proofs.Common.{length, inl, inr}
+use Rattle.std.proofs.Common.{length, inl, inr, ℕ, ◌-◌}
 use Rattle.std.proofs.lemmas.Int.{ints}
 use Rattle.std.proofs.lemmas.Bool.{cases_lt}
 use Rattle.ent_alloc.specs.declared.requests.Requests.{Requests}
-use Rattle.ent_alloc.specs.Sequential.{Allocator, top}
+use Rattle.ent_alloc.specs.Roster.{Roster}
+use Rattle.ent_alloc.specs.Sequential.{Allocator}
 use Rattle.ent_alloc.specs.Entities.{allocator_of, AreReserved}
 use Rattle.ent_alloc.specs.Sound.{IsSound}
 use Rattle.ent_alloc.proofs.Spans.{IsSpanOf-after_take}
-use Rattle.ent_alloc.proofs.Meaning.{top_is, length_available, served_view, served_reserved}
-use Rattle.ent_alloc.proofs.Meaning.{refused_view}
-use Rattle.ent_alloc.proofs.Meaning.{refused_reserved}
+use Rattle.ent_alloc.proofs.Meaning.{top_view, length_available}
+use Rattle.ent_alloc.proofs.MeaningOfRequests.{served_view, served_reserved, refused_view}
+use Rattle.ent_alloc.proofs.MeaningOfRequests.{refused_reserved}
+use Rattle.ent_alloc.proofs.entities.Entities.lower.Goals.{After-available-available}
 use Rattle.ent_alloc.proofs.entities.Entities.lower.Goals as goal
+
+-- how many were asked for, and how many there are to give, by the vectors
+record IsCounted (r : Roster) (asked : ℕ) (s : Allocator) (available : ℕ) : Type 0 where
+  asks : asked ≡ s.asked
+  gives : available ≡ length r.pending + (r.limits.slots - r.made)
+
+many : (c : After-available-available) → IsCounted c.self.inside.slots c.self.inside.requests.asked
+    c.args.self.now c.available-available.result
+many c = record {
+  asks = ap (λ (t : Allocator). t.asked) c.self.view_is;
+  gives = c.available-available.ensures.value ∙ length_available c.self.inside.slots
+      c.self.inside.requests.asked c.self.inside.requests.served c.args.self.now c.self.invariant
+      c.self.view_is;
+}
 
 pub new-span-requires-clause-greatest : goal.new-span-requires-clause-greatest
 new-span-requires-clause-greatest c =
     let e = c.self.inside in
-    let r = e.slots in
-    let s = c.args.self.now in
-    let inv = c.self.invariant in
-    let tops : top s ≡ length r.pending = ap top (sym c.self.view_is)
-    ∙ top_is r e.requests.asked e.requests.served inv.given_least inv.sound in
-    let all = length_available r e.requests.asked e.requests.served s inv c.self.view_is in
-    let has = c.available-available.ensures.value in
-    let fits = c.available-available.ensures.fits in
-    let at = c.cursor.ensures.value in
+    let tops = top_view e.slots e.requests.asked e.requests.served c.args.self.now c.self.invariant
+    c.self.view_is in
+    let all = many (goal.at.new-span-requires-clause-greatest c).After-available-available in
     omega (arith, ints)
 
 pub invariant_of-self : goal.invariant_of-self
@@ -33,10 +43,7 @@ invariant_of-self c =
     let n = c.args.n in
     let s = c.args.self.now in
     let inv = c.self.invariant in
-    let all = length_available r e.requests.asked e.requests.served s inv c.self.view_is in
-    let asks : e.requests.asked ≡ s.asked = ap (λ (t : Allocator). t.asked) c.self.view_is in
-    let has = c.available-available.ensures.value in
-    let few = c.requires in
+    let all = many (goal.at.invariant_of-self c).After-available-available in
     let keeps : Requests → Type 0 = λ q. AreReserved r q.asked q.served in
     elim (cases_lt c.available-available.result (e.requests.asked + n)) [
       | inl short ↦ subst keeps (sym (c.and-self-inside.ensures.refused short))
@@ -54,10 +61,7 @@ returns-clause-step c =
     let n = c.args.n in
     let s = c.args.self.now in
     let inv = c.self.invariant in
-    let all = length_available r e.requests.asked e.requests.served s inv c.self.view_is in
-    let asks : e.requests.asked ≡ s.asked = ap (λ (t : Allocator). t.asked) c.self.view_is in
-    let has = c.available-available.ensures.value in
-    let few = c.requires in
+    let all = many (goal.at.returns-clause-step c).After-available-available in
     elim (cases_lt c.available-available.result (e.requests.asked + n)) [
       | inl short ↦ ap (λ (q : Requests). allocator_of r q.asked q.served)
           (c.and-self-inside.ensures.refused short) ∙ refused_view r e.requests.asked

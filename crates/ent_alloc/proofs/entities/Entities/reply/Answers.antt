@@ -1,54 +1,38 @@
-use Rattle.std.proofs.Common.{◌≡◌, ◌+◌, pos, ◌-ℤ◌, ◌≤ℤ◌, nat_abs, length, sym, ap, ◌∙◌, Ok, arith}
+use Rattle.std.proofs.Common.{◌≡◌, ◌+◌, pos, ◌-ℤ◌, nat_abs, length, ap, ◌∙◌, Ok, arith}
 use Rattle.std.proofs.Common.{to_z, of_z, w64}
 use Rattle.std.proofs.lemmas.Int.{ints}
 use Rattle.ent_alloc.specs.Limits.{Limits}
-use Rattle.ent_alloc.specs.Sequential.{top, pool_at}
+use Rattle.ent_alloc.specs.Sequential.{pool_at}
 use Rattle.ent_alloc.specs.Entities.{beneath}
 use Rattle.ent_alloc.proofs.FreshHandles.{fresh-none}
-use Rattle.ent_alloc.proofs.Meaning.{top_is, asked_at-is, reply_none}
-use Rattle.ent_alloc.proofs.OneReply.{replied, several, short_of, left_is}
+use Rattle.ent_alloc.proofs.MeaningOfReplies.{reply_none}
+use Rattle.ent_alloc.proofs.OneReply.{IsBelowTop, below_top, replied, several, short_of, left_is}
+use Rattle.ent_alloc.proofs.entities.Entities.reply.Goals.{After-self, After-slots}
 use Rattle.ent_alloc.proofs.entities.Entities.reply.Goals as goal
+
+-- where the span lies
+lies : (c : After-self) → IsBelowTop c.self.inside.slots c.args.span.high
+lies c = below_top c.self.inside.slots c.self.inside.requests.asked c.self.inside.requests.served
+    c.args.self.now c.args.span.high c.self.invariant c.self.view_is c.requires.passed
+
+-- how many slots may be made
+slots_is : (c : After-slots) → c.slots.result ≡ c.self.inside.slots.limits.slots
+slots_is c = c.slots.ensures ∙ ap (λ (l : Limits). l.slots) c.limits.ensures
 
 pub returns-then-low-high : goal.returns-then-low-high
 returns-then-low-high c =
     let e = c.self.inside in
-    let r = e.slots in
-    let s = c.args.self.now in
-    let inv = c.self.invariant in
-    let high = c.args.span.high in
-    let low = c.args.span.low in
-    let least = c.requires.least in
-    let short = c.requires.short in
-    let ordered = c.requires.ordered in
-    let passed = c.requires.passed in
-    let tops : top s ≡ length r.pending = ap top (sym c.self.view_is)
-    ∙ top_is r e.requests.asked e.requests.served inv.given_least inv.sound in
-    let within : high ≤ℤ pos (length r.pending) = omega (arith, ints) in
-    let distance = asked_at-is (length r.pending) high within in
+    let at = lies (goal.at.returns-then-low-high c).After-self in
     λ n requested.
     let none : n ≡ 0 = (let same = c.if-low-high.true in omega (arith, ints)) in
-    ap Ok (c.new.ensures ∙ fresh-none 0) ∙ reply_none r (beneath r high) n none
-    ∙ replied r e.requests.asked e.requests.served high s inv c.self.view_is n
+    ap Ok (c.new.ensures ∙ fresh-none 0) ∙ reply_none e.slots
+    (beneath e.slots c.args.span.high) n none
+    ∙ replied e.slots e.requests.asked e.requests.served c.args.span.high c.args.self.now
+    c.self.invariant c.self.view_is n
 
 pub new-requires-then-low-ge0 : goal.new-requires-then-low-ge0
 new-requires-then-low-ge0 c =
-    let e = c.self.inside in
-    let r = e.slots in
-    let s = c.args.self.now in
-    let inv = c.self.invariant in
-    let high = c.args.span.high in
-    let low = c.args.span.low in
-    let least = c.requires.least in
-    let short = c.requires.short in
-    let ordered = c.requires.ordered in
-    let passed = c.requires.passed in
-    let tops : top s ≡ length r.pending = ap top (sym c.self.view_is)
-    ∙ top_is r e.requests.asked e.requests.served inv.given_least inv.sound in
-    let within : high ≤ℤ pos (length r.pending) = omega (arith, ints) in
-    let distance = asked_at-is (length r.pending) high within in
-    let made = c.made-made.ensures.value in
-    let few = c.made-made.ensures.within in
-    let fits = c.made-made.ensures.fits in
+    let at = lies (goal.at.new-requires-then-low-ge0 c).After-self in
     record {
       positions = omega (arith, ints);
       within = omega (arith, ints);
@@ -61,77 +45,32 @@ new-requires-then-low-ge0 c =
 pub returns-then-low-ge0 : goal.returns-then-low-ge0
 returns-then-low-ge0 c =
     let e = c.self.inside in
-    let r = e.slots in
-    let s = c.args.self.now in
-    let inv = c.self.invariant in
-    let high = c.args.span.high in
-    let low = c.args.span.low in
-    let least = c.requires.least in
-    let short = c.requires.short in
-    let ordered = c.requires.ordered in
-    let passed = c.requires.passed in
-    let tops : top s ≡ length r.pending = ap top (sym c.self.view_is)
-    ∙ top_is r e.requests.asked e.requests.served inv.given_least inv.sound in
-    let within : high ≤ℤ pos (length r.pending) = omega (arith, ints) in
-    let distance = asked_at-is (length r.pending) high within in
-    let made = c.made-made.ensures.value in
-    let few = c.made-made.ensures.within in
-    let fits = c.made-made.ensures.fits in
+    let at = lies (goal.at.returns-then-low-ge0 c).After-self in
     λ n requested.
     ap Ok c.new-then-low-ge0.ensures
-    ∙ several r e.requests.asked e.requests.served high s inv c.self.view_is n _ _ _ _
+    ∙ several e.slots e.requests.asked e.requests.served c.args.span.high c.args.self.now
+    c.self.invariant c.self.view_is n _ _ _ _
     (omega (arith, ints)) (omega (arith, ints)) (omega (arith, ints)) (omega (arith, ints))
     (omega (arith, ints))
 
 pub returns-then-index_end-from : goal.returns-then-index_end-from
 returns-then-index_end-from c =
     let e = c.self.inside in
-    let r = e.slots in
-    let s = c.args.self.now in
-    let inv = c.self.invariant in
-    let high = c.args.span.high in
-    let low = c.args.span.low in
-    let least = c.requires.least in
-    let short = c.requires.short in
-    let ordered = c.requires.ordered in
-    let passed = c.requires.passed in
-    let tops : top s ≡ length r.pending = ap top (sym c.self.view_is)
-    ∙ top_is r e.requests.asked e.requests.served inv.given_least inv.sound in
-    let within : high ≤ℤ pos (length r.pending) = omega (arith, ints) in
-    let distance = asked_at-is (length r.pending) high within in
-    let made = c.made-made.ensures.value in
-    let few = c.made-made.ensures.within in
-    let fits = c.made-made.ensures.fits in
-    let slots : c.slots.result ≡ r.limits.slots = c.slots.ensures ∙ ap (λ (l : Limits). l.slots)
-    c.limits.ensures in
-    let word : to_z w64 (of_z w64 high) ≡ high = omega (arith, ints) in
+    let at = lies (goal.at.returns-then-index_end-from c).After-self in
+    let slots = slots_is (goal.at.returns-then-index_end-from c).After-slots in
+    let word : to_z w64 (of_z w64 c.args.span.high) ≡ c.args.span.high = omega (arith, ints) in
     λ n requested.
-    short_of r e.requests.asked e.requests.served high s inv c.self.view_is n _ _
+    short_of e.slots e.requests.asked e.requests.served c.args.span.high c.args.self.now
+    c.self.invariant c.self.view_is n _ _
     (omega (arith, ints)) (omega (arith, ints)) (omega (arith, ints))
-    (c.left_below.ensures ∙ (λ i. length (pool_at s (word i))) ∙ left_is r e.requests.asked
-    e.requests.served high s inv c.self.view_is)
+    (c.left_below.ensures ∙ (λ i. length (pool_at c.args.self.now (word i)))
+    ∙ left_is e.slots e.requests.asked e.requests.served c.args.span.high c.args.self.now
+    c.self.invariant c.self.view_is)
 
 pub new-requires-then-high-gt0 : goal.new-requires-then-high-gt0
 new-requires-then-high-gt0 c =
-    let e = c.self.inside in
-    let r = e.slots in
-    let s = c.args.self.now in
-    let inv = c.self.invariant in
-    let high = c.args.span.high in
-    let low = c.args.span.low in
-    let least = c.requires.least in
-    let short = c.requires.short in
-    let ordered = c.requires.ordered in
-    let passed = c.requires.passed in
-    let tops : top s ≡ length r.pending = ap top (sym c.self.view_is)
-    ∙ top_is r e.requests.asked e.requests.served inv.given_least inv.sound in
-    let within : high ≤ℤ pos (length r.pending) = omega (arith, ints) in
-    let distance = asked_at-is (length r.pending) high within in
-    let made = c.made-made.ensures.value in
-    let few = c.made-made.ensures.within in
-    let fits = c.made-made.ensures.fits in
-    let slots : c.slots.result ≡ r.limits.slots = c.slots.ensures ∙ ap (λ (l : Limits). l.slots)
-    c.limits.ensures in
+    let at = lies (goal.at.new-requires-then-high-gt0 c).After-self in
+    let slots = slots_is (goal.at.new-requires-then-high-gt0 c).After-slots in
     record {
       positions = omega (arith, ints);
       within = omega (arith, ints);
@@ -144,51 +83,19 @@ new-requires-then-high-gt0 c =
 pub returns-then-high-gt0 : goal.returns-then-high-gt0
 returns-then-high-gt0 c =
     let e = c.self.inside in
-    let r = e.slots in
-    let s = c.args.self.now in
-    let inv = c.self.invariant in
-    let high = c.args.span.high in
-    let low = c.args.span.low in
-    let least = c.requires.least in
-    let short = c.requires.short in
-    let ordered = c.requires.ordered in
-    let passed = c.requires.passed in
-    let tops : top s ≡ length r.pending = ap top (sym c.self.view_is)
-    ∙ top_is r e.requests.asked e.requests.served inv.given_least inv.sound in
-    let within : high ≤ℤ pos (length r.pending) = omega (arith, ints) in
-    let distance = asked_at-is (length r.pending) high within in
-    let made = c.made-made.ensures.value in
-    let few = c.made-made.ensures.within in
-    let fits = c.made-made.ensures.fits in
-    let slots : c.slots.result ≡ r.limits.slots = c.slots.ensures ∙ ap (λ (l : Limits). l.slots)
-    c.limits.ensures in
+    let at = lies (goal.at.returns-then-high-gt0 c).After-self in
+    let slots = slots_is (goal.at.returns-then-high-gt0 c).After-slots in
     λ n requested.
     ap Ok c.new-then-high-gt0.ensures
-    ∙ several r e.requests.asked e.requests.served high s inv c.self.view_is n _ _ _ _
+    ∙ several e.slots e.requests.asked e.requests.served c.args.span.high c.args.self.now
+    c.self.invariant c.self.view_is n _ _ _ _
     (omega (arith, ints)) (omega (arith, ints)) (omega (arith, ints)) (omega (arith, ints))
     (omega (arith, ints))
 
 pub new-requires-2 : goal.new-requires-2
 new-requires-2 c =
-    let e = c.self.inside in
-    let r = e.slots in
-    let s = c.args.self.now in
-    let inv = c.self.invariant in
-    let high = c.args.span.high in
-    let low = c.args.span.low in
-    let least = c.requires.least in
-    let short = c.requires.short in
-    let ordered = c.requires.ordered in
-    let passed = c.requires.passed in
-    let tops : top s ≡ length r.pending = ap top (sym c.self.view_is)
-    ∙ top_is r e.requests.asked e.requests.served inv.given_least inv.sound in
-    let within : high ≤ℤ pos (length r.pending) = omega (arith, ints) in
-    let distance = asked_at-is (length r.pending) high within in
-    let made = c.made-made.ensures.value in
-    let few = c.made-made.ensures.within in
-    let fits = c.made-made.ensures.fits in
-    let slots : c.slots.result ≡ r.limits.slots = c.slots.ensures ∙ ap (λ (l : Limits). l.slots)
-    c.limits.ensures in
+    let at = lies (goal.at.new-requires-2 c).After-self in
+    let slots = slots_is (goal.at.new-requires-2 c).After-slots in
     record {
       positions = omega (arith, ints);
       within = omega (arith, ints);
@@ -201,28 +108,14 @@ new-requires-2 c =
 pub returns : goal.returns
 returns c =
     let e = c.self.inside in
-    let r = e.slots in
-    let s = c.args.self.now in
-    let inv = c.self.invariant in
-    let high = c.args.span.high in
-    let low = c.args.span.low in
-    let least = c.requires.least in
-    let short = c.requires.short in
-    let ordered = c.requires.ordered in
-    let passed = c.requires.passed in
-    let tops : top s ≡ length r.pending = ap top (sym c.self.view_is)
-    ∙ top_is r e.requests.asked e.requests.served inv.given_least inv.sound in
-    let within : high ≤ℤ pos (length r.pending) = omega (arith, ints) in
-    let distance = asked_at-is (length r.pending) high within in
-    let made = c.made-made.ensures.value in
-    let few = c.made-made.ensures.within in
-    let fits = c.made-made.ensures.fits in
-    let slots : c.slots.result ≡ r.limits.slots = c.slots.ensures ∙ ap (λ (l : Limits). l.slots)
-    c.limits.ensures in
+    let at = lies (goal.at.returns c).After-self in
+    let slots = slots_is (goal.at.returns c).After-slots in
     λ n requested.
     ap Ok c.new-2.ensures
-    ∙ several r e.requests.asked e.requests.served high s inv c.self.view_is n 0 0
-    (c.made-made.result + nat_abs (to_z w64 (of_z w64 (pos 0 -ℤ to_z w64 (of_z w64 high)))))
-    (c.from.result + nat_abs (to_z w64 (of_z w64 (pos 0 -ℤ to_z w64 (of_z w64 low)))))
+    ∙ several e.slots e.requests.asked e.requests.served c.args.span.high c.args.self.now
+    c.self.invariant c.self.view_is n 0 0
+    (c.made-made.result + nat_abs
+    (to_z w64 (of_z w64 (pos 0 -ℤ to_z w64 (of_z w64 c.args.span.high)))))
+    (c.from.result + nat_abs (to_z w64 (of_z w64 (pos 0 -ℤ to_z w64 (of_z w64 c.args.span.low)))))
     (omega (arith, ints)) (omega (arith, ints)) (omega (arith, ints)) (omega (arith, ints))
     (omega (arith, ints))

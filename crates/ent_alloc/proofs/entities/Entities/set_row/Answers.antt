@@ -1,12 +1,12 @@
 use Rattle.std.proofs.Common.{ℕ, sym, ap, subst, ◌∙◌}
 use Rattle.std.specs.FinSet as sets
-use Rattle.ent_handle.specs.Handle.{Handle}
 use Rattle.std.specs.FinMap as maps
+use Rattle.ent_handle.specs.Handle.{Handle}
 use Rattle.ent_alloc.specs.Sequential.{Allocator}
 use Rattle.ent_alloc.specs.Roster.{Roster}
 use Rattle.ent_alloc.specs.Sound.{IsLive}
 use Rattle.ent_alloc.specs.Entities.{allocator_of, AreReserved}
-use Rattle.ent_alloc.proofs.Meaning.{rows-sound}
+use Rattle.ent_alloc.proofs.Soundness.{after_set_row-sound}
 use Rattle.ent_alloc.proofs.entities.Entities.set_row.Goals as goal
 
 -- a row changes nothing that the requests speak of
@@ -14,7 +14,7 @@ with_row : (r : Roster) (asked given : ℕ) (h : Handle) (row : ℕ) → AreRese
     → IsLive (allocator_of r asked given) h
     → AreReserved (record r { rows = maps.insert r.rows h row }) asked given
 with_row r asked given h row reserved lives = record {
-  sound = rows-sound (allocator_of r asked given) h row reserved.sound lives;
+  sound = after_set_row-sound (allocator_of r asked given) h row reserved.sound lives;
   asked_in = reserved.asked_in;
   given_in = reserved.given_in;
   given_least = reserved.given_least;

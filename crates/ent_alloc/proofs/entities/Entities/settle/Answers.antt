@@ -1,73 +1,65 @@
-use Rattle.std.proofs.Common.{◌≡◌, length, sym, ap, subst, ◌∙◌, arith, to_z, of_z, w64}
+use Rattle.std.proofs.Common.{◌≡◌, ℕ, ℤ, length, sym, ap, subst, ◌∙◌, arith, to_z, of_z, w64}
 use Rattle.std.proofs.lemmas.Int.{ints}
 use Rattle.ent_alloc.specs.Sequential.{top, asked_at, settled, Allocator}
 use Rattle.ent_alloc.specs.Sound.{IsSound}
 use Rattle.ent_alloc.proofs.Settled.{length-all, settled-requests}
-use Rattle.ent_alloc.proofs.Meaning.{asked_at-is, top_is, settled_view, settled_reserved}
+use Rattle.ent_alloc.proofs.Meaning.{asked_at-is, top_view}
+use Rattle.ent_alloc.proofs.MeaningOfRequests.{settled_view, settled_reserved}
+use Rattle.ent_alloc.proofs.entities.Entities.settle.Goals.{After-self, After-distance-2}
 use Rattle.ent_alloc.proofs.entities.Entities.settle.Goals as goal
+
+-- the top, by the vectors
+tops : (c : After-self) → top c.args.self.now ≡ length c.self.inside.slots.pending
+tops c = top_view c.self.inside.slots c.self.inside.requests.asked c.self.inside.requests.served
+    c.args.self.now c.self.invariant c.self.view_is
+
+-- the two distances are how much was asked for, and how much of it given
+record AreAsked (top : ℕ) (cursor floor : ℤ) (asked given : ℕ) : Type 0 where
+  asks_is : asked ≡ asked_at top cursor
+  gives_is : given ≡ asked_at top floor
+
+asked : (c : After-distance-2) → top c.args.self.now ≡ length c.self.inside.slots.pending
+    → AreAsked (top c.args.self.now) c.args.cursor c.args.floor c.distance.result
+    c.distance-2.result
+asked c tops =
+    let at : to_z w64 (of_z w64 c.args.cursor) ≡ c.args.cursor = omega (arith, ints) in
+    let down : to_z w64 (of_z w64 c.args.floor) ≡ c.args.floor = omega (arith, ints) in
+    let waits = c.waiting-waiting.ensures.value ∙ sym tops in
+    record {
+      asks_is = c.distance.ensures ∙ (λ i. asked_at (waits i) (at i));
+      gives_is = c.distance-2.ensures ∙ (λ i. asked_at (waits i) (down i));
+    }
 
 pub distance-requires-2-clause-passed : goal.distance-requires-2-clause-passed
 distance-requires-2-clause-passed c =
-    let e = c.self.inside in
-    let inv = c.self.invariant in
-    let tops : top c.args.self.now ≡ length e.slots.pending = ap top (sym c.self.view_is)
-    ∙ top_is e.slots e.requests.asked e.requests.served inv.given_least inv.sound in
-    let waits = c.waiting-waiting.ensures.value in
-    let greatest = c.requires.greatest in
+    let tops = tops (goal.at.distance-requires-2-clause-passed c).After-self in
     omega (arith, ints)
 
 pub invariant_of-self : goal.invariant_of-self
 invariant_of-self c =
     let e = c.self.inside in
-    let inv = c.self.invariant in
-    let at : to_z w64 (of_z w64 c.args.cursor) ≡ c.args.cursor = omega (arith, ints) in
-    let down : to_z w64 (of_z w64 c.args.floor) ≡ c.args.floor = omega (arith, ints) in
-    let tops : top c.args.self.now ≡ length e.slots.pending = ap top (sym c.self.view_is)
-    ∙ top_is e.slots e.requests.asked e.requests.served inv.given_least inv.sound in
-    let least = c.requires.least in
-    let greatest = c.requires.greatest in
-    let ordered = c.requires.ordered in
-    let reachable = c.requires.reachable in
-    let asks_is : c.distance.result ≡ asked_at (top c.args.self.now) c.args.cursor =
-    c.distance.ensures ∙ (λ i. asked_at ((c.waiting-waiting.ensures.value ∙ sym tops) i) (at i))
-    in
-    let gives_is : c.distance-2.result ≡ asked_at (top c.args.self.now) c.args.floor =
-    c.distance-2.ensures ∙ (λ i. asked_at ((c.waiting-waiting.ensures.value ∙ sym tops) i)
-    (down i)) in
-    let gives = asked_at-is (top c.args.self.now) c.args.floor greatest in
+    let tops = tops (goal.at.invariant_of-self c).After-self in
+    let both = asked (goal.at.invariant_of-self c).After-distance-2 tops in
+    let gives = asked_at-is (top c.args.self.now) c.args.floor c.requires.greatest in
     let asks = asked_at-is (top c.args.self.now) c.args.cursor (omega (arith, ints)) in
     let made : e.slots.made ≡ c.args.self.now.made = ap (λ (s : Allocator). s.made) c.self.view_is
     in
     let slots : e.slots.limits.slots ≡ c.args.self.now.limits.slots =
     ap (λ (s : Allocator). s.limits.slots) c.self.view_is in
-    settled_reserved e.slots e.requests.asked e.requests.served c.args.self.now inv c.self.view_is
-    c.requires.flushed
-    c.distance.result c.distance-2.result (omega (arith, ints)) (omega (arith, ints))
-    (omega (arith, ints))
-    (λ within. gives_is ∙ ap (asked_at (top c.args.self.now))
-    (c.requires.all_given (omega (arith, ints))) ∙ sym asks_is)
+    settled_reserved e.slots e.requests.asked e.requests.served c.args.self.now c.self.invariant
+    c.self.view_is c.requires.flushed c.distance.result c.distance-2.result (omega (arith, ints))
+    (omega (arith, ints)) (omega (arith, ints))
+    (λ within. both.gives_is ∙ ap (asked_at (top c.args.self.now))
+    (c.requires.all_given (omega (arith, ints))) ∙ sym both.asks_is)
 
 pub returns-clause-settled : goal.returns-clause-settled
 returns-clause-settled c =
     let e = c.self.inside in
-    let inv = c.self.invariant in
-    let at : to_z w64 (of_z w64 c.args.cursor) ≡ c.args.cursor = omega (arith, ints) in
-    let down : to_z w64 (of_z w64 c.args.floor) ≡ c.args.floor = omega (arith, ints) in
-    let tops : top c.args.self.now ≡ length e.slots.pending = ap top (sym c.self.view_is)
-    ∙ top_is e.slots e.requests.asked e.requests.served inv.given_least inv.sound in
-    let least = c.requires.least in
-    let greatest = c.requires.greatest in
-    let ordered = c.requires.ordered in
-    let reachable = c.requires.reachable in
-    let asks_is : c.distance.result ≡ asked_at (top c.args.self.now) c.args.cursor =
-    c.distance.ensures ∙ (λ i. asked_at ((c.waiting-waiting.ensures.value ∙ sym tops) i) (at i))
-    in
-    let gives_is : c.distance-2.result ≡ asked_at (top c.args.self.now) c.args.floor =
-    c.distance-2.ensures ∙ (λ i. asked_at ((c.waiting-waiting.ensures.value ∙ sym tops) i)
-    (down i)) in
+    let tops = tops (goal.at.returns-clause-settled c).After-self in
+    let both = asked (goal.at.returns-clause-settled c).After-distance-2 tops in
     settled_view e.slots e.requests.asked e.requests.served c.args.self.now c.self.invariant
     c.self.view_is c.requires.flushed c.distance.result c.distance-2.result
-    ∙ (λ i. settled c.args.self.now (gives_is i) (asks_is i))
+    ∙ (λ i. settled c.args.self.now (both.gives_is i) (both.asks_is i))
 
 pub returns-clause-requests : goal.returns-clause-requests
 returns-clause-requests c =

@@ -10,6 +10,7 @@ use Rattle.ent_alloc.specs.Slots.{roster_of, handle_at, new_record, reused}
 use Rattle.ent_alloc.proofs.Linked.{make_keeps_links, roster_of-make, reuse_keeps_links}
 use Rattle.ent_alloc.proofs.Linked.{roster_of-reuse}
 use Rattle.ent_alloc.proofs.Reused.{length-reused}
+use Rattle.ent_alloc.proofs.slots.Slots.bring_to_life.Goals.{After-reuse_all}
 use Rattle.ent_alloc.proofs.slots.Slots.bring_to_life.Goals as goal
 
 -- the slices that were lent are the vectors' items
@@ -28,6 +29,44 @@ waited lent records slots pending kept same same_pending =
     (λ i. map (handle_at (same i)) (take_rest slots kept i))
     ∙ ap (λ ps. map (handle_at records) (drop kept ps)) same_pending
     ∙ sym (drop-map (handle_at records) kept pending)
+
+-- what the two loops leave in the records
+record AreWritten (records : List SlotRecord) (pending : List ℕ) (fresh kept slots : ℕ)
+    (made new : List SlotRecord) (len : ℕ) : Type 0 where
+  room : length records + fresh ≤ slots
+  within : kept ≤ length pending
+  grown_is : made ≡ records ++ replicate fresh new_record
+  written_is : new ≡ reused (records ++ replicate fresh new_record) (drop kept pending)
+  long : length new ≡ len
+
+all_written : (c : After-reuse_all) → AreWritten c.self.inside.records.items
+    c.self.inside.pending.items c.args.fresh c.args.kept c.self.inside.limits.slots
+    c.make_all.new.records.items c.reuse_all.new.records c.make_all.new.records.len
+all_written c =
+    let e = c.self.inside in
+    let records = e.records.items in
+    let pending = e.pending.items in
+    let grown = records ++ replicate c.args.fresh new_record in
+    let made : length records ≡ c.args.self.now.made = ap (λ (r : Roster). r.made) c.self.view_is in
+    let slots : e.limits.slots ≡ c.args.self.now.limits.slots = ap (λ (r : Roster). r.limits.slots)
+    c.self.view_is in
+    let waits : length pending ≡ length c.args.self.now.pending =
+    sym (length-map pending (handle_at records)) ∙ ap (λ (r : Roster). length r.pending)
+    c.self.view_is in
+    let grown_is : c.make_all.new.records.items ≡ grown = c.make_all.ensures.records
+    ∙ ap (λ (rs : List SlotRecord). rs ++ replicate c.args.fresh new_record)
+    c.in_ok-reserve.ensures.items in
+    let written_is = written c.deref_mut.result.now grown c.reuse_all.new.records
+    c.deref.result.now pending c.args.kept (c.deref_mut.ensures.value ∙ grown_is)
+    c.deref.ensures.value c.reuse_all.ensures.records in
+    record {
+      room = omega arith;
+      within = omega arith;
+      grown_is = grown_is;
+      written_is = written_is;
+      long = ap length written_is ∙ length-reused grown (drop c.args.kept pending)
+          ∙ sym (ap length grown_is) ∙ omega arith;
+    }
 
 pub reuse_all-requires-clause-room : goal.reuse_all-requires-clause-room
 reuse_all-requires-clause-room c =
@@ -48,32 +87,18 @@ invariant_of-self-2 c =
     let pending = e.pending.items in
     let n = c.args.fresh in
     let kept = c.args.kept in
-    let grown = records ++ replicate n new_record in
-    let made : length records ≡ c.args.self.now.made = ap (λ (r : Roster). r.made) c.self.view_is in
-    let slots : e.limits.slots ≡ c.args.self.now.limits.slots = ap (λ (r : Roster). r.limits.slots)
-    c.self.view_is in
-    let waits : length pending ≡ length c.args.self.now.pending =
-    sym (length-map pending (handle_at records)) ∙ ap (λ (r : Roster). length r.pending)
-    c.self.view_is in
-    let is_grown : c.make_all.new.records.items ≡ grown = c.make_all.ensures.records
-    ∙ ap (λ (rs : List SlotRecord). rs ++ replicate n new_record) c.in_ok-reserve.ensures.items
-    in
-    let is = written c.deref_mut.result.now grown c.reuse_all.new.records c.deref.result.now pending
-    kept (c.deref_mut.ensures.value ∙ is_grown) c.deref.ensures.value
-    c.reuse_all.ensures.records in
-    let long : length c.reuse_all.new.records ≡ c.make_all.new.records.len = ap length is
-    ∙ length-reused grown (drop kept pending) ∙ sym (ap length is_grown) ∙ omega arith in
-    let linked = make_keeps_links e.limits records pending e.live n c.self.invariant (omega arith)
-    in
+    let all = all_written (goal.at.invariant_of-self-2 c).After-reuse_all in
+    let linked = make_keeps_links e.limits records pending e.live n c.self.invariant all.room in
     let more : e.live + n + (length pending - kept) ≡ e.live + (n + (c.len.result - kept)) =
     omega arith in
     rw (
-      with_items_is c.make_all.new.records c.reuse_all.new.records long,
-      is,
+      with_items_is c.make_all.new.records c.reuse_all.new.records all.long,
+      all.written_is,
       c.truncate.ensures.items,
       ← more,
     )
-    (reuse_keeps_links e.limits grown pending (e.live + n) kept linked (omega arith))
+    (reuse_keeps_links e.limits (records ++ replicate n new_record) pending (e.live + n) kept linked
+    all.within)
 
 pub returns-clause-ok : goal.returns-clause-ok
 returns-clause-ok c =
@@ -82,28 +107,14 @@ returns-clause-ok c =
     let pending = e.pending.items in
     let n = c.args.fresh in
     let kept = c.args.kept in
-    let grown = records ++ replicate n new_record in
-    let made : length records ≡ c.args.self.now.made = ap (λ (r : Roster). r.made) c.self.view_is in
-    let slots : e.limits.slots ≡ c.args.self.now.limits.slots = ap (λ (r : Roster). r.limits.slots)
-    c.self.view_is in
-    let waits : length pending ≡ length c.args.self.now.pending =
-    sym (length-map pending (handle_at records)) ∙ ap (λ (r : Roster). length r.pending)
-    c.self.view_is in
-    let is_grown : c.make_all.new.records.items ≡ grown = c.make_all.ensures.records
-    ∙ ap (λ (rs : List SlotRecord). rs ++ replicate n new_record) c.in_ok-reserve.ensures.items
-    in
-    let is = written c.deref_mut.result.now grown c.reuse_all.new.records c.deref.result.now pending
-    kept (c.deref_mut.ensures.value ∙ is_grown) c.deref.ensures.value
-    c.reuse_all.ensures.records in
-    let long : length c.reuse_all.new.records ≡ c.make_all.new.records.len = ap length is
-    ∙ length-reused grown (drop kept pending) ∙ sym (ap length is_grown) ∙ omega arith in
-    let linked = make_keeps_links e.limits records pending e.live n c.self.invariant (omega arith)
-    in
-    let room : length records + n ≤ e.limits.slots = omega arith in
-    (λ i. roster_of e.limits ((with_items_is c.make_all.new.records c.reuse_all.new.records long
-    ∙ is) i) (c.truncate.ensures.items i))
-    ∙ roster_of-reuse e.limits grown pending (e.live + n) kept linked (omega arith)
-    ∙ (λ i. let r : Roster = (roster_of-make e.limits records pending e.live n c.self.invariant room
+    let all = all_written (goal.at.returns-clause-ok c).After-reuse_all in
+    let linked = make_keeps_links e.limits records pending e.live n c.self.invariant all.room in
+    (λ i. roster_of e.limits ((with_items_is c.make_all.new.records c.reuse_all.new.records all.long
+    ∙ all.written_is) i) (c.truncate.ensures.items i))
+    ∙ roster_of-reuse e.limits (records ++ replicate n new_record) pending (e.live + n) kept linked
+    all.within
+    ∙ (λ i. let r : Roster = (roster_of-make e.limits records pending e.live n c.self.invariant
+    all.room
     ∙ ap (λ (r : Roster). record r {
       live = sets.union r.live (sets.from_list (fresh r.made n));
       made = r.made + n;
@@ -121,22 +132,17 @@ returns-clause-born c =
     let pending = e.pending.items in
     let n = c.args.fresh in
     let kept = c.args.kept in
-    let grown = records ++ replicate n new_record in
+    let all = all_written (goal.at.returns-clause-born c).After-reuse_all in
     let made : length records ≡ c.args.self.now.made = ap (λ (r : Roster). r.made) c.self.view_is in
-    let slots : e.limits.slots ≡ c.args.self.now.limits.slots = ap (λ (r : Roster). r.limits.slots)
-    c.self.view_is in
-    let is_grown : c.make_all.new.records.items ≡ grown = c.make_all.ensures.records
-    ∙ ap (λ (rs : List SlotRecord). rs ++ replicate n new_record) c.in_ok-reserve.ensures.items
-    in
-    let room : length records + n ≤ e.limits.slots = omega arith in
     let len = c.in_ok-reserve.ensures.len in
     let first : c.reserve.new.self.len ≡ c.args.self.now.made = omega arith in
     let old : map (handle_at c.deref_mut.result.now) (take (length c.deref.result.now - kept)
     (drop kept c.deref.result.now)) ≡ drop kept c.args.self.now.pending =
-    waited c.deref_mut.result.now grown c.deref.result.now pending kept (c.deref_mut.ensures.value
-    ∙ is_grown) c.deref.ensures.value
+    waited c.deref_mut.result.now (records ++ replicate n new_record)
+    c.deref.result.now pending kept
+    (c.deref_mut.ensures.value ∙ all.grown_is) c.deref.ensures.value
     ∙ ap (λ (r : Roster). drop kept r.pending) (roster_of-make e.limits records pending e.live n
-    c.self.invariant room
+    c.self.invariant all.room
     ∙ ap (λ (r : Roster). record r {
       live = sets.union r.live (sets.from_list (fresh r.made n));
       made = r.made + n;

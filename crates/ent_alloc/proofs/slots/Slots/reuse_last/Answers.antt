@@ -8,7 +8,18 @@ use Rattle.ent_alloc.specs.Roster.{Roster}
 use Rattle.ent_alloc.specs.Slots.{roster_of, record_at, handle_at, no_slot}
 use Rattle.ent_alloc.proofs.Linked.{last_made, last_handle, reuse_last_keeps_links}
 use Rattle.ent_alloc.proofs.Linked.{roster_of-reuse_last}
+use Rattle.ent_alloc.proofs.slots.Slots.reuse_last.Goals.{After-index_mut-record}
 use Rattle.ent_alloc.proofs.slots.Slots.reuse_last.Goals as goal
+
+-- the record that is lent is that of the last pending slot
+read : (c : After-index_mut-record) → c.index_mut-record.result.now
+    ≡ record_at c.self.inside.records.items c.in_ok-index.index
+read c =
+    let e = c.self.inside in
+    get_or_read e.records.items c.in_ok-index.index c.index_mut-record.result.now
+    (last_made e.limits e.records.items e.pending.items c.pop.new.self.items e.live
+    c.in_ok-index.index c.self.invariant c.in_ok-index.ensures.items)
+    c.index_mut-record.ensures.value no_slot
 
 pub invariant_of-self-2 : goal.invariant_of-self-2
 invariant_of-self-2 c =
@@ -16,11 +27,7 @@ invariant_of-self-2 c =
     let index = c.in_ok-index.index in
     let rest = c.pop.new.self.items in
     let last = c.in_ok-index.ensures.items in
-    let made = last_made e.limits e.records.items e.pending.items rest e.live index c.self.invariant
-    last in
-    let read : c.index_mut-record.result.now ≡ record_at e.records.items index =
-    get_or_read e.records.items index c.index_mut-record.result.now made
-    c.index_mut-record.ensures.value no_slot in
+    let read = read (goal.at.invariant_of-self-2 c).After-index_mut-record in
     rw (ap (λ (r : SlotRecord). r.generation) read) (reuse_last_keeps_links e.limits e.records.items
     e.pending.items rest e.live index c.self.invariant last)
 
@@ -30,11 +37,7 @@ returns-clause-last c =
     let index = c.in_ok-index.index in
     let rest = c.pop.new.self.items in
     let last = c.in_ok-index.ensures.items in
-    let made = last_made e.limits e.records.items e.pending.items rest e.live index c.self.invariant
-    last in
-    let read : c.index_mut-record.result.now ≡ record_at e.records.items index =
-    get_or_read e.records.items index c.index_mut-record.result.now made
-    c.index_mut-record.ensures.value no_slot in
+    let read = read (goal.at.returns-clause-last c).After-index_mut-record in
     sym (ap (λ (r : Roster). slice_get r.pending (length r.pending - 1)) c.self.view_is)
     ∙ last_handle e.limits e.records.items e.pending.items rest e.live index c.self.invariant last
     ∙ (λ i. Some (record { index = index; generation = (sym read i).generation }))
@@ -46,11 +49,7 @@ returns-clause-some c =
     let index = c.in_ok-index.index in
     let rest = c.pop.new.self.items in
     let last = c.in_ok-index.ensures.items in
-    let made = last_made e.limits e.records.items e.pending.items rest e.live index c.self.invariant
-    last in
-    let read : c.index_mut-record.result.now ≡ record_at e.records.items index =
-    get_or_read e.records.items index c.index_mut-record.result.now made
-    c.index_mut-record.ensures.value no_slot in
+    let read = read (goal.at.returns-clause-some c).After-index_mut-record in
     let h : c.from_parts.result ≡ handle_at e.records.items index = c.from_parts.ensures
     ∙ (λ i. record { index = index; generation = (read i).generation }) in
     (λ i. roster_of e.limits

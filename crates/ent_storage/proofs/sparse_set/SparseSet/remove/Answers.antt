@@ -1,11 +1,14 @@
-use Rattle.std.proofs.Common.{ℕ, ℤ, Some, refl, ap, sym, ◌∙◌, arith}
-use Rattle.std.proofs.Common.{SFits, w64, rules}
+use Rattle.std.proofs.Common.{◌≡◌, ◌≤◌, ℕ, ℤ, List, length, get_or, slice_get, Some, refl, ap, sym}
+use Rattle.std.proofs.Common.{◌∙◌, arith, SFits, w64, rules}
+use Rattle.std.specs.Ordering.{nat_cmp}
 use Rattle.std.proofs.lemmas.Int.{to_z-of_z}
 use Rattle.std.proofs.lemmas.Option.{slice_get-get_or}
 use Rattle.std.specs.FinMap as map
-use Rattle.ent_storage.specs.SparseSet.{Column}
-use Rattle.ent_storage.proofs.Dense.{filled, has, pair_here, removed_values, popped_dense}
+use Rattle.ent_storage.specs.SparseSet.{Column, IsDense}
+use Rattle.ent_storage.proofs.Dense.{IsFilled, filled, has, pair_here, removed_values, popped_dense}
 use Rattle.ent_storage.proofs.Dense.{refilled_dense, in_sparse, removed_none}
+use Rattle.ent_storage.proofs.sparse_set.SparseSet.remove.Goals.{After-swap_remove-value}
+use Rattle.ent_storage.proofs.sparse_set.SparseSet.remove.Goals.{After-index, Else-position-len}
 use Rattle.ent_storage.proofs.sparse_set.SparseSet.remove.Goals as goal
 
 pub returns-in_err-position-clause-after : goal.returns-in_err-position-clause-after
@@ -14,122 +17,112 @@ returns-in_err-position-clause-after c =
     removed_none c.args.self.now.values c.args.place
     (ap (λ (m : Column). map.get m.values c.args.place) (sym c.self.view_is) ∙ none)
 
+-- a pair of this place stood at the position
+here : (c : After-swap_remove-value) → slice_get c.self.inside.dense.items c.in_ok-position.position
+    ≡ Some (
+      c.args.place,
+      (get_or c.self.inside.dense.items c.in_ok-position.position
+          c.swap_remove-value.result).1,
+    )
+here c =
+    let at = rw c.deref.ensures.value at c.in_ok-position.ensures.found in
+    let inside = rw c.deref.ensures.value at c.in_ok-position.ensures.inside in
+    pair_here c.self.inside.dense.items c.in_ok-position.position c.args.place inside at
+    c.swap_remove-value.result
+
+-- and the last one has filled it
+rest : (c : After-swap_remove-value) → IsFilled c.self.inside.dense.items c.in_ok-position.position
+    c.swap_remove-value.new.self.items
+rest c = filled c.self.inside.dense.items c.swap_remove-value.new.self.items
+    c.in_ok-position.position _ _ c.self.inside.dense.ok.0 c.swap_remove-value.new.self.ok.0
+    c.swap_remove-value.ensures.len
+    c.swap_remove-value.ensures.by_index
+
+-- it had the value that is returned
+value : (c : After-swap_remove-value) → Some c.swap_remove-value.result.1
+    ≡ map.get c.args.self.now.values c.args.place
+value c =
+    ap (λ (x : ℕ × ℤ). Some x.1) c.swap_remove-value.ensures.value
+    ∙ sym (ap (λ (m : Column). map.get m.values c.args.place) (sym c.self.view_is)
+    ∙ has c.self.inside.dense.items c.self.inside.sparse.items c.self.invariant
+    c.in_ok-position.position c.args.place _ (here c))
+
+-- what is left is as the map without the place, whatever the sparse vector has then
+without : (c : After-swap_remove-value) (sparse : List ℕ)
+    → IsDense c.swap_remove-value.new.self.items sparse
+    → map.from_entries {R = nat_cmp} c.swap_remove-value.new.self.items
+    ≡ map.remove c.args.self.now.values c.args.place
+without c sparse dense =
+    removed_values c.self.inside.dense.items c.self.inside.sparse.items c.self.invariant
+    c.in_ok-position.position c.args.place _ (here c) c.swap_remove-value.new.self.items (rest c)
+    sparse dense
+    ∙ ap (λ (m : Column). map.remove m.values c.args.place) c.self.view_is
+
+-- the pair that now stands there
+read : (c : After-index) → slice_get c.swap_remove-value.new.self.items c.in_ok-position.position
+    ≡ Some c.index.result.now
+read c =
+    slice_get-get_or c.swap_remove-value.new.self.items c.in_ok-position.position c.index.result.now
+    (omega (arith, c.if-position-len.true, c.len.ensures, c.swap_remove-value.new.self.ok.0))
+    ∙ ap Some (sym c.index.ensures)
+
+-- the pair was the last
+last : (c : Else-position-len) → length c.swap_remove-value.new.self.items
+    ≤ c.in_ok-position.position
+last c = omega (arith, c.if-position-len.false, c.len.ensures, c.swap_remove-value.new.self.ok.0)
+
 -- the place of the pair that fills the hole
 pub index_mut-requires : goal.index_mut-requires
 index_mut-requires c =
-    let D = c.self.inside.dense.items in
-    let L = c.swap_remove-value.new.self.items in
-    let at = rw c.deref.ensures.value at c.in_ok-position.ensures.found in
-    let inside = rw c.deref.ensures.value at c.in_ok-position.ensures.inside in
-    let here = pair_here D c.in_ok-position.position c.args.place inside at
-    c.swap_remove-value.result in
-    let rest = filled D L c.in_ok-position.position _ _ c.self.inside.dense.ok.0
-    c.swap_remove-value.new.self.ok.0 c.swap_remove-value.ensures.len
-    c.swap_remove-value.ensures.by_index in
-    let read = slice_get-get_or L c.in_ok-position.position c.index.result.now
-    (omega (arith, c.if-position-len.true, c.len.ensures, c.swap_remove-value.new.self.ok.0))
-    ∙ ap Some (sym c.index.ensures) in
-    let room = in_sparse D c.self.inside.sparse.items c.self.invariant c.in_ok-position.position
-    c.args.place _ here L rest c.index.result.now.0 c.index.result.now.1 read in
+    let at = goal.at.index_mut-requires c in
+    let room = in_sparse c.self.inside.dense.items c.self.inside.sparse.items c.self.invariant
+    c.in_ok-position.position c.args.place _ (here at.After-swap_remove-value)
+    c.swap_remove-value.new.self.items
+    (rest at.After-swap_remove-value) c.index.result.now.0 c.index.result.now.1
+    (read at.After-index) in
     omega (arith, room, c.self.inside.sparse.ok.0)
 
 pub invariant_of-self : goal.invariant_of-self
 invariant_of-self c =
-    let D = c.self.inside.dense.items in
-    let L = c.swap_remove-value.new.self.items in
-    let at = rw c.deref.ensures.value at c.in_ok-position.ensures.found in
-    let inside = rw c.deref.ensures.value at c.in_ok-position.ensures.inside in
-    let here = pair_here D c.in_ok-position.position c.args.place inside at
-    c.swap_remove-value.result in
-    let rest = filled D L c.in_ok-position.position _ _ c.self.inside.dense.ok.0
-    c.swap_remove-value.new.self.ok.0 c.swap_remove-value.ensures.len
-    c.swap_remove-value.ensures.by_index in
-    let read = slice_get-get_or L c.in_ok-position.position c.index.result.now
-    (omega (arith, c.if-position-len.true, c.len.ensures, c.swap_remove-value.new.self.ok.0))
-    ∙ ap Some (sym c.index.ensures) in
-    refilled_dense D c.self.inside.sparse.items c.self.invariant c.in_ok-position.position
-    c.args.place _ here L rest c.index.result.now.0 c.index.result.now.1 read
+    let at = goal.at.invariant_of-self c in
+    refilled_dense c.self.inside.dense.items c.self.inside.sparse.items c.self.invariant
+    c.in_ok-position.position c.args.place _ (here at.After-swap_remove-value)
+    c.swap_remove-value.new.self.items
+    (rest at.After-swap_remove-value) c.index.result.now.0 c.index.result.now.1
+    (read at.After-index)
 
--- the pair was the last
 pub invariant_of-self-else-position-len : goal.invariant_of-self-else-position-len
 invariant_of-self-else-position-len c =
-    let D = c.self.inside.dense.items in
-    let L = c.swap_remove-value.new.self.items in
-    let at = rw c.deref.ensures.value at c.in_ok-position.ensures.found in
-    let inside = rw c.deref.ensures.value at c.in_ok-position.ensures.inside in
-    let here = pair_here D c.in_ok-position.position c.args.place inside at
-    c.swap_remove-value.result in
-    let rest = filled D L c.in_ok-position.position _ _ c.self.inside.dense.ok.0
-    c.swap_remove-value.new.self.ok.0 c.swap_remove-value.ensures.len
-    c.swap_remove-value.ensures.by_index in
-    popped_dense D c.self.inside.sparse.items c.self.invariant c.in_ok-position.position
-    c.args.place _ here L rest
-    (omega (arith, c.if-position-len.false, c.len.ensures, c.swap_remove-value.new.self.ok.0))
+    let at = goal.at.invariant_of-self-else-position-len c in
+    popped_dense c.self.inside.dense.items c.self.inside.sparse.items c.self.invariant
+    c.in_ok-position.position c.args.place _ (here at.After-swap_remove-value)
+    c.swap_remove-value.new.self.items
+    (rest at.After-swap_remove-value) (last at.Else-position-len)
 
 pub returns-then-position-len-clause-value : goal.returns-then-position-len-clause-value
 returns-then-position-len-clause-value c =
-    let D = c.self.inside.dense.items in
-    let at = rw c.deref.ensures.value at c.in_ok-position.ensures.found in
-    let inside = rw c.deref.ensures.value at c.in_ok-position.ensures.inside in
-    let here = pair_here D c.in_ok-position.position c.args.place inside at
-    c.swap_remove-value.result in
-    let found = has D c.self.inside.sparse.items c.self.invariant c.in_ok-position.position
-    c.args.place _ here in
-    let read = ap (λ (x : ℕ × ℤ). Some x.1) c.swap_remove-value.ensures.value in
     let fits : SFits w64 c.swap_remove-value.result.1 = search rules in
-    ap Some (to_z-of_z w64 c.swap_remove-value.result.1 fits) ∙ read
-    ∙ sym (ap (λ (m : Column). map.get m.values c.args.place) (sym c.self.view_is) ∙ found)
-
-pub returns-then-position-len-clause-after : goal.returns-then-position-len-clause-after
-returns-then-position-len-clause-after c =
-    let D = c.self.inside.dense.items in
-    let L = c.swap_remove-value.new.self.items in
-    let at = rw c.deref.ensures.value at c.in_ok-position.ensures.found in
-    let inside = rw c.deref.ensures.value at c.in_ok-position.ensures.inside in
-    let here = pair_here D c.in_ok-position.position c.args.place inside at
-    c.swap_remove-value.result in
-    let rest = filled D L c.in_ok-position.position _ _ c.self.inside.dense.ok.0
-    c.swap_remove-value.new.self.ok.0 c.swap_remove-value.ensures.len
-    c.swap_remove-value.ensures.by_index in
-    let read = slice_get-get_or L c.in_ok-position.position c.index.result.now
-    (omega (arith, c.if-position-len.true, c.len.ensures, c.swap_remove-value.new.self.ok.0))
-    ∙ ap Some (sym c.index.ensures) in
-    let dense = refilled_dense D c.self.inside.sparse.items c.self.invariant
-    c.in_ok-position.position c.args.place _ here L rest c.index.result.now.0
-    c.index.result.now.1 read in
-    removed_values D c.self.inside.sparse.items c.self.invariant c.in_ok-position.position
-    c.args.place _ here L rest _ dense
-    ∙ ap (λ (m : Column). map.remove m.values c.args.place) c.self.view_is
+    ap Some (to_z-of_z w64 c.swap_remove-value.result.1 fits)
+    ∙ value (goal.at.returns-then-position-len-clause-value c).After-swap_remove-value
 
 pub returns-else-position-len-clause-value : goal.returns-else-position-len-clause-value
 returns-else-position-len-clause-value c =
-    let D = c.self.inside.dense.items in
-    let at = rw c.deref.ensures.value at c.in_ok-position.ensures.found in
-    let inside = rw c.deref.ensures.value at c.in_ok-position.ensures.inside in
-    let here = pair_here D c.in_ok-position.position c.args.place inside at
-    c.swap_remove-value.result in
-    let found = has D c.self.inside.sparse.items c.self.invariant c.in_ok-position.position
-    c.args.place _ here in
-    let read = ap (λ (x : ℕ × ℤ). Some x.1) c.swap_remove-value.ensures.value in
     let fits : SFits w64 c.swap_remove-value.result.1 = search rules in
-    ap Some (to_z-of_z w64 c.swap_remove-value.result.1 fits) ∙ read
-    ∙ sym (ap (λ (m : Column). map.get m.values c.args.place) (sym c.self.view_is) ∙ found)
+    ap Some (to_z-of_z w64 c.swap_remove-value.result.1 fits)
+    ∙ value (goal.at.returns-else-position-len-clause-value c).After-swap_remove-value
+
+pub returns-then-position-len-clause-after : goal.returns-then-position-len-clause-after
+returns-then-position-len-clause-after c =
+    let at = (goal.at.returns-then-position-len-clause-after c).After-swap_remove-value in
+    without at _ (refilled_dense c.self.inside.dense.items c.self.inside.sparse.items
+    c.self.invariant c.in_ok-position.position c.args.place _ (here at)
+    c.swap_remove-value.new.self.items (rest at)
+    c.index.result.now.0 c.index.result.now.1
+    (read (goal.at.returns-then-position-len-clause-after c).After-index))
 
 pub returns-else-position-len-clause-after : goal.returns-else-position-len-clause-after
 returns-else-position-len-clause-after c =
-    let D = c.self.inside.dense.items in
-    let L = c.swap_remove-value.new.self.items in
-    let at = rw c.deref.ensures.value at c.in_ok-position.ensures.found in
-    let inside = rw c.deref.ensures.value at c.in_ok-position.ensures.inside in
-    let here = pair_here D c.in_ok-position.position c.args.place inside at
-    c.swap_remove-value.result in
-    let rest = filled D L c.in_ok-position.position _ _ c.self.inside.dense.ok.0
-    c.swap_remove-value.new.self.ok.0 c.swap_remove-value.ensures.len
-    c.swap_remove-value.ensures.by_index in
-    let dense = popped_dense D c.self.inside.sparse.items c.self.invariant c.in_ok-position.position
-    c.args.place _ here L rest
-    (omega (arith, c.if-position-len.false, c.len.ensures, c.swap_remove-value.new.self.ok.0))
-    in
-    removed_values D c.self.inside.sparse.items c.self.invariant c.in_ok-position.position
-    c.args.place _ here L rest _ dense
-    ∙ ap (λ (m : Column). map.remove m.values c.args.place) c.self.view_is
+    let at = (goal.at.returns-else-position-len-clause-after c).After-swap_remove-value in
+    without at _ (popped_dense c.self.inside.dense.items c.self.inside.sparse.items c.self.invariant
+    c.in_ok-position.position c.args.place _ (here at) c.swap_remove-value.new.self.items (rest at)
+    (last (goal.at.returns-else-position-len-clause-after c).Else-position-len))

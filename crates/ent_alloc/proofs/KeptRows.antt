@@ -1,0 +1,158 @@
+-- The rows that the records keep with their occupants.
+use Rattle.std.proofs.Common.{◌≡◌, ℕ, ◌+◌, ◌-◌, ◌<◌, Bool, true, false, cond, ◌&&◌, eqb, leb, List}
+use Rattle.std.proofs.Common.{[], ◌∷◌, ◌++◌, length, get_or, set, refl, sym, ap, ◌∙◌, arith, inl}
+use Rattle.std.proofs.Common.{inr, suc, zero, replicate, Option, None, Some}
+use Rattle.std.specs.Ordering.{eq_by_cmp}
+use Rattle.std.specs.FinMap as maps
+use Rattle.std.proofs.lemmas.Bool.{cases_order, eq-eqb, ne_eqb, lt-leb, le-leb}
+use Rattle.std.specs.FinMap.{find}
+use Rattle.std.specs.Option.{is_some}
+use Rattle.ent_handle.specs.Handle.{Handle, handle_cmp, handle_cmp_total}
+use Rattle.ent_alloc.proofs.ListLaws.{eqb_sym}
+use Rattle.ent_alloc.specs.declared.slot_record.SlotRecord.{SlotRecord}
+use Rattle.ent_alloc.specs.Slots.{record_at, no_slot, row_of, rows_from, with_row, new_record}
+use Rattle.ent_alloc.proofs.Occupants.{ties, read-set}
+
+-- the row that a record keeps with its occupant of a generation
+abbrev pub row_in : SlotRecord → ℕ → Option ℕ
+row_in r generation = cond (eqb r.generation generation) (row_of r.occupancy) None
+
+-- the row that is kept with the occupant that a handle names
+abbrev pub row_at : List SlotRecord → Handle → Option ℕ
+row_at records h = row_in (record_at records h.index) h.generation
+
+-- ---- looking a row up
+
+abbrev row_from : ℕ → List SlotRecord → Handle → Option ℕ
+row_from index records q = cond (leb index q.index)
+    (row_in (get_or records (q.index - index) no_slot) q.generation) None
+
+abbrev nothing : Option ℕ
+nothing = None
+
+cond-none : (b c : Bool) → cond b (cond c nothing nothing) nothing ≡ nothing
+cond-none true true = refl
+cond-none true false = refl
+cond-none false c = refl
+
+found : (h q : Handle) (row : Option ℕ) (entries : List (Handle × ℕ))
+    → find handle_cmp q (with_row h row entries) ≡ cond (eq_by_cmp handle_cmp q h)
+    (cond (is_some row) row (find handle_cmp q entries)) (find handle_cmp q entries)
+found h q None entries = same (eq_by_cmp handle_cmp q h)
+  where
+    same : (b : Bool) → find handle_cmp q entries ≡ cond b (find handle_cmp q entries)
+        (find handle_cmp q entries)
+    same true = refl
+    same false = refl
+found h q (Some row) entries = refl
+
+row_here : (row : Option ℕ) → cond (is_some row) row None ≡ row
+row_here None = refl
+row_here (Some x) = refl
+
+row_split : (g : Bool) (row : Option ℕ) → cond g (cond (is_some row) row None) None
+    ≡ cond g row None
+row_split true row = row_here row
+row_split false row = refl
+
+row_head : (index : ℕ) (r : SlotRecord) (records : List SlotRecord) (q : Handle)
+    → cond (eqb q.index index && eqb q.generation r.generation) (cond (is_some (row_of r.occupancy))
+    (row_of r.occupancy) (row_from (index + 1) records q)) (row_from (index + 1) records q)
+    ≡ row_from index (r ∷ records) q
+row_head index r records q =
+    elim (cases_order q.index index) [
+      | inl e ↦
+          let E : eqb q.index index ≡ true = eq-eqb q.index index e in
+          let L : leb (index + 1) q.index ≡ false = lt-leb (index + 1) q.index (omega arith) in
+          let M : leb index q.index ≡ true = le-leb index q.index (omega arith) in
+          let zero_off : q.index - index ≡ 0 = omega arith in
+          let gone : row_from (index + 1) records q ≡ None = λ i.
+          cond (L i) (row_in (get_or records (q.index - (index + 1)) no_slot) q.generation) None
+          in
+          (λ i. cond (E i && eqb q.generation r.generation) (cond (is_some (row_of r.occupancy))
+          (row_of r.occupancy) (gone i)) (gone i))
+          ∙ row_split (eqb q.generation r.generation) (row_of r.occupancy)
+          ∙ (λ i. cond (eqb_sym q.generation r.generation i) (row_of r.occupancy) None)
+          ∙ sym (λ i. cond (M i) (row_in (get_or (r ∷ records) (zero_off i) no_slot) q.generation)
+          None)
+      | inr (inl l) ↦
+          let E : eqb q.index index ≡ false = ne_eqb q.index index (λ e. absurd (omega arith)) in
+          let L : leb (index + 1) q.index ≡ false = lt-leb (index + 1) q.index (omega arith) in
+          let M : leb index q.index ≡ false = lt-leb index q.index (omega arith) in
+          let gone : row_from (index + 1) records q ≡ None = λ i.
+          cond (L i) (row_in (get_or records (q.index - (index + 1)) no_slot) q.generation) None
+          in
+          (λ i. cond (E i && eqb q.generation r.generation) (cond (is_some (row_of r.occupancy))
+          (row_of r.occupancy) (row_from (index + 1) records q))
+          (row_from (index + 1) records q))
+          ∙ gone
+          ∙ sym (λ i. cond (M i) (row_in (get_or (r ∷ records) (q.index - index) no_slot)
+          q.generation) None)
+      | inr (inr g) ↦
+          let E : eqb q.index index ≡ false = ne_eqb q.index index (λ e. absurd (omega arith)) in
+          let L : leb (index + 1) q.index ≡ true = le-leb (index + 1) q.index (omega arith) in
+          let M : leb index q.index ≡ true = le-leb index q.index (omega arith) in
+          let off : q.index - index ≡ suc (q.index - (index + 1)) = omega arith in
+          (λ i. cond (E i && eqb q.generation r.generation) (cond (is_some (row_of r.occupancy))
+          (row_of r.occupancy) (row_from (index + 1) records q))
+          (row_from (index + 1) records q))
+          ∙ (λ i. cond (L i) (row_in (get_or records (q.index - (index + 1)) no_slot) q.generation)
+          None)
+          ∙ sym (λ i. cond (M i) (row_in (get_or (r ∷ records) (off i) no_slot) q.generation) None)
+    ]
+
+find-rows_from : (index : ℕ) (records : List SlotRecord) (q : Handle)
+    → find handle_cmp q (rows_from index records) ≡ row_from index records q
+find-rows_from index [] q = sym (cond-none (leb index q.index) (eqb 0 q.generation))
+find-rows_from index (r ∷ records) q =
+    found (record { index = index; generation = r.generation }) q (row_of r.occupancy)
+    (rows_from (index + 1) records)
+    ∙ (λ i. cond (ties q (record { index = index; generation = r.generation }) i)
+    (cond (is_some (row_of r.occupancy)) (row_of r.occupancy)
+    (find-rows_from (index + 1) records q i)) (find-rows_from (index + 1) records q i))
+    ∙ row_head index r records q
+
+-- the map of the rows returns with these
+pub get_rows : (records : List SlotRecord) (q : Handle)
+    → maps.get {R = handle_cmp} (maps.from_entries (rows_from 0 records)) q ≡ row_at records q
+get_rows records q =
+    let all : leb 0 q.index ≡ true = le-leb 0 q.index (omega arith) in
+    let off : q.index - 0 ≡ q.index = omega arith in
+    maps.get-from_entries handle_cmp_total (rows_from 0 records) q ∙ find-rows_from 0 records q
+    ∙ (λ i. cond (all i) (row_in (get_or records (off i) no_slot) q.generation) None)
+
+-- ---- one record set
+
+-- the map sees one record set at its index alone
+pub row_at-set : (records : List SlotRecord) (index : ℕ) (r : SlotRecord) (q : Handle) → index
+    < length records → row_at (set records index r) q
+    ≡ cond (eqb q.index index) (row_in r q.generation) (row_at records q)
+row_at-set records index r q =
+    read-set (λ (x : SlotRecord). row_in x q.generation) records index r q.index
+
+-- a record without a row in the place of another one leaves the rows
+pub rows_from-set : (from : ℕ) (records : List SlotRecord) (index : ℕ) (r : SlotRecord)
+    → row_of r.occupancy ≡ None → row_of (record_at records index).occupancy ≡ None
+    → rows_from from (set records index r) ≡ rows_from from records
+rows_from-set from [] index r new old = refl
+rows_from-set from (x ∷ records) zero r new old =
+    (λ i. with_row (record { index = from; generation = r.generation }) (new i)
+    (rows_from (from + 1) records))
+    ∙ sym (λ i. with_row (record { index = from; generation = x.generation }) (old i)
+    (rows_from (from + 1) records))
+rows_from-set from (x ∷ records) (suc index) r new old =
+    ap (λ rest. with_row (record { index = from; generation = x.generation }) (row_of x.occupancy)
+    rest) (rows_from-set (from + 1) records index r new old)
+
+-- ---- records put at the end
+
+rows_from-new : (from count : ℕ) → rows_from from (replicate count new_record) ≡ []
+rows_from-new from zero = refl
+rows_from-new from (suc count) = rows_from-new (from + 1) count
+
+pub rows_from-made : (from count : ℕ) (records : List SlotRecord)
+    → rows_from from (records ++ replicate count new_record) ≡ rows_from from records
+rows_from-made from count [] = rows_from-new from count
+rows_from-made from count (r ∷ records) =
+    ap (λ rest. with_row (record { index = from; generation = r.generation }) (row_of r.occupancy)
+    rest) (rows_from-made (from + 1) count records)

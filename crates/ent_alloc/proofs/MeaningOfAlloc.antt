@@ -1,0 +1,190 @@
+-- What `alloc` and `free` make of the roster is the allocator's step.
+use Rattle.std.proofs.Common.{◌≡◌, ◌+◌, ◌-◌, ◌<◌, true, false, cond, ◌||◌, List, [], ◌∷◌, ◌++◌}
+use Rattle.std.proofs.Common.{length, take, drop, reverse, sym, ap, ◌∙◌, arith, suc, slice_get}
+use Rattle.std.proofs.Common.{Some, subst, All}
+use Rattle.std.specs.Ordering.{eq_by_cmp}
+use Rattle.std.specs.FinSet as sets
+use Rattle.std.specs.FinMap as maps
+use Rattle.std.proofs.lemmas.Bool.{lt-ltb, le-ltb}
+use Rattle.std.proofs.lemmas.List.{take_all, reverse-append, take_more, nil_from_length}
+use Rattle.std.proofs.lemmas.List.Elements.{All-head}
+use Rattle.std.proofs.lemmas.Option.{get_or_from_slice_get, slice_get_within}
+use Rattle.std.proofs.Math.Bool.{or_comm, or-false}
+use Rattle.ent_handle.specs.Handle.{Handle, handle_cmp, handle_cmp_total}
+use Rattle.ent_handle.specs.Handle.{handle_cmp-IsAntisymmetric}
+use Rattle.ent_alloc.specs.Roster.{Roster}
+use Rattle.ent_alloc.specs.declared.requests.Requests.{Requests}
+use Rattle.ent_alloc.specs.Sequential.{Allocator, fresh, is_old, after_alloc, after_free, next}
+use Rattle.ent_alloc.specs.Sound.{IsSound}
+use Rattle.ent_alloc.specs.Entities.{idle, allocator_of, AreReserved}
+use Rattle.ent_alloc.proofs.FreshHandles.{fresh-next}
+use Rattle.ent_alloc.proofs.HandleSets.{contains-union_list}
+use Rattle.ent_alloc.proofs.Soundness.{after_alloc-sound}
+use Rattle.ent_alloc.proofs.Meaning.{pending_below, length-idle, IsAtRest, closed, closed_is}
+
+-- one handle that comes to life
+pub union_one : (live : sets.FinSet handle_cmp) (h : Handle)
+    → sets.union live (sets.from_list (h ∷ [])) ≡ sets.insert live h
+union_one live h =
+    sets.same_set handle_cmp_total handle_cmp-IsAntisymmetric _ _ (λ q.
+    contains-union_list live (h ∷ []) q
+    ∙ or_comm (sets.contains live q) (eq_by_cmp handle_cmp q h || false)
+    ∙ (λ i. or-false (eq_by_cmp handle_cmp q h) i || sets.contains live q)
+    ∙ sym (sets.contains-insert handle_cmp_total live h q))
+
+-- ---- alloc
+
+-- the last that waits is the first to be given
+last_first : (pending : List Handle) (h : Handle) → 0 < length pending
+    → slice_get pending (length pending - 1) ≡ Some h → reverse pending ≡ h
+    ∷ reverse (take (length pending - 1) pending)
+last_first pending h some last =
+    let at : length pending - 1 + 1 ≡ length pending = omega arith in
+    ap reverse (sym (take_all (length pending) pending (omega arith))
+    ∙ ap (λ n. take n pending) (sym at) ∙ take_more pending (length pending - 1) h (omega arith)
+    ∙ ap (λ x. take (length pending - 1) pending ++ x ∷ [])
+    (get_or_from_slice_get pending (length pending - 1) h h last))
+    ∙ reverse-append (take (length pending - 1) pending) (h ∷ [])
+
+pub alloc_old_front : (r : Roster) (h : Handle) → 0 < length r.pending
+    → slice_get r.pending (length r.pending - 1) ≡ Some h → idle r ≡ h
+    ∷ (reverse (take (length r.pending - 1) r.pending) ++ fresh r.made (r.limits.slots - r.made))
+alloc_old_front r h some last = ap (λ hs. hs ++ fresh r.made (r.limits.slots - r.made))
+    (last_first r.pending h some last)
+
+-- the roster after the slot that waits last got its next occupant, and after one was made
+abbrev pub reused_roster : Roster → Handle → Roster
+reused_roster r h = record r {
+  live = sets.union r.live (sets.from_list (h ∷ []));
+  pending = take (length r.pending - 1) r.pending;
+}
+
+abbrev pub made_roster : Roster → Handle → Roster
+made_roster r h =
+    record r { live = sets.union r.live (sets.from_list (h ∷ [])); made = r.made + 1 }
+
+pub alloc_old_is : (r : Roster) (h : Handle) → IsSound (allocator_of r 0 0) → 0 < length r.pending
+    → slice_get r.pending (length r.pending - 1) ≡ Some h
+    → allocator_of (reused_roster r h) 0 0 ≡ after_alloc (allocator_of r 0 0) h
+alloc_old_is r h sound some last =
+    let below : h.index < r.made = All-head (λ x. x.index < r.made) h
+    (reverse (take (length r.pending - 1) r.pending))
+    (subst (All (λ x. x.index < r.made)) (last_first r.pending h some last)
+    (pending_below r 0 0 (omega arith) sound)) in
+    let old : is_old r.made h ≡ true = lt-ltb h.index r.made below in
+    λ i. record {
+      limits = r.limits;
+      live = union_one r.live h i;
+      rows = r.rows;
+      pool = sym (ap (drop 1) (alloc_old_front r h some last)) i;
+      taken = [];
+      aside = [];
+      made = cond (sym old i) r.made (r.made + 1);
+      asked = 0;
+    }
+
+pub alloc_fresh_front : (r : Roster) → length r.pending ≡ 0 → r.made < r.limits.slots → idle r
+    ≡ record { index = r.made; generation = 1 } ∷ fresh (r.made + 1) (r.limits.slots - (r.made + 1))
+alloc_fresh_front r none room =
+    let more : r.limits.slots - r.made ≡ suc (r.limits.slots - (r.made + 1)) = omega arith in
+    ap (λ hs. reverse hs ++ fresh r.made (r.limits.slots - r.made)) (nil_from_length r.pending none)
+    ∙ ap (fresh r.made) more
+    ∙ fresh-next r.made (r.limits.slots - (r.made + 1))
+
+pub alloc_fresh_is : (r : Roster) (h : Handle) → length r.pending ≡ 0 → r.made < r.limits.slots → h
+    ≡ record { index = r.made; generation = 1 }
+    → allocator_of (made_roster r h) 0 0 ≡ after_alloc (allocator_of r 0 0) h
+alloc_fresh_is r h none room first =
+    let new : is_old r.made h ≡ false = le-ltb h.index r.made (let at : h.index
+    ≡ r.made = ap (λ (x : Handle). x.index) first in omega arith) in
+    λ i. record {
+      limits = r.limits;
+      live = union_one r.live h i;
+      rows = r.rows;
+      pool = (ap (λ hs. reverse hs ++ fresh (r.made + 1) (r.limits.slots - (r.made + 1)))
+          (nil_from_length r.pending none) ∙ sym (ap (drop 1) (alloc_fresh_front r none room))) i;
+      taken = [];
+      aside = [];
+      made = cond (sym new i) r.made (r.made + 1);
+      asked = 0;
+    }
+
+module _ (r : Roster) (requests : Requests) (s : Allocator) (rest : IsAtRest r requests s) where
+  pool_is : idle r ≡ s.pool
+  pool_is = ap (λ (t : Allocator). t.pool) rest.view
+
+  pub length_pool : length s.pool ≡ length r.pending + (r.limits.slots - r.made)
+  length_pool = sym (ap length pool_is) ∙ length-idle r
+
+  -- the slot that waits last gets its next occupant
+  module _ (h : Handle) (last : slice_get r.pending (length r.pending - 1) ≡ Some h) where
+    some_wait : 0 < length r.pending
+    some_wait = let within = slice_get_within r.pending (length r.pending - 1) h last in omega arith
+
+    pub reused_front : s.pool ≡ h ∷ (reverse (take (length r.pending - 1) r.pending)
+        ++ fresh r.made (r.limits.slots - r.made))
+    reused_front = sym pool_is ∙ alloc_old_front r h some_wait last
+
+    reused_is : allocator_of (reused_roster r h) 0 0 ≡ after_alloc s h
+    reused_is =
+        alloc_old_is r h (subst IsSound (sym rest.view) rest.sound) some_wait last
+        ∙ ap (λ t. after_alloc t h) rest.view
+
+    pub reused_view : (new : Roster) → new ≡ reused_roster r h
+        → allocator_of new requests.asked requests.served ≡ after_alloc s h
+    reused_view new is = closed_is new (reused_roster r h) requests (after_alloc s h) is
+        rest.requests_is reused_is
+
+    pub reused_reserved : (new : Roster) → new ≡ reused_roster r h → AreReserved new requests.asked
+        requests.served
+    reused_reserved new is = closed new (reused_roster r h) requests (after_alloc s h) is
+        rest.requests_is reused_is (after_alloc-sound s h _ rest.sound rest.asked reused_front)
+
+  -- no slot waits, and one is made
+  module _ (h : Handle) (none_waits : length r.pending ≡ 0) (room : r.made < r.limits.slots)
+      (first : h ≡ record { index = r.made; generation = 1 }) where
+    pub made_front : s.pool ≡ h ∷ fresh (r.made + 1) (r.limits.slots - (r.made + 1))
+    made_front =
+        sym pool_is ∙ alloc_fresh_front r none_waits room
+        ∙ ap (λ (x : Handle). x ∷ fresh (r.made + 1) (r.limits.slots - (r.made + 1))) (sym first)
+
+    made_is : allocator_of (made_roster r h) 0 0 ≡ after_alloc s h
+    made_is = alloc_fresh_is r h none_waits room first ∙ ap (λ t. after_alloc t h) rest.view
+
+    pub made_view : (new : Roster) → new ≡ made_roster r h
+        → allocator_of new requests.asked requests.served ≡ after_alloc s h
+    made_view new is = closed_is new (made_roster r h) requests (after_alloc s h) is
+        rest.requests_is made_is
+
+    pub made_reserved : (new : Roster) → new ≡ made_roster r h → AreReserved new requests.asked
+        requests.served
+    made_reserved new is = closed new (made_roster r h) requests (after_alloc s h) is
+        rest.requests_is made_is (after_alloc-sound s h _ rest.sound rest.asked made_front)
+
+-- ---- free
+
+-- the roster after an occupant was taken out
+abbrev pub freed_roster : Roster → Handle → Roster
+freed_roster r h = record r {
+  live = sets.remove r.live h;
+  rows = maps.remove r.rows h;
+  pending = r.pending ++ next r.limits h ∷ [];
+}
+
+pub free_is : (r : Roster) (h : Handle)
+    → allocator_of (freed_roster r h) 0 0 ≡ after_free (allocator_of r 0 0) h
+free_is r h =
+    let front : reverse (r.pending ++ next r.limits h ∷ [])
+    ++ fresh r.made (r.limits.slots - r.made) ≡ next r.limits h ∷ idle r =
+    ap (λ hs. hs ++ fresh r.made (r.limits.slots - r.made))
+    (reverse-append r.pending (next r.limits h ∷ [])) in
+    λ i. record {
+      limits = r.limits;
+      live = sets.remove r.live h;
+      rows = maps.remove r.rows h;
+      pool = front i;
+      taken = [];
+      aside = [];
+      made = r.made;
+      asked = 0;
+    }

@@ -1,0 +1,105 @@
+-- What `reply` lists of the vectors is the reply in the allocator's pool.
+use Rattle.std.proofs.Common.{◌≡◌, ℕ, ◌+◌, ◌-◌, ◌<◌, ◌≤◌, true, false, List, [], ◌++◌, length, take}
+use Rattle.std.proofs.Common.{drop, reverse, filter, sym, ap, ◌∙◌, arith, All, nat_le, Ok, Err}
+use Rattle.std.proofs.lemmas.Bool.{le-leb, lt-leb, cond-true, cond-false}
+use Rattle.std.proofs.lemmas.List.{append-nil, length-reverse, length-take-le, length-drop}
+use Rattle.std.proofs.lemmas.List.{drop-take, reverse-reverse}
+use Rattle.std.proofs.lemmas.List.Elements.{All-take, All-drop, filter-append}
+use Rattle.ent_handle.specs.Handle.{Handle}
+use Rattle.ent_alloc.specs.Roster.{Roster}
+use Rattle.ent_alloc.specs.Sequential.{fresh, is_old, is_fresh, listed, reply_from}
+use Rattle.ent_alloc.specs.Entities.{idle}
+use Rattle.ent_alloc.proofs.FreshHandles.{take-fresh, drop_joined, all_old_are_old, no_fresh_is_old}
+use Rattle.ent_alloc.proofs.FreshHandles.{no_old_is_fresh, all_fresh_are_fresh}
+use Rattle.ent_alloc.proofs.ListLaws.{take-append}
+use Rattle.ent_alloc.specs.Reserved.{reserved_handles}
+use Rattle.ent_alloc.proofs.Meaning.{length_left}
+use Rattle.ent_alloc.proofs.Reversed.{drop-reverse, take-reverse}
+
+-- the end of a front
+middle : (total asked n : ℕ) (hs : List Handle) → drop (total - asked - n) (take (total - asked) hs)
+    ≡ take (total - asked - (total - (asked + n))) (drop (total - (asked + n)) hs)
+middle total asked n hs =
+    let front = total - asked in
+    let start : total - (asked + n) ≡ front - n = omega arith in
+    let whole : front ≡ front - n + (front - (front - n)) = omega arith in
+    (λ i. drop (front - n) (take (whole i) hs))
+    ∙ drop-take (front - n) (front - (front - n)) hs
+    ∙ (λ i. take (front - sym start i) (drop (sym start i) hs))
+
+-- what a served reply lists
+pub listed_is : (r : Roster) (asked n : ℕ) → All (λ h. h.index < r.made) (reverse r.pending) → asked
+    + n ≤ length r.pending + (r.limits.slots - r.made)
+    → listed r.made (take n (drop asked (idle r))) ≡ reserved_handles r (length r.pending
+    - (asked + n)) (length r.pending - asked) (r.made + (asked - length r.pending)) (r.made
+    + (asked + n - length r.pending))
+listed_is r asked n below enough =
+    let front = length r.pending - asked in
+    let old = drop asked (reverse r.pending) in
+    let at = r.made + (asked - length r.pending) in
+    let room = r.limits.slots - r.made - (asked - length r.pending) in
+    let old_is : old ≡ reverse (take front r.pending) = drop-reverse asked r.pending in
+    let long : length old ≡ front = length-drop asked (reverse r.pending)
+    ∙ ap (λ k. k - asked) (length-reverse r.pending) in
+    let left : drop asked (idle r) ≡ old ++ fresh at room =
+    drop_joined r.made (r.limits.slots - r.made) (reverse r.pending) below asked
+    ∙ (λ i. old ++ fresh (r.made + (asked - length-reverse r.pending i)) (r.limits.slots
+    - r.made - (asked - length-reverse r.pending i))) in
+    let few : take n (drop asked (idle r)) ≡ take n old ++ fresh at (n - front) =
+    ap (take n) left ∙ take-append n old (fresh at room) ∙ ap (λ hs. take n old ++ hs)
+    (ap (λ k. take (n - k) (fresh at room)) long ∙ take-fresh (n - front) at room (omega arith))
+    in
+    let olds : All (λ h. h.index < r.made) (take n old) = All-take (λ h. h.index < r.made) n old
+    (All-drop (λ h. h.index < r.made) asked (reverse r.pending) below) in
+    let old_part : filter (is_old r.made) (take n (drop asked (idle r))) ≡ take n old =
+    ap (filter (is_old r.made)) few
+    ∙ filter-append (is_old r.made) (take n old) (fresh at (n - front))
+    ∙ (λ i. all_old_are_old r.made (take n old) olds i ++ no_fresh_is_old r.made at (n - front)
+    (omega arith) i)
+    ∙ append-nil (take n old) in
+    let fresh_part : filter (is_fresh r.made) (take n (drop asked (idle r)))
+    ≡ fresh at (n - front) =
+    ap (filter (is_fresh r.made)) few
+    ∙ filter-append (is_fresh r.made) (take n old) (fresh at (n - front))
+    ∙ (λ i. no_old_is_fresh r.made (take n old) olds i ++ all_fresh_are_fresh r.made at (n - front)
+    (omega arith) i) in
+    let turned : reverse (take n old) ≡ take (front - (length r.pending - (asked + n)))
+    (drop (length r.pending - (asked + n)) r.pending) =
+    ap (λ hs. reverse (take n hs)) old_is
+    ∙ ap reverse (take-reverse n (take front r.pending))
+    ∙ reverse-reverse (drop (length (take front r.pending) - n) (take front r.pending))
+    ∙ ap (λ k. drop (k - n) (take front r.pending)) (length-take-le front r.pending (omega arith))
+    ∙ middle (length r.pending) asked n r.pending in
+    let count : n - front ≡ r.made + (asked + n - length r.pending) - at = omega arith in
+    (λ i. reverse (old_part i) ++ fresh_part i) ∙ (λ i. turned i ++ fresh at (count i))
+
+-- the reply where there is enough, and where there isn't
+pub reply_served : (r : Roster) (asked n : ℕ) → All (λ h. h.index < r.made) (reverse r.pending)
+    → asked + n ≤ length r.pending + (r.limits.slots - r.made)
+    → Ok (reserved_handles r (length r.pending - (asked + n)) (length r.pending - asked) (r.made
+    + (asked - length r.pending)) (r.made + (asked + n - length r.pending)))
+    ≡ reply_from r.made (drop asked (idle r)) n
+reply_served r asked n below enough =
+    let fits : nat_le n (length (drop asked (idle r)))
+    ≡ true = le-leb n (length (drop asked (idle r))) (omega (arith, length_left r asked)) in
+    ap Ok (sym (listed_is r asked n below enough))
+    ∙ sym (cond-true (nat_le n (length (drop asked (idle r)))) _ _ fits)
+
+pub reply_refused : (r : Roster) (asked n : ℕ) → 0 < n → length r.pending
+    + (r.limits.slots - r.made) < asked + n
+    → Err (record { wanted = n; left = length r.pending + (r.limits.slots - r.made) - asked })
+    ≡ reply_from r.made (drop asked (idle r)) n
+reply_refused r asked n some past =
+    let left = length_left r asked in
+    let fits : nat_le n (length (drop asked (idle r)))
+    ≡ false = lt-leb n (length (drop asked (idle r))) (omega arith) in
+    (λ i. Err (record { wanted = n; left = sym left i }))
+    ∙ sym (cond-false (nat_le n (length (drop asked (idle r)))) _ _ fits)
+
+pub reply_none : (r : Roster) (asked n : ℕ) → n ≡ 0 → Ok []
+    ≡ reply_from r.made (drop asked (idle r)) n
+reply_none r asked n none =
+    let fits : nat_le n (length (drop asked (idle r)))
+    ≡ true = le-leb n (length (drop asked (idle r))) (omega arith) in
+    (λ i. Ok (listed r.made (take (sym none i) (drop asked (idle r)))))
+    ∙ sym (cond-true (nat_le n (length (drop asked (idle r)))) _ _ fits)

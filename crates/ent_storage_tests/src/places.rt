@@ -1,0 +1,115 @@
+//! Worked examples, and the places of entities.
+
+use crate::entities::{
+    HEALTH, MANA, assert_lists, assert_lives, assert_reserves, birth, entity, fill, handle, mana_at,
+};
+use ent_handle::{ComponentId, Handle};
+use ent_storage::{Storage, StorageFault};
+use std::process::Abort;
+use std::test::Fail;
+
+// A worked example, made in its own order.
+#[test]
+fn despawn_moves_the_last_entity(rt: HostRuntime) -> Result<(), Fail> {
+    let (first, second, third) = (handle(0)?, handle(1)?, handle(2)?);
+    let mut storage = Storage::new(rt.alloc());
+    assert_reserves(&rt, &mut storage, 3);
+    assert_lives(
+        &rt,
+        &mut storage,
+        &[(first, 2, 10), (second, 1, 11), (third, 0, 12)],
+    );
+    assert_eq!(rt; storage.despawn(first), Ok(()));
+    assert_left(&rt, &mut storage, first, second, third);
+    assert_lists(&rt, &storage, &[third, second], &[])
+}
+
+// The worked example again, by places: the last entity moves into the place of the first one.
+#[test]
+fn despawn_at_returns_who_has_moved(rt: HostRuntime) -> Result<(), Fail> {
+    let (first, second, third) = (handle(0)?, handle(1)?, handle(2)?);
+    let mut storage = Storage::new(rt.alloc());
+    let entities = [(first, 2, 10), (second, 1, 11), (third, 0, 12)];
+    assert_lives(&rt, &mut storage, &entities);
+    assert_places(
+        &rt,
+        &storage,
+        &[(first, 0, 10), (second, 1, 11), (third, 2, 12)],
+    );
+    assert_eq!(rt; despawn_at(&mut storage, first), Some((0, Some(third))));
+    assert_places(&rt, &storage, &[(third, 0, 12), (second, 1, 11)]);
+    assert_eq!(rt; storage.place(first), None);
+    assert_dense(&rt, storage.dense(HEALTH), &[(0, 12), (1, 11)]);
+    assert_dense(&rt, storage.dense(MANA), &[]);
+    assert_left(&rt, &mut storage, first, second, third);
+    assert_lists(&rt, &storage, &[third, second], &[])?;
+    assert_eq!(rt; despawn_at(&mut storage, second), Some((1, None)));
+    assert_places(&rt, &storage, &[(third, 0, 12)]);
+    Ok(())
+}
+
+fn assert_left(
+    rt: &impl Abort,
+    storage: &mut Storage,
+    first: Handle,
+    second: Handle,
+    third: Handle,
+) {
+    let health = [storage.get(third, HEALTH), storage.get(second, HEALTH)];
+    assert!(rt; health == [Some(12), Some(11)]);
+    assert!(rt; storage.despawn(first) == Err(StorageFault::Absent));
+    assert!(rt; storage.born(third, birth(9)) == Err(StorageFault::Present));
+    assert!(rt; storage.remove(second, ComponentId(7)) == Ok(None));
+}
+
+// Every third entity has mana. Half of the entities leave, some of them from the middle, and some
+// lose their mana alone. The pairs are then those of the entities that are left.
+#[test]
+fn dense_has_each_value_once(rt: HostRuntime) -> Result<(), Fail> {
+    let mut storage = Storage::new(rt.alloc());
+    let size = 300;
+    fill(&rt, &mut storage, size)?;
+    for number in (0..size).step_by(2) {
+        assert!(rt; storage.despawn(entity(number)?) == Ok(()));
+    }
+    for number in (3..size).step_by(12) {
+        assert!(rt; storage.remove(entity(number)?, MANA) == Ok(mana_at(number)));
+    }
+    let mut wanted = Vec::new(rt.alloc());
+    for number in (9..size).step_by(12) {
+        let place = storage.place(entity(number)?).ok_or("no place")?;
+        wanted.push((place, mana_at(number).ok_or("no mana")?))?;
+    }
+    assert_dense(&rt, storage.dense(MANA), &wanted);
+    assert!(rt; storage.dense(HEALTH).len() == storage.len());
+    assert!(rt; storage.dense(ComponentId(255)).is_empty());
+    Ok(())
+}
+
+// Both have the same pairs, in whatever order. The wanted pairs differ.
+fn assert_dense(rt: &impl Abort, pairs: &[(usize, i64)], wanted: &[(usize, i64)]) {
+    assert!(rt; pairs.len() == wanted.len());
+    for pair in wanted {
+        assert!(rt; pairs.contains(pair), "of {pair:?}");
+    }
+}
+
+// The place, and who has moved into it.
+fn despawn_at(storage: &mut Storage, entity: Handle) -> Option<(usize, Option<Handle>)> {
+    let place = storage.place(entity)?;
+    Some((place, storage.despawn_at(place, entity)))
+}
+
+fn get_at(storage: &Storage, entity: Handle, id: ComponentId) -> Option<i64> {
+    let place = storage.place(entity)?;
+    storage.get_at(place, entity, id)
+}
+
+fn assert_places(rt: &impl Abort, storage: &Storage, entities: &[(Handle, usize, i64)]) {
+    assert!(rt; storage.len() == entities.len());
+    for (entity, place, health) in entities {
+        assert!(rt; storage.place(*entity) == Some(*place));
+        assert!(rt; get_at(storage, *entity, HEALTH) == Some(*health));
+        assert!(rt; get_at(storage, *entity, MANA) == None);
+    }
+}
