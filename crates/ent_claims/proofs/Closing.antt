@@ -1,8 +1,7 @@
 -- What all claimers together have claimed.
-use Rattle.std.proofs.Common.{◌≡◌, ℕ, zero, suc, ◌+◌, ◌<◌, ◌≤◌, List, [], ◌∷◌, ◌++◌, length, map}
+use Rattle.std.proofs.Common.{◌≡◌, ℕ, zero, suc, ◌+◌, ◌<◌, ◌≤◌, List, [], ◌∷◌, length, map}
 use Rattle.std.proofs.Common.{flat_map}
 use Rattle.std.proofs.Common.{sym, refl, ap, subst, ◌∙◌, arith, IsPermutation, unwrap_or}
-use Rattle.std.proofs.Common.{append-nil}
 use Rattle.std.proofs.Common.{⊎_elim, Option}
 use Rattle.std.proofs.lemmas.Option.{none-some}
 use Rattle.std.proofs.lemmas.Bool.{cases_lt}
@@ -157,13 +156,3 @@ module _ (numbers workers : ℕ) (cs : List Claimer) (all : length cs ≡ worker
       (range_with_len 0 k)) every
       (weigh_same (flat_map (λ (c : Claimer). c.own.claims) cs) (range_with_len 0 closed.claimed)
       (λ f. weight-flat_map f cs ∙ weights f))
-
-nothing_left : (cs : List Claimer) → length cs ≡ 0 → cs ≡ []
-nothing_left [] e = refl
-nothing_left (c ∷ cs) e = absurd (omega arith)
-
--- all that were handed in were taken in
-pub items_all : (items yielded now : List Claimer) → yielded ++ now ≡ items → length now ≡ 0
-    → yielded ≡ items
-items_all items yielded now all none_left = sym (append-nil yielded)
-    ∙ (ap (λ (xs : List Claimer). yielded ++ xs) (sym (nothing_left now none_left)) ∙ all)

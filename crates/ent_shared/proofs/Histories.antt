@@ -23,7 +23,8 @@ use Rattle.ent_shared.specs.Record.{low, reservations_in, own_reservations, know
 use Rattle.ent_shared.specs.Rule.{weigh, InOrder, IsKept, IsClosed}
 use Rattle.ent_shared.specs.Order.{own_of_all, reservations_of, reservations_by, StandsBefore}
 use Rattle.ent_shared.specs.Order.{FollowsEntries, Respects}
-use Rattle.ent_shared.proofs.Records.{all_front, all_back, all_own}
+use Rattle.ent_alloc.proofs.ListLaws.{All-left, All-right}
+use Rattle.ent_shared.proofs.Records.{all_own}
 use Rattle.ent_shared.proofs.Sorting.{contains_cases, Falls, FallsStrictly, WeighSame, all_sorted}
 use Rattle.ent_shared.proofs.Sorting.{sum_sorted, falls_sorted, same_fall, follow_falls}
 use Rattle.ent_shared.proofs.Sorting.{follow_requests}
@@ -143,9 +144,9 @@ follows : (cs : List Reservation) (es : List RecordEntry) → FallsStrictly cs
     → InOrder es → FollowsEntries cs es
 follows cs [] falls requests known order = tt
 follows cs (e ∷ es) falls requests known order =
-    let here : All (Contains cs) (reservations_in e) = all_front (Contains cs) (reservations_in e)
+    let here : All (Contains cs) (reservations_in e) = All-left (Contains cs) (reservations_in e)
     (known_reservations es) known in
-    let rest : All (Contains cs) (known_reservations es) = all_back (Contains cs)
+    let rest : All (Contains cs) (known_reservations es) = All-right (Contains cs)
     (reservations_in e) (known_reservations es) known in (
       after_all cs (reservations_in e) (own_reservations es) falls requests here
           (all_own (Contains cs) es rest) order.0,

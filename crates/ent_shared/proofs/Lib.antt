@@ -1,6 +1,7 @@
-pub mod Weighing
 pub mod Records
+pub mod Words
 pub mod Steps
+pub mod Ends
 pub mod Answering
 pub mod Sharing
 pub mod Sorting

@@ -1,6 +1,6 @@
 -- The reservers that are handed in, as their records are merged one by one.
 use Rattle.std.proofs.Common.{◌≡◌, ℕ, ◌+◌, ℤ, List, [], ◌∷◌, ◌++◌, refl, sym, ap, subst, ◌∙◌}
-use Rattle.std.proofs.Common.{append_assoc, append-nil, length, arith, suc}
+use Rattle.std.proofs.Common.{append_assoc, length, suc}
 use Rattle.std.specs.List.{All, sum_by}
 use Rattle.std.specs.Int.{int_min}
 use Rattle.std.proofs.lemmas.List.Elements.{All-head, All-tail, All-nil, All-cons}
@@ -8,7 +8,7 @@ use Rattle.std.proofs.lemmas.List.Sums.{sum_by-cons}
 use Rattle.ent_shared.specs.declared.record.Record.{Record}
 use Rattle.ent_shared.specs.Phase.{Reserver, records_of}
 use Rattle.ent_shared.specs.Rule.{least_floor}
-use Rattle.ent_shared.proofs.Records.{all_back}
+use Rattle.ent_alloc.proofs.ListLaws.{All-right}
 use Rattle.ent_shared.proofs.Settling.{least_floor-more}
 
 pub item_is : (P : Reserver → Type 0) (items yielded now rest : List Reserver) (r : Reserver)
@@ -16,21 +16,12 @@ pub item_is : (P : Reserver → Type 0) (items yielded now rest : List Reserver)
 item_is P items yielded now rest r all first holds =
     let whole : yielded ++ r ∷ rest ≡ items = ap (λ (xs : List Reserver). yielded ++ xs) (sym first)
     ∙ all in
-    All-head P r rest (all_back P yielded (r ∷ rest) (subst (All P) (sym whole) holds))
+    All-head P r rest (All-right P yielded (r ∷ rest) (subst (All P) (sym whole) holds))
 
 pub items_on : (items yielded now rest : List Reserver) (r : Reserver) → yielded ++ now ≡ items
     → now ≡ r ∷ rest → (yielded ++ r ∷ []) ++ rest ≡ items
 items_on items yielded now rest r all first = append_assoc yielded (r ∷ []) rest
     ∙ (ap (λ (xs : List Reserver). yielded ++ xs) (sym first) ∙ all)
-
-pub items_all : (items yielded now : List Reserver) → yielded ++ now ≡ items → now ≡ [] → yielded
-    ≡ items
-items_all items yielded now all none_left = sym (append-nil yielded)
-    ∙ (ap (λ (xs : List Reserver). yielded ++ xs) (sym none_left) ∙ all)
-
-pub nothing_left : (rs : List Reserver) → length rs ≡ 0 → rs ≡ []
-nothing_left [] e = refl
-nothing_left (r ∷ rs) e = absurd (omega arith)
 
 pub length-records_of : (rs : List Reserver) → length (records_of rs) ≡ length rs
 length-records_of [] = refl

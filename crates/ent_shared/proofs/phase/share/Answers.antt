@@ -2,6 +2,7 @@ use Rattle.std.proofs.Common.{rules, ◌≡◌, arith, subst, ◌∙◌, to_z, o
 use Rattle.std.proofs.lemmas.Int.{ints}
 use Rattle.ent_alloc.specs.Sequential.{cursor}
 use Rattle.ent_shared.specs.Phase.{own_of}
+use Rattle.ent_shared.proofs.Steps.{goes_by_records}
 use Rattle.ent_shared.proofs.Sharing.{AreShared, none_shared, next_seated, shared_more, all_shared}
 use Rattle.ent_shared.proofs.Sharing.{all_unused, all_own}
 use Rattle.ent_shared.proofs.phase.share.Goals as goal
@@ -13,6 +14,9 @@ loop-number-init c = record {
   count = search rules;
   room = (let e = c.in-Ok.ensures.exact in omega arith);
 }
+
+pub split_first-requires-clause-rule : goal.split_first-requires-clause-rule
+split_first-requires-clause-rule c = goes_by_records _ _
 
 pub new-requires : goal.new-requires
 new-requires c =
