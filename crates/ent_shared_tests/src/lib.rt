@@ -6,8 +6,6 @@ mod allocators;
 #[cfg(test)]
 mod caller;
 #[cfg(test)]
-mod gate;
-#[cfg(test)]
 mod in_turn;
 #[cfg(test)]
 mod limits;
