@@ -1,14 +1,13 @@
 -- Seats that share out the same records in two ways: what the records weigh and what holds of each.
-use Rattle.std.proofs.Common.{◌≡◌, ℕ, zero, suc, ◌+◌, List, [], ◌∷◌, ◌++◌, length, set, sym, refl, ap}
-use Rattle.std.proofs.Common.{subst, ◌∙◌, append_assoc, append-nil}
+use Rattle.std.proofs.Common.{◌≡◌, ℕ, zero, suc, List, [], ◌∷◌, ◌++◌, length, set, sym, ap, subst}
+use Rattle.std.proofs.Common.{◌∙◌, append_assoc, append-nil}
 use Rattle.std.specs.Prelude.{IsPermutation}
 use Rattle.std.specs.List.{sum_by, All, Contains}
 use Rattle.std.proofs.lemmas.List.{set_comm}
 use Rattle.std.proofs.lemmas.List.Concat.{flat_map-append, length-flat_map}
-use Rattle.std.proofs.lemmas.List.Elements.{All-nil, All-cons, All-head, All-tail, All-append}
+use Rattle.std.proofs.lemmas.List.Elements.{All-nil, All-cons}
 use Rattle.std.proofs.lemmas.List.Elements.{All-weaker, All-contains, All-contains_itself}
 use Rattle.std.proofs.lemmas.List.Elements.{Contains-append_left, Contains-append_right}
-use Rattle.std.proofs.lemmas.List.Sums.{sum_by-cons, sum_by-append}
 use Rattle.std.proofs.lemmas.List.Sorted.{IsPermutation-refl, IsPermutation-sym}
 use Rattle.std.proofs.lemmas.List.Sorted.{IsPermutation-trans, IsPermutation-append}
 use Rattle.std.proofs.lemmas.List.Sorted.{IsPermutation-append_comm, sum_by-IsPermutation}
@@ -17,21 +16,16 @@ use mathlib.Core.Option.{some, some-ne-none}
 use lib.ListN.{get_elem?}
 use Rattle.atomic_table.proofs.Lists.{set_else, set_again}
 use Rattle.ent_seats.specs.Seats.{records_in}
+use Rattle.ent_seats.proofs.Weighing.{sum_by-flat_map, All-flat_map}
 
 module _ {R : Type 0} where
   -- what the records weigh, seat by seat
   sum_by-records : (f : R → ℕ) (views : List (List R)) → sum_by f (records_in views)
       ≡ sum_by (λ (v : List R). sum_by f v) views
-  sum_by-records f [] = refl
-  sum_by-records f (v ∷ views) =
-      sum_by-append f v (records_in views)
-      ∙ (ap (λ (n : ℕ). sum_by f v + n) (sum_by-records f views)
-      ∙ sym (sum_by-cons (λ (w : List R). sum_by f w) v views))
+  sum_by-records f views = sum_by-flat_map (λ (v : List R). v) f views
 
   all_in : (P : R → Type 0) (views : List (List R)) → All (All P) views → All P (records_in views)
-  all_in P [] all = All-nil P
-  all_in P (v ∷ views) all = All-append P v (records_in views) (All-head (All P) v views all)
-      (all_in P views (All-tail (All P) v views all))
+  all_in P views all = All-flat_map (λ (v : List R). v) P views all
 
   all_out : (P : R → Type 0) (views : List (List R)) → All P (records_in views) → All (All P) views
   all_out P [] all = All-nil (All P)
@@ -61,7 +55,7 @@ module _ {R : Type 0} where
         (All-permutation P (records_in before) (records_in after) same (all_in P before all))
 
   -- three lists of which the first two change places
-  turned : (xs ys zs : List R) → IsPermutation (xs ++ (ys ++ zs)) (ys ++ (xs ++ zs))
+  pub turned : (xs ys zs : List R) → IsPermutation (xs ++ (ys ++ zs)) (ys ++ (xs ++ zs))
   turned xs ys zs =
       subst (λ (p : List R × List R). IsPermutation p.0 p.1)
       (λ i. (append_assoc xs ys zs i, append_assoc ys xs zs i))

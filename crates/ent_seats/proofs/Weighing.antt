@@ -1,9 +1,9 @@
--- Sums over lists of which one element changes.
+-- Sums over lists of which one element changes, and over lists of lists.
 use Rattle.std.proofs.Common.{◌≡◌, ℕ, zero, suc, ◌+◌, List, [], ◌∷◌, set, sym, refl, ap, subst}
-use Rattle.std.proofs.Common.{arith}
+use Rattle.std.proofs.Common.{◌∙◌, arith, flat_map}
 use Rattle.std.specs.List.{sum_by, All}
-use Rattle.std.proofs.lemmas.List.Elements.{All-head, All-tail, All-nil, All-cons}
-use Rattle.std.proofs.lemmas.List.Sums.{sum_by-cons}
+use Rattle.std.proofs.lemmas.List.Elements.{All-head, All-tail, All-nil, All-cons, All-append}
+use Rattle.std.proofs.lemmas.List.Sums.{sum_by-cons, sum_by-append}
 use mathlib.Core.Option.{some, some-injective, some-ne-none}
 use lib.ListN.{get_elem?}
 
@@ -52,3 +52,19 @@ module _ {X : Type 0} where
       let also : sum_by g (set xs i nothing) ≡ 0 = all_zero f g zeros (set xs i nothing) others in
       let t = sum_at g xs i v nothing e in
       omega arith
+
+module _ {X Y : Type 0} (g : X → List Y) where
+  pub sum_by-flat_map : (f : Y → ℕ) (xs : List X) → sum_by f (flat_map g xs)
+      ≡ sum_by (λ (x : X). sum_by f (g x)) xs
+  sum_by-flat_map f [] = refl
+  sum_by-flat_map f (x ∷ xs) =
+      sum_by-append f (g x) (flat_map g xs)
+      ∙ (ap (λ (n : ℕ). sum_by f (g x) + n) (sum_by-flat_map f xs)
+      ∙ sym (sum_by-cons (λ (y : X). sum_by f (g y)) x xs))
+
+  pub All-flat_map : (P : Y → Type 0) (xs : List X) → All (λ (x : X). All P (g x)) xs
+      → All P (flat_map g xs)
+  All-flat_map P [] all = All-nil P
+  All-flat_map P (x ∷ xs) all = All-append P (g x) (flat_map g xs)
+      (All-head (λ (y : X). All P (g y)) x xs all)
+      (All-flat_map P xs (All-tail (λ (y : X). All P (g y)) x xs all))

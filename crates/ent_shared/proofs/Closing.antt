@@ -34,7 +34,8 @@ use Rattle.ent_shared.specs.Rule.{floor_of, least_floor, IsStart, IsClosed}
 use Rattle.ent_shared.specs.Order.{as_call, own_of_all, reservations_of, history_of, Respects}
 use Rattle.ent_shared.proofs.Words.{requested, follow_asked}
 use Rattle.ent_shared.proofs.Sorting.{FallsStrictly, follow_falls}
-use Rattle.ent_shared.proofs.Histories.{reservations_are, respects_all, numbers_differ}
+use Rattle.ent_shared.proofs.Callers.{numbers_differ}
+use Rattle.ent_shared.proofs.Histories.{reservations_are, respects_all}
 use Rattle.ent_shared.proofs.Settling.{IsLater, legal_from, min_right, floor_below, taken_floor}
 use Rattle.ent_shared.proofs.Settling.{floor_sorted, floor_of_all}
 

@@ -5,6 +5,7 @@ pub mod Ends
 pub mod Answering
 pub mod Sharing
 pub mod Sorting
+pub mod Callers
 pub mod Histories
 pub mod Settling
 pub mod Merging

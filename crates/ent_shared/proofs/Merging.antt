@@ -1,10 +1,11 @@
 -- The reservers that are handed in, as their records are merged one by one.
 use Rattle.std.proofs.Common.{◌≡◌, ℕ, ◌+◌, ℤ, List, [], ◌∷◌, ◌++◌, refl, sym, ap, subst, ◌∙◌}
-use Rattle.std.proofs.Common.{append_assoc, length, suc}
+use Rattle.std.proofs.Common.{append_assoc, length}
 use Rattle.std.specs.List.{All, sum_by}
 use Rattle.std.specs.Int.{int_min}
 use Rattle.std.proofs.lemmas.List.Elements.{All-head, All-tail, All-nil, All-cons}
-use Rattle.std.proofs.lemmas.List.Sums.{sum_by-cons}
+use Rattle.std.proofs.lemmas.List.{length-map}
+use Rattle.std.proofs.lemmas.List.Folds.{fold-map}
 use Rattle.ent_shared.specs.declared.record.Record.{Record}
 use Rattle.ent_shared.specs.Phase.{Reserver, records_of}
 use Rattle.ent_shared.specs.Rule.{least_floor}
@@ -24,15 +25,11 @@ items_on items yielded now rest r all first = append_assoc yielded (r ∷ []) re
     ∙ (ap (λ (xs : List Reserver). yielded ++ xs) (sym first) ∙ all)
 
 pub length-records_of : (rs : List Reserver) → length (records_of rs) ≡ length rs
-length-records_of [] = refl
-length-records_of (r ∷ rs) = ap suc (length-records_of rs)
+length-records_of rs = length-map rs (λ (r : Reserver). r.own)
 
 pub sum_by-records_of : (f : Record → ℕ) (rs : List Reserver) → sum_by f (records_of rs)
     ≡ sum_by (λ (r : Reserver). f r.own) rs
-sum_by-records_of f [] = refl
-sum_by-records_of f (r ∷ rs) = sum_by-cons f r.own (records_of rs)
-    ∙ (ap (λ (n : ℕ). f r.own + n) (sum_by-records_of f rs)
-    ∙ sym (sum_by-cons (λ (x : Reserver). f x.own) r rs))
+sum_by-records_of f rs = fold-map (λ (s : ℕ) (r : Record). s + f r) (λ (r : Reserver). r.own) 0 rs
 
 records_of-append : (rs : List Reserver) (r : Reserver) → records_of (rs ++ r ∷ []) ≡ records_of rs
     ++ r.own ∷ []

@@ -84,9 +84,9 @@ module _ (start : Allocator) (count : ℕ) where
       let least = word_least start count s k in
       let greatest = word_greatest start count s k in
       let next : (get_or s.words 0 0 + (2 ^ 64 - n)) % 2 ^ 64 ≡ word
-      - n = ap (λ (x : ℕ). (x + (2 ^ 64 - n)) % 2 ^ 64) found ∙ lowered start count word n least greatest
+      - n = ap (λ (x : ℕ). (x + (2 ^ 64 - n)) % 2 ^ 64) found ∙ lowered word n least greatest
       small in
-      let now : cursor_of (word - n) ≡ high -ℤ pos n = lowered_cursor start count word n least small in
+      let now : cursor_of (word - n) ≡ high -ℤ pos n = lowered_cursor word n least small in
       let f = follow_asked (cursor start) log high k.spans.follow in
       let down : (high -ℤ pos n) ≤ℤ high = omega (arith, ints) in
       let up : high ≤ℤ cursor start = omega (arith, ints) in

@@ -60,6 +60,23 @@ pub word_is : (at : ℤ) (top : ℕ) → top < 2 ^ 32 → at ≡ pos top
 unfolding offset
 word_is at top few is = omega (arith, ints)
 
+-- what a reservation leaves of the word
+pub lowered : (word n : ℕ) → offset ≤ word + 2 ^ 50 → word < offset + 2 ^ 32 → n ≤ credit
+    → (word + (2 ^ 64 - n)) % 2 ^ 64 ≡ word - n
+unfolding offset credit
+lowered word n least greatest within =
+    let room : n ≤ word = omega arith in
+    let small : word - n < 2 ^ 64 = omega arith in
+    let turn : word + (2 ^ 64 - n) ≡ (word - n) + 2 ^ 64 = omega arith in
+    ap (λ (k : ℕ). k % 2 ^ 64) turn ∙ (add-mod_right (word - n) (2 ^ 64) ∙ mod-eq_of_lt small)
+
+pub lowered_cursor : (word n : ℕ) → offset ≤ word + 2 ^ 50 → n ≤ credit → cursor_of (word - n)
+    ≡ cursor_of word -ℤ pos n
+unfolding offset credit
+lowered_cursor word n least within =
+    let room : n ≤ word = omega arith in
+    omega (arith, ints)
+
 module _ {X : Type 0} where
   -- two sums make up a third one if their terms do
   pub sum_parts : (f g h : X → ℕ) (m : ℕ) (xs : List X) → All (λ x. f x + g x ≡ h x * m) xs
@@ -101,8 +118,8 @@ module _ (start : Allocator) (count : ℕ) where
       rw (lefts, sums, product) (omega arith)
 
   -- and so it is with the records of all seats
-  pub all_credit : (s : St) (k : Rule s) → sum_by left_of s.views + sum_by requested k.spans.log ≡ count
-      * credit
+  pub all_credit : (s : St) (k : Rule s) → sum_by left_of s.views + sum_by requested k.spans.log
+      ≡ count * credit
   all_credit s k =
       let each = All-weaker (All (IsKept start (cursor_of k.word) k.spans.log))
       (λ (v : List Record). left_of v + weigh requested v ≡ length v * credit)
@@ -132,22 +149,6 @@ module _ (start : Allocator) (count : ℕ) where
       let f = follow_asked (cursor start) k.spans.log (cursor_of k.word) k.spans.follow in
       let flushed = k.begins.flushed in
       let top_is = k.begins.top in
-      omega (arith, ints)
-
-  pub lowered : (word n : ℕ) → offset ≤ word + 2 ^ 50 → word < offset + 2 ^ 32 → n ≤ credit
-      → (word + (2 ^ 64 - n)) % 2 ^ 64 ≡ word - n
-  unfolding offset credit
-  lowered word n least greatest within =
-      let room : n ≤ word = omega arith in
-      let small : word - n < 2 ^ 64 = omega arith in
-      let turn : word + (2 ^ 64 - n) ≡ (word - n) + 2 ^ 64 = omega arith in
-      ap (λ (k : ℕ). k % 2 ^ 64) turn ∙ (add-mod_right (word - n) (2 ^ 64) ∙ mod-eq_of_lt small)
-
-  pub lowered_cursor : (word n : ℕ) → offset ≤ word + 2 ^ 50 → n ≤ credit → cursor_of (word - n)
-      ≡ cursor_of word -ℤ pos n
-  unfolding offset credit
-  lowered_cursor word n least within =
-      let room : n ≤ word = omega arith in
       omega (arith, ints)
 
   pub last_word : (s : St) (k : Rule s) (items : List ℕ) (w : ℕ) → s.words ≡ items

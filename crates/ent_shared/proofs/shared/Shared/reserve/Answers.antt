@@ -44,8 +44,8 @@ returns-in_err-handle-clause-stays c =
       word = (c.reserve-high.ensures.same ∙ ap (λ (r : Reserver). r.word)
           c.reserver.view_is) i;
       own = (ap own_of c.reserve-high.ensures.gains
-          ∙ ap (λ (r : Reserver). after_reservation r.own c.reserve-high.result 1) c.reserver.view_is)
-          i;
+          ∙ ap (λ (r : Reserver). after_reservation r.own c.reserve-high.result 1)
+          c.reserver.view_is) i;
     })
 
 pub returns-in_err-handle-clause-refused : goal.returns-in_err-handle-clause-refused
@@ -100,8 +100,8 @@ returns-clause-stays c =
       word = (c.reserve-high.ensures.same ∙ ap (λ (r : Reserver). r.word)
           c.reserver.view_is) i;
       own = (ap own_of c.reserve-high.ensures.gains
-          ∙ ap (λ (r : Reserver). after_reservation r.own c.reserve-high.result 1) c.reserver.view_is)
-          i;
+          ∙ ap (λ (r : Reserver). after_reservation r.own c.reserve-high.result 1)
+          c.reserver.view_is) i;
     })
 
 pub returns-clause-given : goal.returns-clause-given
