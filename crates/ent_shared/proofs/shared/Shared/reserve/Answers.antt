@@ -5,12 +5,11 @@ use Rattle.std.proofs.lemmas.Int.{ints}
 use Rattle.ent_handle.specs.Handle.{Handle}
 use Rattle.ent_alloc.specs.declared.space.Space.{Space}
 use Rattle.ent_alloc.specs.History.{handles_in}
-use Rattle.ent_alloc.specs.Sequential.{pool_at, reply_from, listed_alone}
+use Rattle.ent_alloc.specs.Sequential.{listed_alone}
 use Rattle.ent_shared.specs.Phase.{Shared, Reserver, own_of}
-use Rattle.ent_shared.specs.Record.{after_reservation}
 use Rattle.ent_shared.specs.Order.{handles_given}
-use Rattle.ent_shared.proofs.Seating.{seated_reservation, of_reserved, given_now}
-use Rattle.ent_shared.proofs.Answering.{served_floor, refused_floor, on_err, one_low}
+use Rattle.ent_shared.proofs.Seating.{seated_reservation, of_stepped, given_now}
+use Rattle.ent_shared.proofs.Answering.{served_floor, refused_floor, on_err, one_reply}
 use Rattle.ent_shared.proofs.shared.Shared.reserve.Goals as goal
 
 pub invariant_of-reserver : goal.invariant_of-reserver
@@ -21,32 +20,23 @@ invariant_of-reserver c =
     let start : (own_of c.reserver.inside.badge.views).start ≡ c.self.inside.entities =
     ap (λ (r : Reserver). r.own.start) c.reserver.view_is
     ∙ (c.requires.start ∙ sym (ap (λ (s : Shared). s.start) c.self.view_is)) in
-    let reply : listed_alone c.reply_one.result ≡ reply_from c.self.inside.entities.made
-    (pool_at c.self.inside.entities high) 1 = c.reply_one.ensures
-    ∙ (λ i. reply_from c.self.inside.entities.made (pool_at c.self.inside.entities (word i)) 1)
-    in
+    let reply = one_reply c.self.inside.entities high _ (listed_alone c.reply_one.result) word
+    c.reply_one.ensures in
     seated_reservation c.reserver.inside.badge.views c.reserve-high.new.badge.views
     c.reserver.inside.number c.reserver.inside.left 1 c.reserver.inside.floor high
     c.reserver.inside.floor
     c.reserver.invariant c.reserve-high.ensures.gains c.reserve-high.ensures.mark (omega arith)
     (c.reserver.invariant.floor_is ∙ refused_floor (own_of c.reserver.inside.badge.views)
     c.self.inside.entities high 1 (record { high = high; low = high -ℤ pos 1 }) _
-    (listed_alone c.reply_one.result) start refl (one_low c.self.inside.entities high _ reply)
+    (listed_alone c.reply_one.result) start refl reply
     (ap listed_alone c.in_err-handle.was))
 
 pub returns-in_err-handle-clause-stays : goal.returns-in_err-handle-clause-stays
 returns-in_err-handle-clause-stays c =
-    let left : c.reserver.inside.left ≡ c.args.reserver.now.own.left = c.reserver.invariant.left_is
-    ∙ ap (λ (r : Reserver). r.own.left) c.reserver.view_is in
-    of_reserved c.args.self.now c.args.reserver.now _ c.reserve-high.result 1 c.requires
-    (omega arith)
-    (λ i. record {
-      word = (c.reserve-high.ensures.same ∙ ap (λ (r : Reserver). r.word)
-          c.reserver.view_is) i;
-      own = (ap own_of c.reserve-high.ensures.gains
-          ∙ ap (λ (r : Reserver). after_reservation r.own c.reserve-high.result 1)
-          c.reserver.view_is) i;
-    })
+    of_stepped c.args.self.now c.args.reserver.now c.reserver.inside.badge.views
+    c.reserve-high.new.badge.views _ _ 1 c.reserve-high.result _ _ _ c.reserver.view_is
+    c.reserver.invariant c.requires (omega arith) c.reserve-high.ensures.same
+    c.reserve-high.ensures.gains
 
 pub returns-in_err-handle-clause-refused : goal.returns-in_err-handle-clause-refused
 returns-in_err-handle-clause-refused c =
@@ -55,15 +45,13 @@ returns-in_err-handle-clause-refused c =
     c.reserve-high.ensures.least in omega (arith, ints)) in
     let start : c.args.reserver.now.own.start ≡ c.self.inside.entities = c.requires.start
     ∙ sym (ap (λ (s : Shared). s.start) c.self.view_is) in
-    let reply : listed_alone c.reply_one.result ≡ reply_from c.self.inside.entities.made
-    (pool_at c.self.inside.entities high) 1 = c.reply_one.ensures
-    ∙ (λ i. reply_from c.self.inside.entities.made (pool_at c.self.inside.entities (word i)) 1)
-    in
+    let reply = one_reply c.self.inside.entities high _ (listed_alone c.reply_one.result) word
+    c.reply_one.ensures in
     on_err c.from_residual.result
     (given_now c.reserver.inside.badge.views c.reserve-high.new.badge.views c.args.reserver.now _
     c.self.inside.entities high 1 (record { high = high; low = high -ℤ pos 1 })
     (listed_alone c.reply_one.result) c.reserver.view_is c.reserve-high.ensures.gains start refl
-    (one_low c.self.inside.entities high _ reply)
+    reply
     ∙ (ap (λ (answer : Result Handle Space). handles_given c.args.reserver.now.own
     ++ handles_in (listed_alone answer)) c.in_err-handle.was
     ∙ append-nil (handles_given c.args.reserver.now.own)))
@@ -79,30 +67,21 @@ invariant_of-reserver-2 c =
     let start : (own_of c.reserver.inside.badge.views).start ≡ c.self.inside.entities =
     ap (λ (r : Reserver). r.own.start) c.reserver.view_is
     ∙ (c.requires.start ∙ sym (ap (λ (s : Shared). s.start) c.self.view_is)) in
-    let reply : listed_alone c.reply_one.result ≡ reply_from c.self.inside.entities.made
-    (pool_at c.self.inside.entities high) 1 = c.reply_one.ensures
-    ∙ (λ i. reply_from c.self.inside.entities.made (pool_at c.self.inside.entities (word i)) 1)
-    in
+    let reply = one_reply c.self.inside.entities high _ (listed_alone c.reply_one.result) word
+    c.reply_one.ensures in
     seated_reservation c.reserver.inside.badge.views c.reserve-high.new.badge.views
     c.reserver.inside.number c.reserver.inside.left 1 c.reserver.inside.floor high _
     c.reserver.invariant c.reserve-high.ensures.gains c.reserve-high.ensures.mark (omega arith)
     (low ∙ served_floor (own_of c.reserver.inside.badge.views) c.self.inside.entities high 1
     (record { high = high; low = high -ℤ pos 1 }) _ (listed_alone c.reply_one.result) start refl
-    (one_low c.self.inside.entities high _ reply) (ap listed_alone c.in_ok-handle.was))
+    reply (ap listed_alone c.in_ok-handle.was))
 
 pub returns-clause-stays : goal.returns-clause-stays
 returns-clause-stays c =
-    let left : c.reserver.inside.left ≡ c.args.reserver.now.own.left = c.reserver.invariant.left_is
-    ∙ ap (λ (r : Reserver). r.own.left) c.reserver.view_is in
-    of_reserved c.args.self.now c.args.reserver.now _ c.reserve-high.result 1 c.requires
-    (omega arith)
-    (λ i. record {
-      word = (c.reserve-high.ensures.same ∙ ap (λ (r : Reserver). r.word)
-          c.reserver.view_is) i;
-      own = (ap own_of c.reserve-high.ensures.gains
-          ∙ ap (λ (r : Reserver). after_reservation r.own c.reserve-high.result 1)
-          c.reserver.view_is) i;
-    })
+    of_stepped c.args.self.now c.args.reserver.now c.reserver.inside.badge.views
+    c.reserve-high.new.badge.views _ _ 1 c.reserve-high.result _ _ _ c.reserver.view_is
+    c.reserver.invariant c.requires (omega arith) c.reserve-high.ensures.same
+    c.reserve-high.ensures.gains
 
 pub returns-clause-given : goal.returns-clause-given
 returns-clause-given c =
@@ -111,13 +90,11 @@ returns-clause-given c =
     c.reserve-high.ensures.least in omega (arith, ints)) in
     let start : c.args.reserver.now.own.start ≡ c.self.inside.entities = c.requires.start
     ∙ sym (ap (λ (s : Shared). s.start) c.self.view_is) in
-    let reply : listed_alone c.reply_one.result ≡ reply_from c.self.inside.entities.made
-    (pool_at c.self.inside.entities high) 1 = c.reply_one.ensures
-    ∙ (λ i. reply_from c.self.inside.entities.made (pool_at c.self.inside.entities (word i)) 1)
-    in
+    let reply = one_reply c.self.inside.entities high _ (listed_alone c.reply_one.result) word
+    c.reply_one.ensures in
     given_now c.reserver.inside.badge.views c.reserve-high.new.badge.views c.args.reserver.now _
     c.self.inside.entities high 1 (record { high = high; low = high -ℤ pos 1 })
     (listed_alone c.reply_one.result) c.reserver.view_is c.reserve-high.ensures.gains start refl
-    (one_low c.self.inside.entities high _ reply)
+    reply
     ∙ ap (λ (answer : Result Handle Space). handles_given c.args.reserver.now.own
     ++ handles_in (listed_alone answer)) c.in_ok-handle.was

@@ -8,9 +8,8 @@ use Rattle.ent_shared.specs.Order.{handles_given}
 use Rattle.std.proofs.lemmas.Int.{ints}
 use Rattle.ent_alloc.specs.declared.span.Span.{Span}
 use Rattle.ent_shared.specs.Phase.{Shared, Reserver, own_of, IsSeated}
-use Rattle.ent_shared.specs.Record.{after_reservation}
-use Rattle.ent_shared.proofs.Seating.{seated_reservation, of_reserved, given_now}
-use Rattle.ent_shared.proofs.Answering.{served_floor, refused_floor}
+use Rattle.ent_shared.proofs.Seating.{seated_reservation, of_stepped, given_now}
+use Rattle.ent_shared.proofs.Answering.{served_floor, refused_floor, span_at}
 use Rattle.std.proofs.Common.{◌≡◌, ap, refl, ◌∙◌, [], Ok}
 use Rattle.ent_alloc.specs.Sequential.{Allocator, pool_at, top, cursor}
 use Rattle.ent_shared.proofs.Answering.{reply-none, no_space, low_of, length-served, on_err}
@@ -52,12 +51,8 @@ invariant_of-reserver-2 c =
     let least = c.reserve.ensures.least in
     let few = c.ranges.n in
     let word : to_z w64 (of_z w64 c.reserve.result) ≡ c.reserve.result = omega (arith, ints) in
-    let span : c.new-span.result ≡ record {
-      high = c.reserve.result;
-      low = c.reserve.result -ℤ pos
-          c.args.n;
-    } = c.new-span.ensures.value
-    ∙ (λ i. record { high = word i; low = word i -ℤ pos c.args.n }) in
+    let span = span_at c.new-span.result c.reserve.result _ c.args.n word c.new-span.ensures.value
+    in
     let low : c.new-span.result.low ≡ c.reserve.result -ℤ pos c.args.n = ap (λ (s : Span). s.low)
     span in
     let low_word : to_z w64 (of_z w64 c.new-span.result.low) ≡ c.new-span.result.low =
@@ -80,12 +75,8 @@ pub invariant_of-reserver : goal.invariant_of-reserver
 invariant_of-reserver c =
     let fits = c.reserve.type_inv in
     let word : to_z w64 (of_z w64 c.reserve.result) ≡ c.reserve.result = omega (arith, ints) in
-    let span : c.new-span.result ≡ record {
-      high = c.reserve.result;
-      low = c.reserve.result -ℤ pos
-          c.args.n;
-    } = c.new-span.ensures.value
-    ∙ (λ i. record { high = word i; low = word i -ℤ pos c.args.n }) in
+    let span = span_at c.new-span.result c.reserve.result _ c.args.n word c.new-span.ensures.value
+    in
     let start : (own_of c.reserver.inside.badge.views).start ≡ c.self.inside.entities =
     ap (λ (r : Reserver). r.own.start) c.reserver.view_is
     ∙ (c.requires.start ∙ sym (ap (λ (s : Shared). s.start) c.self.view_is)) in
@@ -107,17 +98,9 @@ returns-then-n-eq0-clause-length c =
 
 pub returns-clause-stays : goal.returns-clause-stays
 returns-clause-stays c =
-    let left : c.reserver.inside.left ≡ c.args.reserver.now.own.left = c.reserver.invariant.left_is
-    ∙ ap (λ (r : Reserver). r.own.left) c.reserver.view_is in
-    of_reserved c.args.self.now c.args.reserver.now _ c.reserve.result c.args.n c.requires
-    (omega arith)
-    (λ i. record {
-      word = (c.reserve.ensures.same ∙ ap (λ (r : Reserver). r.word)
-          c.reserver.view_is) i;
-      own = (ap own_of c.reserve.ensures.gains
-          ∙ ap (λ (r : Reserver). after_reservation r.own c.reserve.result c.args.n)
-          c.reserver.view_is) i;
-    })
+    of_stepped c.args.self.now c.args.reserver.now c.reserver.inside.badge.views
+    c.reserve.new.badge.views _ _ c.args.n c.reserve.result _ _ _ c.reserver.view_is
+    c.reserver.invariant c.requires (omega arith) c.reserve.ensures.same c.reserve.ensures.gains
 
 pub returns-clause-length : goal.returns-clause-length
 returns-clause-length c =
@@ -127,17 +110,9 @@ returns-clause-length c =
 
 pub returns-in_err-handles-clause-stays : goal.returns-in_err-handles-clause-stays
 returns-in_err-handles-clause-stays c =
-    let left : c.reserver.inside.left ≡ c.args.reserver.now.own.left = c.reserver.invariant.left_is
-    ∙ ap (λ (r : Reserver). r.own.left) c.reserver.view_is in
-    of_reserved c.args.self.now c.args.reserver.now _ c.reserve.result c.args.n c.requires
-    (omega arith)
-    (λ i. record {
-      word = (c.reserve.ensures.same ∙ ap (λ (r : Reserver). r.word)
-          c.reserver.view_is) i;
-      own = (ap own_of c.reserve.ensures.gains
-          ∙ ap (λ (r : Reserver). after_reservation r.own c.reserve.result c.args.n)
-          c.reserver.view_is) i;
-    })
+    of_stepped c.args.self.now c.args.reserver.now c.reserver.inside.badge.views
+    c.reserve.new.badge.views _ _ c.args.n c.reserve.result _ _ _ c.reserver.view_is
+    c.reserver.invariant c.requires (omega arith) c.reserve.ensures.same c.reserve.ensures.gains
 
 pub returns-then-n-eq0-clause-given : goal.returns-then-n-eq0-clause-given
 returns-then-n-eq0-clause-given c =
@@ -155,12 +130,8 @@ pub returns-clause-given : goal.returns-clause-given
 returns-clause-given c =
     let fits = c.reserve.type_inv in
     let word : to_z w64 (of_z w64 c.reserve.result) ≡ c.reserve.result = omega (arith, ints) in
-    let span : c.new-span.result ≡ record {
-      high = c.reserve.result;
-      low = c.reserve.result -ℤ pos
-          c.args.n;
-    } = c.new-span.ensures.value
-    ∙ (λ i. record { high = word i; low = word i -ℤ pos c.args.n }) in
+    let span = span_at c.new-span.result c.reserve.result _ c.args.n word c.new-span.ensures.value
+    in
     let start : c.args.reserver.now.own.start ≡ c.self.inside.entities = c.requires.start
     ∙ sym (ap (λ (s : Shared). s.start) c.self.view_is) in
     given_now c.reserver.inside.badge.views c.reserve.new.badge.views c.args.reserver.now _
@@ -173,12 +144,8 @@ pub returns-in_err-handles-clause-refused : goal.returns-in_err-handles-clause-r
 returns-in_err-handles-clause-refused c =
     let fits = c.reserve.type_inv in
     let word : to_z w64 (of_z w64 c.reserve.result) ≡ c.reserve.result = omega (arith, ints) in
-    let span : c.new-span.result ≡ record {
-      high = c.reserve.result;
-      low = c.reserve.result -ℤ pos
-          c.args.n;
-    } = c.new-span.ensures.value
-    ∙ (λ i. record { high = word i; low = word i -ℤ pos c.args.n }) in
+    let span = span_at c.new-span.result c.reserve.result _ c.args.n word c.new-span.ensures.value
+    in
     let start : c.args.reserver.now.own.start ≡ c.self.inside.entities = c.requires.start
     ∙ sym (ap (λ (s : Shared). s.start) c.self.view_is) in
     on_err c.from_residual.result (given_now c.reserver.inside.badge.views c.reserve.new.badge.views
