@@ -16,7 +16,7 @@ use mathlib.Core.Option.{some}
 use lib.ListN.{get_elem?}
 use Rattle.atomic_table.specs.Table.{State, Me, keeps, Allows, opening}
 use Rattle.ent_seats.specs.Seats.{GoesByRecords}
-use Rattle.ent_seats.proofs.Weighing.{all_one, sum_at, all_at, only_at}
+use Rattle.ent_seats.proofs.Weighing.{all_one, sum_at, all_at, whole_weighs}
 use Rattle.ent_seats.proofs.Regrouping.{sum_regrouped, length-regrouped, all_regrouped}
 use Rattle.ent_claims.specs.declared.record.ClaimRecord.{ClaimRecord}
 use Rattle.ent_claims.specs.Record.{nothing_claimed, after_claim}
@@ -334,10 +334,6 @@ module _ (numbers workers : ℕ) where
       }
 
   -- after the last step
-  none_weigh : (f : ℕ → ℕ) (v : List ClaimRecord) → length v ≡ 0 → weigh_claims f v ≡ 0
-  none_weigh f [] e = refl
-  none_weigh f (r ∷ v) e = absurd (omega arith)
-
   pub ends : (s : St) (k : Rule s) (id : ℕ) (v : List ClaimRecord) → get_elem? s.views id ≡ some v
       → AreClaimsClosed numbers workers v
   ends s k id v there =
@@ -345,8 +341,6 @@ module _ (numbers workers : ℕ) where
         claimed = k.claimed;
         within = k.within;
         each = all_at (All (IsClaimKept numbers k.claimed)) s.views id v there k.each;
-        all = λ whole f.
-            let only = only_at length (weigh_claims f) s.views id v [] there refl refl
-            (none_weigh f) (k.records ∙ sym whole) in
-            sym only ∙ k.partition f;
+        all = λ whole f. sym (whole_weighs (λ (r : ClaimRecord). sum_by f r.claims) s.views id v
+            there (k.records ∙ sym whole)) ∙ k.partition f;
       }

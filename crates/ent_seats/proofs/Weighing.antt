@@ -1,6 +1,6 @@
 -- Sums over lists of which one element changes, and over lists of lists.
 use Rattle.std.proofs.Common.{◌≡◌, ℕ, zero, suc, ◌+◌, List, [], ◌∷◌, set, sym, refl, ap, subst}
-use Rattle.std.proofs.Common.{◌∙◌, arith, flat_map}
+use Rattle.std.proofs.Common.{◌∙◌, arith, flat_map, length}
 use Rattle.std.specs.List.{sum_by, All}
 use Rattle.std.proofs.lemmas.List.Elements.{All-head, All-tail, All-nil, All-cons, All-append}
 use Rattle.std.proofs.lemmas.List.Sums.{sum_by-cons, sum_by-append}
@@ -32,7 +32,7 @@ module _ {X : Type 0} where
   all_at P (x ∷ xs) zero v e all = subst P (some-injective x v e) (All-head P x xs all)
   all_at P (x ∷ xs) (suc i) v e all = all_at P xs i v e (All-tail P x xs all)
 
-  pub all_zero : (f g : X → ℕ) → ((x : X) → f x ≡ 0 → g x ≡ 0) → (xs : List X) → sum_by f xs ≡ 0
+  all_zero : (f g : X → ℕ) → ((x : X) → f x ≡ 0 → g x ≡ 0) → (xs : List X) → sum_by f xs ≡ 0
       → sum_by g xs ≡ 0
   all_zero f g zeros [] is = refl
   all_zero f g zeros (x ∷ xs) is =
@@ -43,7 +43,7 @@ module _ {X : Type 0} where
       omega arith
 
   -- where only the element at i weighs anything, all weigh what it weighs
-  pub only_at : (f g : X → ℕ) (xs : List X) (i : ℕ) (v nothing : X) → get_elem? xs i ≡ some v
+  only_at : (f g : X → ℕ) (xs : List X) (i : ℕ) (v nothing : X) → get_elem? xs i ≡ some v
       → f nothing ≡ 0 → g nothing ≡ 0
       → ((x : X) → f x ≡ 0 → g x ≡ 0) → sum_by f xs ≡ f v → sum_by g xs ≡ g v
   only_at f g xs i v nothing e f_none g_none zeros is =
@@ -52,6 +52,17 @@ module _ {X : Type 0} where
       let also : sum_by g (set xs i nothing) ≡ 0 = all_zero f g zeros (set xs i nothing) others in
       let t = sum_at g xs i v nothing e in
       omega arith
+
+sum_by-none : {X : Type 0} (f : X → ℕ) (xs : List X) → length xs ≡ 0 → sum_by f xs ≡ 0
+sum_by-none f [] e = refl
+sum_by-none f (x ∷ xs) e = absurd (omega arith)
+
+-- where one of the lists has as many elements as all together, all weigh what it weighs
+pub whole_weighs : {X : Type 0} (f : X → ℕ) (xss : List (List X)) (i : ℕ) (v : List X)
+    → get_elem? xss i ≡ some v → sum_by length xss ≡ length v
+    → sum_by (λ (xs : List X). sum_by f xs) xss ≡ sum_by f v
+whole_weighs {X = X} f xss i v at whole = only_at length (λ (xs : List X). sum_by f xs) xss i v []
+    at refl refl (sum_by-none f) whole
 
 module _ {X Y : Type 0} (g : X → List Y) where
   pub sum_by-flat_map : (f : Y → ℕ) (xs : List X) → sum_by f (flat_map g xs)

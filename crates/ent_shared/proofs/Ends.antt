@@ -11,7 +11,7 @@ use native.Mathlib.Decide.{ℕ_discrete}
 use mathlib.Core.Option.{some}
 use lib.ListN.{get_elem?}
 use Rattle.atomic_table.specs.Table.{State, opening}
-use Rattle.ent_seats.proofs.Weighing.{all_one, sum_at, all_at, only_at}
+use Rattle.ent_seats.proofs.Weighing.{all_one, sum_at, all_at, whole_weighs}
 use Rattle.ent_alloc.specs.Limits.{credit}
 use Rattle.ent_alloc.specs.Sequential.{Allocator, cursor}
 use Rattle.ent_shared.specs.declared.record.Reservation.{Reservation}
@@ -129,10 +129,6 @@ module _ (start : Allocator) (count : ℕ) where
       }
 
   -- after the last step
-  none_weigh : (f : Reservation → ℕ) (v : List Record) → length v ≡ 0 → weigh f v ≡ 0
-  none_weigh f [] e = refl
-  none_weigh f (r ∷ v) e = absurd (omega arith)
-
   pub ends : (s : St) (k : Rule s) (id : ℕ) (v : List Record) → get_elem? s.views id ≡ some v
       → (at : ℤ) → cursor_of k.word ≡ at → IsClosed start count v at
   ends s k id v there at here =
@@ -150,10 +146,8 @@ module _ (start : Allocator) (count : ℕ) where
             let changed = sum_at (weigh f) s.views id v [] there in
             let all = k.spans.all f in
             omega arith;
-        all = λ whole f.
-            let only = only_at length (weigh f) s.views id v [] there refl refl (none_weigh f)
-            (k.records ∙ sym whole) in
-            sym only ∙ k.spans.all f;
+        all = λ whole f. sym (whole_weighs (λ (r : Record). sum_by f (own_reservations r.entries))
+            s.views id v there (k.records ∙ sym whole)) ∙ k.spans.all f;
         credit =
             let changed = sum_at left_of s.views id v [] there in
             let all = all_credit start count s k in
