@@ -1,10 +1,10 @@
 -- The reservers that are handed in, as their records are merged one by one.
-use Rattle.std.proofs.Common.{◌≡◌, ℕ, ◌+◌, ℤ, List, [], ◌∷◌, ◌++◌, refl, sym, ap, subst, ◌∙◌}
+use Rattle.std.proofs.Common.{◌≡◌, ℕ, ◌+◌, ℤ, List, [], ◌∷◌, ◌++◌, sym, ap, subst, ◌∙◌}
 use Rattle.std.proofs.Common.{append_assoc, length}
 use Rattle.std.specs.List.{All, sum_by}
 use Rattle.std.specs.Int.{int_min}
 use Rattle.std.proofs.lemmas.List.Elements.{All-head, All-tail, All-nil, All-cons}
-use Rattle.std.proofs.lemmas.List.{length-map}
+use Rattle.std.proofs.lemmas.List.{length-map, map-append}
 use Rattle.std.proofs.lemmas.List.Folds.{fold-map}
 use Rattle.ent_shared.specs.declared.record.Record.{Record}
 use Rattle.ent_shared.specs.Phase.{Reserver, records_of}
@@ -33,8 +33,7 @@ sum_by-records_of f rs = fold-map (λ (s : ℕ) (r : Record). s + f r) (λ (r : 
 
 records_of-append : (rs : List Reserver) (r : Reserver) → records_of (rs ++ r ∷ []) ≡ records_of rs
     ++ r.own ∷ []
-records_of-append [] r = refl
-records_of-append (x ∷ rs) r = ap (λ xs. x.own ∷ xs) (records_of-append rs r)
+records_of-append rs r = map-append (λ (x : Reserver). x.own) rs (r ∷ [])
 
 pub records_on : (before after : List Record) (yielded : List Reserver) (r : Reserver)
     (records : List Record) → before ≡ records_of yielded → after ≡ before ++ records → records
