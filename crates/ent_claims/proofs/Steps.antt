@@ -23,10 +23,6 @@ use Rattle.ent_claims.specs.Record.{nothing_claimed, after_claim}
 use Rattle.ent_claims.specs.Rule.{weigh_claims, ended_in, IsClaimKept, AreClaimsRuled, AfterClaim}
 use Rattle.ent_claims.specs.Rule.{ClaimTells, AreClaimsClosed}
 
-abbrev first_or : ClaimRecord → List ClaimRecord → ClaimRecord
-first_or r [] = r
-first_or r (x ∷ xs) = x
-
 range_last : (a n j : ℕ) → a + n ≡ j → range_with_len a (suc n) ≡ range_with_len a n ++ j ∷ []
 range_last a zero j e = ap (λ (k : ℕ). k ∷ []) (omega arith)
 range_last a (suc n) j e = ap (λ (ns : List ℕ). a ∷ ns) (range_last (a + 1) n j (omega arith))
@@ -265,7 +261,7 @@ module _ (numbers workers : ℕ) where
         (
           refl,
           λ x is _. subst (λ (y : ClaimRecord). AfterClaim y (get_or s.words 0 0) (w ∷ []))
-              (ap (first_or r) is) told,
+              (ap (λ (rs : List ClaimRecord). get_or rs 0 r) is) told,
         ),
       )
 

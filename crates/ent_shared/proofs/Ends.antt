@@ -1,7 +1,7 @@
 -- The rule at the ends of a phase: it holds before the first step, and what it says after the last.
 use Rattle.std.proofs.Common.{◌≡◌, ℕ, zero, suc, ◌+◌, ◌*◌, ◌<◌, ◌≤◌, ℤ, ◌≤ℤ◌, List, [], ◌∷◌, length}
 use Rattle.std.proofs.Common.{sym, refl, ap, subst, ◌∙◌, arith, eq-eqb, ne_eqb}
-use Rattle.std.specs.Prelude.{Bool, ◌==◌, cond, count_by}
+use Rattle.std.specs.Prelude.{Bool, ◌==◌, cond}
 use Rattle.std.specs.List.{sum_by, All, Contains}
 use Rattle.std.proofs.lemmas.List.Elements.{All-nil, All-cons}
 use Rattle.std.proofs.lemmas.List.Sums.{sum_by-cons}
@@ -19,7 +19,7 @@ use Rattle.ent_shared.specs.declared.record.Record.{Record}
 use Rattle.ent_shared.specs.Record.{low, own_reservations, opened, opened_records}
 use Rattle.ent_shared.specs.Rule.{cursor_of, Follow, weigh, IsAnswered, IsKept, IsStart}
 use Rattle.ent_shared.specs.Rule.{IsRuled, IsClosed}
-use Rattle.ent_shared.proofs.Words.{requested, left_of, all_credit}
+use Rattle.ent_shared.proofs.Words.{requested, left_of, numbered, all_credit}
 
 module _ (start : Allocator) (count : ℕ) where
   abbrev St : Type 0
@@ -27,9 +27,6 @@ module _ (start : Allocator) (count : ℕ) where
 
   abbrev Rule : St → Type 0
   Rule = IsRuled start count
-
-  abbrev numbered : ℕ → List Record → ℕ
-  numbered number = count_by (λ (x : Record). x.number == number)
 
   -- before the first step
   weigh-opened : (f : Reservation → ℕ) (number many : ℕ)

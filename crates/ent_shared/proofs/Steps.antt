@@ -29,11 +29,7 @@ use Rattle.ent_shared.specs.Rule.{cursor_of, Follow, weigh, IsAnswered, IsKept, 
 use Rattle.ent_shared.specs.Rule.{AfterReserve, ReserveTells}
 use Rattle.ent_shared.proofs.Records.{own-made, own-met, kept_on, kept_reserved, kept_met}
 use Rattle.ent_shared.proofs.Words.{follow_asked, word_least, word_greatest, lowered}
-use Rattle.ent_shared.proofs.Words.{lowered_cursor}
-
-abbrev first_or : Record → List Record → Record
-first_or r [] = r
-first_or r (x ∷ xs) = x
+use Rattle.ent_shared.proofs.Words.{lowered_cursor, numbered}
 
 follow-snoc : (high : ℤ) (cs : List Reservation) (c : Reservation) (end : ℤ)
     → Follow high cs end → c.high ≡ end → 0 < c.requested → Follow high (cs ++ c ∷ []) (low c)
@@ -143,7 +139,7 @@ module _ (start : Allocator) (count : ℕ) where
         (
           refl,
           λ x is. subst (λ (y : Record). AfterReserve n y (get_or s.words 0 0) w)
-              (ap (first_or r) is) told,
+              (ap (λ (rs : List Record). get_or rs 0 r) is) told,
         ),
       )
 
@@ -155,9 +151,6 @@ module _ (start : Allocator) (count : ℕ) where
       (λ word. (word + (2 ^ 64 - p.1)) % 2 ^ 64) (ReserveTells p.1 p.0) in
       subst A (λ i. ((sym view i, sym bare i), sym same i)) (reserves slots id r n some_request
       within)
-
-  abbrev numbered : ℕ → List Record → ℕ
-  numbered number = count_by (λ (x : Record). x.number == number)
 
   -- the rule goes by the records, and not by which seat has which
   pub goes_by_records : GoesByRecords Rule

@@ -3,6 +3,7 @@ use Rattle.std.proofs.Common.{◌≡◌, ℕ, suc, ◌+◌, ◌*◌, ◌-◌, �
 use Rattle.std.proofs.Common.{◌-ℤ◌, ◌≤ℤ◌, List, [], ◌∷◌, length, sym, ap, subst, ◌∙◌, arith}
 use Rattle.std.proofs.Common.{suc-mul, add-mul}
 use Rattle.std.proofs.Math.Nat.{add-mod_right, mod-eq_of_lt}
+use Rattle.std.specs.Prelude.{◌==◌, count_by}
 use Rattle.std.specs.List.{sum_by, All}
 use Rattle.std.proofs.lemmas.List.Elements.{All-head, All-tail, All-weaker}
 use Rattle.std.proofs.lemmas.List.Sums.{sum_by-cons}
@@ -90,6 +91,15 @@ module _ {X : Type 0} where
       m in
       rw (sum_by-cons f x xs, sum_by-cons g x xs, sum_by-cons h x xs, split) (omega arith)
 
+-- the credit of all reservers is no more than this
+pub few_asked : (n count : ℕ) → n ≤ count * credit → count ≤ 1024 → n ≤ 2 ^ 50
+unfolding credit
+few_asked n count le few = omega arith
+
+-- how many of a seat's records have this number
+abbrev pub numbered : ℕ → List Record → ℕ
+numbered number = count_by (λ (r : Record). r.number == number)
+
 -- what the records of a seat have left
 abbrev pub left_of : List Record → ℕ
 left_of view = sum_by (λ (r : Record). r.left) view
@@ -133,13 +143,9 @@ module _ (start : Allocator) (count : ℕ) where
   all_asked : (s : St) (k : Rule s) → sum_by requested k.spans.log ≤ count * credit
   all_asked s k = let all = all_credit s k in omega arith
 
-  few_asked : (n : ℕ) → n ≤ count * credit → count ≤ 1024 → n ≤ 2 ^ 50
-  unfolding credit
-  few_asked n le few = omega arith
-
   pub word_least : (s : St) (k : Rule s) → offset ≤ k.word + 2 ^ 50
   word_least s k =
-      let asked = few_asked (sum_by requested k.spans.log) (all_asked s k) k.few in
+      let asked = few_asked (sum_by requested k.spans.log) count (all_asked s k) k.few in
       let f = follow_asked (cursor start) k.spans.log (cursor_of k.word) k.spans.follow in
       let flushed = k.begins.flushed in
       omega (arith, ints)
