@@ -110,7 +110,8 @@ one_ended numbers claimed (x ∷ cs) each (suc k) c at ended =
 module _ (numbers workers : ℕ) (cs : List Claimer) (all : length cs ≡ workers)
     (closed : AreClaimsClosed numbers workers (records_of cs)) where
   weights : (f : ℕ → ℕ) → weight f cs ≡ sum_by f (range_with_len 0 closed.claimed)
-  weights f = sym (weigh_claims-records_of f cs) ∙ closed.all (length-map cs (λ (c : Claimer). c.own) ∙ all) f
+  weights f = sym (weigh_claims-records_of f cs)
+      ∙ closed.all (length-map cs (λ (c : Claimer). c.own) ∙ all) f
 
   pub first : AreFirst numbers cs
   first = record {

@@ -67,7 +67,8 @@ one_reply start high read reply at is k lowered = let one : 1 ≡ k = omega (ari
 
 -- the span of a request, at the cursor as the code reads it
 pub span_at : (span : Span) (high read : ℤ) (n : ℕ) → read ≡ high → span
-    ≡ record { high = read; low = read -ℤ pos n } → span ≡ record { high = high; low = high -ℤ pos n }
+    ≡ record { high = read; low = read -ℤ pos n }
+    → span ≡ record { high = high; low = high -ℤ pos n }
 span_at span high read n at is = is ∙ (λ i. record { high = at i; low = at i -ℤ pos n })
 
 -- the reply that is recorded is the allocator's

@@ -40,9 +40,9 @@ pub reservations_are : (start : Allocator) (count : ℕ) (records : List Record)
     (k : IsClosed start count records at) → length records ≡ count → reservations_of records ≡ k.log
 reservations_are start count records at k whole =
     let inside : All (Contains k.log) (own_of_all records) =
-    All-flat_map own_calls (Contains k.log) records (All-weaker (IsKept start at k.log) (λ (r : Record). All (Contains k.log)
-    (own_reservations r.entries)) (λ r kept. all_own (Contains k.log) r.entries
-    kept.marks.known) records k.each) in
+    All-flat_map own_calls (Contains k.log) records (All-weaker (IsKept start at k.log)
+    (λ (r : Record). All (Contains k.log) (own_calls r)) (λ r kept. all_own (Contains k.log)
+    r.entries kept.marks.known) records k.each) in
     same_fall (reservations_of records) k.log (falls_sorted (own_of_all records))
     (follow_falls (cursor start) k.log at k.follow)
     (all_sorted (Contains k.log) (own_of_all records) inside)

@@ -85,8 +85,9 @@ given_inserted c (d ∷ ds) =
     (handles_of (cond b (c ∷ d ∷ ds) (d ∷ insert_reservation c ds)))) [
       | true ↦ IsPermutation-refl (handles_of (c ∷ d ∷ ds))
       | false ↦ IsPermutation-trans (x ++ (y ++ z)) (y ++ (x ++ z))
-          (y ++ handles_of (insert_reservation c ds)) (turned x y z) (IsPermutation-append_right y (x ++ z)
-          (handles_of (insert_reservation c ds)) (given_inserted c ds))
+          (y ++ handles_of (insert_reservation c ds)) (turned x y z)
+          (IsPermutation-append_right y (x ++ z) (handles_of (insert_reservation c ds))
+          (given_inserted c ds))
     ]
 
 given_sorted : (cs : List Reservation) → IsPermutation (handles_of cs)
