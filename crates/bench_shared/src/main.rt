@@ -1,8 +1,8 @@
 //! Reservations by threads beside a bare atomic subtraction, for `run.sh` to time.
 //!
-//! `bench_shared STEPS PAIRS` makes that many steps in each thread of each case, in that many pairs of runs, and prints the times of
-//! each pair. Without words it makes a few steps and prints what they gave, which is the same on
-//! every machine.
+//! `bench_shared STEPS PAIRS` makes that many steps in each thread of each case, in that many pairs
+//! of runs, and prints the times of each pair. Without words it makes a few steps and prints what
+//! they gave, which is the same on every machine.
 #![tactic(auto)]
 
 ghost use Rattle.ent_shared.specs.Phase.{IsOf};

@@ -1,15 +1,17 @@
 -- What all claimers together have claimed.
-use Rattle.std.proofs.Common.{◌≡◌, ℕ, zero, suc, ◌+◌, ◌<◌, ◌≤◌, List, [], ◌∷◌, ◌++◌, length, map}
+use Rattle.std.proofs.Common.{◌≡◌, ℕ, zero, suc, ◌+◌, ◌<◌, ◌≤◌, List, [], ◌∷◌, length, map}
 use Rattle.std.proofs.Common.{flat_map}
 use Rattle.std.proofs.Common.{sym, refl, ap, subst, ◌∙◌, arith, IsPermutation, unwrap_or}
-use Rattle.std.proofs.Common.{append-nil}
 use Rattle.std.proofs.Common.{⊎_elim, Option}
 use Rattle.std.proofs.lemmas.Option.{none-some}
 use Rattle.std.proofs.lemmas.Bool.{cases_lt}
 use Rattle.std.specs.Prelude.{true, slice_get, Some}
 use Rattle.std.specs.List.{sum_by, All, Contains, range_with_len}
 use Rattle.std.proofs.lemmas.List.Elements.{All-head, All-tail}
-use Rattle.std.proofs.lemmas.List.Sums.{sum_by-cons, sum_by-append}
+use Rattle.std.proofs.lemmas.List.{length-map}
+use Rattle.std.proofs.lemmas.List.Folds.{fold-map}
+use Rattle.std.proofs.lemmas.List.Sums.{sum_by-cons}
+use Rattle.ent_seats.proofs.Weighing.{sum_by-flat_map}
 use Rattle.ent_claims.specs.declared.record.ClaimRecord.{ClaimRecord}
 use Rattle.ent_claims.specs.Rule.{weigh_claims, IsClaimKept, AreClaimsClosed}
 use Rattle.ent_claims.specs.Claims.{Claimer, IsClaimedBy, HaveEnded, AreFirst}
@@ -24,29 +26,12 @@ weight f claimers = sum_by (λ (c : Claimer). sum_by f c.own.claims) claimers
 
 weigh_claims-records_of : (f : ℕ → ℕ) (cs : List Claimer) → weigh_claims f (records_of cs)
     ≡ weight f cs
-weigh_claims-records_of f [] = refl
-weigh_claims-records_of f (c ∷ cs) =
-    let rest = weigh_claims-records_of f cs in
-    let a : weigh_claims f (c.own ∷ records_of cs) ≡ sum_by f c.own.claims
-    + weigh_claims f (records_of cs) = sum_by-cons (λ (r : ClaimRecord). sum_by f r.claims)
-    c.own (records_of cs) in
-    let b : weight f (c ∷ cs) ≡ sum_by f c.own.claims + weight f cs =
-    sum_by-cons (λ (x : Claimer). sum_by f x.own.claims) c cs in
-    omega arith
+weigh_claims-records_of f cs = fold-map (λ (s : ℕ) (r : ClaimRecord). s + sum_by f r.claims)
+    (λ (c : Claimer). c.own) 0 cs
 
 weight-flat_map : (f : ℕ → ℕ) (cs : List Claimer)
     → sum_by f (flat_map (λ (c : Claimer). c.own.claims) cs) ≡ weight f cs
-weight-flat_map f [] = refl
-weight-flat_map f (c ∷ cs) =
-    let rest = weight-flat_map f cs in
-    let a = sum_by-append f c.own.claims (flat_map (λ (x : Claimer). x.own.claims) cs) in
-    let b : weight f (c ∷ cs) ≡ sum_by f c.own.claims + weight f cs =
-    sum_by-cons (λ (x : Claimer). sum_by f x.own.claims) c cs in
-    omega arith
-
-pub length-records_of : (cs : List Claimer) → length (records_of cs) ≡ length cs
-length-records_of [] = refl
-length-records_of (c ∷ cs) = ap suc (length-records_of cs)
+weight-flat_map f cs = sum_by-flat_map (λ (c : Claimer). c.own.claims) f cs
 
 -- one claimer of the number weighs 1 or more
 held : (n : ℕ) (cs : List Claimer) (k : ℕ) → IsClaimedBy cs n k → 1 ≤ weight (is n) cs
@@ -125,7 +110,8 @@ one_ended numbers claimed (x ∷ cs) each (suc k) c at ended =
 module _ (numbers workers : ℕ) (cs : List Claimer) (all : length cs ≡ workers)
     (closed : AreClaimsClosed numbers workers (records_of cs)) where
   weights : (f : ℕ → ℕ) → weight f cs ≡ sum_by f (range_with_len 0 closed.claimed)
-  weights f = sym (weigh_claims-records_of f cs) ∙ closed.all (length-records_of cs ∙ all) f
+  weights f = sym (weigh_claims-records_of f cs)
+      ∙ closed.all (length-map cs (λ (c : Claimer). c.own) ∙ all) f
 
   pub first : AreFirst numbers cs
   first = record {
@@ -157,13 +143,3 @@ module _ (numbers workers : ℕ) (cs : List Claimer) (all : length cs ≡ worker
       (range_with_len 0 k)) every
       (weigh_same (flat_map (λ (c : Claimer). c.own.claims) cs) (range_with_len 0 closed.claimed)
       (λ f. weight-flat_map f cs ∙ weights f))
-
-nothing_left : (cs : List Claimer) → length cs ≡ 0 → cs ≡ []
-nothing_left [] e = refl
-nothing_left (c ∷ cs) e = absurd (omega arith)
-
--- all that were handed in were taken in
-pub items_all : (items yielded now : List Claimer) → yielded ++ now ≡ items → length now ≡ 0
-    → yielded ≡ items
-items_all items yielded now all none_left = sym (append-nil yielded)
-    ∙ (ap (λ (xs : List Claimer). yielded ++ xs) (sym (nothing_left now none_left)) ∙ all)

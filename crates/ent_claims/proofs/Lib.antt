@@ -1,4 +1,3 @@
-pub mod Weighing
 pub mod Steps
 pub mod Claiming
 pub mod Opening

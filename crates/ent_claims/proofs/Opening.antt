@@ -31,19 +31,6 @@ of_opened claims = record {
   fits = omega arith;
 }
 
-pub none_opened : (numbers workers : ℕ) (word seat : TableId) (made : List Claimer)
-    (me : Me (Unit {0}) (List ClaimRecord)) → made ≡ [] → seat ≡ word → me
-    ≡ (replicate workers (nothing_claimed numbers), [])
-    → AreOpened numbers workers 0 word made seat me
-none_opened numbers workers word seat made me bare same left = record {
-  seat_is = same;
-  left = left ∙ ap (λ (k : ℕ). (replicate k (nothing_claimed numbers), [])) (omega arith);
-  own = subst (All (IsClaimerOf (record { word = word; numbers = numbers; workers = workers })))
-      (sym bare) (All-nil
-      (IsClaimerOf (record { word = word; numbers = numbers; workers = workers })));
-  unused = subst (All IsUnused) (sym bare) (All-nil IsUnused);
-}
-
 opened-first : (numbers workers many : ℕ) → many < workers → replicate (workers - many)
     (nothing_claimed numbers) ≡ nothing_claimed numbers ∷ replicate (workers - (many + 1))
     (nothing_claimed numbers)

@@ -1,34 +1,27 @@
 -- Each step keeps the rule over the claim word and the records.
-use Rattle.std.proofs.Common.{◌≡◌, ℕ, zero, suc, ◌+◌, ◌%◌, ◌^◌, ◌<◌, ◌≤◌, List, [], ◌∷◌, ◌++◌}
-use Rattle.std.proofs.Common.{length}
-use Rattle.std.proofs.Common.{set, get_or, take, drop, sym, refl, ap, subst, ◌∙◌, arith, ⊎_elim}
-use Rattle.std.proofs.Common.{length-append, lt-ltb, le-ltb, true≢false}
+use Rattle.std.proofs.Common.{◌≡◌, ℕ, zero, suc, ◌+◌, ◌*◌, ◌%◌, ◌^◌, ◌<◌, ◌≤◌, List, [], ◌∷◌, ◌++◌}
+use Rattle.std.proofs.Common.{length, replicate, set, get_or, sym, refl, ap, subst, ◌∙◌, arith}
+use Rattle.std.proofs.Common.{⊎_elim, lt-ltb, le-ltb, true≢false}
 use Rattle.std.proofs.Math.Nat.{mod-eq_of_lt}
-use Rattle.atomic_table.proofs.Lists.{set_else}
 use Rattle.std.specs.Prelude.{Bool, true, false, cond, if◌then◌else◌}
 use Rattle.std.specs.List.{sum_by, All, range_with_len}
 use Rattle.std.proofs.lemmas.Bool.{cases_lt}
-use Rattle.std.proofs.lemmas.List.Elements.{All-head, All-tail, All-nil, All-append}
-use Rattle.std.proofs.lemmas.List.Elements.{All-weaker, All-set, All-push}
-use Rattle.std.proofs.lemmas.List.Quantifiers.{all_pairs_push}
-use Rattle.std.proofs.lemmas.List.Sums.{sum_by-cons, sum_by-append, sum_by_push, sum_by-le-sum_by}
-use Rattle.std.proofs.Common.{replicate, ◌*◌}
 use Rattle.std.proofs.lemmas.List.{length-replicate}
+use Rattle.std.proofs.lemmas.List.Elements.{All-head, All-nil, All-weaker, All-set, All-push}
 use Rattle.std.proofs.lemmas.List.Elements.{All-replicate}
 use Rattle.std.proofs.lemmas.List.Folds.{sum_by-replicate}
+use Rattle.std.proofs.lemmas.List.Quantifiers.{all_pairs_push}
+use Rattle.std.proofs.lemmas.List.Sums.{sum_by-cons, sum_by_push, sum_by-le-sum_by}
 use mathlib.Core.Option.{some}
 use lib.ListN.{get_elem?}
-use Rattle.atomic_table.specs.Table.{State, Me, keeps, Allows, Splits, Joins, Enters, opening}
+use Rattle.atomic_table.specs.Table.{State, Me, keeps, Allows, opening}
+use Rattle.ent_seats.specs.Seats.{GoesByRecords}
+use Rattle.ent_seats.proofs.Weighing.{all_one, sum_at, all_at, whole_weighs}
+use Rattle.ent_seats.proofs.Regrouping.{sum_regrouped, length-regrouped, all_regrouped}
 use Rattle.ent_claims.specs.declared.record.ClaimRecord.{ClaimRecord}
 use Rattle.ent_claims.specs.Record.{nothing_claimed, after_claim}
 use Rattle.ent_claims.specs.Rule.{weigh_claims, ended_in, IsClaimKept, AreClaimsRuled, AfterClaim}
-use Rattle.ent_claims.specs.Rule.{ClaimTells}
-use Rattle.ent_claims.specs.Rule.{AreClaimsClosed}
-use Rattle.ent_claims.proofs.Weighing.{all_one, sum_at, all_at, only_at}
-
-abbrev first_or : ClaimRecord → List ClaimRecord → ClaimRecord
-first_or r [] = r
-first_or r (x ∷ xs) = x
+use Rattle.ent_claims.specs.Rule.{ClaimTells, AreClaimsClosed}
 
 range_last : (a n j : ℕ) → a + n ≡ j → range_with_len a (suc n) ≡ range_with_len a n ++ j ∷ []
 range_last a zero j e = ap (λ (k : ℕ). k ∷ []) (omega arith)
@@ -268,7 +261,7 @@ module _ (numbers workers : ℕ) where
         (
           refl,
           λ x is _. subst (λ (y : ClaimRecord). AfterClaim y (get_or s.words 0 0) (w ∷ []))
-              (ap (first_or r) is) told,
+              (ap (λ (rs : List ClaimRecord). get_or rs 0 r) is) told,
         ),
       )
 
@@ -280,20 +273,11 @@ module _ (numbers workers : ℕ) where
       (λ word. (word + p.1) % 2 ^ 64) (ClaimTells p.0) in
       subst A (λ i. ((sym view i, sym bare i), sym one i)) (claims slots id r going)
 
-  -- one view becomes two, which weigh together what it weighed
-  splits : (id : ℕ) (v left right : List ClaimRecord)
-      → ((f : ℕ → ℕ) → weigh_claims f left + weigh_claims f right ≡ weigh_claims f v) → length left
-      + length right ≡ length v → ended_in left + ended_in right ≡ ended_in v
-      → ((P : ClaimRecord → Type 0) → All P v → All P left × All P right)
-      → Splits Rule id v left right
-  splits id v left right weights lengths ends parts s k at =
-      let views : List (List ClaimRecord) = set s.views id left in
-      let sum_of = λ (g : List ClaimRecord → ℕ). sum_by_push g views right in
-      let P : List ClaimRecord → Type 0 = All (IsClaimKept numbers k.claimed) in
-      let both = parts (IsClaimKept numbers k.claimed) (all_at P s.views id v at k.each) in
-      let ended : sum_by ended_in (views ++ right ∷ []) ≡ sum_by ended_in s.views =
-      (let sums = sum_of ended_in in let changed = sum_at ended_in s.views id v left at in
-      omega arith) in
+  -- the rule goes by the records, and not by which seat has which
+  pub goes_by_records : GoesByRecords Rule
+  goes_by_records s views same k =
+      let ended : sum_by ended_in views ≡ sum_by ended_in s.views = sum_regrouped s.views views same
+      (λ (r : ClaimRecord). cond {A = ℕ} r.ended 1 0) in
       record {
         few_numbers = k.few_numbers;
         few_workers = k.few_workers;
@@ -303,85 +287,11 @@ module _ (numbers workers : ℕ) where
         within = k.within;
         counts = (let was = k.counts in omega arith);
         none_early = λ early. ended ∙ k.none_early early;
-        partition = λ f. (let sums = sum_of (weigh_claims f) in let changed =
-            sum_at (weigh_claims f) s.views id v left at in let was = k.partition f in let w =
-            weights f in omega arith);
-        records = (let sums = sum_of length in let changed = sum_at length s.views id v left at in
-            let was = k.records in omega arith);
-        each = All-push P views right (All-set P s.views id left both.0 k.each) both.1;
+        partition = λ f. sum_regrouped s.views views same (λ (r : ClaimRecord). sum_by f r.claims)
+            ∙ k.partition f;
+        records = length-regrouped s.views views same ∙ k.records;
+        each = all_regrouped s.views views same (IsClaimKept numbers k.claimed) k.each;
       }
-
-  weigh_two : (f : ℕ → ℕ) (v w : List ClaimRecord) → weigh_claims f (v ++ w) ≡ weigh_claims f v
-      + weigh_claims f w
-  weigh_two f v w = sum_by-append (λ (r : ClaimRecord). sum_by f r.claims) v w
-
-  ended_two : (v w : List ClaimRecord) → ended_in (v ++ w) ≡ ended_in v + ended_in w
-  ended_two v w = sum_by-append (λ (r : ClaimRecord). cond {A = ℕ} r.ended 1 0) v w
-
-  pub splits_first : (id : ℕ) (v : List ClaimRecord) → Splits Rule id v (drop 1 v) (take 1 v)
-  splits_first id [] = splits id [] [] [] (λ f. refl) refl refl (λ P all. (all, all))
-  splits_first id (r ∷ v) = splits id (r ∷ v) v (r ∷ [])
-      (λ f. let e = weigh_two f (r ∷ []) v in omega arith)
-      (omega arith)
-      (let e = ended_two (r ∷ []) v in omega arith)
-      (λ P all. (All-tail P r v all, all_one P r (All-head P r v all)))
-
-  -- two views become one, which weighs what they weighed
-  pub merges : (id other : ℕ) (v w : List ClaimRecord) → Joins Rule id v other w (v ++ w) []
-  merges id other v w s k at apart there =
-      let both : List ClaimRecord = v ++ w in
-      let views : List (List ClaimRecord) = set s.views id both in
-      let P : List ClaimRecord → Type 0 = All (IsClaimKept numbers k.claimed) in
-      let between : get_elem? s.views other ≡ some w = sym (set_else s.views id other both apart)
-      ∙ there in
-      let mine : P v = all_at P s.views id v at k.each in
-      let theirs : P w = all_at P s.views other w between k.each in
-      let ended : sum_by ended_in (set views other []) ≡ sum_by ended_in s.views =
-      (let first = sum_at ended_in s.views id v both at in let second = sum_at ended_in views
-      other w [] there in let two = ended_two v w in omega arith) in
-      record {
-        few_numbers = k.few_numbers;
-        few_workers = k.few_workers;
-        word = k.word;
-        words = k.words;
-        claimed = k.claimed;
-        within = k.within;
-        counts = (let was = k.counts in omega arith);
-        none_early = λ early. ended ∙ k.none_early early;
-        partition = λ f. (let first = sum_at (weigh_claims f) s.views id v both at in let second =
-            sum_at (weigh_claims f) views other w [] there in let was = k.partition f in let two =
-            weigh_two f v w in omega arith);
-        records = (let first = sum_at length s.views id v both at in let second =
-            sum_at length views other w [] there in let was = k.records in let two =
-            length-append v w in omega arith);
-        each = All-set P views other [] (All-nil (IsClaimKept numbers k.claimed))
-            (All-set P s.views id both (All-append (IsClaimKept numbers k.claimed) v w mine theirs)
-            k.each);
-      }
-
-  pub enters : (slots : ℕ) → Enters Rule slots 0 (λ word view. view ≡ [])
-  enters slots s k _ _ =
-      let P : List ClaimRecord → Type 0 = All (IsClaimKept numbers k.claimed) in
-      let sum_of = λ (g : List ClaimRecord → ℕ). sum_by_push g s.views [] in
-      let ended : sum_by ended_in (s.views ++ [] ∷ []) ≡ sum_by ended_in s.views =
-      (let sums = sum_of ended_in in omega arith) in (
-        [],
-        record {
-          few_numbers = k.few_numbers;
-          few_workers = k.few_workers;
-          word = k.word;
-          words = k.words;
-          claimed = k.claimed;
-          within = k.within;
-          counts = (let was = k.counts in omega arith);
-          none_early = λ early. ended ∙ k.none_early early;
-          partition = λ f. (let sums = sum_of (weigh_claims f) in let was = k.partition f in
-              omega arith);
-          records = (let sums = sum_of length in let was = k.records in omega arith);
-          each = All-push P s.views [] k.each (All-nil (IsClaimKept numbers k.claimed));
-        },
-        refl,
-      )
 
   -- before the first step
   kept-opened : IsClaimKept numbers 0 (nothing_claimed numbers)
@@ -420,10 +330,6 @@ module _ (numbers workers : ℕ) where
       }
 
   -- after the last step
-  none_weigh : (f : ℕ → ℕ) (v : List ClaimRecord) → length v ≡ 0 → weigh_claims f v ≡ 0
-  none_weigh f [] e = refl
-  none_weigh f (r ∷ v) e = absurd (omega arith)
-
   pub ends : (s : St) (k : Rule s) (id : ℕ) (v : List ClaimRecord) → get_elem? s.views id ≡ some v
       → AreClaimsClosed numbers workers v
   ends s k id v there =
@@ -431,8 +337,6 @@ module _ (numbers workers : ℕ) where
         claimed = k.claimed;
         within = k.within;
         each = all_at (All (IsClaimKept numbers k.claimed)) s.views id v there k.each;
-        all = λ whole f.
-            let only = only_at length (weigh_claims f) s.views id v [] there refl refl
-            (none_weigh f) (k.records ∙ sym whole) in
-            sym only ∙ k.partition f;
+        all = λ whole f. sym (whole_weighs (λ (r : ClaimRecord). sum_by f r.claims) s.views id v
+            there (k.records ∙ sym whole)) ∙ k.partition f;
       }

@@ -1,7 +1,7 @@
 ghost use Rattle.std.specs.Prelude.{◌≡◌, false};
 
-use crate::rule::SeatRecords;
-use atomic_table::Badge;
+use crate::record::ClaimRecord;
+use ent_seats::RecordsBadge;
 use std::marker::Model;
 
 /// The right of one worker to claim numbers.
@@ -10,7 +10,7 @@ use std::marker::Model;
 /// takes them back. A worker that claims in a thread of its own takes one along.
 #[derive(Drop)]
 pub struct Claimer {
-    pub(crate) badge: Badge<SeatRecords>,
+    pub(crate) badge: RecordsBadge<ClaimRecord>,
     pub(crate) ended: bool,
 }
 
@@ -31,7 +31,7 @@ impl Claimer {
     ghost use Rattle.ent_claims.specs.Record.{claims_of};
     ghost use Rattle.ent_claims.specs.Claims.{IsClaimerSeated};
 
-    pub(crate) fn new(badge: Badge<SeatRecords>) -> Self
+    pub(crate) fn new(badge: RecordsBadge<ClaimRecord>) -> Self
         requires { IsClaimerSeated badge.views false }
         ensures { result ≡ record { word = badge.table_id; own = claims_of badge.views } }
     {

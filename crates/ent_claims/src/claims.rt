@@ -8,6 +8,7 @@ use crate::rule::Opening;
 use crate::word;
 use crate::word::Word;
 use ent_handle::Memory;
+use ent_seats::{merge, new_seat, split_first};
 use std::alloc::Global;
 use std::marker::Model;
 
@@ -61,7 +62,7 @@ impl Claims {
         let opening = Opening { numbers, workers };
         let (word, mut all) = word::open(alloc, &opening)?;
         for _ in 0..workers {
-            claimers.push_reserved(Claimer::new(word::split_first(&word, &mut all)));
+            claimers.push_reserved(Claimer::new(split_first(&word, &mut all)));
         }
         Ok((Claims { word, numbers }, claimers))
     }
@@ -117,9 +118,9 @@ impl Claims {
             (range_with_len 0 self.numbers) }
     {
         let Claims { word, .. } = self;
-        let mut all = word::new_seat(&word);
+        let mut all = new_seat(&word);
         for claimer in claimers {
-            word::merge(&word, &mut all, claimer.badge);
+            merge(&word, &mut all, claimer.badge);
         }
         word::close(word, all);
     }

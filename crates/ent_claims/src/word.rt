@@ -1,19 +1,19 @@
 //! The claim word: what each kind of step does to the word and to the records.
-ghost use Rattle.std.specs.Prelude.{◌≡◌, ◌<◌, ◌≤◌, ◌^◌, List, [], ◌∷◌, ◌++◌, take, drop, All};
-ghost use Rattle.std.specs.Prelude.{IfOk, false, replicate};
+ghost use Rattle.std.specs.Prelude.{◌≡◌, ◌<◌, ◌≤◌, ◌^◌, [], ◌∷◌, All, IfOk, false, replicate};
 ghost use Rattle.ent_claims.specs.Record.{nothing_claimed, after_claim, claims_of};
 ghost use Rattle.ent_claims.specs.Rule.{AreClaimsClosed};
 ghost use Rattle.ent_claims.specs.Claims.{IsOpen};
-ghost use Rattle.ent_claims.specs.declared.record.ClaimRecord.{ClaimRecord};
 
-use crate::rule::{Claim, Merge, NewSeat, Numbers, Opening, SeatRecords, SplitFirst};
-use atomic_table::{Badge, Seat, Table};
+use crate::record::ClaimRecord;
+use crate::rule::{Claim, Numbers, Opening};
+use atomic_table::{Badge, Table};
+use ent_seats::{RecordsBadge, RecordsSeat, RecordsWord};
 use std::alloc::{AllocError, Global};
 use std::mem;
 
-pub(crate) type Word = Table<(), SeatRecords, Opening, Numbers, Global>;
+pub(crate) type Word = RecordsWord<ClaimRecord, Opening, Numbers>;
 
-pub(crate) type WordSeat = Seat<(), SeatRecords>;
+pub(crate) type WordSeat = RecordsSeat<ClaimRecord>;
 
 /// A word that begins at 0, and a seat that has all records.
 pub(crate) fn open(alloc: Global, opening: &Opening) -> Result<(Word, WordSeat), AllocError>
@@ -28,20 +28,8 @@ pub(crate) fn open(alloc: Global, opening: &Opening) -> Result<(Word, WordSeat),
     Table::of_words(alloc, &[0], opening)
 }
 
-/// Takes the first record out of a seat, into a seat of its own.
-pub(crate) fn split_first(word: &Word, all: &mut WordSeat) -> Badge<SeatRecords>
-    requires word { (word.now.shared.table_id.words ≡ 1)
-        × (all.old.table_id ≡ word.now.shared.table_id) × (all.old.me.1 ≡ []) }
-    ensures kept { (all.new.table_id ≡ all.old.table_id)
-        × (all.new.me ≡ (drop 1 all.old.me.0, [])) }
-    ensures first { (result.table_id ≡ all.old.table_id)
-        × (result.views ≡ take 1 all.old.me.0 ∷ []) }
-{
-    word.shared.split_seat::<SplitFirst>(all).into_badge()
-}
-
 /// The claiming step: adds 1 to the word. Returns the number that it found.
-pub(crate) fn claim(word: &Word, badge: &mut Badge<SeatRecords>) -> u64
+pub(crate) fn claim(word: &Word, badge: &mut RecordsBadge<ClaimRecord>) -> u64
     requires word { (word.now.shared.table_id.words ≡ 1)
         × (badge.old.table_id ≡ word.now.shared.table_id) }
     requires alone { badge.old.views ≡ (claims_of badge.old.views ∷ []) ∷ [] }
@@ -55,29 +43,6 @@ pub(crate) fn claim(word: &Word, badge: &mut Badge<SeatRecords>) -> u64
     let found = word.shared.fetch_add::<Claim>(&mut seat, 0, 1);
     *badge = seat.into_badge();
     found
-}
-
-/// A seat without records, for those of the claimers that are handed in.
-pub(crate) fn new_seat(word: &Word) -> WordSeat
-    requires { word.now.shared.table_id.words ≡ 1 }
-    ensures { (result.table_id ≡ word.now.shared.table_id) × (result.me ≡ ([], [])) }
-{
-    word.shared.load_new_seat::<NewSeat>(0).1
-}
-
-/// Moves a claimer's record into a seat.
-pub(crate) fn merge(word: &Word, all: &mut WordSeat, badge: Badge<SeatRecords>)
-    requires word { (word.now.shared.table_id.words ≡ 1)
-        × (all.old.table_id ≡ word.now.shared.table_id)
-        × (badge.table_id ≡ word.now.shared.table_id)
-        × (all.old.me.1 ≡ []) }
-    requires one { (records : List ClaimRecord) × (badge.views ≡ records ∷ []) }
-    ensures kept { all.new.table_id ≡ all.old.table_id }
-    ensures merges { (all.new.me.1 ≡ []) × ((records : List ClaimRecord)
-        → badge.views ≡ records ∷ []
-        → all.new.me.0 ≡ all.old.me.0 ++ records) }
-{
-    word.shared.join_seat::<Merge>(all, badge.into_seat());
 }
 
 /// Ends the claiming, of which a seat knows these records.

@@ -2,8 +2,6 @@
 #![tactic(auto)]
 
 #[cfg(test)]
-mod gate;
-#[cfg(test)]
 mod in_turn;
 #[cfg(test)]
 mod memory;

@@ -2,12 +2,12 @@
 ghost use Rattle.std.specs.Prelude.{◌≡◌, All, length, true};
 ghost use Rattle.ent_claims.specs.Claims.{IsClaimerOf};
 
-use crate::gate::Gate;
 use crate::opening::{closed, opened, workers};
 use crate::worker::Worker;
 use ent_claims::Claims;
 use std::process::Abort;
 use std::thread::{Threads, map_vec};
+use tests_gate::Gate;
 
 /// All workers claim side by side, each in a thread of its own, until all have ended.
 fn all_beside<R: Threads + Sync + Abort>(

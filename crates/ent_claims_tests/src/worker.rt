@@ -1,9 +1,9 @@
 ghost use Rattle.std.specs.Prelude.{◌≡◌, true};
 ghost use Rattle.ent_claims.specs.Claims.{IsClaimerOf};
 
-use crate::gate::Gate;
 use ent_claims::{Claimer, Claims};
 use std::alloc::Global;
+use tests_gate::Gate;
 
 /// A claimer, what it has claimed, and whether its thread saw all others.
 #[derive(Drop)]

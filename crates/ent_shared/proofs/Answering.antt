@@ -58,12 +58,18 @@ pub on_err : {T E P : Type 0} (r : Result T E) → P → OnErr r P
 on_err (Ok _) p = tt
 on_err (Err _) p = p
 
--- a span of one number
-pub one_low : (start : Allocator) (high : ℤ) (reply : Result (List Handle) Space) → reply
-    ≡ reply_from start.made (pool_at start high) 1
-    → (k : ℕ) → high -ℤ pos 1 ≡ high -ℤ pos k → reply ≡ reply_from start.made (pool_at start high) k
-one_low start high reply is k lowered = let one : 1 ≡ k = omega (arith, ints) in is
-    ∙ ap (reply_from start.made (pool_at start high)) one
+-- the reply to a request of one, at the cursor as the code reads it
+pub one_reply : (start : Allocator) (high read : ℤ) (reply : Result (List Handle) Space) → read
+    ≡ high → reply ≡ reply_from start.made (pool_at start read) 1 → (k : ℕ) → high -ℤ pos 1
+    ≡ high -ℤ pos k → reply ≡ reply_from start.made (pool_at start high) k
+one_reply start high read reply at is k lowered = let one : 1 ≡ k = omega (arith, ints) in is
+    ∙ (λ i. reply_from start.made (pool_at start (at i)) (one i))
+
+-- the span of a request, at the cursor as the code reads it
+pub span_at : (span : Span) (high read : ℤ) (n : ℕ) → read ≡ high → span
+    ≡ record { high = read; low = read -ℤ pos n }
+    → span ≡ record { high = high; low = high -ℤ pos n }
+span_at span high read n at is = is ∙ (λ i. record { high = at i; low = at i -ℤ pos n })
 
 -- the reply that is recorded is the allocator's
 pub recorded_reply : (r : Record) (start : Allocator) (high : ℤ) (n : ℕ) (span : Span)
@@ -87,6 +93,13 @@ short_refused made pool n refusal is =
     [ true ↦ (λ e. cc) | false ↦ (λ e. refl) ] in
     all is
 
+-- the floor after a reservation, if it is known whether there was enough
+floor_is : (r : Record) (start : Allocator) (high at : ℤ) (n : ℕ) (enough : Bool) → r.start ≡ start
+    → at ≡ high → nat_le n (length (pool_at start at)) ≡ enough
+    → (after_reservation r high n).floor ≡ cond enough (high -ℤ pos n) r.floor
+floor_is r start high at n enough same is test = ap (λ (b : Bool). cond b (high -ℤ pos n) r.floor)
+    ((λ i. nat_le n (length (pool_at (same i) (sym is i)))) ∙ test)
+
 -- the floor after a reservation that was served, and after one that was refused
 pub served_floor : (r : Record) (start : Allocator) (high : ℤ) (n : ℕ) (span : Span)
     (handles : List Handle) (reply : Result (List Handle) Space) → r.start ≡ start → span
@@ -95,12 +108,10 @@ pub served_floor : (r : Record) (start : Allocator) (high : ℤ) (n : ℕ) (span
     ≡ reply_from start.made (pool_at start span.high) k) → reply ≡ Ok handles → span.low
     ≡ (after_reservation r high n).floor
 served_floor r start high n span handles reply same is answers served =
-    let at : span.high ≡ high = ap (λ (s : Span). s.high) is in
     let test : nat_le n (length (pool_at start span.high)) ≡ true = enough_served start.made
     (pool_at start span.high) handles n (sym (answers n (low_of span high n is)) ∙ served) in
-    let here : nat_le n (length (pool_at r.start high))
-    ≡ true = (λ i. nat_le n (length (pool_at (same i) (sym at i)))) ∙ test in
-    ap (λ (s : Span). s.low) is ∙ sym (ap (λ (b : Bool). cond b (high -ℤ pos n) r.floor) here)
+    ap (λ (s : Span). s.low) is
+    ∙ sym (floor_is r start high span.high n true same (ap (λ (s : Span). s.high) is) test)
 
 pub refused_floor : (r : Record) (start : Allocator) (high : ℤ) (n : ℕ) (span : Span)
     (refusal : Space) (reply : Result (List Handle) Space) → r.start ≡ start → span
@@ -109,9 +120,6 @@ pub refused_floor : (r : Record) (start : Allocator) (high : ℤ) (n : ℕ) (spa
     ≡ reply_from start.made (pool_at start span.high) k) → reply ≡ Err refusal → r.floor
     ≡ (after_reservation r high n).floor
 refused_floor r start high n span refusal reply same is answers refused =
-    let at : span.high ≡ high = ap (λ (s : Span). s.high) is in
     let test : nat_le n (length (pool_at start span.high)) ≡ false = short_refused start.made
     (pool_at start span.high) n refusal (sym (answers n (low_of span high n is)) ∙ refused) in
-    let here : nat_le n (length (pool_at r.start high))
-    ≡ false = (λ i. nat_le n (length (pool_at (same i) (sym at i)))) ∙ test in
-    sym (ap (λ (b : Bool). cond b (high -ℤ pos n) r.floor) here)
+    sym (floor_is r start high span.high n false same (ap (λ (s : Span). s.high) is) test)

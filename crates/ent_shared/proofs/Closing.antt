@@ -7,7 +7,8 @@ use Rattle.std.proofs.Common.{◌⊎◌}
 use Rattle.std.specs.List.{sum_by}
 use Rattle.std.specs.Int.{int_min}
 use Rattle.std.proofs.lemmas.List.Kept.{AllPairs-cons}
-use Rattle.std.proofs.lemmas.List.Sums.{sum_by-cons}
+use Rattle.std.proofs.lemmas.List.Folds.{fold-map}
+use Rattle.std.proofs.lemmas.List.Sums.{sum-map}
 use Rattle.std.proofs.lemmas.Bool.{cases_lt}
 use Rattle.std.proofs.lemmas.List.Sorted.{length_permutation}
 use Rattle.std.proofs.lemmas.Int.{ints}
@@ -32,27 +33,17 @@ use Rattle.ent_shared.specs.declared.rule.Opening.{Opening}
 use Rattle.ent_alloc.specs.Limits.{credit}
 use Rattle.ent_shared.specs.Rule.{floor_of, least_floor, IsStart, IsClosed}
 use Rattle.ent_shared.specs.Order.{as_call, own_of_all, reservations_of, history_of, Respects}
-use Rattle.ent_shared.proofs.Steps.{requested, follow_asked}
+use Rattle.ent_shared.proofs.Words.{requested, follow_asked, few_asked}
 use Rattle.ent_shared.proofs.Sorting.{FallsStrictly, follow_falls}
-use Rattle.ent_shared.proofs.Histories.{reservations_are, respects_all, numbers_differ}
+use Rattle.ent_shared.proofs.Callers.{numbers_differ}
+use Rattle.ent_shared.proofs.Histories.{reservations_are, respects_all}
 use Rattle.ent_shared.proofs.Settling.{IsLater, legal_from, min_right, floor_below, taken_floor}
 use Rattle.ent_shared.proofs.Settling.{floor_sorted, floor_of_all}
 
 pub sum_requests : (cs : List Reservation) → sum (history.requests_of (map as_call cs))
     ≡ sum_by requested cs
-sum_requests [] = refl
-sum_requests (c ∷ cs) =
-    let rest = sum_requests cs in
-    let first : sum (c.requested ∷ history.requests_of (map as_call cs)) ≡ c.requested
-    + sum (history.requests_of (map as_call cs)) = sum_by-cons (λ (n : ℕ). n) c.requested
-    (history.requests_of (map as_call cs)) in
-    let others : sum_by requested (c ∷ cs) ≡ c.requested + sum_by requested cs =
-    sum_by-cons requested c cs in
-    omega arith
-
-few_asked : (n count : ℕ) → n ≤ count * credit → count ≤ 1024 → n ≤ 2 ^ 50
-unfolding credit
-few_asked n count le few = omega arith
+sum_requests cs = sum-map (λ (call : history.Call). call.requested) (map as_call cs)
+    ∙ fold-map (λ (n : ℕ) (call : history.Call). n + call.requested) as_call 0 cs
 
 -- of two reservations of a list that falls the later one is lower
 falls_apart : (cs : List Reservation) → FallsStrictly cs

@@ -1,15 +1,14 @@
 -- What all records together tell once no thread steps any more: their own calls are the calls that
 -- lead from the top to the cursor.
-use Rattle.std.proofs.Common.{◌≡◌, ◌≢◌, ℕ, zero, suc, ◌+◌, ◌<◌, ◌≤◌, ⊎_elim, ℤ, ◌≤ℤ◌, ◌<ℤ◌, List}
+use Rattle.std.proofs.Common.{◌≡◌, ℕ, zero, suc, ◌+◌, ◌<◌, ◌≤◌, ⊎_elim, ℤ, ◌≤ℤ◌, ◌<ℤ◌, List}
 use Rattle.std.proofs.Common.{[], ◌∷◌, length, get_or, refl, sym, ap, subst, ◌∙◌, arith, eq-eqb}
 use Rattle.std.proofs.Common.{Some}
-use Rattle.std.specs.Prelude.{Bool, true, false, cond, ◌==◌, count_by}
-use Rattle.std.specs.List.{sum_by, All, AllPairs, Contains}
-use Rattle.std.proofs.lemmas.List.Elements.{All-head, All-tail, All-nil, All-cons, All-append}
+use Rattle.std.specs.Prelude.{Bool, true, false, cond, ◌==◌}
+use Rattle.std.specs.List.{sum_by, All, Contains}
+use Rattle.std.proofs.lemmas.List.Elements.{All-head, All-tail, All-nil, All-cons}
 use Rattle.std.proofs.lemmas.List.Elements.{All-weaker, All-contains, All-contains_itself}
 use Rattle.std.proofs.lemmas.List.Elements.{All-filter}
-use Rattle.std.proofs.lemmas.List.Kept.{AllPairs-cons}
-use Rattle.std.proofs.lemmas.List.Sums.{sum_by-cons, sum_by-append}
+use Rattle.std.proofs.lemmas.List.Sums.{sum_by-cons}
 use Rattle.std.proofs.lemmas.Option.{slice_get-get_or}
 use Rattle.std.proofs.lemmas.Int.{ints}
 use mathlib.Core.Logic.{dite}
@@ -20,48 +19,34 @@ use Rattle.ent_shared.specs.declared.record.RecordEntry.{RecordEntry}
 use Rattle.ent_shared.specs.declared.record.RecordEntry.TheVariants.{Own, Met}
 use Rattle.ent_shared.specs.declared.record.Record.{Record}
 use Rattle.ent_shared.specs.Record.{low, reservations_in, own_reservations, known_reservations}
-use Rattle.ent_shared.specs.Rule.{weigh, InOrder, IsKept, IsClosed}
+use Rattle.ent_shared.specs.Rule.{InOrder, IsKept, IsClosed}
 use Rattle.ent_shared.specs.Order.{own_of_all, reservations_of, reservations_by, StandsBefore}
 use Rattle.ent_shared.specs.Order.{FollowsEntries, Respects}
-use Rattle.ent_shared.proofs.Records.{all_front, all_back, all_own}
+use Rattle.ent_alloc.proofs.ListLaws.{All-left, All-right}
+use Rattle.ent_seats.proofs.Weighing.{sum_by-flat_map, All-flat_map}
+use Rattle.ent_shared.proofs.Records.{all_own}
+use Rattle.ent_shared.proofs.Callers.{only, sum_by_caller, own_by_caller, of_number}
+use Rattle.ent_shared.proofs.Callers.{one_of_number}
 use Rattle.ent_shared.proofs.Sorting.{contains_cases, Falls, FallsStrictly, WeighSame, all_sorted}
 use Rattle.ent_shared.proofs.Sorting.{sum_sorted, falls_sorted, same_fall, follow_falls}
 use Rattle.ent_shared.proofs.Sorting.{follow_requests}
 
-pub sum_flat : (f : Reservation → ℕ) (records : List Record) → sum_by f (own_of_all records)
-    ≡ weigh f records
-sum_flat f [] = refl
-sum_flat f (r ∷ records) =
-    let g : Record → ℕ = λ (x : Record). sum_by f (own_reservations x.entries) in
-    let rest = sum_flat f records in
-    let here : sum_by f (own_of_all (r ∷ records)) ≡ sum_by f (own_reservations r.entries)
-    + sum_by f (own_of_all records) = sum_by-append f (own_reservations r.entries)
-    (own_of_all records) in
-    let sums : weigh f (r ∷ records) ≡ sum_by f (own_reservations r.entries) + weigh f records =
-    sum_by-cons g r records in
-    omega arith
-
-all_flat : (P : Reservation → Type 0) (records : List Record)
-    → All (λ (r : Record). All P (own_reservations r.entries)) records → All P (own_of_all records)
-all_flat P [] all = All-nil P
-all_flat P (r ∷ records) all =
-    All-append P (own_reservations r.entries) (own_of_all records)
-    (All-head (λ (x : Record). All P (own_reservations x.entries)) r records all)
-    (all_flat P records (All-tail (λ (x : Record). All P (own_reservations x.entries)) r records
-    all))
+-- a record's own calls
+abbrev own_calls : Record → List Reservation
+own_calls r = own_reservations r.entries
 
 -- the calls by falling high are those that follow each other
 pub reservations_are : (start : Allocator) (count : ℕ) (records : List Record) (at : ℤ)
     (k : IsClosed start count records at) → length records ≡ count → reservations_of records ≡ k.log
 reservations_are start count records at k whole =
-    let inside : All (Contains k.log) (own_of_all records) = all_flat (Contains k.log) records
-    (All-weaker (IsKept start at k.log) (λ (r : Record). All (Contains k.log)
-    (own_reservations r.entries)) (λ r kept. all_own (Contains k.log) r.entries
-    kept.marks.known) records k.each) in
+    let inside : All (Contains k.log) (own_of_all records) =
+    All-flat_map own_calls (Contains k.log) records (All-weaker (IsKept start at k.log)
+    (λ (r : Record). All (Contains k.log) (own_calls r)) (λ r kept. all_own (Contains k.log)
+    r.entries kept.marks.known) records k.each) in
     same_fall (reservations_of records) k.log (falls_sorted (own_of_all records))
     (follow_falls (cursor start) k.log at k.follow)
     (all_sorted (Contains k.log) (own_of_all records) inside)
-    (λ f. sum_sorted f (own_of_all records) ∙ (sum_flat f records ∙ k.all whole f))
+    (λ f. sum_sorted f (own_of_all records) ∙ (sum_by-flat_map own_calls f records ∙ k.all whole f))
 
 -- of two calls of a list that falls the higher one stands before
 falls_at : (cs : List Reservation) (i j : ℕ) (d : Reservation) → FallsStrictly cs → i ≤ j → j
@@ -143,145 +128,14 @@ follows : (cs : List Reservation) (es : List RecordEntry) → FallsStrictly cs
     → InOrder es → FollowsEntries cs es
 follows cs [] falls requests known order = tt
 follows cs (e ∷ es) falls requests known order =
-    let here : All (Contains cs) (reservations_in e) = all_front (Contains cs) (reservations_in e)
+    let here : All (Contains cs) (reservations_in e) = All-left (Contains cs) (reservations_in e)
     (known_reservations es) known in
-    let rest : All (Contains cs) (known_reservations es) = all_back (Contains cs)
+    let rest : All (Contains cs) (known_reservations es) = All-right (Contains cs)
     (reservations_in e) (known_reservations es) known in (
       after_all cs (reservations_in e) (own_reservations es) falls requests here
           (all_own (Contains cs) es rest) order.0,
       follows cs es falls requests rest order.1,
     )
-
--- one caller's calls weigh what its own calls weigh
-abbrev only : ℕ → (Reservation → ℕ) → Reservation → ℕ
-only caller f c = cond (c.caller == caller) (f c) 0
-
-sum_by_caller : (caller : ℕ) (f : Reservation → ℕ) (cs : List Reservation)
-    → sum_by f (reservations_by caller cs) ≡ sum_by (only caller f) cs
-sum_by_caller caller f [] = refl
-sum_by_caller caller f (c ∷ cs) =
-    let rest = sum_by_caller caller f cs in
-    let goal : Bool → Type 0 = λ b.
-    sum_by f (cond b (c ∷ reservations_by caller cs) (reservations_by caller cs))
-    ≡ cond b (f c) 0 + sum_by (only caller f) cs in
-    let more : sum_by f (c ∷ reservations_by caller cs) ≡ f c
-    + sum_by f (reservations_by caller cs) = sum_by-cons f c (reservations_by caller cs) in
-    let yes : goal true = omega arith in
-    let no : goal false = omega arith in
-    let sums : sum_by (only caller f) (c ∷ cs) ≡ only caller f c + sum_by (only caller f) cs =
-    sum_by-cons (only caller f) c cs in
-    (elim (c.caller == caller) as goal [ true ↦ yes | false ↦ no ]) ∙ sym sums
-
-own_by_caller : (number caller : ℕ) (f : Reservation → ℕ) (cs : List Reservation)
-    → All (λ (c : Reservation). c.caller ≡ number) cs → sum_by (only caller f) cs
-    ≡ cond (number == caller) (sum_by f cs) 0
-own_by_caller number caller f [] all =
-    let goal : Bool → Type 0 = λ b. 0 ≡ cond {A = ℕ} b 0 0 in
-    elim (number == caller) as goal [ true ↦ refl | false ↦ refl ]
-own_by_caller number caller f (c ∷ cs) all =
-    let is : c.caller ≡ number = All-head (λ (d : Reservation). d.caller ≡ number) c cs all in
-    let rest = own_by_caller number caller f cs (All-tail (λ (d : Reservation). d.caller ≡ number) c
-    cs all) in
-    let sums : sum_by (only caller f) (c ∷ cs) ≡ only caller f c + sum_by (only caller f) cs =
-    sum_by-cons (only caller f) c cs in
-    let all_sums : sum_by f (c ∷ cs) ≡ f c + sum_by f cs = sum_by-cons f c cs in
-    let here : only caller f c ≡ cond (number == caller) (f c) 0 =
-    ap (λ (n : ℕ). cond (n == caller) (f c) 0) is in
-    let goal : Bool → Type 0 = λ b. cond b (f c) 0 + cond b (sum_by f cs) 0
-    ≡ cond b (f c + sum_by f cs) 0 in
-    let joined : goal (number == caller) = elim (number == caller) as goal [
-      | true ↦ refl
-      | false ↦ refl
-    ] in
-    sums ∙ ((λ i. here i + rest i)
-    ∙ (joined ∙ ap (λ (n : ℕ). cond (number == caller) n 0) (sym all_sums)))
-
--- of records with different numbers only the one with this number weighs anything
-abbrev of_number : ℕ → (Record → ℕ) → Record → ℕ
-of_number number g r = cond (r.number == number) (g r) 0
-
-none_of_number : (number : ℕ) (g : Record → ℕ) (rs : List Record)
-    → count_by (λ (r : Record). r.number == number) rs ≡ 0 → sum_by (of_number number g) rs ≡ 0
-none_of_number number g [] none = refl
-none_of_number number g (r ∷ rs) none =
-    let counts : count_by (λ (x : Record). x.number == number) (r ∷ rs)
-    ≡ cond (r.number == number) 1 0 + count_by (λ (x : Record). x.number == number) rs =
-    sum_by-cons (λ (x : Record). cond (x.number == number) 1 0) r rs in
-    let sums : sum_by (of_number number g) (r ∷ rs) ≡ of_number number g r
-    + sum_by (of_number number g) rs = sum_by-cons (of_number number g) r rs in
-    let rest = none_of_number number g rs (omega arith) in
-    let goal : Bool → Type 0 = λ b. cond {A = ℕ} b 1 0 ≡ 0 → cond b (g r) 0 ≡ 0 in
-    let zero_here : goal (r.number == number) = elim (r.number == number) as goal
-    [ true ↦ (λ e. absurd (omega arith)) | false ↦ (λ e. refl) ] in
-    let here = zero_here (omega arith) in
-    omega arith
-
-counted : (number : ℕ) (rs : List Record) (r : Record) → Contains rs r → r.number ≡ number → 1
-    ≤ count_by (λ (x : Record). x.number == number) rs
-counted number [] r inside is = absurd (omega arith)
-counted number (x ∷ rs) r inside is =
-    let counts : count_by (λ (y : Record). y.number == number) (x ∷ rs)
-    ≡ cond (x.number == number) 1 0 + count_by (λ (y : Record). y.number == number) rs =
-    sum_by-cons (λ (y : Record). cond (y.number == number) 1 0) x rs in
-    ⊎_elim
-    (λ (same : r ≡ x).
-    let yes : (x.number == number) ≡ true = eq-eqb x.number number
-    (ap (λ (y : Record). y.number) (sym same) ∙ is) in
-    let one : cond {A = ℕ} (x.number == number) 1 0 ≡ 1 = ap (λ (b : Bool). cond {A = ℕ} b 1 0) yes
-    in
-    omega arith)
-    (λ (behind : Contains rs r). let rest = counted number rs r behind is in omega arith)
-    (contains_cases x rs r inside)
-
--- records of which no two have one number differ in it
-pub numbers_differ : (rs : List Record) → ((k : ℕ) → count_by (λ (r : Record). r.number == k) rs
-    ≤ 1) → AllPairs (λ r s. r.number ≢ s.number) rs
-numbers_differ [] few = λ i j d lt within. absurd (omega arith)
-numbers_differ (r ∷ rs) few =
-    let R : Record → Record → Type 0 = λ x y. x.number ≢ y.number in
-    let counts : (k : ℕ) → count_by (λ (x : Record). x.number == k) (r ∷ rs)
-    ≡ cond (r.number == k) 1 0 + count_by (λ (x : Record). x.number == k) rs = λ k.
-    sum_by-cons (λ (x : Record). cond (x.number == k) 1 0) r rs in
-    let here : All (R r) rs = All-weaker (Contains rs) (R r) (λ s inside same.
-    let one : cond {A = ℕ} (r.number == r.number) 1 0 ≡ 1 = ap (λ (b : Bool). cond {A = ℕ} b 1 0)
-    (eq-eqb r.number r.number refl) in
-    let more = counted r.number rs s inside (sym same) in
-    let all = counts r.number in
-    let most = few r.number in
-    omega arith) rs (All-contains_itself rs) in
-    AllPairs-cons R r rs here (numbers_differ rs (λ k. let all = counts k in let most = few k in
-    omega arith))
-
-one_of_number : (number : ℕ) (g : Record → ℕ) (rs : List Record) (r : Record)
-    → count_by (λ (x : Record). x.number == number) rs ≤ 1 → Contains rs r → r.number ≡ number
-    → sum_by (of_number number g) rs ≡ g r
-one_of_number number g [] r few inside is = absurd (omega arith)
-one_of_number number g (x ∷ rs) r few inside is =
-    let counts : count_by (λ (y : Record). y.number == number) (x ∷ rs)
-    ≡ cond (x.number == number) 1 0 + count_by (λ (y : Record). y.number == number) rs =
-    sum_by-cons (λ (y : Record). cond (y.number == number) 1 0) x rs in
-    let sums : sum_by (of_number number g) (x ∷ rs) ≡ of_number number g x
-    + sum_by (of_number number g) rs = sum_by-cons (of_number number g) x rs in
-    ⊎_elim
-    (λ (same : r ≡ x).
-    let yes : (x.number == number) ≡ true = eq-eqb x.number number
-    (ap (λ (y : Record). y.number) (sym same) ∙ is) in
-    let one : cond {A = ℕ} (x.number == number) 1 0 ≡ 1 = ap (λ (b : Bool). cond {A = ℕ} b 1 0) yes
-    in
-    let here : of_number number g x ≡ g x = ap (λ (b : Bool). cond b (g x) 0) yes in
-    let none = none_of_number number g rs (omega arith) in
-    let mine : g x ≡ g r = ap g (sym same) in
-    omega arith)
-    (λ (behind : Contains rs r).
-    let rest = one_of_number number g rs r (omega arith) behind is in
-    let there = counted number rs r behind is in
-    let no : cond {A = ℕ} (x.number == number) 1 0 ≡ 0 = omega arith in
-    let goal : Bool → Type 0 = λ b. cond {A = ℕ} b 1 0 ≡ 0 → cond b (g x) 0 ≡ 0 in
-    let zero_here : goal (x.number == number) = elim (x.number == number) as goal
-    [ true ↦ (λ e. absurd (omega arith)) | false ↦ (λ e. refl) ] in
-    let here = zero_here no in
-    omega arith)
-    (contains_cases x rs r inside)
 
 -- a record's own calls fall
 own_fall : (es : List RecordEntry) → All (λ (c : Reservation). 0 < c.requested)

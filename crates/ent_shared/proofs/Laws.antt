@@ -10,11 +10,12 @@ use Rattle.std.proofs.lemmas.List.Elements.{All-nil, All-cons, All-filter, All-w
 use Rattle.std.proofs.lemmas.List.Elements.{All-contains_itself, filter_passes}
 use Rattle.std.proofs.lemmas.List.Kept.{AllPairs-filter}
 use Rattle.std.proofs.lemmas.List.Sorted.{IsPermutation-refl, IsPermutation-sym}
-use Rattle.std.proofs.lemmas.List.Sorted.{IsPermutation-trans, IsPermutation-cons}
-use Rattle.std.proofs.lemmas.List.Sorted.{IsPermutation-middle, IsPermutation-map}
-use Rattle.std.proofs.lemmas.List.Sorted.{IsPermutation-append_left, IsPermutation-append_right}
-use Rattle.std.proofs.lemmas.List.Sorted.{IsPermutation-append_comm}
+use Rattle.std.proofs.lemmas.List.Sorted.{IsPermutation-trans}
+use Rattle.std.proofs.lemmas.List.Sorted.{IsPermutation-map}
+use Rattle.std.proofs.lemmas.List.Sorted.{IsPermutation-append_right}
 use Rattle.std.proofs.lemmas.List.Sums.{sum_by-cons, sum_by-append}
+use Rattle.ent_seats.proofs.Weighing.{sum_by-flat_map}
+use Rattle.ent_seats.proofs.Regrouping.{turned}
 use Rattle.ent_handle.specs.Handle.{Handle}
 use Rattle.ent_alloc.specs.Limits.{credit}
 use Rattle.ent_alloc.specs.Sequential.{Allocator, after_take}
@@ -30,8 +31,7 @@ use Rattle.ent_shared.specs.Order.{as_call, history_of, reservations_by, Respect
 use Rattle.ent_shared.specs.Order.{handles_given}
 pub use Rattle.ent_shared.proofs.Answering.{length-served}
 use Rattle.ent_shared.proofs.Records.{own-made, own-met}
-use Rattle.ent_shared.proofs.Histories.{sum_flat}
-use Rattle.ent_shared.proofs.Sorting.{sum_sorted}
+use Rattle.ent_shared.proofs.Sorting.{sorted, sum_sorted}
 use Rattle.ent_shared.proofs.Closing.{sum_requests}
 
 -- A reservation and a meeting, and what they add to a record.
@@ -65,24 +65,6 @@ given-after_meeting r met = ap handles_of (own-after_meeting r met)
 
 -- The history is a permutation of all own reservations.
 
-inserted : (c : Reservation) (cs : List Reservation)
-    → IsPermutation (c ∷ cs) (insert_reservation c cs)
-inserted c [] = IsPermutation-refl (c ∷ [])
-inserted c (d ∷ ds) =
-    let swapped : IsPermutation (c ∷ d ∷ ds) (d ∷ c ∷ ds) = IsPermutation-sym (d ∷ c ∷ ds) (c ∷ d
-    ∷ ds) (IsPermutation-middle (d ∷ []) c ds) in
-    elim (int_lt d.high c.high) as
-    (λ b. IsPermutation (c ∷ d ∷ ds) (cond b (c ∷ d ∷ ds) (d ∷ insert_reservation c ds))) [
-      | true ↦ IsPermutation-refl (c ∷ d ∷ ds)
-      | false ↦ IsPermutation-trans (c ∷ d ∷ ds) (d ∷ c ∷ ds) (d ∷ insert_reservation c ds) swapped
-          (IsPermutation-cons d (c ∷ ds) (insert_reservation c ds) (inserted c ds))
-    ]
-
-sorted : (cs : List Reservation) → IsPermutation cs (by_falling_high cs)
-sorted [] = IsPermutation-refl []
-sorted (c ∷ cs) = IsPermutation-trans (c ∷ cs) (c ∷ by_falling_high cs) (by_falling_high (c ∷ cs))
-    (IsPermutation-cons c cs (by_falling_high cs) (sorted cs)) (inserted c (by_falling_high cs))
-
 pub reservations-IsPermutation : (records : List Record) → IsPermutation (own_of_all records)
     (reservations_of records)
 reservations-IsPermutation records = sorted (own_of_all records)
@@ -99,16 +81,13 @@ given_inserted c (d ∷ ds) =
     let x : List Handle = history.handles_in c.reply in
     let y : List Handle = history.handles_in d.reply in
     let z : List Handle = handles_of ds in
-    let swapped : IsPermutation (x ++ (y ++ z)) (y ++ (x ++ z)) =
-    subst (λ (p : List Handle × List Handle). IsPermutation p.0 p.1)
-    (λ i. (append_assoc x y z i, append_assoc y x z i)) (IsPermutation-append_left z (x ++ y)
-    (y ++ x) (IsPermutation-append_comm x y)) in
     elim (int_lt d.high c.high) as (λ b. IsPermutation (handles_of (c ∷ d ∷ ds))
     (handles_of (cond b (c ∷ d ∷ ds) (d ∷ insert_reservation c ds)))) [
       | true ↦ IsPermutation-refl (handles_of (c ∷ d ∷ ds))
       | false ↦ IsPermutation-trans (x ++ (y ++ z)) (y ++ (x ++ z))
-          (y ++ handles_of (insert_reservation c ds)) swapped (IsPermutation-append_right y (x ++ z)
-          (handles_of (insert_reservation c ds)) (given_inserted c ds))
+          (y ++ handles_of (insert_reservation c ds)) (turned x y z)
+          (IsPermutation-append_right y (x ++ z) (handles_of (insert_reservation c ds))
+          (given_inserted c ds))
     ]
 
 given_sorted : (cs : List Reservation) → IsPermutation (handles_of cs)
@@ -189,7 +168,8 @@ pub requests-of_all : (records : List Record) → sum (history.requests_of (hist
 requests-of_all records =
     sum_requests (reservations_of records)
     ∙ (sum_sorted (λ (c : Reservation). c.requested) (own_of_all records)
-    ∙ sum_flat (λ (c : Reservation). c.requested) records)
+    ∙ sum_by-flat_map (λ (r : Record). own_reservations r.entries)
+    (λ (c : Reservation). c.requested) records)
 
 -- each reservation was within what the earlier ones had left
 pub within_credit : (r : Record) (before after : List Reservation) (c : Reservation) → r.left

@@ -1,9 +1,11 @@
-pub mod Weighing
 pub mod Records
+pub mod Words
 pub mod Steps
+pub mod Ends
 pub mod Answering
 pub mod Sharing
 pub mod Sorting
+pub mod Callers
 pub mod Histories
 pub mod Settling
 pub mod Merging

@@ -32,7 +32,7 @@ use Rattle.ent_shared.specs.Record.{low, own_reservations, requested_by}
 use Rattle.ent_shared.specs.Phase.{after_loss}
 use Rattle.ent_shared.specs.Rule.{Follow, IsAnswered, IsKept, IsStart, IsClosed}
 use Rattle.ent_shared.specs.Order.{history_of, handles_of}
-use Rattle.ent_shared.proofs.Steps.{requested}
+use Rattle.ent_shared.proofs.Words.{requested}
 use Rattle.ent_shared.proofs.Records.{all_own}
 use Rattle.ent_shared.proofs.Closing.{asked_in_all, cursor_least, cursor_greatest, final_cursor}
 use Rattle.ent_shared.proofs.Closing.{in_word}

@@ -1,14 +1,15 @@
 -- The reservers that are handed in, as their records are merged one by one.
-use Rattle.std.proofs.Common.{◌≡◌, ℕ, ◌+◌, ℤ, List, [], ◌∷◌, ◌++◌, refl, sym, ap, subst, ◌∙◌}
-use Rattle.std.proofs.Common.{append_assoc, append-nil, length, arith, suc}
+use Rattle.std.proofs.Common.{◌≡◌, ℕ, ◌+◌, ℤ, List, [], ◌∷◌, ◌++◌, sym, ap, subst, ◌∙◌}
+use Rattle.std.proofs.Common.{append_assoc, length}
 use Rattle.std.specs.List.{All, sum_by}
 use Rattle.std.specs.Int.{int_min}
 use Rattle.std.proofs.lemmas.List.Elements.{All-head, All-tail, All-nil, All-cons}
-use Rattle.std.proofs.lemmas.List.Sums.{sum_by-cons}
+use Rattle.std.proofs.lemmas.List.{length-map, map-append}
+use Rattle.std.proofs.lemmas.List.Folds.{fold-map}
 use Rattle.ent_shared.specs.declared.record.Record.{Record}
 use Rattle.ent_shared.specs.Phase.{Reserver, records_of}
 use Rattle.ent_shared.specs.Rule.{least_floor}
-use Rattle.ent_shared.proofs.Records.{all_back}
+use Rattle.ent_alloc.proofs.ListLaws.{All-right}
 use Rattle.ent_shared.proofs.Settling.{least_floor-more}
 
 pub item_is : (P : Reserver → Type 0) (items yielded now rest : List Reserver) (r : Reserver)
@@ -16,37 +17,23 @@ pub item_is : (P : Reserver → Type 0) (items yielded now rest : List Reserver)
 item_is P items yielded now rest r all first holds =
     let whole : yielded ++ r ∷ rest ≡ items = ap (λ (xs : List Reserver). yielded ++ xs) (sym first)
     ∙ all in
-    All-head P r rest (all_back P yielded (r ∷ rest) (subst (All P) (sym whole) holds))
+    All-head P r rest (All-right P yielded (r ∷ rest) (subst (All P) (sym whole) holds))
 
 pub items_on : (items yielded now rest : List Reserver) (r : Reserver) → yielded ++ now ≡ items
     → now ≡ r ∷ rest → (yielded ++ r ∷ []) ++ rest ≡ items
 items_on items yielded now rest r all first = append_assoc yielded (r ∷ []) rest
     ∙ (ap (λ (xs : List Reserver). yielded ++ xs) (sym first) ∙ all)
 
-pub items_all : (items yielded now : List Reserver) → yielded ++ now ≡ items → now ≡ [] → yielded
-    ≡ items
-items_all items yielded now all none_left = sym (append-nil yielded)
-    ∙ (ap (λ (xs : List Reserver). yielded ++ xs) (sym none_left) ∙ all)
-
-pub nothing_left : (rs : List Reserver) → length rs ≡ 0 → rs ≡ []
-nothing_left [] e = refl
-nothing_left (r ∷ rs) e = absurd (omega arith)
-
 pub length-records_of : (rs : List Reserver) → length (records_of rs) ≡ length rs
-length-records_of [] = refl
-length-records_of (r ∷ rs) = ap suc (length-records_of rs)
+length-records_of rs = length-map rs (λ (r : Reserver). r.own)
 
 pub sum_by-records_of : (f : Record → ℕ) (rs : List Reserver) → sum_by f (records_of rs)
     ≡ sum_by (λ (r : Reserver). f r.own) rs
-sum_by-records_of f [] = refl
-sum_by-records_of f (r ∷ rs) = sum_by-cons f r.own (records_of rs)
-    ∙ (ap (λ (n : ℕ). f r.own + n) (sum_by-records_of f rs)
-    ∙ sym (sum_by-cons (λ (x : Reserver). f x.own) r rs))
+sum_by-records_of f rs = fold-map (λ (s : ℕ) (r : Record). s + f r) (λ (r : Reserver). r.own) 0 rs
 
 records_of-append : (rs : List Reserver) (r : Reserver) → records_of (rs ++ r ∷ []) ≡ records_of rs
     ++ r.own ∷ []
-records_of-append [] r = refl
-records_of-append (x ∷ rs) r = ap (λ xs. x.own ∷ xs) (records_of-append rs r)
+records_of-append rs r = map-append (λ (x : Reserver). x.own) rs (r ∷ [])
 
 pub records_on : (before after : List Record) (yielded : List Reserver) (r : Reserver)
     (records : List Record) → before ≡ records_of yielded → after ≡ before ++ records → records

@@ -8,7 +8,9 @@ use Rattle.std.proofs.lemmas.List.Elements.{All-head, All-tail, All-nil, All-con
 use Rattle.std.proofs.lemmas.List.Elements.{All-weaker, Contains-append_left, Contains-push}
 use Rattle.std.proofs.lemmas.List.Sums.{sum_by-cons, sum_by-append}
 use Rattle.std.proofs.lemmas.Int.{ints, int_min_is}
+use Rattle.ent_seats.proofs.Weighing.{all_one}
 use Rattle.ent_alloc.specs.Sequential.{Allocator, cursor, pool_at}
+use Rattle.ent_alloc.proofs.ListLaws.{All-left, All-right}
 use Rattle.ent_shared.specs.declared.record.Reservation.{Reservation}
 use Rattle.ent_shared.specs.declared.record.RecordEntry.{RecordEntry}
 use Rattle.ent_shared.specs.declared.record.RecordEntry.TheVariants.{Own, Met}
@@ -18,19 +20,6 @@ use Rattle.ent_shared.specs.Record.{low, reservations_in, own_reservations, know
 use Rattle.ent_shared.specs.Record.{requested_by, reservation_at, after_reservation}
 use Rattle.ent_shared.specs.Moves.{after_meeting}
 use Rattle.ent_shared.specs.Rule.{floor_after, floor_of, InOrder, IsKept}
-
-module _ {X : Type 0} (P : X → Type 0) where
-  pub all_front : (xs ys : List X) → All P (xs ++ ys) → All P xs
-  all_front [] ys all = All-nil P
-  all_front (x ∷ xs) ys all = All-cons P x xs (All-head P x (xs ++ ys) all)
-      (all_front xs ys (All-tail P x (xs ++ ys) all))
-
-  pub all_back : (xs ys : List X) → All P (xs ++ ys) → All P ys
-  all_back [] ys all = all
-  all_back (x ∷ xs) ys all = all_back xs ys (All-tail P x (xs ++ ys) all)
-
-  pub all_one : (x : X) → P x → All P (x ∷ [])
-  all_one x p = All-cons P x [] p (All-nil P)
 
 pub own-made : (es : List RecordEntry) (c : Reservation) → own_reservations (es ++ Own c ∷ [])
     ≡ own_reservations es ++ c ∷ []
@@ -82,7 +71,7 @@ all_own P [] all = All-nil P
 all_own P (Own c ∷ es) all = All-cons P c (own_reservations es)
     (All-head P c (known_reservations es) all)
     (all_own P es (All-tail P c (known_reservations es) all))
-all_own P (Met cs ∷ es) all = all_own P es (all_back P cs (known_reservations es) all)
+all_own P (Met cs ∷ es) all = all_own P es (All-right P cs (known_reservations es) all)
 
 -- a reservation after all others
 pub order-made : (es : List RecordEntry) (c : Reservation) → InOrder es
@@ -98,8 +87,8 @@ order-made (e ∷ es) c order below =
     let Q : Reservation → Type 0 = λ (later : Reservation).
     All (λ (earlier : Reservation). later.high ≤ℤ low earlier) (reservations_in e) in (
       subst (All Q) (sym (own-made es c)) (All-append Q (own_reservations es) (c ∷ []) order.0
-          (all_one Q c (all_front P (reservations_in e) (known_reservations es) below))),
-      order-made es c order.1 (all_back P (reservations_in e) (known_reservations es) below),
+          (all_one Q c (All-left P (reservations_in e) (known_reservations es) below))),
+      order-made es c order.1 (All-right P (reservations_in e) (known_reservations es) below),
     )
 
 pub order-met : (es : List RecordEntry) (cs : List Reservation) → InOrder es

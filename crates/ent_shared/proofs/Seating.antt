@@ -47,7 +47,7 @@ seated_meeting views met after number left met_number met_left floor met_floor s
       credit = credit-met (own_of views) (own_of met) seated.credit;
     })
 
-pub of_reserved : (shared : Shared) (r after : Reserver) (high : ℤ) (n : ℕ) → IsOf shared r → n
+of_reserved : (shared : Shared) (r after : Reserver) (high : ℤ) (n : ℕ) → IsOf shared r → n
     ≤ r.own.left → after ≡ record r { own = after_reservation r.own high n } → IsOf shared after
 of_reserved shared r after high n of within is = subst (IsOf shared) (sym is)
     (record {
@@ -56,6 +56,21 @@ of_reserved shared r after high n of within is = subst (IsOf shared) (sym is)
       number = of.number;
       credit = credit-reserved r.own
           high n within of.credit;
+    })
+
+-- the same, from what the code's step says
+pub of_stepped : (shared : Shared) (r : Reserver) (views after : List (List Record))
+    (number left n : ℕ) (high floor : ℤ) (was now : TableId)
+    → record { word = was; own = own_of views } ≡ r → IsSeated views number left floor
+    → IsOf shared r → n ≤ left → now ≡ was
+    → after ≡ (after_reservation (own_of views) high n ∷ []) ∷ []
+    → IsOf shared (record { word = now; own = own_of after })
+of_stepped shared r views after number left n high floor was now view seated of within same gains =
+    of_reserved shared r (record { word = now; own = own_of after }) high n of
+    (subst (λ (k : ℕ). n ≤ k) (seated.left_is ∙ ap (λ (x : Reserver). x.own.left) view) within)
+    (λ i. record {
+      word = (same ∙ ap (λ (x : Reserver). x.word) view) i;
+      own = (ap own_of gains ∙ ap (λ (x : Reserver). after_reservation x.own high n) view) i;
     })
 
 pub of_met : (shared : Shared) (r met after : Reserver) → IsOf shared r → after

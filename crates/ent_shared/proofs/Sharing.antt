@@ -2,6 +2,7 @@
 use Rattle.std.proofs.Common.{◌≡◌, ℕ, zero, suc, ◌+◌, ◌-◌, ◌<◌, ◌≤◌, ℤ, ◌≤ℤ◌, List, [], ◌∷◌, ◌++◌}
 use Rattle.std.proofs.Common.{map, take, drop, refl, sym, ap, subst, ◌∙◌, arith}
 use Rattle.std.specs.List.{All}
+use Rattle.std.proofs.lemmas.List.{map-append}
 use Rattle.std.proofs.lemmas.List.Elements.{All-nil, All-cons}
 use Rattle.atomic_table.specs.Seated.{TableId}
 use Rattle.atomic_table.specs.Table.{Me}
@@ -49,11 +50,6 @@ none_shared start n word seat made me bare same left = record {
   made_is = bare;
 }
 
-map-snoc : (word : TableId) (rs : List Record) (r : Record) → map (seated word) (rs ++ r ∷ [])
-    ≡ map (seated word) rs ++ seated word r ∷ []
-map-snoc word [] r = refl
-map-snoc word (x ∷ rs) r = ap (λ ys. seated word x ∷ ys) (map-snoc word rs r)
-
 module _ (start : Allocator) (n number : ℕ) (word seat : TableId) (made : List Reserver)
     (me : Me (Unit {0}) (List Record)) (below : number < n) (d : AreShared start n number word made
     seat me) where
@@ -91,7 +87,8 @@ module _ (start : Allocator) (n number : ℕ) (word seat : TableId) (made : List
         made_is =
             now_is
             ∙ ((λ i. d.made_is i ++ r_seated i ∷ [])
-            ∙ (sym (map-snoc word (opened_records start 0 number) (opened start number))
+            ∙ (sym (map-append (seated word) (opened_records start 0 number)
+            (opened start number ∷ []))
             ∙ ap (map (seated word)) (ap (λ (k : ℕ). opened_records start 0 number ++ opened start k
             ∷ []) (omega arith) ∙ (sym (opened-last start 0 number)
             ∙ ap (opened_records start 0) (omega arith)))));

@@ -1,12 +1,16 @@
 -- The calls by falling high: a list that falls, has the same elements and weighs the same is the
 -- same list.
-use Rattle.std.proofs.Common.{◌≡◌, ℕ, zero, suc, ◌+◌, ◌<◌, ◌⊎◌, inl, inr, ⊎_elim, ℤ, ◌≤ℤ◌, ◌<ℤ◌}
+use Rattle.std.proofs.Common.{◌≡◌, ℕ, zero, suc, ◌<◌, ◌⊎◌, inl, inr, ⊎_elim, ℤ, ◌≤ℤ◌, ◌<ℤ◌}
 use Rattle.std.proofs.Common.{List, [], ◌∷◌, refl, sym, ap, subst, ◌∙◌, arith}
-use Rattle.std.specs.Prelude.{Bool, true, false, cond, int_lt}
+use Rattle.std.specs.Prelude.{Bool, true, false, cond, int_lt, IsPermutation}
 use Rattle.std.specs.List.{sum_by, All, Contains}
 use Rattle.std.proofs.lemmas.List.Elements.{All-head, All-tail, All-nil, All-cons, All-weaker}
 use Rattle.std.proofs.lemmas.List.Elements.{All-contains}
 use Rattle.std.proofs.lemmas.List.Sums.{sum_by-cons}
+use Rattle.std.proofs.lemmas.List.Sorted.{IsPermutation-refl, IsPermutation-sym}
+use Rattle.std.proofs.lemmas.List.Sorted.{IsPermutation-trans, IsPermutation-cons}
+use Rattle.std.proofs.lemmas.List.Sorted.{IsPermutation-middle, All-permutation}
+use Rattle.std.proofs.lemmas.List.Sorted.{sum_by-IsPermutation}
 use Rattle.std.proofs.lemmas.Int.{ints, by_lt_z}
 use Rattle.ent_shared.specs.declared.record.Reservation.{Reservation}
 use Rattle.ent_shared.specs.Record.{low}
@@ -33,45 +37,32 @@ abbrev pub FallsStrictly : List Reservation → Type 0
 FallsStrictly [] = Unit {0}
 FallsStrictly (c ∷ cs) = Above c cs × FallsStrictly cs
 
-module _ (P : Reservation → Type 0) where
-  pub all_inserted : (c : Reservation) (cs : List Reservation) → P c → All P cs
-      → All P (insert_reservation c cs)
-  all_inserted c [] p all = All-cons P c [] p all
-  all_inserted c (d ∷ ds) p all =
-      elim (int_lt d.high c.high) as
-      (λ b. All P (cond b (c ∷ d ∷ ds) (d ∷ insert_reservation c ds))) [
-        | true ↦ All-cons P c (d ∷ ds) p all
-        | false ↦ All-cons P d (insert_reservation c ds)
-            (All-head P d ds all) (all_inserted c ds p (All-tail P d ds all))
-      ]
+-- by falling high they are the same, in another order
+inserted : (c : Reservation) (cs : List Reservation)
+    → IsPermutation (c ∷ cs) (insert_reservation c cs)
+inserted c [] = IsPermutation-refl (c ∷ [])
+inserted c (d ∷ ds) =
+    let swapped : IsPermutation (c ∷ d ∷ ds) (d ∷ c ∷ ds) = IsPermutation-sym (d ∷ c ∷ ds) (c ∷ d
+    ∷ ds) (IsPermutation-middle (d ∷ []) c ds) in
+    elim (int_lt d.high c.high) as
+    (λ b. IsPermutation (c ∷ d ∷ ds) (cond b (c ∷ d ∷ ds) (d ∷ insert_reservation c ds))) [
+      | true ↦ IsPermutation-refl (c ∷ d ∷ ds)
+      | false ↦ IsPermutation-trans (c ∷ d ∷ ds) (d ∷ c ∷ ds) (d ∷ insert_reservation c ds) swapped
+          (IsPermutation-cons d (c ∷ ds) (insert_reservation c ds) (inserted c ds))
+    ]
 
-  pub all_sorted : (cs : List Reservation) → All P cs → All P (by_falling_high cs)
-  all_sorted [] all = all
-  all_sorted (c ∷ cs) all = all_inserted c (by_falling_high cs) (All-head P c cs all)
-      (all_sorted cs (All-tail P c cs all))
+pub sorted : (cs : List Reservation) → IsPermutation cs (by_falling_high cs)
+sorted [] = IsPermutation-refl []
+sorted (c ∷ cs) = IsPermutation-trans (c ∷ cs) (c ∷ by_falling_high cs) (by_falling_high (c ∷ cs))
+    (IsPermutation-cons c cs (by_falling_high cs) (sorted cs)) (inserted c (by_falling_high cs))
 
-module _ (f : Reservation → ℕ) where
-  sum_inserted : (c : Reservation) (cs : List Reservation) → sum_by f (insert_reservation c cs)
-      ≡ f c + sum_by f cs
-  sum_inserted c [] = sum_by-cons f c []
-  sum_inserted c (d ∷ ds) =
-      let rest = sum_inserted c ds in
-      let first = sum_by-cons f c (d ∷ ds) in
-      let others = sum_by-cons f d ds in
-      let behind = sum_by-cons f d (insert_reservation c ds) in
-      let goal : Bool → Type 0 = λ b. sum_by f (cond b (c ∷ d ∷ ds) (d ∷ insert_reservation c ds))
-      ≡ f c + sum_by f (d ∷ ds) in
-      let yes : goal true = first in
-      let no : goal false = omega arith in
-      elim (int_lt d.high c.high) as goal [ true ↦ yes | false ↦ no ]
+pub all_sorted : (P : Reservation → Type 0) (cs : List Reservation) → All P cs
+    → All P (by_falling_high cs)
+all_sorted P cs all = All-permutation P cs (by_falling_high cs) (sorted cs) all
 
-  pub sum_sorted : (cs : List Reservation) → sum_by f (by_falling_high cs) ≡ sum_by f cs
-  sum_sorted [] = refl
-  sum_sorted (c ∷ cs) =
-      let rest = sum_sorted cs in
-      let first = sum_inserted c (by_falling_high cs) in
-      let was = sum_by-cons f c cs in
-      omega arith
+pub sum_sorted : (f : Reservation → ℕ) (cs : List Reservation) → sum_by f (by_falling_high cs)
+    ≡ sum_by f cs
+sum_sorted f cs = sum_by-IsPermutation f cs (by_falling_high cs) (sorted cs)
 
 is_less : (a b : ℤ) → a <ℤ b → int_lt a b ≡ true
 is_less a b h = grind (arith, ints)
@@ -93,7 +84,8 @@ falls_inserted c (d ∷ ds) falls =
       falls,
     ))
     (λ more. subst goal (sym (not_less d.high c.high more)) (
-      all_inserted Q c ds more falls.0,
+      All-permutation Q (c ∷ ds) (insert_reservation c ds) (inserted c ds)
+          (All-cons Q c ds more falls.0),
       falls_inserted c ds falls.1,
     ))
 

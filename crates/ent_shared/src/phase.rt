@@ -9,6 +9,7 @@ use crate::shared::Shared;
 use crate::word;
 use ent_alloc::Entities;
 use ent_handle::Memory;
+use ent_seats::split_first;
 use std::alloc::Global;
 
 /// Shares a flushed allocator among `n` reservers, 1 to 1,024, each of which may request
@@ -46,7 +47,7 @@ pub fn share(
         return Err((entities, Memory));
     };
     for number in 0..n {
-        reservers.push_reserved(Reserver::new(word::split_first(&word, &mut all), number, top));
+        reservers.push_reserved(Reserver::new(split_first(&word, &mut all), number, top));
     }
     let Opening { entities, count } = opening;
     Ok((Shared::new(entities, word, count), reservers))

@@ -1,8 +1,8 @@
 ghost use Rattle.std.specs.Prelude.{◌≡◌};
 
-use crate::rule::SeatRecords;
-use atomic_table::Badge;
+use crate::record::Record;
 use ent_alloc::CREDIT;
+use ent_seats::RecordsBadge;
 use std::marker::Model;
 
 /// The right of one caller to reserve from a shared allocator, and what is left of its credit.
@@ -11,7 +11,7 @@ use std::marker::Model;
 /// A caller that reserves in a thread of its own takes one along.
 #[derive(Drop)]
 pub struct Reserver {
-    pub(crate) badge: Badge<SeatRecords>,
+    pub(crate) badge: RecordsBadge<Record>,
     pub(crate) number: usize,
     pub(crate) left: u64,
     pub(crate) floor: i64,
@@ -35,7 +35,7 @@ impl Reserver {
     ghost use Rattle.ent_shared.specs.Record.{requested_by};
     ghost use Rattle.ent_shared.specs.Phase.{own_of, IsSeated};
 
-    pub(crate) fn new(badge: Badge<SeatRecords>, number: usize, floor: i64) -> Self
+    pub(crate) fn new(badge: RecordsBadge<Record>, number: usize, floor: i64) -> Self
         requires { IsSeated badge.views number credit floor }
         ensures { result ≡ record { word = badge.table_id; own = own_of badge.views } }
     {

@@ -1,16 +1,13 @@
 //! The rule over the cursor word and the records of all reservers, and what its steps tell.
 ghost use Rattle.ent_shared.specs.Rule.{IsRuled, ReserveTells};
 ghost use Rattle.ent_shared.specs.Record.{opened_records};
-ghost use Rattle.std.specs.Prelude.{◌≡◌, List, [], ◌∷◌, ◌++◌, take, drop};
+ghost use Rattle.std.specs.Prelude.{[], take, drop};
 ghost use Rattle.ent_shared.specs.Moves.{met_in};
 
 use crate::record::Record;
 use atomic_table::{Join, Play, Split, TableRule};
 use ent_alloc::Entities;
-use std::collections::LinkedList;
-
-/// What a seat knows: the records of the reservers that it stands for.
-pub(crate) type SeatRecords = LinkedList<Record>;
+use ent_seats::SeatRecords;
 
 /// What a phase begins with.
 #[derive(Drop)]
@@ -21,7 +18,7 @@ pub(crate) struct Opening {
 
 pub(crate) struct Cursor;
 
-impl TableRule<(), SeatRecords, Opening> for Cursor {
+impl TableRule<(), SeatRecords<Record>, Opening> for Cursor {
     ghost holds = { λ opening. IsRuled opening.entities opening.count };
 
     ghost first = { λ opening. opened_records opening.entities 0 opening.count };
@@ -30,39 +27,14 @@ impl TableRule<(), SeatRecords, Opening> for Cursor {
 /// A reservation.
 pub(crate) struct Reserve;
 
-impl Play<(), SeatRecords> for Reserve {
+impl Play<(), SeatRecords<Record>> for Reserve {
     ghost then = { λ step before found after. ReserveTells step.first before found after };
-}
-
-/// A new seat, which has no record.
-pub(crate) struct NewSeat;
-
-impl Play<(), SeatRecords> for NewSeat {
-    ghost then = { λ step before found after. after.0 ≡ [] };
-}
-
-/// The first record moves to a seat of its own.
-pub(crate) struct SplitFirst;
-
-impl Split<SeatRecords> for SplitFirst {
-    ghost left = { λ records. drop 1 records };
-
-    ghost right = { λ records. take 1 records };
-}
-
-/// The records of two seats in one.
-pub(crate) struct Merge;
-
-impl Join<SeatRecords> for Merge {
-    ghost both = { λ some others. some ++ others };
-
-    ghost spent = { [] };
 }
 
 /// The first reserver meets the second.
 pub(crate) struct Meet;
 
-impl Join<SeatRecords> for Meet {
+impl Join<SeatRecords<Record>> for Meet {
     ghost both = { met_in };
 
     ghost spent = { [] };
@@ -71,7 +43,7 @@ impl Join<SeatRecords> for Meet {
 /// The reserver that was met goes back to a seat of its own.
 pub(crate) struct SplitSecond;
 
-impl Split<SeatRecords> for SplitSecond {
+impl Split<SeatRecords<Record>> for SplitSecond {
     ghost left = { λ records. take 1 records };
 
     ghost right = { λ records. drop 1 records };

@@ -19,6 +19,7 @@ use crate::word;
 use crate::word::Word;
 use ent_alloc::{Entities, Reserved, Span};
 use ent_handle::Handle;
+use ent_seats::{merge, new_seat};
 use std::marker::Model;
 
 /// An allocator that many callers reserve from at once, each with a [`Reserver`] of its own.
@@ -249,11 +250,11 @@ fn end_phase(word: Word, top: i64, reservers: Vec<Reserver>) -> (i64, i64)
         IsClosed opening.entities opening.count (records_of reservers.items) result.0 }
     ensures floor { result.1 ≡ least_floor top (records_of reservers.items) }
 {
-    let mut all = word::new_seat(&word);
+    let mut all = new_seat(&word);
     let mut floor = top;
     for reserver in reservers {
         floor = floor.min(reserver.floor);
-        word::merge(&word, &mut all, reserver.badge);
+        merge(&word, &mut all, reserver.badge);
     }
     (word::close(word, all), floor)
 }

@@ -1,26 +1,24 @@
 //! The cursor as one atomic word: what each kind of step does to the word and to the records.
-ghost use Rattle.std.specs.Prelude.{◌≡◌, pos, ◌-ℤ◌, ◌≤ℤ◌, ◌<◌, ◌≤◌, ◌^◌};
-ghost use Rattle.std.specs.Prelude.{List, [], ◌∷◌, ◌++◌, take, drop, IfOk};
+ghost use Rattle.std.specs.Prelude.{◌≡◌, pos, ◌-ℤ◌, ◌≤ℤ◌, ◌<◌, ◌≤◌, ◌^◌, [], ◌∷◌, IfOk};
 ghost use Rattle.ent_alloc.specs.Sequential.{cursor};
 ghost use Rattle.ent_shared.specs.Record.{opened_records, after_reservation};
 ghost use Rattle.ent_shared.specs.Rule.{IsStart, IsClosed};
-ghost use Rattle.ent_shared.specs.declared.record.Record.{Record};
 ghost use Rattle.ent_shared.specs.Moves.{after_meeting};
 ghost use Rattle.ent_shared.specs.Phase.{own_of, IsPhase};
 
-use crate::rule::{
-    Cursor, Meet, Merge, NewSeat, Opening, Reserve, SeatRecords, SplitFirst, SplitSecond,
-};
-use atomic_table::{Badge, Seat, Table};
+use crate::record::Record;
+use crate::rule::{Cursor, Meet, Opening, Reserve, SplitSecond};
+use atomic_table::{Badge, Table};
+use ent_seats::{RecordsBadge, RecordsSeat, RecordsWord};
 use std::alloc::{AllocError, Global};
 use std::mem;
 
 /// What is added to the cursor, so that the word is never negative.
 const OFFSET: i64 = 1 << 62;
 
-pub(crate) type Word = Table<(), SeatRecords, Opening, Cursor, Global>;
+pub(crate) type Word = RecordsWord<Record, Opening, Cursor>;
 
-pub(crate) type CursorSeat = Seat<(), SeatRecords>;
+pub(crate) type CursorSeat = RecordsSeat<Record>;
 
 /// A word that begins at the cursor of the allocator, and a seat that has all records.
 pub(crate) fn open(alloc: Global, opening: &Opening) -> Result<(Word, CursorSeat), AllocError>
@@ -35,20 +33,8 @@ pub(crate) fn open(alloc: Global, opening: &Opening) -> Result<(Word, CursorSeat
     Table::of_words(alloc, &[(cursor + OFFSET) as u64], opening)
 }
 
-/// Takes the first record out of a seat, into a seat of its own.
-pub(crate) fn split_first(word: &Word, all: &mut CursorSeat) -> Badge<SeatRecords>
-    requires word { (word.now.shared.table_id.words ≡ 1)
-        × (all.old.table_id ≡ word.now.shared.table_id) × (all.old.me.1 ≡ []) }
-    ensures kept { (all.new.table_id ≡ all.old.table_id)
-        × (all.new.me ≡ (drop 1 all.old.me.0, [])) }
-    ensures first { (result.table_id ≡ all.old.table_id)
-        × (result.views ≡ take 1 all.old.me.0 ∷ []) }
-{
-    word.shared.split_seat::<SplitFirst>(all).into_badge()
-}
-
 /// The reservation step: subtracts `n` from the word. Returns the cursor that it found.
-pub(crate) fn reserve(word: &Word, badge: &mut Badge<SeatRecords>, n: u32) -> i64
+pub(crate) fn reserve(word: &Word, badge: &mut RecordsBadge<Record>, n: u32) -> i64
     requires word { (word.now.shared.table_id.words ≡ 1)
         × (badge.old.table_id ≡ word.now.shared.table_id) }
     requires alone { badge.old.views ≡ (own_of badge.old.views ∷ []) ∷ [] }
@@ -68,7 +54,7 @@ pub(crate) fn reserve(word: &Word, badge: &mut Badge<SeatRecords>, n: u32) -> i6
 }
 
 /// The meeting step: the first reserver's record lists what the second one has made and learned of.
-pub(crate) fn meet(word: &Word, a: &mut Badge<SeatRecords>, b: &mut Badge<SeatRecords>)
+pub(crate) fn meet(word: &Word, a: &mut RecordsBadge<Record>, b: &mut RecordsBadge<Record>)
     requires word { (word.now.shared.table_id.words ≡ 1)
         × (a.old.table_id ≡ word.now.shared.table_id)
         × (b.old.table_id ≡ word.now.shared.table_id) }
@@ -87,28 +73,6 @@ pub(crate) fn meet(word: &Word, a: &mut Badge<SeatRecords>, b: &mut Badge<SeatRe
         .split_seat::<SplitSecond>(&mut seat)
         .into_badge();
     *a = seat.into_badge();
-}
-
-/// A seat without records, for those of the reservers that are handed in.
-pub(crate) fn new_seat(word: &Word) -> CursorSeat
-    requires { word.now.shared.table_id.words ≡ 1 }
-    ensures { (result.table_id ≡ word.now.shared.table_id) × (result.me ≡ ([], [])) }
-{
-    word.shared.load_new_seat::<NewSeat>(0).1
-}
-
-/// Moves a reserver's record into a seat.
-pub(crate) fn merge(word: &Word, all: &mut CursorSeat, badge: Badge<SeatRecords>)
-    requires word { (word.now.shared.table_id.words ≡ 1)
-        × (all.old.table_id ≡ word.now.shared.table_id)
-        × (badge.table_id ≡ word.now.shared.table_id)
-        × (all.old.me.1 ≡ []) }
-    requires one { (records : List Record) × (badge.views ≡ records ∷ []) }
-    ensures kept { all.new.table_id ≡ all.old.table_id }
-    ensures merges { (all.new.me.1 ≡ []) × ((records : List Record) → badge.views ≡ records ∷ []
-        → all.new.me.0 ≡ all.old.me.0 ++ records) }
-{
-    word.shared.join_seat::<Merge>(all, badge.into_seat());
 }
 
 /// The cursor at the end of the phase, of which a seat knows these records.

@@ -1,11 +1,11 @@
 ghost use Rattle.std.specs.Prelude.{◌≡◌};
 ghost use Rattle.ent_shared.specs.Phase.{IsOf};
 
-use crate::gate::Gate;
 use ent_handle::Handle;
 use ent_shared::{Refused, Reserver, Shared};
 use std::alloc::Global;
 use std::process::Abort;
+use tests_gate::Gate;
 
 /// A reserver, the handles that it was given, and whether its thread saw all others.
 #[derive(Drop)]

@@ -4,12 +4,12 @@ ghost use Rattle.std.specs.Prelude.{◌≡◌, All};
 ghost use Rattle.ent_shared.specs.Phase.{IsOf};
 
 use crate::allocators::{assert_counts, assert_cursor, flushed, with_slots};
-use crate::gate::Gate;
 use crate::phase::{closed, give_back, opened};
 use ent_shared::{Refused, Reserver, Shared};
 use std::alloc::Global;
 use std::process::Abort;
 use std::thread::{Threads, join_mut};
+use tests_gate::Gate;
 
 /// How a thread requests: one handle at a time, or several at once.
 #[derive(Clone, Copy)]

@@ -10,8 +10,6 @@ mod credit;
 #[cfg(test)]
 mod few_slots;
 #[cfg(test)]
-mod gate;
-#[cfg(test)]
 mod in_turn;
 #[cfg(test)]
 mod limits;

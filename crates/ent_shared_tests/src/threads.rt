@@ -4,13 +4,13 @@ ghost use Rattle.ent_shared.specs.Phase.{IsOf};
 
 use crate::allocators::{assert_counts, assert_cursor, flushed, with_freed};
 use crate::caller::Caller;
-use crate::gate::Gate;
 use crate::phase::{closed, give_back, last, opened};
 use ent_alloc::{Entities, Limits, State};
 use ent_handle::Handle;
 use ent_shared::Shared;
 use std::process::Abort;
 use std::thread::{Threads, join_mut};
+use tests_gate::Gate;
 
 /// Two callers reserve side by side, `n` handles each.
 fn both_beside<R: Threads + Sync>(

@@ -2,6 +2,7 @@ use Rattle.std.proofs.Common.{rules, ◌≡◌, arith, subst, ◌∙◌, to_z, o
 use Rattle.std.proofs.lemmas.Int.{ints}
 use Rattle.ent_alloc.specs.Sequential.{cursor}
 use Rattle.ent_shared.specs.Phase.{own_of}
+use Rattle.ent_shared.proofs.Steps.{goes_by_records}
 use Rattle.ent_shared.proofs.Sharing.{AreShared, none_shared, next_seated, shared_more, all_shared}
 use Rattle.ent_shared.proofs.Sharing.{all_unused, all_own}
 use Rattle.ent_shared.proofs.phase.share.Goals as goal
@@ -13,6 +14,9 @@ loop-number-init c = record {
   count = search rules;
   room = (let e = c.in-Ok.ensures.exact in omega arith);
 }
+
+pub split_first-requires-clause-rule : goal.split_first-requires-clause-rule
+split_first-requires-clause-rule c = goes_by_records _ _
 
 pub new-requires : goal.new-requires
 new-requires c =
@@ -45,29 +49,23 @@ loop-number-preserved c = record {
       omega arith);
 }
 
-pub returns-clause-reservers : goal.returns-clause-reservers
-returns-clause-reservers c =
+-- all reservers are made
+made : (c : goal.After-drop-all) → AreShared c.args.entities c.args.n c.args.n
+    c.in-Ok-open.word.shared.table_id c.loop-number.reservers.items c.loop-number.all.table_id
+    c.loop-number.all.me
+made c =
     let all : c.loop-number.number ≡ c.args.n = (let end = c.loop-number.auto.number-end in
     let last = c.loop-number-test.false in omega arith) in
-    all_shared c.args.entities c.args.n _ _ _ _
-    (subst (λ k. AreShared c.args.entities c.args.n k c.in-Ok-open.word.shared.table_id
+    subst (λ k. AreShared c.args.entities c.args.n k c.in-Ok-open.word.shared.table_id
     c.loop-number.reservers.items c.loop-number.all.table_id c.loop-number.all.me) all
-    c.loop-number.invariant.first)
+    c.loop-number.invariant.first
+
+pub returns-clause-reservers : goal.returns-clause-reservers
+returns-clause-reservers c = all_shared c.args.entities c.args.n _ _ _ _ (made c)
 
 pub returns-clause-own : goal.returns-clause-own
-returns-clause-own c =
-    let all : c.loop-number.number ≡ c.args.n = (let end = c.loop-number.auto.number-end in
-    let last = c.loop-number-test.false in omega arith) in
-    all_own c.args.entities c.args.n _ _ _ _
-    (subst (λ k. AreShared c.args.entities c.args.n k c.in-Ok-open.word.shared.table_id
-    c.loop-number.reservers.items c.loop-number.all.table_id c.loop-number.all.me) all
-    c.loop-number.invariant.first) c.new-2.result c.new-2.ensures
+returns-clause-own c = all_own c.args.entities c.args.n _ _ _ _ (made c) c.new-2.result
+    c.new-2.ensures
 
 pub returns-clause-unused : goal.returns-clause-unused
-returns-clause-unused c =
-    let all : c.loop-number.number ≡ c.args.n = (let end = c.loop-number.auto.number-end in
-    let last = c.loop-number-test.false in omega arith) in
-    all_unused c.args.entities c.args.n _ _ _ _
-    (subst (λ k. AreShared c.args.entities c.args.n k c.in-Ok-open.word.shared.table_id
-    c.loop-number.reservers.items c.loop-number.all.table_id c.loop-number.all.me) all
-    c.loop-number.invariant.first)
+returns-clause-unused c = all_unused c.args.entities c.args.n _ _ _ _ (made c)

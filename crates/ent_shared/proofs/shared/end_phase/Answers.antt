@@ -3,9 +3,16 @@ use Rattle.std.proofs.lemmas.Int.{ints, to_z-of_z}
 use Rattle.ent_shared.specs.declared.record.Record.{Record}
 use Rattle.ent_shared.specs.Phase.{Reserver, own_of, records_of}
 use Rattle.ent_shared.specs.Rule.{IsClosed, least_floor}
-use Rattle.ent_shared.proofs.Merging.{item_is, items_on, items_all, records_on, floor_on}
-use Rattle.ent_shared.proofs.Merging.{nothing_left}
+use Rattle.ent_seats.proofs.HandedIn.{items_all}
+use Rattle.ent_shared.proofs.Steps.{goes_by_records}
+use Rattle.ent_shared.proofs.Merging.{item_is, items_on, records_on, floor_on}
 use Rattle.ent_shared.proofs.shared.end_phase.Goals as goal
+
+pub new_seat-all-requires-clause-rule : goal.new_seat-all-requires-clause-rule
+new_seat-all-requires-clause-rule c = goes_by_records _ _
+
+pub merge-requires-clause-rule : goal.merge-requires-clause-rule
+merge-requires-clause-rule c = goes_by_records _ _
 
 pub merge-requires-clause-word : goal.merge-requires-clause-word
 merge-requires-clause-word c =
@@ -55,8 +62,7 @@ all_in c =
     let ok = c.loop-reserver.reserver-iterator.rest.ok in
     items_all c.args.reservers.items c.loop-reserver.yielded
     c.loop-reserver.reserver-iterator.rest.items c.loop-reserver.invariant.all
-    (nothing_left c.loop-reserver.reserver-iterator.rest.items (sym ok.0
-    ∙ c.in-None.ensures.steps.0))
+    (sym ok.0 ∙ c.in-None.ensures.steps.0)
 
 pub returns-clause-cursor : goal.returns-clause-cursor
 returns-clause-cursor c =

@@ -1,7 +1,8 @@
 use Rattle.std.proofs.Common.{ap, subst, ◌^◌, ◌+◌, ◌≤◌, ◌<◌}
 use Rattle.ent_shared.specs.Rule.{cursor_of, offset}
-use Rattle.ent_shared.proofs.Steps.{ends, word_least, word_greatest, word_fits, cursor_fits}
-use Rattle.ent_shared.proofs.Steps.{cursor_is, last_word}
+use Rattle.ent_shared.proofs.Words.{word_least, word_greatest, word_fits, cursor_fits}
+use Rattle.ent_shared.proofs.Words.{cursor_is, last_word}
+use Rattle.ent_shared.proofs.Ends.{ends}
 use Rattle.ent_shared.proofs.word.close.Goals as goal
 
 -- the state at the end, and that its word was read

@@ -1,7 +1,8 @@
 use Rattle.std.proofs.Common.{◌≡◌, pos, arith, ◌∙◌}
 use Rattle.std.proofs.lemmas.Int.{ints}
 use Rattle.ent_alloc.specs.Sequential.{top}
-use Rattle.ent_shared.proofs.Steps.{begins, word_is}
+use Rattle.ent_shared.proofs.Words.{word_is}
+use Rattle.ent_shared.proofs.Ends.{begins}
 use Rattle.ent_shared.proofs.word.open.Goals as goal
 
 pub of_words-requires : goal.of_words-requires

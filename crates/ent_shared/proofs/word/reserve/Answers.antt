@@ -2,7 +2,8 @@ use Rattle.std.proofs.Common.{rules, ◌≡◌, List, [], ◌∷◌, ap, subst, 
 use Rattle.ent_shared.specs.declared.record.Record.{Record}
 use Rattle.ent_shared.specs.Phase.{own_of}
 use Rattle.ent_shared.specs.Rule.{AfterReserve}
-use Rattle.ent_shared.proofs.Steps.{reserves_at, word_fits, cursor_fits, cursor_is, least_cursor}
+use Rattle.ent_shared.proofs.Words.{word_fits, cursor_fits, cursor_is, least_cursor}
+use Rattle.ent_shared.proofs.Steps.{reserves_at}
 use Rattle.ent_shared.proofs.word.reserve.Goals as goal
 
 -- the seat has the badge's record alone

@@ -3,8 +3,16 @@ use Rattle.ent_claims.specs.declared.record.ClaimRecord.{ClaimRecord}
 use Rattle.ent_claims.specs.declared.rule.Opening.{Opening}
 use Rattle.ent_claims.specs.Rule.{AreClaimsClosed}
 use Rattle.ent_claims.specs.Claims.{Claims}
-use Rattle.ent_claims.proofs.Closing.{records_of, items_all, first, apart, claimed, once}
+use Rattle.ent_seats.proofs.HandedIn.{items_all}
+use Rattle.ent_claims.proofs.Steps.{goes_by_records}
+use Rattle.ent_claims.proofs.Closing.{records_of, first, apart, claimed, once}
 use Rattle.ent_claims.proofs.claims.Claims.close.Goals as goal
+
+pub new_seat-all-requires-clause-rule : goal.new_seat-all-requires-clause-rule
+new_seat-all-requires-clause-rule c = goes_by_records _ _
+
+pub merge-requires-clause-rule : goal.merge-requires-clause-rule
+merge-requires-clause-rule c = goes_by_records _ _
 
 closed : (c : goal.After-close) → AreClaimsClosed c.args.self.numbers c.args.self.workers
     (records_of c.args.claimers.items)

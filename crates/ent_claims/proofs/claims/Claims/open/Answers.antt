@@ -1,7 +1,11 @@
 use Rattle.std.proofs.Common.{arith, ◌∙◌}
 use Rattle.ent_claims.specs.Record.{claims_of}
+use Rattle.ent_claims.proofs.Steps.{goes_by_records}
 use Rattle.ent_claims.proofs.Opening.{next_seated, opened_more}
 use Rattle.ent_claims.proofs.claims.Claims.open.Goals as goal
+
+pub split_first-requires-clause-rule : goal.split_first-requires-clause-rule
+split_first-requires-clause-rule c = goes_by_records _ _
 
 pub new-requires : goal.new-requires
 new-requires c = next_seated c.args.numbers c.args.workers c.loop.counter _ _ _ c.loop.all.me

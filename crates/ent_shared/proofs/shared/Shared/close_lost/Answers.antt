@@ -10,9 +10,10 @@ use Rattle.ent_shared.specs.Phase.{Shared, Reserver, records_of, after_loss}
 use Rattle.ent_shared.proofs.Losing.{lost, Lost}
 use Rattle.ent_shared.proofs.Merging.{length-records_of, sum_by-records_of, all_owners}
 use Rattle.ent_shared.proofs.shared.Shared.close_lost.Goals as goal
+use Rattle.ent_shared.proofs.shared.Shared.close_lost.Goals.{After-max}
 
--- what is known before the allocator is settled, and after it
-known : (c : goal.After-max) → Lost c.self.inside.entities c.args.self.start c.args.self.count
+-- what is known before the allocator is settled
+known : (c : After-max) → Lost c.self.inside.entities c.args.self.start c.args.self.count
     (records_of c.args.reservers.items) (to_z w64 (of_z w64 c.end_phase-cursor.result.0))
     (to_z w64 (of_z w64 c.max.result))
 known c =
@@ -25,82 +26,77 @@ known c =
     c.end_phase-cursor.ensures.cursor c.room.ensures c.room.type_inv (c.from-2.ensures)
     c.max.ensures.value
 
-after : (c : goal.After-settle) → Lost c.self.inside.entities c.args.self.start c.args.self.count
-    (records_of c.args.reservers.items) (to_z w64 (of_z w64 c.end_phase-cursor.result.0))
-    (to_z w64 (of_z w64 c.max.result))
-after c =
-    let phase = c.self.invariant in
-    lost c.self.inside.entities c.args.self.start c.self.inside.count c.args.self.count
-    c.room.result c.self.inside.word.shared.key (records_of c.args.reservers.items)
-    c.end_phase-cursor.result.0 c.max.result c.from-2.result
-    phase.begins phase.sound phase.few phase.key_is (ap (λ (s : Shared). s.start) c.self.view_is)
-    (ap (λ (s : Shared). s.count) c.self.view_is)
-    c.end_phase-cursor.ensures.cursor c.room.ensures c.room.type_inv (c.from-2.ensures)
-    c.max.ensures.value
-
 pub settle-requires-clause-least : goal.settle-requires-clause-least
-settle-requires-clause-least c = (known c).least
+settle-requires-clause-least c =
+    (known (goal.at.settle-requires-clause-least c).After-max).least
 
 pub settle-requires-clause-greatest : goal.settle-requires-clause-greatest
-settle-requires-clause-greatest c = (known c).greatest
+settle-requires-clause-greatest c =
+    (known (goal.at.settle-requires-clause-greatest c).After-max).greatest
 
 pub settle-requires-clause-all_given : goal.settle-requires-clause-all_given
-settle-requires-clause-all_given c = (known c).all_given
+settle-requires-clause-all_given c =
+    (known (goal.at.settle-requires-clause-all_given c).After-max).all_given
 
 -- what is left, and how much it was asked for
-left_is : (c : goal.After-settle) → c.settle.new.self ≡ after_loss c.args.self.start (after c).asked
-left_is c = c.settle.ensures.settled ∙ (after c).after
+left_is : (c : goal.After-settle)
+    (l : Lost c.self.inside.entities c.args.self.start c.args.self.count
+    (records_of c.args.reservers.items) (to_z w64 (of_z w64 c.end_phase-cursor.result.0))
+    (to_z w64 (of_z w64 c.max.result))) → c.settle.new.self ≡ after_loss c.args.self.start l.asked
+left_is c l = c.settle.ensures.settled ∙ l.after
 
 pub returns-clause-after : goal.returns-clause-after
 returns-clause-after c =
-    let asked : c.settle.new.self.asked ≡ (after c).asked = ap (λ (s : Allocator). s.asked)
-    (left_is c) in
-    left_is c ∙ ap (after_loss c.args.self.start) (sym asked)
+    let l = known (goal.at.returns-clause-after c).After-max in
+    let asked : c.settle.new.self.asked ≡ l.asked = ap (λ (s : Allocator). s.asked)
+    (left_is c l) in
+    left_is c l ∙ ap (after_loss c.args.self.start) (sym asked)
 
 pub returns-clause-least : goal.returns-clause-least
 returns-clause-least c =
-    let l = after c in
+    let l = known (goal.at.returns-clause-least c).After-max in
     let own : sum_by requested_by (records_of c.args.reservers.items)
     ≡ sum_by (λ (r : Reserver). requested_by r.own) c.args.reservers.items = sum_by-records_of
     requested_by c.args.reservers.items in
     subst (λ (s : Allocator). sum_by (λ (r : Reserver). requested_by r.own) c.args.reservers.items
-    ≤ s.asked) (sym (left_is c)) (subst (λ (n : ℕ). n ≤ l.asked) own l.some_asked)
+    ≤ s.asked) (sym (left_is c l)) (subst (λ (n : ℕ). n ≤ l.asked) own l.some_asked)
 
 pub returns-clause-asked : goal.returns-clause-asked
 returns-clause-asked c = λ all_here.
-    let l = after c in
+    let l = known (goal.at.returns-clause-asked c).After-max in
     let own : sum_by requested_by (records_of c.args.reservers.items)
     ≡ sum_by (λ (r : Reserver). requested_by r.own) c.args.reservers.items = sum_by-records_of
     requested_by c.args.reservers.items in
     sym own ∙ l.all_asked (length-records_of c.args.reservers.items ∙ all_here)
-    ∙ ap (λ (s : Allocator). s.asked) (sym (left_is c))
+    ∙ ap (λ (s : Allocator). s.asked) (sym (left_is c l))
 
 pub returns-clause-most : goal.returns-clause-most
 returns-clause-most c =
-    let l = after c in
+    let l = known (goal.at.returns-clause-most c).After-max in
     let own : sum_by (λ (r : Record). r.left) (records_of c.args.reservers.items)
     ≡ sum_by (λ (r : Reserver). r.own.left) c.args.reservers.items = sum_by-records_of
     (λ (r : Record). r.left) c.args.reservers.items in
     subst (λ (s : Allocator). sum_by (λ (r : Reserver). r.own.left) c.args.reservers.items + s.asked
-    ≤ c.args.self.count * credit) (sym (left_is c))
+    ≤ c.args.self.count * credit) (sym (left_is c l))
     (subst (λ (n : ℕ). n + l.asked ≤ c.args.self.count * credit) own l.most_asked)
 
 pub returns-clause-reached : goal.returns-clause-reached
 returns-clause-reached c =
-    let l = after c in
+    let l = known (goal.at.returns-clause-reached c).After-max in
     all_owners (λ (r : Record). cursor c.settle.new.self ≤ℤ r.mark) c.args.reservers.items
     (subst (λ (s : Allocator). All (λ (r : Record). cursor s ≤ℤ r.mark)
-    (records_of c.args.reservers.items)) (sym (left_is c)) l.reached)
+    (records_of c.args.reservers.items)) (sym (left_is c l)) l.reached)
 
 pub returns-clause-whole : goal.returns-clause-whole
 returns-clause-whole c = λ all_here.
-    ap cursor (left_is c) ∙ (after c).whole (length-records_of c.args.reservers.items ∙ all_here)
+    let l = known (goal.at.returns-clause-whole c).After-max in
+    ap cursor (left_is c l) ∙ l.whole (length-records_of c.args.reservers.items ∙ all_here)
 
 pub returns-clause-given : goal.returns-clause-given
 returns-clause-given c =
-    let l = after c in
+    let l = known (goal.at.returns-clause-given c).After-max in
     all_owners (λ (r : Record). All (Contains c.settle.new.self.taken)
     (handles_of (own_reservations r.entries))) c.args.reservers.items
     (subst (λ (s : Allocator).
     All (λ (r : Record). All (Contains s.taken) (handles_of (own_reservations r.entries)))
-    (records_of c.args.reservers.items)) (sym (left_is c)) l.given)
+    (records_of c.args.reservers.items)) (sym (left_is c l)) l.given)

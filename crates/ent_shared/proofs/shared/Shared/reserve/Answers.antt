@@ -1,5 +1,5 @@
 use Rattle.std.proofs.Common.{◌≡◌, refl, ◌-ℤ◌, pos, sym, ap, ◌∙◌, arith, to_z, of_z, w64, ◌++◌}
-use Rattle.std.proofs.Common.{append-nil}
+use Rattle.std.proofs.Common.{append-nil, ℕ}
 use Rattle.std.specs.Prelude.{Result}
 use Rattle.std.proofs.lemmas.Int.{ints}
 use Rattle.ent_handle.specs.Handle.{Handle}
@@ -7,117 +7,92 @@ use Rattle.ent_alloc.specs.declared.space.Space.{Space}
 use Rattle.ent_alloc.specs.History.{handles_in}
 use Rattle.ent_alloc.specs.Sequential.{pool_at, reply_from, listed_alone}
 use Rattle.ent_shared.specs.Phase.{Shared, Reserver, own_of}
-use Rattle.ent_shared.specs.Record.{after_reservation}
 use Rattle.ent_shared.specs.Order.{handles_given}
-use Rattle.ent_shared.proofs.Seating.{seated_reservation, of_reserved, given_now}
-use Rattle.ent_shared.proofs.Answering.{served_floor, refused_floor, on_err, one_low}
+use Rattle.ent_shared.proofs.Seating.{seated_reservation, of_stepped, given_now}
+use Rattle.ent_shared.proofs.Answering.{served_floor, refused_floor, on_err, one_reply}
 use Rattle.ent_shared.proofs.shared.Shared.reserve.Goals as goal
+use Rattle.ent_shared.proofs.shared.Shared.reserve.Goals.{After-reply_one}
+
+-- the reserver is of this allocator
+started : (c : After-reply_one) → c.args.reserver.now.own.start ≡ c.self.inside.entities
+started c = c.requires.start ∙ sym (ap (λ (s : Shared). s.start) c.self.view_is)
+
+-- the reply is the allocator's at the cursor that the step found
+replied : (c : After-reply_one) → (k : ℕ) → c.reserve-high.result -ℤ pos 1 ≡ c.reserve-high.result
+    -ℤ pos k → listed_alone c.reply_one.result ≡ reply_from c.self.inside.entities.made
+    (pool_at c.self.inside.entities c.reserve-high.result) k
+replied c =
+    let fits = c.reserve-high.type_inv in
+    let least = c.reserve-high.ensures.least in
+    one_reply c.self.inside.entities c.reserve-high.result _ (listed_alone c.reply_one.result)
+    (omega (arith, ints)) c.reply_one.ensures
+
+-- what the reserver was given by then
+given : (c : After-reply_one) → handles_given (own_of c.reserve-high.new.badge.views)
+    ≡ handles_given c.args.reserver.now.own ++ handles_in (listed_alone c.reply_one.result)
+given c =
+    let high = c.reserve-high.result in
+    given_now c.reserver.inside.badge.views c.reserve-high.new.badge.views c.args.reserver.now _
+    c.self.inside.entities high 1 (record { high = high; low = high -ℤ pos 1 })
+    (listed_alone c.reply_one.result) c.reserver.view_is c.reserve-high.ensures.gains (started c)
+    refl (replied c)
 
 pub invariant_of-reserver : goal.invariant_of-reserver
 invariant_of-reserver c =
+    let at = (goal.at.invariant_of-reserver c).After-reply_one in
     let high = c.reserve-high.result in
-    let word : to_z w64 (of_z w64 high) ≡ high = (let fits = c.reserve-high.type_inv in let least =
-    c.reserve-high.ensures.least in omega (arith, ints)) in
     let start : (own_of c.reserver.inside.badge.views).start ≡ c.self.inside.entities =
-    ap (λ (r : Reserver). r.own.start) c.reserver.view_is
-    ∙ (c.requires.start ∙ sym (ap (λ (s : Shared). s.start) c.self.view_is)) in
-    let reply : listed_alone c.reply_one.result ≡ reply_from c.self.inside.entities.made
-    (pool_at c.self.inside.entities high) 1 = c.reply_one.ensures
-    ∙ (λ i. reply_from c.self.inside.entities.made (pool_at c.self.inside.entities (word i)) 1)
-    in
+    ap (λ (r : Reserver). r.own.start) c.reserver.view_is ∙ started at in
     seated_reservation c.reserver.inside.badge.views c.reserve-high.new.badge.views
     c.reserver.inside.number c.reserver.inside.left 1 c.reserver.inside.floor high
     c.reserver.inside.floor
     c.reserver.invariant c.reserve-high.ensures.gains c.reserve-high.ensures.mark (omega arith)
     (c.reserver.invariant.floor_is ∙ refused_floor (own_of c.reserver.inside.badge.views)
     c.self.inside.entities high 1 (record { high = high; low = high -ℤ pos 1 }) _
-    (listed_alone c.reply_one.result) start refl (one_low c.self.inside.entities high _ reply)
+    (listed_alone c.reply_one.result) start refl (replied at)
     (ap listed_alone c.in_err-handle.was))
 
 pub returns-in_err-handle-clause-stays : goal.returns-in_err-handle-clause-stays
 returns-in_err-handle-clause-stays c =
-    let left : c.reserver.inside.left ≡ c.args.reserver.now.own.left = c.reserver.invariant.left_is
-    ∙ ap (λ (r : Reserver). r.own.left) c.reserver.view_is in
-    of_reserved c.args.self.now c.args.reserver.now _ c.reserve-high.result 1 c.requires
-    (omega arith)
-    (λ i. record {
-      word = (c.reserve-high.ensures.same ∙ ap (λ (r : Reserver). r.word)
-          c.reserver.view_is) i;
-      own = (ap own_of c.reserve-high.ensures.gains
-          ∙ ap (λ (r : Reserver). after_reservation r.own c.reserve-high.result 1) c.reserver.view_is)
-          i;
-    })
+    of_stepped c.args.self.now c.args.reserver.now c.reserver.inside.badge.views
+    c.reserve-high.new.badge.views _ _ 1 c.reserve-high.result _ _ _ c.reserver.view_is
+    c.reserver.invariant c.requires (omega arith) c.reserve-high.ensures.same
+    c.reserve-high.ensures.gains
 
 pub returns-in_err-handle-clause-refused : goal.returns-in_err-handle-clause-refused
 returns-in_err-handle-clause-refused c =
-    let high = c.reserve-high.result in
-    let word : to_z w64 (of_z w64 high) ≡ high = (let fits = c.reserve-high.type_inv in let least =
-    c.reserve-high.ensures.least in omega (arith, ints)) in
-    let start : c.args.reserver.now.own.start ≡ c.self.inside.entities = c.requires.start
-    ∙ sym (ap (λ (s : Shared). s.start) c.self.view_is) in
-    let reply : listed_alone c.reply_one.result ≡ reply_from c.self.inside.entities.made
-    (pool_at c.self.inside.entities high) 1 = c.reply_one.ensures
-    ∙ (λ i. reply_from c.self.inside.entities.made (pool_at c.self.inside.entities (word i)) 1)
-    in
     on_err c.from_residual.result
-    (given_now c.reserver.inside.badge.views c.reserve-high.new.badge.views c.args.reserver.now _
-    c.self.inside.entities high 1 (record { high = high; low = high -ℤ pos 1 })
-    (listed_alone c.reply_one.result) c.reserver.view_is c.reserve-high.ensures.gains start refl
-    (one_low c.self.inside.entities high _ reply)
+    (given (goal.at.returns-in_err-handle-clause-refused c).After-reply_one
     ∙ (ap (λ (answer : Result Handle Space). handles_given c.args.reserver.now.own
     ++ handles_in (listed_alone answer)) c.in_err-handle.was
     ∙ append-nil (handles_given c.args.reserver.now.own)))
 
 pub invariant_of-reserver-2 : goal.invariant_of-reserver-2
 invariant_of-reserver-2 c =
+    let at = (goal.at.invariant_of-reserver-2 c).After-reply_one in
     let high = c.reserve-high.result in
     let fits = c.reserve-high.type_inv in
     let least = c.reserve-high.ensures.least in
-    let word : to_z w64 (of_z w64 high) ≡ high = omega (arith, ints) in
     let low : to_z w64 (of_z w64 (to_z w64 (of_z w64 high) -ℤ pos 1)) ≡ high -ℤ pos 1 =
     omega (arith, ints) in
     let start : (own_of c.reserver.inside.badge.views).start ≡ c.self.inside.entities =
-    ap (λ (r : Reserver). r.own.start) c.reserver.view_is
-    ∙ (c.requires.start ∙ sym (ap (λ (s : Shared). s.start) c.self.view_is)) in
-    let reply : listed_alone c.reply_one.result ≡ reply_from c.self.inside.entities.made
-    (pool_at c.self.inside.entities high) 1 = c.reply_one.ensures
-    ∙ (λ i. reply_from c.self.inside.entities.made (pool_at c.self.inside.entities (word i)) 1)
-    in
+    ap (λ (r : Reserver). r.own.start) c.reserver.view_is ∙ started at in
     seated_reservation c.reserver.inside.badge.views c.reserve-high.new.badge.views
     c.reserver.inside.number c.reserver.inside.left 1 c.reserver.inside.floor high _
     c.reserver.invariant c.reserve-high.ensures.gains c.reserve-high.ensures.mark (omega arith)
     (low ∙ served_floor (own_of c.reserver.inside.badge.views) c.self.inside.entities high 1
     (record { high = high; low = high -ℤ pos 1 }) _ (listed_alone c.reply_one.result) start refl
-    (one_low c.self.inside.entities high _ reply) (ap listed_alone c.in_ok-handle.was))
+    (replied at) (ap listed_alone c.in_ok-handle.was))
 
 pub returns-clause-stays : goal.returns-clause-stays
 returns-clause-stays c =
-    let left : c.reserver.inside.left ≡ c.args.reserver.now.own.left = c.reserver.invariant.left_is
-    ∙ ap (λ (r : Reserver). r.own.left) c.reserver.view_is in
-    of_reserved c.args.self.now c.args.reserver.now _ c.reserve-high.result 1 c.requires
-    (omega arith)
-    (λ i. record {
-      word = (c.reserve-high.ensures.same ∙ ap (λ (r : Reserver). r.word)
-          c.reserver.view_is) i;
-      own = (ap own_of c.reserve-high.ensures.gains
-          ∙ ap (λ (r : Reserver). after_reservation r.own c.reserve-high.result 1) c.reserver.view_is)
-          i;
-    })
+    of_stepped c.args.self.now c.args.reserver.now c.reserver.inside.badge.views
+    c.reserve-high.new.badge.views _ _ 1 c.reserve-high.result _ _ _ c.reserver.view_is
+    c.reserver.invariant c.requires (omega arith) c.reserve-high.ensures.same
+    c.reserve-high.ensures.gains
 
 pub returns-clause-given : goal.returns-clause-given
 returns-clause-given c =
-    let high = c.reserve-high.result in
-    let word : to_z w64 (of_z w64 high) ≡ high = (let fits = c.reserve-high.type_inv in let least =
-    c.reserve-high.ensures.least in omega (arith, ints)) in
-    let start : c.args.reserver.now.own.start ≡ c.self.inside.entities = c.requires.start
-    ∙ sym (ap (λ (s : Shared). s.start) c.self.view_is) in
-    let reply : listed_alone c.reply_one.result ≡ reply_from c.self.inside.entities.made
-    (pool_at c.self.inside.entities high) 1 = c.reply_one.ensures
-    ∙ (λ i. reply_from c.self.inside.entities.made (pool_at c.self.inside.entities (word i)) 1)
-    in
-    given_now c.reserver.inside.badge.views c.reserve-high.new.badge.views c.args.reserver.now _
-    c.self.inside.entities high 1 (record { high = high; low = high -ℤ pos 1 })
-    (listed_alone c.reply_one.result) c.reserver.view_is c.reserve-high.ensures.gains start refl
-    (one_low c.self.inside.entities high _ reply)
+    given (goal.at.returns-clause-given c).After-reply_one
     ∙ ap (λ (answer : Result Handle Space). handles_given c.args.reserver.now.own
     ++ handles_in (listed_alone answer)) c.in_ok-handle.was

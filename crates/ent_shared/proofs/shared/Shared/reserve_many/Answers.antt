@@ -8,13 +8,13 @@ use Rattle.ent_shared.specs.Order.{handles_given}
 use Rattle.std.proofs.lemmas.Int.{ints}
 use Rattle.ent_alloc.specs.declared.span.Span.{Span}
 use Rattle.ent_shared.specs.Phase.{Shared, Reserver, own_of, IsSeated}
-use Rattle.ent_shared.specs.Record.{after_reservation}
-use Rattle.ent_shared.proofs.Seating.{seated_reservation, of_reserved, given_now}
-use Rattle.ent_shared.proofs.Answering.{served_floor, refused_floor}
+use Rattle.ent_shared.proofs.Seating.{seated_reservation, of_stepped, given_now}
+use Rattle.ent_shared.proofs.Answering.{served_floor, refused_floor, span_at}
 use Rattle.std.proofs.Common.{◌≡◌, ap, refl, ◌∙◌, [], Ok}
 use Rattle.ent_alloc.specs.Sequential.{Allocator, pool_at, top, cursor}
 use Rattle.ent_shared.proofs.Answering.{reply-none, no_space, low_of, length-served, on_err}
 use Rattle.ent_shared.proofs.shared.Shared.reserve_many.Goals as goal
+use Rattle.ent_shared.proofs.shared.Shared.reserve_many.Goals.{After-reply-2}
 
 pub unreachable-requires : goal.unreachable-requires
 unreachable-requires c =
@@ -46,25 +46,39 @@ reply-requires-2 c =
     omega (arith, ints) in
     c.new-span.ensures.valid c.self.inside.entities passed
 
+-- the reserver is of this allocator
+started : (c : After-reply-2) → c.args.reserver.now.own.start ≡ c.self.inside.entities
+started c = c.requires.start ∙ sym (ap (λ (s : Shared). s.start) c.self.view_is)
+
+-- the span is the request's, at the cursor that the step found
+spanned : (c : After-reply-2) → c.new-span.result
+    ≡ record { high = c.reserve.result; low = c.reserve.result -ℤ pos c.args.n }
+spanned c =
+    let fits = c.reserve.type_inv in
+    let least = c.reserve.ensures.least in
+    span_at c.new-span.result c.reserve.result _ c.args.n (omega (arith, ints))
+    c.new-span.ensures.value
+
+-- what the reserver was given by then
+given : (c : After-reply-2) → handles_given (own_of c.reserve.new.badge.views)
+    ≡ handles_given c.args.reserver.now.own ++ handles_in c.reply-2.result
+given c = given_now c.reserver.inside.badge.views c.reserve.new.badge.views c.args.reserver.now _
+    c.self.inside.entities c.reserve.result c.args.n c.new-span.result c.reply-2.result
+    c.reserver.view_is c.reserve.ensures.gains (started c) (spanned c) c.reply-2.ensures
+
 pub invariant_of-reserver-2 : goal.invariant_of-reserver-2
 invariant_of-reserver-2 c =
     let fits = c.reserve.type_inv in
     let least = c.reserve.ensures.least in
     let few = c.ranges.n in
-    let word : to_z w64 (of_z w64 c.reserve.result) ≡ c.reserve.result = omega (arith, ints) in
-    let span : c.new-span.result ≡ record {
-      high = c.reserve.result;
-      low = c.reserve.result -ℤ pos
-          c.args.n;
-    } = c.new-span.ensures.value
-    ∙ (λ i. record { high = word i; low = word i -ℤ pos c.args.n }) in
+    let at = (goal.at.invariant_of-reserver-2 c).After-reply-2 in
+    let span = spanned at in
     let low : c.new-span.result.low ≡ c.reserve.result -ℤ pos c.args.n = ap (λ (s : Span). s.low)
     span in
     let low_word : to_z w64 (of_z w64 c.new-span.result.low) ≡ c.new-span.result.low =
     omega (arith, ints) in
     let start : (own_of c.reserver.inside.badge.views).start ≡ c.self.inside.entities =
-    ap (λ (r : Reserver). r.own.start) c.reserver.view_is
-    ∙ (c.requires.start ∙ sym (ap (λ (s : Shared). s.start) c.self.view_is)) in
+    ap (λ (r : Reserver). r.own.start) c.reserver.view_is ∙ started at in
     subst (λ (k : ℕ). IsSeated c.reserve.new.badge.views c.reserver.inside.number
     (c.reserver.inside.left - k) (to_z w64 (of_z w64 c.new-span.result.low)))
     (sym c.from-2.ensures)
@@ -78,17 +92,10 @@ invariant_of-reserver-2 c =
 
 pub invariant_of-reserver : goal.invariant_of-reserver
 invariant_of-reserver c =
-    let fits = c.reserve.type_inv in
-    let word : to_z w64 (of_z w64 c.reserve.result) ≡ c.reserve.result = omega (arith, ints) in
-    let span : c.new-span.result ≡ record {
-      high = c.reserve.result;
-      low = c.reserve.result -ℤ pos
-          c.args.n;
-    } = c.new-span.ensures.value
-    ∙ (λ i. record { high = word i; low = word i -ℤ pos c.args.n }) in
+    let at = (goal.at.invariant_of-reserver c).After-reply-2 in
+    let span = spanned at in
     let start : (own_of c.reserver.inside.badge.views).start ≡ c.self.inside.entities =
-    ap (λ (r : Reserver). r.own.start) c.reserver.view_is
-    ∙ (c.requires.start ∙ sym (ap (λ (s : Shared). s.start) c.self.view_is)) in
+    ap (λ (r : Reserver). r.own.start) c.reserver.view_is ∙ started at in
     subst (λ (k : ℕ). IsSeated c.reserve.new.badge.views c.reserver.inside.number
     (c.reserver.inside.left - k) c.reserver.inside.floor) (sym c.from-2.ensures)
     (seated_reservation c.reserver.inside.badge.views c.reserve.new.badge.views
@@ -107,17 +114,9 @@ returns-then-n-eq0-clause-length c =
 
 pub returns-clause-stays : goal.returns-clause-stays
 returns-clause-stays c =
-    let left : c.reserver.inside.left ≡ c.args.reserver.now.own.left = c.reserver.invariant.left_is
-    ∙ ap (λ (r : Reserver). r.own.left) c.reserver.view_is in
-    of_reserved c.args.self.now c.args.reserver.now _ c.reserve.result c.args.n c.requires
-    (omega arith)
-    (λ i. record {
-      word = (c.reserve.ensures.same ∙ ap (λ (r : Reserver). r.word)
-          c.reserver.view_is) i;
-      own = (ap own_of c.reserve.ensures.gains
-          ∙ ap (λ (r : Reserver). after_reservation r.own c.reserve.result c.args.n)
-          c.reserver.view_is) i;
-    })
+    of_stepped c.args.self.now c.args.reserver.now c.reserver.inside.badge.views
+    c.reserve.new.badge.views _ _ c.args.n c.reserve.result _ _ _ c.reserver.view_is
+    c.reserver.invariant c.requires (omega arith) c.reserve.ensures.same c.reserve.ensures.gains
 
 pub returns-clause-length : goal.returns-clause-length
 returns-clause-length c =
@@ -127,17 +126,9 @@ returns-clause-length c =
 
 pub returns-in_err-handles-clause-stays : goal.returns-in_err-handles-clause-stays
 returns-in_err-handles-clause-stays c =
-    let left : c.reserver.inside.left ≡ c.args.reserver.now.own.left = c.reserver.invariant.left_is
-    ∙ ap (λ (r : Reserver). r.own.left) c.reserver.view_is in
-    of_reserved c.args.self.now c.args.reserver.now _ c.reserve.result c.args.n c.requires
-    (omega arith)
-    (λ i. record {
-      word = (c.reserve.ensures.same ∙ ap (λ (r : Reserver). r.word)
-          c.reserver.view_is) i;
-      own = (ap own_of c.reserve.ensures.gains
-          ∙ ap (λ (r : Reserver). after_reservation r.own c.reserve.result c.args.n)
-          c.reserver.view_is) i;
-    })
+    of_stepped c.args.self.now c.args.reserver.now c.reserver.inside.badge.views
+    c.reserve.new.badge.views _ _ c.args.n c.reserve.result _ _ _ c.reserver.view_is
+    c.reserver.invariant c.requires (omega arith) c.reserve.ensures.same c.reserve.ensures.gains
 
 pub returns-then-n-eq0-clause-given : goal.returns-then-n-eq0-clause-given
 returns-then-n-eq0-clause-given c =
@@ -153,37 +144,14 @@ returns-then-n-eq0-clause-given c =
 
 pub returns-clause-given : goal.returns-clause-given
 returns-clause-given c =
-    let fits = c.reserve.type_inv in
-    let word : to_z w64 (of_z w64 c.reserve.result) ≡ c.reserve.result = omega (arith, ints) in
-    let span : c.new-span.result ≡ record {
-      high = c.reserve.result;
-      low = c.reserve.result -ℤ pos
-          c.args.n;
-    } = c.new-span.ensures.value
-    ∙ (λ i. record { high = word i; low = word i -ℤ pos c.args.n }) in
-    let start : c.args.reserver.now.own.start ≡ c.self.inside.entities = c.requires.start
-    ∙ sym (ap (λ (s : Shared). s.start) c.self.view_is) in
-    given_now c.reserver.inside.badge.views c.reserve.new.badge.views c.args.reserver.now _
-    c.self.inside.entities c.reserve.result c.args.n c.new-span.result c.reply-2.result
-    c.reserver.view_is c.reserve.ensures.gains start span c.reply-2.ensures
+    given (goal.at.returns-clause-given c).After-reply-2
     ∙ ap (λ (reply : Result (List Handle) Space). handles_given c.args.reserver.now.own
     ++ handles_in reply) c.in_ok-handles.was
 
 pub returns-in_err-handles-clause-refused : goal.returns-in_err-handles-clause-refused
 returns-in_err-handles-clause-refused c =
-    let fits = c.reserve.type_inv in
-    let word : to_z w64 (of_z w64 c.reserve.result) ≡ c.reserve.result = omega (arith, ints) in
-    let span : c.new-span.result ≡ record {
-      high = c.reserve.result;
-      low = c.reserve.result -ℤ pos
-          c.args.n;
-    } = c.new-span.ensures.value
-    ∙ (λ i. record { high = word i; low = word i -ℤ pos c.args.n }) in
-    let start : c.args.reserver.now.own.start ≡ c.self.inside.entities = c.requires.start
-    ∙ sym (ap (λ (s : Shared). s.start) c.self.view_is) in
-    on_err c.from_residual.result (given_now c.reserver.inside.badge.views c.reserve.new.badge.views
-    c.args.reserver.now _ c.self.inside.entities c.reserve.result c.args.n c.new-span.result
-    c.reply-2.result c.reserver.view_is c.reserve.ensures.gains start span c.reply-2.ensures
+    on_err c.from_residual.result
+    (given (goal.at.returns-in_err-handles-clause-refused c).After-reply-2
     ∙ (ap (λ (reply : Result (List Handle) Space). handles_given c.args.reserver.now.own
     ++ handles_in reply) c.in_err-handles.was
     ∙ append-nil (handles_given c.args.reserver.now.own)))

@@ -1,13 +1,16 @@
--- Sums over lists of which one element changes, and the numbers of a word.
-use Rattle.std.proofs.Common.{◌≡◌, ℕ, zero, suc, ◌+◌, ◌*◌, List, [], ◌∷◌, set, sym, refl, ap, subst}
-use Rattle.std.proofs.Common.{arith, add-mul}
+-- Sums over lists of which one element changes, and over lists of lists.
+use Rattle.std.proofs.Common.{◌≡◌, ℕ, zero, suc, ◌+◌, List, [], ◌∷◌, set, sym, refl, ap, subst}
+use Rattle.std.proofs.Common.{◌∙◌, arith, flat_map, length}
 use Rattle.std.specs.List.{sum_by, All}
-use Rattle.std.proofs.lemmas.List.Elements.{All-head, All-tail}
-use Rattle.std.proofs.lemmas.List.Sums.{sum_by-cons}
+use Rattle.std.proofs.lemmas.List.Elements.{All-head, All-tail, All-nil, All-cons, All-append}
+use Rattle.std.proofs.lemmas.List.Sums.{sum_by-cons, sum_by-append}
 use mathlib.Core.Option.{some, some-injective, some-ne-none}
 use lib.ListN.{get_elem?}
 
 module _ {X : Type 0} where
+  pub all_one : (P : X → Type 0) (x : X) → P x → All P (x ∷ [])
+  all_one P x p = All-cons P x [] p (All-nil P)
+
   pub sum_at : (f : X → ℕ) (xs : List X) (i : ℕ) (v w : X) → get_elem? xs i ≡ some v
       → sum_by f (set xs i w) + f v ≡ sum_by f xs + f w
   sum_at f [] i v w e = absurd (some-ne-none v (sym e))
@@ -29,19 +32,7 @@ module _ {X : Type 0} where
   all_at P (x ∷ xs) zero v e all = subst P (some-injective x v e) (All-head P x xs all)
   all_at P (x ∷ xs) (suc i) v e all = all_at P xs i v e (All-tail P x xs all)
 
-  -- two sums make up a third one if their terms do
-  pub sum_parts : (f g h : X → ℕ) (m : ℕ) (xs : List X) → All (λ x. f x + g x ≡ h x * m) xs
-      → sum_by f xs + sum_by g xs ≡ sum_by h xs * m
-  sum_parts f g h m [] all = omega arith
-  sum_parts f g h m (x ∷ xs) all =
-      let here : f x + g x ≡ h x * m = All-head (λ x. f x + g x ≡ h x * m) x xs all in
-      let rest : sum_by f xs + sum_by g xs ≡ sum_by h xs
-      * m = sum_parts f g h m xs (All-tail (λ x. f x + g x ≡ h x * m) x xs all) in
-      let split : (h x + sum_by h xs) * m ≡ h x * m + sum_by h xs * m = add-mul (h x) (sum_by h xs)
-      m in
-      rw (sum_by-cons f x xs, sum_by-cons g x xs, sum_by-cons h x xs, split) (omega arith)
-
-  pub all_zero : (f g : X → ℕ) → ((x : X) → f x ≡ 0 → g x ≡ 0) → (xs : List X) → sum_by f xs ≡ 0
+  all_zero : (f g : X → ℕ) → ((x : X) → f x ≡ 0 → g x ≡ 0) → (xs : List X) → sum_by f xs ≡ 0
       → sum_by g xs ≡ 0
   all_zero f g zeros [] is = refl
   all_zero f g zeros (x ∷ xs) is =
@@ -52,7 +43,7 @@ module _ {X : Type 0} where
       omega arith
 
   -- where only the element at i weighs anything, all weigh what it weighs
-  pub only_at : (f g : X → ℕ) (xs : List X) (i : ℕ) (v nothing : X) → get_elem? xs i ≡ some v
+  only_at : (f g : X → ℕ) (xs : List X) (i : ℕ) (v nothing : X) → get_elem? xs i ≡ some v
       → f nothing ≡ 0 → g nothing ≡ 0
       → ((x : X) → f x ≡ 0 → g x ≡ 0) → sum_by f xs ≡ f v → sum_by g xs ≡ g v
   only_at f g xs i v nothing e f_none g_none zeros is =
@@ -61,3 +52,30 @@ module _ {X : Type 0} where
       let also : sum_by g (set xs i nothing) ≡ 0 = all_zero f g zeros (set xs i nothing) others in
       let t = sum_at g xs i v nothing e in
       omega arith
+
+sum_by-none : {X : Type 0} (f : X → ℕ) (xs : List X) → length xs ≡ 0 → sum_by f xs ≡ 0
+sum_by-none f [] e = refl
+sum_by-none f (x ∷ xs) e = absurd (omega arith)
+
+-- where one of the lists has as many elements as all together, all weigh what it weighs
+pub whole_weighs : {X : Type 0} (f : X → ℕ) (xss : List (List X)) (i : ℕ) (v : List X)
+    → get_elem? xss i ≡ some v → sum_by length xss ≡ length v
+    → sum_by (λ (xs : List X). sum_by f xs) xss ≡ sum_by f v
+whole_weighs {X = X} f xss i v at whole = only_at length (λ (xs : List X). sum_by f xs) xss i v []
+    at refl refl (sum_by-none f) whole
+
+module _ {X Y : Type 0} (g : X → List Y) where
+  pub sum_by-flat_map : (f : Y → ℕ) (xs : List X) → sum_by f (flat_map g xs)
+      ≡ sum_by (λ (x : X). sum_by f (g x)) xs
+  sum_by-flat_map f [] = refl
+  sum_by-flat_map f (x ∷ xs) =
+      sum_by-append f (g x) (flat_map g xs)
+      ∙ (ap (λ (n : ℕ). sum_by f (g x) + n) (sum_by-flat_map f xs)
+      ∙ sym (sum_by-cons (λ (y : X). sum_by f (g y)) x xs))
+
+  pub All-flat_map : (P : Y → Type 0) (xs : List X) → All (λ (x : X). All P (g x)) xs
+      → All P (flat_map g xs)
+  All-flat_map P [] all = All-nil P
+  All-flat_map P (x ∷ xs) all = All-append P (g x) (flat_map g xs)
+      (All-head (λ (y : X). All P (g y)) x xs all)
+      (All-flat_map P xs (All-tail (λ (y : X). All P (g y)) x xs all))

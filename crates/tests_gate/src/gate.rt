@@ -5,7 +5,7 @@ use std::thread;
 /// run each time, so that all get on also if the processors are busy.
 const TURNS: u32 = 10_000_000;
 
-/// Where threads look for one another before they reserve, so that they do overlap.
+/// Where threads look for one another before they begin, so that they do overlap.
 #[derive(Drop)]
 pub struct Gate {
     entered: AtomicU32,
@@ -13,6 +13,7 @@ pub struct Gate {
 }
 
 impl Gate {
+    /// For that many threads.
     pub fn new(threads: u32) -> Self {
         Gate {
             entered: AtomicU32::new(0),

@@ -1,0 +1,4 @@
+pub mod Weighing
+pub mod Regrouping
+pub mod Moving
+pub mod HandedIn

@@ -1,0 +1,149 @@
+-- Seats that share out the same records in two ways: what the records weigh and what holds of each.
+use Rattle.std.proofs.Common.{◌≡◌, ℕ, zero, suc, List, [], ◌∷◌, ◌++◌, length, set, sym, ap, subst}
+use Rattle.std.proofs.Common.{◌∙◌, append_assoc, append-nil}
+use Rattle.std.specs.Prelude.{IsPermutation}
+use Rattle.std.specs.List.{sum_by, All, Contains}
+use Rattle.std.proofs.lemmas.List.{set_comm}
+use Rattle.std.proofs.lemmas.List.Concat.{flat_map-append, length-flat_map}
+use Rattle.std.proofs.lemmas.List.Elements.{All-nil, All-cons}
+use Rattle.std.proofs.lemmas.List.Elements.{All-weaker, All-contains, All-contains_itself}
+use Rattle.std.proofs.lemmas.List.Elements.{Contains-append_left, Contains-append_right}
+use Rattle.std.proofs.lemmas.List.Sorted.{IsPermutation-refl, IsPermutation-sym}
+use Rattle.std.proofs.lemmas.List.Sorted.{IsPermutation-trans, IsPermutation-append}
+use Rattle.std.proofs.lemmas.List.Sorted.{IsPermutation-append_comm, sum_by-IsPermutation}
+use Rattle.std.proofs.lemmas.List.Sorted.{All-permutation, length_permutation}
+use mathlib.Core.Option.{some, some-ne-none}
+use lib.ListN.{get_elem?}
+use Rattle.atomic_table.proofs.Lists.{set_else, set_again}
+use Rattle.ent_seats.specs.Seats.{records_in}
+use Rattle.ent_seats.proofs.Weighing.{sum_by-flat_map, All-flat_map}
+
+module _ {R : Type 0} where
+  -- what the records weigh, seat by seat
+  sum_by-records : (f : R → ℕ) (views : List (List R)) → sum_by f (records_in views)
+      ≡ sum_by (λ (v : List R). sum_by f v) views
+  sum_by-records f views = sum_by-flat_map (λ (v : List R). v) f views
+
+  all_in : (P : R → Type 0) (views : List (List R)) → All (All P) views → All P (records_in views)
+  all_in P views all = All-flat_map (λ (v : List R). v) P views all
+
+  all_out : (P : R → Type 0) (views : List (List R)) → All P (records_in views) → All (All P) views
+  all_out P [] all = All-nil (All P)
+  all_out P (v ∷ views) all =
+      let rest : List R = records_in views in
+      All-cons (All P) v views
+      (All-weaker (Contains v) P (λ r h. All-contains P (v ++ rest) r all
+      (Contains-append_left v rest r h)) v (All-contains_itself v))
+      (all_out P views (All-weaker (Contains rest) P (λ r h. All-contains P (v ++ rest) r all
+      (Contains-append_right v rest r h)) rest (All-contains_itself rest)))
+
+  module _ (before after : List (List R))
+      (same : IsPermutation (records_in before) (records_in after)) where
+    pub sum_regrouped : (f : R → ℕ) → sum_by (λ (v : List R). sum_by f v) after
+        ≡ sum_by (λ (v : List R). sum_by f v) before
+    sum_regrouped f = sym (sum_by-records f after)
+        ∙ (sum_by-IsPermutation f (records_in before) (records_in after) same
+        ∙ sum_by-records f before)
+
+    pub length-regrouped : sum_by length after ≡ sum_by length before
+    length-regrouped = sym (length-flat_map (λ (v : List R). v) after)
+        ∙ (length_permutation (records_in before) (records_in after) same
+        ∙ length-flat_map (λ (v : List R). v) before)
+
+    pub all_regrouped : (P : R → Type 0) → All (All P) before → All (All P) after
+    all_regrouped P all = all_out P after
+        (All-permutation P (records_in before) (records_in after) same (all_in P before all))
+
+  -- three lists of which the first two change places
+  pub turned : (xs ys zs : List R) → IsPermutation (xs ++ (ys ++ zs)) (ys ++ (xs ++ zs))
+  turned xs ys zs =
+      subst (λ (p : List R × List R). IsPermutation p.0 p.1)
+      (λ i. (append_assoc xs ys zs i, append_assoc ys xs zs i))
+      (IsPermutation-append (xs ++ ys) (ys ++ xs) zs zs (IsPermutation-append_comm xs ys)
+      (IsPermutation-refl zs))
+
+  -- the records of one seat, and then those of the others
+  set_first : (views : List (List R)) (id : ℕ) (v w : List R) → get_elem? views id ≡ some v
+      → IsPermutation (records_in (set views id w)) (w ++ records_in (set views id []))
+  set_first [] id v w at = absurd (some-ne-none v (sym at))
+  set_first (x ∷ views) zero v w at = IsPermutation-refl (w ++ records_in views)
+  set_first (x ∷ views) (suc id) v w at =
+      let others : List R = records_in (set views id []) in
+      IsPermutation-trans (x ++ records_in (set views id w)) (x ++ (w ++ others))
+      (w ++ (x ++ others))
+      (IsPermutation-append x x (records_in (set views id w)) (w ++ others) (IsPermutation-refl x)
+      (set_first views id v w at))
+      (turned x w others)
+
+  seat_first : (views : List (List R)) (id : ℕ) (v : List R) → get_elem? views id ≡ some v
+      → IsPermutation (records_in views) (v ++ records_in (set views id []))
+  seat_first views id v at = subst (λ (vs : List (List R)). IsPermutation (records_in vs)
+      (v ++ records_in (set views id []))) (set_again views id v at) (set_first views id v v at)
+
+  -- a seat's records in two seats
+  pub same_split : (views : List (List R)) (id : ℕ) (v left right : List R)
+      → get_elem? views id ≡ some v → IsPermutation v (left ++ right)
+      → IsPermutation (records_in views) (records_in (set views id left ++ right ∷ []))
+  same_split views id v left right at parts =
+      let others : List R = records_in (set views id []) in
+      let first : IsPermutation (records_in views) ((left ++ right) ++ others) =
+      IsPermutation-trans (records_in views) (v ++ others) ((left ++ right) ++ others)
+      (seat_first views id v at)
+      (IsPermutation-append v (left ++ right) others others parts (IsPermutation-refl others)) in
+      let second : IsPermutation ((left ++ right) ++ others) (right ++ (left ++ others)) =
+      subst (λ (l : List R). IsPermutation l (right ++ (left ++ others)))
+      (sym (append_assoc left right others)) (turned left right others) in
+      let third : IsPermutation (right ++ (left ++ others)) ((left ++ others) ++ right) =
+      IsPermutation-append_comm right (left ++ others) in
+      let fourth : IsPermutation ((left ++ others) ++ right)
+      (records_in (set views id left) ++ right) =
+      IsPermutation-append (left ++ others) (records_in (set views id left)) right right
+      (IsPermutation-sym (records_in (set views id left)) (left ++ others)
+      (set_first views id v left at)) (IsPermutation-refl right) in
+      let last : records_in (set views id left) ++ right
+      ≡ records_in (set views id left ++ right ∷ []) =
+      ap (λ (l : List R). records_in (set views id left) ++ l) (sym (append-nil right))
+      ∙ sym (flat_map-append (λ (w : List R). w) (set views id left) (right ∷ [])) in
+      subst (IsPermutation (records_in views)) last
+      (IsPermutation-trans (records_in views) ((left ++ right) ++ others)
+      (records_in (set views id left) ++ right) first
+      (IsPermutation-trans ((left ++ right) ++ others) (right ++ (left ++ others))
+      (records_in (set views id left) ++ right) second
+      (IsPermutation-trans (right ++ (left ++ others)) ((left ++ others) ++ right)
+      (records_in (set views id left) ++ right) third fourth)))
+
+  -- two seats' records in one
+  pub same_join : (views : List (List R)) (id other : ℕ) (v w both : List R)
+      → get_elem? views id ≡ some v → ¬ (other ≡ id)
+      → get_elem? (set views id both) other ≡ some w → IsPermutation (v ++ w) both
+      → IsPermutation (records_in views) (records_in (set (set views id both) other []))
+  same_join views id other v w both at apart there parts =
+      let bare : List (List R) = set views other [] in
+      let others : List R = records_in (set bare id []) in
+      let second : get_elem? views other ≡ some w = sym (set_else views id other both apart) ∙ there
+      in
+      let first : get_elem? bare id ≡ some v = set_else views other id [] (λ e. apart (sym e)) ∙ at
+      in
+      let two : IsPermutation (records_in views) (w ++ (v ++ others)) =
+      IsPermutation-trans (records_in views) (w ++ records_in bare) (w ++ (v ++ others))
+      (seat_first views other w second)
+      (IsPermutation-append w w (records_in bare) (v ++ others) (IsPermutation-refl w)
+      (seat_first bare id v first)) in
+      let one : IsPermutation (w ++ (v ++ others)) (both ++ others) =
+      IsPermutation-trans (w ++ (v ++ others)) ((v ++ w) ++ others) (both ++ others)
+      (subst (IsPermutation (w ++ (v ++ others))) (sym (append_assoc v w others))
+      (turned w v others))
+      (IsPermutation-append (v ++ w) both others others parts (IsPermutation-refl others)) in
+      let set_both : IsPermutation (both ++ others) (records_in (set bare id both)) =
+      IsPermutation-sym (records_in (set bare id both)) (both ++ others)
+      (set_first bare id v both first) in
+      subst (λ (vs : List (List R)). IsPermutation (records_in views) (records_in vs))
+      (set_comm views other id [] both apart)
+      (IsPermutation-trans (records_in views) (w ++ (v ++ others)) (records_in (set bare id both))
+      two (IsPermutation-trans (w ++ (v ++ others)) (both ++ others)
+      (records_in (set bare id both)) one set_both))
+
+  -- one more seat, which has no record
+  pub same_entered : (views : List (List R)) → records_in (views ++ [] ∷ []) ≡ records_in views
+  same_entered views = flat_map-append (λ (v : List R). v) views ([] ∷ [])
+      ∙ append-nil (records_in views)

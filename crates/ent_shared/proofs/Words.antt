@@ -1,0 +1,163 @@
+-- The cursor word stays in its range, and what the code makes of it.
+use Rattle.std.proofs.Common.{◌≡◌, ℕ, suc, ◌+◌, ◌*◌, ◌-◌, ◌%◌, ◌^◌, ◌<◌, ◌≤◌, ℤ, pos, ◌+ℤ◌}
+use Rattle.std.proofs.Common.{◌-ℤ◌, ◌≤ℤ◌, List, [], ◌∷◌, length, sym, ap, subst, ◌∙◌, arith}
+use Rattle.std.proofs.Common.{suc-mul, add-mul}
+use Rattle.std.proofs.Math.Nat.{add-mod_right, mod-eq_of_lt}
+use Rattle.std.specs.Prelude.{◌==◌, count_by}
+use Rattle.std.specs.List.{sum_by, All}
+use Rattle.std.proofs.lemmas.List.Elements.{All-head, All-tail, All-weaker}
+use Rattle.std.proofs.lemmas.List.Sums.{sum_by-cons}
+use Rattle.std.proofs.lemmas.Int.{ints}
+use lib.IntN.{nat_abs}
+use mir.Syntax.{w64}
+use mir.Val.{SFits, to_z, of_z}
+use mathlib.Core.Option.{some, some-injective}
+use lib.ListN.{get_elem?}
+use Rattle.atomic_table.specs.Table.{State}
+use Rattle.ent_alloc.specs.Limits.{credit}
+use Rattle.ent_alloc.specs.Sequential.{Allocator, cursor}
+use Rattle.ent_shared.specs.declared.record.Reservation.{Reservation}
+use Rattle.ent_shared.specs.declared.record.Record.{Record}
+use Rattle.ent_shared.specs.Record.{low, own_reservations, requested_by}
+use Rattle.ent_shared.specs.Rule.{offset, cursor_of, Follow, weigh, IsKept, IsRuled}
+
+abbrev pub requested : Reservation → ℕ
+requested c = c.requested
+
+-- how much was requested by reservations that follow each other
+pub follow_asked : (high : ℤ) (cs : List Reservation) (end : ℤ) → Follow high cs end → high
+    ≡ end +ℤ pos (sum_by requested cs)
+follow_asked high [] end f = omega (arith, ints, f)
+follow_asked high (c ∷ cs) end f =
+    let rest = follow_asked (low c) cs end f.2 in
+    let sums : sum_by requested (c ∷ cs) ≡ c.requested + sum_by requested cs = sum_by-cons requested
+    c cs in
+    let here : c.high ≡ high = f.0 in
+    omega (arith, ints)
+
+-- the word as the code turns it into a cursor
+pub word_fits : (word : ℕ) → word < offset + 2 ^ 32 → SFits w64 (pos word)
+unfolding offset
+word_fits word greatest = omega (arith, ints)
+
+pub cursor_fits : (word : ℕ) → offset ≤ word + 2 ^ 50 → word < offset + 2 ^ 32
+    → SFits w64 (to_z w64 word -ℤ pos 4611686018427387904)
+unfolding offset
+cursor_fits word least greatest = omega (arith, ints)
+
+pub cursor_is : (word : ℕ) → offset ≤ word + 2 ^ 50 → word < offset + 2 ^ 32
+    → to_z w64 (of_z w64 (to_z w64 word -ℤ pos 4611686018427387904)) ≡ cursor_of word
+unfolding offset
+cursor_is word least greatest = omega (arith, ints)
+
+pub least_cursor : (word : ℕ) → offset ≤ word + 2 ^ 50 → (pos 0 -ℤ pos (2 ^ 50)) ≤ℤ cursor_of word
+unfolding offset
+least_cursor word least = omega (arith, ints)
+
+-- the word that the code makes of a cursor
+pub word_is : (at : ℤ) (top : ℕ) → top < 2 ^ 32 → at ≡ pos top
+    → cursor_of (nat_abs (to_z w64 (of_z w64 (to_z w64 (of_z w64 at) +ℤ pos 4611686018427387904))))
+    ≡ at
+unfolding offset
+word_is at top few is = omega (arith, ints)
+
+-- what a reservation leaves of the word
+pub lowered : (word n : ℕ) → offset ≤ word + 2 ^ 50 → word < offset + 2 ^ 32 → n ≤ credit
+    → (word + (2 ^ 64 - n)) % 2 ^ 64 ≡ word - n
+unfolding offset credit
+lowered word n least greatest within =
+    let room : n ≤ word = omega arith in
+    let small : word - n < 2 ^ 64 = omega arith in
+    let turn : word + (2 ^ 64 - n) ≡ (word - n) + 2 ^ 64 = omega arith in
+    ap (λ (k : ℕ). k % 2 ^ 64) turn ∙ (add-mod_right (word - n) (2 ^ 64) ∙ mod-eq_of_lt small)
+
+pub lowered_cursor : (word n : ℕ) → offset ≤ word + 2 ^ 50 → n ≤ credit → cursor_of (word - n)
+    ≡ cursor_of word -ℤ pos n
+unfolding offset credit
+lowered_cursor word n least within =
+    let room : n ≤ word = omega arith in
+    omega (arith, ints)
+
+module _ {X : Type 0} where
+  -- two sums make up a third one if their terms do
+  pub sum_parts : (f g h : X → ℕ) (m : ℕ) (xs : List X) → All (λ x. f x + g x ≡ h x * m) xs
+      → sum_by f xs + sum_by g xs ≡ sum_by h xs * m
+  sum_parts f g h m [] all = omega arith
+  sum_parts f g h m (x ∷ xs) all =
+      let here : f x + g x ≡ h x * m = All-head (λ x. f x + g x ≡ h x * m) x xs all in
+      let rest : sum_by f xs + sum_by g xs ≡ sum_by h xs
+      * m = sum_parts f g h m xs (All-tail (λ x. f x + g x ≡ h x * m) x xs all) in
+      let split : (h x + sum_by h xs) * m ≡ h x * m + sum_by h xs * m = add-mul (h x) (sum_by h xs)
+      m in
+      rw (sum_by-cons f x xs, sum_by-cons g x xs, sum_by-cons h x xs, split) (omega arith)
+
+-- the credit of all reservers is no more than this
+pub few_asked : (n count : ℕ) → n ≤ count * credit → count ≤ 1024 → n ≤ 2 ^ 50
+unfolding credit
+few_asked n count le few = omega arith
+
+-- how many of a seat's records have this number
+abbrev pub numbered : ℕ → List Record → ℕ
+numbered number = count_by (λ (r : Record). r.number == number)
+
+-- what the records of a seat have left
+abbrev pub left_of : List Record → ℕ
+left_of view = sum_by (λ (r : Record). r.left) view
+
+module _ (start : Allocator) (count : ℕ) where
+  abbrev St : Type 0
+  St = State (Unit {0}) (List Record)
+
+  abbrev Rule : St → Type 0
+  Rule = IsRuled start count
+
+  -- what the records of a seat have left and what they have requested is their credit
+  view_credit : (at : ℤ) (log : List Reservation) (view : List Record)
+      → All (IsKept start at log) view → left_of view + weigh requested view ≡ length view * credit
+  view_credit at log [] all = omega arith
+  view_credit at log (r ∷ view) all =
+      let here : r.left + requested_by r
+      ≡ credit = (All-head (IsKept start at log) r view all).credit.credit in
+      let rest = view_credit at log view (All-tail (IsKept start at log) r view all) in
+      let lefts : left_of (r ∷ view) ≡ r.left + left_of view = sum_by-cons (λ (x : Record). x.left)
+      r view in
+      let sums : weigh requested (r ∷ view) ≡ requested_by r + weigh requested view =
+      sum_by-cons (λ (x : Record). sum_by requested (own_reservations x.entries)) r view in
+      let product : suc (length view) * credit ≡ length view * credit
+      + credit = suc-mul (length view) credit in
+      rw (lefts, sums, product) (omega arith)
+
+  -- and so it is with the records of all seats
+  pub all_credit : (s : St) (k : Rule s) → sum_by left_of s.views + sum_by requested k.spans.log
+      ≡ count * credit
+  all_credit s k =
+      let each = All-weaker (All (IsKept start (cursor_of k.word) k.spans.log))
+      (λ (v : List Record). left_of v + weigh requested v ≡ length v * credit)
+      (view_credit (cursor_of k.word) k.spans.log) s.views k.each in
+      let sums = sum_parts left_of (weigh requested) length credit s.views each in
+      subst (λ (n : ℕ). sum_by left_of s.views + sum_by requested k.spans.log ≡ n * credit)
+      k.records
+      (subst (λ (n : ℕ). sum_by left_of s.views + n ≡ sum_by length s.views * credit)
+      (k.spans.all requested) sums)
+
+  all_asked : (s : St) (k : Rule s) → sum_by requested k.spans.log ≤ count * credit
+  all_asked s k = let all = all_credit s k in omega arith
+
+  pub word_least : (s : St) (k : Rule s) → offset ≤ k.word + 2 ^ 50
+  word_least s k =
+      let asked = few_asked (sum_by requested k.spans.log) count (all_asked s k) k.few in
+      let f = follow_asked (cursor start) k.spans.log (cursor_of k.word) k.spans.follow in
+      let flushed = k.begins.flushed in
+      omega (arith, ints)
+
+  pub word_greatest : (s : St) (k : Rule s) → k.word < offset + 2 ^ 32
+  word_greatest s k =
+      let f = follow_asked (cursor start) k.spans.log (cursor_of k.word) k.spans.follow in
+      let flushed = k.begins.flushed in
+      let top_is = k.begins.top in
+      omega (arith, ints)
+
+  pub last_word : (s : St) (k : Rule s) (items : List ℕ) (w : ℕ) → s.words ≡ items
+      → get_elem? items 0 ≡ some w → k.word ≡ w
+  last_word s k items w same e = some-injective k.word w (ap (λ (l : List ℕ). get_elem? l 0)
+      (sym k.words ∙ same) ∙ e)
