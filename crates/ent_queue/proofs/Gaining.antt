@@ -201,7 +201,8 @@ is_refusal shared before after n (Space wanted left) answers range =
       | inr enough ↦ elim (cases_lt 0 n) [
         | inl some ↦
             let g = answers.gains some enough in (
-              space_wanted shared.start.made (pool_at shared.start g.high) n wanted left (sym g.reply
+              space_wanted shared.start.made (pool_at shared.start g.high) n wanted left
+                  (sym g.reply
                   ∙ g.recorded),
               range,
             )
