@@ -13,5 +13,5 @@ invariant_of-self-2 c =
       entities = c.self.inside.storage.entities;
     } in
     rw (on_ok c.insert.result (sym c.is_err.ensures.value ∙ c.if-is_err.false) c.insert.ensures.ok)
-    (components-world (λ held. with_items held c.args.items.now) c.args.handle w
+    (components-world (λ held. with_items held c.deref.result.now) c.args.handle w
     c.self.invariant)
