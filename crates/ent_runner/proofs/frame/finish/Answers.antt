@@ -1,5 +1,5 @@
 use Rattle.std.proofs.Common.{◌≡◌, ◌∙◌, ap, sym, subst, List, map, All}
-use Rattle.ent_runner.specs.Placing.{queues_placed}
+use Rattle.ent_runner.specs.Collecting.{queues_put}
 use Rattle.std.specs.Prelude.{IsSome, flat_map}
 use Rattle.ent_shared.specs.Phase.{IsOf, Reserver, records_of}
 use Rattle.ent_shared.specs.Order.{history_of, reservations_of, Respects}
@@ -9,7 +9,7 @@ use Rattle.ent_claims.specs.Claims.{IsClaimerOf as IsClaimerOf}
 use Rattle.ent_runner.specs.declared.worker.Worker.{Worker}
 use Rattle.ent_runner.specs.Worker.{all_records}
 use Rattle.ent_runner.proofs.Conducting.{reservers_own, claimers_own, once_closed, first_closed}
-use Rattle.ent_runner.proofs.Conducting.{all_full, places_back, records_are, closed_by}
+use Rattle.ent_runner.proofs.Conducting.{all_full, queues_back, records_are, closed_by}
 use Rattle.ent_runner.proofs.frame.finish.Goals as goal
 
 pub close-requires-clause-own : goal.close-requires-clause-own
@@ -30,12 +30,12 @@ records_is team reservers are = ap records_of are ∙ records_are team
 pub collect-requires-clause-full : goal.collect-requires-clause-full
 collect-requires-clause-full c =
     let d = c.disband.ensures in
-    let start = c.args.returned.places in
+    let start = c.args.returned.by_system in
     subst (All IsSome)
-    (sym (places_back c.args.claims.numbers start.len (flat_map (λ (w : Worker). w.issued.items)
-    c.args.workers.items) start.items c.disband.new.places c.requires.room.places_empty
-    start.ok.0 (d.places
-    ∙ ap (queues_placed (flat_map (λ (w : Worker). w.issued.items) c.args.workers.items))
+    (sym (queues_back c.args.claims.numbers start.len (flat_map (λ (w : Worker). w.issued.items)
+    c.args.workers.items) start.items c.disband.new.by_system c.requires.room.by_system_empty
+    start.ok.0 (d.by_system
+    ∙ ap (queues_put (flat_map (λ (w : Worker). w.issued.items) c.args.workers.items))
     c.deref_mut.ensures.value)))
     (all_full c.args.claims c.args.workers.items (once_closed c.args.opened.shared c.args.claims
     c.args.workers.items c.requires.each c.deref.result.now c.deref.ensures.value
@@ -86,11 +86,11 @@ returns-clause-once c = once_closed c.args.opened.shared c.args.claims c.args.wo
 
 pub returns-clause-queues : goal.returns-clause-queues
 returns-clause-queues c =
-    let start = c.args.returned.places in
-    c.collect.ensures ∙ places_back c.args.claims.numbers start.len
+    let start = c.args.returned.by_system in
+    c.collect.ensures ∙ queues_back c.args.claims.numbers start.len
     (flat_map (λ (w : Worker). w.issued.items) c.args.workers.items) start.items
-    c.disband.new.places c.requires.room.places_empty start.ok.0 (c.disband.ensures.places
-    ∙ ap (queues_placed (flat_map (λ (w : Worker). w.issued.items) c.args.workers.items))
+    c.disband.new.by_system c.requires.room.by_system_empty start.ok.0 (c.disband.ensures.by_system
+    ∙ ap (queues_put (flat_map (λ (w : Worker). w.issued.items) c.args.workers.items))
     c.deref_mut.ensures.value)
 
 pub returns-then-stopped-clause-first : goal.returns-then-stopped-clause-first
