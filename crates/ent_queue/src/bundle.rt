@@ -70,7 +70,8 @@ impl Bundle {
     ///
     /// # Errors
     ///
-    /// `Memory`, which needs a component that is not there and at least four that are. Nothing has changed.
+    /// `Memory`, which needs a component that is not there and at least four that are. Nothing has
+    /// changed.
     pub fn put(&mut self, id: ComponentId, value: i64) -> Result<(), Memory>
         ensures ok { OnOk result (self.new ≡ put component_cmp id value self.old) }
         ensures memory { OnErr result

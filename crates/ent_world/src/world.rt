@@ -150,8 +150,8 @@ impl World {
         self.entities.needs_flush()
     }
 
-    /// Brings to life what is reserved. Each entity has the birth of its number among those that are
-    /// born, by no system, and no components.
+    /// Brings to life what is reserved. Each entity has the birth of its number among those that
+    /// are born, by no system, and no components.
     ///
     /// # Errors
     ///

@@ -53,7 +53,8 @@ refused c =
     c.in_ok-reserve.ensures.items)
 
 pub invariant_of-self-in-Err : goal.invariant_of-self-in-Err
-invariant_of-self-in-Err c = (refused (goal.at.invariant_of-self-in-Err c).After-write_refused).packed
+invariant_of-self-in-Err c =
+    (refused (goal.at.invariant_of-self-in-Err c).After-write_refused).packed
 
 pub returns-in-Err-clause-refused : goal.returns-in-Err-clause-refused
 returns-in-Err-clause-refused c =
