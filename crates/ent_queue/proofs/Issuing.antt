@@ -12,6 +12,7 @@ use Rattle.ent_alloc.specs.Sequential.{listed_alone}
 use Rattle.ent_queue.specs.declared.fault.QueueFault.{QueueFault}
 use Rattle.ent_queue.specs.declared.fault.QueueFault.TheVariants as fault
 use Rattle.ent_queue.specs.Command.{Command, Bundle, Spawn, SpawnMany, Refused}
+use Rattle.ent_queue.specs.Commands.{Issued, IsReady, Extends, queue_of, reserver_of, shared_of}
 use Rattle.ent_queue.specs.Reserving.{stands_for, FitsCredit, Gains, IsReply, queued, as_list}
 use Rattle.ent_queue.specs.Reserving.{refused_by, as_fault}
 use Rattle.ent_queue.proofs.Gaining.{gains_nothing, gains_none, served_gains, refused_gains}
@@ -21,6 +22,19 @@ pub record Added (old new : List Command) (before after : Record) : Type 0 where
   pub added : List Command
   pub queue : new ≡ old ++ added
   pub gains : Gains before added after
+
+-- So the call extends what was there, with the same reserver of the same allocator.
+pub extends_added : (a b : Issued) → b.reserver.ghost_name ≡ a.reserver.ghost_name
+    → shared_of b ≡ shared_of a → IsReady b
+    → Added (queue_of a) (queue_of b) (reserver_of a).own (reserver_of b).own → Extends a b
+extends_added a b same shared ready more = record {
+  same = same;
+  shared = shared;
+  ready = ready;
+  added = more.added;
+  queue = more.queue;
+  gains = more.gains;
+}
 
 many_request : (hs : List Handle) (items : Bundle) (n : ℕ) → length hs ≡ n → 0 < n
     → stands_for (SpawnMany hs items) ≡ (n, Ok hs) ∷ []

@@ -17,16 +17,17 @@ use Rattle.ent_handle.specs.Component.{component_cmp, component_cmp_total}
 use Rattle.ent_queue.specs.Command.{Bundle, IsItem, IsBundle}
 use Rattle.ent_queue.specs.Search.{AreRising}
 
-first : (a b : Bool) → T (a && b) → T a
+-- what tests tell
+pub first : (a b : Bool) → T (a && b) → T a
 first true b h = tt
 first false b h = absurd h
 
-less : (r : Ordering) → T (is_lt r) → r ≡ Less
+pub less : (r : Ordering) → T (is_lt r) → r ≡ Less
 less Less h = refl
 less Equal h = absurd h
 less Greater h = absurd h
 
-second : (a b : Bool) → T (a && b) → T b
+pub second : (a b : Bool) → T (a && b) → T b
 second true b h = h
 second false b h = absurd h
 
