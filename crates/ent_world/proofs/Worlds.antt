@@ -11,7 +11,7 @@ use Rattle.ent_alloc.proofs.Soundness.{after_flush-sound, after_free-sound}
 use Rattle.ent_alloc.proofs.Soundness.{after_alloc-sound}
 use Rattle.ent_shared.specs.Phase.{after_loss}
 use Rattle.ent_storage.specs.Components.{Components}
-use Rattle.ent_storage.specs.EntityMap.{with_components}
+use Rattle.ent_storage.specs.EntityMap.{EntityMap, with_components}
 use Rattle.ent_queue.specs.Command.{Bundle, Command}
 use Rattle.ent_world.specs.World.{World, IsWorld, lives_in}
 use Rattle.ent_world.specs.Command.{Applied, after_spawn, after_despawn, after_queues, spawned}
@@ -56,12 +56,13 @@ after_despawn-world h w is flushed there = record {
 }
 
 -- an entity has other components
-pub components-world : (change : Components → Components) (h : Handle) (w : World) → IsWorld w
-    → IsWorld (record w { entities = with_components w.entities h change })
-components-world change h w is = record {
+pub components-world : (change : Components → Components) (h : Handle) (s : Allocator) (phase : ℕ)
+    (m n : EntityMap) → n ≡ with_components m h change
+    → IsWorld (record { allocator = s; phase = phase; entities = m })
+    → IsWorld (record { allocator = s; phase = phase; entities = n })
+components-world change h s phase m n changed is = record {
   sound = is.sound;
-  living =
-      keys-components w.allocator.live w.entities h change is.living;
+  living = rw changed (keys-components s.live m h change is.living);
 }
 
 -- any commands of a flushed world
