@@ -1,10 +1,12 @@
 #!/bin/sh
 # Runs the program with each of its allocations refused in turn: a schedule, scripts on one worker and on eight, and a script that is
 # refused. Each run must end as an undisturbed one does (the program may do without that piece of memory), or with status 3, `memory` on
-# standard error and nothing else. It needs `cc` on the path, and the program as `.ci/run` or `prove.sh` built it. If it wasn't built,
-# `rt`, which then proves it first.
+# standard error and nothing else. Then it runs each test of refused memory in the same way: it must pass, whichever allocation is
+# refused. It needs `cc` on the path, and the program and the tests as `.ci/run` built them. If the program wasn't built, `rt`, which
+# then proves it first; tests that weren't built are left out.
 set -eu
 here=$(cd "$(dirname "$0")" && pwd)
+top=$(cd "$here/.." && pwd)
 room=$(mktemp -d)
 trap 'rm -rf "$room"' EXIT
 program=$here/../crates/spawnrun/out/spawnrun
@@ -53,3 +55,34 @@ each "$here/two_callers.txt" replay
 each "$scripts/reuse.json" run --show handles
 each "$scripts/spawners.json" run --workers 8
 each "$room/no_script.json" run
+
+# tested CRATE: the same of each test of the crate that takes whichever allocation is refused, as it was compiled. It must pass.
+tested() {
+    tests=$top/crates/$1/out/$1_tests
+    [ -x "$tests" ] || { echo "$1: its tests are not built, .ci/run builds them"; return; }
+    for test in $("$tests" --list 2>/dev/null | sed -n 's/: test$//p' | grep -E 'refused_(memory|share|opening)'); do
+        beyond=0 allocation=0 passed=0
+        while [ "$beyond" -lt 4 ]; do
+            allocation=$((allocation + 1))
+            rm -f "$room/refused"
+            status=0
+            LD_PRELOAD=$room/refuse.so REFUSE=$allocation REFUSED=$room/refused \
+                "$tests" "$test" >"$room/printed" 2>&1 || status=$?
+            if [ ! -e "$room/refused" ]; then
+                beyond=$((beyond + 1))
+            elif [ "$status" = 0 ]; then
+                beyond=0 passed=$((passed + 1))
+            else
+                cat "$room/printed"
+                echo "$1 $test: allocation $allocation: wrong, status $status"
+                exit 1
+            fi
+        done
+        echo "$1 $test: passed $passed times"
+        [ "$passed" -gt 0 ]
+    done
+}
+
+for tests in "$top"/crates/*_tests; do
+    tested "$(basename "$tests")"
+done

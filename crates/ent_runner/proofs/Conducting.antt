@@ -1,15 +1,17 @@
 -- What the workers have done together, once all of them are back.
 use Rattle.std.proofs.Common.{◌≡◌, ℕ, zero, suc, ◌+◌, ◌<◌, ◌≤◌, List, [], ◌∷◌, ◌++◌, length, map}
-use Rattle.std.proofs.Common.{get_or, refl, ap, sym, ◌∙◌, arith, subst, Option, Some, None, true}
+use Rattle.std.proofs.Common.{get_or, refl, ap, sym, ◌∙◌, arith, subst, Option, Some, None, true, Bool}
 use Rattle.std.proofs.Common.{false, take, drop, reverse}
 use Rattle.std.specs.Prelude.{slice_get, replicate, IsSome, IfSome}
 use Rattle.std.proofs.Common.{Vec, Global}
 use Rattle.std.specs.List.{All, AllPairs, flat_map, range_with_len}
 use Rattle.std.specs.List.Sorted.{IsPermutation}
 use Rattle.std.proofs.lemmas.Option.{slice_get_within, get_or_from_slice_get}
-use Rattle.std.proofs.lemmas.List.{length-map, get_or-map}
+use Rattle.std.proofs.lemmas.List.{length-map, length-append, get_or-map}
 use Rattle.std.proofs.lemmas.List.Folds.{flat_map-map}
 use Rattle.std.proofs.lemmas.List.Sorted.{All-permutation, IsPermutation-reverse}
+use Rattle.std.proofs.lemmas.List.Sorted.{length_permutation}
+use Rattle.std.proofs.lemmas.List.FromFn.{length-range_with_len}
 use Rattle.std.proofs.lemmas.List.Elements.{All-nil, All-cons, All-head, All-tail, All-map}
 use Rattle.std.proofs.lemmas.List.Elements.{All-weaker}
 use Rattle.ent_alloc.specs.History.{IsLegal, after_history}
@@ -23,13 +25,13 @@ use Rattle.ent_queue.specs.Reserving.{Gains}
 use Rattle.ent_world.specs.World.{World}
 use Rattle.ent_world.specs.OpenWorld.{OpenWorld, View, world_at_start}
 use Rattle.ent_claims.specs.Claims.{Claims, Claimer, HaveEnded, AreFirst}
-use Rattle.ent_claims.specs.Claims.{IsClaimerOf as IsClaimerOf}
+use Rattle.ent_claims.specs.Claims.{IsClaimerOf}
 use Rattle.ent_runner.specs.declared.worker.SystemQueue.{SystemQueue}
 use Rattle.ent_runner.specs.declared.worker.Worker.{Worker}
 use Rattle.ent_runner.specs.Frame.{IsFrame, IsBrokenOff, SystemMayIssue, SystemMayHaveIssued}
 use Rattle.ent_runner.specs.Frame.{view_of, reserved_by}
 use Rattle.ent_runner.specs.Worker.{HasWorked, HaveWorked, HaveRunFirst, HasClaimed, IsUnused}
-use Rattle.ent_runner.specs.Worker.{IsFresh, systems_of, commands_issued, all_records}
+use Rattle.ent_runner.specs.Worker.{IsRoomForOne, IsFresh, systems_of, commands_issued, all_records}
 use Rattle.ent_runner.specs.Collecting.{queues_put}
 use Rattle.ent_runner.proofs.Lists.{all_from_each, each_of_all, mapped_at, same_flat}
 use Rattle.ent_runner.proofs.BySystem.{length_put}
@@ -106,6 +108,7 @@ module _ {S : Type 0} (may leave : S → View → List Command → Type 0) (syst
               d.inside;
           ran = d.ran_some.claims;
           ended = d.ended;
+          some = d.some;
         })
 
     module _ (P : SystemQueue → Type 0) (each : (k : ℕ) (w : Worker) → slice_get team k ≡ Some w
@@ -172,6 +175,7 @@ module _ {S : Type 0} (may leave : S → View → List Command → Type 0) (syst
           (length-map team (λ (w : Worker). w.reserver.own) ∙ done.count) (length-map team issued_by
           ∙ done.count) legal respects leave
           first.count (subst (λ n. first.count ≤ n) numbers first.within)
+          (λ less. first.some (subst (λ n. 0 < n) (sym numbers) less))
           (did P (λ k w at. let ran = (done.each k w at).ran_some in
           record { gains = ran.gains; each = ran.each; claims = ran.claims }))
           (λ k mine at. let there = mapped_at issued_by team k mine at in
@@ -236,13 +240,46 @@ once_closed shared claims team each seen same going claimers theirs once =
     (λ ended. subst (λ (cs : List Claimer). IsPermutation (flat_map (λ (c : Claimer). c.own.claims)
     cs) (range_with_len 0 claims.numbers)) theirs (once (subst HaveEnded (sym theirs) ended)))
 
+-- Some system ran, if there are any: the first worker ran one before it stopped, or found none left.
+some_by : (shared : Shared) (claims : Claims) (w : Worker) (team : List Worker) → HasClaimed shared
+    claims w → (claimers : List Claimer) → claimers ≡ map (λ (v : Worker). v.claimer) (w ∷ team)
+    → (first : AreFirst claims.numbers claimers) → (stopped : Bool) → w.stopped ≡ stopped
+    → 0 < claims.numbers → 0 < first.count
+some_by shared claims w team has claimers theirs first false is less =
+    let all : first.count ≡ claims.numbers = first.whole 0 w.claimer
+    (ap (λ (cs : List Claimer). slice_get cs 0) theirs) (has.ended is) in
+    omega (arith, all, less)
+some_by shared claims w team has claimers theirs first true is less =
+    let claimed : Claimer → List ℕ = λ (c : Claimer). c.own.claims in
+    let others : List Claimer = map (λ (v : Worker). v.claimer) team in
+    let flat : length (flat_map claimed claimers)
+    ≡ length w.claimer.own.claims + length (flat_map claimed others) =
+    ap (λ (cs : List Claimer). length (flat_map claimed cs)) theirs
+    ∙ length-append w.claimer.own.claims (flat_map claimed others) in
+    let whole : first.count ≡ length (flat_map claimed claimers) =
+    sym (length-range_with_len 0 first.count)
+    ∙ length_permutation (flat_map claimed claimers) (range_with_len 0 first.count) first.once in
+    let own : length w.claimer.own.claims ≡ length w.issued.items =
+    sym (ap length has.ran) ∙ length-map w.issued.items (λ (i : SystemQueue). i.system) in
+    let ran : 0 < length w.issued.items = has.some is in
+    omega (arith, flat, whole, own, ran)
+
+some_ran : (shared : Shared) (claims : Claims) (team : List Worker) → All (HasClaimed shared claims)
+    team → 0 < length team → (claimers : List Claimer) → claimers
+    ≡ map (λ (w : Worker). w.claimer) team → (first : AreFirst claims.numbers claimers)
+    → 0 < claims.numbers → 0 < first.count
+some_ran shared claims [] each many claimers theirs first less = absurd (omega arith)
+some_ran shared claims (w ∷ team) each many claimers theirs first less = some_by shared claims w
+    team (All-head (HasClaimed shared claims) w team each) claimers theirs first w.stopped refl less
+
 pub first_closed : (shared : Shared) (claims : Claims) (team : List Worker)
     → All (HasClaimed shared claims) team → (claimers : List Claimer) → claimers
-    ≡ map (λ (w : Worker). w.claimer) team → AreFirst claims.numbers claimers
+    ≡ map (λ (w : Worker). w.claimer) team → 0 < length team → AreFirst claims.numbers claimers
     → HaveRunFirst claims.numbers team
-first_closed shared claims team each claimers theirs first = record {
+first_closed shared claims team each claimers theirs many first = record {
   count = first.count;
   within = first.within;
+  some = some_ran shared claims team each many claimers theirs first;
   once = subst (λ ns. IsPermutation ns (range_with_len 0 first.count))
       (sym (ran_claims shared claims team each ∙ ap (flat_map (λ (c : Claimer). c.own.claims))
       (sym theirs))) first.once;
@@ -282,7 +319,7 @@ pub all_ready : (shared : Shared) (claims : Claims) (old : List Worker) (given :
     → map (λ (w : Worker). w.reserver) old ≡ given → All (IsOf shared) given
     → map (λ (w : Worker). w.claimer) old ≡ reverse fresh → All (IsClaimerOf claims) fresh
     → All IsUnused fresh
-    → All (λ (w : Worker). w.issued.items ≡ []) old
+    → All (λ (w : Worker). IsRoomForOne w.issued) old
     → All (λ (w : Worker). IsOf shared w.reserver × IsClaimerOf claims w.claimer × IsFresh w) old
 all_ready shared claims old given fresh reservers own claimers theirs unused empty =
     let one : All (λ (w : Worker). IsOf shared w.reserver) old = unmapped (IsOf shared)

@@ -332,7 +332,7 @@ module _ {S : Type 0} (may : S → View → List Command → Type 0) (systems : 
           abbrev Left : SystemQueue → Type 0
           Left i = SystemMayHaveIssued may leave systems (view_of before) i.system i.queue
 
-          pub broken_off : (total : ℕ) → total ≤ length systems
+          pub broken_off : (total : ℕ) → total ≤ length systems → (0 < length systems → 0 < total)
               → ((k : ℕ) (r : Record) (mine : List SystemQueue) → slice_get records k ≡ Some r
               → slice_get work k ≡ Some mine → Did Left before k r mine)
               → ((k : ℕ) (mine : List SystemQueue) → slice_get work k ≡ Some mine
@@ -340,7 +340,7 @@ module _ {S : Type 0} (may : S → View → List Command → Type 0) (systems : 
               i.system i.queue) mine)
               → IsPermutation (flat_map systems_of work) (range_with_len 0 total)
               → IsBrokenOff may leave systems workers before (history_of records)
-          broken_off total few each ended once =
+          broken_off total few some each ended once =
               let by_system : List (Option (List Command)) =
               queues_put (flat_map (λ mine. mine) work)
               (replicate total None) in
@@ -355,6 +355,7 @@ module _ {S : Type 0} (may : S → View → List Command → Type 0) (systems : 
                 each_worker = length-map work systems_of ∙ teams;
                 count = total;
                 within = few;
+                some = some;
                 once = all_once Left before total workers records work queues count teams each once
                     respects same;
                 queues = queues;

@@ -1,7 +1,8 @@
 -- Lists of lists, and the numbers of a range.
 use Rattle.std.proofs.Common.{◌≡◌, ◌≢◌, ℕ, zero, suc, ◌+◌, ◌<◌, ◌≤◌, List, [], ◌∷◌, ◌++◌, length}
 use Rattle.std.proofs.Common.{map, refl, ap, ◌∙◌, arith, subst, Some, Bool, true, false, cond, inl}
-use Rattle.std.proofs.Common.{inr, ◌⊎◌, eq-eqb, ne_eqb}
+use Rattle.std.proofs.Common.{inr, ◌⊎◌, eq-eqb, ne_eqb, sym, reverse}
+use Rattle.std.proofs.lemmas.List.{map-append, append_assoc, reverse-append}
 use Rattle.std.specs.Prelude.{◌==◌, filter, slice_get}
 use Rattle.std.specs.List.{All, sum_by, flat_map, range_with_len}
 use Rattle.std.proofs.lemmas.Bool.{cases_eq}
@@ -174,3 +175,21 @@ all_in_range a (suc many) =
 pub all_below : (many : ℕ) → All (λ n. n < many) (range_with_len 0 many)
 all_below many = let same : 0 + many ≡ many = omega arith in
     subst (λ m. All (λ n. n < m) (range_with_len 0 many)) same (all_in_range 0 many)
+
+-- one more was taken from the front of what is left, and mapped
+pub moved_over : {X Y : Type 0} (f : X → Y) (old new : List X) (x : X) (left next all : List Y)
+    → new ≡ old ++ x ∷ [] → left ≡ f x ∷ next → map f old ++ left ≡ all → map f new ++ next ≡ all
+moved_over f old new x left next all pushed taken whole =
+    ap (λ xs. map f xs ++ next) pushed ∙ (ap (λ ys. ys ++ next) (map-append f old (x ∷ []))
+    ∙ (append_assoc (map f old) (f x ∷ []) next ∙ (ap (λ ys. map f old ++ ys) (sym taken) ∙ whole)))
+
+-- one more was taken from the end of what is left
+pub moved_back : {X Y : Type 0} (g : X → Y) (old new : List X) (x : X) (left next all : List Y)
+    → new ≡ old ++ x ∷ [] → left ≡ next ++ g x ∷ [] → left ++ reverse (map g old) ≡ all
+    → next ++ reverse (map g new) ≡ all
+moved_back g old new x left next all pushed taken whole =
+    ap (λ xs. next ++ reverse (map g xs)) pushed
+    ∙ (ap (λ ys. next ++ reverse ys) (map-append g old (x ∷ []))
+    ∙ (ap (λ ys. next ++ ys) (reverse-append (map g old) (g x ∷ []))
+    ∙ (sym (append_assoc next (g x ∷ []) (reverse (map g old)))
+    ∙ (ap (λ ys. ys ++ reverse (map g old)) (sym taken) ∙ whole))))

@@ -88,11 +88,13 @@ pub record IsBrokenOff {S : Type 0} (may leave : S → View → List Command →
     (systems : List S) (workers : ℕ) (before : World) (history : List Call) : Type 0 where
   pub legal : IsLegal before.allocator history
   pub callers : All (λ (call : Call). call.caller < workers) history
-  -- for each worker the systems that it ran: together they are the first ones, each once
+  -- for each worker the systems that it ran: together they are the first ones, each once, and
+  -- at least one if there are any
   pub ran : List (List ℕ)
   pub each_worker : length ran ≡ workers
   pub count : ℕ
   pub within : count ≤ length systems
+  pub some : 0 < length systems → 0 < count
   pub once : IsPermutation (flat_map (λ mine. mine) ran) (range_with_len 0 count)
   -- what each of them had issued when it ended or stopped
   pub queues : List (List Command)

@@ -2,6 +2,7 @@
 use Rattle.std.specs.Prelude.{◌≡◌, ◌<◌, ◌≤◌, ℕ, List, [], length, map, replicate, None, Some, true}
 use Rattle.std.specs.Prelude.{false}
 use Rattle.std.specs.Prelude.{vec_capacity, slice_get}
+use Rattle.std.proofs.Common.{Vec, Global}
 use Rattle.std.specs.List.{All, AllPairs, flat_map, range_with_len}
 use Rattle.std.specs.List.Sorted.{IsPermutation}
 use Rattle.ent_shared.specs.declared.record.Record.{Record}
@@ -10,7 +11,7 @@ use Rattle.ent_queue.specs.Command.{Command}
 use Rattle.ent_queue.specs.Reserving.{Gains}
 use Rattle.ent_shared.specs.Record.{opened}
 use Rattle.ent_world.specs.OpenWorld.{OpenWorld, View, world_at_start}
-use Rattle.ent_claims.specs.Claims.{Claims, Claimer, IsClaimerOf as IsClaimerOf}
+use Rattle.ent_claims.specs.Claims.{Claims, Claimer, IsClaimerOf}
 use Rattle.ent_runner.specs.declared.worker.SystemQueue.{SystemQueue}
 use Rattle.ent_runner.specs.declared.worker.Worker.{Worker}
 use Rattle.ent_runner.specs.declared.crew.Room.{Room}
@@ -52,13 +53,18 @@ pub record HasRunSome {S : Type 0} (may leave : S → View → List Command → 
 abbrev pub IsUnused : Claimer → Type 0
 IsUnused c = (c.own.claims ≡ []) × (c.own.ended ≡ false)
 
--- It has claimed and issued nothing yet.
+-- A list of queues that is empty, with room for one.
+pub record IsRoomForOne (list : Vec SystemQueue Global) : Type 0 where
+  pub empty : list.items ≡ []
+  pub one : 0 < vec_capacity list
+
+-- It has claimed and issued nothing yet, and has room for the queue of its first system.
 pub record IsFresh (w : Worker) : Type 0 where
   pub unused : IsUnused w.claimer
-  pub issued : w.issued.items ≡ []
+  pub issued : IsRoomForOne w.issued
 
--- It has run all that it claimed, until none was left, or it has stopped. Its reserver began with
--- this record.
+-- It has run all that it claimed, until none was left, or it has stopped after one of them. Its
+-- reserver began with this record.
 pub record HasWorked {S : Type 0} (may leave : S → View → List Command → Type 0)
     (shared : Shared) (claims : Claims) (systems : List S) (view : View) (before : Record)
     (w : Worker) : Type 0 where
@@ -70,6 +76,7 @@ pub record HasWorked {S : Type 0} (may leave : S → View → List Command → T
   pub ran : w.stopped ≡ false → HasRun may systems view before w.reserver.own
       w.claimer.own.claims w.issued.items
   pub ended : w.stopped ≡ false → w.claimer.own.ended ≡ true
+  pub some : w.stopped ≡ true → 0 < length w.issued.items
 
 -- the same without what its systems may issue
 pub record HasClaimed (shared : Shared) (claims : Claims) (w : Worker) : Type 0 where
@@ -78,6 +85,7 @@ pub record HasClaimed (shared : Shared) (claims : Claims) (w : Worker) : Type 0 
   pub inside : All (λ (i : SystemQueue). i.system < claims.numbers) w.issued.items
   pub ran : systems_of w.issued.items ≡ w.claimer.own.claims
   pub ended : w.stopped ≡ false → w.claimer.own.ended ≡ true
+  pub some : w.stopped ≡ true → 0 < length w.issued.items
 
 -- Each of these workers has worked; the reserver of each began as it was opened.
 pub record HaveWorked {S : Type 0} (may leave : S → View → List Command → Type 0)
@@ -87,10 +95,11 @@ pub record HaveWorked {S : Type 0} (may leave : S → View → List Command → 
       → HasWorked may leave world.shared claims systems (view_of (world_at_start world))
       (opened world.shared.start k) w
 
--- Together these workers ran the first systems, each once.
+-- Together these workers ran the first systems, each once, and at least one if there are any.
 pub record HaveRunFirst (numbers : ℕ) (team : List Worker) : Type 0 where
   pub count : ℕ
   pub within : count ≤ numbers
+  pub some : 0 < numbers → 0 < count
   pub once : IsPermutation (flat_map (λ (w : Worker). systems_of w.issued.items) team)
       (range_with_len 0 count)
 
@@ -113,4 +122,6 @@ pub record IsRoomFor (systems workers : ℕ) (room : Room) : Type 0 where
   pub unused_are : All IsUnused room.unused.items
   pub workers_empty : room.workers.items ≡ []
   pub workers_fit : workers ≤ vec_capacity room.workers
+  pub issued_count : length room.issued.items ≡ workers
+  pub issued_are : All IsRoomForOne room.issued.items
   pub returned : HasReturns systems workers room.returned

@@ -3,10 +3,10 @@
 ghost use Rattle.std.specs.Prelude.{◌≡◌, ◌<◌, ◌≤◌, ◌^◌, [], length, map, reverse, replicate, All};
 ghost use Rattle.std.specs.Prelude.{IfOk, None, false, flat_map, vec_capacity};
 ghost use Rattle.ent_runner.specs.Collecting.{queues_put};
-ghost use Rattle.ent_runner.specs.Worker.{IsRoomFor, HasReturns};
+ghost use Rattle.ent_runner.specs.Worker.{IsRoomFor, IsRoomForOne, HasReturns};
 
 use crate::collecting::put_all;
-use crate::worker::Worker;
+use crate::worker::{SystemQueue, Worker};
 use ent_claims::{Claimer, Claims};
 use ent_handle::Memory;
 use ent_queue::CommandQueue;
@@ -28,6 +28,9 @@ pub(crate) struct Room {
     pub(crate) claims: Claims,
     pub(crate) unused: Vec<Claimer>,
     pub(crate) workers: Vec<Worker>,
+    /// For each worker a list with room for its first queue, so that only a worker that has run a
+    /// system may stop.
+    pub(crate) issued: Vec<Vec<SystemQueue>>,
     pub(crate) returned: Returned,
 }
 
@@ -44,6 +47,7 @@ impl Room {
             claims,
             unused,
             workers: Vec::with_capacity(alloc, workers)?,
+            issued: lists_for_one(alloc, workers)?,
             returned: Returned::new(alloc, systems, workers)?,
         })
     }
@@ -62,6 +66,18 @@ impl Returned {
     }
 }
 
+/// That many lists, each with room for one queue.
+fn lists_for_one(alloc: Global, count: usize) -> Result<Vec<Vec<SystemQueue>>, AllocError>
+    ensures count { IfOk result (λ lists. length lists.items ≡ count) }
+    ensures each { IfOk result (λ lists. All IsRoomForOne lists.items) }
+{
+    let mut lists = Vec::with_capacity(alloc, count)?;
+    for _ in 0..count {
+        lists.push_reserved(Vec::with_capacity(alloc, 1)?);
+    }
+    Ok(lists)
+}
+
 fn without_queues(alloc: Global, count: usize) -> Result<Vec<Option<CommandQueue>>, AllocError>
     ensures { IfOk result (λ by_system. by_system.items ≡ replicate count None) }
 {
@@ -72,28 +88,33 @@ fn without_queues(alloc: Global, count: usize) -> Result<Vec<Option<CommandQueue
     Ok(by_system)
 }
 
-/// A worker for each reserver, in their order, each with one of the claimers.
+/// A worker for each reserver, in their order, each with one of the claimers and of the lists.
 pub(crate) fn recruit(
-    alloc: Global,
     reservers: Vec<Reserver>,
     mut claimers: Vec<Claimer>,
+    mut lists: Vec<Vec<SystemQueue>>,
     workers: &mut Vec<Worker>,
 )
     requires empty { workers.old.items ≡ [] }
     requires room { length reservers.items ≤ vec_capacity workers.old }
     requires same { length claimers.items ≡ length reservers.items }
+    requires lists { length lists.items ≡ length reservers.items }
+    requires each { All IsRoomForOne lists.items }
     ensures reservers { map (λ w. w.reserver) workers.new.items ≡ reservers.items }
     ensures claimers { map (λ w. w.claimer) workers.new.items ≡ reverse claimers.items }
-    ensures fresh { All (λ w. w.issued.items ≡ []) workers.new.items }
+    ensures fresh { All (λ w. IsRoomForOne w.issued) workers.new.items }
 {
     for reserver in reservers {
         let Some(claimer) = claimers.pop() else {
             unreachable!()
         };
+        let Some(issued) = lists.pop() else {
+            unreachable!()
+        };
         workers.push_reserved(Worker {
             reserver,
             claimer,
-            issued: Vec::new(alloc),
+            issued,
             stopped: false,
         });
     }

@@ -7,7 +7,7 @@ ghost use Rattle.std.specs.List.{range_with_len};
 ghost use Rattle.ent_alloc.specs.History.{Call, IsLegal};
 ghost use Rattle.ent_shared.specs.Order.{history_of, reservations_of, Respects};
 ghost use Rattle.ent_shared.specs.Phase.{IsOf, records_of};
-ghost use Rattle.ent_claims.specs.Claims.{IsClaimerOf as IsClaimerOf};
+ghost use Rattle.ent_claims.specs.Claims.{IsClaimerOf};
 ghost use Rattle.ent_shared.specs.Record.{opened_records};
 ghost use Rattle.ent_runner.specs.Frame.{IsFrame, Ends, EndsInOrder, IsBrokenOff, IsLost, StopsAt};
 ghost use Rattle.ent_world.specs.OpenWorld.{world_at_start};
@@ -132,9 +132,10 @@ where
         claims,
         unused,
         mut workers,
+        issued,
         returned,
     } = room;
-    recruit(alloc, reservers, unused, &mut workers);
+    recruit(reservers, unused, issued, &mut workers);
     work(rt, alloc, &opened, &claims, systems, gate, &mut workers);
     finish(opened, claims, workers, returned)
 }
@@ -182,6 +183,7 @@ fn finish(
     returned: Returned,
 ) -> (World, Option<Vec<CommandQueue>>)
     requires each { All (HasClaimed opened.shared claims) workers.items }
+    requires some { 0 < opened.shared.count }
     requires count { length workers.items ≡ opened.shared.count }
     requires claims { claims.workers ≡ opened.shared.count }
     requires room { HasReturns claims.numbers opened.shared.count returned }

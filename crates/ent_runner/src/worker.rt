@@ -3,7 +3,7 @@ ghost use Rattle.std.specs.Prelude.{◌≡◌, ◌+◌, ◌<◌, ◌≤◌, ◌^
 ghost use Rattle.std.specs.Prelude.{All, ℕ, slice_index_or, false};
 ghost use Rattle.ent_shared.specs.Phase.{IsOf};
 ghost use Rattle.ent_queue.specs.Reserving.{Gains};
-ghost use Rattle.ent_claims.specs.Claims.{IsClaimerOf as IsClaimerOf};
+ghost use Rattle.ent_claims.specs.Claims.{IsClaimerOf};
 ghost use Rattle.ent_runner.specs.Frame.{SystemMayIssue};
 ghost use Rattle.ent_runner.specs.Worker.{HasRun, HasRunSome, IsFresh, HasWorked};
 
@@ -68,7 +68,7 @@ impl<S: System, G: Gate> Stage<'_, S, G> {
 
 impl Worker {
     /// Runs the systems that it claims, until none is left. It claims one only if there is room
-    /// for its queue.
+    /// for its queue, which there is for the first one.
     fn work<S: System, G: Gate>(&mut self, stage: &Stage<'_, S, G>) -> Result<(), Memory>
         requires systems { stage.now.claims.now.numbers ≡ length stage.now.systems.now }
         requires reserver { IsOf stage.now.shared.now self.old.reserver }
@@ -84,9 +84,9 @@ impl Worker {
             self.old.reserver.own self.new.reserver.own self.new.claimer.own.claims
             self.new.issued.items) }
         ensures ended { OnOk result (self.new.claimer.own.ended ≡ true) }
+        ensures some { OnErr result (0 < length self.new.issued.items) }
         ensures stopped { self.new.stopped ≡ self.old.stopped }
     {
-        self.issued.reserve(1)?;
         while let Some(system) = stage.claims.next(&mut self.claimer) {
             let (queue, ran) = stage.issue(system, &mut self.reserver);
             self.issued.push_reserved(SystemQueue { system, queue });

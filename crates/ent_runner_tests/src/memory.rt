@@ -135,8 +135,8 @@ fn refused_memory_of_two_workers(rt: HostRuntime) {
 const SURE: [Act; 2] = [Act::SpawnSurely(5), Act::SpawnSurely(7)];
 
 /// One worker runs systems that do not fail. So the entries of the gate tell where memory was
-/// refused: before the first system, between the two, in the list of what the worker ran, or after
-/// both. Each system that was entered has reserved one handle.
+/// refused: before the first system, between the two, where the list of what the worker ran grows,
+/// or after both. Each system that was entered has reserved one handle.
 #[test]
 fn refused_memory_and_what_was_entered(rt: HostRuntime) {
     let alloc = rt.alloc();

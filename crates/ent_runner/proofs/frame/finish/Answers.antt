@@ -1,11 +1,11 @@
-use Rattle.std.proofs.Common.{◌≡◌, ◌∙◌, ap, sym, subst, List, map, All}
+use Rattle.std.proofs.Common.{◌≡◌, ◌∙◌, ap, sym, subst, arith, List, map, All}
 use Rattle.ent_runner.specs.Collecting.{queues_put}
 use Rattle.std.specs.Prelude.{IsSome, flat_map}
 use Rattle.ent_shared.specs.Phase.{IsOf, Reserver, records_of}
 use Rattle.ent_shared.specs.Order.{history_of, reservations_of, Respects}
 use Rattle.ent_shared.specs.declared.record.Record.{Record}
 use Rattle.ent_alloc.specs.History.{IsLegal}
-use Rattle.ent_claims.specs.Claims.{IsClaimerOf as IsClaimerOf}
+use Rattle.ent_claims.specs.Claims.{IsClaimerOf}
 use Rattle.ent_runner.specs.declared.worker.Worker.{Worker}
 use Rattle.ent_runner.specs.Worker.{all_records}
 use Rattle.ent_runner.proofs.Conducting.{reservers_own, claimers_own, once_closed, first_closed}
@@ -96,8 +96,9 @@ returns-clause-queues c =
 pub returns-then-stopped-clause-first : goal.returns-then-stopped-clause-first
 returns-then-stopped-clause-first c = first_closed c.args.opened.shared c.args.claims
     c.args.workers.items c.requires.each c.disband.new.claimers.items c.disband.ensures.claimers
-    c.close.ensures.first
+    (omega (arith, c.requires.some, c.requires.count)) c.close.ensures.first
 
 pub returns-clause-first : goal.returns-clause-first
 returns-clause-first c = first_closed c.args.opened.shared c.args.claims c.args.workers.items
-    c.requires.each c.disband.new.claimers.items c.disband.ensures.claimers c.close.ensures.first
+    c.requires.each c.disband.new.claimers.items c.disband.ensures.claimers
+    (omega (arith, c.requires.some, c.requires.count)) c.close.ensures.first
