@@ -1,7 +1,7 @@
 -- What the workers have done together, once all of them are back.
 use Rattle.std.proofs.Common.{◌≡◌, ℕ, zero, suc, ◌+◌, ◌<◌, ◌≤◌, List, [], ◌∷◌, ◌++◌, length, map}
-use Rattle.std.proofs.Common.{get_or, refl, ap, sym, ◌∙◌, arith, subst, Option, Some, None, true, Bool}
-use Rattle.std.proofs.Common.{false, take, drop, reverse}
+use Rattle.std.proofs.Common.{get_or, refl, ap, sym, ◌∙◌, arith, subst, Option, Some, None, true}
+use Rattle.std.proofs.Common.{Bool, false, take, drop, reverse}
 use Rattle.std.specs.Prelude.{slice_get, replicate, IsSome, IfSome}
 use Rattle.std.proofs.Common.{Vec, Global}
 use Rattle.std.specs.List.{All, AllPairs, flat_map, range_with_len}
@@ -240,7 +240,8 @@ once_closed shared claims team each seen same going claimers theirs once =
     (λ ended. subst (λ (cs : List Claimer). IsPermutation (flat_map (λ (c : Claimer). c.own.claims)
     cs) (range_with_len 0 claims.numbers)) theirs (once (subst HaveEnded (sym theirs) ended)))
 
--- Some system ran, if there are any: the first worker ran one before it stopped, or found none left.
+-- Some system ran, if there are any: the first worker ran one before it stopped, or found none
+-- left.
 some_by : (shared : Shared) (claims : Claims) (w : Worker) (team : List Worker) → HasClaimed shared
     claims w → (claimers : List Claimer) → claimers ≡ map (λ (v : Worker). v.claimer) (w ∷ team)
     → (first : AreFirst claims.numbers claimers) → (stopped : Bool) → w.stopped ≡ stopped

@@ -78,6 +78,7 @@ fn lists_for_one(alloc: Global, count: usize) -> Result<Vec<Vec<SystemQueue>>, A
     Ok(lists)
 }
 
+/// For each of that many systems no queue yet.
 fn without_queues(alloc: Global, count: usize) -> Result<Vec<Option<CommandQueue>>, AllocError>
     ensures { IfOk result (λ by_system. by_system.items ≡ replicate count None) }
 {
