@@ -43,10 +43,10 @@ refused : (c : After-write_refused) → Pushed c.self.inside.count c.self.inside
     c.write_refused.new.bytes.items (Refused 1 c.in-Err.why)
 refused c =
     let command = Refused 1 c.in-Err.why in
-    let answers = replies_alone c.args.shared.now c.args.reserver.now c.reserve-2.new.reserver
+    let replied = replies_alone c.args.shared.now c.args.reserver.now c.reserve-2.new.reserver
     (Err c.in-Err.why) c.in-Err.ensures.quota c.in-Err.ensures.gains in
     let is = is_refusal c.args.shared.now c.args.reserver.now c.reserve-2.new.reserver 1
-    c.in-Err.why answers c.write_refused.ensures.why in
+    c.in-Err.why replied c.write_refused.ensures.why in
     pushed c.self.inside.count c.self.inside.bytes.items c.write_refused.new.bytes.items command
     c.self.invariant (c.write_refused.ensures.wanted, is)
     (c.write_refused.ensures.items ∙ ap (λ bytes. bytes ++ command_bytes command)

@@ -52,7 +52,7 @@ refused : (c : After-write_refused) → Pushed c.self.inside.count c.self.inside
     c.write_refused.new.bytes.items (Refused c.args.n c.in-Err.why)
 refused c =
     let command = Refused c.args.n c.in-Err.why in
-    let answers : IsReply c.args.shared.now c.args.reserver.now c.reserve_many.new.reserver c.args.n
+    let replied : IsReply c.args.shared.now c.args.reserver.now c.reserve_many.new.reserver c.args.n
     (Err c.in-Err.why) = record {
       quota = c.in-Err.ensures.quota;
       nothing =
@@ -60,7 +60,7 @@ refused c =
       gains = c.in-Err.ensures.gains;
     } in
     let is = is_refusal c.args.shared.now c.args.reserver.now c.reserve_many.new.reserver c.args.n
-    c.in-Err.why answers c.write_refused.ensures.why in
+    c.in-Err.why replied c.write_refused.ensures.why in
     pushed c.self.inside.count c.self.inside.bytes.items c.write_refused.new.bytes.items command
     c.self.invariant (c.write_refused.ensures.wanted, is)
     (c.write_refused.ensures.items ∙ ap (λ bytes. bytes ++ command_bytes command)
@@ -78,9 +78,9 @@ returns-in-Err-clause-refused c =
     ∙ refused_by_fault c.args.n c.in-Err.why))
 
 pub returns-in-Ok-clause-replies : goal.returns-in-Ok-clause-replies
-returns-in-Ok-clause-replies c answer e =
+returns-in-Ok-clause-replies c reply e =
     let hs = c.in-Ok.given in
-    let listed : Ok hs ≡ answer = queued_ok answer hs
+    let listed : Ok hs ≡ reply = queued_ok reply hs
     (ap Ok (sym (c.write_many.ensures.handles
     ∙ ap (λ gs. gs ++ hs) c.in_ok-handles.ensures.items)) ∙ e) in
     let given : IsReply c.args.shared.now c.args.reserver.now c.reserve_many.new.reserver c.args.n

@@ -1,6 +1,6 @@
 use Rattle.std.proofs.Common.{◌≡◌, ◌<◌, ◌∙◌, arith}
 use Rattle.ent_world.specs.World.{World, IsWorld}
-use Rattle.ent_world.proofs.Answers.{taken_out}
+use Rattle.ent_world.proofs.TakenOut.{taken_out}
 use Rattle.ent_world.proofs.Worlds.{after_despawn-world}
 use Rattle.ent_world.proofs.world.World.despawn.Goals.{After-despawn}
 use Rattle.ent_world.proofs.world.World.despawn.Goals as goal
