@@ -6,6 +6,10 @@ mod allocators;
 #[cfg(test)]
 mod caller;
 #[cfg(test)]
+mod credit;
+#[cfg(test)]
+mod few_slots;
+#[cfg(test)]
 mod gate;
 #[cfg(test)]
 mod in_turn;
