@@ -109,27 +109,27 @@ impl Bundle {
     #[inline]
     pub fn put(&mut self, id: u8, value: i64) {
         let items = self.items();
-        let place = items
+        let index = items
             .iter()
             .position(|item| id <= item.0)
             .unwrap_or(items.len());
-        let is_there = items.get(place).is_some_and(|item| item.0 == id);
+        let is_there = items.get(index).is_some_and(|item| item.0 == id);
         match self {
-            Bundle::Inline { items, .. } if is_there => items[place].1 = value,
-            Bundle::Heap(items) if is_there => items[place].1 = value,
+            Bundle::Inline { items, .. } if is_there => items[index].1 = value,
+            Bundle::Heap(items) if is_there => items[index].1 = value,
             Bundle::Inline { len, items } if *len < 4 => {
-                for later in (place..usize::from(*len)).rev() {
+                for later in (index..usize::from(*len)).rev() {
                     items[later + 1] = items[later];
                 }
-                items[place] = (id, value);
+                items[index] = (id, value);
                 *len += 1;
             }
             Bundle::Inline { items, .. } => {
                 let mut items = items.to_vec();
-                items.insert(place, (id, value));
+                items.insert(index, (id, value));
                 *self = Bundle::Heap(items);
             }
-            Bundle::Heap(items) => items.insert(place, (id, value)),
+            Bundle::Heap(items) => items.insert(index, (id, value)),
         }
     }
 }

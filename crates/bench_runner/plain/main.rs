@@ -56,8 +56,8 @@ fn spin(work: &Work) -> i64 {
 
 fn uneven(long: usize) -> [Work; SYSTEMS] {
     let mut systems = [Work { seed: 1, steps: STEPS }; SYSTEMS];
-    for (place, system) in systems.iter_mut().enumerate() {
-        system.seed = place as u64;
+    for (number, system) in systems.iter_mut().enumerate() {
+        system.seed = number as u64;
     }
     systems[long].steps = STEPS * LONG;
     systems
@@ -69,14 +69,14 @@ fn frame<S: System>(start: Start, systems: &[S], workers: usize) -> Vec<i64> {
     let mut issued = side_by_side(start, workers, &|| {
         let mut issued = Vec::new();
         loop {
-            let place = next.fetch_add(1, Ordering::SeqCst);
-            let Some(system) = systems.get(place) else {
+            let number = next.fetch_add(1, Ordering::SeqCst);
+            let Some(system) = systems.get(number) else {
                 return issued;
             };
-            issued.push((place, system.run()));
+            issued.push((number, system.run()));
         }
     });
-    issued.sort_unstable_by_key(|(place, _)| *place);
+    issued.sort_unstable_by_key(|(number, _)| *number);
     issued.into_iter().filter_map(|(_, value)| value).collect()
 }
 

@@ -59,13 +59,13 @@ impl System for Empty {
     }
 }
 
-/// Systems of that many steps, and a long one at this place.
+/// Systems of that many steps, and a long one at this number.
 pub fn uneven(steps: u32, long: usize) -> [Work; SYSTEMS]
     requires { long < SYSTEMS }
 {
     let mut systems = [Work { seed: 1, steps }; SYSTEMS];
-    for (place, system) in systems.iter_mut().enumerate() {
-        system.seed = place as u64;
+    for (number, system) in systems.iter_mut().enumerate() {
+        system.seed = number as u64;
     }
     systems[long].steps = steps.saturating_mul(LONG);
     systems

@@ -26,7 +26,7 @@ pub enum FaultKind {
     Refused(Refused),
 }
 
-/// A command that had no effect: the place of its queue, its place there, and why.
+/// A command that had no effect: the number of its queue, its number there, and why.
 #[allow(dead_code)]
 pub struct Fault {
     system: usize,

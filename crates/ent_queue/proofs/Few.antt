@@ -1,28 +1,15 @@
 -- A bundle has no more items than there are components.
-use Rattle.std.proofs.Common.{◌≡◌, refl, sym, ℕ, ◌+◌, ◌<◌, ◌≤◌, ℤ, [], ◌∷◌, length, arith, T, Bool}
-use Rattle.std.proofs.Common.{true, false, ◌&&◌, Ordering}
+use Rattle.std.proofs.Common.{sym, ℕ, ◌+◌, ◌<◌, ◌≤◌, ℤ, [], ◌∷◌, length, arith, T}
 use Rattle.std.specs.List.{All}
 use Rattle.std.proofs.lemmas.List.Elements.{All-head, All-tail}
 use Rattle.std.specs.Ordering.{is_lt, nat_cmp}
 use Rattle.std.specs.Cmp.{ranked}
-use Rattle.std.specs.declared.cmp.Ordering.TheVariants.{Less, Equal, Greater}
+use Rattle.std.specs.declared.cmp.Ordering.TheVariants.{Less}
 use Rattle.std.specs.FinMap.{is_sorted}
 use Rattle.ent_handle.specs.Component.{component_cmp}
 use Rattle.ent_handle.specs.declared.component.ComponentId.{ComponentId}
 use Rattle.ent_queue.specs.Command.{Bundle, IsItem, IsBundle}
-
-first : (a b : Bool) → T (a && b) → T a
-first true b h = tt
-first false b h = absurd h
-
-second : (a b : Bool) → T (a && b) → T b
-second true b h = h
-second false b h = absurd h
-
-less : (r : Ordering) → T (is_lt r) → r ≡ Less
-less Less h = refl
-less Equal h = absurd h
-less Greater h = absurd h
+use Rattle.ent_queue.proofs.Rising.{first, second, less}
 
 below : (m n : ℕ) → T (is_lt (nat_cmp m n)) → m < n
 below m n h = ranked m n Less (sym (less (nat_cmp m n) h))

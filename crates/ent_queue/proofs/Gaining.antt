@@ -116,18 +116,18 @@ module _ (shared : Shared) (before after : Reserver) (n : ℕ) where
   pub served_gains : (hs : List Handle) (c : Command) → IsReply shared before after n (Ok hs)
       → (0 < n → stands_for c ≡ (n, Ok hs) ∷ []) → (n ≡ 0 → hs ≡ [] → stands_for c ≡ [])
       → (n ≤ before.own.left → FitsCredit before.own.left c) → Gains before.own (c ∷ []) after.own
-  served_gains hs c answers one none within =
+  served_gains hs c replied one none within =
       elim (cases_lt before.own.left n) [
-        | inl short ↦ let no = (answers.quota short).0 in absurd (cc)
+        | inl short ↦ let no = (replied.quota short).0 in absurd (cc)
         | inr enough ↦ elim (cases_lt 0 n) [
           | inl some ↦
-              let g = answers.gains some enough in
+              let g = replied.gains some enough in
               let asks : stands_for c ≡ (n, (reservation_at before.own g.high n).reply)
               ∷ [] = one some ∙ ap (λ r. (n, r) ∷ []) (sym g.recorded) in
               subst (λ (r : Reserver). Gains before.own (c ∷ []) r.own) (sym g.after)
               (gains_one before.own g.high n c enough asks (within enough))
           | inr nothing ↦
-              let empty = answers.nothing (omega arith) in
+              let empty = replied.nothing (omega arith) in
               let same : hs ≡ [] = let e = empty.0 in cc in
               subst (λ (r : Reserver). Gains before.own (c ∷ []) r.own) (sym empty.1)
               (gains_none before.own c (none (omega arith) same) (within enough))
@@ -137,31 +137,31 @@ module _ (shared : Shared) (before after : Reserver) (n : ℕ) where
   -- what was refused
   pub refused_gains : (why : Refusal) → IsReply shared before after n (Err why)
       → Gains before.own (Refused n why ∷ []) after.own
-  refused_gains (Space wanted left) answers =
+  refused_gains (Space wanted left) replied =
       elim (cases_lt before.own.left n) [
-        | inl short ↦ let no = (answers.quota short).0 in absurd (cc)
+        | inl short ↦ let no = (replied.quota short).0 in absurd (cc)
         | inr enough ↦ elim (cases_lt 0 n) [
           | inl some ↦
-              let g = answers.gains some enough in
+              let g = replied.gains some enough in
               let asks : stands_for (Refused n (Space wanted left))
               ≡ (n, (reservation_at before.own g.high n).reply) ∷ [] = ap (λ r. (n, r) ∷ [])
               (sym g.recorded) in
               subst (λ (r : Reserver). Gains before.own (Refused n (Space wanted left) ∷ []) r.own)
               (sym g.after) (gains_one before.own g.high n (Refused n (Space wanted left))
               enough asks enough)
-          | inr nothing ↦ let no = (answers.nothing (omega arith)).0 in absurd (cc)
+          | inr nothing ↦ let no = (replied.nothing (omega arith)).0 in absurd (cc)
         ]
       ]
-  refused_gains (Quota left) answers =
+  refused_gains (Quota left) replied =
       elim (cases_lt before.own.left n) [
         | inl short ↦
-            let q = answers.quota short in
+            let q = replied.quota short in
             let rest : left ≡ before.own.left = let e = q.0 in cc in
             subst (λ (r : Reserver). Gains before.own (Refused n (Quota left) ∷ []) r.own) (sym q.1)
             (gains_none before.own (Refused n (Quota left)) refl (rest, short))
         | inr enough ↦ elim (cases_lt 0 n) [
-          | inl some ↦ absurd (answers.gains some enough).recorded
-          | inr nothing ↦ let no = (answers.nothing (omega arith)).0 in absurd (cc)
+          | inl some ↦ absurd (replied.gains some enough).recorded
+          | inr nothing ↦ let no = (replied.nothing (omega arith)).0 in absurd (cc)
         ]
       ]
 
@@ -195,20 +195,21 @@ space_wanted made pool n wanted left e = by (nat_le n (length pool)) e
 -- a refusal by the pool says how many handles were requested
 pub is_refusal : (shared : Shared) (before after : Reserver) (n : ℕ) (why : Refusal)
     → IsReply shared before after n (Err why) → HasRange why → IsRefusal n why
-is_refusal shared before after n (Space wanted left) answers range =
+is_refusal shared before after n (Space wanted left) replied range =
     elim (cases_lt before.own.left n) [
-      | inl short ↦ let no = (answers.quota short).0 in absurd (cc)
+      | inl short ↦ let no = (replied.quota short).0 in absurd (cc)
       | inr enough ↦ elim (cases_lt 0 n) [
         | inl some ↦
-            let g = answers.gains some enough in (
-              space_wanted shared.start.made (pool_at shared.start g.high) n wanted left (sym g.reply
+            let g = replied.gains some enough in (
+              space_wanted shared.start.made (pool_at shared.start g.high) n wanted left
+                  (sym g.reply
                   ∙ g.recorded),
               range,
             )
-        | inr nothing ↦ let no = (answers.nothing (omega arith)).0 in absurd (cc)
+        | inr nothing ↦ let no = (replied.nothing (omega arith)).0 in absurd (cc)
       ]
     ]
-is_refusal shared before after n (Quota left) answers range = range
+is_refusal shared before after n (Quota left) replied range = range
 
 pub refused_by_fault : (n : ℕ) (why : Refusal) → refused_by n (as_fault why) ≡ Refused n why ∷ []
 refused_by_fault n (Space wanted left) = refl

@@ -12,6 +12,7 @@ use Rattle.ent_alloc.specs.Sequential.{listed_alone}
 use Rattle.ent_queue.specs.declared.fault.QueueFault.{QueueFault}
 use Rattle.ent_queue.specs.declared.fault.QueueFault.TheVariants as fault
 use Rattle.ent_queue.specs.Command.{Command, Bundle, Spawn, SpawnMany, Refused}
+use Rattle.ent_queue.specs.Commands.{Issued, IsReady, Extends, queue_of, reserver_of, shared_of}
 use Rattle.ent_queue.specs.Reserving.{stands_for, FitsCredit, Gains, IsReply, queued, as_list}
 use Rattle.ent_queue.specs.Reserving.{refused_by, as_fault}
 use Rattle.ent_queue.proofs.Gaining.{gains_nothing, gains_none, served_gains, refused_gains}
@@ -21,6 +22,19 @@ pub record Added (old new : List Command) (before after : Record) : Type 0 where
   pub added : List Command
   pub queue : new ≡ old ++ added
   pub gains : Gains before added after
+
+-- So the call extends what was there, with the same reserver of the same allocator.
+pub extends_added : (a b : Issued) → b.reserver.ghost_name ≡ a.reserver.ghost_name
+    → shared_of b ≡ shared_of a → IsReady b
+    → Added (queue_of a) (queue_of b) (reserver_of a).own (reserver_of b).own → Extends a b
+extends_added a b same shared ready more = record {
+  same = same;
+  shared = shared;
+  ready = ready;
+  added = more.added;
+  queue = more.queue;
+  gains = more.gains;
+}
 
 many_request : (hs : List Handle) (items : Bundle) (n : ℕ) → length hs ≡ n → 0 < n
     → stands_for (SpawnMany hs items) ≡ (n, Ok hs) ∷ []
@@ -44,8 +58,8 @@ added_none r c (Err e) old new none within ok err = record {
   gains = gains_nothing r;
 }
 
-pub queued_ok : (answer : Result (List Handle) Refusal) (hs : List Handle) → Ok hs ≡ queued answer
-    → Ok hs ≡ answer
+pub queued_ok : (reply : Result (List Handle) Refusal) (hs : List Handle) → Ok hs ≡ queued reply
+    → Ok hs ≡ reply
 queued_ok (Ok gs) hs e = let same : hs ≡ gs = cc in ap Ok same
 queued_ok (Err why) hs e = absurd (cc)
 
@@ -57,22 +71,22 @@ module _ (shared : Shared) (before after : Reserver) (old new : List Command) wh
       → (f ≡ fault.Memory → after ≡ before)
       → ((why : Refusal) → Err f ≡ queued {X = List Handle} (Err why) → IsReply shared before after
       n (Err why)) → Added old new before.own after.own
-  added_refusal n (fault.Space wanted left) queue memory answers =
+  added_refusal n (fault.Space wanted left) queue memory replied =
       record {
         added = Refused n (Space wanted left) ∷ [];
         queue = queue;
         gains =
             refused_gains shared before after n (Space wanted left)
-            (answers (Space wanted left) refl);
+            (replied (Space wanted left) refl);
       }
-  added_refusal n (fault.Quota left) queue memory answers =
+  added_refusal n (fault.Quota left) queue memory replied =
       record {
         added = Refused n (Quota left) ∷ [];
         queue = queue;
         gains = refused_gains shared
-            before after n (Quota left) (answers (Quota left) refl);
+            before after n (Quota left) (replied (Quota left) refl);
       }
-  added_refusal n fault.Memory queue memory answers =
+  added_refusal n fault.Memory queue memory replied =
       record {
         added = [];
         queue = queue;
@@ -84,35 +98,35 @@ module _ (shared : Shared) (before after : Reserver) (old new : List Command) wh
   pub added_spawn : (items : Bundle) (result : Result Handle QueueFault)
       → IfOk result (λ h. new ≡ old ++ Spawn h items ∷ [])
       → IfErr result (λ f. new ≡ old ++ refused_by 1 f) → (IsErrOf result fault.Memory → after
-      ≡ before) → ((answer : Result Handle Refusal) → result ≡ queued answer
-      → IsReply shared before after 1 (listed_alone answer)) → Added old new before.own after.own
-  added_spawn items (Ok h) ok refused memory answers =
+      ≡ before) → ((reply : Result Handle Refusal) → result ≡ queued reply
+      → IsReply shared before after 1 (listed_alone reply)) → Added old new before.own after.own
+  added_spawn items (Ok h) ok refused memory replied =
       record {
         added = Spawn h items ∷ [];
         queue = ok;
         gains = served_gains shared before after 1
-            (h ∷ []) (Spawn h items) (answers (Ok h) refl) (λ some. refl)
+            (h ∷ []) (Spawn h items) (replied (Ok h) refl) (λ some. refl)
             (λ none. absurd (omega arith)) (λ enough. enough);
       }
-  added_spawn items (Err f) ok refused memory answers =
+  added_spawn items (Err f) ok refused memory replied =
       added_refusal 1 f refused (λ e. memory (ap Err e))
-      (λ why e. answers (Err why) (ap Err (same_fault f (as_fault why) e)))
+      (λ why e. replied (Err why) (ap Err (same_fault f (as_fault why) e)))
 
   pub added_many : (n : ℕ) (items : Bundle) (result : Result (Vec Handle Global) QueueFault)
       → IfOk result (λ hs. new ≡ old ++ SpawnMany hs.items items ∷ [])
       → IfErr result (λ f. new ≡ old ++ refused_by n f) → (IsErrOf result fault.Memory → after
-      ≡ before) → ((answer : Result (List Handle) Refusal) → as_list result ≡ queued answer
-      → IsReply shared before after n answer) → IfOk result (λ hs. length hs.items ≡ n)
+      ≡ before) → ((reply : Result (List Handle) Refusal) → as_list result ≡ queued reply
+      → IsReply shared before after n reply) → IfOk result (λ hs. length hs.items ≡ n)
       → Added old new before.own after.own
-  added_many n items (Ok hs) ok refused memory answers number =
+  added_many n items (Ok hs) ok refused memory replied number =
       record {
         added = SpawnMany hs.items items ∷ [];
         queue = ok;
         gains = served_gains shared before
-            after n hs.items (SpawnMany hs.items items) (answers (Ok hs.items) refl)
+            after n hs.items (SpawnMany hs.items items) (replied (Ok hs.items) refl)
             (λ some. many_request hs.items items n number some)
             (λ none empty. ap (λ gs. stands_for (SpawnMany gs items)) empty)
             (λ enough. subst (λ k. k ≤ before.own.left) (sym number) enough);
       }
-  added_many n items (Err f) ok refused memory answers number =
-      added_refusal n f refused (λ e. memory (ap Err e)) (λ why e. answers (Err why) e)
+  added_many n items (Err f) ok refused memory replied number =
+      added_refusal n f refused (λ e. memory (ap Err e)) (λ why e. replied (Err why) e)

@@ -18,24 +18,23 @@ queue_bytes-push (d ∷ cs) c =
     ∙ sym (append_assoc (command_bytes d) (queue_bytes cs) (command_bytes c))
 
 -- The bytes of some commands, and then those of one more, are those of one more command.
-pub record Pushed (count : ℕ) (bytes : List ℕ) (c : Command) : Type 0 where
-  pub packed : ArePacked (count + 1) (bytes ++ command_bytes c)
-  pub commands : unpacked_commands (count + 1) (bytes ++ command_bytes c)
-      ≡ unpacked_commands count bytes ++ c ∷ []
+pub record Pushed (count : ℕ) (bytes new : List ℕ) (c : Command) : Type 0 where
+  pub packed : ArePacked (count + 1) new
+  pub commands : unpacked_commands (count + 1) new ≡ unpacked_commands count bytes ++ c ∷ []
 
-pub pushed : (count : ℕ) (bytes : List ℕ) (c : Command) → ArePacked count bytes → IsCommand c
-    → Pushed count bytes c
-pushed count bytes c packed is =
+pub pushed : (count : ℕ) (bytes new : List ℕ) (c : Command) → ArePacked count bytes → IsCommand c
+    → new ≡ bytes ++ command_bytes c → Pushed count bytes new c
+pushed count bytes new c packed is written =
     let cs = unpacked_commands count bytes in
     let all : All IsCommand (cs ++ c ∷ []) = All-push IsCommand cs c packed.each is in
-    let whole : queue_bytes (cs ++ c ∷ []) ≡ bytes ++ command_bytes c = queue_bytes-push cs c
-    ∙ ap (λ bs. bs ++ command_bytes c) (sym packed.bytes_are) in
+    let whole : queue_bytes (cs ++ c ∷ []) ≡ new = queue_bytes-push cs c
+    ∙ ap (λ bs. bs ++ command_bytes c) (sym packed.bytes_are) ∙ sym written in
     let number : length (cs ++ c ∷ []) ≡ count + 1 = length-append cs (c ∷ [])
     ∙ ap (λ n. n + 1) (length_of_commands count bytes) in
     record {
-      packed = subst (λ n. ArePacked n (bytes ++ command_bytes c)) number
+      packed = subst (λ n. ArePacked n new) number
           (subst (ArePacked (length (cs ++ c ∷ []))) whole (are_packed (cs ++ c ∷ []) all));
-      commands = ap (λ n. unpacked_commands n (bytes ++ command_bytes c)) (sym number)
+      commands = ap (λ n. unpacked_commands n new) (sym number)
           ∙ ap (unpacked_commands (length (cs ++ c ∷ []))) (sym whole)
           ∙ unpacked_commands-bytes (cs ++ c ∷ []) all;
     }

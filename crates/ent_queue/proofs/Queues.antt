@@ -124,47 +124,55 @@ pub record WithReason (wanted : ℕ) (why : Refusal) (parts rest : List ℕ) : T
   pub why_is : unpacked_refusal wanted (drop 4 parts) ≡ why
   pub rest_is : drop 8 (drop 1 (drop 4 parts)) ≡ rest
 
+record ReasonParts (wanted kind left : ℕ) (parts rest : List ℕ) : Type 0 where
+  length_is : length parts ≡ 13 + length rest
+  wanted_is : number_4 parts ≡ wanted
+  after : drop 4 parts ≡ kind ∷ (bytes_8 left ++ rest)
+  rest_is : drop 8 (drop 1 (drop 4 parts)) ≡ rest
+
+reason_parts : (wanted kind left : ℕ) (parts rest : List ℕ) → wanted < 2 ^ 32
+    → parts ≡ (bytes_4 wanted ++ kind ∷ bytes_8 left) ++ rest
+    → ReasonParts wanted kind left parts rest
+reason_parts wanted kind left parts rest few e =
+    let more = kind ∷ (bytes_8 left ++ rest) in
+    let regroup : parts ≡ bytes_4 wanted ++ more = e ∙ append_assoc (bytes_4 wanted)
+    (kind ∷ bytes_8 left) rest in
+    let after : drop 4 parts ≡ more = ap (drop 4) regroup ∙ drop-bytes_4 wanted more in
+    record {
+      length_is = ap length regroup ∙ length-append (bytes_4 wanted) more
+          ∙ omega (
+            arith,
+            length-bytes_4 wanted,
+            length-append (bytes_8 left) rest,
+            length-bytes_8
+                left,
+          );
+      wanted_is = ap number_4 regroup ∙ number_4-bytes wanted more few;
+      after = after;
+      rest_is = ap (λ bytes. drop 8 (drop 1 bytes)) after ∙ drop-bytes_8 left rest;
+    }
+
 pub with_reason : (wanted : ℕ) (why : Refusal) (parts rest : List ℕ) → wanted < 2 ^ 32
     → IsRefusal wanted why → parts ≡ (bytes_4 wanted ++ refusal_bytes why) ++ rest
     → WithReason wanted why parts rest
 with_reason wanted (Space same left) parts rest few is e =
-    let more = 1 ∷ (bytes_8 left ++ rest) in
-    let regroup : parts ≡ bytes_4 wanted ++ more = e ∙ append_assoc (bytes_4 wanted)
-    (1 ∷ bytes_8 left) rest in
-    let after : drop 4 parts ≡ more = ap (drop 4) regroup ∙ drop-bytes_4 wanted more in
+    let p = reason_parts wanted 1 left parts rest few e in
     let read : number_8 (bytes_8 left ++ rest) ≡ left = number_8-bytes left rest
     (omega (arith, is.1)) in
     record {
-      length_is = ap length regroup ∙ length-append (bytes_4 wanted) more
-          ∙ omega (
-            arith,
-            length-bytes_4 wanted,
-            length-append (bytes_8 left) rest,
-            length-bytes_8
-                left,
-          );
-      wanted_is = ap number_4 regroup ∙ number_4-bytes wanted more few;
-      why_is = ap (unpacked_refusal wanted) after ∙ (λ i. Space (sym is.0 i) (read i));
-      rest_is = ap (λ bytes. drop 8 (drop 1 bytes)) after ∙ drop-bytes_8 left rest;
+      length_is = p.length_is;
+      wanted_is = p.wanted_is;
+      why_is = ap (unpacked_refusal wanted) p.after ∙ (λ i. Space (sym is.0 i) (read i));
+      rest_is = p.rest_is;
     }
 with_reason wanted (Quota left) parts rest few is e =
-    let more = 2 ∷ (bytes_8 left ++ rest) in
-    let regroup : parts ≡ bytes_4 wanted ++ more = e ∙ append_assoc (bytes_4 wanted)
-    (2 ∷ bytes_8 left) rest in
-    let after : drop 4 parts ≡ more = ap (drop 4) regroup ∙ drop-bytes_4 wanted more in
+    let p = reason_parts wanted 2 left parts rest few e in
     let read : number_8 (bytes_8 left ++ rest) ≡ left = number_8-bytes left rest is in
     record {
-      length_is = ap length regroup ∙ length-append (bytes_4 wanted) more
-          ∙ omega (
-            arith,
-            length-bytes_4 wanted,
-            length-append (bytes_8 left) rest,
-            length-bytes_8
-                left,
-          );
-      wanted_is = ap number_4 regroup ∙ number_4-bytes wanted more few;
-      why_is = ap (unpacked_refusal wanted) after ∙ ap Quota read;
-      rest_is = ap (λ bytes. drop 8 (drop 1 bytes)) after ∙ drop-bytes_8 left rest;
+      length_is = p.length_is;
+      wanted_is = p.wanted_is;
+      why_is = ap (unpacked_refusal wanted) p.after ∙ ap Quota read;
+      rest_is = p.rest_is;
     }
 
 pub unpacked_command-bytes : (c : Command) (rest : List ℕ) → IsCommand c

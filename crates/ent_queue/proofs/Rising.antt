@@ -15,18 +15,19 @@ use Rattle.std.specs.FinMap.Entries.{by_order, below_all, is_sorted-put}
 use Rattle.ent_handle.specs.declared.component.ComponentId.{ComponentId}
 use Rattle.ent_handle.specs.Component.{component_cmp, component_cmp_total}
 use Rattle.ent_queue.specs.Command.{Bundle, IsItem, IsBundle}
-use Rattle.ent_queue.specs.Place.{AreRising}
+use Rattle.ent_queue.specs.Search.{AreRising}
 
-first : (a b : Bool) → T (a && b) → T a
+-- what tests tell
+pub first : (a b : Bool) → T (a && b) → T a
 first true b h = tt
 first false b h = absurd h
 
-less : (r : Ordering) → T (is_lt r) → r ≡ Less
+pub less : (r : Ordering) → T (is_lt r) → r ≡ Less
 less Less h = refl
 less Equal h = absurd h
 less Greater h = absurd h
 
-second : (a b : Bool) → T (a && b) → T b
+pub second : (a b : Bool) → T (a && b) → T b
 second true b h = h
 second false b h = absurd h
 
@@ -54,21 +55,21 @@ are_rising (item ∷ items) rising (suc i) zero d order within = absurd (omega a
 are_rising (item ∷ items) rising (suc i) (suc j) d order within =
     are_rising items (second _ _ rising) i j d (omega arith) (omega arith)
 
--- Where all lower ones stand before a place: a component that is not there goes there.
+-- Where all lower ones stand before an index: a component that is not there goes there.
 module _ (id : ComponentId) (value : ℤ) where
-  pub put_between : (items : Bundle) (place : ℕ) → place ≤ length items
-      → AllWithin (λ item. item.0.0 < id.0) items 0 place
-      → (place < length items → HoldsAt (λ item. id.0 < item.0.0) items place)
-      → put component_cmp id value items ≡ insert items place (id, value)
+  pub put_between : (items : Bundle) (index : ℕ) → index ≤ length items
+      → AllWithin (λ item. item.0.0 < id.0) items 0 index
+      → (index < length items → HoldsAt (λ item. id.0 < item.0.0) items index)
+      → put component_cmp id value items ≡ insert items index (id, value)
   put_between [] zero within lower above = refl
-  put_between [] (suc place) within lower above = absurd (omega arith)
+  put_between [] (suc index) within lower above = absurd (omega arith)
   put_between (item ∷ items) zero within lower above =
       ap (putting id value item items)
       (sym (nat_cmp_is id.0 item.0.0 Less (above (omega arith) item)))
-  put_between (item ∷ items) (suc place) within lower above =
+  put_between (item ∷ items) (suc index) within lower above =
       ap (putting id value item items)
       (sym (nat_cmp_is id.0 item.0.0 Greater (lower zero item (omega arith) (omega arith))))
-      ∙ ap (λ more. item ∷ more) (put_between items place (omega arith)
+      ∙ ap (λ more. item ∷ more) (put_between items index (omega arith)
       (λ k d low high. lower (suc k) d (omega arith) (omega arith))
       (λ h d. above (omega arith) d))
 
@@ -81,34 +82,34 @@ module _ (id : ComponentId) (value : ℤ) where
       (sym (nat_cmp_is id.0 item.0.0 Less (omega arith)))
       ∙ find_below low items h (second _ _ below)
 
-  pub find_between : (items : Bundle) (place : ℕ) → T (is_sorted component_cmp items) → place
-      ≤ length items → AllWithin (λ item. item.0.0 < id.0) items 0 place
-      → (place < length items → HoldsAt (λ item. id.0 < item.0.0) items place)
+  pub find_between : (items : Bundle) (index : ℕ) → T (is_sorted component_cmp items) → index
+      ≤ length items → AllWithin (λ item. item.0.0 < id.0) items 0 index
+      → (index < length items → HoldsAt (λ item. id.0 < item.0.0) items index)
       → find component_cmp id items ≡ None
-  find_between [] place rising within lower above = refl
+  find_between [] index rising within lower above = refl
   find_between (item ∷ items) zero rising within lower above =
       ap (λ r. cond (is_eq r) (Some item.1) (find component_cmp id items))
       (sym (nat_cmp_is id.0 item.0.0 Less (above (omega arith) item)))
       ∙ find_below item.0 items (above (omega arith) item) (first _ _ rising)
-  find_between (item ∷ items) (suc place) rising within lower above =
+  find_between (item ∷ items) (suc index) rising within lower above =
       ap (λ r. cond (is_eq r) (Some item.1) (find component_cmp id items))
       (sym (nat_cmp_is id.0 item.0.0 Greater (lower zero item (omega arith) (omega arith))))
-      ∙ find_between items place (second _ _ rising) (omega arith)
+      ∙ find_between items index (second _ _ rising) (omega arith)
       (λ k d low high. lower (suc k) d (omega arith) (omega arith))
       (λ h d. above (omega arith) d)
 
-  -- a component that is there keeps its place
-  pub put_over : (items : Bundle) (place : ℕ) → place < length items
-      → AllWithin (λ item. item.0.0 < id.0) items 0 place → HoldsAt (λ item. item.0.0 ≡ id.0) items
-      place → (d : ComponentId × ℤ) → put component_cmp id value items
-      ≡ set items place ((get_or items place d).0, value)
-  put_over [] place within lower here d = absurd (omega arith)
+  -- a component that is there keeps its index
+  pub put_over : (items : Bundle) (index : ℕ) → index < length items
+      → AllWithin (λ item. item.0.0 < id.0) items 0 index → HoldsAt (λ item. item.0.0 ≡ id.0) items
+      index → (d : ComponentId × ℤ) → put component_cmp id value items
+      ≡ set items index ((get_or items index d).0, value)
+  put_over [] index within lower here d = absurd (omega arith)
   put_over (item ∷ items) zero within lower here d =
       ap (putting id value item items) (sym (nat_cmp_is id.0 item.0.0 Equal (sym (here item))))
-  put_over (item ∷ items) (suc place) within lower here d =
+  put_over (item ∷ items) (suc index) within lower here d =
       ap (putting id value item items)
       (sym (nat_cmp_is id.0 item.0.0 Greater (lower zero item (omega arith) (omega arith))))
-      ∙ ap (λ more. item ∷ more) (put_over items place (omega arith)
+      ∙ ap (λ more. item ∷ more) (put_over items index (omega arith)
       (λ k e low high. lower (suc k) e (omega arith) (omega arith)) here d)
 
   all_put : id.0 < 2 ^ 8 → FitsSigned w64 value → (items : Bundle) → All IsItem items

@@ -2,6 +2,6 @@ pub mod Command
 pub mod Packing
 pub mod Unpacking
 pub mod Entry
-pub mod Place
+pub mod Search
 pub mod Reserving
 pub mod Commands

@@ -83,7 +83,7 @@ refused_by wanted fault.Memory = []
 
 -- The result is that of a reservation of n handles.
 pub record IsReply (shared : Shared) (before after : Reserver) (n : ℕ)
-    (answer : Result (List Handle) Refusal) : Type 0 where
-  pub quota : before.own.left < n → (answer ≡ Err (Quota before.own.left)) × (after ≡ before)
-  pub nothing : n ≡ 0 → (answer ≡ Ok []) × (after ≡ before)
-  pub gains : 0 < n → n ≤ before.own.left → Reserves shared before after n answer
+    (reply : Result (List Handle) Refusal) : Type 0 where
+  pub quota : before.own.left < n → (reply ≡ Err (Quota before.own.left)) × (after ≡ before)
+  pub nothing : n ≡ 0 → (reply ≡ Ok []) × (after ≡ before)
+  pub gains : 0 < n → n ≤ before.own.left → Reserves shared before after n reply

@@ -1,4 +1,4 @@
--- What the bytes of a queue are read back as.
+-- For models, private contracts and proofs: what the bytes of a queue are read back as.
 use Rattle.std.specs.Prelude.{◌≡◌, ℕ, zero, suc, ◌*◌, ◌/◌, ◌%◌, ◌^◌, ◌==◌, ℤ, if◌then◌else◌, List}
 use Rattle.std.specs.Prelude.{[], ◌∷◌, ◌++◌, length, take, drop, map, slice_index}
 use Rattle.std.specs.List.{All}

@@ -5,7 +5,7 @@ ghost use Rattle.std.specs.FinMap.{put, find};
 ghost use Rattle.ent_handle.specs.Component.{component_cmp};
 ghost use Rattle.ent_handle.specs.declared.component.ComponentId.{ComponentId as Id};
 ghost use Rattle.ent_queue.specs.Command.{IsBundle, bundle_of};
-ghost use Rattle.ent_queue.specs.Place.{AreRising, IsPlaceOf, IsGapFor};
+ghost use Rattle.ent_queue.specs.Search.{AreRising, IsIndexOf, IsGapFor};
 
 use ent_handle::{ComponentId, Memory};
 use smallvec::SmallVec;
@@ -70,16 +70,17 @@ impl Bundle {
     ///
     /// # Errors
     ///
-    /// `Memory`, which needs a component that is not there and at least four that are. Nothing has changed.
+    /// `Memory`, which needs a component that is not there and at least four that are. Nothing has
+    /// changed.
     pub fn put(&mut self, id: ComponentId, value: i64) -> Result<(), Memory>
         ensures ok { OnOk result (self.new ≡ put component_cmp id value self.old) }
         ensures memory { OnErr result
             ((4 ≤ length self.old) × (find component_cmp id self.old ≡ None)) }
         ensures err { OnErr result (self.new ≡ self.old) }
     {
-        match place_of(self.items.as_slice(), id.0) {
-            Ok(place) => self.items[place].1 = value,
-            Err(place) => self.items.insert(place, (id, value))?,
+        match index_of(self.items.as_slice(), id.0) {
+            Ok(index) => self.items[index].1 = value,
+            Err(index) => self.items.insert(index, (id, value))?,
         }
         Ok(())
     }
@@ -94,17 +95,17 @@ impl Bundle {
 }
 
 /// Where the component of this number stands, or else where it goes.
-fn place_of(items: &[(ComponentId, i64)], number: u8) -> Result<usize, usize>
+fn index_of(items: &[(ComponentId, i64)], number: u8) -> Result<usize, usize>
     requires { AreRising items.now }
     ensures number { number < 2 ^ 8 }
-    ensures found { IfOk result (IsPlaceOf items.now number) }
+    ensures found { IfOk result (IsIndexOf items.now number) }
     ensures absent { IfErr result (IsGapFor items.now number) }
 {
-    let place = first_from(items, number);
-    if place < items.len() && items[place].0.0 == number {
-        Ok(place)
+    let index = first_from(items, number);
+    if index < items.len() && items[index].0.0 == number {
+        Ok(index)
     } else {
-        Err(place)
+        Err(index)
     }
 }
 

@@ -50,7 +50,7 @@ impl<'a> Commands<'a> {
     /// # Errors
     ///
     /// [`QueueFault::Memory`], and then neither the queue nor the reserver has changed.
-    /// [`QueueFault::Space`] and [`QueueFault::Quota`] as [`Shared::reserve`] answers them; the
+    /// [`QueueFault::Space`] and [`QueueFault::Quota`] as [`Shared::reserve`] returns them; the
     /// queue then keeps the refusal, and [`QueueFault::or_memory`] lets a system go on. After any
     /// of them the bundle is dropped.
     pub fn spawn(&mut self, bundle: Bundle) -> Result<Handle, QueueFault>
@@ -64,9 +64,9 @@ impl<'a> Commands<'a> {
             → reserver_of self.new ≡ reserver_of self.old }
 
         // Anything but Memory is the result of a reservation.
-        ensures replies { (answer : Result HandleValue Refusal) → result ≡ queued answer
+        ensures replies { (reply : Result HandleValue Refusal) → result ≡ queued reply
             → IsReply (shared_of self.new) (reserver_of self.old) (reserver_of self.new) 1
-            (listed_alone answer) }
+            (listed_alone reply) }
     {
         self.queue.spawn(self.shared, self.reserver, bundle.items())
     }
@@ -88,9 +88,9 @@ impl<'a> Commands<'a> {
             → reserver_of self.new ≡ reserver_of self.old }
 
         // Anything but Memory is the result of a reservation.
-        ensures replies { (answer : Result (List HandleValue) Refusal)
-            → as_list result ≡ queued answer
-            → IsReply (shared_of self.new) (reserver_of self.old) (reserver_of self.new) n answer }
+        ensures replies { (reply : Result (List HandleValue) Refusal)
+            → as_list result ≡ queued reply
+            → IsReply (shared_of self.new) (reserver_of self.old) (reserver_of self.new) n reply }
     {
         self.queue
             .spawn_many(self.alloc, self.shared, self.reserver, n, bundle.items())

@@ -66,31 +66,30 @@ impl<'a> HandlesRef<'a> {
     pub fn iter(&self) -> Handles<'a>
         ensures { result ≡ self.now }
     {
-        Handles { left: self.handles }
+        Handles {
+            left: HandlesRef {
+                handles: self.handles,
+            },
+        }
     }
 }
 
 /// Yields the handles of one command, in the order of the reply.
 #[derive(Drop)]
 pub struct Handles<'a> {
-    left: &'a [[u8; HANDLE]],
+    left: HandlesRef<'a>,
 }
 
 impl<'a> Model for Handles<'a> {
-    ghost use Rattle.std.specs.Prelude.{List, map};
-    ghost use Rattle.std.specs.List.{All};
+    ghost use Rattle.std.specs.Prelude.{List};
     ghost use Rattle.std.specs.Coded.{coded_list};
-    ghost use Rattle.ent_handle.specs.Handle.{Handle, handle_code, IsHandle};
+    ghost use Rattle.ent_handle.specs.Handle.{Handle, handle_code};
 
     ghost Value = { List Handle };
 
     ghost coded = { coded_list handle_code };
 
-    ghost use Rattle.ent_queue.specs.Unpacking.{unpacked_handle};
-
-    ghost view = { λ h. map unpacked_handle h.left.now };
-
-    ghost invariant = { λ h. All IsHandle (map unpacked_handle h.left.now) };
+    ghost view = { λ h. h.left };
 }
 
 impl Iterator for Handles<'_> {
@@ -101,8 +100,9 @@ impl Iterator for Handles<'_> {
     ghost remaining = { item_count (λ handles. handles) };
 
     fn next(&mut self) -> Option<Handle> {
-        let (first, others) = self.left.split_first()?;
-        self.left = others;
+        let left = &mut self.left;
+        let (first, others) = left.handles.split_first()?;
+        left.handles = others;
         Some(handle_of(first))
     }
 

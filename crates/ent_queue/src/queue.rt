@@ -114,8 +114,8 @@ impl CommandQueue {
         ensures ok { IfOk result (λ handle. self.new ≡ self.old ++ Spawn handle items.now ∷ []) }
         ensures refused { IfErr result (λ fault. self.new ≡ self.old ++ refused_by 1 fault) }
         ensures memory { IsErrOf result QueueFault.Memory → reserver.new ≡ reserver.old }
-        ensures replies { (answer : Result HandleValue Refusal) → result ≡ queued answer
-            → IsReply shared.now reserver.old reserver.new 1 (listed_alone answer) }
+        ensures replies { (reply : Result HandleValue Refusal) → result ≡ queued reply
+            → IsReply shared.now reserver.old reserver.new 1 (listed_alone reply) }
     {
         let own = 11 + 9 * items.len();
         self.bytes.reserve(own.max(REFUSAL))?;
@@ -150,9 +150,9 @@ impl CommandQueue {
         ensures length { IfOk result (λ handles. length handles.items ≡ n) }
         ensures refused { IfErr result (λ fault. self.new ≡ self.old ++ refused_by n fault) }
         ensures memory { IsErrOf result QueueFault.Memory → reserver.new ≡ reserver.old }
-        ensures replies { (answer : Result (List HandleValue) Refusal)
-            → as_list result ≡ queued answer
-            → IsReply shared.now reserver.old reserver.new n answer }
+        ensures replies { (reply : Result (List HandleValue) Refusal)
+            → as_list result ≡ queued reply
+            → IsReply shared.now reserver.old reserver.new n reply }
     {
         let mut handles = Vec::with_capacity(alloc, n as usize)?;
         let own = 7 + 8 * n as usize + 9 * items.len();

@@ -1,7 +1,7 @@
 -- What the workers have done together, once all of them are back.
 use Rattle.std.proofs.Common.{◌≡◌, ℕ, zero, suc, ◌+◌, ◌<◌, ◌≤◌, List, [], ◌∷◌, ◌++◌, length, map}
-use Rattle.std.proofs.Common.{get_or, refl, ap, sym, ◌∙◌, arith, subst, Option, Some, None, true, Bool}
-use Rattle.std.proofs.Common.{false, take, drop, reverse}
+use Rattle.std.proofs.Common.{get_or, refl, ap, sym, ◌∙◌, arith, subst, Option, Some, None, true}
+use Rattle.std.proofs.Common.{Bool, false, take, drop, reverse}
 use Rattle.std.specs.Prelude.{slice_get, replicate, IsSome, IfSome}
 use Rattle.std.proofs.Common.{Vec, Global}
 use Rattle.std.specs.List.{All, AllPairs, flat_map, range_with_len}
@@ -32,9 +32,9 @@ use Rattle.ent_runner.specs.Frame.{IsFrame, IsBrokenOff, SystemMayIssue, SystemM
 use Rattle.ent_runner.specs.Frame.{view_of, reserved_by}
 use Rattle.ent_runner.specs.Worker.{HasWorked, HaveWorked, HaveRunFirst, HasClaimed, IsUnused}
 use Rattle.ent_runner.specs.Worker.{IsRoomForOne, IsFresh, systems_of, commands_issued, all_records}
-use Rattle.ent_runner.specs.Placing.{queues_placed}
+use Rattle.ent_runner.specs.Collecting.{queues_put}
 use Rattle.ent_runner.proofs.Lists.{all_from_each, each_of_all, mapped_at, same_flat}
-use Rattle.ent_runner.proofs.Placed.{length_placed}
+use Rattle.ent_runner.proofs.BySystem.{length_put}
 use Rattle.ent_runner.proofs.Framed.{Did, frame_is, broken_off, full}
 
 -- a slice of the same length that was written back
@@ -145,11 +145,11 @@ module _ {S : Type 0} (may leave : S → View → List Command → Type 0) (syst
           → IsPermutation (flat_map (λ (w : Worker). systems_of w.issued.items) team)
           (range_with_len 0 claims.numbers)
           → (queues : List (List Command)) → map Some queues
-          ≡ queues_placed (flat_map (λ (w : Worker). w.issued.items) team)
+          ≡ queues_put (flat_map (λ (w : Worker). w.issued.items) team)
           (replicate claims.numbers None)
           → IsFrame may systems world.shared.count (world_at_start world) queues
           (history_of (all_records team))
-      is_frame going once queues places =
+      is_frame going once queues by_system =
           let P : SystemQueue → Type 0 = λ (i : SystemQueue). SystemMayIssue may systems
           (view_of (world_at_start world)) i.system i.queue in
           frame_is may systems (world_at_start world) world.shared.count (all_records team)
@@ -162,8 +162,8 @@ module _ {S : Type 0} (may leave : S → View → List Command → Type 0) (syst
           (subst (λ ns. IsPermutation ns (range_with_len 0 (length systems))) (sym systems_flat)
           (subst (λ m. IsPermutation (flat_map (λ (w : Worker). systems_of w.issued.items) team)
           (range_with_len 0 m)) numbers once))
-          (places ∙ (ap (λ n. queues_placed (flat_map issued_by team) (replicate n None)) numbers
-          ∙ ap (λ is. queues_placed is (replicate (length systems) None)) (sym mine_flat)))
+          (by_system ∙ (ap (λ n. queues_put (flat_map issued_by team) (replicate n None)) numbers
+          ∙ ap (λ is. queues_put is (replicate (length systems) None)) (sym mine_flat)))
 
       pub is_broken_off : HaveRunFirst claims.numbers team → IsBrokenOff may leave systems
           world.shared.count (world_at_start world) (history_of (all_records team))
@@ -240,7 +240,8 @@ once_closed shared claims team each seen same going claimers theirs once =
     (λ ended. subst (λ (cs : List Claimer). IsPermutation (flat_map (λ (c : Claimer). c.own.claims)
     cs) (range_with_len 0 claims.numbers)) theirs (once (subst HaveEnded (sym theirs) ended)))
 
--- Some system ran, if there are any: the first worker ran one before it stopped, or found none left.
+-- Some system ran, if there are any: the first worker ran one before it stopped, or found none
+-- left.
 some_by : (shared : Shared) (claims : Claims) (w : Worker) (team : List Worker) → HasClaimed shared
     claims w → (claimers : List Claimer) → claimers ≡ map (λ (v : Worker). v.claimer) (w ∷ team)
     → (first : AreFirst claims.numbers claimers) → (stopped : Bool) → w.stopped ≡ stopped
@@ -285,27 +286,27 @@ first_closed shared claims team each claimers theirs many first = record {
       (sym theirs))) first.once;
 }
 
--- each place has a queue
+-- each system has a queue
 pub all_full : (claims : Claims) (team : List Worker)
     → IsPermutation (flat_map (λ (w : Worker). systems_of w.issued.items) team)
     (range_with_len 0 claims.numbers)
-    → All IsSome (queues_placed (flat_map (λ (w : Worker). w.issued.items) team)
+    → All IsSome (queues_put (flat_map (λ (w : Worker). w.issued.items) team)
     (replicate claims.numbers None))
 all_full claims team once =
-    subst (λ is. All IsSome (queues_placed is (replicate claims.numbers None)))
+    subst (λ is. All IsSome (queues_put is (replicate claims.numbers None)))
     (flat_map-map (λ mine. mine) issued_by team)
     (full claims.numbers (map issued_by team)
     (subst (λ ns. IsPermutation ns (range_with_len 0 claims.numbers))
     (sym (flat_map-map systems_of issued_by team)) once))
 
--- the places after all queues were put in, as they are written back
-pub places_back : (count n : ℕ) (issued : List SystemQueue)
+-- the queues by system after all were put in, as they are written back
+pub queues_back : (count n : ℕ) (issued : List SystemQueue)
     (start new : List (Option (List Command))) → start ≡ replicate count None → n ≡ length start
-    → new ≡ queues_placed issued start → take n (new ++ drop (length new) start)
-    ≡ queues_placed issued (replicate count None)
-places_back count n issued start new empty n_is put =
-    let same : length new ≡ length start = ap length put ∙ length_placed issued start in
-    written_back n start new n_is same ∙ (put ∙ ap (queues_placed issued) empty)
+    → new ≡ queues_put issued start → take n (new ++ drop (length new) start)
+    ≡ queues_put issued (replicate count None)
+queues_back count n issued start new empty n_is put =
+    let same : length new ≡ length start = ap length put ∙ length_put issued start in
+    written_back n start new n_is same ∙ (put ∙ ap (queues_put issued) empty)
 
 unmapped : {X Y : Type 0} (P : Y → Type 0) (f : X → Y) (xs : List X) → All P (map f xs)
     → All (λ x. P (f x)) xs
@@ -351,14 +352,16 @@ pub framed : {S : Type 0} (may leave : S → View → List Command → Type 0) (
     → IfSome queues (λ q. IsPermutation (flat_map (λ (w : Worker). systems_of w.issued.items) team)
     (range_with_len 0 claims.numbers))
     → IfSome queues (λ q. map Some q.items
-    ≡ queues_placed (flat_map (λ (w : Worker). w.issued.items) team)
+    ≡ queues_put (flat_map (λ (w : Worker). w.issued.items) team)
     (replicate claims.numbers None))
     → IfSome queues (λ q. IsFrame may systems world.shared.count (world_at_start world) q.items
     (history_of (all_records team)))
-framed may leave systems world claims team done numbers None legal respects going once places = tt
-framed may leave systems world claims team done numbers (Some q) legal respects going once places =
+framed may leave systems world claims team done numbers None legal respects going once by_system =
+    tt
+framed may leave systems world claims team done numbers (Some q) legal respects going once
+    by_system =
     is_frame may leave systems world claims team done numbers legal respects going once q.items
-    places
+    by_system
 
 -- the world that is closed has changed by the history alone
 pub closed_by : (world : OpenWorld) (after : World) (records same : List Record) → records ≡ same

@@ -1,4 +1,4 @@
--- What the workers did, their histories and the queues in their places are a frame.
+-- What the workers did, their histories and the queues in their by_system are a frame.
 use Rattle.std.proofs.Common.{◌≡◌, ℕ, suc, ◌+◌, ◌<◌, List, [], ◌∷◌, length, map, get_or, refl, ap}
 use Rattle.std.proofs.Common.{sym, ◌∙◌, arith, subst, Option, Some, None, cond, inl, inr, Result}
 use Rattle.std.proofs.Common.{ne_eqb}
@@ -32,8 +32,8 @@ use Rattle.ent_runner.specs.declared.worker.SystemQueue.{SystemQueue}
 use Rattle.ent_runner.specs.Frame.{IsFrame, IsBrokenOff, IsWork, SystemMayIssue}
 use Rattle.ent_runner.specs.Frame.{SystemMayHaveIssued, view_of, queue_at, commands_of, requests_by}
 use Rattle.ent_runner.specs.Worker.{systems_of, commands_issued}
-use Rattle.ent_runner.specs.Placing.{queues_placed}
-use Rattle.ent_runner.proofs.Placed.{is_of, times, all_placed, length_placed}
+use Rattle.ent_runner.specs.Collecting.{queues_put}
+use Rattle.ent_runner.proofs.BySystem.{is_of, times, all_put, length_put}
 use Rattle.ent_runner.proofs.Lists.{all_from_each, each_of_all, all_flat, flat_all, same_flat}
 use Rattle.ent_runner.proofs.Lists.{map_flat, filter_map_is, map_map_is, sum_map, mapped_at}
 use Rattle.ent_runner.proofs.Lists.{at_within, is_number, once_in_range, some_in_range, all_below}
@@ -101,33 +101,33 @@ module _ (count : ℕ) (work : List (List SystemQueue))
           (All-head (λ n. n < count) i.system (systems_of is) ok)
           (unmapped is (All-tail (λ n. n < count) i.system (systems_of is) ok))
 
-  -- each queue stands in its place
+  -- each queue stands at its number
   pub stand : (d : Option (List Command))
-      → All (λ (i : SystemQueue). get_or (queues_placed (flat_map (λ mine. mine) work)
+      → All (λ (i : SystemQueue). get_or (queues_put (flat_map (λ mine. mine) work)
       (replicate count None)) i.system d ≡ Some i.queue) (flat_map (λ mine. mine) work)
   stand d =
       let fits : All (λ (i : SystemQueue). i.system < length (replicate count none)) all =
       subst (λ m. All (λ (i : SystemQueue). i.system < m) all)
       (sym (length-replicate count none)) inside in
-      all_placed d all (replicate count none) fits (λ n. let c = counts n in let o =
+      all_put d all (replicate count none) fits (λ n. let c = counts n in let o =
       once_in_range n 0 count in omega arith)
 
-  -- and each place has one
+  -- and each system has one
   pub found_at : (n : ℕ) → n < count → (k : ℕ) × (i : SystemQueue)
       × (slice_get (flat_map (λ mine. mine) work) k ≡ Some i) × (i.system ≡ n)
   found_at n less = found n all (let c = counts n in let o = some_in_range n 0 count (omega arith)
       (omega arith) in omega arith)
 
-  pub full : All IsSome (queues_placed (flat_map (λ mine. mine) work) (replicate count None))
+  pub full : All IsSome (queues_put (flat_map (λ mine. mine) work) (replicate count None))
   full n d within =
-      let less : n < count = let l = length_placed all (replicate count none) in let m =
+      let less : n < count = let l = length_put all (replicate count none) in let m =
       length-replicate count none in omega arith in
       let there = found_at n less in
       let i : SystemQueue = there.1 in
-      let here : get_or (queues_placed all (replicate count none)) i.system d ≡ Some i.queue =
-      each_of_all (λ (i : SystemQueue). get_or (queues_placed all (replicate count none))
+      let here : get_or (queues_put all (replicate count none)) i.system d ≡ Some i.queue =
+      each_of_all (λ (i : SystemQueue). get_or (queues_put all (replicate count none))
       i.system d ≡ Some i.queue) all there.0 i (stand d) there.2 in
-      ap is_some (ap (λ k. get_or (queues_placed all (replicate count none)) k d) (sym there.3)
+      ap is_some (ap (λ k. get_or (queues_put all (replicate count none)) k d) (sym there.3)
       ∙ here)
 
 module _ (P : SystemQueue → Type 0) (before : World) where
@@ -144,7 +144,7 @@ module _ (P : SystemQueue → Type 0) (before : World) where
       → slice_get work k ≡ Some mine → Did k r mine)
       (once : IsPermutation (flat_map systems_of work) (range_with_len 0 total))
       (respects : All (Respects (reservations_of records)) records)
-      (places : map Some queues ≡ queues_placed (flat_map (λ mine. mine) work)
+      (by_system : map Some queues ≡ queues_put (flat_map (λ mine. mine) work)
       (replicate total None))
     where
       abbrev mine_all : List SystemQueue
@@ -152,14 +152,14 @@ module _ (P : SystemQueue → Type 0) (before : World) where
 
       pub long : length queues ≡ total
       long = sym (length-map queues Some)
-          ∙ (ap length places ∙ (length_placed mine_all (replicate total None)
+          ∙ (ap length by_system ∙ (length_put mine_all (replicate total None)
           ∙ length-replicate total None))
 
       queue_is : All (λ (i : SystemQueue). queue_at queues i.system ≡ i.queue) mine_all
       queue_is = both mine_all (inside total work once) (stand total work once (Some []))
         where
           both : (is : List SystemQueue) → All (λ (i : SystemQueue). i.system < total) is
-              → All (λ (i : SystemQueue). get_or (queues_placed mine_all (replicate total None))
+              → All (λ (i : SystemQueue). get_or (queues_put mine_all (replicate total None))
               i.system (Some []) ≡ Some i.queue) is
               → All (λ (i : SystemQueue). queue_at queues i.system ≡ i.queue) is
           both [] within stand = All-nil (λ (i : SystemQueue). queue_at queues i.system ≡ i.queue)
@@ -168,15 +168,15 @@ module _ (P : SystemQueue → Type 0) (before : World) where
               < total) i is within in rw long w in
               let at : Some (queue_at queues i.system) ≡ Some i.queue =
               sym (get_or-map Some queues i.system [] (Some []) here)
-              ∙ (ap (λ ps. get_or ps i.system (Some [])) places
+              ∙ (ap (λ ps. get_or ps i.system (Some [])) by_system
               ∙ All-head (λ (i : SystemQueue).
-              get_or (queues_placed mine_all (replicate total None)) i.system (Some [])
+              get_or (queues_put mine_all (replicate total None)) i.system (Some [])
               ≡ Some i.queue) i is stand) in
               All-cons (λ (i : SystemQueue). queue_at queues i.system ≡ i.queue) i is
               (let e = at in cc)
               (both is (All-tail (λ (i : SystemQueue). i.system < total) i is within)
               (All-tail (λ (i : SystemQueue).
-              get_or (queues_placed mine_all (replicate total None)) i.system (Some [])
+              get_or (queues_put mine_all (replicate total None)) i.system (Some [])
               ≡ Some i.queue) i is stand))
 
       -- the queues of one worker
@@ -304,24 +304,26 @@ module _ {S : Type 0} (may : S → View → List Command → Type 0) (systems : 
             → ((k : ℕ) (r : Record) (mine : List SystemQueue) → slice_get records k ≡ Some r
             → slice_get work k ≡ Some mine → Did May before k r mine)
             → IsPermutation (flat_map systems_of work) (range_with_len 0 (length systems))
-            → map Some queues ≡ queues_placed (flat_map (λ mine. mine) work)
+            → map Some queues ≡ queues_put (flat_map (λ mine. mine) work)
             (replicate (length systems) None)
             → IsFrame may systems workers before queues (history_of records)
-        frame_is queues each once places = record {
+        frame_is queues each once by_system = record {
           legal = legal;
-          callers = ours May before (length systems) workers records work queues count teams each once
-              respects places;
+          callers = ours May before (length systems) workers records work queues count teams each
+              once
+              respects by_system;
           ran = map systems_of work;
           each_worker = length-map work systems_of ∙ teams;
           once = all_once May before (length systems) workers records work queues count teams each
-              once respects places;
-          work = each_worked May before (length systems) workers records work queues count teams each
-              once respects places;
+              once respects by_system;
+          work = each_worked May before (length systems) workers records work queues count teams
+              each
+              once respects by_system;
           count = long May before (length systems) workers records work queues count teams each once
-              respects places;
+              respects by_system;
           each_system = λ n system at.
               let k = kept May before (length systems) workers records work queues count teams each
-              once respects places n (slice_get_within systems n system at) in
+              once respects by_system n (slice_get_within systems n system at) in
               subst (may system (view_of before)) (sym k.3)
               (k.1 system (ap (slice_get systems) k.2 ∙ at));
         }
@@ -339,10 +341,12 @@ module _ {S : Type 0} (may : S → View → List Command → Type 0) (systems : 
               → IsPermutation (flat_map systems_of work) (range_with_len 0 total)
               → IsBrokenOff may leave systems workers before (history_of records)
           broken_off total few some each ended once =
-              let places : List (Option (List Command)) = queues_placed (flat_map (λ mine. mine) work)
+              let by_system : List (Option (List Command)) =
+              queues_put (flat_map (λ mine. mine) work)
               (replicate total None) in
-              let queues : List (List Command) = map (λ o. unwrap_or o []) places in
-              let same : map Some queues ≡ places = unwrapped [] places (full total work once) in
+              let queues : List (List Command) = map (λ o. unwrap_or o []) by_system in
+              let same : map Some queues ≡ by_system = unwrapped [] by_system (full total work once)
+              in
               record {
                 legal = legal;
                 callers = ours Left before total workers records work queues count teams each once
@@ -355,7 +359,8 @@ module _ {S : Type 0} (may : S → View → List Command → Type 0) (systems : 
                 once = all_once Left before total workers records work queues count teams each once
                     respects same;
                 queues = queues;
-                each_queue = long Left before total workers records work queues count teams each once
+                each_queue = long Left before total workers records work queues count teams each
+                    once
                     respects same;
                 each_system = λ n less.
                     let k = kept Left before total workers records work queues count teams each once
@@ -363,7 +368,8 @@ module _ {S : Type 0} (may : S → View → List Command → Type 0) (systems : 
                     subst (SystemMayHaveIssued may leave systems (view_of before) n) (sym k.3)
                     (subst (λ m. SystemMayHaveIssued may leave systems (view_of before) m
                     k.0.queue) k.2 k.1);
-                work = each_worked Left before total workers records work queues count teams each once
+                work = each_worked Left before total workers records work queues count teams each
+                    once
                     respects same;
                 ended = λ k mine at.
                     let there = mapped_at systems_of work k mine at in

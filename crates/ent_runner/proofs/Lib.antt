@@ -1,4 +1,4 @@
-pub mod Placed
+pub mod BySystem
 pub mod Lists
 pub mod Framed
 pub mod Lost

@@ -1,7 +1,7 @@
 -- Lists of lists, and the numbers of a range.
 use Rattle.std.proofs.Common.{◌≡◌, ◌≢◌, ℕ, zero, suc, ◌+◌, ◌<◌, ◌≤◌, List, [], ◌∷◌, ◌++◌, length}
 use Rattle.std.proofs.Common.{map, refl, ap, ◌∙◌, arith, subst, Some, Bool, true, false, cond, inl}
-use Rattle.std.proofs.Common.{inr, eq-eqb, ne_eqb, sym, reverse}
+use Rattle.std.proofs.Common.{inr, ◌⊎◌, eq-eqb, ne_eqb, sym, reverse}
 use Rattle.std.proofs.lemmas.List.{map-append, append_assoc, reverse-append}
 use Rattle.std.specs.Prelude.{◌==◌, filter, slice_get}
 use Rattle.std.specs.List.{All, sum_by, flat_map, range_with_len}
@@ -9,7 +9,7 @@ use Rattle.std.proofs.lemmas.Bool.{cases_eq}
 use Rattle.std.proofs.lemmas.List.Elements.{All-nil, All-cons, All-head, All-tail, All-append}
 use Rattle.std.proofs.lemmas.List.Sums.{sum_by-cons}
 
--- what holds of each element at its place holds of all
+-- what holds of each element at its index holds of all
 pub all_from_each : {X : Type 0} (P : X → Type 0) (xs : List X) → ((k : ℕ) (x : X) → slice_get xs k
     ≡ Some x → P x) → All P xs
 all_from_each P [] each = All-nil P
@@ -127,9 +127,12 @@ below_range n a (suc many) less =
     let rest = below_range n (a + 1) many (omega arith) in
     omega arith
 
-pub once_in_range : (n a many : ℕ) → sum_by (is_number n) (range_with_len a many) ≤ 1
-once_in_range n a zero = omega arith
-once_in_range n a (suc many) =
+-- the first number of a range is this one, and no later one is, or it is another
+range_step : (n a many : ℕ)
+    → ((a ≡ n) × (sum_by (is_number n) (range_with_len a (suc many)) ≡ 1))
+    ⊎ ((a ≢ n) × (sum_by (is_number n) (range_with_len a (suc many))
+    ≡ sum_by (is_number n) (range_with_len (a + 1) many)))
+range_step n a many =
     let sums : sum_by (is_number n) (range_with_len a (suc many)) ≡ is_number n a
     + sum_by (is_number n) (range_with_len (a + 1) many) = sum_by-cons (is_number n) a
     (range_with_len (a + 1) many) in
@@ -137,30 +140,28 @@ once_in_range n a (suc many) =
       | inl e ↦
           let here : is_number n a ≡ 1 = number_here n a e in
           let rest = below_range n (a + 1) many (omega arith) in
-          omega arith
+          inl (e, omega arith)
       | inr ne ↦
           let away : is_number n a ≡ 0 = number_away n a ne in
-          let rest = once_in_range n (a + 1) many in
-          omega arith
+          inr (ne, omega arith)
     ]
+
+pub once_in_range : (n a many : ℕ) → sum_by (is_number n) (range_with_len a many) ≤ 1
+once_in_range n a zero = omega arith
+once_in_range n a (suc many) = elim (range_step n a many) [
+  | inl here ↦ omega arith
+  | inr on ↦ let rest = once_in_range n (a + 1) many in omega arith
+]
 
 pub some_in_range : (n a many : ℕ) → a ≤ n → n < a + many
     → sum_by (is_number n) (range_with_len a many) ≡ 1
 some_in_range n a zero from below = absurd (omega arith)
-some_in_range n a (suc many) from below =
-    let sums : sum_by (is_number n) (range_with_len a (suc many)) ≡ is_number n a
-    + sum_by (is_number n) (range_with_len (a + 1) many) = sum_by-cons (is_number n) a
-    (range_with_len (a + 1) many) in
-    elim (cases_eq a n) [
-      | inl e ↦
-          let here : is_number n a ≡ 1 = number_here n a e in
-          let rest = below_range n (a + 1) many (omega arith) in
-          omega arith
-      | inr ne ↦
-          let away : is_number n a ≡ 0 = number_away n a ne in
-          let rest = some_in_range n (a + 1) many (omega arith) (omega arith) in
-          omega arith
-    ]
+some_in_range n a (suc many) from below = elim (range_step n a many) [
+  | inl here ↦ here.1
+  | inr on ↦
+      let ne = on.0 in
+      on.1 ∙ some_in_range n (a + 1) many (omega arith) (omega arith)
+]
 
 all_in_range : (a many : ℕ) → All (λ n. n < a + many) (range_with_len a many)
 all_in_range a zero = All-nil (λ n. n < a + zero)

@@ -71,7 +71,8 @@ module _ {S : Type 0} (may leave : S → View → List Command → Type 0) (syst
         (subst IsSound (ap (λ (w : World). w.allocator) same) sound) flushed changed
 
     pub broken_again : (workers : ℕ) → world.shared.count ≡ workers → (history : List Call)
-        × IsBrokenOff may leave systems workers before history × (after ≡ reserved_by history before)
+        × IsBrokenOff may leave systems workers before history
+        × (after ≡ reserved_by history before)
     broken_again workers count = (
       closed.0,
       subst (λ w. IsBrokenOff may leave systems w before closed.0) count

@@ -57,7 +57,8 @@ module _ {S : Type 0} (may : S → View → List Command → Type 0) (systems : 
           (sym pushed) (All-append (λ (i : SystemQueue). SystemMayIssue may systems view i.system
           i.queue) issued (i ∷ []) ran.each
           (All-cons (λ (i : SystemQueue). SystemMayIssue may systems view i.system i.queue) i []
-          may_it (All-nil (λ (i : SystemQueue). SystemMayIssue may systems view i.system i.queue))));
+          may_it (All-nil (λ (i : SystemQueue). SystemMayIssue may systems view i.system
+          i.queue))));
     }
 
     -- a worker that ran some systems, each of which ended
@@ -74,12 +75,15 @@ module _ {S : Type 0} (may : S → View → List Command → Type 0) (systems : 
     }
 
     -- and one more, which stopped
-    pub ran_last : (leave : S → View → List Command → Type 0) (a b c : Record) (claims more : List ℕ)
-        (issued next : List SystemQueue) (i : SystemQueue) → HasRun may systems view a b claims issued
+    pub ran_last : (leave : S → View → List Command → Type 0) (a b c : Record)
+        (claims more : List ℕ)
+        (issued next : List SystemQueue) (i : SystemQueue) → HasRun may systems view a b claims
+        issued
         → Gains b i.queue c → SystemMayIssue leave systems view i.system i.queue → more ≡ claims
         ++ i.system ∷ [] → next ≡ issued ++ i ∷ [] → HasRunSome may leave systems view a c more next
     ran_last leave a b c claims more issued next i ran gains left claimed pushed =
-        let P : SystemQueue → Type 0 = λ (i : SystemQueue). SystemMayHaveIssued may leave systems view
+        let P : SystemQueue → Type 0 = λ (i : SystemQueue). SystemMayHaveIssued may leave systems
+        view
         i.system i.queue in
         let R : SystemQueue → SystemQueue → Type 0 = λ (i later : SystemQueue). SystemMayIssue may
         systems view i.system i.queue in

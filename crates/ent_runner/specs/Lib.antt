@@ -1,3 +1,3 @@
 pub mod Frame
 pub mod Worker
-pub mod Placing
+pub mod Collecting

@@ -1,4 +1,4 @@
--- What one worker has done in a frame.
+-- For private contracts and proofs: what one worker has done in a frame, and all of them.
 use Rattle.std.specs.Prelude.{◌≡◌, ◌<◌, ◌≤◌, ℕ, List, [], length, map, replicate, None, Some, true}
 use Rattle.std.specs.Prelude.{false}
 use Rattle.std.specs.Prelude.{vec_capacity, slice_get}
@@ -109,7 +109,7 @@ pub record HasReturns (systems workers : ℕ) (room : Returned) : Type 0 where
   pub reservers_fit : workers ≤ vec_capacity room.reservers
   pub claimers_empty : room.claimers.items ≡ []
   pub claimers_fit : workers ≤ vec_capacity room.claimers
-  pub places_empty : room.places.items ≡ replicate systems None
+  pub by_system_empty : room.by_system.items ≡ replicate systems None
   pub queues_empty : room.queues.items ≡ []
   pub queues_fit : systems ≤ vec_capacity room.queues
 

@@ -2,10 +2,10 @@
 //! before the phase was opened.
 ghost use Rattle.std.specs.Prelude.{◌≡◌, ◌<◌, ◌≤◌, ◌^◌, [], length, map, reverse, replicate, All};
 ghost use Rattle.std.specs.Prelude.{IfOk, None, false, flat_map, vec_capacity};
-ghost use Rattle.ent_runner.specs.Placing.{queues_placed};
+ghost use Rattle.ent_runner.specs.Collecting.{queues_put};
 ghost use Rattle.ent_runner.specs.Worker.{IsRoomFor, IsRoomForOne, HasReturns};
 
-use crate::placing::place;
+use crate::collecting::put_all;
 use crate::worker::{SystemQueue, Worker};
 use ent_claims::{Claimer, Claims};
 use ent_handle::Memory;
@@ -18,7 +18,7 @@ use std::alloc::{AllocError, Global};
 pub(crate) struct Returned {
     pub(crate) reservers: Vec<Reserver>,
     pub(crate) claimers: Vec<Claimer>,
-    pub(crate) places: Vec<Option<CommandQueue>>,
+    pub(crate) by_system: Vec<Option<CommandQueue>>,
     pub(crate) queues: Vec<CommandQueue>,
 }
 
@@ -60,7 +60,7 @@ impl Returned {
         Ok(Returned {
             reservers: Vec::with_capacity(alloc, workers)?,
             claimers: Vec::with_capacity(alloc, workers)?,
-            places: empty_places(alloc, systems)?,
+            by_system: without_queues(alloc, systems)?,
             queues: Vec::with_capacity(alloc, systems)?,
         })
     }
@@ -78,14 +78,15 @@ fn lists_for_one(alloc: Global, count: usize) -> Result<Vec<Vec<SystemQueue>>, A
     Ok(lists)
 }
 
-fn empty_places(alloc: Global, count: usize) -> Result<Vec<Option<CommandQueue>>, AllocError>
-    ensures { IfOk result (λ places. places.items ≡ replicate count None) }
+/// For each of that many systems no queue yet.
+fn without_queues(alloc: Global, count: usize) -> Result<Vec<Option<CommandQueue>>, AllocError>
+    ensures { IfOk result (λ by_system. by_system.items ≡ replicate count None) }
 {
-    let mut places = Vec::with_capacity(alloc, count)?;
+    let mut by_system = Vec::with_capacity(alloc, count)?;
     for _ in 0..count {
-        places.push_reserved(None);
+        by_system.push_reserved(None);
     }
-    Ok(places)
+    Ok(by_system)
 }
 
 /// A worker for each reserver, in their order, each with one of the claimers and of the lists.
@@ -127,26 +128,26 @@ pub(crate) fn some_stopped(workers: &[Worker]) -> bool
     workers.iter().any(|worker| worker.stopped)
 }
 
-/// Takes the workers apart, and puts the queues in the places of their systems.
+/// Takes the workers apart, and puts the queues at the numbers of their systems.
 pub(crate) fn disband(
     workers: Vec<Worker>,
     reservers: &mut Vec<Reserver>,
     claimers: &mut Vec<Claimer>,
-    places: &mut [Option<CommandQueue>],
+    by_system: &mut [Option<CommandQueue>],
 )
     requires empty { (reservers.old.items ≡ []) × (claimers.old.items ≡ []) }
     requires room { (length workers.items ≤ vec_capacity reservers.old)
         × (length workers.items ≤ vec_capacity claimers.old) }
-    requires inside { All (λ w. All (λ i. i.system < length places.old) w.issued.items)
+    requires inside { All (λ w. All (λ i. i.system < length by_system.old) w.issued.items)
         workers.items }
     ensures reservers { reservers.new.items ≡ map (λ w. w.reserver) workers.items }
     ensures claimers { claimers.new.items ≡ map (λ w. w.claimer) workers.items }
-    ensures places { places.new
-        ≡ queues_placed (flat_map (λ w. w.issued.items) workers.items) places.old }
+    ensures by_system { by_system.new
+        ≡ queues_put (flat_map (λ w. w.issued.items) workers.items) by_system.old }
 {
     for worker in workers {
         reservers.push_reserved(worker.reserver);
         claimers.push_reserved(worker.claimer);
-        place(worker.issued, places);
+        put_all(worker.issued, by_system);
     }
 }

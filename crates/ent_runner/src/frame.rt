@@ -12,13 +12,13 @@ ghost use Rattle.ent_shared.specs.Record.{opened_records};
 ghost use Rattle.ent_runner.specs.Frame.{IsFrame, Ends, EndsInOrder, IsBrokenOff, IsLost, StopsAt};
 ghost use Rattle.ent_world.specs.OpenWorld.{world_at_start};
 ghost use Rattle.ent_runner.specs.Frame.{IfSyncStopped, reserved_by};
-ghost use Rattle.ent_runner.specs.Placing.{queues_placed};
+ghost use Rattle.ent_runner.specs.Collecting.{queues_put};
 ghost use Rattle.ent_runner.specs.Worker.{IsRoomFor, HasReturns, HasClaimed, HaveWorked, IsFresh};
 ghost use Rattle.ent_runner.specs.Worker.{HaveRunFirst, systems_of, all_records};
 
+use crate::collecting::collect;
 use crate::crew::{Returned, Room, disband, recruit, some_stopped};
 use crate::gate::Gate;
-use crate::placing::collect;
 use crate::report::{FrameFault, FrameReport};
 use crate::system::System;
 use crate::worker::{Stage, Worker, run_all};
@@ -198,22 +198,22 @@ fn finish(
         (flat_map (λ w. systems_of w.issued.items) workers.items)
         (range_with_len 0 claims.numbers)) }
     ensures queues { IfSome result.1 (λ queues. map Some queues.items
-        ≡ queues_placed (flat_map (λ w. w.issued.items) workers.items)
+        ≡ queues_put (flat_map (λ w. w.issued.items) workers.items)
         (replicate claims.numbers None)) }
 {
     let stopped = some_stopped(&workers);
     let Returned {
         mut reservers,
         mut claimers,
-        mut places,
+        mut by_system,
         mut queues,
     } = returned;
-    disband(workers, &mut reservers, &mut claimers, &mut places);
+    disband(workers, &mut reservers, &mut claimers, &mut by_system);
     claims.close(claimers);
     let world = opened.close(reservers);
     if stopped {
         return (world, None);
     }
-    collect(places, &mut queues);
+    collect(by_system, &mut queues);
     (world, Some(queues))
 }

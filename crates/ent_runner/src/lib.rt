@@ -2,10 +2,10 @@
 //! sync point applies the queues in the order of the systems.
 #![tactic(auto)]
 
+mod collecting;
 mod crew;
 mod frame;
 mod gate;
-mod placing;
 mod report;
 mod side;
 mod system;

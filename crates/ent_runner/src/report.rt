@@ -18,8 +18,8 @@ pub enum FrameFault {
     #[error("out of memory before any system ran")]
     Memory,
     /// Memory was refused after at least one system began, or a system returned so. No command was
-    /// applied. What the systems that ran had reserved stays reserved, and nothing else is: the next
-    /// flush brings it to life, without components.
+    /// applied. What the systems that ran had reserved stays reserved, and nothing else is: the
+    /// next flush brings it to life, without components.
     #[error("out of memory while the systems ran")]
     Lost,
     /// All systems ran, and the sync point stopped.

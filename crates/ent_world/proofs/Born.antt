@@ -1,6 +1,6 @@
 -- What enters the map after a flush is each handle that is born, with its birth.
 use Rattle.std.proofs.Common.{◌≡◌, refl, sym, ap, ◌∙◌, ℕ, ◌+◌, ◌≤◌, Bool, true, false, cond, not}
-use Rattle.std.proofs.Common.{◌&&◌, ◌||◌, true≢false, List, [], ◌∷◌, length, filter, All, AllPairs}
+use Rattle.std.proofs.Common.{◌&&◌, ◌||◌, true≢false, List, [], ◌∷◌, length}
 use Rattle.std.proofs.Common.{Option, Some, None, is_some, is_none, inl, inr, unwrap_or, arith}
 use Rattle.std.specs.Ordering.{eq_by_cmp}
 use Rattle.std.specs.List.{position_from}
@@ -13,175 +13,22 @@ use Rattle.ent_handle.specs.declared.birth.Birth.{Birth}
 use Rattle.ent_handle.specs.Handle.{Handle, handle_cmp, handle_cmp_total}
 use Rattle.ent_handle.specs.Handle.{handle_cmp-IsAntisymmetric}
 use Rattle.ent_alloc.specs.Sequential.{Allocator, stands_in, born, after_flush}
-use Rattle.ent_alloc.specs.Sound.{IsSound, IsLive, AreApart}
-use Rattle.ent_alloc.proofs.HandleSets.{same_handle, itself, Contains-from_stands_in}
+use Rattle.ent_alloc.specs.Sound.{IsSound, IsLive}
+use Rattle.ent_alloc.proofs.HandleSets.{same_handle, Contains-from_stands_in}
 use Rattle.ent_alloc.proofs.HandleSets.{stands_in-from_Contains}
-use Rattle.ent_alloc.proofs.ListLaws.{AllPairs-head, AllPairs-tail}
 use Rattle.ent_alloc.proofs.Flushes.{live-after_flush, live-stays, born-IsPermutation, born-lives}
 use Rattle.ent_alloc.proofs.Flushes.{born-apart, born-not_live}
-use Rattle.ent_alloc.proofs.Replies.{not_apart}
 use Rattle.ent_storage.specs.EntityMap.{Entity, EntityMap, Store, newborn}
 use Rattle.ent_queue.specs.Command.{Command}
 use Rattle.ent_world.specs.World.{AreLiving}
 use Rattle.ent_world.specs.Sync.{ordinal, no_system, handles_listed, ordinal_among, at_ordinal}
 use Rattle.ent_world.specs.Sync.{listed_birth, unlisted, unlisted_birth, birth_in, with_born}
-use Rattle.ent_world.specs.Entering.{HasRoomForBorn, first_birth, next_birth, entered}
+use Rattle.ent_world.specs.Entering.{HasRoomForBorn, first_birth}
 use Rattle.ent_world.specs.Entering.{entered_queues, entered_others}
-use Rattle.ent_world.proofs.Entered.{or_born, given, or_born-none, given-none, birth_at}
-use Rattle.ent_world.proofs.Entered.{next-birth_at, get-entered, birth_by_place, get-entered_queues}
-
--- each stands there once
-abbrev AreDistinct : List Handle → Type 0
-AreDistinct [] = Unit {0}
-AreDistinct (h ∷ hs) = (stands_in hs h ≡ false) × AreDistinct hs
-
-no_other : (h : Handle) (hs : List Handle) → All (AreApart h) hs → stands_in hs h ≡ false
-no_other h hs apart = by_test (stands_in hs h) refl
-  where
-    by_test : (b : Bool) → stands_in hs h ≡ b → b ≡ false
-    by_test false _ = refl
-    by_test true there =
-        absurd (not_apart h (All-contains (AreApart h) hs h apart
-        (Contains-from_stands_in hs h there)))
-
-distinct : (hs : List Handle) → AllPairs AreApart hs → AreDistinct hs
-distinct [] apart = tt
-distinct (h ∷ hs) apart = (
-  no_other h hs (AllPairs-head AreApart h hs apart),
-  distinct hs
-      (AllPairs-tail AreApart h hs apart),
-)
-
--- two tests that agree at each of the handles keep the same
-filter_alike : (p q : Handle → Bool) (hs : List Handle) → ((h : Handle) → stands_in hs h ≡ true
-    → p h ≡ q h) → filter p hs ≡ filter q hs
-filter_alike p q [] alike = refl
-filter_alike p q (h ∷ hs) alike =
-    let first : p h ≡ q h = alike h (ap (λ b. b || stands_in hs h) (itself h)) in
-    let rest = filter_alike p q hs
-    (λ g there. alike g (later (eq_by_cmp handle_cmp g h) (stands_in hs g) there)) in
-    λ i. cond (first i) (h ∷ rest i) (rest i)
-  where
-    later : (a b : Bool) → b ≡ true → (a || b) ≡ true
-    later true b _ = refl
-    later false b there = there
-
--- a place of what stands there, and none of what doesn't
-some_place : (q : Handle) (place : ℕ) (hs : List Handle) → stands_in hs q ≡ true → (k : ℕ)
-    × (position_from (eq_by_cmp handle_cmp q) place hs ≡ Some k)
-some_place q place [] none = absurd (true≢false (sym none))
-some_place q place (h ∷ hs) there =
-    elim (eq_by_cmp handle_cmp q h) as (λ b. (b || stands_in hs q) ≡ true → (k : ℕ)
-    × (cond b (Some place) (position_from (eq_by_cmp handle_cmp q) (place + 1) hs) ≡ Some k)) [
-      | true ↦ λ _. (place, refl)
-      | false ↦ λ others. some_place q (place + 1) hs others
-    ] there
-
-no_place : (q : Handle) (place : ℕ) (hs : List Handle) → stands_in hs q ≡ false
-    → position_from (eq_by_cmp handle_cmp q) place hs ≡ None
-no_place q place [] none = refl
-no_place q place (h ∷ hs) none =
-    elim (eq_by_cmp handle_cmp q h) as (λ b. (b || stands_in hs q) ≡ false
-    → cond b (Some place) (position_from (eq_by_cmp handle_cmp q) (place + 1) hs) ≡ None) [
-      | true ↦ λ t. absurd (true≢false t)
-      | false ↦ λ others. no_place q (place + 1) hs others
-    ] none
-
--- The handles that no queue lists.
-
--- those that have no entity yet
-abbrev without : EntityMap → List Handle → List Handle
-without m hs = filter (λ h. not (map.contains_key m h)) hs
-
-apart_in : (h g : Handle) (hs : List Handle) → stands_in hs h ≡ false → stands_in hs g ≡ true
-    → eq_by_cmp handle_cmp g h ≡ false
-apart_in h g hs none there = by_test (eq_by_cmp handle_cmp g h) refl
-  where
-    by_test : (b : Bool) → eq_by_cmp handle_cmp g h ≡ b → b ≡ false
-    by_test false _ = refl
-    by_test true tied = absurd (true≢false (sym there ∙ ap (stands_in hs) (same_handle g h tied)
-        ∙ none))
-
-module _ (s : Allocator) (phase : ℕ) where
-  -- one more entity changes nothing of the others
-  without-entered : (h : Handle) (birth : Birth) (hs : List Handle) (m : EntityMap) → stands_in hs h
-      ≡ false → without (entered s h birth m) hs ≡ without m hs
-  without-entered h birth hs m none =
-      filter_alike (λ g. not (map.contains_key (entered s h birth m) g))
-      (λ g. not (map.contains_key m g)) hs (λ g there.
-      ap (λ o. not (is_some o)) (
-      get-entered s h birth m g
-      ∙ ap (λ b. or_born (map.get m g) (given (set.contains s.live g) (given b (Some birth))))
-      (apart_in h g hs none there)
-      ∙ ap (or_born (map.get m g)) (given-none (set.contains s.live g))
-      ∙ or_born-none (map.get m g)))
-
-  -- the next one has this place, or an earlier entry counts
-  abbrev Places : ℕ → List Handle → EntityMap → Handle → Type 0
-  Places place hs m q = map.get (entered_others s (birth_at phase no_system place) hs m) q
-      ≡ or_born (map.get m q)
-      (birth_by_place phase no_system (position_from (eq_by_cmp handle_cmp q) place (without m hs)))
-
-  entered_new : (place : ℕ) (h : Handle) (rest : List Handle) (m : EntityMap) (q : Handle)
-      → set.contains s.live h ≡ true → (b : Bool) → eq_by_cmp handle_cmp q h ≡ b
-      → or_born (or_born (map.get m q)
-      (given (set.contains s.live q) (given b (Some (birth_at phase no_system place)))))
-      (birth_by_place phase no_system (position_from (eq_by_cmp handle_cmp q) (place + 1) rest))
-      ≡ or_born (map.get m q)
-      (birth_by_place phase no_system
-      (cond b (Some place) (position_from (eq_by_cmp handle_cmp q) (place + 1) rest)))
-  entered_new place h rest m q alive true tied =
-      let lives : set.contains s.live q ≡ true = ap (set.contains s.live) (same_handle q h tied)
-      ∙ alive in
-      ap (λ t. or_born (or_born (map.get m q) (given t (Some (birth_at phase no_system place))))
-      (birth_by_place phase no_system (position_from (eq_by_cmp handle_cmp q) (place + 1)
-      rest))) lives
-      ∙ settled (map.get m q)
-      (birth_by_place phase no_system (position_from (eq_by_cmp handle_cmp q) (place + 1) rest))
-    where
-      settled : (o : Option Entity) (others : Option Birth)
-          → or_born (or_born o (Some (birth_at phase no_system place))) others
-          ≡ or_born o (Some (birth_at phase no_system place))
-      settled (Some e) others = refl
-      settled None others = refl
-  entered_new place h rest m q alive false apart =
-      ap (λ o. or_born o (birth_by_place phase no_system (position_from (eq_by_cmp handle_cmp q)
-      (place + 1) rest)))
-      (ap (or_born (map.get m q)) (given-none (set.contains s.live q)) ∙ or_born-none (map.get m q))
-
-  get-entered_others : (place : ℕ) (hs : List Handle) (m : EntityMap) (q : Handle) → AreDistinct hs
-      → ((h : Handle) → stands_in hs h ≡ true → set.contains s.live h ≡ true) → Places place hs m q
-  get-entered_others place [] m q apart alive = sym (or_born-none (map.get m q))
-  get-entered_others place (h ∷ hs) m q apart alive =
-      elim (map.contains_key m h) as
-      (λ b. map.get (cond b (entered_others s (birth_at phase no_system place) hs m)
-      (entered_others s (next_birth (birth_at phase no_system place)) hs n)) q
-      ≡ or_born (map.get m q)
-      (birth_by_place phase no_system (position_from (eq_by_cmp handle_cmp q) place
-      (cond (not b) (h ∷ without m hs) (without m hs))))) [
-        | true ↦ get-entered_others place hs m q apart.1 later
-        | false ↦
-            ap (λ b. map.get (entered_others s b hs n) q) (next-birth_at phase no_system place)
-            ∙ get-entered_others (place + 1) hs n q apart.1 later
-            ∙ ap (λ rest. or_born (map.get n q)
-            (birth_by_place phase no_system (position_from (eq_by_cmp handle_cmp q) (place + 1)
-            rest))) (without-entered h (birth_at phase no_system place) hs m apart.0)
-            ∙ ap (λ o. or_born o
-            (birth_by_place phase no_system (position_from (eq_by_cmp handle_cmp q) (place + 1)
-            (without m hs)))) (get-entered s h (birth_at phase no_system place) m q)
-            ∙ entered_new place h (without m hs) m q
-            (alive h (ap (λ b. b || stands_in hs h) (itself h))) (eq_by_cmp handle_cmp q h) refl
-      ]
-    where
-      n : EntityMap
-      n = entered s h (birth_at phase no_system place) m
-
-      or_later : (a b : Bool) → b ≡ true → (a || b) ≡ true
-      or_later true b _ = refl
-      or_later false b there = there
-
-      later : (g : Handle) → stands_in hs g ≡ true → set.contains s.live g ≡ true
-      later g there = alive g (or_later (eq_by_cmp handle_cmp g h) (stands_in hs g) there)
+use Rattle.ent_world.proofs.Entered.{or_born, given, or_born-none}
+use Rattle.ent_world.proofs.Entered.{birth_by_index, get-entered_queues}
+use Rattle.ent_world.proofs.Unlisted.{distinct, filter_alike, some_index, no_index, without}
+use Rattle.ent_world.proofs.Unlisted.{get-entered_others}
 
 -- All that are born, in one step.
 
@@ -213,8 +60,8 @@ listed_anyhow : (queues : List (List Command)) (phase system other : ℕ) (h : H
 listed_anyhow [] phase system other h = refl
 listed_anyhow (q ∷ queues) phase system other h =
     elim (ordinal_among (handles_listed q) h) as
-    (λ place. is_none (at_ordinal 0 other place (listed_birth 0 (other + 1) queues h))
-    ≡ not (is_some (at_ordinal phase system place (listed_birth phase (system + 1) queues h)))) [
+    (λ index. is_none (at_ordinal 0 other index (listed_birth 0 (other + 1) queues h))
+    ≡ not (is_some (at_ordinal phase system index (listed_birth phase (system + 1) queues h)))) [
       | Some k ↦ refl
       | None ↦ listed_anyhow queues phase (system + 1) (other + 1) h
     ]
@@ -306,8 +153,8 @@ module _ (s : Allocator) (m : EntityMap) (sound : IsSound s) (living : AreLiving
         some_born (Some b) = refl
         some_born None = refl
 
-    abbrev place : Handle → Option ℕ
-    place q = position_from (eq_by_cmp handle_cmp q) 0 others
+    abbrev index : Handle → Option ℕ
+    index q = position_from (eq_by_cmp handle_cmp q) 0 others
 
     -- who is born and not listed stands among the others
     among_others : (q : Handle) → stands_in (born s) q ≡ true → By q ≡ None → stands_in others q
@@ -332,12 +179,12 @@ module _ (s : Allocator) (m : EntityMap) (sound : IsSound s) (living : AreLiving
 
     -- who is born has its birth by the queues
     of_born : (q : Handle) → stands_in (born s) q ≡ true → (b : Option Birth) → By q ≡ b
-        → or_born (or_born None b) (birth_by_place phase no_system (place q))
+        → or_born (or_born None b) (birth_by_index phase no_system (index q))
         ≡ Some (newborn (unwrap_or b (unlisted_birth phase others q)))
     of_born q there (Some b) is = refl
     of_born q there None is =
-        let some = some_place q 0 others (among_others q there is) in
-        ap (λ p. or_born None (birth_by_place phase no_system p)) some.1
+        let some = some_index q 0 others (among_others q there is) in
+        ap (λ p. or_born None (birth_by_index phase no_system p)) some.1
         ∙ ap (λ p. Some
         (newborn (record {
           frame = phase;
@@ -362,19 +209,19 @@ module _ (s : Allocator) (m : EntityMap) (sound : IsSound s) (living : AreLiving
         get-entered_others (after_flush s) phase 0 (born s) listed q
         (distinct (born s) (born-apart s sound)) born-alive
         ∙ ap (λ hs. or_born (map.get listed q)
-        (birth_by_place phase no_system (position_from (eq_by_cmp handle_cmp q) 0 hs)))
+        (birth_by_index phase no_system (position_from (eq_by_cmp handle_cmp q) 0 hs)))
         others_are
         ∙ by_test q (stands_in (born s) q) refl
         ∙ sym (get-with_born (birth_in phase queues (born s)) (born s) m q))
       where
         by_test : (q : Handle) (b : Bool) → stands_in (born s) q ≡ b
-            → or_born (map.get listed q) (birth_by_place phase no_system (place q))
+            → or_born (map.get listed q) (birth_by_index phase no_system (index q))
             ≡ cond b (Some (newborn (birth_in phase queues (born s) q))) (map.get m q)
-        by_test q true there = ap (λ o. or_born o (birth_by_place phase no_system (place q)))
+        by_test q true there = ap (λ o. or_born o (birth_by_index phase no_system (index q)))
             (listed-born q there) ∙ of_born q there (By q) refl
         by_test q false none =
-            ap (λ p. or_born (map.get listed q) (birth_by_place phase no_system p))
-            (no_place q 0 others (not_among q none))
+            ap (λ p. or_born (map.get listed q) (birth_by_index phase no_system p))
+            (no_index q 0 others (not_among q none))
             ∙ or_born-none (map.get listed q)
             ∙ listed-get q
             ∙ of_old q none (set.contains (after_flush s).live q) refl

@@ -7,7 +7,6 @@ use Rattle.std.specs.Option.{option_map}
 use Rattle.std.specs.List.{position_from}
 use Rattle.std.specs.FinSet as set
 use Rattle.std.specs.FinMap as map
-use Rattle.std.proofs.lemmas.Cmp.{eq_by_cmp_equiv}
 use Rattle.ent_handle.specs.declared.birth.Birth.{Birth}
 use Rattle.ent_handle.specs.Handle.{Handle, handle_cmp, handle_cmp_total}
 use Rattle.ent_alloc.specs.Sequential.{Allocator}
@@ -60,18 +59,14 @@ pub given-none : (t : Bool) → given t None ≡ None
 given-none true = refl
 given-none false = refl
 
--- the birth at a place of a system's handles
+-- the birth at an index of a system's handles
 abbrev pub birth_at : ℕ → ℕ → ℕ → Birth
-birth_at phase system place = record { frame = phase; system = system; ordinal = ordinal place }
+birth_at phase system index = record { frame = phase; system = system; ordinal = ordinal index }
 
-pub next-birth_at : (phase system place : ℕ) → next_birth (birth_at phase system place)
-    ≡ birth_at phase system (place + 1)
-next-birth_at phase system place = let capped : ordinal (ordinal place + 1) ≡ ordinal (place + 1) =
+pub next-birth_at : (phase system index : ℕ) → next_birth (birth_at phase system index)
+    ≡ birth_at phase system (index + 1)
+next-birth_at phase system index = let capped : ordinal (ordinal index + 1) ≡ ordinal (index + 1) =
     omega arith in λ i. record { frame = phase; system = system; ordinal = capped i }
-
--- the test that tells handles apart goes both ways
-pub both_ways : (g h : Handle) → eq_by_cmp handle_cmp g h ≡ eq_by_cmp handle_cmp h g
-both_ways g h = (eq_by_cmp_equiv handle_cmp_total).symm g h
 
 -- One handle.
 
@@ -120,46 +115,46 @@ get-entered s h birth m q = by_test (eq_by_cmp handle_cmp q h) refl
 
 -- The handles of a system.
 
--- the birth by the first place of a handle, counted from here
-abbrev pub birth_by_place : ℕ → ℕ → Option ℕ → Option Birth
-birth_by_place phase system place = option_map (birth_at phase system) place
+-- the birth by the first index of a handle, counted from here
+abbrev pub birth_by_index : ℕ → ℕ → Option ℕ → Option Birth
+birth_by_index phase system index = option_map (birth_at phase system) index
 
-by_first : (phase system place : ℕ) (b : Bool) (others : Option ℕ) → birth_by_place phase system
-    (cond b (Some place) others) ≡ first_of (given b (Some (birth_at phase system place)))
-    (birth_by_place phase system others)
-by_first phase system place true others = refl
-by_first phase system place false others = refl
+by_first : (phase system index : ℕ) (b : Bool) (others : Option ℕ) → birth_by_index phase system
+    (cond b (Some index) others) ≡ first_of (given b (Some (birth_at phase system index)))
+    (birth_by_index phase system others)
+by_first phase system index true others = refl
+by_first phase system index false others = refl
 
-pub get-entered_handles : (s : Allocator) (phase system place : ℕ) (hs : List Handle)
+pub get-entered_handles : (s : Allocator) (phase system index : ℕ) (hs : List Handle)
     (m : EntityMap) (q : Handle)
-    → map.get (entered_handles s (birth_at phase system place) hs m) q
+    → map.get (entered_handles s (birth_at phase system index) hs m) q
     ≡ or_born (map.get m q)
     (given (set.contains s.live q)
-    (birth_by_place phase system (position_from (eq_by_cmp handle_cmp q) place hs)))
-get-entered_handles s phase system place [] m q =
+    (birth_by_index phase system (position_from (eq_by_cmp handle_cmp q) index hs)))
+get-entered_handles s phase system index [] m q =
     sym (ap (or_born (map.get m q)) (given-none (set.contains s.live q))
     ∙ or_born-none (map.get m q))
-get-entered_handles s phase system place (h ∷ hs) m q =
+get-entered_handles s phase system index (h ∷ hs) m q =
     let t = set.contains s.live q in
-    let one = given (eq_by_cmp handle_cmp q h) (Some (birth_at phase system place)) in
-    let others = birth_by_place phase system (position_from (eq_by_cmp handle_cmp q) (place + 1) hs)
+    let one = given (eq_by_cmp handle_cmp q h) (Some (birth_at phase system index)) in
+    let others = birth_by_index phase system (position_from (eq_by_cmp handle_cmp q) (index + 1) hs)
     in
-    let n = entered s h (birth_at phase system place) m in
-    ap (λ b. map.get (entered_handles s b hs n) q) (next-birth_at phase system place)
-    ∙ get-entered_handles s phase system (place + 1) hs n q
-    ∙ ap (λ o. or_born o (given t others)) (get-entered s h (birth_at phase system place) m q)
+    let n = entered s h (birth_at phase system index) m in
+    ap (λ b. map.get (entered_handles s b hs n) q) (next-birth_at phase system index)
+    ∙ get-entered_handles s phase system (index + 1) hs n q
+    ∙ ap (λ o. or_born o (given t others)) (get-entered s h (birth_at phase system index) m q)
     ∙ or_born-twice (map.get m q) (given t one) (given t others)
     ∙ ap (or_born (map.get m q)) (first_of-given t one others
     ∙ ap (given t)
-    (sym (by_first phase system place (eq_by_cmp handle_cmp q h)
-    (position_from (eq_by_cmp handle_cmp q) (place + 1) hs))))
+    (sym (by_first phase system index (eq_by_cmp handle_cmp q h)
+    (position_from (eq_by_cmp handle_cmp q) (index + 1) hs))))
 
 -- The handles that queues list.
 
-by_queue : (phase system : ℕ) (place : Option ℕ) (others : Option Birth)
-    → at_ordinal phase system place others ≡ first_of (birth_by_place phase system place) others
+by_queue : (phase system : ℕ) (index : Option ℕ) (others : Option Birth)
+    → at_ordinal phase system index others ≡ first_of (birth_by_index phase system index) others
 by_queue phase system None others = refl
-by_queue phase system (Some place) others = refl
+by_queue phase system (Some index) others = refl
 
 pub get-entered_queues : (s : Allocator) (phase system : ℕ) (queues : List (List Command))
     (m : EntityMap) (q : Handle)
@@ -170,7 +165,7 @@ get-entered_queues s phase system [] m q =
     ∙ or_born-none (map.get m q))
 get-entered_queues s phase system (queue ∷ queues) m q =
     let t = set.contains s.live q in
-    let one = birth_by_place phase system (ordinal_among (handles_listed queue) q) in
+    let one = birth_by_index phase system (ordinal_among (handles_listed queue) q) in
     let others = listed_birth phase (system + 1) queues q in
     get-entered_queues s phase (system + 1) queues (entered_handles s (first_birth phase system)
     (handles_listed queue) m) q

@@ -7,7 +7,7 @@ use Rattle.ent_queue.specs.Command.{Command, Spawn, SpawnMany, Insert, Remove, D
 use Rattle.ent_world.specs.World.{World}
 use Rattle.ent_world.specs.Command.{Applied, on_entity, on_each, after_command, after_commands}
 use Rattle.ent_world.specs.Command.{after_queues}
-use Rattle.ent_world.specs.Sync.{first_part, stops, cut_commands, cut_queue, cut, stops_in}
+use Rattle.ent_world.specs.Sync.{first_part, cut_commands, cut_queue, cut}
 
 -- the next element of a list, of which the first ones are done
 pub next_below : {X : Type 0} (xs rest : List X) (k : ℕ) (x : X) → drop k xs ≡ x ∷ rest → k
@@ -91,14 +91,6 @@ first_alone done (Remove h id) rest = refl
 first_alone done (Despawn h) rest = refl
 first_alone done (Refused wanted why) rest = refl
 
-stops_alone : (c : Command) (rest : List Command) → stops (c ∷ rest) ≡ stops (c ∷ [])
-stops_alone (Spawn h items) rest = refl
-stops_alone (SpawnMany hs items) rest = refl
-stops_alone (Insert h items) rest = refl
-stops_alone (Remove h id) rest = refl
-stops_alone (Despawn h) rest = refl
-stops_alone (Refused wanted why) rest = refl
-
 -- it stopped at this command
 pub stopped_command : (system : ℕ) (q rest : List Command) (k done : ℕ) (c : Command) (a : Applied)
     → drop k q ≡ c ∷ rest
@@ -108,10 +100,6 @@ stopped_command system q rest k done c a left =
     ap (λ cs. after_commands system 0 (take k q ++ cs) a) (ap (first_part done) left
     ∙ first_alone done c rest)
     ∙ from_start system q (first_part done (c ∷ [])) k a (next_below q rest k c left)
-
-pub stop_at : (q rest : List Command) (k done : ℕ) (c : Command) → drop k q ≡ c ∷ rest → done
-    < stops (c ∷ []) → done < stops (drop k q)
-stop_at q rest k done c left lt = rw (left, stops_alone c rest) lt
 
 -- Queues.
 
@@ -147,7 +135,3 @@ pub stopped_queue : (qs : List (List Command)) (k command done : ℕ) (d : List 
 stopped_queue qs k command done d a lt =
     ap (λ xs. after_queues 0 (take k qs ++ cut_queue command done xs) a) (drop_more qs k d lt)
     ∙ from_first qs (cut_commands command done (get_or qs k d) ∷ []) k a lt
-
-pub stop_in : (qs : List (List Command)) (k command done : ℕ) (d : List Command) → k < length qs
-    → done < stops (drop command (get_or qs k d)) → done < stops_in command (drop k qs)
-stop_in qs k command done d lt small = rw (drop_more qs k d lt) small

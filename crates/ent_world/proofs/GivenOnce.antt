@@ -11,7 +11,6 @@ use Rattle.ent_alloc.specs.Sound.{IsSound, IsLive}
 use Rattle.ent_alloc.specs.Given.{IsSpent, AreSpent}
 use Rattle.ent_alloc.specs.History.{Call, IsLegal, after_history, handles_in, given_in}
 use Rattle.ent_alloc.proofs.HandleSets.{in_removed}
-use Rattle.ent_alloc.proofs.PoolLaw.{limits-after_take}
 use Rattle.ent_alloc.proofs.Soundness.{opening-sound, after_take-sound, after_flush-sound}
 use Rattle.ent_alloc.proofs.Soundness.{after_free-sound}
 use Rattle.ent_alloc.proofs.GivenOnce.{take-given, refused-given, flush-given, free-given}
@@ -55,26 +54,7 @@ history-sound s [] sound = sound
 history-sound s (call ∷ calls) sound = history-sound (after_take s call.requested) calls
     (after_take-sound s call.requested sound)
 
--- and its limits
-pub history-limits : (s : Allocator) (history : List Call) → (after_history s history).limits
-    ≡ s.limits
-history-limits s [] = refl
-history-limits s (call ∷ calls) = history-limits (after_take s call.requested) calls
-    ∙ limits-after_take s call.requested
-
 -- ---- what commands keep
-
--- nothing was asked for since the flush
-asked-kept : IsKept (λ w. w.allocator.asked ≡ 0)
-asked-kept = record { components = λ change h w there none. none; despawn = λ h w there none. none }
-
--- the limits
-limits-kept : (limits : Limits) → IsKept (λ w. w.allocator.limits ≡ limits)
-limits-kept limits = record {
-  components = λ change h w there same. same;
-  despawn =
-      λ h w there same. same;
-}
 
 -- A sound allocator after a flush, and its living entities.
 pub record IsFlushed (w : World) : Type 0 where
@@ -166,18 +146,6 @@ module _ (start : World) (given : List Handle) where
 
 -- ---- a sync
 
--- after it nothing is asked for
-pub sync-flushed : (queues : List (List Command)) (w : World)
-    → (sync queues w).world.allocator.asked ≡ 0
-sync-flushed queues w = after_queues-keeps (λ v. v.allocator.asked ≡ 0) asked-kept 0 queues
-    (applied (after_births queues w) []) refl
-
--- the limits stay
-pub sync-limits : (queues : List (List Command)) (w : World)
-    → (sync queues w).world.allocator.limits ≡ w.allocator.limits
-sync-limits queues w = after_queues-keeps (λ v. v.allocator.limits ≡ w.allocator.limits)
-    (limits-kept w.allocator.limits) 0 queues (applied (after_births queues w) []) refl
-
 module _ (queues : List (List Command)) (w : World) (sound : IsSound w.allocator)
     (living : AreLiving w.allocator w.entities) where
   births-flushed : IsFlushed (after_births queues w)
@@ -258,12 +226,6 @@ pub frame-living : (queues : List (List Command)) (history : List Call) (w : Wor
     (sync queues (after_calls history w)).world.entities
 frame-living queues history w sound living = sync-living queues (after_calls history w)
     (history-sound w.allocator history sound) (calls-living history w living)
-
--- and the limits stay
-pub frame-limits : (queues : List (List Command)) (history : List Call) (w : World)
-    → (sync queues (after_calls history w)).world.allocator.limits ≡ w.allocator.limits
-frame-limits queues history w = sync-limits queues (after_calls history w)
-    ∙ history-limits w.allocator history
 
 -- ---- at the start
 

@@ -25,7 +25,7 @@ use Rattle.ent_storage.specs.EntityMap.{Entity, EntityMap, newborn, with_compone
 use Rattle.ent_queue.specs.Command.{Bundle}
 use Rattle.ent_world.specs.Command.{spawned}
 
--- what a test of an answer tells
+-- what a test of a result tells
 pub on_ok : {X E : Type 0} {P : Type 0} (r : Result X E) → is_err r ≡ false → OnOk r P → P
 on_ok (Ok x) test p = p
 on_ok (Err e) test p = absurd (true≢false test)

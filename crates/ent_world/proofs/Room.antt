@@ -22,7 +22,7 @@ use Rattle.ent_world.proofs.Living.{some_more}
 abbrev other_than : Handle → Handle → Bool
 other_than h g = not (eq_by_cmp handle_cmp h g)
 
-pub no_more : (p : Handle → Bool) (hs : List Handle) → length (filter p hs) ≤ length hs
+no_more : (p : Handle → Bool) (hs : List Handle) → length (filter p hs) ≤ length hs
 no_more p [] = omega arith
 no_more p (h ∷ hs) = elim (p h) as (λ b. length (cond b (h ∷ filter p hs) (filter p hs))
     ≤ length (h ∷ hs)) [

@@ -1,21 +1,19 @@
 -- Where a command may take memory.
-use Rattle.std.proofs.Common.{◌≡◌, sym, ap, ◌∙◌, refl, subst, ℕ, ◌+◌, ◌<◌, ◌≤◌, true, not, ◌||◌}
-use Rattle.std.proofs.Common.{nat_lt, List, [], ◌∷◌, length, filter, drop, get_or, slice_get, Some}
+use Rattle.std.proofs.Common.{◌≡◌, sym, ap, ◌∙◌, refl, subst, ℕ, ◌+◌, ◌<◌, true, not, ◌||◌}
+use Rattle.std.proofs.Common.{nat_lt, List, [], ◌∷◌, length, drop, get_or, slice_get, Some}
 use Rattle.std.proofs.Common.{arith}
 use Rattle.std.specs.Option.{IsSomeAnd}
 use Rattle.std.proofs.lemmas.Bool.Decides.{nat_tests}
 use Rattle.std.proofs.lemmas.List.{drop_more}
 use Rattle.std.proofs.lemmas.Option.{slice_get-get_or}
 use Rattle.ent_handle.specs.Handle.{Handle}
-use Rattle.ent_alloc.specs.Sequential.{Allocator, made_at_flush, is_fresh}
 use Rattle.ent_queue.specs.Command.{Bundle, Command}
 use Rattle.ent_world.specs.World.{World, lives_in}
-use Rattle.ent_world.specs.Memory.{insert_takes_memory, place_takes_memory, command_takes_memory}
+use Rattle.ent_world.specs.Memory.{insert_takes_memory, one_takes_memory, command_takes_memory}
 use Rattle.ent_world.specs.Memory.{TakesMemoryIn, TakesMemoryAt}
 use Rattle.ent_world.proofs.Folds.{next_below}
-use Rattle.ent_world.proofs.Room.{no_more}
 
--- what is left of a list begins with the element at that place
+-- what is left of a list begins with the element at that index
 at_left : {X : Type 0} (xs rest : List X) (k : ℕ) (x : X) → drop k xs ≡ x ∷ rest → slice_get xs k
     ≡ Some x
 at_left xs rest k x left =
@@ -33,15 +31,15 @@ some_items w items h some =
 
 -- to the first of the handles
 pub first_takes_memory : (w : World) (items : Bundle) (hs : List Handle) → (hs ≡ [] → ⊥) → 0
-    < length items → place_takes_memory w items (slice_get hs 0) ≡ true
+    < length items → one_takes_memory w items (slice_get hs 0) ≡ true
 first_takes_memory w items [] some_handle some = absurd (some_handle refl)
 first_takes_memory w items (h ∷ hs) some_handle some = some_items w items h some
 
 -- to the next of them
 pub next_takes_memory : (w : World) (items : Bundle) (hs rest : List Handle) (k : ℕ) (h : Handle)
     → drop k hs ≡ h ∷ rest → insert_takes_memory w items h ≡ true
-    → place_takes_memory w items (slice_get hs k) ≡ true
-next_takes_memory w items hs rest k h left takes = ap (place_takes_memory w items)
+    → one_takes_memory w items (slice_get hs k) ≡ true
+next_takes_memory w items hs rest k h left takes = ap (one_takes_memory w items)
     (at_left hs rest k h left) ∙ takes
 
 -- at this command of a queue
@@ -58,7 +56,3 @@ pub takes_memory_at : (w : World) (qs : List (List Command)) (k command done : �
 takes_memory_at w qs k command done q lt is takes =
     subst (λ o. IsSomeAnd o (λ p. TakesMemoryIn w command done p))
     (sym (slice_get-get_or qs k q lt ∙ ap Some (sym is))) takes
-
--- a flush makes slots only for what is reserved
-pub made-le-taken : (s : Allocator) → made_at_flush s ≤ length s.taken
-made-le-taken s = no_more (is_fresh s.made) s.taken

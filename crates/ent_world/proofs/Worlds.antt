@@ -1,33 +1,26 @@
--- What is true of every world is true of the first one, and stays true: each step leaves a world.
-use Rattle.std.proofs.Common.{◌≡◌, refl, sym, ap, ◌∙◌, subst, ℕ, ◌-◌, ◌++◌, ◌<◌, true, List, []}
-use Rattle.std.proofs.Common.{◌∷◌, length, take, drop, slice_get, Some, All, AllPairs, filter}
-use Rattle.std.proofs.Common.{arith}
+-- What is true of every world stays true: each step leaves a world.
+use Rattle.std.proofs.Common.{◌≡◌, refl, sym, ap, ◌∙◌, subst, ℕ, ◌-◌, ◌++◌, true, List, []}
+use Rattle.std.proofs.Common.{◌∷◌, drop, slice_get, Some, All, AllPairs, filter}
 use Rattle.std.proofs.lemmas.List.{take-append-drop}
 use Rattle.ent_handle.specs.declared.birth.Birth.{Birth}
 use Rattle.ent_handle.specs.Handle.{Handle}
-use Rattle.ent_alloc.specs.Limits.{Limits, AreLimits}
 use Rattle.ent_alloc.specs.Sequential.{Allocator, available, born, fresh, is_old}
 use Rattle.ent_alloc.specs.Sound.{IsSound, IsWithin, AreApart}
 use Rattle.ent_alloc.specs.History.{Call, after_history}
-use Rattle.ent_alloc.proofs.Soundness.{opening-sound, after_flush-sound, after_free-sound}
+use Rattle.ent_alloc.proofs.Soundness.{after_flush-sound, after_free-sound}
 use Rattle.ent_alloc.proofs.Soundness.{after_alloc-sound}
 use Rattle.ent_shared.specs.Phase.{after_loss}
 use Rattle.ent_storage.specs.Components.{Components}
-use Rattle.ent_storage.specs.EntityMap.{with_components}
+use Rattle.ent_storage.specs.EntityMap.{EntityMap, with_components}
 use Rattle.ent_queue.specs.Command.{Bundle, Command}
-use Rattle.ent_world.specs.World.{World, IsWorld, lives_in, first_world}
+use Rattle.ent_world.specs.World.{World, IsWorld, lives_in}
 use Rattle.ent_world.specs.Command.{Applied, after_spawn, after_despawn, after_queues, spawned}
-use Rattle.ent_world.specs.Sync.{after_births, sync, birth_in}
-use Rattle.ent_world.proofs.Living.{keys-empty, keys-insert, keys-remove, keys-components}
+use Rattle.ent_world.specs.Sync.{after_births, birth_in}
+use Rattle.ent_world.proofs.Living.{keys-insert, keys-remove, keys-components}
 use Rattle.ent_world.proofs.Living.{living-history}
 use Rattle.ent_world.proofs.Born.{living-after}
 use Rattle.ent_world.proofs.Kept.{after_queues-keeps}
-use Rattle.ent_world.proofs.GivenOnce.{IsFlushed, flushed-kept, history-sound, sync-sound}
-use Rattle.ent_world.proofs.GivenOnce.{sync-living}
-
--- nobody has lived yet
-pub first_world-world : (limits : Limits) → AreLimits limits → IsWorld (first_world limits)
-first_world-world limits ok = record { sound = opening-sound limits ok; living = keys-empty }
+use Rattle.ent_world.proofs.GivenOnce.{IsFlushed, flushed-kept, history-sound}
 
 -- what is reserved is born
 pub after_births-world : (queues : List (List Command)) (w : World) → IsWorld w
@@ -63,21 +56,13 @@ after_despawn-world h w is flushed there = record {
 }
 
 -- an entity has other components
-pub components-world : (change : Components → Components) (h : Handle) (w : World) → IsWorld w
-    → IsWorld (record w { entities = with_components w.entities h change })
-components-world change h w is = record {
+pub components-world : (change : Components → Components) (h : Handle) (s : Allocator) (phase : ℕ)
+    (m n : EntityMap) → n ≡ with_components m h change
+    → IsWorld (record { allocator = s; phase = phase; entities = m })
+    → IsWorld (record { allocator = s; phase = phase; entities = n })
+components-world change h s phase m n changed is = record {
   sound = is.sound;
-  living =
-      keys-components w.allocator.live w.entities h change is.living;
-}
-
--- a sync point
-pub sync-world : (queues : List (List Command)) (w : World) → IsWorld w
-    → IsWorld (sync queues w).world
-sync-world queues w is = record {
-  sound = sync-sound queues w is.sound is.living;
-  living =
-      sync-living queues w is.sound is.living;
+  living = rw changed (keys-components s.live m h change is.living);
 }
 
 -- any commands of a flushed world

@@ -1,5 +1,5 @@
--- How entities that are born enter the map one by one. Each that is alive and not there yet enters
--- with the birth that is tried first.
+-- For private contracts and proofs: how entities that are born enter the map one by one. Each that
+-- is alive and not there yet enters with the birth that is tried first.
 use Rattle.std.specs.Prelude.{◌≡◌, ◌+◌, ◌≤◌, true, false, not, ◌&&◌, if◌then◌else◌, List, [], ◌∷◌}
 use Rattle.std.specs.Prelude.{ℕ, length}
 use Rattle.std.specs.FinSet as set

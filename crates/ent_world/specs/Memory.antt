@@ -11,16 +11,16 @@ abbrev pub insert_takes_memory : World → Bundle → Handle → Bool
 insert_takes_memory w items h = nat_lt 0 (length items) || not (lives_in w h)
 
 -- the same of one of many, if there is one of that number
-abbrev pub place_takes_memory : World → Bundle → Option Handle → Bool
-place_takes_memory w items None = false
-place_takes_memory w items (Some h) = insert_takes_memory w items h
+abbrev pub one_takes_memory : World → Bundle → Option Handle → Bool
+one_takes_memory w items None = false
+one_takes_memory w items (Some h) = insert_takes_memory w items h
 
 -- The command may take memory in this world, at that of its handles: it gives an entity components,
 -- frees a handle, or lists a fault. No other takes any: no spawn of nobody, no empty bundle for who
 -- lives, no component that is taken away from who lives.
 abbrev pub command_takes_memory : World → ℕ → Command → Bool
 command_takes_memory w done (Spawn h items) = insert_takes_memory w items h
-command_takes_memory w done (SpawnMany hs items) = place_takes_memory w items (slice_get hs done)
+command_takes_memory w done (SpawnMany hs items) = one_takes_memory w items (slice_get hs done)
 command_takes_memory w done (Insert h items) = insert_takes_memory w items h
 command_takes_memory w done (Remove h id) = not (lives_in w h)
 command_takes_memory w done (Despawn h) = true

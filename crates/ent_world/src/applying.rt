@@ -8,7 +8,7 @@ ghost use Rattle.ent_world.specs.Command.{applied, refused, on_entity, on_each, 
 ghost use Rattle.ent_world.specs.Command.{after_remove, after_despawn, after_command};
 ghost use Rattle.ent_world.specs.Command.{after_commands, after_queues};
 ghost use Rattle.ent_world.specs.Sync.{first_part, stops, cut_commands, cut, IsStop};
-ghost use Rattle.ent_world.specs.Memory.{insert_takes_memory, place_takes_memory};
+ghost use Rattle.ent_world.specs.Memory.{insert_takes_memory, one_takes_memory};
 ghost use Rattle.ent_world.specs.Memory.{command_takes_memory, TakesMemoryIn};
 ghost use Rattle.ent_world.specs.Memory.{TakesMemoryAt};
 
@@ -17,13 +17,71 @@ use crate::world::World;
 use ent_handle::{ComponentId, Handle, Memory};
 use ent_queue::{BundleRef, CommandQueue, Entry, HandlesRef};
 use ent_shared::Refused;
+use std::alloc::Global;
 
-/// Where memory ran out: all before it stands, and nothing else.
+/// A command, by its system and its number in the system's queue.
 #[derive(Clone, Copy)]
-pub(crate) struct Stop {
+pub(crate) struct At {
     pub(crate) system: usize,
     pub(crate) command: usize,
+}
+
+/// Where memory ran out: at a command of which that many handles are done. All before it stands,
+/// and nothing else.
+#[derive(Clone, Copy)]
+pub(crate) struct Stop {
+    pub(crate) at: At,
     pub(crate) done: usize,
+}
+
+/// What commands are applied with, beside the world.
+#[derive(Drop)]
+pub(crate) struct Applying {
+    /// The components of the bundle that was read last. All commands share their room.
+    pub(crate) items: Vec<(ComponentId, i64)>,
+    /// The faults so far.
+    pub(crate) faults: Vec<Fault>,
+}
+
+impl Applying {
+    pub(crate) fn new(alloc: Global) -> Self
+        ensures { result.faults.items ≡ [] }
+    {
+        Applying {
+            items: Vec::new(alloc),
+            faults: Vec::new(alloc),
+        }
+    }
+
+    /// Reads the components of a bundle, in place of what was read before. After an `Err` there
+    /// are none.
+    fn read(&mut self, bundle: BundleRef<'_>) -> Result<(), Memory>
+        ensures faults { self.new.faults.items ≡ self.old.faults.items }
+        ensures ok { OnOk result (self.new.items.items ≡ bundle.entry) }
+        ensures memory { OnErr result (0 < length bundle.entry) }
+    {
+        self.items.clear();
+        self.items.reserve(bundle.len())?;
+        for item in bundle.iter() {
+            self.items.push_reserved(item);
+        }
+        Ok(())
+    }
+
+    /// Lists one fault more.
+    fn add_fault(&mut self, at: At, kind: FaultKind) -> Result<(), Memory>
+        ensures items { self.new.items.items ≡ self.old.items.items }
+        ensures ok { OnOk result (self.new.faults.items ≡ self.old.faults.items
+            ++ record { system = at.system; command = at.command; kind = kind } ∷ []) }
+        ensures err { OnErr result (self.new.faults.items ≡ self.old.faults.items) }
+    {
+        self.faults.push(Fault {
+            system: at.system,
+            command: at.command,
+            kind,
+        })?;
+        Ok(())
+    }
 }
 
 impl World {
@@ -31,195 +89,162 @@ impl World {
     pub(crate) fn apply_queues(
         &mut self,
         queues: &[CommandQueue],
-        items: &mut Vec<(ComponentId, i64)>,
-        faults: &mut Vec<Fault>,
+        applying: &mut Applying,
     ) -> Result<(), Stop>
         requires { self.old.allocator.asked ≡ 0 }
         ensures flushed { self.new.allocator.asked ≡ 0 }
-        ensures ok { OnOk result (applied self.new faults.new.items
-            ≡ after_queues 0 queues.now (applied self.old faults.old.items)) }
-        ensures err { IfErr result (λ stop. applied self.new faults.new.items
-            ≡ after_queues 0 (cut stop.system stop.command stop.done queues.now)
-            (applied self.old faults.old.items)) }
+        ensures ok { OnOk result (applied self.new applying.new.faults.items
+            ≡ after_queues 0 queues.now (applied self.old applying.old.faults.items)) }
+        ensures err { IfErr result (λ stop. applied self.new applying.new.faults.items
+            ≡ after_queues 0 (cut stop.at.system stop.at.command stop.done queues.now)
+            (applied self.old applying.old.faults.items)) }
         ensures stop { IfErr result (λ stop.
-            IsStop stop.system stop.command stop.done queues.now) }
+            IsStop stop.at.system stop.at.command stop.done queues.now) }
         ensures memory { IfErr result (λ stop.
-            TakesMemoryAt self.new stop.system stop.command stop.done queues.now) }
+            TakesMemoryAt self.new stop.at.system stop.at.command stop.done queues.now) }
     {
         for (system, queue) in queues.iter().enumerate() {
-            if let Err((command, done)) = self.apply_queue(system, queue, items, faults) {
-                return Err(Stop {
-                    system,
-                    command,
-                    done,
-                });
-            }
+            self.apply_queue(system, queue, applying)?;
         }
         Ok(())
     }
 
-    /// Applies the commands of a queue in the order of issue. An `Err` says at which command memory
-    /// ran out, and how many handles of that command are done.
+    /// Applies the commands of a queue in the order of issue.
     fn apply_queue(
         &mut self,
         system: usize,
         queue: &CommandQueue,
-        items: &mut Vec<(ComponentId, i64)>,
-        faults: &mut Vec<Fault>,
-    ) -> Result<(), (usize, usize)>
+        applying: &mut Applying,
+    ) -> Result<(), Stop>
         requires { self.old.allocator.asked ≡ 0 }
         ensures flushed { self.new.allocator.asked ≡ 0 }
-        ensures ok { OnOk result (applied self.new faults.new.items
-            ≡ after_commands system 0 queue.now (applied self.old faults.old.items)) }
-        ensures err { IfErr result (λ stop. applied self.new faults.new.items
-            ≡ after_commands system 0 (cut_commands stop.0 stop.1 queue.now)
-            (applied self.old faults.old.items)) }
-        ensures stop { IfErr result (λ stop. stop.1 < stops (drop stop.0 queue.now)) }
-        ensures memory { IfErr result (λ stop. TakesMemoryIn self.new stop.0 stop.1 queue.now) }
+        ensures ok { OnOk result (applied self.new applying.new.faults.items
+            ≡ after_commands system 0 queue.now (applied self.old applying.old.faults.items)) }
+        ensures err { IfErr result (λ stop. applied self.new applying.new.faults.items
+            ≡ after_commands system 0 (cut_commands stop.at.command stop.done queue.now)
+            (applied self.old applying.old.faults.items)) }
+        ensures at { IfErr result (λ stop. stop.at.system ≡ system) }
+        ensures stop { IfErr result (λ stop.
+            stop.done < stops (drop stop.at.command queue.now)) }
+        ensures memory { IfErr result (λ stop.
+            TakesMemoryIn self.new stop.at.command stop.done queue.now) }
     {
         let mut entries = queue.entries();
         for command in 0..queue.len() {
             let Some(entry) = entries.next() else {
                 unreachable!()
             };
-            if let Err(done) = self.apply_command(system, command, entry, items, faults) {
-                return Err((command, done));
-            }
+            self.apply_command(At { system, command }, entry, applying)?;
         }
         Ok(())
     }
 
-    /// Applies one command. An `Err` says how many of its handles are done.
+    /// Applies one command.
     fn apply_command(
         &mut self,
-        system: usize,
-        command: usize,
+        at: At,
         entry: Entry<'_>,
-        items: &mut Vec<(ComponentId, i64)>,
-        faults: &mut Vec<Fault>,
-    ) -> Result<(), usize>
+        applying: &mut Applying,
+    ) -> Result<(), Stop>
         requires { self.old.allocator.asked ≡ 0 }
         ensures flushed { self.new.allocator.asked ≡ 0 }
-        ensures ok { OnOk result (applied self.new faults.new.items
-            ≡ after_command system command (command_of entry.entry)
-            (applied self.old faults.old.items)) }
-        ensures err { IfErr result (λ done. applied self.new faults.new.items
-            ≡ after_commands system command (first_part done (command_of entry.entry ∷ []))
-            (applied self.old faults.old.items)) }
-        ensures stop { IfErr result (λ done. done < stops (command_of entry.entry ∷ [])) }
-        ensures memory { IfErr result (λ done.
-            command_takes_memory self.new done (command_of entry.entry) ≡ true) }
+        ensures ok { OnOk result (applied self.new applying.new.faults.items
+            ≡ after_command at.system at.command (command_of entry.entry)
+            (applied self.old applying.old.faults.items)) }
+        ensures err { IfErr result (λ stop. applied self.new applying.new.faults.items
+            ≡ after_commands at.system at.command
+            (first_part stop.done (command_of entry.entry ∷ []))
+            (applied self.old applying.old.faults.items)) }
+        ensures at { IfErr result (λ stop. stop.at ≡ at) }
+        ensures stop { IfErr result (λ stop. stop.done < stops (command_of entry.entry ∷ [])) }
+        ensures memory { IfErr result (λ stop.
+            command_takes_memory self.new stop.done (command_of entry.entry) ≡ true) }
     {
         match entry {
-            Entry::Spawn(handle, bundle) => self
-                .insert_bundle(system, command, handle, bundle, items, faults)
-                .map_err(|_| 0),
-            Entry::SpawnMany(handles, bundle) => {
-                self.insert_each(system, command, handles, bundle, items, faults)
+            Entry::Spawn(handle, bundle) | Entry::Insert(handle, bundle) => {
+                if applying.read(bundle).is_err() {
+                    return Err(Stop { at, done: 0 });
+                }
+                self.insert_items(at, handle, applying)
+                    .map_err(|_| Stop { at, done: 0 })
             }
-            Entry::Insert(handle, bundle) => self
-                .insert_bundle(system, command, handle, bundle, items, faults)
-                .map_err(|_| 0),
+            Entry::SpawnMany(handles, bundle) => self.insert_each(at, handles, bundle, applying),
             Entry::Remove(handle, id) => self
-                .remove_component(system, command, handle, id, faults)
-                .map_err(|_| 0),
+                .remove_component(at, handle, id, applying)
+                .map_err(|_| Stop { at, done: 0 }),
             Entry::Despawn(handle) => self
-                .despawn_entity(system, command, handle, faults)
-                .map_err(|_| 0),
-            Entry::Refused { why, .. } => {
-                add_fault(faults, system, command, refusal(why)).map_err(|_| 0)
-            }
+                .despawn_entity(at, handle, applying)
+                .map_err(|_| Stop { at, done: 0 }),
+            Entry::Refused { why, .. } => applying
+                .add_fault(at, refusal(why))
+                .map_err(|_| Stop { at, done: 0 }),
         }
     }
 
-    /// Gives each of the entities the components. An `Err` says how many have them.
+    /// Gives each of the entities the components.
     fn insert_each(
         &mut self,
-        system: usize,
-        command: usize,
+        at: At,
         handles: HandlesRef<'_>,
         bundle: BundleRef<'_>,
-        items: &mut Vec<(ComponentId, i64)>,
-        faults: &mut Vec<Fault>,
-    ) -> Result<(), usize>
+        applying: &mut Applying,
+    ) -> Result<(), Stop>
         requires { self.old.allocator.asked ≡ 0 }
         ensures flushed { self.new.allocator.asked ≡ 0 }
-        ensures ok { OnOk result (applied self.new faults.new.items
-            ≡ on_each system command (after_insert bundle.entry) handles.entry
-            (applied self.old faults.old.items)) }
-        ensures err { IfErr result (λ done. applied self.new faults.new.items
-            ≡ on_each system command (after_insert bundle.entry) (take done handles.entry)
-            (applied self.old faults.old.items)) }
-        ensures stop { IfErr result (λ done. done < max 1 (length handles.entry)) }
-        ensures memory { IfErr result (λ done.
-            place_takes_memory self.new bundle.entry (slice_get handles.entry done) ≡ true) }
+        ensures ok { OnOk result (applied self.new applying.new.faults.items
+            ≡ on_each at.system at.command (after_insert bundle.entry) handles.entry
+            (applied self.old applying.old.faults.items)) }
+        ensures err { IfErr result (λ stop. applied self.new applying.new.faults.items
+            ≡ on_each at.system at.command (after_insert bundle.entry)
+            (take stop.done handles.entry)
+            (applied self.old applying.old.faults.items)) }
+        ensures at { IfErr result (λ stop. stop.at ≡ at) }
+        ensures stop { IfErr result (λ stop. stop.done < max 1 (length handles.entry)) }
+        ensures memory { IfErr result (λ stop. one_takes_memory self.new bundle.entry
+            (slice_get handles.entry stop.done) ≡ true) }
     {
         if handles.is_empty() {
             return Ok(());
         }
-        if read_bundle(items, bundle).is_err() {
-            return Err(0);
+        if applying.read(bundle).is_err() {
+            return Err(Stop { at, done: 0 });
         }
         let mut left = handles.iter();
         for done in 0..handles.len() {
             let Some(handle) = left.next() else {
                 unreachable!()
             };
-            if self
-                .insert_items(system, command, handle, items, faults)
-                .is_err()
-            {
-                return Err(done);
+            if self.insert_items(at, handle, applying).is_err() {
+                return Err(Stop { at, done });
             }
         }
         Ok(())
     }
 
-    /// Gives the entity the components, in place of those that it has under the same numbers.
-    fn insert_bundle(
-        &mut self,
-        system: usize,
-        command: usize,
-        handle: Handle,
-        bundle: BundleRef<'_>,
-        items: &mut Vec<(ComponentId, i64)>,
-        faults: &mut Vec<Fault>,
-    ) -> Result<(), Memory>
-        requires { self.old.allocator.asked ≡ 0 }
-        ensures flushed { self.new.allocator.asked ≡ 0 }
-        ensures ok { OnOk result (applied self.new faults.new.items
-            ≡ on_entity system command (after_insert bundle.entry) handle
-            (applied self.old faults.old.items)) }
-        ensures err { OnErr result (applied self.new faults.new.items
-            ≡ applied self.old faults.old.items) }
-        ensures memory { OnErr result (insert_takes_memory self.new bundle.entry handle ≡ true) }
-    {
-        read_bundle(items, bundle)?;
-        self.insert_items(system, command, handle, items, faults)
-    }
-
+    /// Gives the entity the components that were read last, in place of those that it has under
+    /// the same numbers.
     fn insert_items(
         &mut self,
-        system: usize,
-        command: usize,
+        at: At,
         handle: Handle,
-        items: &[(ComponentId, i64)],
-        faults: &mut Vec<Fault>,
+        applying: &mut Applying,
     ) -> Result<(), Memory>
         requires { self.old.allocator.asked ≡ 0 }
         ensures flushed { self.new.allocator.asked ≡ 0 }
-        ensures ok { OnOk result (applied self.new faults.new.items
-            ≡ on_entity system command (after_insert items.now) handle
-            (applied self.old faults.old.items)) }
-        ensures err { OnErr result (applied self.new faults.new.items
-            ≡ applied self.old faults.old.items) }
-        ensures memory { OnErr result (insert_takes_memory self.new items.now handle ≡ true) }
+        ensures items { applying.new.items.items ≡ applying.old.items.items }
+        ensures ok { OnOk result (applied self.new applying.new.faults.items
+            ≡ on_entity at.system at.command (after_insert applying.old.items.items) handle
+            (applied self.old applying.old.faults.items)) }
+        ensures err { OnErr result (applied self.new applying.new.faults.items
+            ≡ applied self.old applying.old.faults.items) }
+        ensures memory { OnErr result
+            (insert_takes_memory self.new applying.old.items.items handle ≡ true) }
     {
         let alive = self.contains(handle);
         if !alive {
-            return add_fault(faults, system, command, FaultKind::NotAlive(handle));
+            return applying.add_fault(at, FaultKind::NotAlive(handle));
         }
-        if self.storage.insert(handle, items).is_err() {
+        if self.storage.insert(handle, &applying.items).is_err() {
             return Err(Memory);
         }
         Ok(())
@@ -227,82 +252,48 @@ impl World {
 
     fn remove_component(
         &mut self,
-        system: usize,
-        command: usize,
+        at: At,
         handle: Handle,
         id: ComponentId,
-        faults: &mut Vec<Fault>,
+        applying: &mut Applying,
     ) -> Result<(), Memory>
         requires { self.old.allocator.asked ≡ 0 }
         ensures flushed { self.new.allocator.asked ≡ 0 }
-        ensures ok { OnOk result (applied self.new faults.new.items
-            ≡ on_entity system command (after_remove id) handle
-            (applied self.old faults.old.items)) }
-        ensures err { OnErr result (applied self.new faults.new.items
-            ≡ applied self.old faults.old.items) }
+        ensures ok { OnOk result (applied self.new applying.new.faults.items
+            ≡ on_entity at.system at.command (after_remove id) handle
+            (applied self.old applying.old.faults.items)) }
+        ensures err { OnErr result (applied self.new applying.new.faults.items
+            ≡ applied self.old applying.old.faults.items) }
         ensures memory { OnErr result (lives_in self.new handle ≡ false) }
     {
         if self.storage.remove(handle, id).is_err() {
-            return add_fault(faults, system, command, FaultKind::NotAlive(handle));
+            return applying.add_fault(at, FaultKind::NotAlive(handle));
         }
         Ok(())
     }
 
     fn despawn_entity(
         &mut self,
-        system: usize,
-        command: usize,
+        at: At,
         handle: Handle,
-        faults: &mut Vec<Fault>,
+        applying: &mut Applying,
     ) -> Result<(), Memory>
         requires { self.old.allocator.asked ≡ 0 }
         ensures flushed { self.new.allocator.asked ≡ 0 }
-        ensures ok { OnOk result (applied self.new faults.new.items
-            ≡ on_entity system command after_despawn handle
-            (applied self.old faults.old.items)) }
-        ensures err { OnErr result (applied self.new faults.new.items
-            ≡ applied self.old faults.old.items) }
+        ensures ok { OnOk result (applied self.new applying.new.faults.items
+            ≡ on_entity at.system at.command after_despawn handle
+            (applied self.old applying.old.faults.items)) }
+        ensures err { OnErr result (applied self.new applying.new.faults.items
+            ≡ applied self.old applying.old.faults.items) }
     {
         if !self.contains(handle) {
-            return add_fault(faults, system, command, FaultKind::NotAlive(handle));
+            return applying.add_fault(at, FaultKind::NotAlive(handle));
         }
         if self.despawn(handle).is_err() {
             return Err(Memory);
         }
         Ok(())
     }
-}
-
-/// The components of a bundle, in place of what `items` had. After an `Err` it has nothing.
-fn read_bundle(items: &mut Vec<(ComponentId, i64)>, bundle: BundleRef<'_>) -> Result<(), Memory>
-    ensures ok { OnOk result (items.new.items ≡ bundle.entry) }
-    ensures memory { OnErr result (0 < length bundle.entry) }
-{
-    items.clear();
-    items.reserve(bundle.len())?;
-    for item in bundle.iter() {
-        items.push_reserved(item);
-    }
-    Ok(())
-}
-
-/// Lists one fault more.
-fn add_fault(
-    faults: &mut Vec<Fault>,
-    system: usize,
-    command: usize,
-    kind: FaultKind,
-) -> Result<(), Memory>
-    ensures ok { OnOk result (faults.new.items
-        ≡ faults.old.items ++ record { system = system; command = command; kind = kind } ∷ []) }
-    ensures err { OnErr result (faults.new.items ≡ faults.old.items) }
-{
-    faults.push(Fault {
-        system,
-        command,
-        kind,
-    })?;
-    Ok(())
 }
 
 /// A refusal as a fault.

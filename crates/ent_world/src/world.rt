@@ -15,6 +15,7 @@ ghost use Rattle.ent_world.specs.Command.{after_spawn, after_despawn};
 ghost use Rattle.ent_world.specs.Sync.{after_births, sync, sync_until, IsStop, IfStopped};
 ghost use Rattle.ent_world.specs.Memory.{TakesMemoryAt};
 
+use crate::applying::Applying;
 use crate::births::{enter_listed, enter_others};
 use crate::fault::{SyncFault, SyncReport};
 use crate::open_world::OpenWorld;
@@ -149,8 +150,8 @@ impl World {
         self.entities.needs_flush()
     }
 
-    /// Brings to life what is reserved. Each entity has the birth of its number among those that are
-    /// born, by no system, and no components.
+    /// Brings to life what is reserved. Each entity has the birth of its number among those that
+    /// are born, by no system, and no components.
     ///
     /// # Errors
     ///
@@ -260,13 +261,14 @@ impl World {
         let Ok(born) = self.bring_to_life(queues) else {
             return Err(SyncFault::FlushMemory);
         };
-        let mut faults = Vec::new(self.alloc);
-        let mut items = Vec::new(self.alloc);
-        match self.apply_queues(queues, &mut items, &mut faults) {
+        let mut applying = Applying::new(self.alloc);
+        let applied = self.apply_queues(queues, &mut applying);
+        let Applying { items: _, faults } = applying;
+        match applied {
             Ok(()) => Ok(SyncReport { born, faults }),
             Err(stop) => Err(SyncFault::Memory {
-                system: stop.system,
-                command: stop.command,
+                system: stop.at.system,
+                command: stop.at.command,
                 done: stop.done,
                 so_far: SyncReport { born, faults },
             }),

@@ -9,7 +9,8 @@ use Rattle.ent_runner.proofs.crew.recruit.Goals as goal
 pub loop-reserver-preserved : goal.loop-reserver-preserved
 loop-reserver-preserved c =
     let i = c.loop-reserver.invariant in
-    let lists = All-pop IsRoomForOne c.loop-reserver.lists.items c.pop-in-loop-reserver.new.self.items
+    let lists = All-pop IsRoomForOne c.loop-reserver.lists.items
+    c.pop-in-loop-reserver.new.self.items
     (Some c.in-Some-pop-2.issued) c.in-Some-pop-2.ensures.items i.each in
     record {
       all = moved_over (λ (w : Worker). w.reserver) c.loop-reserver.workers.items
@@ -24,7 +25,8 @@ loop-reserver-preserved c =
       room = search rules;
       lists = search rules;
       each = lists.0;
-      fresh = subst (All (λ (w : Worker). IsRoomForOne w.issued)) (sym c.push_reserved.ensures.items)
+      fresh = subst (All (λ (w : Worker). IsRoomForOne w.issued))
+          (sym c.push_reserved.ensures.items)
           (All-push (λ (w : Worker). IsRoomForOne w.issued) c.loop-reserver.workers.items _ i.fresh
           lists.1);
     }

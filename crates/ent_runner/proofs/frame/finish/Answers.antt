@@ -1,15 +1,18 @@
-use Rattle.std.proofs.Common.{◌≡◌, ◌∙◌, ap, sym, subst, arith, List, map, All}
-use Rattle.ent_runner.specs.Placing.{queues_placed}
+use Rattle.std.proofs.Common.{◌≡◌, ◌∙◌, ap, sym, subst, arith, List, All}
+use Rattle.ent_runner.specs.Collecting.{queues_put}
 use Rattle.std.specs.Prelude.{IsSome, flat_map}
-use Rattle.ent_shared.specs.Phase.{IsOf, Reserver, records_of}
+use Rattle.ent_shared.specs.Phase.{IsOf, records_of}
 use Rattle.ent_shared.specs.Order.{history_of, reservations_of, Respects}
 use Rattle.ent_shared.specs.declared.record.Record.{Record}
 use Rattle.ent_alloc.specs.History.{IsLegal}
 use Rattle.ent_claims.specs.Claims.{IsClaimerOf}
 use Rattle.ent_runner.specs.declared.worker.Worker.{Worker}
-use Rattle.ent_runner.specs.Worker.{all_records}
+use Rattle.ent_world.specs.OpenWorld.{world_at_start}
+use Rattle.ent_runner.specs.Frame.{reserved_by}
+use Rattle.ent_runner.specs.Worker.{all_records, HaveRunFirst}
 use Rattle.ent_runner.proofs.Conducting.{reservers_own, claimers_own, once_closed, first_closed}
-use Rattle.ent_runner.proofs.Conducting.{all_full, places_back, records_are, closed_by}
+use Rattle.ent_runner.proofs.Conducting.{all_full, queues_back, records_are, closed_by}
+use Rattle.ent_runner.proofs.frame.finish.Goals.{After-close-world}
 use Rattle.ent_runner.proofs.frame.finish.Goals as goal
 
 pub close-requires-clause-own : goal.close-requires-clause-own
@@ -23,60 +26,46 @@ close-world-requires-clause-own c = subst (All (IsOf c.args.opened.shared))
     c.args.workers.items c.requires.each)
 
 -- the records of the reservers are those of the workers
-records_is : (team : List Worker) (reservers : List Reserver) → reservers
-    ≡ map (λ (w : Worker). w.reserver) team → records_of reservers ≡ all_records team
-records_is team reservers are = ap records_of are ∙ records_are team
+records_is : (c : After-close-world) → records_of c.disband.new.reservers.items
+    ≡ all_records c.args.workers.items
+records_is c = ap records_of c.disband.ensures.reservers ∙ records_are c.args.workers.items
+
+-- so what is known of the history of the reservers is known of that of the workers
+closed : (c : After-close-world) → c.close-world.result
+    ≡ reserved_by (history_of (all_records c.args.workers.items)) (world_at_start c.args.opened)
+closed c =
+    let w = c.close-world.ensures in
+    closed_by c.args.opened c.close-world.result _ _ (records_is c) w.phase w.entities w.after
+
+legal : (c : After-close-world)
+    → IsLegal c.args.opened.shared.start (history_of (all_records c.args.workers.items))
+legal c = subst (λ (rs : List Record). IsLegal c.args.opened.shared.start (history_of rs))
+    (records_is c) c.close-world.ensures.legal
+
+respects : (c : After-close-world) → All (Respects (reservations_of
+    (all_records c.args.workers.items))) (all_records c.args.workers.items)
+respects c = subst (λ (rs : List Record). All (Respects (reservations_of rs)) rs) (records_is c)
+    c.close-world.ensures.respects
+
+first : (c : After-close-world) → HaveRunFirst c.args.claims.numbers c.args.workers.items
+first c = first_closed c.args.opened.shared c.args.claims c.args.workers.items c.requires.each
+    c.disband.new.claimers.items c.disband.ensures.claimers
+    (omega (arith, c.requires.some, c.requires.count)) c.close.ensures.first
 
 pub collect-requires-clause-full : goal.collect-requires-clause-full
 collect-requires-clause-full c =
     let d = c.disband.ensures in
-    let start = c.args.returned.places in
+    let start = c.args.returned.by_system in
     subst (All IsSome)
-    (sym (places_back c.args.claims.numbers start.len (flat_map (λ (w : Worker). w.issued.items)
-    c.args.workers.items) start.items c.disband.new.places c.requires.room.places_empty
-    start.ok.0 (d.places
-    ∙ ap (queues_placed (flat_map (λ (w : Worker). w.issued.items) c.args.workers.items))
+    (sym (queues_back c.args.claims.numbers start.len (flat_map (λ (w : Worker). w.issued.items)
+    c.args.workers.items) start.items c.disband.new.by_system c.requires.room.by_system_empty
+    start.ok.0 (d.by_system
+    ∙ ap (queues_put (flat_map (λ (w : Worker). w.issued.items) c.args.workers.items))
     c.deref_mut.ensures.value)))
     (all_full c.args.claims c.args.workers.items (once_closed c.args.opened.shared c.args.claims
     c.args.workers.items c.requires.each c.deref.result.now c.deref.ensures.value
     (c.some_stopped-stopped.ensures c.if-stopped.false) c.disband.new.claimers.items
     c.disband.ensures.claimers c.close.ensures.once))
-
-pub returns-then-stopped-clause-world : goal.returns-then-stopped-clause-world
-returns-then-stopped-clause-world c =
-    let w = c.close-world.ensures in
-    closed_by c.args.opened c.close-world.result _ _
-    (records_is c.args.workers.items c.disband.new.reservers.items c.disband.ensures.reservers)
-    w.phase w.entities w.after
-
-pub returns-then-stopped-clause-legal : goal.returns-then-stopped-clause-legal
-returns-then-stopped-clause-legal c =
-    subst (λ (rs : List Record). IsLegal c.args.opened.shared.start (history_of rs))
-    (records_is c.args.workers.items c.disband.new.reservers.items c.disband.ensures.reservers)
-    c.close-world.ensures.legal
-
-pub returns-then-stopped-clause-respects : goal.returns-then-stopped-clause-respects
-returns-then-stopped-clause-respects c =
-    subst (λ (rs : List Record). All (Respects (reservations_of rs)) rs)
-    (records_is c.args.workers.items c.disband.new.reservers.items c.disband.ensures.reservers)
-    c.close-world.ensures.respects
-
-pub returns-clause-world : goal.returns-clause-world
-returns-clause-world c =
-    let w = c.close-world.ensures in
-    closed_by c.args.opened c.close-world.result _ _
-    (records_is c.args.workers.items c.disband.new.reservers.items c.disband.ensures.reservers)
-    w.phase w.entities w.after
-
-pub returns-clause-legal : goal.returns-clause-legal
-returns-clause-legal c = subst (λ (rs : List Record). IsLegal c.args.opened.shared.start
-    (history_of rs)) (records_is c.args.workers.items c.disband.new.reservers.items
-    c.disband.ensures.reservers) c.close-world.ensures.legal
-
-pub returns-clause-respects : goal.returns-clause-respects
-returns-clause-respects c = subst (λ (rs : List Record). All (Respects (reservations_of rs)) rs)
-    (records_is c.args.workers.items c.disband.new.reservers.items c.disband.ensures.reservers)
-    c.close-world.ensures.respects
 
 pub returns-clause-once : goal.returns-clause-once
 returns-clause-once c = once_closed c.args.opened.shared c.args.claims c.args.workers.items
@@ -86,19 +75,37 @@ returns-clause-once c = once_closed c.args.opened.shared c.args.claims c.args.wo
 
 pub returns-clause-queues : goal.returns-clause-queues
 returns-clause-queues c =
-    let start = c.args.returned.places in
-    c.collect.ensures ∙ places_back c.args.claims.numbers start.len
+    let start = c.args.returned.by_system in
+    c.collect.ensures ∙ queues_back c.args.claims.numbers start.len
     (flat_map (λ (w : Worker). w.issued.items) c.args.workers.items) start.items
-    c.disband.new.places c.requires.room.places_empty start.ok.0 (c.disband.ensures.places
-    ∙ ap (queues_placed (flat_map (λ (w : Worker). w.issued.items) c.args.workers.items))
+    c.disband.new.by_system c.requires.room.by_system_empty start.ok.0 (c.disband.ensures.by_system
+    ∙ ap (queues_put (flat_map (λ (w : Worker). w.issued.items) c.args.workers.items))
     c.deref_mut.ensures.value)
 
+pub returns-then-stopped-clause-world : goal.returns-then-stopped-clause-world
+returns-then-stopped-clause-world c =
+    closed (goal.at.returns-then-stopped-clause-world c).After-close-world
+
+pub returns-then-stopped-clause-legal : goal.returns-then-stopped-clause-legal
+returns-then-stopped-clause-legal c =
+    legal (goal.at.returns-then-stopped-clause-legal c).After-close-world
+
+pub returns-then-stopped-clause-respects : goal.returns-then-stopped-clause-respects
+returns-then-stopped-clause-respects c = respects (goal.at.returns-then-stopped-clause-respects
+    c).After-close-world
+
 pub returns-then-stopped-clause-first : goal.returns-then-stopped-clause-first
-returns-then-stopped-clause-first c = first_closed c.args.opened.shared c.args.claims
-    c.args.workers.items c.requires.each c.disband.new.claimers.items c.disband.ensures.claimers
-    (omega (arith, c.requires.some, c.requires.count)) c.close.ensures.first
+returns-then-stopped-clause-first c =
+    first (goal.at.returns-then-stopped-clause-first c).After-close-world
+
+pub returns-clause-world : goal.returns-clause-world
+returns-clause-world c = closed (goal.at.returns-clause-world c).After-close-world
+
+pub returns-clause-legal : goal.returns-clause-legal
+returns-clause-legal c = legal (goal.at.returns-clause-legal c).After-close-world
+
+pub returns-clause-respects : goal.returns-clause-respects
+returns-clause-respects c = respects (goal.at.returns-clause-respects c).After-close-world
 
 pub returns-clause-first : goal.returns-clause-first
-returns-clause-first c = first_closed c.args.opened.shared c.args.claims c.args.workers.items
-    c.requires.each c.disband.new.claimers.items c.disband.ensures.claimers
-    (omega (arith, c.requires.some, c.requires.count)) c.close.ensures.first
+returns-clause-first c = first (goal.at.returns-clause-first c).After-close-world

@@ -2,7 +2,7 @@ use Rattle.std.proofs.Common.{◌≡◌, sym, ap, ◌∙◌, is_some}
 use Rattle.std.specs.FinMap as map
 use Rattle.ent_storage.specs.EntityMap.{newborn, with_components}
 use Rattle.ent_storage.specs.Components.{with_items}
-use Rattle.ent_world.proofs.Answers.{taken_out}
+use Rattle.ent_world.proofs.TakenOut.{taken_out}
 use Rattle.ent_world.proofs.Making.{on_ok, on_err, get_inserted, made_whole, taken_back}
 use Rattle.ent_world.proofs.spawning.make.Goals as goal
 

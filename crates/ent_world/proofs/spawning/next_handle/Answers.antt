@@ -1,69 +1,58 @@
 use Rattle.std.proofs.Common.{◌≡◌, refl, sym, ap, ◌∙◌, arith, pos, ◌-ℤ◌}
 use Rattle.std.proofs.lemmas.Int.{ints}
-use Rattle.ent_alloc.specs.Sequential.{cursor}
+use Rattle.ent_alloc.specs.Sequential.{cursor, reply_to}
 use Rattle.ent_world.proofs.Making.{one_given, some_given, given_new, none_given, pool_some}
 use Rattle.ent_world.proofs.Making.{reply_at_top}
+use Rattle.ent_world.proofs.spawning.next_handle.Goals.{After-reply}
 use Rattle.ent_world.proofs.spawning.next_handle.Goals as goal
+
+-- it is the reply to a request for one
+replied : (c : After-reply) → c.reply.result ≡ reply_to c.args.entities.now 1
+replied c =
+    let s = c.args.entities.now in
+    let span = c.new.result in
+    let high = ap (λ p. p.high) c.new.ensures.value in
+    let low = ap (λ p. p.low) c.new.ensures.value in
+    let at : span.high ≡ cursor s =
+    omega (arith, ints, high, c.cursor.ensures.value, c.if-cursor-top.false) in
+    let one : span.low ≡ span.high -ℤ pos 1 = omega (arith, ints, high, low) in
+    reply_at_top s span c.reply.result c.cursor.ensures.sound at one c.reply.ensures
 
 pub returns-in_default-clause-space : goal.returns-in_default-clause-space
 returns-in_default-clause-space c =
     let s = c.args.entities.now in
-    let span = c.new.result in
-    let high = ap (λ p. p.high) c.new.ensures.value in
-    let low = ap (λ p. p.low) c.new.ensures.value in
-    let at : span.high ≡ cursor s =
-    omega (arith, ints, high, c.cursor.ensures.value, c.if-cursor-top.false) in
-    let one : span.low ≡ span.high -ℤ pos 1 = omega (arith, ints, high, low) in
-    let reply = reply_at_top s span c.reply.result c.cursor.ensures.sound at one c.reply.ensures in
-    let none : s.asked ≡ 0 = omega (arith, ints, high, c.top.ensures, c.from-top.ensures, at) in
+    let reply = replied (goal.at.returns-in_default-clause-space c).After-reply in
+    let none : s.asked ≡ 0 =
+    omega (
+      arith,
+      ints,
+      c.top.ensures,
+      c.from-top.ensures,
+      c.cursor.ensures.value,
+      c.if-cursor-top.false,
+    ) in
     (λ _. (none, none_given s c.in_default.field-0 (sym reply ∙ c.in_default.is)), λ _. refl)
 
 pub unreachable-requires : goal.unreachable-requires
 unreachable-requires c =
-    let s = c.args.entities.now in
-    let span = c.new.result in
-    let high = ap (λ p. p.high) c.new.ensures.value in
-    let low = ap (λ p. p.low) c.new.ensures.value in
-    let at : span.high ≡ cursor s =
-    omega (arith, ints, high, c.cursor.ensures.value, c.if-cursor-top.false) in
-    let one : span.low ≡ span.high -ℤ pos 1 = omega (arith, ints, high, low) in
-    let reply = reply_at_top s span c.reply.result c.cursor.ensures.sound at one c.reply.ensures in
-    some_given s c.in-Ok.given (sym reply ∙ c.in-Ok.is) (c.in_default-next.ensures.steps).0
+    let reply = replied (goal.at.unreachable-requires c).After-reply in
+    some_given c.args.entities.now c.in-Ok.given (sym reply ∙ c.in-Ok.is)
+    (c.in_default-next.ensures.steps).0
 
 pub returns-clause-front : goal.returns-clause-front
 returns-clause-front c =
-    let s = c.args.entities.now in
-    let span = c.new.result in
-    let high = ap (λ p. p.high) c.new.ensures.value in
-    let low = ap (λ p. p.low) c.new.ensures.value in
-    let at : span.high ≡ cursor s =
-    omega (arith, ints, high, c.cursor.ensures.value, c.if-cursor-top.false) in
-    let one : span.low ≡ span.high -ℤ pos 1 = omega (arith, ints, high, low) in
-    let reply = reply_at_top s span c.reply.result c.cursor.ensures.sound at one c.reply.ensures in
-    one_given s c.in-Ok.given c.next.new.self c.in-Some.handle (sym reply ∙ c.in-Ok.is)
-    c.in-Some.ensures.steps
+    let reply = replied (goal.at.returns-clause-front c).After-reply in
+    one_given c.args.entities.now c.in-Ok.given c.next.new.self c.in-Some.handle
+    (sym reply ∙ c.in-Ok.is) c.in-Some.ensures.steps
 
 pub returns-clause-new : goal.returns-clause-new
 returns-clause-new c =
-    let s = c.args.entities.now in
-    let span = c.new.result in
-    let high = ap (λ p. p.high) c.new.ensures.value in
-    let low = ap (λ p. p.low) c.new.ensures.value in
-    let at : span.high ≡ cursor s =
-    omega (arith, ints, high, c.cursor.ensures.value, c.if-cursor-top.false) in
-    let one : span.low ≡ span.high -ℤ pos 1 = omega (arith, ints, high, low) in
-    let reply = reply_at_top s span c.reply.result c.cursor.ensures.sound at one c.reply.ensures in
-    given_new s c.in-Ok.given c.next.new.self c.in-Some.handle c.cursor.ensures.sound (sym reply
-    ∙ c.in-Ok.is) c.in-Some.ensures.steps
+    let reply = replied (goal.at.returns-clause-new c).After-reply in
+    given_new c.args.entities.now c.in-Ok.given c.next.new.self c.in-Some.handle
+    c.cursor.ensures.sound (sym reply ∙ c.in-Ok.is) c.in-Some.ensures.steps
 
 pub returns-clause-space : goal.returns-clause-space
 returns-clause-space c =
     let s = c.args.entities.now in
-    let span = c.new.result in
-    let high = ap (λ p. p.high) c.new.ensures.value in
-    let low = ap (λ p. p.low) c.new.ensures.value in
-    let at : span.high ≡ cursor s =
-    omega (arith, ints, high, c.cursor.ensures.value, c.if-cursor-top.false) in
-    let one : span.low ≡ span.high -ℤ pos 1 = omega (arith, ints, high, low) in
-    let reply = reply_at_top s span c.reply.result c.cursor.ensures.sound at one c.reply.ensures in
+    let reply = replied (goal.at.returns-clause-space c).After-reply in
     (λ e. cc, λ (flushed, none). absurd (pool_some s c.in-Ok.given (sym reply ∙ c.in-Ok.is) none))

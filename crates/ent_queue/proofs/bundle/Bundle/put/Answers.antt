@@ -7,7 +7,7 @@ use Rattle.std.proofs.lemmas.Int.{to_z-of_z}
 use Rattle.std.specs.FinMap.{put, find}
 use Rattle.ent_handle.specs.Component.{component_cmp}
 use Rattle.ent_queue.specs.Command.{IsBundle}
-use Rattle.ent_queue.specs.Place.{AreRising, IsPlaceOf, IsGapFor}
+use Rattle.ent_queue.specs.Search.{AreRising, IsIndexOf, IsGapFor}
 use Rattle.std.proofs.lemmas.Bool.{cases_lt, false≢true}
 use Rattle.ent_queue.proofs.Results.{OnErr-always}
 use Rattle.ent_queue.proofs.Rising.{are_rising, put_between, put_over, find_between, bundle_put}
@@ -16,29 +16,29 @@ use Rattle.ent_queue.proofs.bundle.Bundle.put.Goals as goal
 
 -- what is written over
 over : (c : goal.After-self-1) → refill (length c.self.inside.items.items) c.self.inside.items.items
-    (set c.deref_mut.result.now c.in-Ok.place (
-      (get_or c.deref_mut.result.now c.in-Ok.place (record { 0 = 0 }, pos 0)).0,
+    (set c.deref_mut.result.now c.in-Ok.index (
+      (get_or c.deref_mut.result.now c.in-Ok.index (record { 0 = 0 }, pos 0)).0,
       cast_signed w64
           (cast_unsigned w64 c.args.value),
     )) ≡ put component_cmp c.args.id c.args.value
     c.self.inside.items.items
 over c =
     let es = c.self.inside.items.items in
-    let place = c.in-Ok.place in
-    let at = subst (λ xs. IsPlaceOf xs c.args.id.0 place) c.as_slice.ensures c.in-Ok.ensures.found
+    let index = c.in-Ok.index in
+    let at = subst (λ xs. IsIndexOf xs c.args.id.0 index) c.as_slice.ensures c.in-Ok.ensures.found
     in
-    let written = set es place ((get_or es place (record { 0 = 0 }, pos 0)).0, c.args.value) in
+    let written = set es index ((get_or es index (record { 0 = 0 }, pos 0)).0, c.args.value) in
     ap (λ xs. refill (length es) es
-    (set xs place (
-      (get_or xs place (record { 0 = 0 }, pos 0)).0,
+    (set xs index (
+      (get_or xs index (record { 0 = 0 }, pos 0)).0,
       cast_signed w64
           (cast_unsigned w64 c.args.value),
     ))) c.deref_mut.ensures.value
     ∙ ap (λ z. refill (length es) es
-    (set es place ((get_or es place (record { 0 = 0 }, pos 0)).0, z)))
+    (set es index ((get_or es index (record { 0 = 0 }, pos 0)).0, z)))
     (to_z-of_z w64 c.args.value c.ranges.value)
-    ∙ refill_whole es written (length-set es place _)
-    ∙ sym (put_over c.args.id c.args.value es place at.within at.lower at.here
+    ∙ refill_whole es written (length-set es index _)
+    ∙ sym (put_over c.args.id c.args.value es index at.within at.lower at.here
     (record { 0 = 0 }, pos 0))
 
 pub invariant_of-self : goal.invariant_of-self
@@ -56,11 +56,11 @@ added : (c : goal.In_ok-insert-in-Err) → c.insert.new.self.items ≡ put compo
     c.args.value c.self.inside.items.items
 added c =
     let es = c.self.inside.items.items in
-    let at = subst (λ xs. IsGapFor xs c.args.id.0 c.in-Err.place) c.as_slice.ensures
+    let at = subst (λ xs. IsGapFor xs c.args.id.0 c.in-Err.index) c.as_slice.ensures
     c.in-Err.ensures.absent in
-    c.in_ok-insert-in-Err.ensures.ok ∙ ap (λ z. insert es c.in-Err.place (c.args.id, z))
+    c.in_ok-insert-in-Err.ensures.ok ∙ ap (λ z. insert es c.in-Err.index (c.args.id, z))
     (to_z-of_z w64 c.args.value c.ranges.value)
-    ∙ sym (put_between c.args.id c.args.value es c.in-Err.place at.within at.lower at.greater)
+    ∙ sym (put_between c.args.id c.args.value es c.in-Err.index at.within at.lower at.greater)
 
 pub invariant_of-self-in-Continue-1 : goal.invariant_of-self-in-Continue-1
 invariant_of-self-in-Continue-1 c = (
@@ -77,9 +77,9 @@ returns-in_ok-insert-in-Err-clause-ok c = added c ∙ ap (put component_cmp c.ar
 pub returns-in_err-insert-in-Err-clause-memory : goal.returns-in_err-insert-in-Err-clause-memory
 returns-in_err-insert-in-Err-clause-memory c =
     let es = c.self.inside.items.items in
-    let at = subst (λ xs. IsGapFor xs c.args.id.0 c.in-Err.place) c.as_slice.ensures
+    let at = subst (λ xs. IsGapFor xs c.args.id.0 c.in-Err.index) c.as_slice.ensures
     c.in-Err.ensures.absent in
-    let none = find_between c.args.id c.args.value es c.in-Err.place c.self.invariant.0.rising
+    let none = find_between c.args.id c.args.value es c.in-Err.index c.self.invariant.0.rising
     at.within at.lower at.greater in
     let full : 4 ≤ length es =
     elim (cases_lt c.self.inside.items.capacity (length es + 1)) [
@@ -90,6 +90,6 @@ returns-in_err-insert-in-Err-clause-memory c =
     (subst (λ xs. (4 ≤ length xs) × (find component_cmp c.args.id xs ≡ None)) c.self.view_is
     (full, none))
 
-pub place_of-requires : goal.place_of-requires
-place_of-requires c = subst AreRising (sym c.as_slice.ensures) (are_rising c.self.inside.items.items
+pub index_of-requires : goal.index_of-requires
+index_of-requires c = subst AreRising (sym c.as_slice.ensures) (are_rising c.self.inside.items.items
     c.self.invariant.0.rising)

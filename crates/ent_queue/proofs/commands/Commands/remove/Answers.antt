@@ -1,20 +1,12 @@
 use Rattle.std.proofs.Common.{refl}
 use Rattle.ent_queue.specs.Command.{Remove}
 use Rattle.ent_queue.specs.Commands.{queue_of, reserver_of}
-use Rattle.ent_queue.proofs.Issuing.{added_none}
+use Rattle.ent_queue.proofs.Issuing.{extends_added, added_none}
 use Rattle.ent_queue.proofs.commands.Commands.remove.Goals as goal
 
 pub returns-clause-extends : goal.returns-clause-extends
 returns-clause-extends c =
-    let a = added_none (reserver_of c.args.self.now).own (Remove c.args.handle c.args.id)
+    extends_added c.args.self.now _ refl refl c.requires
+    (added_none (reserver_of c.args.self.now).own (Remove c.args.handle c.args.id)
     c.remove.result (queue_of c.args.self.now) c.remove.new.self refl tt c.remove.ensures.ok
-    c.remove.ensures.err in
-    record {
-      same = refl;
-      shared = refl;
-      ready = c.requires;
-      added = a.added;
-      queue =
-          a.queue;
-      gains = a.gains;
-    }
+    c.remove.ensures.err)

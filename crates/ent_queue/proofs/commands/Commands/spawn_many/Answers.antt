@@ -1,20 +1,12 @@
 use Rattle.std.proofs.Common.{refl}
 use Rattle.ent_queue.specs.Commands.{queue_of, reserver_of, shared_of}
-use Rattle.ent_queue.proofs.Issuing.{added_many}
+use Rattle.ent_queue.proofs.Issuing.{extends_added, added_many}
 use Rattle.ent_queue.proofs.commands.Commands.spawn_many.Goals as goal
 
 pub returns-clause-extends : goal.returns-clause-extends
 returns-clause-extends c =
-    let a = added_many (shared_of c.args.self.now) (reserver_of c.args.self.now)
+    extends_added c.args.self.now _ refl refl c.spawn_many.ensures.stays
+    (added_many (shared_of c.args.self.now) (reserver_of c.args.self.now)
     c.spawn_many.new.reserver (queue_of c.args.self.now) c.spawn_many.new.self c.args.n
     c.items.result.now c.spawn_many.result c.spawn_many.ensures.ok c.spawn_many.ensures.refused
-    c.spawn_many.ensures.memory c.spawn_many.ensures.replies c.spawn_many.ensures.length in
-    record {
-      same = refl;
-      shared = refl;
-      ready = c.spawn_many.ensures.stays;
-      added =
-          a.added;
-      queue = a.queue;
-      gains = a.gains;
-    }
+    c.spawn_many.ensures.memory c.spawn_many.ensures.replies c.spawn_many.ensures.length)

@@ -1,13 +1,14 @@
-use Rattle.std.proofs.Common.{◌≡◌, ◌+◌, ◌++◌, ◌∷◌, [], Ok, Err, ap, sym, subst, ◌∙◌, arith, length}
+use Rattle.std.proofs.Common.{◌≡◌, ◌++◌, ◌∷◌, [], Ok, Err, ap, sym, subst, ◌∙◌, arith, length}
 use Rattle.std.proofs.Common.{◌<◌, ◌^◌}
 use Rattle.std.proofs.Math.Facts.{Fits-of_lt}
 use Rattle.ent_queue.specs.Command.{SpawnMany, Refused}
 use Rattle.ent_queue.specs.Packing.{command_bytes, bundle_bytes}
-use Rattle.ent_queue.specs.Unpacking.{ArePacked, unpacked_commands}
 use Rattle.ent_queue.specs.Reserving.{refused_by, IsReply}
-use Rattle.ent_queue.proofs.Pushes.{pushed, count_le_bytes, many_written}
+use Rattle.ent_queue.proofs.Pushes.{Pushed, pushed, count_le_bytes, many_written}
 use Rattle.ent_queue.proofs.Issuing.{queued_ok}
 use Rattle.ent_queue.proofs.Gaining.{is_refusal, refused_by_fault}
+use Rattle.ent_queue.proofs.queue.CommandQueue.spawn_many.Goals.{After-write_bundle}
+use Rattle.ent_queue.proofs.queue.CommandQueue.spawn_many.Goals.{After-write_refused}
 use Rattle.ent_queue.proofs.queue.CommandQueue.spawn_many.Goals as goal
 
 pub overflow_add-self : goal.overflow_add-self
@@ -20,43 +21,38 @@ overflow_add-self-in-Err c =
     let few = count_le_bytes c.self.inside.count c.self.inside.bytes.items c.self.invariant in
     Fits-of_lt (omega (arith, few, c.self.inside.bytes.ok.0, c.self.inside.bytes.small))
 
-pub invariant_of-self-in-Ok : goal.invariant_of-self-in-Ok
-invariant_of-self-in-Ok c =
+-- the bytes after the spawn
+served : (c : After-write_bundle) → Pushed c.self.inside.count c.self.inside.bytes.items
+    c.write_bundle.new.bytes.items (SpawnMany c.in-Ok.given c.args.items.now)
+served c =
     let hs = c.in-Ok.given in
     let command = SpawnMany hs c.args.items.now in
-    let written = c.write_bundle.ensures.items
-    ∙ ap (λ bytes. bytes ++ bundle_bytes c.args.items.now) c.write_many.ensures.items
-    ∙ many_written c.reserve.new.self.items hs c.args.items.now c.args.n c.in-Ok.ensures.length
-    ∙ ap (λ bytes. bytes ++ command_bytes command) c.in_ok-reserve.ensures.items in
     let few : length hs < 2 ^ 32 = subst (λ k. k < 2 ^ 32) (sym c.in-Ok.ensures.length)
     c.write_many.ensures.number in
-    let after = pushed c.self.inside.count c.self.inside.bytes.items command c.self.invariant
-    (few, c.write_many.ensures.each, c.requires.is) in
-    subst (ArePacked (c.self.inside.count + 1)) (sym written) after.packed
+    pushed c.self.inside.count c.self.inside.bytes.items c.write_bundle.new.bytes.items command
+    c.self.invariant (few, c.write_many.ensures.each, c.requires.is)
+    (c.write_bundle.ensures.items
+    ∙ ap (λ bytes. bytes ++ bundle_bytes c.args.items.now) c.write_many.ensures.items
+    ∙ many_written c.reserve.new.self.items hs c.args.items.now c.args.n c.in-Ok.ensures.length
+    ∙ ap (λ bytes. bytes ++ command_bytes command) c.in_ok-reserve.ensures.items)
+
+pub invariant_of-self-in-Ok : goal.invariant_of-self-in-Ok
+invariant_of-self-in-Ok c = (served (goal.at.invariant_of-self-in-Ok c).After-write_bundle).packed
 
 pub returns-in-Ok-clause-ok : goal.returns-in-Ok-clause-ok
 returns-in-Ok-clause-ok c =
     let hs = c.in-Ok.given in
-    let command = SpawnMany hs c.args.items.now in
-    let written = c.write_bundle.ensures.items
-    ∙ ap (λ bytes. bytes ++ bundle_bytes c.args.items.now) c.write_many.ensures.items
-    ∙ many_written c.reserve.new.self.items hs c.args.items.now c.args.n c.in-Ok.ensures.length
-    ∙ ap (λ bytes. bytes ++ command_bytes command) c.in_ok-reserve.ensures.items in
-    let few : length hs < 2 ^ 32 = subst (λ k. k < 2 ^ 32) (sym c.in-Ok.ensures.length)
-    c.write_many.ensures.number in
-    let after = pushed c.self.inside.count c.self.inside.bytes.items command c.self.invariant
-    (few, c.write_many.ensures.each, c.requires.is) in
-    ap (unpacked_commands (c.self.inside.count + 1)) written ∙ after.commands
-    ∙ ap (λ commands. commands ++ command ∷ []) c.self.view_is
+    (served (goal.at.returns-in-Ok-clause-ok c).After-write_bundle).commands
+    ∙ ap (λ commands. commands ++ SpawnMany hs c.args.items.now ∷ []) c.self.view_is
     ∙ ap (λ gs. c.args.self.now ++ SpawnMany gs c.args.items.now ∷ [])
     (sym (c.write_many.ensures.handles ∙ ap (λ gs. gs ++ hs) c.in_ok-handles.ensures.items))
 
-pub invariant_of-self-in-Err-1 : goal.invariant_of-self-in-Err-1
-invariant_of-self-in-Err-1 c =
+-- and after a refusal
+refused : (c : After-write_refused) → Pushed c.self.inside.count c.self.inside.bytes.items
+    c.write_refused.new.bytes.items (Refused c.args.n c.in-Err.why)
+refused c =
     let command = Refused c.args.n c.in-Err.why in
-    let written = c.write_refused.ensures.items ∙ ap (λ bytes. bytes ++ command_bytes command)
-    c.in_ok-reserve.ensures.items in
-    let answers : IsReply c.args.shared.now c.args.reserver.now c.reserve_many.new.reserver c.args.n
+    let replied : IsReply c.args.shared.now c.args.reserver.now c.reserve_many.new.reserver c.args.n
     (Err c.in-Err.why) = record {
       quota = c.in-Err.ensures.quota;
       nothing =
@@ -64,36 +60,27 @@ invariant_of-self-in-Err-1 c =
       gains = c.in-Err.ensures.gains;
     } in
     let is = is_refusal c.args.shared.now c.args.reserver.now c.reserve_many.new.reserver c.args.n
-    c.in-Err.why answers c.write_refused.ensures.why in
-    let after = pushed c.self.inside.count c.self.inside.bytes.items command c.self.invariant
-    (c.write_refused.ensures.wanted, is) in
-    subst (ArePacked (c.self.inside.count + 1)) (sym written) after.packed
+    c.in-Err.why replied c.write_refused.ensures.why in
+    pushed c.self.inside.count c.self.inside.bytes.items c.write_refused.new.bytes.items command
+    c.self.invariant (c.write_refused.ensures.wanted, is)
+    (c.write_refused.ensures.items ∙ ap (λ bytes. bytes ++ command_bytes command)
+    c.in_ok-reserve.ensures.items)
+
+pub invariant_of-self-in-Err-1 : goal.invariant_of-self-in-Err-1
+invariant_of-self-in-Err-1 c =
+    (refused (goal.at.invariant_of-self-in-Err-1 c).After-write_refused).packed
 
 pub returns-in-Err-clause-refused : goal.returns-in-Err-clause-refused
 returns-in-Err-clause-refused c =
-    let command = Refused c.args.n c.in-Err.why in
-    let written = c.write_refused.ensures.items ∙ ap (λ bytes. bytes ++ command_bytes command)
-    c.in_ok-reserve.ensures.items in
-    let answers : IsReply c.args.shared.now c.args.reserver.now c.reserve_many.new.reserver c.args.n
-    (Err c.in-Err.why) = record {
-      quota = c.in-Err.ensures.quota;
-      nothing =
-          c.in-Err.ensures.nothing;
-      gains = c.in-Err.ensures.gains;
-    } in
-    let is = is_refusal c.args.shared.now c.args.reserver.now c.reserve_many.new.reserver c.args.n
-    c.in-Err.why answers c.write_refused.ensures.why in
-    let after = pushed c.self.inside.count c.self.inside.bytes.items command c.self.invariant
-    (c.write_refused.ensures.wanted, is) in
-    ap (unpacked_commands (c.self.inside.count + 1)) written ∙ after.commands
-    ∙ ap (λ commands. commands ++ command ∷ []) c.self.view_is
+    (refused (goal.at.returns-in-Err-clause-refused c).After-write_refused).commands
+    ∙ ap (λ commands. commands ++ Refused c.args.n c.in-Err.why ∷ []) c.self.view_is
     ∙ ap (λ more. c.args.self.now ++ more) (sym (ap (refused_by c.args.n) c.from.ensures
     ∙ refused_by_fault c.args.n c.in-Err.why))
 
 pub returns-in-Ok-clause-replies : goal.returns-in-Ok-clause-replies
-returns-in-Ok-clause-replies c answer e =
+returns-in-Ok-clause-replies c reply e =
     let hs = c.in-Ok.given in
-    let listed : Ok hs ≡ answer = queued_ok answer hs
+    let listed : Ok hs ≡ reply = queued_ok reply hs
     (ap Ok (sym (c.write_many.ensures.handles
     ∙ ap (λ gs. gs ++ hs) c.in_ok-handles.ensures.items)) ∙ e) in
     let given : IsReply c.args.shared.now c.args.reserver.now c.reserve_many.new.reserver c.args.n

@@ -1,11 +1,17 @@
 use Rattle.ent_shared.specs.Phase.{records_of}
 use Rattle.ent_shared.specs.Order.{history_of}
-use Rattle.ent_world.specs.World.{World}
+use Rattle.ent_world.specs.World.{World, IsWorld}
 use Rattle.ent_world.proofs.Worlds.{after_history-world}
+use Rattle.ent_world.proofs.open_world.OpenWorld.close.Goals.{After-close}
 use Rattle.ent_world.proofs.open_world.OpenWorld.close.Goals as goal
 
-pub invariant_of-result : goal.invariant_of-result
-invariant_of-result c =
+-- the world that was opened, after the history of the phase
+closed : (c : After-close) → IsWorld (record {
+  allocator = c.close.result;
+  phase = c.self.inside.phase;
+  entities = c.self.inside.storage.entities;
+})
+closed c =
     let w : World = record {
       allocator = c.self.inside.shared.start;
       phase = c.self.inside.phase;
@@ -14,12 +20,8 @@ invariant_of-result c =
     rw c.close.ensures.after (after_history-world (history_of (records_of c.args.reservers.items)) w
     c.self.invariant.world)
 
+pub invariant_of-result : goal.invariant_of-result
+invariant_of-result c = closed (goal.at.invariant_of-result c).After-close
+
 pub returns-clause-world : goal.returns-clause-world
-returns-clause-world c =
-    let w : World = record {
-      allocator = c.self.inside.shared.start;
-      phase = c.self.inside.phase;
-      entities = c.self.inside.storage.entities;
-    } in
-    rw c.close.ensures.after (after_history-world (history_of (records_of c.args.reservers.items)) w
-    c.self.invariant.world)
+returns-clause-world c = closed (goal.at.returns-clause-world c).After-close

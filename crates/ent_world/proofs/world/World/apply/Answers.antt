@@ -6,18 +6,19 @@ use Rattle.ent_world.proofs.Worlds.{commands-world}
 use Rattle.ent_world.proofs.world.World.apply.Goals as goal
 
 -- commands of a world that was flushed leave one
-pub returns-in-Ok-apply_queues-clause-world : goal.returns-in-Ok-apply_queues-clause-world
-returns-in-Ok-apply_queues-clause-world c =
-    commands-world c.args.queues.now (applied c.bring_to_life.new.self c.new-faults.result.items)
-    (applied c.apply_queues.new.self c.apply_queues.new.faults.items)
-    c.in-Ok-apply_queues.ensures.ok c.in-Ok.ensures.world (ap (λ (w : World). w.allocator.asked)
+pub returns-in-Ok-applied-clause-world : goal.returns-in-Ok-applied-clause-world
+returns-in-Ok-applied-clause-world c =
+    commands-world c.args.queues.now
+    (applied c.bring_to_life.new.self c.new-applying.result.faults.items)
+    (applied c.apply_queues-applied.new.self c.apply_queues-applied.new.applying.faults.items)
+    c.in-Ok-applied.ensures.ok c.in-Ok.ensures.world (ap (λ (w : World). w.allocator.asked)
     c.in-Ok.ensures.ok)
 
 pub returns-clause-world : goal.returns-clause-world
 returns-clause-world c =
     let stop = c.in-Err.stop in
-    commands-world (cut stop.system stop.command stop.done c.args.queues.now)
-    (applied c.bring_to_life.new.self c.new-faults.result.items)
-    (applied c.apply_queues.new.self c.apply_queues.new.faults.items)
+    commands-world (cut stop.at.system stop.at.command stop.done c.args.queues.now)
+    (applied c.bring_to_life.new.self c.new-applying.result.faults.items)
+    (applied c.apply_queues-applied.new.self c.apply_queues-applied.new.applying.faults.items)
     c.in-Err.ensures.err c.in-Ok.ensures.world (ap (λ (w : World). w.allocator.asked)
     c.in-Ok.ensures.ok)

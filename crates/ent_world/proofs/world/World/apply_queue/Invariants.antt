@@ -7,6 +7,7 @@ abbrev pub invariant-loop-command : goal.invariant-loop-command
 invariant-loop-command l = record {
   flushed : l.self.allocator.asked ≡ 0;
   left : l.entries ≡ drop l.command l.queue;
-  so_far : applied l.self l.faults.items ≡ after_commands l.system 0 (take l.command l.queue)
-      (applied l.fn.self l.fn.faults.items);
+  so_far : applied l.self l.applying.faults.items
+      ≡ after_commands l.system 0 (take l.command l.queue)
+      (applied l.fn.self l.fn.applying.faults.items);
 }

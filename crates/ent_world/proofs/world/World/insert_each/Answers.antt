@@ -1,4 +1,4 @@
-use Rattle.std.proofs.Common.{◌≡◌, ◌<◌, [], true, sym, ap, ◌∙◌, length, arith}
+use Rattle.std.proofs.Common.{◌≡◌, ◌<◌, true, sym, ap, ◌∙◌, length, arith}
 use Rattle.ent_world.specs.Command.{applied, on_entity, after_insert}
 use Rattle.ent_world.specs.Memory.{insert_takes_memory}
 use Rattle.ent_world.proofs.Making.{on_ok, on_err}
@@ -16,29 +16,29 @@ unreachable-requires c =
 pub loop-done-preserved : goal.loop-done-preserved
 loop-done-preserved c =
     let left = sym c.loop-done.invariant.left ∙ c.in-Some.ensures.steps in
-    let before = applied c.loop-done.self c.loop-done.faults.items in
-    let read = on_ok c.read_bundle.result (sym c.is_err.ensures.value ∙ c.if-is_err.false)
-    c.read_bundle.ensures.ok in
+    let at = c.args.at in
+    let before = applied c.loop-done.self c.loop-done.applying.faults.items in
     let one = on_ok c.insert_items.result (sym c.is_err-in-loop-done.ensures.value
     ∙ c.if-is_err-2.false) c.insert_items.ensures.ok in
     record {
       flushed = c.insert_items.ensures.flushed;
+      items = c.insert_items.ensures.items ∙ c.loop-done.invariant.items;
       left = next_left c.args.handles c.next.new.self c.loop-done.done c.in-Some.handle left;
       so_far = one
-          ∙ ap (λ items. on_entity c.args.system c.args.command (after_insert items)
-          c.in-Some.handle before) (c.deref.ensures.value ∙ read)
-          ∙ ap (on_entity c.args.system c.args.command (after_insert c.args.bundle)
-          c.in-Some.handle) c.loop-done.invariant.so_far
-          ∙ sym (on_each-next c.args.system c.args.command (after_insert c.args.bundle)
-          c.args.handles c.next.new.self c.loop-done.done c.in-Some.handle
-          (applied c.args.self.now c.args.faults.now.items) left);
+          ∙ ap (λ items. on_entity at.system at.command (after_insert items) c.in-Some.handle
+          before) c.loop-done.invariant.items
+          ∙ ap (on_entity at.system at.command (after_insert c.args.bundle) c.in-Some.handle)
+          c.loop-done.invariant.so_far
+          ∙ sym (on_each-next at.system at.command (after_insert c.args.bundle) c.args.handles
+          c.next.new.self c.loop-done.done c.in-Some.handle
+          (applied c.args.self.now c.args.applying.now.faults.items) left);
     }
 
 -- no room for the components
 pub returns-then-is_err-clause-memory : goal.returns-then-is_err-clause-memory
 returns-then-is_err-clause-memory c =
-    let refused = on_err c.read_bundle.result (sym c.is_err.ensures.value ∙ c.if-is_err.true)
-    c.read_bundle.ensures.memory in
+    let refused = on_err c.read.result (sym c.is_err.ensures.value ∙ c.if-is_err.true)
+    c.read.ensures.memory in
     let tested = c.if-is_empty.false in
     first_takes_memory c.args.self.now c.args.bundle c.args.handles (λ none. let empty =
     c.is_empty.ensures.1 none in cc) refused
@@ -47,13 +47,11 @@ returns-then-is_err-clause-memory c =
 pub returns-then-is_err-2-clause-memory : goal.returns-then-is_err-2-clause-memory
 returns-then-is_err-2-clause-memory c =
     let left = sym c.loop-done.invariant.left ∙ c.in-Some.ensures.steps in
-    let read = on_ok c.read_bundle.result (sym c.is_err.ensures.value ∙ c.if-is_err.false)
-    c.read_bundle.ensures.ok in
     let takes = on_err c.insert_items.result (sym c.is_err-in-loop-done.ensures.value
     ∙ c.if-is_err-2.true) c.insert_items.ensures.memory in
     let world = c.insert_items.new.self in
     let same : insert_takes_memory world c.args.bundle c.in-Some.handle
     ≡ true = ap (λ items. insert_takes_memory world items c.in-Some.handle)
-    (sym (c.deref.ensures.value ∙ read)) ∙ takes in
+    (sym c.loop-done.invariant.items) ∙ takes in
     next_takes_memory world c.args.bundle c.args.handles c.next.new.self c.loop-done.done
     c.in-Some.handle left same

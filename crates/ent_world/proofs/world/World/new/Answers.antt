@@ -1,18 +1,22 @@
-use Rattle.std.proofs.Common.{sym}
-use Rattle.ent_alloc.specs.Sound.{IsSound}
+use Rattle.ent_world.specs.World.{IsWorld}
 use Rattle.ent_world.proofs.Living.{keys-empty}
+use Rattle.ent_world.proofs.world.World.new.Goals.{After-new}
 use Rattle.ent_world.proofs.world.World.new.Goals as goal
 
-pub invariant_of-result : goal.invariant_of-result
-invariant_of-result c = record {
+-- nobody lives, and the map is empty
+begun : (c : After-new) → IsWorld (record {
+  allocator = c.new-entities.result;
+  phase = 0;
+  entities = c.new.result.entities;
+})
+begun c = record {
   sound = c.cursor.ensures.sound;
   living =
       rw (c.new-entities.ensures, c.new.ensures.entities) keys-empty;
 }
 
+pub invariant_of-result : goal.invariant_of-result
+invariant_of-result c = begun (goal.at.invariant_of-result c).After-new
+
 pub returns-clause-world : goal.returns-clause-world
-returns-clause-world c = record {
-  sound = c.cursor.ensures.sound;
-  living =
-      rw (c.new-entities.ensures, c.new.ensures.entities) keys-empty;
-}
+returns-clause-world c = begun (goal.at.returns-clause-world c).After-new

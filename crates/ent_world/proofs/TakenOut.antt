@@ -1,4 +1,4 @@
--- What answers of a storage mean where some of its faults cannot come.
+-- What a storage returns where some of its faults cannot come: who is there is taken out.
 use Rattle.std.proofs.Common.{◌≡◌, sym, ap, ◌∙◌, true, true≢false, Result, Ok, Err, OnOk, IfErr}
 use Rattle.std.proofs.Common.{None, is_some, IsErrOf}
 use Rattle.std.specs.FinMap as map
