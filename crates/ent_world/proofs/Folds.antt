@@ -39,7 +39,7 @@ some_left xs k lt none = let len : length (drop k xs) ≡ 0 = ap length none in
 
 -- Handles.
 
-on_each-append : (system command : ℕ) (change : Handle → World → World) (xs ys : List Handle)
+pub on_each-append : (system command : ℕ) (change : Handle → World → World) (xs ys : List Handle)
     (a : Applied) → on_each system command change (xs ++ ys) a ≡ on_each system command change ys
     (on_each system command change xs a)
 on_each-append system command change [] ys a = refl
@@ -56,7 +56,7 @@ on_each-next system command change hs rest k h a left =
 
 -- Commands.
 
-after_commands-append : (system command : ℕ) (xs ys : List Command) (a : Applied)
+pub after_commands-append : (system command : ℕ) (xs ys : List Command) (a : Applied)
     → after_commands system command (xs ++ ys) a ≡ after_commands system (command + length xs) ys
     (after_commands system command xs a)
 after_commands-append system command [] ys a = let same : command ≡ command + 0 = omega arith in
@@ -82,7 +82,7 @@ after_commands-next system q rest k c a left =
     ap (λ cs. after_commands system 0 cs a) (next_taken q rest k c left)
     ∙ from_start system q (c ∷ []) k a (next_below q rest k c left)
 
-first_alone : (done : ℕ) (c : Command) (rest : List Command) → first_part done (c ∷ rest)
+pub first_alone : (done : ℕ) (c : Command) (rest : List Command) → first_part done (c ∷ rest)
     ≡ first_part done (c ∷ [])
 first_alone done (Spawn h items) rest = refl
 first_alone done (SpawnMany hs items) rest = refl
@@ -103,7 +103,7 @@ stopped_command system q rest k done c a left =
 
 -- Queues.
 
-after_queues-append : (system : ℕ) (xs ys : List (List Command)) (a : Applied)
+pub after_queues-append : (system : ℕ) (xs ys : List (List Command)) (a : Applied)
     → after_queues system (xs ++ ys) a ≡ after_queues (system + length xs) ys
     (after_queues system xs a)
 after_queues-append system [] ys a = let same : system ≡ system + 0 = omega arith in

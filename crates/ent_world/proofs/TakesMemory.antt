@@ -1,7 +1,8 @@
 -- Where a command may take memory.
 use Rattle.std.proofs.Common.{◌≡◌, sym, ap, ◌∙◌, refl, subst, ℕ, ◌+◌, ◌<◌, true, not, ◌||◌}
 use Rattle.std.proofs.Common.{nat_lt, List, [], ◌∷◌, length, drop, get_or, slice_get, Some}
-use Rattle.std.proofs.Common.{arith}
+use Rattle.std.proofs.Common.{arith, zero, suc}
+use Rattle.std.specs.Prelude.{max}
 use Rattle.std.specs.Option.{IsSomeAnd}
 use Rattle.std.proofs.lemmas.Bool.Decides.{nat_tests}
 use Rattle.std.proofs.lemmas.List.{drop_more}
@@ -29,11 +30,18 @@ some_items w items h some =
     let test : nat_lt 0 (length items) ≡ true = grind (arith, nat_tests) in
     ap (λ b. b || not (lives_in w h)) test
 
--- to the first of the handles
-pub first_takes_memory : (w : World) (items : Bundle) (hs : List Handle) → (hs ≡ [] → ⊥) → 0
-    < length items → one_takes_memory w items (slice_get hs 0) ≡ true
-first_takes_memory w items [] some_handle some = absurd (some_handle refl)
-first_takes_memory w items (h ∷ hs) some_handle some = some_items w items h some
+at_takes_memory : (w : World) (items : Bundle) (hs : List Handle) (k : ℕ) → k < length hs
+    → 0 < length items → one_takes_memory w items (slice_get hs k) ≡ true
+at_takes_memory w items [] k lt some = absurd (omega arith)
+at_takes_memory w items (h ∷ hs) zero lt some = some_items w items h some
+at_takes_memory w items (h ∷ hs) (suc k) lt some = at_takes_memory w items hs k (omega arith) some
+
+-- to the first of the handles that are left
+pub stop_takes_memory : (w : World) (items : Bundle) (hs : List Handle) (k : ℕ) → (hs ≡ [] → ⊥)
+    → k < max 1 (length hs) → 0 < length items → one_takes_memory w items (slice_get hs k) ≡ true
+stop_takes_memory w items [] k some_handle lt some = absurd (some_handle refl)
+stop_takes_memory w items (h ∷ hs) k some_handle lt some =
+    at_takes_memory w items (h ∷ hs) k (omega (arith, lt)) some
 
 -- to the next of them
 pub next_takes_memory : (w : World) (items : Bundle) (hs rest : List Handle) (k : ℕ) (h : Handle)

@@ -11,8 +11,10 @@ ghost use Rattle.ent_world.specs.Sync.{first_part, stops, cut_commands, cut, IsS
 ghost use Rattle.ent_world.specs.Memory.{insert_takes_memory, one_takes_memory};
 ghost use Rattle.ent_world.specs.Memory.{command_takes_memory, TakesMemoryIn};
 ghost use Rattle.ent_world.specs.Memory.{TakesMemoryAt};
+ghost use Rattle.ent_world.specs.Rest.{last_part, left_commands, after_left, IsLater, IsLaterIn};
+ghost use Rattle.std.specs.Prelude.{◌≤◌, ◌⊎◌};
 
-use crate::fault::{Fault, FaultKind};
+use crate::fault::{Fault, FaultKind, SyncFault, SyncReport};
 use crate::world::World;
 use ent_handle::{ComponentId, Handle, Memory};
 use ent_queue::{BundleRef, CommandQueue, Entry, HandlesRef};
@@ -26,12 +28,67 @@ pub(crate) struct At {
     pub(crate) command: usize,
 }
 
-/// Where memory ran out: at a command of which that many handles are done. All before it stands,
-/// and nothing else.
+/// A command of which that many handles are done, and with it all before it and nothing else: where
+/// memory ran out, and where a sync point goes on.
 #[derive(Clone, Copy)]
 pub(crate) struct Stop {
     pub(crate) at: At,
     pub(crate) done: usize,
+}
+
+impl Stop {
+    /// Before the first command of a queue.
+    pub(crate) fn before(system: usize) -> Self
+        ensures { result ≡ record { at = record { system = system; command = 0 }; done = 0 } }
+    {
+        Stop {
+            at: At { system, command: 0 },
+            done: 0,
+        }
+    }
+
+    /// The fault of a sync point that stopped there, with what it has done so far.
+    pub(crate) fn fault(self, so_far: SyncReport) -> SyncFault
+        ensures { result ≡ SyncFault.Memory self.at.system self.at.command self.done so_far }
+    {
+        SyncFault::Memory {
+            system: self.at.system,
+            command: self.at.command,
+            done: self.done,
+            so_far,
+        }
+    }
+
+    /// Where the queue of a system begins that is this one's or comes after it.
+    fn in_queue(self, system: usize) -> Self
+        ensures system { self.at.system ≤ system → result.at.system ≡ system }
+        ensures first { system ≡ self.at.system → result ≡ self }
+        ensures later { self.at.system < system
+            → result ≡ record { at = record { system = system; command = 0 }; done = 0 } }
+    {
+        if system == self.at.system {
+            self
+        } else {
+            Stop::before(system)
+        }
+    }
+
+    /// Where a command of that queue begins that is this one or comes after it.
+    fn at_command(self, command: usize) -> Self
+        ensures system { result.at.system ≡ self.at.system }
+        ensures command { self.at.command ≤ command → result.at.command ≡ command }
+        ensures first { command ≡ self.at.command → result ≡ self }
+        ensures later { self.at.command < command → result.done ≡ 0 }
+    {
+        if command == self.at.command {
+            return self;
+        }
+        let system = self.at.system;
+        Stop {
+            at: At { system, command },
+            done: 0,
+        }
+    }
 }
 
 /// What commands are applied with, beside the world.
@@ -85,8 +142,8 @@ impl Applying {
 }
 
 impl World {
-    /// Applies one queue after the other.
-    pub(crate) fn apply_queues(
+    /// Applies all commands of the queues.
+    pub(crate) fn apply_all(
         &mut self,
         queues: &[CommandQueue],
         applying: &mut Applying,
@@ -103,29 +160,65 @@ impl World {
         ensures memory { IfErr result (λ stop.
             TakesMemoryAt self.new stop.at.system stop.at.command stop.done queues.now) }
     {
+        self.apply_queues(Stop::before(0), queues, applying)
+    }
+
+    /// Applies what is left of the queues from a stop on, one queue after the other.
+    pub(crate) fn apply_queues(
+        &mut self,
+        from: Stop,
+        queues: &[CommandQueue],
+        applying: &mut Applying,
+    ) -> Result<(), Stop>
+        requires flushed { self.old.allocator.asked ≡ 0 }
+        requires from { from.done ≡ 0 ⊎ IsStop from.at.system from.at.command from.done queues.now }
+        ensures flushed { self.new.allocator.asked ≡ 0 }
+        ensures ok { OnOk result (applied self.new applying.new.faults.items
+            ≡ after_left from.at.system from.at.command from.done queues.now
+            (applied self.old applying.old.faults.items)) }
+        ensures err { IfErr result (λ stop. applied self.new applying.new.faults.items
+            ≡ after_left from.at.system from.at.command from.done
+            (cut stop.at.system stop.at.command stop.done queues.now)
+            (applied self.old applying.old.faults.items)) }
+        ensures stop { IfErr result (λ stop.
+            IsStop stop.at.system stop.at.command stop.done queues.now) }
+        ensures later { IfErr result (λ stop. IsLater from.at.system from.at.command from.done
+            stop.at.system stop.at.command stop.done) }
+        ensures memory { IfErr result (λ stop.
+            TakesMemoryAt self.new stop.at.system stop.at.command stop.done queues.now) }
+    {
         for (system, queue) in queues.iter().enumerate() {
-            self.apply_queue(system, queue, applying)?;
+            if system < from.at.system {
+                continue;
+            }
+            self.apply_queue(from.in_queue(system), queue, applying)?;
         }
         Ok(())
     }
 
-    /// Applies the commands of a queue in the order of issue.
+    /// Applies what is left of a queue from a stop in it on, in the order of issue.
     fn apply_queue(
         &mut self,
-        system: usize,
+        from: Stop,
         queue: &CommandQueue,
         applying: &mut Applying,
     ) -> Result<(), Stop>
-        requires { self.old.allocator.asked ≡ 0 }
+        requires flushed { self.old.allocator.asked ≡ 0 }
+        requires from { from.done ≡ 0 ⊎ from.done < stops (drop from.at.command queue.now) }
         ensures flushed { self.new.allocator.asked ≡ 0 }
         ensures ok { OnOk result (applied self.new applying.new.faults.items
-            ≡ after_commands system 0 queue.now (applied self.old applying.old.faults.items)) }
-        ensures err { IfErr result (λ stop. applied self.new applying.new.faults.items
-            ≡ after_commands system 0 (cut_commands stop.at.command stop.done queue.now)
+            ≡ after_commands from.at.system from.at.command
+            (left_commands from.at.command from.done queue.now)
             (applied self.old applying.old.faults.items)) }
-        ensures at { IfErr result (λ stop. stop.at.system ≡ system) }
+        ensures err { IfErr result (λ stop. applied self.new applying.new.faults.items
+            ≡ after_commands from.at.system from.at.command (left_commands from.at.command from.done
+            (cut_commands stop.at.command stop.done queue.now))
+            (applied self.old applying.old.faults.items)) }
+        ensures at { IfErr result (λ stop. stop.at.system ≡ from.at.system) }
         ensures stop { IfErr result (λ stop.
             stop.done < stops (drop stop.at.command queue.now)) }
+        ensures later { IfErr result (λ stop.
+            IsLaterIn from.at.command from.done stop.at.command stop.done) }
         ensures memory { IfErr result (λ stop.
             TakesMemoryIn self.new stop.at.command stop.done queue.now) }
     {
@@ -134,71 +227,76 @@ impl World {
             let Some(entry) = entries.next() else {
                 unreachable!()
             };
-            self.apply_command(At { system, command }, entry, applying)?;
+            if command < from.at.command {
+                continue;
+            }
+            self.apply_command(from.at_command(command), entry, applying)?;
         }
         Ok(())
     }
 
-    /// Applies one command.
+    /// Applies what is left of one command.
     fn apply_command(
         &mut self,
-        at: At,
+        from: Stop,
         entry: Entry<'_>,
         applying: &mut Applying,
     ) -> Result<(), Stop>
-        requires { self.old.allocator.asked ≡ 0 }
+        requires flushed { self.old.allocator.asked ≡ 0 }
+        requires from { from.done < stops (command_of entry ∷ []) }
         ensures flushed { self.new.allocator.asked ≡ 0 }
         ensures ok { OnOk result (applied self.new applying.new.faults.items
-            ≡ after_command at.system at.command (command_of entry.entry)
+            ≡ after_commands from.at.system from.at.command
+            (last_part from.done (command_of entry.entry ∷ []))
             (applied self.old applying.old.faults.items)) }
         ensures err { IfErr result (λ stop. applied self.new applying.new.faults.items
-            ≡ after_commands at.system at.command
-            (first_part stop.done (command_of entry.entry ∷ []))
+            ≡ after_commands from.at.system from.at.command
+            (last_part from.done (first_part stop.done (command_of entry.entry ∷ [])))
             (applied self.old applying.old.faults.items)) }
-        ensures at { IfErr result (λ stop. stop.at ≡ at) }
+        ensures at { IfErr result (λ stop. stop.at ≡ from.at) }
+        ensures later { IfErr result (λ stop. from.done ≤ stop.done) }
         ensures stop { IfErr result (λ stop. stop.done < stops (command_of entry.entry ∷ [])) }
         ensures memory { IfErr result (λ stop.
             command_takes_memory self.new stop.done (command_of entry.entry) ≡ true) }
     {
+        let at = from.at;
         match entry {
             Entry::Spawn(handle, bundle) | Entry::Insert(handle, bundle) => {
                 if applying.read(bundle).is_err() {
-                    return Err(Stop { at, done: 0 });
+                    return Err(from);
                 }
-                self.insert_items(at, handle, applying)
-                    .map_err(|_| Stop { at, done: 0 })
+                self.insert_items(at, handle, applying).map_err(|_| from)
             }
-            Entry::SpawnMany(handles, bundle) => self.insert_each(at, handles, bundle, applying),
+            Entry::SpawnMany(handles, bundle) => self.insert_each(from, handles, bundle, applying),
             Entry::Remove(handle, id) => self
                 .remove_component(at, handle, id, applying)
-                .map_err(|_| Stop { at, done: 0 }),
-            Entry::Despawn(handle) => self
-                .despawn_entity(at, handle, applying)
-                .map_err(|_| Stop { at, done: 0 }),
-            Entry::Refused { why, .. } => applying
-                .add_fault(at, refusal(why))
-                .map_err(|_| Stop { at, done: 0 }),
+                .map_err(|_| from),
+            Entry::Despawn(handle) => self.despawn_entity(at, handle, applying).map_err(|_| from),
+            Entry::Refused { why, .. } => applying.add_fault(at, refusal(why)).map_err(|_| from),
         }
     }
 
-    /// Gives each of the entities the components.
+    /// Gives each of the entities the components, but for the first ones, which are done.
     fn insert_each(
         &mut self,
-        at: At,
+        from: Stop,
         handles: HandlesRef<'_>,
         bundle: BundleRef<'_>,
         applying: &mut Applying,
     ) -> Result<(), Stop>
-        requires { self.old.allocator.asked ≡ 0 }
+        requires flushed { self.old.allocator.asked ≡ 0 }
+        requires from { from.done < max 1 (length handles) }
         ensures flushed { self.new.allocator.asked ≡ 0 }
         ensures ok { OnOk result (applied self.new applying.new.faults.items
-            ≡ on_each at.system at.command (after_insert bundle.entry) handles.entry
+            ≡ on_each from.at.system from.at.command (after_insert bundle.entry)
+            (drop from.done handles.entry)
             (applied self.old applying.old.faults.items)) }
         ensures err { IfErr result (λ stop. applied self.new applying.new.faults.items
-            ≡ on_each at.system at.command (after_insert bundle.entry)
-            (take stop.done handles.entry)
+            ≡ on_each from.at.system from.at.command (after_insert bundle.entry)
+            (drop from.done (take stop.done handles.entry))
             (applied self.old applying.old.faults.items)) }
-        ensures at { IfErr result (λ stop. stop.at ≡ at) }
+        ensures at { IfErr result (λ stop. stop.at ≡ from.at) }
+        ensures later { IfErr result (λ stop. from.done ≤ stop.done) }
         ensures stop { IfErr result (λ stop. stop.done < max 1 (length handles.entry)) }
         ensures memory { IfErr result (λ stop. one_takes_memory self.new bundle.entry
             (slice_get handles.entry stop.done) ≡ true) }
@@ -207,15 +305,18 @@ impl World {
             return Ok(());
         }
         if applying.read(bundle).is_err() {
-            return Err(Stop { at, done: 0 });
+            return Err(from);
         }
         let mut left = handles.iter();
         for done in 0..handles.len() {
             let Some(handle) = left.next() else {
                 unreachable!()
             };
-            if self.insert_items(at, handle, applying).is_err() {
-                return Err(Stop { at, done });
+            if done < from.done {
+                continue;
+            }
+            if self.insert_items(from.at, handle, applying).is_err() {
+                return Err(Stop { at: from.at, done });
             }
         }
         Ok(())

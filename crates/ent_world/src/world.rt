@@ -1,6 +1,6 @@
 ghost use Rattle.std.specs.Prelude.{◌≡◌, ◌<◌, ◌≤◌, ◌^◌, ◌↔◌, [], length};
 ghost use Rattle.std.specs.Prelude.{All, IsTrue, IfOk, IfErr, OnOk, OnErr, IsErrOf, Some};
-ghost use Rattle.std.specs.Prelude.{true, false, slice_get};
+ghost use Rattle.std.specs.Prelude.{true, false, slice_get, List, ◌++◌, ◌⊎◌};
 ghost use Rattle.std.specs.Option.{option_map};
 ghost use Rattle.std.specs.FinSet as set;
 ghost use Rattle.std.specs.FinMap as map;
@@ -11,11 +11,14 @@ ghost use Rattle.ent_shared.specs.Phase.{IsOf, records_of};
 ghost use Rattle.ent_storage.specs.EntityMap.{birth_of, components_of, value_of};
 ghost use Rattle.ent_storage.specs.BirthOrder.{ListsAll};
 ghost use Rattle.ent_world.specs.World.{first_world, AreLiving, IsWorld, lives_in};
-ghost use Rattle.ent_world.specs.Command.{after_spawn, after_despawn};
-ghost use Rattle.ent_world.specs.Sync.{after_births, sync, sync_until, IsStop, IfStopped};
+ghost use Rattle.ent_world.specs.World.{World as WorldValue};
+ghost use Rattle.ent_world.specs.declared.fault.Fault.{Fault as FaultValue};
+ghost use Rattle.ent_world.specs.Command.{after_spawn, after_despawn, applied};
+ghost use Rattle.ent_world.specs.Sync.{after_births, sync, sync_until, cut, IsStop, IfStopped};
+ghost use Rattle.ent_world.specs.Rest.{after_left, IsLater, HasStoppedSo};
 ghost use Rattle.ent_world.specs.Memory.{TakesMemoryAt};
 
-use crate::applying::Applying;
+use crate::applying::{Applying, At, Stop};
 use crate::births::{enter_listed, enter_others};
 use crate::fault::{SyncFault, SyncReport};
 use crate::open_world::OpenWorld;
@@ -262,16 +265,88 @@ impl World {
             return Err(SyncFault::FlushMemory);
         };
         let mut applying = Applying::new(self.alloc);
-        let applied = self.apply_queues(queues, &mut applying);
+        let applied = self.apply_all(queues, &mut applying);
         let Applying { items: _, faults } = applying;
         match applied {
             Ok(()) => Ok(SyncReport { born, faults }),
-            Err(stop) => Err(SyncFault::Memory {
-                system: stop.at.system,
-                command: stop.at.command,
-                done: stop.done,
-                so_far: SyncReport { born, faults },
-            }),
+            Err(stop) => Err(stop.fault(SyncReport { born, faults })),
+        }
+    }
+
+    /// Goes on after a stop of [`World::apply`], or of this call, from where it stopped, with the
+    /// same queues. The first `done` handles of that command are done. Nothing is flushed or born,
+    /// and the phase stays.
+    ///
+    /// If the world is as the stop has left it, the world after it is that of a sync point that did
+    /// not stop, and the faults are those that the stop's report doesn't have yet.
+    ///
+    /// # Errors
+    ///
+    /// `Memory`: it stopped again, there or later, and can go on from there. Of the commands just
+    /// those before have taken effect.
+    pub fn apply_from(
+        &mut self,
+        queues: &[CommandQueue],
+        system: usize,
+        command: usize,
+        done: usize,
+    ) -> Result<SyncReport, SyncFault>
+        requires flushed { self.old.allocator.asked ≡ 0 }
+        requires stop { IsStop system command done queues.now }
+        ensures ok { OnOk result (self.new
+            ≡ (after_left system command done queues.now (applied self.old [])).world) }
+        ensures born { IfOk result (λ report. report.born.items ≡ []) }
+        ensures faults { IfOk result (λ report. report.faults.items
+            ≡ (after_left system command done queues.now (applied self.old [])).faults) }
+        ensures flushed { self.new.allocator.asked ≡ 0 }
+        ensures world { IsWorld self.new }
+
+        // What stands after it stopped again.
+        ensures no_flush { IsErrOf result SyncFault.FlushMemory → ⊥ }
+        ensures stop { IfStopped result (λ later later_command later_done _.
+            IsStop later later_command later_done queues.now) }
+        ensures later { IfStopped result (λ later later_command later_done _.
+            IsLater system command done later later_command later_done) }
+        ensures stopped_world { IfStopped result (λ later later_command later_done _.
+            self.new ≡ (after_left system command done
+            (cut later later_command later_done queues.now) (applied self.old [])).world) }
+        ensures stopped_born { IfStopped result (λ _ _ _ so_far. so_far.born.items ≡ []) }
+        ensures stopped_faults { IfStopped result (λ later later_command later_done so_far.
+            so_far.faults.items ≡ (after_left system command done
+            (cut later later_command later_done queues.now) (applied self.old [])).faults) }
+        ensures stopped_memory { IfStopped result (λ later later_command later_done _.
+            TakesMemoryAt self.new later later_command later_done queues.now) }
+
+        // Who stopped there in the sync point of a world has now done the whole of it, or stopped
+        // again in that sync point. The faults of all reports are its faults.
+        ensures whole_world { (before : WorldValue) (earlier : List FaultValue)
+            → HasStoppedSo system command done queues.now before self.old earlier
+            → OnOk result (self.new ≡ (sync queues.now before).world) }
+        ensures whole_faults { (before : WorldValue) (earlier : List FaultValue)
+            → HasStoppedSo system command done queues.now before self.old earlier
+            → IfOk result (λ report.
+            earlier ++ report.faults.items ≡ (sync queues.now before).faults) }
+        ensures whole_later { (before : WorldValue) (earlier : List FaultValue)
+            → HasStoppedSo system command done queues.now before self.old earlier
+            → IfStopped result (λ later later_command later_done so_far.
+            HasStoppedSo later later_command later_done queues.now before self.new
+            (earlier ++ so_far.faults.items)) }
+    {
+        let from = Stop {
+            at: At { system, command },
+            done,
+        };
+        let mut applying = Applying::new(self.alloc);
+        let applied = self.apply_queues(from, queues, &mut applying);
+        let Applying { items: _, faults } = applying;
+        let nobody = Vec::new(self.alloc);
+        let report = SyncReport {
+            born: nobody,
+            faults,
+        };
+        match applied {
+            Ok(()) => Ok(report),
+            Err(stop) => Err(stop.fault(report)),
         }
     }
 

@@ -10,7 +10,7 @@ pub returns-in-Ok-applied-clause-world : goal.returns-in-Ok-applied-clause-world
 returns-in-Ok-applied-clause-world c =
     commands-world c.args.queues.now
     (applied c.bring_to_life.new.self c.new-applying.result.faults.items)
-    (applied c.apply_queues-applied.new.self c.apply_queues-applied.new.applying.faults.items)
+    (applied c.apply_all-applied.new.self c.apply_all-applied.new.applying.faults.items)
     c.in-Ok-applied.ensures.ok c.in-Ok.ensures.world (ap (λ (w : World). w.allocator.asked)
     c.in-Ok.ensures.ok)
 
@@ -19,6 +19,6 @@ returns-clause-world c =
     let stop = c.in-Err.stop in
     commands-world (cut stop.at.system stop.at.command stop.done c.args.queues.now)
     (applied c.bring_to_life.new.self c.new-applying.result.faults.items)
-    (applied c.apply_queues-applied.new.self c.apply_queues-applied.new.applying.faults.items)
+    (applied c.apply_all-applied.new.self c.apply_all-applied.new.applying.faults.items)
     c.in-Err.ensures.err c.in-Ok.ensures.world (ap (λ (w : World). w.allocator.asked)
     c.in-Ok.ensures.ok)

@@ -1,9 +1,13 @@
-use Rattle.std.proofs.Common.{sym, ap, ◌∙◌, subst, take}
+use Rattle.std.proofs.Common.{◌≡◌, refl, sym, ap, ◌+◌, ◌∙◌, subst, List, ◌∷◌, drop, arith}
 use Rattle.std.proofs.lemmas.Result.{err_from_is_err_and}
-use Rattle.ent_world.specs.Command.{applied, after_commands, after_queues}
+use Rattle.std.proofs.lemmas.List.{drop_more}
+use Rattle.ent_queue.specs.Command.{Command}
+use Rattle.ent_world.specs.declared.applying.Stop.{Stop}
+use Rattle.ent_world.specs.Command.{applied, after_commands}
 use Rattle.ent_world.specs.Sync.{cut_commands, cut}
 use Rattle.ent_world.specs.Memory.{TakesMemoryAt}
-use Rattle.ent_world.proofs.Folds.{after_queues-next, stopped_queue}
+use Rattle.ent_world.specs.Rest.{left_commands, after_left}
+use Rattle.ent_world.proofs.Left.{queues_left-step, queues_cut-step}
 use Rattle.ent_world.proofs.TakesMemory.{takes_memory_at}
 use Rattle.ent_world.proofs.world.World.apply_queues.Goals as goal
 
@@ -13,30 +17,41 @@ returns-in_err-apply_queue-clause-err c =
     let qs = c.args.queues.now in
     let k = c.loop-system.system in
     let q = c.index-queues-system.result in
+    let le = c.if-system-from.false in
+    let from = c.args.from in
+    let here = c.in_queue.result in
     let stop = c.in_err-apply_queue.field-0.0 in
     let start = applied c.args.self.now c.args.applying.now.faults.items in
-    let before = after_queues 0 (take k qs) start in
+    let left : drop k qs ≡ q ∷ drop (k + 1) qs = drop_more qs k q c.loop-system-test.true
+    ∙ ap (λ (p : List Command). p ∷ drop (k + 1) qs) (sym c.index-queues-system.is) in
+    let number = c.in_queue.ensures.system (omega (arith, le)) in
     let p = err_from_is_err_and c.from_residual.result c.from_residual.ensures.1 in
     rw (p.1, p.2) (
     c.in_err-apply_queue.ensures.err
-    ∙ ap (after_commands k 0 (cut_commands stop.at.command stop.done q))
-    c.loop-system.invariant.so_far
-    ∙ ap (λ p. after_commands k 0 (cut_commands stop.at.command stop.done p) before)
-    c.index-queues-system.is
-    ∙ sym (stopped_queue qs k stop.at.command stop.done q start c.loop-system-test.true)
-    ∙ ap (λ n. after_queues 0 (cut n stop.at.command stop.done qs) start)
-    (sym c.in_err-apply_queue.ensures.at)
+    ∙ ap (after_commands here.at.system here.at.command (left_commands here.at.command here.done
+    (cut_commands stop.at.command stop.done q))) c.loop-system.invariant.so_far
+    ∙ sym (queues_cut-step from.at.system from.at.command from.done qs (drop (k + 1) qs) k q start
+    left here.at.system here.at.command here.done number (omega (arith, le))
+    (λ is. let same = c.in_queue.ensures.first is in
+    (ap (λ (s : Stop). s.at.command) same, ap (λ (s : Stop). s.done) same))
+    (λ lt. let same = c.in_queue.ensures.later lt in
+    (ap (λ (s : Stop). s.at.command) same, ap (λ (s : Stop). s.done) same)) stop.at.command stop.done)
+    ∙ ap (λ n. after_left from.at.system from.at.command from.done
+    (cut n stop.at.command stop.done qs) start)
+    (sym (c.in_err-apply_queue.ensures.at ∙ number))
     )
 
 pub returns-in_err-apply_queue-clause-memory : goal.returns-in_err-apply_queue-clause-memory
 returns-in_err-apply_queue-clause-memory c =
     let qs = c.args.queues.now in
+    let le = c.if-system-from.false in
     let stop = c.in_err-apply_queue.field-0.0 in
     let world = c.apply_queue.new.self in
+    let number = c.in_queue.ensures.system (omega (arith, le)) in
     let p = err_from_is_err_and c.from_residual.result c.from_residual.ensures.1 in
     rw (p.1, p.2) (
     subst (λ n. TakesMemoryAt world n stop.at.command stop.done qs)
-    (sym c.in_err-apply_queue.ensures.at)
+    (sym (c.in_err-apply_queue.ensures.at ∙ number))
     (takes_memory_at world qs c.loop-system.system stop.at.command stop.done
     c.index-queues-system.result c.loop-system-test.true c.index-queues-system.is
     c.in_err-apply_queue.ensures.memory)
@@ -48,12 +63,22 @@ loop-system-preserved c =
     let qs = c.args.queues.now in
     let k = c.loop-system.system in
     let q = c.index-queues-system.result in
+    let le = c.if-system-from.false in
+    let from = c.args.from in
+    let here = c.in_queue.result in
     let start = applied c.args.self.now c.args.applying.now.faults.items in
-    let before = after_queues 0 (take k qs) start in
+    let left : drop k qs ≡ q ∷ drop (k + 1) qs = drop_more qs k q c.loop-system-test.true
+    ∙ ap (λ (p : List Command). p ∷ drop (k + 1) qs) (sym c.index-queues-system.is) in
+    let number = c.in_queue.ensures.system (omega (arith, le)) in
     record {
       flushed = c.apply_queue.ensures.flushed;
       so_far = c.in_ok-apply_queue.ensures.ok
-          ∙ ap (after_commands k 0 q) c.loop-system.invariant.so_far
-          ∙ ap (λ p. after_commands k 0 p before) c.index-queues-system.is
-          ∙ sym (after_queues-next qs k q start c.loop-system-test.true);
+          ∙ ap (after_commands here.at.system here.at.command (left_commands here.at.command here.done
+          q)) c.loop-system.invariant.so_far
+          ∙ sym (queues_left-step from.at.system from.at.command from.done qs (drop (k + 1) qs) k q
+          start left here.at.system here.at.command here.done number (omega (arith, le))
+          (λ is. let same = c.in_queue.ensures.first is in
+          (ap (λ (s : Stop). s.at.command) same, ap (λ (s : Stop). s.done) same))
+          (λ lt. let same = c.in_queue.ensures.later lt in
+          (ap (λ (s : Stop). s.at.command) same, ap (λ (s : Stop). s.done) same)));
     }

@@ -2,8 +2,9 @@ use Rattle.std.proofs.Common.{◌≡◌, ◌<◌, true, sym, ap, ◌∙◌, leng
 use Rattle.ent_world.specs.Command.{applied, on_entity, after_insert}
 use Rattle.ent_world.specs.Memory.{insert_takes_memory}
 use Rattle.ent_world.proofs.Making.{on_ok, on_err}
-use Rattle.ent_world.proofs.Folds.{next_left, some_left, on_each-next}
-use Rattle.ent_world.proofs.TakesMemory.{first_takes_memory, next_takes_memory}
+use Rattle.ent_world.proofs.Folds.{next_left, some_left}
+use Rattle.ent_world.proofs.Left.{each_left-skip, each_left-next}
+use Rattle.ent_world.proofs.TakesMemory.{stop_takes_memory, next_takes_memory}
 use Rattle.ent_world.proofs.world.World.insert_each.Goals as goal
 
 pub unreachable-requires : goal.unreachable-requires
@@ -12,11 +13,26 @@ unreachable-requires c =
     some_left c.args.handles c.loop-done.done below (sym c.loop-done.invariant.left
     ∙ c.in_default.ensures.steps.0)
 
+-- one that is done already
+pub loop-done-preserved-then-done-from : goal.loop-done-preserved-then-done-from
+loop-done-preserved-then-done-from c =
+    let left = sym c.loop-done.invariant.left ∙ c.in-Some.ensures.steps in
+    let from = c.args.from in
+    record {
+      flushed = c.loop-done.invariant.flushed;
+      items = c.loop-done.invariant.items;
+      left = next_left c.args.handles c.next.new.self c.loop-done.done c.in-Some.handle left;
+      so_far = c.loop-done.invariant.so_far
+          ∙ sym (each_left-skip from.at.system from.at.command (after_insert c.args.bundle)
+          c.args.handles c.next.new.self c.loop-done.done from.done c.in-Some.handle
+          (applied c.args.self.now c.args.applying.now.faults.items) left c.if-done-from.true);
+    }
+
 -- the next one has its components
 pub loop-done-preserved : goal.loop-done-preserved
 loop-done-preserved c =
     let left = sym c.loop-done.invariant.left ∙ c.in-Some.ensures.steps in
-    let at = c.args.at in
+    let at = c.args.from.at in
     let before = applied c.loop-done.self c.loop-done.applying.faults.items in
     let one = on_ok c.insert_items.result (sym c.is_err-in-loop-done.ensures.value
     ∙ c.if-is_err-2.false) c.insert_items.ensures.ok in
@@ -29,9 +45,10 @@ loop-done-preserved c =
           before) c.loop-done.invariant.items
           ∙ ap (on_entity at.system at.command (after_insert c.args.bundle) c.in-Some.handle)
           c.loop-done.invariant.so_far
-          ∙ sym (on_each-next at.system at.command (after_insert c.args.bundle) c.args.handles
-          c.next.new.self c.loop-done.done c.in-Some.handle
-          (applied c.args.self.now c.args.applying.now.faults.items) left);
+          ∙ sym (each_left-next at.system at.command (after_insert c.args.bundle) c.args.handles
+          c.next.new.self c.loop-done.done c.args.from.done c.in-Some.handle
+          (applied c.args.self.now c.args.applying.now.faults.items) left
+          (omega (arith, c.if-done-from.false)));
     }
 
 -- no room for the components
@@ -40,8 +57,8 @@ returns-then-is_err-clause-memory c =
     let refused = on_err c.read.result (sym c.is_err.ensures.value ∙ c.if-is_err.true)
     c.read.ensures.memory in
     let tested = c.if-is_empty.false in
-    first_takes_memory c.args.self.now c.args.bundle c.args.handles (λ none. let empty =
-    c.is_empty.ensures.1 none in cc) refused
+    stop_takes_memory c.args.self.now c.args.bundle c.args.handles c.args.from.done (λ none.
+    let empty = c.is_empty.ensures.1 none in cc) c.requires.from refused
 
 -- it stopped at this handle
 pub returns-then-is_err-2-clause-memory : goal.returns-then-is_err-2-clause-memory

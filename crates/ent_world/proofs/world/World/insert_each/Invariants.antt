@@ -9,6 +9,7 @@ invariant-loop-done l = record {
   items : l.applying.items.items ≡ l.fn.bundle;
   left : l.left ≡ drop l.done l.fn.handles;
   so_far : applied l.self l.applying.faults.items
-      ≡ on_each l.at.system l.at.command (after_insert l.fn.bundle) (take l.done l.fn.handles)
+      ≡ on_each l.from.at.system l.from.at.command (after_insert l.fn.bundle)
+      (drop l.from.done (take l.done l.fn.handles))
       (applied l.fn.self l.fn.applying.faults.items);
 }

@@ -1,0 +1,56 @@
+use Rattle.std.proofs.Common.{◌≡◌, ap, ◌∙◌, ℕ, List, []}
+use Rattle.ent_world.specs.declared.fault.Fault.{Fault}
+use Rattle.ent_world.specs.Command.{Applied, applied}
+use Rattle.ent_world.specs.Sync.{after_births, sync, sync_until, cut}
+use Rattle.ent_world.specs.Rest.{after_left, HasStoppedSo}
+use Rattle.ent_queue.specs.Command.{Command}
+use Rattle.ent_world.specs.World.{World}
+use Rattle.ent_world.proofs.Rest.{with_faults_before, gone_on, gone_on_until}
+use Rattle.ent_world.proofs.world.World.apply_from.Goals as goal
+
+all_done : (system command done : ℕ) (queues : List (List Command)) (before w : World)
+    (earlier none : List Fault) (now : Applied) → none ≡ []
+    → now ≡ after_left system command done queues (applied w none)
+    → HasStoppedSo system command done queues before w earlier
+    → with_faults_before earlier now ≡ sync queues before
+all_done system command done queues before w earlier none now nothing is stopped =
+    ap (with_faults_before earlier) (is ∙ ap (λ (fs : List Fault). after_left system command done
+    queues (applied w fs)) nothing)
+    ∙ gone_on system command done queues (applied (after_births queues before) []) w earlier
+    stopped.world stopped.faults_are
+
+pub returns-in-Ok-clause-whole_world : goal.returns-in-Ok-clause-whole_world
+returns-in-Ok-clause-whole_world c before earlier stopped =
+    let a = c.args in
+    ap (λ (b : Applied). b.world) (all_done a.system a.command a.done a.queues.now before a.self.now
+    earlier c.new-applying.result.faults.items (applied c.apply_queues-applied.new.self
+    c.apply_queues-applied.new.applying.faults.items) c.new-applying.ensures c.in-Ok.ensures.ok
+    stopped)
+
+pub returns-in-Ok-clause-whole_faults : goal.returns-in-Ok-clause-whole_faults
+returns-in-Ok-clause-whole_faults c before earlier stopped =
+    let a = c.args in
+    ap (λ (b : Applied). b.faults) (all_done a.system a.command a.done a.queues.now before a.self.now
+    earlier c.new-applying.result.faults.items (applied c.apply_queues-applied.new.self
+    c.apply_queues-applied.new.applying.faults.items) c.new-applying.ensures c.in-Ok.ensures.ok
+    stopped)
+
+pub returns-clause-whole_later : goal.returns-clause-whole_later
+returns-clause-whole_later c before earlier stopped =
+    let a = c.args in
+    let none = c.new-applying.ensures in
+    let stop = c.in-Err.stop in
+    let until : with_faults_before earlier (applied c.apply_queues-applied.new.self
+    c.apply_queues-applied.new.applying.faults.items)
+    ≡ sync_until stop.at.system stop.at.command stop.done a.queues.now before =
+    ap (with_faults_before earlier) (c.in-Err.ensures.err
+    ∙ ap (λ (fs : List Fault). after_left a.system a.command a.done
+    (cut stop.at.system stop.at.command stop.done a.queues.now) (applied a.self.now fs)) none)
+    ∙ gone_on_until a.system a.command a.done stop.at.system stop.at.command stop.done
+    a.queues.now (applied (after_births a.queues.now before) []) a.self.now earlier
+    c.in-Err.ensures.later stopped.world stopped.faults_are in
+    rw c.fault.ensures
+    (record {
+      world = ap (λ (b : Applied). b.world) until;
+      faults_are = ap (λ (b : Applied). b.faults) until;
+    })
