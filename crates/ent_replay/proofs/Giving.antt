@@ -52,7 +52,7 @@ joined-none f (suc n) none = λ i. joined-none f n none i ++ none n i
 same_order : (xs ys : List Handle) → xs ≡ ys → IsPermutation xs ys
 same_order xs ys same = subst (IsPermutation xs) same (IsPermutation-refl xs)
 
--- the last two parts of a list change places
+-- the last two parts of a list are swapped
 swapped : (xs ys zs : List Handle) → IsPermutation ((xs ++ ys) ++ zs) ((xs ++ zs) ++ ys)
 swapped xs ys zs =
     IsPermutation-trans ((xs ++ ys) ++ zs) (xs ++ (ys ++ zs)) ((xs ++ zs) ++ ys)

@@ -8,6 +8,9 @@ pub mod Totals
 pub mod Conditions
 pub mod Moves
 pub mod Giving
-pub mod MachineEvents
+pub mod MachineAnswers
+pub mod ExclusiveEvents
+pub mod CallEvents
+pub mod MachineStart
 pub mod Schedules
 pub mod Linear

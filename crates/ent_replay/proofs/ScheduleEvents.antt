@@ -84,8 +84,8 @@ number_is_small word n e =
       | inl digits ↦ elim (chosen (ltb value (2 ^ 32)) (Ok value) (text_fault Range) (Ok n)
           digits.1) [
             | inr large ↦ let f = large.1 in absurd cc
-            | inl small ↦ let is : value ≡ n = (let f = small.1 in cc) in subst (λ (m : ℕ). m < 2 ^ 32)
-                is (ltb-true _ _ small.0)
+            | inl small ↦ let is : value ≡ n = (let f = small.1 in cc) in
+                subst (λ (m : ℕ). m < 2 ^ 32) is (ltb-true _ _ small.0)
           ]
     ]
 

@@ -71,7 +71,7 @@ record FaultAt (number : ℕ) (lines : List (List ℕ)) (fault : ReadFault) : Ty
   following : List (List ℕ)
   c : Cause
   parts : lines ≡ map event_text before ++ refused ∷ following
-  place : fault ≡ Line (length before + number) c
+  numbered : fault ≡ Line (length before + number) c
   fits : AreEvents before
   why : event_of (words_of refused) ≡ Err c
 
@@ -81,7 +81,7 @@ fault_after : (number : ℕ) (line : List ℕ) (event : Event) (lines : List (Li
 fault_after number line event lines fault named f =
     let first = event_found (words_of line) event named in
     let text : line ≡ event_text event = sym (join_with_byte-slice_split 32 line) ∙ first.1 in
-    let place : length f.before + (number + 1) ≡ length (event ∷ f.before) + number = omega arith in
+    let later : length f.before + (number + 1) ≡ length (event ∷ f.before) + number = omega arith in
     record {
       before = event ∷ f.before;
       refused = f.refused;
@@ -89,7 +89,7 @@ fault_after number line event lines fault named f =
       c = f.c;
       parts = ap (λ (l : List ℕ). l ∷ lines) text ∙ ap (λ (ls : List (List ℕ)). event_text event
           ∷ ls) f.parts;
-      place = f.place ∙ ap (λ (n : ℕ). Line n f.c) place;
+      numbered = f.numbered ∙ ap (λ (n : ℕ). Line n f.c) later;
       fits = (first.0, f.fits);
       why = f.why;
     }
@@ -101,14 +101,14 @@ by_line : (number : ℕ) (line : List ℕ) (lines : List (List ℕ)) (fault : Re
 by_line number line lines fault (Err k) others named later e =
     let is : read_fault (Line number k) ≡ read_fault fault = e in
     let zero_more : number ≡ length {A = Event} [] + number = omega arith in
-    let place : Line number k ≡ fault = cc in
+    let is_line : Line number k ≡ fault = cc in
     record {
       before = [];
       refused = line;
       following = lines;
       c = k;
       parts = refl;
-      place = sym place
+      numbered = sym is_line
           ∙ ap (λ (n : ℕ). Line n k) zero_more;
       fits = tt;
       why = named;
@@ -251,7 +251,7 @@ schedule_again text events fits spelled = ap (events_of 1) (lines_from_spelling 
 first_fault : (text : List ℕ) (fault : ReadFault) → FaultAt 1 (lines_of text) fault
     → ExplainsFault text fault
 first_fault text fault f =
-    subst (ExplainsFault text) (sym f.place) (record {
+    subst (ExplainsFault text) (sym f.numbered) (record {
       before = f.before;
       refused = f.refused;
       following = f.following;

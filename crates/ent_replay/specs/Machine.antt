@@ -1,4 +1,5 @@
--- What the fields of a `Machine` stand for, and when they stand for something.
+-- What the fields of a `Machine` stand for, and when they stand for something. Only its model,
+-- private contracts and proofs use this.
 use Rattle.std.specs.Prelude.{◌≡◌, ℕ, ◌+◌, ◌^◌, ◌<◌, ◌≤◌, pos, ◌-ℤ◌, ◌≤ℤ◌, neg_ℤ, true, map, Option}
 use Rattle.std.specs.Prelude.{Some, None, Result, Err, ◌⊎◌}
 use Rattle.std.specs.Option.{unwrap_or, option_map}

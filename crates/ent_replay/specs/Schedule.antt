@@ -1,5 +1,5 @@
--- Schedules: what each event answers, and what it does to the state. The reply to a call is fixed
--- at its step.
+-- Schedules: what each event gives, and what it does to the state. The reply to a call is fixed at
+-- its step.
 use Rattle.std.specs.Prelude.{◌≡◌, ℕ, ◌+◌, ◌-◌, Bool, true, false, not, nat_lt, ◌==◌, if◌then◌else◌}
 use Rattle.std.specs.Prelude.{◌⊎◌, refl}
 use Rattle.std.specs.Prelude.{List, [], ◌∷◌, length, take, slice_get, Option, Some, None, IsSomeAnd}

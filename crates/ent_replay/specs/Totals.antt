@@ -1,4 +1,4 @@
--- Sums over the callers.
+-- Sums over the callers. Only the invariant of `Machine` and proofs use this.
 use Rattle.std.specs.Prelude.{ℕ, zero, suc, ◌+◌}
 
 -- the sum of f at the numbers below the given one

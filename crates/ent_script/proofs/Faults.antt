@@ -1,4 +1,4 @@
--- What is returned in place of a value.
+-- What is returned instead of a value.
 use Rattle.std.proofs.Common.{◌≡◌, List, Result, Err, sym, subst}
 use Rattle.std.specs.Global.{Vec}
 use Rattle.ent_script.specs.declared.read_fault.ReadFault.{ReadFault}

@@ -5,5 +5,7 @@ pub mod Faults
 pub mod Keys
 pub mod Numbering
 pub mod Texts
+pub mod PartRanges
 pub mod Ranges
 pub mod WorkedScripts
+pub mod WorkedRefusals

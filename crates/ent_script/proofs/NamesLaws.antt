@@ -1,4 +1,4 @@
--- Names and their places.
+-- Names and their numbers.
 use Rattle.std.proofs.Common.{◌≡◌, ℕ, ◌+◌, ◌<◌, Bool, true, false, List, [], ◌∷◌, ◌++◌, length, map}
 use Rattle.std.proofs.Common.{Option, Some, None, option_map, is_some, IfSome, cond, refl, sym, ap}
 use Rattle.std.proofs.Common.{◌∙◌, arith, bytes_eq, true≢false, suc, add-one, Bor, BTreeMap, subst}
@@ -11,7 +11,7 @@ use Rattle.std.proofs.Common.{unwrap_or, option_and_then}
 use Rattle.serde_json.specs.Data.{Data}
 use Rattle.ent_script.specs.Names.{as_name, number_among, with_name}
 use Rattle.ent_script.specs.Reading.{new_name}
-use Rattle.ent_script.specs.Places.{HavePlaces}
+use Rattle.ent_script.specs.Numbers.{HaveNumbers}
 
 within_later : (found : Option ℕ) (n : ℕ) → IfSome found (λ p. p < n)
     → IfSome (option_map (λ p. p + 1) found) (λ p. p < suc n)
@@ -23,12 +23,12 @@ within_either : (b : Bool) (found : Option ℕ) (n : ℕ) → IfSome found (λ p
 within_either true found n h = omega arith
 within_either false found n h = within_later found n h
 
--- a name's place is one of theirs
-pub place_of_within : (name : List ℕ) (names : List (List ℕ)) → IfSome (number_among name names)
+-- a name's number is less than how many there are
+pub number_within : (name : List ℕ) (names : List (List ℕ)) → IfSome (number_among name names)
     (λ p. p < length names)
-place_of_within name [] = tt
-place_of_within name (first ∷ others) = within_either (bytes_eq first name)
-    (number_among name others) (length others) (place_of_within name others)
+number_within name [] = tt
+number_within name (first ∷ others) = within_either (bytes_eq first name)
+    (number_among name others) (length others) (number_within name others)
 
 -- the first of two
 abbrev pub first_of : Option ℕ → Option ℕ → Option ℕ
@@ -88,16 +88,16 @@ length_now [] = refl
 length_now (n ∷ names) = ap suc (length_now names)
 
 -- a new name goes last
-pub places_added : (names : List (Bor (List ℕ))) (places after : BTreeMap (Bor (List ℕ)) ℕ)
+pub numbers_added : (names : List (Bor (List ℕ))) (numbers after : BTreeMap (Bor (List ℕ)) ℕ)
     (name : Bor (List ℕ)) (n : ℕ)
-    → n ≡ length names → HavePlaces names places → get_by (λ k. slice_cmp nat_cmp name.now k.now)
-    places ≡ None
-    → Updates (λ x y. slice_cmp nat_cmp x.now y.now) places after name (Some n)
-    → HavePlaces (names ++ name ∷ []) after
-places_added names places after name n count old none updates = λ text.
+    → n ≡ length names → HaveNumbers names numbers → get_by (λ k. slice_cmp nat_cmp name.now k.now)
+    numbers ≡ None
+    → Updates (λ x y. slice_cmp nat_cmp x.now y.now) numbers after name (Some n)
+    → HaveNumbers (names ++ name ∷ []) after
+numbers_added names numbers after name n count old none updates = λ text.
     let seen = map (λ (m : Bor (List ℕ)). m.now) names in
     let absent : number_among name.now seen ≡ None = sym (old name.now) ∙ none in
-    btree_map_updates_str name.now places after (Some n) updates text
+    btree_map_updates_str name.now numbers after (Some n) updates text
     ∙ ap (λ (found : Option ℕ). cond (bytes_eq name.now text) (Some n) found) (old text)
     ∙ ap (λ (m : ℕ). cond (bytes_eq name.now text) (Some m) (number_among text seen)) (count
     ∙ length_now names)

@@ -3,5 +3,5 @@ pub mod Json
 pub mod Names
 pub mod Reading
 pub mod Refusal
-pub mod Places
+pub mod Numbers
 pub mod Ranges

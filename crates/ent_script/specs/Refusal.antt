@@ -31,9 +31,10 @@ operation_cause_text cause.Handle = codes "handle"
 abbrev pub spaced_number : ℕ → List ℕ
 spaced_number n = 32 ∷ decimal n
 
--- where an operation stands, and what is wrong with it
-abbrev pub operation_place : ℕ → ℕ → ℕ → Cause → List ℕ
-operation_place f s o c = spaced_number f ++ spaced_number s ++ spaced_number o ++ 32 ∷ operation_cause_text c
+-- the numbers of an operation, and what is wrong with it
+abbrev pub operation_text : ℕ → ℕ → ℕ → Cause → List ℕ
+operation_text f s o c =
+    spaced_number f ++ spaced_number s ++ spaced_number o ++ 32 ∷ operation_cause_text c
 
 -- want of memory has no text, since no line is written of it
 abbrev pub refusal_text : ReadFault → List ℕ
@@ -42,7 +43,7 @@ refusal_text (fault.Script c) = codes "refused script " ++ script_cause_text c
 refusal_text (fault.Frame f) = codes "refused frame" ++ spaced_number f
 refusal_text (fault.System f s) = codes "refused system" ++ spaced_number f ++ spaced_number s
 refusal_text (fault.Operation f s o c) =
-    codes "refused operation" ++ operation_place f s o c
+    codes "refused operation" ++ operation_text f s o c
 refusal_text fault.Memory = []
 
 -- the text, and a line feed

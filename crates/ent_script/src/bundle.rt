@@ -37,7 +37,7 @@ impl Bundle {
         }
     }
 
-    /// Puts the component's value, in place of the one that is there.
+    /// Puts the component's value, instead of the one that is there.
     ///
     /// # Errors
     ///

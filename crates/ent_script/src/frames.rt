@@ -5,6 +5,7 @@ ghost use Rattle.ent_script.specs.Reading.{of_kind, operation_of, bound_name, at
 ghost use Rattle.ent_script.specs.Reading.{operation_at, system_of, frame_of, numbered};
 ghost use Rattle.ent_script.specs.Reading.{ReadsPart, ReadsAs, ReadsList};
 
+use crate::at::At;
 use crate::cause::Cause;
 use crate::elements::{at_most, name};
 use crate::frame::Frame;
@@ -96,20 +97,20 @@ fn operation_at(
     alloc: Global,
     components: &Names<'_>,
     bound: &Names<'_>,
-    place: (usize, usize, usize),
+    at: At,
     value: &Value,
 ) -> Result<Operation, ReadFault>
     requires { length components.now ≤ 256 }
-    ensures { ReadsAs result (at_operation place.0 place.1 place.2
+    ensures { ReadsAs result (at_operation at.frame at.system at.operation
         (operation_of components.now bound.now (view value.now))) }
 {
     match operation(alloc, components, bound, value) {
         Ok(operation) => Ok(operation),
         Err(PartFault::Memory) => Err(ReadFault::Memory),
         Err(PartFault::Refused(cause)) => Err(ReadFault::Operation {
-            frame: place.0,
-            system: place.1,
-            operation: place.2,
+            frame: at.frame,
+            system: at.system,
+            operation: at.operation,
             cause,
         }),
     }
@@ -130,8 +131,12 @@ fn operations(
     let mut bound = Names::new(alloc);
     let mut operations = Vec::new(alloc);
     for (number, value) in values.iter().enumerate() {
-        let place = (frame, system, number);
-        let operation = operation_at(alloc, components, &bound, place, value)?;
+        let at = At {
+            frame,
+            system,
+            operation: number,
+        };
+        let operation = operation_at(alloc, components, &bound, at, value)?;
         operations.push(operation)?;
         bind(&mut bound, value)?;
     }

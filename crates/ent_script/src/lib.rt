@@ -1,6 +1,7 @@
 //! Scripts of frames, systems and operations: their types, and how they are read from JSON.
 #![tactic(auto)]
 
+mod at;
 mod bundle;
 mod cause;
 mod elements;

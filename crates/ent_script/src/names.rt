@@ -24,7 +24,7 @@ fn are_name_bytes(bytes: &[u8]) -> bool
 #[derive(Drop)]
 pub(crate) struct Names<'a> {
     list: Vec<&'a str>,
-    places: BTreeMap<&'a str, usize>,
+    numbers: BTreeMap<&'a str, usize>,
 }
 
 impl<'a> Model for Names<'a> {
@@ -32,11 +32,11 @@ impl<'a> Model for Names<'a> {
 
     ghost Value = { List (List ℕ) };
 
-    ghost use Rattle.ent_script.specs.Places.{HavePlaces};
+    ghost use Rattle.ent_script.specs.Numbers.{HaveNumbers};
 
     ghost view = { λ n. map (λ name. name.now) n.list.items };
 
-    ghost invariant = { λ n. HavePlaces n.list.items n.places };
+    ghost invariant = { λ n. HaveNumbers n.list.items n.numbers };
 }
 
 impl<'a> Names<'a> {
@@ -46,7 +46,7 @@ impl<'a> Names<'a> {
     {
         Names {
             list: Vec::new(alloc),
-            places: BTreeMap::new(alloc),
+            numbers: BTreeMap::new(alloc),
         }
     }
 
@@ -60,21 +60,21 @@ impl<'a> Names<'a> {
     /// The number of a name.
     pub(crate) fn find(&self, name: &str) -> Option<usize>
         ensures value { result ≡ number_among name.now self.now }
-        ensures within { IfSome result (λ place. place < length self.now) }
+        ensures within { IfSome result (λ number. number < length self.now) }
     {
-        self.places.get(name).copied()
+        self.numbers.get(name).copied()
     }
 
     /// Puts the name last, unless it is there.
     pub(crate) fn add(&mut self, name: &'a str) -> Result<(), Memory>
         ensures ok { OnOk result (self.new ≡ with_name self.old name.now) }
     {
-        if self.places.contains_key(name) {
+        if self.numbers.contains_key(name) {
             return Ok(());
         }
         self.list.reserve(1)?;
-        let place = self.list.as_slice().len();
-        self.places.insert(name, place)?;
+        let number = self.list.as_slice().len();
+        self.numbers.insert(name, number)?;
         self.list.push_reserved(name);
         Ok(())
     }

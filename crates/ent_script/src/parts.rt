@@ -20,8 +20,8 @@ pub(crate) fn component(components: &Names<'_>, name: &str) -> Option<ComponentI
     requires { length components.now ≤ 256 }
     ensures { result ≡ component_of components.now name.now }
 {
-    let place = components.find(name)?;
-    Some(ComponentId(place as u8))
+    let number = components.find(name)?;
+    Some(ComponentId(number as u8))
 }
 
 /// How many, from 0 to 65,536.
@@ -67,8 +67,8 @@ fn target_at(
     ensures { result ≡ target_at components.now bound.now key.now text.now }
 {
     if key == "name" {
-        let place = bound.find(text).ok_or(Cause::Name)?;
-        Ok(Target::Name(place))
+        let number = bound.find(text).ok_or(Cause::Name)?;
+        Ok(Target::Name(number))
     } else if key == "handle" {
         let handle = Handle::read_text(text.as_bytes()).map_err(|_| Cause::Handle)?;
         Ok(Target::Handle(handle))

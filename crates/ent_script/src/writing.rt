@@ -1,8 +1,9 @@
 ghost use Rattle.std.specs.Prelude.{◌≡◌, ◌≢◌, ◌+◌, ◌<◌, ◌≤◌, ◌∷◌, ◌++◌, length, take, codes};
 ghost use Rattle.std.specs.Prelude.{OnOk, OnErr, vec_len, vec_capacity};
 ghost use Rattle.ent_script.specs.Refusal.{operation_cause_text, script_cause_text, spaced_number};
-ghost use Rattle.ent_script.specs.Refusal.{operation_place, refusal_text, refusal_line};
+ghost use Rattle.ent_script.specs.Refusal.{operation_text, refusal_text, refusal_line};
 
+use crate::at::At;
 use crate::cause::{Cause, ScriptCause};
 use crate::read_fault::ReadFault;
 use ent_handle::Memory;
@@ -18,10 +19,11 @@ fn append(out: &mut Vec<u8>, text: &[u8]) -> Result<(), Memory>
 }
 
 /// Appends a space and the decimal of a number.
-fn append_place(out: &mut Vec<u8>, number: usize) -> Result<(), Memory>
+fn append_number(out: &mut Vec<u8>, number: usize) -> Result<(), Memory>
     ensures ok { OnOk result (out.new.items ≡ out.old.items ++ spaced_number number) }
     ensures kept { OnErr result (take (vec_len out.old) out.new.items ≡ out.old.items) }
-    ensures full { OnErr result (vec_capacity out.old < vec_len out.old + length (spaced_number number)) }
+    ensures full { OnErr result (vec_capacity out.old
+        < vec_len out.old + length (spaced_number number)) }
     ensures capacity { vec_capacity out.old ≤ vec_capacity out.new }
 {
     append(out, b" ")?;
@@ -30,14 +32,15 @@ fn append_place(out: &mut Vec<u8>, number: usize) -> Result<(), Memory>
 
 /// Appends the numbers of a system and of its frame.
 fn append_system(out: &mut Vec<u8>, frame: usize, system: usize) -> Result<(), Memory>
-    ensures ok { OnOk result (out.new.items ≡ out.old.items ++ spaced_number frame ++ spaced_number system) }
+    ensures ok { OnOk result (out.new.items
+        ≡ out.old.items ++ spaced_number frame ++ spaced_number system) }
     ensures kept { OnErr result (take (vec_len out.old) out.new.items ≡ out.old.items) }
     ensures full { OnErr result (vec_capacity out.old
         < vec_len out.old + length (spaced_number frame ++ spaced_number system)) }
     ensures capacity { vec_capacity out.old ≤ vec_capacity out.new }
 {
-    append_place(out, frame)?;
-    append_place(out, system)
+    append_number(out, frame)?;
+    append_number(out, system)
 }
 
 fn append_cause(out: &mut Vec<u8>, operation: usize, cause: Cause) -> Result<(), Memory>
@@ -48,26 +51,22 @@ fn append_cause(out: &mut Vec<u8>, operation: usize, cause: Cause) -> Result<(),
         < vec_len out.old + length (spaced_number operation ++ 32 ∷ operation_cause_text cause)) }
     ensures capacity { vec_capacity out.old ≤ vec_capacity out.new }
 {
-    append_place(out, operation)?;
+    append_number(out, operation)?;
     append(out, b" ")?;
     append(out, cause.text().as_bytes())
 }
 
 /// Appends the numbers of an operation, its system and its frame, and what is wrong with it.
-fn append_operation(
-    out: &mut Vec<u8>,
-    at: (usize, usize, usize),
-    cause: Cause,
-) -> Result<(), Memory>
+fn append_operation(out: &mut Vec<u8>, at: At, cause: Cause) -> Result<(), Memory>
     ensures ok { OnOk result (out.new.items
-        ≡ out.old.items ++ operation_place at.0 at.1 at.2 cause) }
+        ≡ out.old.items ++ operation_text at.frame at.system at.operation cause) }
     ensures kept { OnErr result (take (vec_len out.old) out.new.items ≡ out.old.items) }
     ensures full { OnErr result (vec_capacity out.old
-        < vec_len out.old + length (operation_place at.0 at.1 at.2 cause)) }
+        < vec_len out.old + length (operation_text at.frame at.system at.operation cause)) }
     ensures capacity { vec_capacity out.old ≤ vec_capacity out.new }
 {
-    append_system(out, at.0, at.1)?;
-    append_cause(out, at.2, cause)
+    append_system(out, at.frame, at.system)?;
+    append_cause(out, at.operation, cause)
 }
 
 fn append_script_text(out: &mut Vec<u8>, cause: ScriptCause) -> Result<(), Memory>
@@ -91,33 +90,29 @@ fn append_frame_text(out: &mut Vec<u8>, frame: usize) -> Result<(), Memory>
     ensures capacity { vec_capacity out.old ≤ vec_capacity out.new }
 {
     append(out, b"refused frame")?;
-    append_place(out, frame)
+    append_number(out, frame)
 }
 
 fn append_system_text(out: &mut Vec<u8>, frame: usize, system: usize) -> Result<(), Memory>
     ensures ok { OnOk result (out.new.items
         ≡ out.old.items ++ codes "refused system" ++ spaced_number frame ++ spaced_number system) }
     ensures kept { OnErr result (take (vec_len out.old) out.new.items ≡ out.old.items) }
-    ensures full { OnErr result (vec_capacity out.old
-        < vec_len out.old + length (codes "refused system" ++ spaced_number frame ++ spaced_number system)) }
+    ensures full { OnErr result (vec_capacity out.old < vec_len out.old
+        + length (codes "refused system" ++ spaced_number frame ++ spaced_number system)) }
     ensures capacity { vec_capacity out.old ≤ vec_capacity out.new }
 {
     append(out, b"refused system")?;
     append_system(out, frame, system)
 }
 
-fn append_operation_text(
-    out: &mut Vec<u8>,
-    at: (usize, usize, usize),
-    cause: Cause,
-) -> Result<(), Memory>
+fn append_operation_text(out: &mut Vec<u8>, at: At, cause: Cause) -> Result<(), Memory>
     ensures ok { OnOk result (out.new.items
         ≡ out.old.items ++ codes "refused operation"
-        ++ operation_place at.0 at.1 at.2 cause) }
+        ++ operation_text at.frame at.system at.operation cause) }
     ensures kept { OnErr result (take (vec_len out.old) out.new.items ≡ out.old.items) }
     ensures full { OnErr result (vec_capacity out.old
-        < vec_len out.old
-        + length (codes "refused operation" ++ operation_place at.0 at.1 at.2 cause)) }
+        < vec_len out.old + length (codes "refused operation"
+        ++ operation_text at.frame at.system at.operation cause)) }
     ensures capacity { vec_capacity out.old ≤ vec_capacity out.new }
 {
     append(out, b"refused operation")?;
@@ -142,7 +137,14 @@ fn append_text(fault: ReadFault, out: &mut Vec<u8>) -> Result<(), Memory>
             system,
             operation,
             cause,
-        } => append_operation_text(out, (frame, system, operation), cause),
+        } => {
+            let at = At {
+                frame,
+                system,
+                operation,
+            };
+            append_operation_text(out, at, cause)
+        }
         ReadFault::Memory => unreachable!(),
     }
 }

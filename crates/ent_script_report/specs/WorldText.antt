@@ -13,12 +13,12 @@ use Rattle.ent_script_report.specs.declared.show.Show.{Show}
 use Rattle.ent_script_report.specs.FrameText.{shown_handle}
 
 -- which handle of which system, a dot before each number
-abbrev pub place_text : Birth → List ℕ
-place_text b = codes "." ++ decimal b.system ++ codes "." ++ decimal b.ordinal
+abbrev pub within_frame_text : Birth → List ℕ
+within_frame_text b = codes "." ++ decimal b.system ++ codes "." ++ decimal b.ordinal
 
 -- the three numbers of a birth, with dots between
 abbrev pub birth_text : Birth → List ℕ
-birth_text b = decimal b.frame ++ place_text b
+birth_text b = decimal b.frame ++ within_frame_text b
 
 -- the name at the component's number in the list; nothing if the list is too short
 abbrev pub component_name : List (List ℕ) → ComponentId → List ℕ

@@ -1,7 +1,7 @@
 ghost use Rattle.std.specs.Prelude.{◌≡◌, ◌++◌, ℕ, List, map, take, string_bytes};
 ghost use Rattle.std.specs.Prelude.{OnOk, OnErr, vec_len, codes};
 ghost use Rattle.std.specs.List.{flat_map};
-ghost use Rattle.ent_script_report.specs.WorldText.{place_text, birth_text, component_name};
+ghost use Rattle.ent_script_report.specs.WorldText.{within_frame_text, birth_text, component_name};
 ghost use Rattle.ent_script_report.specs.WorldText.{item_text};
 ghost use Rattle.ent_script_report.specs.WorldText.{entity_line, line_in, alive_line, IsWorldText};
 
@@ -12,8 +12,8 @@ use ent_storage::Items;
 use ent_world::World;
 
 /// Appends a birth's system and ordinal, a dot before each.
-fn append_place(out: &mut Vec<u8>, birth: Birth) -> Result<(), Memory>
-    ensures ok { OnOk result (out.new.items ≡ out.old.items ++ place_text birth) }
+fn append_within_frame(out: &mut Vec<u8>, birth: Birth) -> Result<(), Memory>
+    ensures ok { OnOk result (out.new.items ≡ out.old.items ++ within_frame_text birth) }
     ensures kept { OnErr result (take (vec_len out.old) out.new.items ≡ out.old.items) }
 {
     append_labelled(out, b".", birth.system)?;
@@ -25,7 +25,7 @@ fn append_birth(out: &mut Vec<u8>, birth: Birth) -> Result<(), Memory>
     ensures kept { OnErr result (take (vec_len out.old) out.new.items ≡ out.old.items) }
 {
     append_number(out, birth.frame)?;
-    append_place(out, birth)
+    append_within_frame(out, birth)
 }
 
 /// Appends a space and the name of a component, if it has one.

@@ -1,4 +1,7 @@
 pub mod Running
 pub mod OneReport
 pub mod GivenOnce
-pub mod WorkedReports
+pub mod SmallWorlds
+pub mod WorkedWithoutSystems
+pub mod WorkedOnOneWorker
+pub mod WorkedOnTwoWorkers

@@ -1,4 +1,4 @@
--- A run of a script on its way: some frames are done.
+-- A run of a script on its way: some frames are done. Only private contracts and proofs use this.
 use Rattle.std.specs.Prelude.{◌≡◌, ℕ, ◌≤◌, List, length}
 use Rattle.std.specs.List.{All}
 use Rattle.ent_world.specs.World.{World}

@@ -20,21 +20,7 @@ added_at (hs ∷ lists) (suc n) = added_at lists n
 pub names_added : (lists : List (List Handle)) → names_of (lists ++ [] ∷ []) ≡ names_of lists
 names_added lists = same_names _ _ (added_at lists)
 
--- a list that is added binds the next name
-pushed_at : (lists : List (List Handle)) (hs : List Handle) (n : ℕ) → names_of (lists ++ hs ∷ []) n
-    ≡ bound (length lists) hs (names_of lists) n
-pushed_at [] hs zero = refl
-pushed_at [] hs (suc n) = ap (λ b. cond b hs []) (sym (eqb-suc-zero n))
-pushed_at (xs ∷ lists) hs zero = ap (λ b. cond b hs xs) (sym (eqb-zero-suc (length lists)))
-pushed_at (xs ∷ lists) hs (suc n) = pushed_at lists hs n ∙ ap (λ b. cond b hs (names_of lists n))
-    (sym (eqb-suc-suc n (length lists)))
-
-pub names_pushed : (lists : List (List Handle)) (hs : List Handle) (n : ℕ) → length lists ≡ n
-    → names_of (lists ++ hs ∷ []) ≡ bound n hs (names_of lists)
-names_pushed lists hs n e = same_names _ _ (pushed_at lists hs)
-    ∙ ap (λ m. bound m hs (names_of lists)) e
-
--- a list that is put in place of another one
+-- a list that is put where another one stood
 set_at : (lists : List (List Handle)) (hs : List Handle) (n : ℕ) → n < length lists → (m : ℕ)
     → names_of (set lists n hs) m ≡ bound n hs (names_of lists) m
 set_at [] hs n within m = absurd (omega arith)

@@ -16,8 +16,8 @@ use Rattle.ent_handle.specs.declared.component.ComponentId.{ComponentId}
 use Rattle.ent_handle.specs.Handle.{Handle}
 use Rattle.ent_alloc.specs.declared.space.Space.{Space as OutOfSpace}
 use Rattle.ent_alloc.specs.Limits.{credit}
-use Rattle.ent_alloc.specs.Sequential.{Allocator, reply_to, born}
-use Rattle.ent_alloc.specs.History.{Call, IsLegal, after_history}
+use Rattle.ent_alloc.specs.Sequential.{Allocator, reply_to}
+use Rattle.ent_alloc.specs.History.{Call, IsLegal}
 use Rattle.ent_alloc.proofs.ListLaws.{filter_all}
 use Rattle.ent_alloc.proofs.PoolLaw.{reply-none}
 use Rattle.ent_shared.specs.declared.refused.Refused.TheVariants.{Space, Quota}
@@ -25,10 +25,8 @@ use Rattle.ent_storage.proofs.OneList.{one_list_with}
 use Rattle.ent_queue.specs.Command.{Command, Spawn, SpawnMany, Insert, Remove, Despawn, Refused}
 use Rattle.ent_world.specs.World.{World}
 use Rattle.ent_world.specs.OpenWorld.{View}
-use Rattle.ent_world.specs.Sync.{sync}
-use Rattle.ent_world.specs.declared.fault.Fault.{Fault}
-use Rattle.ent_runner.specs.Frame.{IsFrame, Ends, view_of, queue_at, commands_of, requests_by}
-use Rattle.ent_runner.specs.Frame.{first_call, reserved_by}
+use Rattle.ent_runner.specs.Frame.{IsFrame, view_of, queue_at, commands_of, requests_by}
+use Rattle.ent_runner.specs.Frame.{first_call}
 use Rattle.ent_runner.proofs.Lists.{at_within, all_below}
 use Rattle.ent_script.specs.declared.operation.Operation.{Operation}
 use Rattle.ent_script.specs.declared.operation.Operation.TheVariants as operation
@@ -270,18 +268,3 @@ one_course systems w q r h k first second =
     let queues : q ≡ r = ext_get_or [] q r count (λ n less. below_each (λ n. queue_at q n
     ≡ queue_at r n) (length systems) at n (omega (arith, less, first.count))) in
     (queues, a.calls ∙ (λ i. calls_of (commands_of (queues i) (mine i))) ∙ sym b.calls)
-
--- so the frame has one end
-pub one_end : (systems : List (List Operation)) (w : World) (q r : List (List Command))
-    (u v : World) (births born_too : List Handle) (faults faults_too : List Fault)
-    → Ends MayIssue systems 1 w q u births faults → Ends MayIssue systems 1 w r v born_too
-    faults_too
-    → (q ≡ r) × (u ≡ v) × (births ≡ born_too) × (faults ≡ faults_too)
-one_end systems w q r u v births born_too faults faults_too first second =
-    let one = one_course systems w q r first.history second.history first.frame second.frame in (
-      one.0,
-      first.world ∙ (λ i. (sync (one.0 i) (reserved_by (one.1 i) w)).world) ∙ sym second.world,
-      first.births_are ∙ ap (λ h. born (after_history w.allocator h)) one.1 ∙ sym second.births_are,
-      first.faults_are ∙ (λ i. (sync (one.0 i) (reserved_by (one.1 i) w)).faults)
-          ∙ sym second.faults_are,
-    )

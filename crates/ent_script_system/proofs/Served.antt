@@ -13,7 +13,8 @@ use Rattle.ent_runner.specs.Frame.{first_call}
 abbrev pub calls_of : List Command → List Call
 calls_of commands = map first_call (flat_map stands_for commands)
 
--- The allocator has replied to the reservations of the commands, and that much credit was left before.
+-- The allocator has replied to the reservations of the commands, and that much credit was left
+-- before.
 pub record IsServed (s : Allocator) (left : ℕ) (commands : List Command) : Type 0 where
   pub legal : IsLegal s (calls_of commands)
   pub within : FitCredit left commands

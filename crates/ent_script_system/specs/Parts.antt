@@ -1,4 +1,5 @@
--- What the parts of a run issue, and how the lists of names are kept.
+-- What the parts of a run issue, and how the lists of names are kept. Only private contracts and
+-- proofs use this.
 use Rattle.std.specs.Prelude.{◌≡◌, List, [], ◌∷◌, ◌++◌, map, slice_index_or}
 use Rattle.ent_handle.specs.Handle.{Handle}
 use Rattle.ent_queue.specs.Command.{Command, Insert, Remove, Despawn}

@@ -54,7 +54,7 @@ impl Bindings {
         Ok(())
     }
 
-    /// Binds the name, which has a place, to the list, in place of what was bound to it.
+    /// Binds the name, for which there is room, to the list. What was bound to it is forgotten.
     pub(crate) fn bind(&mut self, name: usize, list: Vec<Handle>)
         requires { name < length self.old }
         ensures { names_of self.new ≡ bound name list.items (names_of self.old) }

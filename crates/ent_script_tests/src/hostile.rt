@@ -155,7 +155,7 @@ const PLACES: [(&[u8], &[u8]); 7] = [
 ];
 
 #[test]
-fn numbers_at_other_places(rt: HostRuntime) -> Result<(), Fail> {
+fn numbers_elsewhere(rt: HostRuntime) -> Result<(), Fail> {
     for (text, line) in PLACES {
         assert!(rt; has_line(rt.alloc(), text, line)?, "at {text:?}");
     }

@@ -27,8 +27,8 @@ impl<'a> Part<'a> {
         }
     }
 
-    /// A list that is too long, or what stands in the place of a list.
-    pub(crate) fn in_place_of_list(value: Option<&'a Value>) -> Part<'a> {
+    /// A list that is too long, or what stands there instead of a list.
+    pub(crate) fn instead_of_list(value: Option<&'a Value>) -> Part<'a> {
         match value.and_then(Value::as_array) {
             Some(list) => Part::Long(list.len()),
             None => Part::of(value),

@@ -1,8 +1,8 @@
 use std::fmt;
 use std::fmt::{InlineText, Write};
 
-// How much of a value is shown, in bytes.
-const SHOWN: usize = 60;
+/// How much of a value or of a line is shown, in bytes.
+pub(crate) const SHOWN: usize = 60;
 
 /// The front of a text, in printable ASCII: each other character is an escape of JSON. So it can be
 /// shown on a terminal, and letters that look the same differ.

@@ -1,12 +1,21 @@
-use crate::found::Found;
+ghost use Rattle.std.specs.Fmt.InlineText.{inline_text};
+ghost use Rattle.spawnrun_advice.specs.Found.{TellsOfLine};
+
+use crate::found::{Found, with, with_number};
+use crate::plain::SHOWN;
 use std::fmt;
 use std::fmt::{InlineText, Write};
 
 /// What a schedule has at its line of this number, from 1.
-pub fn schedule_found(text: &[u8], line: usize) -> Found {
+pub fn schedule_found(text: &[u8], line: usize) -> Found
+    ensures found { TellsOfLine line (inline_text result) }
+{
     let shown = shown(line_of(text, line));
-    let shown = shown.as_str();
-    Found::of(format_args!("; found \"{shown}\" at line {line} (counted from 1)"))
+    let found = with(Found::new(), "; found \"");
+    let found = with(found, shown.as_str());
+    let found = with(found, "\" at line ");
+    let found = with_number(found, line);
+    with(found, " (counted from 1)")
 }
 
 // The line of this number, or an empty one.
@@ -17,7 +26,7 @@ fn line_of(text: &[u8], line: usize) -> &[u8] {
 }
 
 // The front of a line, in printable ASCII.
-fn shown(line: &[u8]) -> InlineText<60> {
+fn shown(line: &[u8]) -> InlineText<SHOWN> {
     let mut shown = InlineText::new();
     // It fails where the text is cut, which shows.
     let _ = show(line, &mut shown);

@@ -1,40 +1,56 @@
-use crate::found::Found;
+ghost use Rattle.std.specs.Prelude.{◌≡◌, ◌+◌, ◌≤◌, ◌++◌, length, codes};
+ghost use Rattle.std.specs.Fmt.{decimal};
+ghost use Rattle.std.specs.Fmt.InlineText.{inline_text};
+ghost use Rattle.spawnrun_advice.specs.Found.{position_text, TellsOfScript, TellsOfValue};
+
+use crate::found::{Found, with, with_number};
 use crate::part::Part;
 use crate::plain::Plain;
 use ent_script::{Cause, ReadFault, ScriptCause};
 use serde_json::{Map, Value};
 use std::alloc::Global;
-use std::fmt::InlineText;
+use std::fmt;
 
-/// What a text has in place of what a test of scripts wants, and where.
+/// What a text has instead of what a test of scripts wants, and where.
 ///
 /// The text is read as JSON once more, so this is for a text that is refused. If there is no memory
-/// for that, the place alone is said.
-pub fn script_found(alloc: Global, text: &[u8], fault: ReadFault) -> Found {
+/// for that, where it stands is all that is said.
+pub fn script_found(alloc: Global, text: &[u8], fault: ReadFault) -> Found
+    ensures found { TellsOfScript fault (inline_text result) }
+{
     if fault == ReadFault::Memory {
         return Found::new();
     }
     match Value::from_slice(alloc, text) {
-        Ok(script) => found(Plain::of(part(&script, fault)).as_str(), fault),
-        Err(error) if error.is_memory() => Found::of(place(fault).as_str()),
-        Err(error) => found(Plain::of(error).as_str(), fault),
+        Ok(script) => found(part(&script, fault), fault),
+        Err(error) if error.is_memory() => with_position(Found::new(), fault),
+        Err(error) => found(error, fault),
     }
 }
 
-fn found(what: &str, fault: ReadFault) -> Found {
-    let place = place(fault);
-    let place = place.as_str();
-    Found::of(format_args!("; found {what}{place}"))
+// A value, and where it stands.
+fn found<D: fmt::Display + Drop>(value: D, fault: ReadFault) -> Found
+    ensures { TellsOfValue fault (inline_text result) }
+{
+    let shown = Plain::of(value);
+    let found = with(Found::new(), "; found ");
+    let found = with(found, shown.as_str());
+    with_position(found, fault)
 }
 
-// Where the test failed.
-fn place(fault: ReadFault) -> InlineText<128> {
+// Appends where the test failed.
+fn with_position(found: Found, fault: ReadFault) -> Found
+    requires { length (inline_text found) ≤ 68 }
+    ensures { inline_text result ≡ inline_text found ++ position_text fault }
+{
     match fault {
         ReadFault::Frame { frame } => {
-            InlineText::of(format_args!(" at frame {frame} (counted from 0)"))
+            let found = with_frame(found, frame);
+            with(found, " (counted from 0)")
         }
         ReadFault::System { frame, system } => {
-            InlineText::of(format_args!(" at frame {frame}, system {system} (counted from 0)"))
+            let found = with_system(found, frame, system);
+            with(found, " (counted from 0)")
         }
         ReadFault::Operation {
             frame,
@@ -42,21 +58,55 @@ fn place(fault: ReadFault) -> InlineText<128> {
             operation,
             cause: _,
         } => {
-            InlineText::of(format_args!(
-                " at frame {frame}, system {system}, operation {operation} (counted from 0)"
-            ))
+            let found = with_operation(found, frame, system, operation);
+            with(found, " (counted from 0)")
         }
-        ReadFault::Json | ReadFault::Script(_) | ReadFault::Memory => InlineText::new(),
+        ReadFault::Json | ReadFault::Script(_) | ReadFault::Memory => found,
     }
+}
+
+// Appends the number of a frame.
+fn with_frame(found: Found, frame: usize) -> Found
+    requires { length (inline_text found) ≤ 68 }
+    ensures text { inline_text result
+        ≡ inline_text found ++ codes " at frame " ++ decimal frame }
+    ensures len { length (inline_text result) ≤ length (inline_text found) + 30 }
+{
+    let found = with(found, " at frame ");
+    with_number(found, frame)
+}
+
+// Appends the numbers of a system and of its frame.
+fn with_system(found: Found, frame: usize, system: usize) -> Found
+    requires { length (inline_text found) ≤ 68 }
+    ensures text { inline_text result ≡ inline_text found ++ codes " at frame " ++ decimal frame
+        ++ codes ", system " ++ decimal system }
+    ensures len { length (inline_text result) ≤ length (inline_text found) + 59 }
+{
+    let found = with_frame(found, frame);
+    let found = with(found, ", system ");
+    with_number(found, system)
+}
+
+// Appends the numbers of an operation, of its system and of its frame.
+fn with_operation(found: Found, frame: usize, system: usize, operation: usize) -> Found
+    requires { length (inline_text found) ≤ 68 }
+    ensures text { inline_text result ≡ inline_text found ++ codes " at frame " ++ decimal frame
+        ++ codes ", system " ++ decimal system ++ codes ", operation " ++ decimal operation }
+    ensures len { length (inline_text result) ≤ length (inline_text found) + 91 }
+{
+    let found = with_system(found, frame, system);
+    let found = with(found, ", operation ");
+    with_number(found, operation)
 }
 
 // What stands where the test failed.
 fn part(script: &Value, fault: ReadFault) -> Part<'_> {
     match fault {
         ReadFault::Script(cause) => script_part(script, cause),
-        ReadFault::Frame { frame } => Part::in_place_of_list(frame_of(script, frame)),
+        ReadFault::Frame { frame } => Part::instead_of_list(frame_of(script, frame)),
         ReadFault::System { frame, system } => {
-            Part::in_place_of_list(system_of(script, frame, system))
+            Part::instead_of_list(system_of(script, frame, system))
         }
         ReadFault::Operation {
             frame,
@@ -87,7 +137,7 @@ fn script_part(script: &Value, cause: ScriptCause) -> Part<'_> {
         ScriptCause::Slots => Part::of(script.get("slots")),
         ScriptCause::Generations => Part::of(script.get("generations")),
         ScriptCause::Components => components_part(script.get("components")),
-        ScriptCause::Frames => Part::in_place_of_list(script.get("frames")),
+        ScriptCause::Frames => Part::instead_of_list(script.get("frames")),
     }
 }
 

@@ -1,6 +1,9 @@
 pub mod DeviceLemmas
 pub mod ParsedOptions
 pub mod MovedNames
+pub mod MovedFaults
+pub mod MovedTakes
+pub mod CommandLineOptions
 pub mod CommandLineLemmas
 pub mod ReplayLemmas
 pub mod RunningLemmas

@@ -1,5 +1,5 @@
--- Where clap's parse of a command of options doesn't fail, each option has one value, which it
--- accepts.
+-- One induction over clap's walk, and so one file of more than 400 lines: where clap's parse of a
+-- command of options doesn't fail, each option has one value, which it accepts.
 use Rattle.std.proofs.Common.{◌≡◌, ◌∙◌, ◌⊎◌, ◌==◌, ◌&&◌, ◌||◌, ℕ, Bool, true, false, List, [], ◌∷◌}
 use Rattle.std.proofs.Common.{◌++◌, length, cond, zero, suc, refl, sym, ap, subst, inl, inr, ⊎_elim}
 use Rattle.std.proofs.Common.{arith, append-nil, Option, Some, None, IfSome, is_some}

@@ -79,14 +79,14 @@ program_of names =
     with_subcommand (with_subcommand top_command replay_command.top) (run_command names).top
 
 -- references to these texts, all to one address: clap reads the texts alone
-abbrev pub placed_texts : List Text → Bor (List (Bor Text))
-placed_texts texts = record {
+abbrev pub references_to : List Text → Bor (List (Bor Text))
+references_to texts = record {
   ref_ptr = (0, 0);
   now = map (λ text. record { ref_ptr = (0, 0); now = text }) texts;
 }
 
 abbrev pub program : App
-program = program_of (placed_texts shown)
+program = program_of (references_to shown)
 
 -- what clap's matches have for each option
 abbrev pub given : ArgMatches → List Row

@@ -20,7 +20,7 @@ pub trait Source {
     /// How many calls of the device have failed.
     ghost failures: { Self → ℕ };
 
-    /// Puts the next bytes at the start of the buffer, and returns how many. It answers 0 only at
+    /// Puts the next bytes at the start of the buffer, and returns how many. It returns 0 only at
     /// the end of the input or for an empty buffer. As with `io::Read`, the rest of the buffer may
     /// change too.
     ///

@@ -2,8 +2,8 @@
 //! runs of schedules and of scripts.
 //!
 //! `main` is one call of `start`, which hands the arguments and the standard streams to `execute`.
-//! All that happens from then on has a contract, over any devices, so that tests can put devices in
-//! memory in their place.
+//! All that happens from then on has a contract, over any devices, so that tests can use devices in
+//! memory.
 #![tactic(auto)]
 
 mod device;

@@ -1,8 +1,9 @@
 //! What the error stream is told of an input that is refused.
 use crate::memory::{EndlessSource, MemorySink, MemorySource, NEVER};
+use crate::runs::{run_of_schedule, run_of_script};
 use ent_alloc::Limits;
 use ent_script_report::Show;
-use spawnrun_lib::{Source, Status, replay, run};
+use spawnrun_lib::{Source, Status, run};
 use std::process::Abort;
 use std::test::Fail;
 use std::thread::Threads;
@@ -185,29 +186,16 @@ fn said_of_script<R, I: Source>(rt: &R, source: &mut I) -> Vec<u8>
 where
     R: Threads + Sync + Abort + AllocGlobal,
 {
-    let mut sink = MemorySink::new(rt.alloc(), NEVER);
-    let mut errors = MemorySink::new(rt.alloc(), NEVER);
-    let status = run(
-        rt,
-        rt.alloc(),
-        source,
-        &mut sink,
-        &mut errors,
-        1,
-        Show::Births,
-    );
-    assert!(rt; status == Status::Refused);
-    errors.bytes
+    let ran = run_of_script(rt, source, 1, Show::Births);
+    assert!(rt; ran.status == Status::Refused);
+    ran.errors
 }
 
 // What it is told of a schedule that is refused.
 fn said_of_schedule<I: Source>(rt: &(impl Abort + AllocGlobal), source: &mut I) -> Vec<u8> {
-    let mut sink = MemorySink::new(rt.alloc(), NEVER);
-    let mut errors = MemorySink::new(rt.alloc(), NEVER);
-    let limits = Limits::default_limits();
-    let status = replay(rt.alloc(), source, &mut sink, &mut errors, limits);
-    assert!(rt; status == Status::Refused);
-    errors.bytes
+    let ran = run_of_schedule(rt, source, Limits::default_limits());
+    assert!(rt; ran.status == Status::Refused);
+    ran.errors
 }
 
 #[test]

@@ -15,6 +15,8 @@ mod memory;
 #[cfg(test)]
 mod program;
 #[cfg(test)]
+mod runs;
+#[cfg(test)]
 mod schedules;
 #[cfg(test)]
 mod scripts;

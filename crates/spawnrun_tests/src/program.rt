@@ -196,7 +196,7 @@ fn words_that_cannot_be_read(rt: HostRuntime) {
 /// Passes whichever single allocation is refused: what asks for help gets all of its text, or hears
 /// of the memory.
 #[test]
-fn refused_memory_is_told_in_place_of_help(rt: HostRuntime) {
+fn refused_memory_is_told_instead_of_help(rt: HostRuntime) {
     let mut source = MemorySource::new(b"alloc\n", 7, NEVER);
     let mut sink = MemorySink::new(rt.alloc(), NEVER);
     let mut errors = MemorySink::new(rt.alloc(), NEVER);

@@ -1,4 +1,5 @@
 use crate::memory::{EndlessSource, MemorySink, MemorySource, NEVER};
+use crate::runs::run_of_schedule;
 use ent_alloc::Limits;
 use spawnrun_lib::{Status, replay};
 use std::alloc::{AllocError, Global};
@@ -20,11 +21,9 @@ fn replays(
 ) {
     let limits = Limits::new(slots, generations).expect(rt, "limits");
     let mut source = MemorySource::new(schedule.as_bytes(), 7, NEVER);
-    let mut sink = MemorySink::new(rt.alloc(), NEVER);
-    let mut errors = MemorySink::new(rt.alloc(), NEVER);
-    let ended = replay(rt.alloc(), &mut source, &mut sink, &mut errors, limits);
-    assert!(rt; ended == status, "at {schedule}");
-    assert!(rt; sink.bytes.as_slice() == output.as_bytes(), "at {schedule}");
+    let ran = run_of_schedule(rt, &mut source, limits);
+    assert!(rt; ran.status == status, "at {schedule}");
+    assert!(rt; ran.output.as_slice() == output.as_bytes(), "at {schedule}");
 }
 
 // A schedule with its limits, and what it writes.
@@ -185,18 +184,9 @@ fn no_schedule_is_refused_with_its_line(rt: HostRuntime) {
 
 #[test]
 fn an_input_without_end_is_refused(rt: HostRuntime) {
-    let mut sink = MemorySink::new(rt.alloc(), NEVER);
-    let mut errors = MemorySink::new(rt.alloc(), NEVER);
-    let limits = Limits::default_limits();
-    let status = replay(
-        rt.alloc(),
-        &mut EndlessSource,
-        &mut sink,
-        &mut errors,
-        limits,
-    );
-    assert!(rt; status == Status::Refused);
-    assert!(rt; sink.bytes.as_slice() == b"refused size\n".as_slice());
+    let ran = run_of_schedule(&rt, &mut EndlessSource, Limits::default_limits());
+    assert!(rt; ran.status == Status::Refused);
+    assert!(rt; ran.output.as_slice() == b"refused size\n".as_slice());
 }
 
 #[test]

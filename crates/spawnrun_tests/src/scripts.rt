@@ -1,6 +1,7 @@
 ghost use Rattle.std.specs.Prelude.{◌<◌, ◌≤◌, None};
 
 use crate::memory::{EndlessSource, MemorySink, MemorySource, NEVER};
+use crate::runs::run_of_script;
 use ent_script_report::Show;
 use spawnrun_lib::{Failed, INPUT_LIMIT, Source, Status, run};
 use std::process::Abort;
@@ -29,19 +30,9 @@ where
     requires few { workers ≤ 64 }
 {
     let mut source = MemorySource::new(script, 7, NEVER);
-    let mut sink = MemorySink::new(rt.alloc(), NEVER);
-    let mut errors = MemorySink::new(rt.alloc(), NEVER);
-    let ended = run(
-        rt,
-        rt.alloc(),
-        &mut source,
-        &mut sink,
-        &mut errors,
-        workers,
-        show,
-    );
-    assert!(rt; ended == status);
-    assert!(rt; sink.bytes.as_slice() == output.as_bytes());
+    let ran = run_of_script(rt, &mut source, workers, show);
+    assert!(rt; ran.status == status);
+    assert!(rt; ran.output.as_slice() == output.as_bytes());
 }
 
 #[test]
@@ -119,7 +110,7 @@ const REFUSED: [(&str, &str); 5] = [
 ];
 
 #[test]
-fn no_script_is_refused_with_its_place(rt: HostRuntime) {
+fn no_script_is_refused_with_its_position(rt: HostRuntime) {
     for (script, line) in REFUSED {
         runs(
             &rt,
@@ -201,19 +192,9 @@ fn refuses<R, I: Source>(rt: &R, source: &mut I, line: &[u8])
 where
     R: Threads + Sync + Abort + AllocGlobal,
 {
-    let mut sink = MemorySink::new(rt.alloc(), NEVER);
-    let mut errors = MemorySink::new(rt.alloc(), NEVER);
-    let status = run(
-        rt,
-        rt.alloc(),
-        source,
-        &mut sink,
-        &mut errors,
-        1,
-        Show::Births,
-    );
-    assert!(rt; status == Status::Refused);
-    assert!(rt; sink.bytes.as_slice() == line);
+    let ran = run_of_script(rt, source, 1, Show::Births);
+    assert!(rt; ran.status == Status::Refused);
+    assert!(rt; ran.output.as_slice() == line);
 }
 
 #[test]

@@ -5,6 +5,7 @@ use Rattle.spawnrun_lib.specs.declared.input.InputFault.{InputFault}
 use Rattle.ent_replay.specs.declared.ReadFault.TheVariants.{Line}
 use Rattle.ent_replay.specs.ScheduleText.{schedule_of}
 use Rattle.ent_replay.specs.Schedule.{outcomes_of, starting}
+use Rattle.spawnrun_advice.specs.Found.{TellsOfLine}
 use Rattle.spawnrun_lib.specs.Advice.{AdvisesOnSchedule, schedule_long, schedule_none}
 use Rattle.spawnrun_lib.specs.Replay.{ReplayEnds, runs, is_too_long, spells_none, input_limit}
 use Rattle.spawnrun_lib.specs.Replay.{outcome_lines}
@@ -69,10 +70,13 @@ returns-in-Err-Line-clause-advised g c = λ refused same.
     let fault = rw c.in-Err-Line.field-0-is at c.in-Err-Line.ensures.exact in
     let spelled : schedule_of c.in-Ok.bytes.items ≡ Err (Line line cause) =
     ap schedule_of (sym c.deref.ensures.value) ∙ fault in
+    let tells : TellsOfLine line c.as_str.result.now =
+    subst (TellsOfLine line) (sym c.as_str.ensures.value)
+    (rw c.in-Err-Line.line-is at c.schedule_found-found.ensures.found) in
     advised AdvisesOnSchedule input _ _ _
     (λ bytes told. let is = told_is input c.in-Ok.bytes.items bytes c.in-Ok.ensures.whole told in
     schedule_none line cause _ (subst (λ known. length known ≤ input_limit) is fits)
-    (subst (λ known. schedule_of known ≡ Err (Line line cause)) is spelled))
+    (subst (λ known. schedule_of known ≡ Err (Line line cause)) is spelled) tells)
     (rw (c.line_wants.ensures, c.in-Err-Line.cause-is) at c.refuse.ensures.advised refused same)
 
 pub returns-in-Err-TooLong-clause-advised : goal.returns-in-Err-TooLong-clause-advised

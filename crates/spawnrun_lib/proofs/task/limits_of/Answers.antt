@@ -1,7 +1,7 @@
 use Rattle.std.proofs.Common.{◌≡◌, ◌∙◌, codes, arith, lit<, Some, is_some, sym, ap}
 use Rattle.clap.specs.Words.{found_of}
 use Rattle.ent_alloc.specs.Limits.{Limits}
-use Rattle.spawnrun_lib.proofs.CommandLineLemmas.{number_read}
+use Rattle.spawnrun_lib.proofs.CommandLineOptions.{number_read}
 use Rattle.spawnrun_lib.proofs.task.limits_of.Goals as goal
 
 pub unwrap-slots-requires : goal.unwrap-slots-requires

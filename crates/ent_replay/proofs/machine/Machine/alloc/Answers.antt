@@ -8,9 +8,9 @@ use Rattle.ent_replay.specs.Machine.{machine_state, AreConsistent}
 use Rattle.ent_replay.specs.declared.outcome.Outcome.TheVariants as outcome
 use Rattle.ent_replay.specs.declared.fault.ReplayFault.TheVariants as fault
 use Rattle.ent_replay.proofs.Maps.{no_test}
-use Rattle.ent_replay.proofs.MachineEvents.{done, refused, flushed, ok_not_err, busy-alloc}
-use Rattle.ent_replay.proofs.MachineEvents.{alloc-needs_flush, alloc-space, alloc-given}
-use Rattle.ent_replay.proofs.MachineEvents.{alloc-takes_memory, alloc-consistent}
+use Rattle.ent_replay.proofs.MachineAnswers.{done, refused, flushed, ok_not_err}
+use Rattle.ent_replay.proofs.ExclusiveEvents.{busy-alloc, alloc-needs_flush, alloc-space}
+use Rattle.ent_replay.proofs.ExclusiveEvents.{alloc-given, alloc-takes_memory, alloc-consistent}
 use Rattle.ent_replay.proofs.machine.Machine.alloc.Goals as goal
 use Rattle.ent_replay.proofs.machine.Machine.alloc.Goals.{in-Ok, in-Err-NeedsFlush, in-Err-Space}
 use Rattle.ent_replay.proofs.machine.Machine.alloc.Goals.{in-Err-Memory}

@@ -8,8 +8,9 @@ use Rattle.ent_replay.specs.declared.machine.Machine.TheInside.{Inside}
 use Rattle.ent_replay.specs.declared.outcome.Outcome.{Outcome}
 use Rattle.ent_replay.specs.declared.outcome.Outcome.TheVariants as outcome
 use Rattle.ent_replay.specs.declared.fault.ReplayFault.TheVariants as fault
-use Rattle.ent_replay.proofs.MachineEvents.{done, refused, answer-not_open, answer-not_stepped}
-use Rattle.ent_replay.proofs.MachineEvents.{answer-answered, answer-consistent, listed-takes_memory}
+use Rattle.ent_replay.proofs.MachineAnswers.{done, refused, listed-takes_memory}
+use Rattle.ent_replay.proofs.CallEvents.{answer-not_open, answer-not_stepped, answer-answered}
+use Rattle.ent_replay.proofs.CallEvents.{answer-consistent}
 use Rattle.ent_replay.proofs.machine.Machine.answer.Goals as goal
 use Rattle.ent_replay.proofs.machine.Machine.answer.Goals.{in-Ok+in-Ok-listed, in-Err}
 

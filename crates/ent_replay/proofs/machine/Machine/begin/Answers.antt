@@ -7,8 +7,8 @@ use Rattle.ent_replay.specs.Machine.{machine_state, AreConsistent}
 use Rattle.ent_replay.specs.declared.outcome.Outcome.TheVariants as outcome
 use Rattle.ent_replay.specs.declared.fault.ReplayFault.TheVariants as fault
 use Rattle.ent_replay.proofs.Maps.{insert-remove}
-use Rattle.ent_replay.proofs.MachineEvents.{done, refused, some_of, none_of, on_ok, on_err}
-use Rattle.ent_replay.proofs.MachineEvents.{begin-open, begin-quota, begin-begun, begin-consistent}
+use Rattle.ent_replay.proofs.MachineAnswers.{done, refused, some_of, none_of, on_ok, on_err}
+use Rattle.ent_replay.proofs.CallEvents.{begin-open, begin-quota, begin-begun, begin-consistent}
 use Rattle.ent_replay.proofs.machine.Machine.begin.Goals as goal
 
 pub returns-then-is_some : goal.returns-then-is_some

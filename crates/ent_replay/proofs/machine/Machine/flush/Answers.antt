@@ -1,4 +1,4 @@
-use Rattle.std.proofs.Common.{◌≡◌, ◌<◌, ℕ, Bool, refl, sym, ap, subst, ◌∙◌, Ok, Err, List, [], ◌∷◌}
+use Rattle.std.proofs.Common.{◌≡◌, ◌<◌, Bool, refl, sym, ap, subst, ◌∙◌, Ok, Err, List, [], ◌∷◌}
 use Rattle.std.proofs.Common.{◌++◌, length, vec_len, inl, inr, arith}
 use Rattle.std.specs.List.{filter}
 use Rattle.std.specs.FinMap as finite
@@ -9,8 +9,9 @@ use Rattle.ent_replay.specs.Machine.{machine_state, AreConsistent}
 use Rattle.ent_replay.specs.declared.outcome.Outcome.TheVariants as outcome
 use Rattle.ent_replay.specs.declared.fault.ReplayFault.TheVariants as fault
 use Rattle.ent_replay.proofs.Maps.{no_test}
-use Rattle.ent_replay.proofs.MachineEvents.{done, refused, on_ok, on_err, busy-flush, flush-flushed}
-use Rattle.ent_replay.proofs.MachineEvents.{flush-takes_memory, flush-consistent}
+use Rattle.ent_replay.proofs.MachineAnswers.{done, refused, on_ok, on_err}
+use Rattle.ent_replay.proofs.ExclusiveEvents.{busy-flush, flush-flushed, flush-takes_memory}
+use Rattle.ent_replay.proofs.ExclusiveEvents.{flush-consistent}
 use Rattle.ent_replay.proofs.machine.Machine.flush.Goals as goal
 
 pub returns-then-not-is_empty : goal.returns-then-not-is_empty

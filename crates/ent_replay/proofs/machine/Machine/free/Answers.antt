@@ -8,9 +8,9 @@ use Rattle.ent_replay.specs.Machine.{machine_state, AreConsistent}
 use Rattle.ent_replay.specs.declared.outcome.Outcome.TheVariants as outcome
 use Rattle.ent_replay.specs.declared.fault.ReplayFault.TheVariants as fault
 use Rattle.ent_replay.proofs.Maps.{no_test}
-use Rattle.ent_replay.proofs.MachineEvents.{done, refused, flushed, ok_not_err, same_test}
-use Rattle.ent_replay.proofs.MachineEvents.{busy-free, free-needs_flush, free-not_alive, free-freed}
-use Rattle.ent_replay.proofs.MachineEvents.{free-takes_memory, free-consistent}
+use Rattle.ent_replay.proofs.MachineAnswers.{done, refused, flushed, ok_not_err, same_test}
+use Rattle.ent_replay.proofs.ExclusiveEvents.{busy-free, free-needs_flush, free-not_alive}
+use Rattle.ent_replay.proofs.ExclusiveEvents.{free-freed, free-takes_memory, free-consistent}
 use Rattle.ent_replay.proofs.machine.Machine.free.Goals as goal
 use Rattle.ent_replay.proofs.machine.Machine.free.Goals.{in-Ok, in-Err-NeedsFlush, in-Err-NotAlive}
 use Rattle.ent_replay.proofs.machine.Machine.free.Goals.{in-Err-Memory}

@@ -2,7 +2,7 @@ use Rattle.std.proofs.Common.{sym, ap, subst, ◌∙◌, Ok}
 use Rattle.std.specs.FinMap as finite
 use Rattle.ent_replay.specs.Machine.{machine_state, AreConsistent}
 use Rattle.ent_alloc.specs.Sound.{IsSound}
-use Rattle.ent_replay.proofs.MachineEvents.{starting_is, starting-consistent}
+use Rattle.ent_replay.proofs.MachineStart.{starting_is, starting-consistent}
 use Rattle.ent_replay.proofs.machine.Machine.new.Goals as goal
 
 pub invariant_of-result : goal.invariant_of-result

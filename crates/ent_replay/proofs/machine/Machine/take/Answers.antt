@@ -8,8 +8,9 @@ use Rattle.ent_replay.specs.Schedule.{on_step}
 use Rattle.ent_replay.specs.Machine.{machine_state, unasked, AreConsistent}
 use Rattle.ent_replay.specs.declared.outcome.Outcome.TheVariants as outcome
 use Rattle.ent_replay.specs.declared.fault.ReplayFault.TheVariants as fault
-use Rattle.ent_replay.proofs.MachineEvents.{done, some_of, none_of, awaited-bound, step-not_open}
-use Rattle.ent_replay.proofs.MachineEvents.{step-stepped, step-taken, step-consistent}
+use Rattle.ent_replay.proofs.MachineAnswers.{done, some_of, none_of}
+use Rattle.ent_replay.proofs.CallEvents.{awaited-bound, step-not_open, step-stepped, step-taken}
+use Rattle.ent_replay.proofs.CallEvents.{step-consistent}
 use Rattle.ent_replay.proofs.machine.Machine.take.Goals as goal
 
 pub returns-in_default : goal.returns-in_default

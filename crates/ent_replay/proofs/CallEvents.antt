@@ -1,0 +1,365 @@
+-- What the events of a call do to the fields of a `Machine`, and that they keep them in order.
+use Rattle.std.proofs.Common.{◌≡◌, refl, sym, ap, subst, ◌∙◌, ℕ, ◌+◌, ◌^◌, ◌<◌, ◌≤◌, pos, ◌-ℤ◌}
+use Rattle.std.proofs.Common.{◌≤ℤ◌, true, nat_lt, length, drop, filter, Option, Some, None, Ok, Err}
+use Rattle.std.proofs.Common.{arith}
+use Rattle.std.proofs.lemmas.Int.{ints}
+use Rattle.std.specs.Option.{option_map, unwrap_or}
+use Rattle.std.specs.Ordering.{nat_cmp}
+use Rattle.std.specs.FinMap as finite
+use Rattle.std.specs.FinMap.{FinMap}
+use Rattle.std.proofs.lemmas.Bool.Decides.{nat_tests}
+use Rattle.std.proofs.lemmas.Option.{same_Some}
+use native.Mathlib.Decide.{ℕ_discrete}
+use Rattle.ent_alloc.specs.declared.span.Span.{Span}
+use Rattle.ent_alloc.specs.Sequential.{Allocator, cursor, reply_from, reply_to, pool_at, asked_at}
+use Rattle.ent_alloc.specs.Sequential.{is_old, after_take}
+use Rattle.ent_alloc.specs.Sound.{IsSound}
+use Rattle.ent_alloc.proofs.Taken.{available-after_take}
+use Rattle.ent_alloc.proofs.Soundness.{after_take-sound}
+use Rattle.ent_alloc.proofs.PoolLaw.{made-after_take, asked-after_take, top-after_take}
+use Rattle.ent_alloc.proofs.PoolLaw.{cursor-after_take, reply-cursor}
+use Rattle.ent_replay.specs.declared.stored_call.StoredCall.{StoredCall}
+use Rattle.ent_replay.specs.declared.event.Event.TheVariants as event
+use Rattle.ent_replay.specs.declared.outcome.Outcome.TheVariants as outcome
+use Rattle.ent_replay.specs.declared.fault.ReplayFault.TheVariants as fault
+use Rattle.ent_replay.specs.Schedule.{on_begin, on_step, on_answer, begin_with, step_with}
+use Rattle.ent_replay.specs.Schedule.{step_open, answer_with, answer_open, left_of, callers}
+use Rattle.ent_replay.specs.Schedule.{reported}
+use Rattle.ent_replay.specs.Totals.{sum_below}
+use Rattle.ent_replay.specs.Machine.{map_values, open_call_of, machine_state, unasked, awaited}
+use Rattle.ent_replay.specs.Machine.{AreConsistent}
+use Rattle.ent_replay.proofs.Conditions.{when, unless}
+use Rattle.ent_replay.proofs.Giving.{all_held-next, not_wrapped-reported}
+use Rattle.ent_replay.proofs.Totals.{sum_below-changed, sum_below-part}
+use Rattle.ent_replay.proofs.Maps.{get-inserted, get-insert_other, get-removed, get-remove_other}
+use Rattle.ent_replay.proofs.Maps.{get-map_values, map_values-insert, map_values-remove}
+use Rattle.ent_replay.proofs.ExclusiveEvents.{asked-bound}
+
+module _ (s : Allocator) (spent : FinMap nat_cmp ℕ) (calls : FinMap nat_cmp StoredCall) where
+  module _ (caller : ℕ) (below : caller < callers) where
+    is_caller : nat_lt caller callers ≡ true
+    is_caller = grind (arith, nat_tests)
+
+    opened : (o : Option StoredCall) → finite.get calls caller ≡ o
+        → finite.get (map_values (open_call_of s) calls) caller ≡ option_map (open_call_of s) o
+    opened o is = get-map_values (open_call_of s) calls caller ∙ ap (option_map (open_call_of s)) is
+
+    -- what waits for this caller is counted
+    pub awaited-bound : AreConsistent s spent calls → (call : StoredCall) → finite.get calls caller
+        ≡ Some call → s.asked + unasked call.requested call.span ≤ 2 ^ 50
+    awaited-bound h call is =
+        let all = asked-bound s spent calls h in
+        let one : awaited (finite.get calls caller) ≤ sum_below (λ q. awaited (finite.get calls q))
+        callers = sum_below-part (λ q. awaited (finite.get calls q)) caller callers below in
+        let here = ap awaited is in
+        omega arith
+
+    pub begin-open : (n : ℕ) (call : StoredCall) → finite.get calls caller ≡ Some call
+        → on_begin (machine_state s spent calls) caller n
+        ≡ (Err fault.AlreadyOpen, machine_state s spent calls)
+    begin-open n call is = when (nat_lt caller callers) _ _ is_caller
+        ∙ ap (begin_with (machine_state s spent calls) caller n) (opened (Some call) is)
+
+    pub begin-quota : (n : ℕ) → finite.get calls caller ≡ None
+        → left_of (machine_state s spent calls) caller < n
+        → on_begin (machine_state s spent calls) caller n
+        ≡ (
+          Err (fault.Quota (left_of (machine_state s spent calls) caller)),
+          machine_state s
+              spent calls,
+        )
+    begin-quota n is short =
+        when (nat_lt caller callers) _ _ is_caller
+        ∙ ap (begin_with (machine_state s spent calls) caller n) (opened None is)
+        ∙ when (nat_lt (left_of (machine_state s spent calls) caller) n) _ _
+        (grind (arith, nat_tests))
+
+    -- the call as it begins
+    abbrev begun : ℕ → StoredCall
+    begun n = record { requested = n; span = None }
+
+    abbrev more : ℕ → ℕ
+    more n = unwrap_or (finite.get spent caller) 0 + n
+
+    pub begin-begun : (n : ℕ) → finite.get calls caller ≡ None → n
+        ≤ left_of (machine_state s spent calls) caller
+        → on_begin (machine_state s spent calls) caller n
+        ≡ (
+          Ok outcome.Open,
+          machine_state s (finite.insert spent caller (more n))
+              (finite.insert calls caller (begun n)),
+        )
+    begin-begun n is enough =
+        when (nat_lt caller callers) _ _ is_caller
+        ∙ ap (begin_with (machine_state s spent calls) caller n) (opened None is)
+        ∙ unless (nat_lt (left_of (machine_state s spent calls) caller) n) _ _
+        (grind (arith, nat_tests))
+        ∙ ap (λ m. (
+          Ok outcome.Open,
+          record {
+            allocator = s;
+            spent = finite.insert spent caller
+                (more n);
+            calls = m;
+          },
+        ))
+        (sym (map_values-insert (open_call_of s) calls caller (begun n)))
+
+    pub begin-consistent : AreConsistent s spent calls → (n : ℕ) → finite.get calls caller ≡ None
+        → n < 2 ^ 32 → n ≤ left_of (machine_state s spent calls) caller
+        → AreConsistent s (finite.insert spent caller (more n))
+        (finite.insert calls caller (begun n))
+    begin-consistent h n is small enough = record {
+      sound = h.sound;
+      credit = λ q. elim (ℕ_discrete q caller) [
+        | yes same ↦
+            let new : unwrap_or (finite.get (finite.insert spent caller (more n)) q) 0
+            ≡ more n = ap (λ p. unwrap_or (finite.get (finite.insert spent caller (more n)) p)
+            0) same ∙ ap (λ o. unwrap_or o 0) (get-inserted spent caller (more n)) in
+            let old = h.credit caller in
+            omega arith
+        | no other ↦
+            let new : unwrap_or (finite.get (finite.insert spent caller (more n)) q) 0
+            ≡ unwrap_or (finite.get spent q) 0 = ap (λ o. unwrap_or o 0)
+            (get-insert_other spent caller (more n) q other) in
+            let old = h.credit q in
+            omega arith
+      ];
+      asked =
+          let before = h.asked in
+          let waits = sum_below-changed (λ q. awaited (finite.get calls q))
+          (λ q. awaited (finite.get (finite.insert calls caller (begun n)) q)) caller callers
+          below
+          (λ q other. ap awaited (sym (get-insert_other calls caller (begun n) q other))) in
+          let spends = sum_below-changed (λ q. unwrap_or (finite.get spent q) 0)
+          (λ q. unwrap_or (finite.get (finite.insert spent caller (more n)) q) 0) caller callers
+          below
+          (λ q other. ap (λ o. unwrap_or o 0)
+          (sym (get-insert_other spent caller (more n) q other))) in
+          let waited : awaited (finite.get calls caller) ≡ 0 = ap awaited is in
+          let waits_now : awaited (finite.get (finite.insert calls caller (begun n)) caller)
+          ≡ n = ap awaited (get-inserted calls caller (begun n)) in
+          let spent_now : unwrap_or (finite.get (finite.insert spent caller (more n)) caller) 0
+          ≡ more n = ap (λ o. unwrap_or o 0) (get-inserted spent caller (more n)) in
+          omega arith;
+      requests = λ q call at. elim (ℕ_discrete q caller) [
+        | yes same ↦
+            let here : Some (begun n) ≡ Some call = sym (get-inserted calls caller (begun n))
+            ∙ ap (finite.get (finite.insert calls caller (begun n))) (sym same) ∙ at in
+            let requested : n ≡ call.requested = ap (λ c. c.requested)
+            (same_Some (begun n) call here) in
+            omega arith
+        | no other ↦ h.requests q call (sym (get-insert_other calls caller (begun n) q other) ∙ at)
+      ];
+      spans = λ q call span at passed. elim (ℕ_discrete q caller) [
+        | yes same ↦
+            let here : Some (begun n) ≡ Some call = sym (get-inserted calls caller (begun n))
+            ∙ ap (finite.get (finite.insert calls caller (begun n))) (sym same) ∙ at in
+            let nothing : None ≡ call.span = ap (λ c. c.span) (same_Some (begun n) call here) in
+            absurd cc
+        | no other ↦ h.spans q call span (sym (get-insert_other calls caller (begun n) q other)
+            ∙ at) passed
+      ];
+      once = all_held-next (machine_state s spent calls) (event.Begin caller n) (Ok outcome.Open)
+          (machine_state s (finite.insert spent caller (more n))
+          (finite.insert calls caller (begun n)))
+          (begin-begun n is enough) refl h.sound h.once;
+    }
+
+    pub step-not_open : finite.get calls caller ≡ None → on_step (machine_state s spent calls)
+        caller ≡ (Err fault.NotOpen, machine_state s spent calls)
+    step-not_open is = when (nat_lt caller callers) _ _ is_caller
+        ∙ ap (step_open (machine_state s spent calls) caller) (opened None is)
+
+    pub answer-not_open : finite.get calls caller ≡ None → on_answer (machine_state s spent calls)
+        caller ≡ (Err fault.NotOpen, machine_state s spent calls)
+    answer-not_open is = when (nat_lt caller callers) _ _ is_caller
+        ∙ ap (answer_open (machine_state s spent calls) caller) (opened None is)
+
+    module _ (call : StoredCall) (is : finite.get calls caller ≡ Some call) where
+      pub step-stepped : (span : Span) → call.span ≡ Some span
+          → on_step (machine_state s spent calls) caller
+          ≡ (Err fault.AlreadyStepped, machine_state s spent calls)
+      step-stepped span passed =
+          when (nat_lt caller callers) _ _ is_caller
+          ∙ ap (step_open (machine_state s spent calls) caller) (opened (Some call) is)
+          ∙ ap (λ o. step_with (machine_state s spent calls) caller call.requested
+          (option_map (λ span. reply_from s.made (pool_at s span.high) call.requested) o))
+          passed
+
+      -- the call after its step
+      abbrev stepped : StoredCall
+      stepped = record {
+        requested = call.requested;
+        span =
+            Some (record { high = cursor s; low = cursor s -ℤ pos call.requested });
+      }
+
+      pub step-taken : IsSound s → call.span ≡ None
+          → on_step (machine_state s spent calls) caller
+          ≡ (
+            Ok (outcome.Cursor (cursor s -ℤ pos call.requested)),
+            machine_state
+                (after_take s call.requested) spent (finite.insert calls caller stepped),
+          )
+      step-taken sound waits =
+          let t = after_take s call.requested in
+          when (nat_lt caller callers) _ _ is_caller
+          ∙ ap (step_open (machine_state s spent calls) caller) (opened (Some call) is)
+          ∙ ap (λ o. step_with (machine_state s spent calls) caller call.requested
+          (option_map (λ span. reply_from s.made (pool_at s span.high) call.requested) o)) waits
+          ∙ (λ i. (
+            Ok (outcome.Cursor (cursor-after_take s call.requested sound i)),
+            record { allocator = t; spent = spent; calls = inserted i },
+          ))
+        where
+          -- what a span replies stays through the step
+          same : open_call_of s ≡ open_call_of (after_take s call.requested)
+          same = λ i c. record {
+            requested = c.requested;
+            reply = option_map (λ span. reply_from (sym (made-after_take s call.requested) i)
+                (drop (asked_at
+                (length (filter (is_old (sym (made-after_take s call.requested) i))
+                (sym (available-after_take s call.requested sound) i))) span.high)
+                (sym (available-after_take s call.requested sound) i)) c.requested) c.span;
+          }
+
+          inserted : finite.insert (map_values (open_call_of s) calls) caller
+              (record { requested = call.requested; reply = Some (reply_to s call.requested) })
+              ≡ map_values (open_call_of (after_take s call.requested))
+              (finite.insert calls caller stepped)
+          inserted =
+              ap (λ r. finite.insert (map_values (open_call_of s) calls) caller
+              (record { requested = call.requested; reply = Some r }))
+              (sym (reply-cursor s call.requested sound))
+              ∙ sym (map_values-insert (open_call_of s) calls caller stepped)
+              ∙ ap (λ f. map_values f (finite.insert calls caller stepped)) same
+
+      pub step-consistent : AreConsistent s spent calls → call.span ≡ None
+          → AreConsistent (after_take s call.requested) spent (finite.insert calls caller stepped)
+      step-consistent h waits = record {
+        sound = after_take-sound s call.requested h.sound;
+        credit = h.credit;
+        asked =
+            let before = h.asked in
+            let all = sum_below-changed (λ q. awaited (finite.get calls q))
+            (λ q. awaited (finite.get (finite.insert calls caller stepped) q)) caller callers
+            below
+            (λ q other. ap awaited (sym (get-insert_other calls caller stepped q other))) in
+            let waited : awaited (finite.get calls caller) ≡ call.requested = ap awaited is
+            ∙ ap (unasked call.requested) waits in
+            let waits_now : awaited (finite.get (finite.insert calls caller stepped) caller)
+            ≡ 0 = ap awaited (get-inserted calls caller stepped) in
+            let asks = asked-after_take s call.requested in
+            omega arith;
+        requests = λ q other_call at. elim (ℕ_discrete q caller) [
+          | yes same ↦
+              let here : Some stepped ≡ Some other_call = sym (get-inserted calls caller stepped)
+              ∙ ap (finite.get (finite.insert calls caller stepped)) (sym same) ∙ at in
+              let requested : call.requested ≡ other_call.requested = ap (λ c. c.requested)
+              (same_Some stepped other_call here) in
+              let small = h.requests caller call is in
+              omega arith
+          | no other ↦ h.requests q other_call (sym (get-insert_other calls caller stepped q other)
+              ∙ at)
+        ];
+        spans = λ q other_call span at passed. elim (ℕ_discrete q caller) [
+          | yes same ↦
+              let here : Some stepped ≡ Some other_call = sym (get-inserted calls caller stepped)
+              ∙ ap (finite.get (finite.insert calls caller stepped)) (sym same) ∙ at in
+              let alike : stepped ≡ other_call = same_Some stepped other_call here in
+              let at_span : record { high = cursor s; low = cursor s -ℤ pos call.requested }
+              ≡ span = same_Some _ span (ap (λ c. c.span) alike ∙ passed) in
+              let requested : call.requested ≡ other_call.requested = ap (λ c. c.requested) alike in
+              let high : cursor s ≡ span.high = ap (λ x. x.high) at_span in
+              let low : cursor s -ℤ pos call.requested ≡ span.low = ap (λ x. x.low) at_span in
+              let limit = asked-bound s spent calls h in
+              let tops = top-after_take s call.requested h.sound in
+              record {
+                least = omega (arith, ints);
+                high = omega (arith, ints);
+                low =
+                    omega (arith, ints);
+              }
+          | no other ↦
+              let old = h.spans q other_call span
+              (sym (get-insert_other calls caller stepped q other) ∙ at) passed in
+              let tops = top-after_take s call.requested h.sound in
+              record {
+                least = old.least;
+                high = subst (λ n. span.high ≤ℤ pos n) (sym tops)
+                    old.high;
+                low = old.low;
+              }
+        ];
+        once = all_held-next (machine_state s spent calls) (event.Step caller)
+            (Ok (outcome.Cursor (cursor s -ℤ pos call.requested)))
+            (machine_state (after_take s call.requested) spent (finite.insert calls caller stepped))
+            (step-taken h.sound waits) refl h.sound h.once;
+      }
+
+      pub answer-not_stepped : call.span ≡ None → on_answer (machine_state s spent calls) caller
+          ≡ (Err fault.NotStepped, machine_state s spent calls)
+      answer-not_stepped waits =
+          when (nat_lt caller callers) _ _ is_caller
+          ∙ ap (answer_open (machine_state s spent calls) caller) (opened (Some call) is)
+          ∙ ap (λ o. answer_with (machine_state s spent calls) caller
+          (option_map (λ span. reply_from s.made (pool_at s span.high) call.requested) o)) waits
+
+      pub answer-answered : (span : Span) → call.span ≡ Some span
+          → on_answer (machine_state s spent calls) caller
+          ≡ (
+            Ok (reported (reply_from s.made (pool_at s span.high) call.requested)),
+            machine_state s spent (finite.remove calls caller),
+          )
+      answer-answered span passed =
+          when (nat_lt caller callers) _ _ is_caller
+          ∙ ap (answer_open (machine_state s spent calls) caller) (opened (Some call) is)
+          ∙ ap (λ o. answer_with (machine_state s spent calls) caller
+          (option_map (λ span. reply_from s.made (pool_at s span.high) call.requested) o))
+          passed
+          ∙ ap (λ m. (
+            Ok (reported (reply_from s.made (pool_at s span.high) call.requested)),
+            record { allocator = s; spent = spent; calls = m },
+          ))
+          (sym (map_values-remove (open_call_of s) calls caller))
+
+      pub answer-consistent : AreConsistent s spent calls → (span : Span) → call.span ≡ Some span
+          → AreConsistent s spent (finite.remove calls caller)
+      answer-consistent h span passed = record {
+        sound = h.sound;
+        credit = h.credit;
+        asked =
+            let before = h.asked in
+            let all = sum_below-changed (λ q. awaited (finite.get calls q))
+            (λ q. awaited (finite.get (finite.remove calls caller) q)) caller callers below
+            (λ q other. ap awaited (sym (get-remove_other calls caller q other))) in
+            let waited : awaited (finite.get calls caller) ≡ 0 = ap awaited is
+            ∙ ap (unasked call.requested) passed in
+            let waits_now : awaited (finite.get (finite.remove calls caller) caller)
+            ≡ 0 = ap awaited (get-removed calls caller) in
+            omega arith;
+        requests = λ q other_call at. elim (ℕ_discrete q caller) [
+          | yes same ↦ absurd (gone q other_call same at)
+          | no other ↦ h.requests q other_call (sym (get-remove_other calls caller q other) ∙ at)
+        ];
+        spans = λ q other_call other_span at. elim (ℕ_discrete q caller) [
+          | yes same ↦ absurd (gone q other_call same at)
+          | no other ↦ h.spans q other_call other_span (sym (get-remove_other calls caller q other)
+              ∙ at)
+        ];
+        once = all_held-next (machine_state s spent calls) (event.Answer caller)
+            (Ok (reported (reply_from s.made (pool_at s span.high) call.requested)))
+            (machine_state s spent (finite.remove calls caller))
+            (answer-answered span passed)
+            (not_wrapped-reported (reply_from s.made (pool_at s span.high) call.requested))
+            h.sound h.once;
+      }
+        where
+          gone : (q : ℕ) (c : StoredCall) → q ≡ caller → finite.get (finite.remove calls caller) q
+              ≡ Some c → ⊥
+          gone q c same at =
+              let nothing : finite.get (finite.remove calls caller) q
+              ≡ None = ap (finite.get (finite.remove calls caller)) same
+              ∙ get-removed calls caller in
+              cc

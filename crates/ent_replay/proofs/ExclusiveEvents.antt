@@ -1,0 +1,255 @@
+-- What the events that need the allocator to themselves do to the fields of a `Machine`, and that
+-- they keep them in order.
+use Rattle.std.proofs.Common.{◌≡◌, refl, sym, ap, ◌∙◌, ℕ, ◌+◌, ◌*◌, ◌^◌, ◌<◌, ◌≤◌, Bool, true}
+use Rattle.std.proofs.Common.{false, not, nat_lt, [], length, drop, filter, slice_get, Some, None}
+use Rattle.std.proofs.Common.{Ok, Err, arith}
+use Rattle.std.specs.Prelude.{◌==◌}
+use Rattle.std.specs.Option.{unwrap_or}
+use Rattle.std.specs.Ordering.{nat_cmp}
+use Rattle.std.specs.FinSet as set
+use Rattle.std.specs.FinMap as finite
+use Rattle.std.specs.FinMap.{FinMap, get-empty, len-empty, empty_of_len}
+use Rattle.std.proofs.lemmas.Bool.Decides.{nat_tests}
+use Rattle.std.proofs.lemmas.List.Sorted.{length_permutation}
+use Rattle.ent_handle.specs.Handle.{Handle}
+use Rattle.ent_alloc.specs.Limits.{credit}
+use Rattle.ent_alloc.specs.Sequential.{Allocator, top, available, next, born, is_old, after_alloc}
+use Rattle.ent_alloc.specs.Sequential.{after_free, after_flush}
+use Rattle.ent_alloc.specs.Sound.{IsSound}
+use Rattle.ent_alloc.specs.Given as given
+use Rattle.ent_alloc.proofs.Flushes.{born-IsPermutation}
+use Rattle.ent_alloc.proofs.Soundness.{after_alloc-sound, after_free-sound, after_flush-sound}
+use Rattle.ent_replay.specs.declared.stored_call.StoredCall.{StoredCall}
+use Rattle.ent_replay.specs.declared.outcome.Outcome.TheVariants as outcome
+use Rattle.ent_replay.specs.declared.fault.ReplayFault.TheVariants as fault
+use Rattle.ent_replay.specs.Schedule.{OpenCall, is_busy, on_alloc, on_free, on_flush, alloc_front}
+use Rattle.ent_replay.specs.Schedule.{event_takes_memory, callers, wraps}
+use Rattle.ent_replay.specs.Totals.{sum_below}
+use Rattle.ent_replay.specs.Held.{all_held}
+use Rattle.ent_replay.specs.Machine.{map_values, open_call_of, machine_state, awaited}
+use Rattle.ent_replay.specs.Machine.{AreConsistent}
+use Rattle.ent_replay.proofs.Conditions.{when, unless}
+use Rattle.ent_replay.proofs.Giving.{all_held-none, given-none}
+use Rattle.ent_replay.proofs.Totals.{sum_below-bound, sum_below-none}
+use Rattle.ent_replay.proofs.Maps.{maps_alike, get-map_values, map_values-empty}
+use Rattle.ent_replay.proofs.MachineAnswers.{flushed, front, none_is_none, front_takes_memory}
+use Rattle.ent_replay.proofs.MachineAnswers.{some_handles, not_false}
+
+module _ (s : Allocator) (spent : FinMap nat_cmp ℕ) (calls : FinMap nat_cmp StoredCall) where
+  -- ---- whether a call is open
+
+  pub quiet : calls ≡ finite.empty → is_busy (machine_state s spent calls) ≡ false
+  quiet none = ap (λ m. not (finite.len (map_values (open_call_of s) m) == 0)) none
+      ∙ ap (λ m. not (finite.len m == 0)) (map_values-empty (open_call_of s))
+      ∙ ap (λ n. not (n == 0)) (len-empty nat_cmp OpenCall)
+
+  pub busy : ¬ (calls ≡ finite.empty) → is_busy (machine_state s spent calls) ≡ true
+  busy some = go (finite.len (map_values (open_call_of s) calls) == 0) refl
+    where
+      nothing : finite.len (map_values (open_call_of s) calls) ≡ 0 → calls ≡ finite.empty
+      nothing is = maps_alike calls finite.empty (λ q.
+          none_is_none (open_call_of s) (finite.get calls q)
+          (sym (get-map_values (open_call_of s) calls q)
+          ∙ ap (λ m. finite.get m q) (empty_of_len (map_values (open_call_of s) calls) is)
+          ∙ get-empty nat_cmp q)
+          ∙ sym (get-empty nat_cmp q))
+
+      go : (b : Bool) → (finite.len (map_values (open_call_of s) calls) == 0) ≡ b
+          → not (finite.len (map_values (open_call_of s) calls) == 0) ≡ true
+      go true is = absurd
+          (some (nothing (let test : (finite.len (map_values (open_call_of s) calls) == 0)
+          ≡ true = is in grind (arith, nat_tests))))
+      go false is = ap not is
+
+  -- with no call open the allocator may change
+  pub quiet_calls : calls ≡ finite.empty → (t : Allocator) → map_values (open_call_of s) calls
+      ≡ map_values (open_call_of t) calls
+  quiet_calls none t = ap (map_values (open_call_of s)) none ∙ map_values-empty (open_call_of s)
+      ∙ sym (map_values-empty (open_call_of t)) ∙ ap (map_values (open_call_of t)) (sym none)
+
+  -- nor is anything kept for one
+  quiet_once : calls ≡ finite.empty → (t : Allocator)
+      → given.AreSpent t (all_held (map_values (open_call_of t) calls))
+  quiet_once none t = given-none t (all_held (map_values (open_call_of t) calls))
+      (all_held-none (map_values (open_call_of t) calls) (ap (map_values (open_call_of t)) none
+      ∙ map_values-empty (open_call_of t)))
+
+  pub quiet_played : AreConsistent s spent calls → calls ≡ finite.empty → (t : Allocator)
+      → IsSound t → t.asked ≡ s.asked → AreConsistent t spent calls
+  quiet_played h none t sound same = record {
+    sound = sound;
+    credit = h.credit;
+    asked = let before = h.asked in omega arith;
+    requests = h.requests;
+    spans = λ q call span is _. absurd (absent q call is);
+    once = quiet_once none t;
+  }
+    where
+      absent : (q : ℕ) (call : StoredCall) → finite.get calls q ≡ Some call → ⊥
+      absent q call is = let nothing : finite.get calls q ≡ None = ap (λ m. finite.get m q) none
+          ∙ get-empty nat_cmp q in cc
+
+  -- what was asked for, and what is still to be, is within what a span can have
+  pub asked-bound : AreConsistent s spent calls → s.asked
+      + sum_below (λ q. awaited (finite.get calls q)) callers ≤ 2 ^ 50
+  unfolding credit
+  asked-bound h =
+      let before = h.asked in
+      let bound : sum_below (λ q. unwrap_or (finite.get spent q) 0) callers ≤ callers
+      * credit = sum_below-bound (λ q. unwrap_or (finite.get spent q) 0) credit callers h.credit
+      in
+      omega arith
+
+  -- ---- events that need the allocator to themselves
+
+  pub busy-alloc : ¬ (calls ≡ finite.empty) → on_alloc (machine_state s spent calls)
+      ≡ (Err fault.Busy, machine_state s spent calls)
+  busy-alloc some = when (is_busy (machine_state s spent calls)) _ _ (busy some)
+
+  pub busy-free : ¬ (calls ≡ finite.empty) → (h : Handle) → on_free (machine_state s spent calls) h
+      ≡ (Err fault.Busy, machine_state s spent calls)
+  busy-free some h = when (is_busy (machine_state s spent calls)) _ _ (busy some)
+
+  pub busy-flush : ¬ (calls ≡ finite.empty) → on_flush (machine_state s spent calls)
+      ≡ (Err fault.Busy, machine_state s spent calls)
+  busy-flush some = when (is_busy (machine_state s spent calls)) _ _ (busy some)
+
+  module _ (none : calls ≡ finite.empty) where
+    pub alloc-needs_flush : 0 < s.asked → on_alloc (machine_state s spent calls)
+        ≡ (Ok outcome.NeedsFlush, machine_state s spent calls)
+    alloc-needs_flush some = unless (is_busy (machine_state s spent calls)) _ _ (quiet none)
+        ∙ when (nat_lt 0 s.asked) _ _ (grind (arith, nat_tests))
+
+    alloc-flushed : ¬ (0 < s.asked) → on_alloc (machine_state s spent calls)
+        ≡ alloc_front (machine_state s spent calls) s.pool
+    alloc-flushed rest = unless (is_busy (machine_state s spent calls)) _ _ (quiet none)
+        ∙ unless (nat_lt 0 s.asked) _ _ (grind (arith, nat_tests))
+
+    pub alloc-space : s.asked ≡ 0 → s.pool ≡ [] → on_alloc (machine_state s spent calls)
+        ≡ (Ok (outcome.Space 1 0), machine_state s spent calls)
+    alloc-space rest empty = alloc-flushed (λ some. absurd (omega arith))
+        ∙ ap (alloc_front (machine_state s spent calls)) empty
+
+    pub alloc-given : (h : Handle) → ¬ (0 < s.asked) → slice_get s.pool 0 ≡ Some h
+        → on_alloc (machine_state s spent calls)
+        ≡ (Ok (outcome.Handle h), machine_state (after_alloc s h) spent calls)
+    alloc-given h rest first =
+        alloc-flushed rest ∙ ap (alloc_front (machine_state s spent calls)) (front s.pool h first)
+        ∙ ap (λ m. (
+          Ok (outcome.Handle h),
+          record {
+            allocator = after_alloc s h;
+            spent =
+                spent;
+            calls = m;
+          },
+        )) (quiet_calls none (after_alloc s h))
+
+    -- if no old slot waits, the front of the pool makes a slot
+    pub alloc-takes_memory : IsSound s → ¬ (0 < s.asked) → ¬ (s.pool ≡ []) → top s ≡ 0
+        → event_takes_memory (machine_state s spent calls)
+        (on_alloc (machine_state s spent calls)).0 ≡ true
+    alloc-takes_memory sound rest some none_old =
+        let nothing : s.asked ≡ 0 = flushed rest in
+        let pool : s.pool ≡ available s = sound.pool ∙ ap (λ n. drop n (available s)) nothing in
+        ap (λ p. event_takes_memory (machine_state s spent calls) p.0) (alloc-flushed rest)
+        ∙ front_takes_memory (machine_state s spent calls) s.pool some
+        (ap (λ hs. length (filter (is_old s.made) hs)) pool ∙ none_old)
+
+    pub alloc-consistent : (h : Handle) → AreConsistent s spent calls → ¬ (0 < s.asked)
+        → slice_get s.pool 0 ≡ Some h → AreConsistent (after_alloc s h) spent calls
+    alloc-consistent h played rest first =
+        let nothing : s.asked ≡ 0 = omega arith in
+        quiet_played played none (after_alloc s h) (after_alloc-sound s h (drop 1 s.pool)
+        played.sound nothing (front s.pool h first)) refl
+
+    pub free-needs_flush : (h : Handle) → 0 < s.asked → on_free (machine_state s spent calls) h
+        ≡ (Ok outcome.NeedsFlush, machine_state s spent calls)
+    free-needs_flush h some = unless (is_busy (machine_state s spent calls)) _ _ (quiet none)
+        ∙ when (nat_lt 0 s.asked) _ _ (grind (arith, nat_tests))
+
+    pub free-not_alive : (h : Handle) → s.asked ≡ 0 → set.contains s.live h ≡ false
+        → on_free (machine_state s spent calls) h
+        ≡ (Ok outcome.NotAlive, machine_state s spent calls)
+    free-not_alive h rest gone =
+        unless (is_busy (machine_state s spent calls)) _ _ (quiet none)
+        ∙ unless (nat_lt 0 s.asked) _ _ (grind (arith, nat_tests))
+        ∙ unless (set.contains s.live h) _ _ gone
+
+    pub free-freed : (h : Handle) → ¬ (0 < s.asked) → set.contains s.live h ≡ true
+        → on_free (machine_state s spent calls) h
+        ≡ (
+          Ok (outcome.Freed h (next s.limits h) (wraps s.limits h)),
+          machine_state
+              (after_free s h) spent calls,
+        )
+    free-freed h rest lives =
+        unless (is_busy (machine_state s spent calls)) _ _ (quiet none)
+        ∙ unless (nat_lt 0 s.asked) _ _ (grind (arith, nat_tests))
+        ∙ when (set.contains s.live h) _ _ lives
+        ∙ ap (λ m. (
+          Ok (outcome.Freed h (next s.limits h) (wraps s.limits h)),
+          record {
+            allocator =
+                after_free s h;
+            spent = spent;
+            calls = m;
+          },
+        )) (quiet_calls none (after_free s h))
+
+    -- to free what lives takes memory
+    pub free-takes_memory : (h : Handle) → ¬ (0 < s.asked) → ¬ (set.contains s.live h ≡ false)
+        → event_takes_memory (machine_state s spent calls) (on_free (machine_state s spent calls)
+        h).0 ≡ true
+    free-takes_memory h rest lives = ap (λ p. event_takes_memory (machine_state s spent calls) p.0)
+        (free-freed h rest (not_false (set.contains s.live h) lives))
+
+    pub free-consistent : (h : Handle) → AreConsistent s spent calls → ¬ (0 < s.asked)
+        → set.contains s.live h ≡ true → AreConsistent (after_free s h) spent calls
+    free-consistent h played rest lives =
+        let nothing : s.asked ≡ 0 = omega arith in
+        quiet_played played none (after_free s h) (after_free-sound s h played.sound nothing lives)
+        refl
+
+    pub flush-flushed : on_flush (machine_state s spent calls)
+        ≡ (Ok (outcome.Born (born s)), machine_state (after_flush s) finite.empty calls)
+    flush-flushed =
+        unless (is_busy (machine_state s spent calls)) _ _ (quiet none)
+        ∙ ap (λ m. (
+          Ok (outcome.Born (born s)),
+          record {
+            allocator = after_flush s;
+            spent =
+                finite.empty;
+            calls = m;
+          },
+        )) (quiet_calls none (after_flush s))
+
+    -- to bring handles to life takes memory
+    pub flush-takes_memory : 0 < length s.taken → event_takes_memory (machine_state s spent calls)
+        (on_flush (machine_state s spent calls)).0 ≡ true
+    flush-takes_memory some =
+        let long : length (born s) ≡ length s.taken = length_permutation s.taken (born s)
+        (born-IsPermutation s) in
+        ap (λ p. event_takes_memory (machine_state s spent calls) p.0) flush-flushed
+        ∙ some_handles (born s) (omega arith)
+
+    pub flush-consistent : AreConsistent s spent calls → AreConsistent (after_flush s) finite.empty
+        calls
+    flush-consistent played = record {
+      sound = after_flush-sound s played.sound;
+      credit = λ q. let nothing : unwrap_or (finite.get (finite.empty {X = ℕ} {R = nat_cmp}) q) 0
+          ≡ 0 = ap (λ o. unwrap_or o 0) (get-empty nat_cmp q) in omega arith;
+      asked =
+          let waits : sum_below (λ q. awaited (finite.get calls q)) callers
+          ≡ 0 = sum_below-none (λ q. awaited (finite.get calls q)) callers
+          (λ q. ap (λ m. awaited (finite.get m q)) none ∙ ap awaited (get-empty nat_cmp q)) in
+          omega arith;
+      requests = played.requests;
+      spans = λ q call span is _. absurd (absent q call is);
+      once = quiet_once none (after_flush s);
+    }
+      where
+        absent : (q : ℕ) (call : StoredCall) → finite.get calls q ≡ Some call → ⊥
+        absent q call is = let nothing : finite.get calls q ≡ None = ap (λ m. finite.get m q) none
+            ∙ get-empty nat_cmp q in cc

@@ -1,0 +1,117 @@
+-- What a test of a machine's answer tells, and what a refusal for want of memory has to be.
+use Rattle.std.proofs.Common.{◌≡◌, refl, sym, ap, ◌∙◌, ℕ, ◌<◌, suc, Bool, true, false, IsTrue}
+use Rattle.std.proofs.Common.{nat_lt, List, [], ◌∷◌, length, drop, filter, slice_get, Option, Some}
+use Rattle.std.proofs.Common.{None, Result, Ok, Err, arith, inl, inr}
+use Rattle.std.specs.Prelude.{◌==◌}
+use Rattle.std.specs.Option.{option_map, is_some}
+use Rattle.std.specs.Result.{OnOk, OnErr, is_err}
+use Rattle.std.proofs.lemmas.Bool.Decides.{nat_tests}
+use native.Mathlib.Decide.{ℕ_discrete}
+use Rattle.ent_handle.specs.Handle.{Handle}
+use Rattle.ent_alloc.specs.Sequential.{next, is_old, is_fresh}
+use Rattle.ent_replay.specs.declared.outcome.Outcome.{Outcome}
+use Rattle.ent_replay.specs.declared.outcome.Outcome.TheVariants as outcome
+use Rattle.ent_replay.specs.declared.fault.ReplayFault.{ReplayFault}
+use Rattle.ent_replay.specs.declared.fault.ReplayFault.TheVariants as fault
+use Rattle.ent_replay.specs.Schedule.{MachineState, Answered, alloc_front, event_takes_memory}
+use Rattle.ent_replay.specs.Machine.{Makes}
+use Rattle.ent_replay.proofs.Conditions.{when}
+use Rattle.ent_replay.proofs.Maps.{no_test}
+
+-- The machine did what the step says, or refused for want of memory: told of the values that a
+-- contract sees.
+pub done : (on : MachineState → Answered) (inside now : MachineState) → inside ≡ now
+    → (result answer : Result Outcome ReplayFault) → result ≡ answer → (after next : MachineState)
+    → after ≡ next
+    → on inside ≡ (answer, next) → Makes (on now) now result after
+done on inside now view result answer is after next is_next step =
+    inl (
+      is ∙ ap (λ p. p.0) (sym step) ∙ ap (λ v. (on v).0) view,
+      is_next ∙ ap (λ p. p.1) (sym step)
+          ∙ ap (λ v. (on v).1) view,
+    )
+
+pub refused : (on : MachineState → Answered) (inside now : MachineState) → inside ≡ now
+    → (result : Result Outcome ReplayFault) → result ≡ Err fault.Memory → (after : MachineState)
+    → after ≡ inside
+    → event_takes_memory inside (on inside).0 ≡ true → Makes (on now) now result after
+refused on inside now view result is after unchanged takes =
+    inr (is, unchanged ∙ view, ap (λ v. event_takes_memory v (on v).0) (sym view) ∙ takes)
+
+-- two tests that say the same are one
+pub same_test : (b : Bool) (m n : ℕ) → (IsTrue b → m ≡ n) × (m ≡ n → IsTrue b) → b ≡ (m == n)
+same_test true m n both = let same = both.0 refl in grind (arith, nat_tests)
+same_test false m n both = elim (ℕ_discrete m n) [
+  | yes same ↦ absurd (no_test (both.1 same))
+  | no other ↦ grind (arith, nat_tests)
+]
+
+-- what a test of an answer tells
+pub some_of : {X : Type 0} (o : Option X) → true ≡ is_some o → (x : X) × (o ≡ Some x)
+some_of None is = absurd (no_test (sym is))
+some_of (Some x) is = (x, refl)
+
+pub none_of : {X : Type 0} (o : Option X) → false ≡ is_some o → o ≡ None
+none_of None is = refl
+none_of (Some x) is = absurd (no_test is)
+
+pub on_ok : {T E : Type 0} {P : Type 0} (r : Result T E) → false ≡ is_err r → OnOk r P → P
+on_ok (Ok x) is holds = holds
+on_ok (Err e) is holds = absurd (no_test is)
+
+pub on_err : {T E : Type 0} {P : Type 0} (r : Result T E) → true ≡ is_err r → OnErr r P → P
+on_err (Ok x) is holds = absurd (no_test (sym is))
+on_err (Err e) is holds = holds
+
+-- nothing was asked for
+pub flushed : {asked : ℕ} → ¬ (0 < asked) → asked ≡ 0
+flushed none = omega arith
+
+-- an answer is no refusal
+pub ok_not_err : {T E : Type 0} (x : T) (e : E) → Ok x ≡ Err e → ⊥
+ok_not_err x e is = cc
+
+pub front : {X : Type 0} (xs : List X) (x : X) → slice_get xs 0 ≡ Some x → xs ≡ x ∷ drop 1 xs
+front [] x is = absurd cc
+front (y ∷ ys) x is = let same : y ≡ x = cc in ap (λ z. z ∷ ys) same
+
+pub none_is_none : {X Y : Type 0} (f : X → Y) (o : Option X) → option_map f o ≡ None → o ≡ None
+none_is_none f None is = refl
+none_is_none f (Some x) is = absurd cc
+
+-- with no old handle in it, the pool gives a fresh one
+front_is_fresh : (made : ℕ) (pool : List Handle) (h : Handle) (rest : List Handle) → pool ≡ h ∷ rest
+    → length (filter (is_old made) pool) ≡ 0 → is_fresh made h ≡ true
+front_is_fresh made pool h rest is none = go (is_old made h) refl
+  where
+    go : (b : Bool) → is_old made h ≡ b → is_fresh made h ≡ true
+    go true old =
+        let few : length (filter (is_old made) (h ∷ rest))
+        ≡ 0 = ap (λ hs. length (filter (is_old made) hs)) (sym is) ∙ none in
+        let some : length (filter (is_old made) (h ∷ rest))
+        ≡ suc (length (filter (is_old made) rest)) =
+        ap length (when (is_old made h) (h ∷ filter (is_old made) rest)
+        (filter (is_old made) rest) old) in
+        absurd (omega arith)
+    go false fresh = grind (arith, nat_tests)
+
+-- to take the front of a pool takes memory if it makes a slot
+pub front_takes_memory : (s : MachineState) (pool : List Handle) → ¬ (pool ≡ [])
+    → length (filter (is_old s.allocator.made) pool) ≡ 0
+    → event_takes_memory s (alloc_front s pool).0 ≡ true
+front_takes_memory s [] some none = absurd (some refl)
+front_takes_memory s (h ∷ rest) some none = front_is_fresh s.allocator.made (h ∷ rest) h rest refl
+    none
+
+-- a list that is not empty
+pub some_handles : (hs : List Handle) → 0 < length hs → nat_lt 0 (length hs) ≡ true
+some_handles hs some = grind (arith, nat_tests)
+
+-- to list such a reply takes memory
+pub listed-takes_memory : (s : MachineState) (hs : List Handle) → 0 < length hs
+    → event_takes_memory s (Ok (outcome.Handles hs)) ≡ true
+listed-takes_memory s hs some = some_handles hs some
+
+pub not_false : (b : Bool) → ¬ (b ≡ false) → b ≡ true
+not_false true other = refl
+not_false false other = absurd (other refl)

@@ -1,0 +1,342 @@
+-- The parts of a script that is read are in its ranges: numbers, components, bundles, names,
+-- targets and operations.
+use Rattle.std.proofs.Common.{◌≡◌, ℕ, ℤ, pos, negsuc, ◌+◌, ◌<◌, ◌≤◌, zero, suc, Bool, true, false}
+use Rattle.std.proofs.Common.{◌&&◌, cond, List, [], ◌∷◌, ◌++◌, length, length-append, take, Option}
+use Rattle.std.proofs.Common.{Some, None, option_map, option_and_then, ok_or, Result, Ok, Err}
+use Rattle.std.proofs.Common.{IfSome, is_some, unwrap_or, bytes_eq, codes, refl, arith, leb-true}
+use Rattle.std.specs.Prelude.{IfOk, nat_le}
+use Rattle.std.specs.declared.cmp.Ordering.{Ordering}
+use Rattle.std.specs.declared.cmp.Ordering.TheVariants.{Less, Equal, Greater}
+use Rattle.std.specs.Ordering.{match_ordering}
+use Rattle.std.specs.List.{AllByRecursion, fold}
+use Rattle.std.specs.BTreeMap.{insert_entry}
+use Rattle.serde_json.specs.Data.{Data}
+use Rattle.serde_json.specs.Find.{get, as_str}
+use Rattle.ent_handle.specs.Handle.{Handle}
+use Rattle.ent_handle.specs.Text.{handle_of}
+use Rattle.ent_handle.specs.declared.text.TextFault.{TextFault}
+use Rattle.ent_handle.specs.declared.component.ComponentId.{ComponentId}
+use Rattle.ent_handle.specs.Component.{component_cmp}
+use Rattle.ent_script.specs.declared.cause.Cause.{Cause}
+use Rattle.ent_script.specs.declared.cause.Cause.TheVariants as cause
+use Rattle.ent_script.specs.declared.kind.Kind.{Kind}
+use Rattle.ent_script.specs.declared.kind.Kind.TheVariants as kinds
+use Rattle.ent_script.specs.declared.target.Target.{Target}
+use Rattle.ent_script.specs.declared.target.Target.TheVariants as target
+use Rattle.ent_script.specs.Json.{elements, at_most, members, whole, in_range, whole_within}
+use Rattle.ent_script.specs.Names.{as_name, number_among, with_part, names_in}
+use Rattle.ent_script.specs.Ranges.{IsBundleOf, IsBindingAt, IsTargetAt, IsOperationAt}
+use Rattle.ent_script.specs.Reading.{◌>>=◌, numbered, component_of, item_of, items_of, read_bundle}
+use Rattle.ent_script.specs.Reading.{with_of, count_of, binding_of, removed_of, only, target_handle}
+use Rattle.ent_script.specs.Reading.{target_at, target_of, kind_of, of_kind, operation_of}
+use Rattle.ent_script.specs.Reading.{bound_name}
+use Rattle.ent_script.proofs.NamesLaws.{number_within}
+
+pub then_ok : {A B E : Type 0} (Q : A → Type 0) (P : B → Type 0) (r : Result A E)
+    (f : A → Result B E)
+    → IfOk r Q → ((x : A) → Q x → IfOk (f x) P) → IfOk (r >>= f) P
+then_ok Q P (Ok x) f h k = k x h
+then_ok Q P (Err e) f h k = tt
+
+pub or_cause : {A E : Type 0} (Q : A → Type 0) (o : Option A) (e : E) → IfSome o Q
+    → IfOk (ok_or o e) Q
+or_cause Q None e h = tt
+or_cause Q (Some x) e h = h
+
+pub always : {A E : Type 0} (r : Result A E) → IfOk r (λ _. Unit {0})
+always (Ok x) = tt
+always (Err e) = tt
+
+mapped : {A B : Type 0} (P : B → Type 0) (g : A → B) (o : Option A) → IfSome o (λ x. P (g x))
+    → IfSome (option_map g o) P
+mapped P g None h = tt
+mapped P g (Some x) h = h
+
+pub chained : {A B : Type 0} (P : B → Type 0) (g : A → Option B) (o : Option A)
+    → ((x : A) → IfSome (g x) P) → IfSome (option_and_then g o) P
+chained P g None h = tt
+chained P g (Some x) h = h x
+
+either : {A E : Type 0} (P : A → Type 0) (b : Bool) (x y : Result A E) → IfOk x P → IfOk y P
+    → IfOk (cond b x y) P
+either P true x y h k = h
+either P false x y h k = k
+
+pub numbered_each : {A E : Type 0} (P : A → Type 0) (f : ℕ → Data → Result A E) (n : ℕ)
+    (ds : List Data)
+    → ((i : ℕ) (d : Data) → IfOk (f i d) P) → IfOk (numbered f n ds) (λ xs. (length xs ≤ length ds)
+    × AllByRecursion P xs)
+numbered_each P f n [] each = (omega arith, tt)
+numbered_each P f n (d ∷ ds) each =
+    then_ok P (λ xs. (length xs ≤ suc (length ds)) × AllByRecursion P xs) (f n d) _ (each n d)
+    (λ x holds. then_ok (λ xs. (length xs ≤ length ds) × AllByRecursion P xs)
+    (λ xs. (length xs ≤ suc (length ds)) × AllByRecursion P xs)
+    (numbered f (n + 1) ds) _ (numbered_each P f (n + 1) ds each)
+    (λ xs rest. (omega (arith, rest.0), (holds, rest.1))))
+
+pub loosened : {A E : Type 0} (P : A → Type 0) (r : Result (List A) E) (n most : ℕ) → n ≤ most
+    → IfOk r (λ xs. (length xs ≤ n) × AllByRecursion P xs)
+    → IfOk r (λ xs. (length xs ≤ most) × AllByRecursion P xs)
+loosened P (Ok xs) n most h k = (omega (arith, h, k.0), k.1)
+loosened P (Err e) n most h k = tt
+
+pub first_part : {A E : Type 0} (P : A → Type 0) (r : Result (List A) E) (most : ℕ)
+    → IfOk r (λ xs. (length xs ≤ most) × AllByRecursion P xs)
+    → IfOk r (λ xs. length xs ≤ most)
+first_part P (Ok xs) most k = k.0
+first_part P (Err e) most k = tt
+
+abbrev ComponentIn : ℕ → ComponentId → Type 0
+ComponentIn n c = c.0 < n
+
+abbrev ItemIn : ℕ → ComponentId × ℤ → Type 0
+ItemIn n item = item.0.0 < n
+
+abbrev pub AtMost : {A : Type 0} → ℕ → List A → Type 0
+AtMost most xs = length xs ≤ most
+
+-- ---- numbers
+
+abbrev pub Between : ℕ → ℕ → ℕ → Type 0
+Between low high n = (low ≤ n) × (n ≤ high)
+
+if_within : (b c : Bool) (low high n : ℕ) → (b ≡ true → low ≤ n) → (c ≡ true → n ≤ high)
+    → IfSome (cond (b && c) (Some n) None) (Between low high)
+if_within true true low high n l h = (l refl, h refl)
+if_within true false low high n l h = tt
+if_within false c low high n l h = tt
+
+in_range_within : (low high : ℕ) (z : ℤ) → IfSome (in_range low high z) (Between low high)
+in_range_within low high (pos n) = if_within (nat_le low n) (nat_le n high) low high n
+    (λ e. leb-true low n e) (λ e. leb-true n high e)
+in_range_within low high (negsuc n) = tt
+
+pub whole_in : (low high : ℕ) (d : Data) → IfSome (whole_within low high d) (Between low high)
+whole_in low high d = chained (Between low high) (in_range low high) (whole d)
+    (in_range_within low high)
+
+few_by : (b : Bool) (most : ℕ) (ds : List Data) → (b ≡ true → length ds ≤ most)
+    → IfSome (cond b (Some ds) None) (λ xs. length xs ≤ most)
+few_by true most ds h = h refl
+few_by false most ds h = tt
+
+pub few : (most : ℕ) (d : Data) → IfSome (at_most most d) (λ ds. length ds ≤ most)
+few most d = chained (AtMost most) _ (elements d) (λ ds. few_by (nat_le (length ds) most) most ds
+    (λ e. leb-true (length ds) most e))
+
+-- ---- components and bundles
+
+component_in : (components : List (List ℕ)) (text : List ℕ) → IfSome (component_of components text)
+    (λ c. c.0 < length components)
+component_in components text = mapped (ComponentIn (length components))
+    (λ (n : ℕ). record { 0 = n }) (number_among text components) (number_within text components)
+
+item_in : (components : List (List ℕ)) (m : List ℕ × Data) → IfOk (item_of components m)
+    (λ item. item.0.0 < length components)
+item_in components m =
+    then_ok (ComponentIn (length components)) (ItemIn (length components))
+    (ok_or (component_of components m.0) cause.Component) _
+    (or_cause (ComponentIn (length components)) (component_of components m.0) cause.Component
+    (component_in components m.0))
+    (λ id h. then_ok (λ _. Unit {0}) (ItemIn (length components)) (ok_or (whole m.1) cause.Value) _
+    (always (ok_or (whole m.1) cause.Value)) (λ value _. h))
+
+items_in : (components : List (List ℕ)) (ms : List (List ℕ × Data)) → IfOk (items_of components ms)
+    (IsBundleOf (length components))
+items_in components [] = tt
+items_in components (m ∷ ms) =
+    then_ok (ItemIn (length components)) (IsBundleOf (length components)) (item_of components m) _
+    (item_in components m)
+    (λ item h. then_ok (IsBundleOf (length components)) (IsBundleOf (length components))
+    (items_of components ms) _ (items_in components ms) (λ items k. (h, k)))
+
+by_order : {X : Type 0} (P : X → Type 0) (o : Ordering) (xs ys zs : List X) → AllByRecursion P xs
+    → AllByRecursion P ys → AllByRecursion P zs
+    → AllByRecursion P (match_ordering o xs ys zs)
+by_order P Less xs ys zs a b c = a
+by_order P Equal xs ys zs a b c = b
+by_order P Greater xs ys zs a b c = c
+
+insert_in : (n : ℕ) (bundle : List (ComponentId × ℤ)) (id : ComponentId) (value : ℤ) → id.0 < n
+    → IsBundleOf n bundle
+    → IsBundleOf n (insert_entry component_cmp bundle id value)
+insert_in n [] id value h all = (h, tt)
+insert_in n (e ∷ es) id value h all =
+    by_order (ItemIn n) (component_cmp id e.0) ((id, value) ∷ e ∷ es) ((e.0, value) ∷ es)
+    (e ∷ insert_entry component_cmp es id value)
+    (h, all) (all.0, all.1) (all.0, insert_in n es id value h all.1)
+
+fold_in : (n : ℕ) (bundle items : List (ComponentId × ℤ)) → IsBundleOf n bundle → IsBundleOf n items
+    → IsBundleOf n (fold (λ b item. insert_entry component_cmp b item.0 item.1) bundle items)
+fold_in n bundle [] h all = h
+fold_in n bundle (item ∷ items) h all =
+    fold_in n (insert_entry component_cmp bundle item.0 item.1) items
+    (insert_in n bundle item.0 item.1 all.0 h) all.1
+
+bundle_in : (components : List (List ℕ)) (part : Option Data) → IfOk (read_bundle components part)
+    (IsBundleOf (length components))
+unfolding read_bundle
+bundle_in components part =
+    then_ok (λ _. Unit {0}) (IsBundleOf (length components)) (ok_or (option_and_then members part)
+    cause.Bundle) _ (always (ok_or (option_and_then members part) cause.Bundle))
+    (λ ms _. then_ok (IsBundleOf (length components)) (IsBundleOf (length components))
+    (items_of components ms) _ (items_in components ms)
+    (λ items h. fold_in (length components) [] items tt h))
+
+with_in : (components : List (List ℕ)) (part : Option Data) → IfOk (with_of components part)
+    (IsBundleOf (length components))
+with_in components None = tt
+with_in components (Some d) = bundle_in components (Some d)
+
+count_in : (part : Option Data) → IfOk (count_of part) (λ n. n ≤ 65536)
+unfolding count_of
+count_in part = or_cause (λ n. n ≤ 65536) (option_and_then (whole_within 0 65536) part) cause.Count
+    (chained (λ n. n ≤ 65536) (whole_within 0 65536) part (λ d. below (whole_within 0 65536 d) 65536
+    (whole_in 0 65536 d)))
+  where
+    below : (o : Option ℕ) (high : ℕ) → IfSome o (Between 0 high) → IfSome o (λ n. n ≤ high)
+    below None high h = tt
+    below (Some n) high h = h.1
+
+removed_in : (components : List (List ℕ)) (part : Option Data) → IfOk (removed_of components part)
+    (λ c. c.0 < length components)
+unfolding removed_of
+removed_in components part =
+    then_ok (λ _. Unit {0}) (ComponentIn (length components)) (ok_or (option_and_then as_str part)
+    cause.Component) _ (always (ok_or (option_and_then as_str part) cause.Component))
+    (λ text _. or_cause (ComponentIn (length components)) (component_of components text)
+    cause.Component (component_in components text))
+
+-- ---- names
+
+below_more_names : (found : Option ℕ) (n most : ℕ) → n ≤ most → IfSome found (λ p. p < n)
+    → IfSome found (λ p. p < most)
+below_more_names None n most few h = tt
+below_more_names (Some p) n most few h = omega (arith, few, h)
+
+or_next : (found : Option ℕ) (n most : ℕ) → n ≤ most → IfSome found (λ p. p < n) → unwrap_or found n
+    ≤ most
+or_next None n most few h = few
+or_next (Some p) n most few h = omega (arith, few, h)
+
+binding_in : (bound : List (List ℕ)) (most : ℕ) → length bound ≤ most → (part : Option Data)
+    → IfOk (binding_of bound part) (IsBindingAt most)
+unfolding binding_of
+binding_in bound most few None = tt
+binding_in bound most few (Some d) =
+    then_ok (λ _. Unit {0}) (IsBindingAt most) (ok_or (as_name d) cause.Name) _
+    (always (ok_or (as_name d) cause.Name))
+    (λ name _. or_next (number_among name bound) (length bound) most few
+    (number_within name bound))
+
+one_more : (b : Bool) (names : List (List ℕ)) (name : List ℕ)
+    → length (cond b names (names ++ name ∷ [])) ≤ length names + 1
+one_more true names name = omega arith
+one_more false names name = omega (arith, length-append names (name ∷ []))
+
+part_more : (names : List (List ℕ)) (found : Option (List ℕ)) → length (with_part names found)
+    ≤ length names + 1
+part_more names None = omega arith
+part_more names (Some name) = one_more (is_some (number_among name names)) names name
+
+names_from : (f : Data → Option (List ℕ)) (i : ℕ) (names : List (List ℕ)) (ds : List Data)
+    → length (fold (λ names d. with_part names (f d)) names (take i ds)) ≤ length names + i
+names_from f zero names ds = omega arith
+names_from f (suc i) names [] = omega arith
+names_from f (suc i) names (d ∷ ds) = omega (
+  arith,
+  names_from f i (with_part names (f d)) ds,
+  part_more names (f d),
+)
+
+-- at most as many names as operations
+pub few_names : (i : ℕ) (ds : List Data) → length (names_in bound_name (take i ds)) ≤ i
+few_names i ds = omega (arith, names_from bound_name i [] ds)
+
+-- ---- targets and operations
+
+handle_in : (components most : ℕ) (text : List ℕ)
+    → IfOk (target_handle text) (IsTargetAt components most)
+handle_in components most text = handle_by components most (handle_of text)
+  where
+    handle_by : (components most : ℕ) (r : Result Handle TextFault) → IfOk {T = Target} {E = Cause}
+        (elim r [ Ok h ↦ Ok (target.Handle h) | Err e ↦ Err cause.Handle ])
+        (IsTargetAt components most)
+    handle_by components most (Ok h) = tt
+    handle_by components most (Err e) = tt
+
+module _ (components bound : List (List ℕ)) (most : ℕ) (few_bound : length bound ≤ most) where
+  target_at_in : (key text : List ℕ) → IfOk (target_at components bound key text)
+      (IsTargetAt (length components) most)
+  unfolding target_at
+  target_at_in key text =
+      either (IsTargetAt (length components) most) (bytes_eq key (codes "name")) _ _
+      (or_cause (IsTargetAt (length components) most)
+      (option_map target.Name (number_among text bound)) cause.Name
+      (mapped (IsTargetAt (length components) most) target.Name (number_among text bound)
+      (below_more_names (number_among text bound) (length bound) most few_bound
+      (number_within text bound))))
+      (either (IsTargetAt (length components) most) (bytes_eq key (codes "handle")) _ _
+      (handle_in (length components) most text)
+      (either (IsTargetAt (length components) most) (bytes_eq key (codes "each")) _ _
+      (or_cause (IsTargetAt (length components) most)
+      (option_map target.Each (component_of components text)) cause.Component
+      (mapped (IsTargetAt (length components) most) target.Each (component_of components text)
+      (component_in components text)))
+      tt))
+
+  target_in : (part : Option Data) → IfOk (target_of components bound part)
+      (IsTargetAt (length components) most)
+  unfolding target_of
+  target_in part =
+      then_ok (λ _. Unit {0}) (IsTargetAt (length components) most)
+      (ok_or (option_and_then only (option_and_then members part)) cause.Target) _
+      (always (ok_or (option_and_then only (option_and_then members part)) cause.Target))
+      (λ member _. then_ok (λ _. Unit {0}) (IsTargetAt (length components) most)
+      (ok_or (as_str member.1) cause.Target) _ (always (ok_or (as_str member.1) cause.Target))
+      (λ text _. target_at_in member.0 text))
+
+  of_kind_in : (d : Data) (kind : Kind) → IfOk (of_kind components bound d kind)
+      (IsOperationAt (length components) most)
+  unfolding of_kind
+  of_kind_in d kinds.Spawn =
+      then_ok (IsBundleOf (length components)) (IsOperationAt (length components) most)
+      (read_bundle components (get (codes "spawn") d)) _
+      (bundle_in components (get (codes "spawn") d))
+      (λ bundle h. then_ok (IsBindingAt most) (IsOperationAt (length components) most)
+      (binding_of bound (get (codes "as") d)) _
+      (binding_in bound most few_bound (get (codes "as") d)) (λ binds b. (h, b)))
+  of_kind_in d kinds.SpawnMany =
+      then_ok (λ n. n ≤ 65536) (IsOperationAt (length components) most)
+      (count_of (get (codes "spawn_many") d)) _ (count_in (get (codes "spawn_many") d))
+      (λ count k. then_ok (IsBundleOf (length components)) (IsOperationAt (length components) most)
+      (with_of components (get (codes "with") d)) _ (with_in components (get (codes "with") d))
+      (λ bundle h. then_ok (IsBindingAt most) (IsOperationAt (length components) most)
+      (binding_of bound (get (codes "as") d)) _
+      (binding_in bound most few_bound (get (codes "as") d)) (λ binds b. (k, h, b))))
+  of_kind_in d kinds.Insert =
+      then_ok (IsBundleOf (length components)) (IsOperationAt (length components) most)
+      (read_bundle components (get (codes "insert") d)) _
+      (bundle_in components (get (codes "insert") d))
+      (λ bundle h. then_ok (IsTargetAt (length components) most) (IsOperationAt (length components)
+      most) (target_of components bound (get (codes "on") d)) _ (target_in (get (codes "on") d))
+      (λ on k. (h, k)))
+  of_kind_in d kinds.Remove =
+      then_ok (ComponentIn (length components)) (IsOperationAt (length components) most)
+      (removed_of components (get (codes "remove") d)) _
+      (removed_in components (get (codes "remove") d))
+      (λ c h. then_ok (IsTargetAt (length components) most) (IsOperationAt (length components) most)
+      (target_of components bound (get (codes "on") d)) _ (target_in (get (codes "on") d))
+      (λ on k. (h, k)))
+  of_kind_in d kinds.Despawn =
+      then_ok (IsTargetAt (length components) most) (IsOperationAt (length components) most)
+      (target_of components bound (get (codes "despawn") d)) _
+      (target_in (get (codes "despawn") d)) (λ on k. k)
+
+  pub operation_in : (d : Data) → IfOk (operation_of components bound d)
+      (IsOperationAt (length components) most)
+  unfolding operation_of
+  operation_in d =
+      then_ok (λ _. Unit {0}) (IsOperationAt (length components) most)
+      (ok_or (kind_of d) cause.Shape) _ (always (ok_or (kind_of d) cause.Shape))
+      (λ kind _. of_kind_in d kind)

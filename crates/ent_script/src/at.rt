@@ -1,0 +1,7 @@
+/// Where an operation stands in a script. All three are numbered from 0.
+#[derive(Clone, Copy, Debug, PartialEq, Eq)]
+pub(crate) struct At {
+    pub(crate) frame: usize,
+    pub(crate) system: usize,
+    pub(crate) operation: usize,
+}

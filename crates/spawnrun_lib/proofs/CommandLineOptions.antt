@@ -1,0 +1,240 @@
+-- What the words of a subcommand give: the values of its options.
+use Rattle.std.proofs.Common.{◌≡◌, ◌∙◌, ◌^◌, ◌<◌, ◌≤◌, ℕ, Bool, true, false, List, [], ◌∷◌, cond}
+use Rattle.std.proofs.Common.{◌||◌, refl, sym, ap, subst, inl, inr, codes, Option, Some, None}
+use Rattle.std.proofs.Common.{is_some}
+use Rattle.std.specs.Prelude.{Result, pos, option_map}
+use Rattle.std.specs.Option.{option_map_or}
+use Rattle.std.specs.List.{AllByRecursion, slice_index_or, list_any}
+use Rattle.clap.specs.Words.{Row, Rule, Shape, Text, built, fault_of, subcommand_of, without_minus}
+use Rattle.clap.specs.Words.{rows_of, first_of, first_value}
+use Rattle.clap.specs.Matches.{ReadsOne, one_text}
+use Rattle.clap.specs.declared.parser.matches.Found.{Found}
+use Rattle.std.specs.declared.num.ParseIntError.{ParseIntError}
+use Rattle.std.specs.Str.Parse.{ExplainsUnsignedError, HasUnsignedDigitsIfOk, ParsesUnsigned}
+use Rattle.std.specs.Str.Parse.{digits_value, without_leading_plus}
+use Rattle.clap.proofs.CallerReads.{signed_reads}
+use Rattle.clap.proofs.WalkLemmas.{first_value-rows, one_text-rows}
+use Rattle.clap.specs.Simple.{new_shape, entered, filled, help_rule, label_of, names_of, rows_at}
+use Rattle.clap.specs.Walk.{finished, walk, answers_to, nothing_held, rows_after, stop_after}
+use Rattle.clap.specs.Faults.{check_fault, entered_fault, level_fault}
+use Rattle.clap.specs.declared.builder.value_parser.ValueParser.TheVariants.{Signed}
+use Rattle.clap.proofs.ValueTestLemmas.{accepts-Accepts}
+use Rattle.ent_script_report.specs.declared.Show.{Show}
+use Rattle.ent_script_report.specs.declared.Show.TheVariants.{Births, Handles}
+use Rattle.std.specs.Borrow.{Bor}
+use Rattle.std.specs.Str.{bytes_eq}
+use Rattle.std.proofs.lemmas.Slice.Eq.{bytes_eq-Decides}
+use Rattle.spawnrun_lib.specs.CommandLine.{HasNumber, HasShow, option_number, references_to}
+use Rattle.spawnrun_lib.specs.CommandLine.{number_option, generations_option, program, slots_option}
+use Rattle.spawnrun_lib.specs.CommandLine.{show_option, show_text, shown, workers_option}
+use Rattle.spawnrun_lib.proofs.ParsedOptions.{none_of, Fits, HasValue, IsOption, IsRequest}
+use Rattle.spawnrun_lib.proofs.ParsedOptions.{option-has_value}
+
+-- the options as building leaves them
+abbrev slots_rule : Rule
+slots_rule = filled slots_option
+
+abbrev generations_rule : Rule
+generations_rule = filled generations_option
+
+abbrev replay_rules : List Rule
+replay_rules = slots_rule ∷ generations_rule ∷ filled help_rule ∷ []
+
+abbrev workers_rule : Rule
+workers_rule = filled workers_option
+
+abbrev show_rule : Rule
+show_rule = filled (show_option (references_to shown))
+
+abbrev run_rules : List Rule
+run_rules = workers_rule ∷ show_rule ∷ filled help_rule ∷ []
+
+slots-option : IsOption replay_rules slots_rule
+slots-option = record {
+  own = refl;
+  set = refl;
+  one = refl;
+  default =
+      (codes "4294967295", refl, refl);
+  named = refl;
+}
+
+generations-option : IsOption replay_rules generations_rule
+generations-option = record {
+  own = refl;
+  set = refl;
+  one = refl;
+  default =
+      (codes "2147483647", refl, refl);
+  named = refl;
+}
+
+workers-option : IsOption run_rules workers_rule
+workers-option = record {
+  own = refl;
+  set = refl;
+  one = refl;
+  default = (codes "1", refl, refl);
+  named = refl;
+}
+
+show-option : IsOption run_rules show_rule
+show-option = record {
+  own = refl;
+  set = refl;
+  one = refl;
+  default = (codes "births", refl, refl);
+  named = refl;
+}
+
+help-request : (c : List Rule) → IsRequest c (filled help_rule)
+help-request c = record { asks = refl; default = refl; named = refl }
+
+replay-fits : AllByRecursion (Fits replay_rules) replay_rules
+replay-fits = (inl slots-option, (inl generations-option, (inr (help-request replay_rules), tt)))
+
+run-fits : AllByRecursion (Fits run_rules) run_rules
+run-fits = (inl workers-option, (inl show-option, (inr (help-request run_rules), tt)))
+
+abbrev pub replay_shape : Shape
+replay_shape = slice_index_or (built program).subs 0 (new_shape [])
+
+abbrev pub run_shape : Shape
+run_shape = slice_index_or (built program).subs 1 (new_shape [])
+
+number_from : (option : Text) (most : ℕ) (default : Text) (rows : List Row)
+    → HasValue (filled (number_option option most default)) rows → HasNumber option most rows
+number_from option most default rows value = record {
+  text = value.text;
+  is = value.is;
+  within = accepts-Accepts false (Signed (pos 1) (pos most)) value.text value.passes;
+}
+
+-- a text that `--show` takes
+shown_by : (text : Text) → list_any (λ name. bytes_eq name text) shown ≡ true → (show : Show)
+    × (text ≡ show_text show)
+shown_by text e = go (bytes_eq (codes "births") text) (bytes_eq (codes "handles") text) refl refl e
+  where
+    go : (births handles : Bool) → bytes_eq (codes "births") text ≡ births
+        → bytes_eq (codes "handles") text ≡ handles → (births || (handles || false)) ≡ true
+        → (show : Show) × (text ≡ show_text show)
+    go true handles is also e = (Births, sym ((bytes_eq-Decides (codes "births") text).0 is))
+    go false true is also e = (Handles, sym ((bytes_eq-Decides (codes "handles") text).0 also))
+    go false false is also e = cc
+
+show_from : (rows : List Row) → HasValue show_rule rows → HasShow rows
+show_from rows value =
+    let found = shown_by value.text value.passes in
+    (found.0, value.written ∙ ap (λ text. Some text) found.1)
+
+-- what the words name: a subcommand, whose options have values in their ranges
+pub data IsAsked (found : Option (Text × List Row)) : Type 0 where
+  asks_replay : (rows : List Row) → found ≡ Some (codes "replay", rows)
+      → HasNumber (codes "slots") 4294967295 rows
+      → HasNumber (codes "generations") 2147483647 rows → IsAsked found
+  asks_run : (rows : List Row) → found ≡ Some (codes "run", rows) → HasNumber (codes "workers") 64
+      rows → HasShow rows → IsAsked found
+
+replay_options : (words : List Text) → level_fault replay_shape [] nothing_held words false [] ≡ []
+    → IsAsked (Some (rows_at replay_shape words))
+replay_options words e = asks_replay (rows_after replay_rules [] words) refl
+    (number_from _ _ _ _ (option-has_value replay_rules replay-fits replay_shape words e slots_rule
+    slots-option (inl refl)))
+    (number_from _ _ _ _ (option-has_value replay_rules replay-fits replay_shape words e
+    generations_rule generations-option (inr (inl refl))))
+
+run_options : (words : List Text) → level_fault run_shape [] nothing_held words false [] ≡ []
+    → IsAsked (Some (rows_at run_shape words))
+run_options words e = asks_run (rows_after run_rules [] words) refl
+    (number_from _ _ _ _ (option-has_value run_rules run-fits run_shape words e workers_rule
+    workers-option (inl refl)))
+    (show_from _ (option-has_value run_rules run-fits run_shape words e show_rule show-option
+    (inr (inl refl))))
+
+-- a subcommand is required, and there are two
+stopped : (stop : Option (Text × List Text)) (rows : List Row) → entered_fault (built program) stop
+    ≡ []
+    → check_fault (built program).top rows (is_some (entered (built program) stop)) ≡ []
+    → IsAsked (entered (built program) stop)
+stopped None rows below check = cc
+stopped (Some p) rows below check = go (answers_to p.0 (label_of replay_shape))
+    (answers_to p.0 (label_of run_shape)) below check
+  where
+    met : Bool → Bool → Option Shape
+    met is_replay is_run = cond is_replay (Some replay_shape) (cond is_run (Some run_shape) None)
+
+    go : (is_replay is_run : Bool) → option_map_or (λ s. level_fault s [] nothing_held p.1 false [])
+        (met is_replay is_run) [] ≡ []
+        → check_fault (built program).top rows
+        (is_some (option_map (λ s. rows_at s p.1) (met is_replay is_run))) ≡ []
+        → IsAsked (option_map (λ s. rows_at s p.1) (met is_replay is_run))
+    go true is_run below check = replay_options p.1 below
+    go false true below check = run_options p.1 below
+    go false false below check = cc
+
+pub IsAsked-no_fault : (words : List Text) → fault_of program words ≡ []
+    → IsAsked (subcommand_of program words)
+IsAsked-no_fault words e =
+    let stop = stop_after (built program).top.rules (names_of (built program)) words in
+    let end = (walk (built program).top.rules (names_of (built program)) nothing_held words).held in
+    let walked = none_of _ _ e in
+    let below = none_of (entered_fault (built program) stop) _ walked.1 in
+    let settled = none_of _ _ below.1 in
+    stopped stop (finished (built program).top.rules end) below.0 (none_of _ _ settled.1).1
+
+-- what `FromStr` promises of a number of this many bits
+abbrev number_gives : ℕ → Text → Result ℕ ParseIntError → Type 0
+number_gives bits text r = ParsesUnsigned bits 10 text r × ExplainsUnsignedError 10 text r
+    × HasUnsignedDigitsIfOk text r
+
+-- the number that the getter of an option in range reads
+pub number_read : (bits : ℕ) (option : Text) (most : ℕ) (found : Found) (r : Option ℕ) → most
+    < 2 ^ bits → HasNumber option most (rows_of found)
+    → ((text : Text) → one_text found option ≡ Some text → ReadsOne (number_gives bits) text r)
+    → (n : ℕ) × (r ≡ Some n) × (1 ≤ n) × (n ≤ most) × (option_number option (rows_of found)
+    ≡ Some n)
+number_read bits option most found r fits number reads =
+    let read = reads (without_minus number.text) (one_text-rows found option ∙ number.is) in
+    let known = signed_reads _ (number_gives bits) bits 1 most number.text r read
+    (λ text given gives. gives.0) fits number.within in
+    let given = subst (ReadsOne (number_gives bits) (without_minus number.text)) known.1 read in (
+      known.0,
+      known.1,
+      known.2,
+      known.3,
+      ap (option_map (λ text. digits_value 10 (without_leading_plus text))) number.is
+          ∙ ap (λ n. Some n) (sym given.0.1),
+    )
+
+-- the text that the getter of `--show` reads
+pub show_read : (found : Found) (r : Option (Bor Text)) → HasShow (rows_of found)
+    → option_map (λ s. s.now) r ≡ first_value found (codes "show")
+    → (text : Bor Text) × (show : Show) × (r ≡ Some text) × (text.now ≡ show_text show)
+    × (first_of (codes "show") (rows_of found) ≡ Some (show_text show))
+show_read found r has reads = go r (reads ∙ (first_value-rows found (codes "show") ∙ has.1))
+  where
+    go : (r : Option (Bor Text)) → option_map (λ s. s.now) r ≡ Some (show_text has.0)
+        → (text : Bor Text) × (show : Show) × (r ≡ Some text) × (text.now ≡ show_text show)
+        × (first_of (codes "show") (rows_of found) ≡ Some (show_text show))
+    go None e = cc
+    go (Some text) e =
+        let same : text.now ≡ show_text has.0 = cc in
+        (text, has.0, refl, same, has.1)
+
+-- the test that tells the two values of `--show` apart
+pub shows_by : (found : Found) (r : Option (Bor Text)) (text : Bor Text) (test : Bool)
+    → HasShow (rows_of found)
+    → option_map (λ s. s.now) r ≡ first_value found (codes "show") → r ≡ Some text
+    → bytes_eq text.now (codes "handles") ≡ test
+    → first_of (codes "show") (rows_of found) ≡ Some (show_text (cond test Handles Births))
+shows_by found r text test has reads is tested =
+    let read = show_read found r has reads in
+    let same : text ≡ read.0 = cc in
+    read.4 ∙ ap (λ show. Some (show_text show)) (go read.1 (ap (λ (t : Bor Text). t.now) same
+    ∙ read.3))
+  where
+    go : (show : Show) → text.now ≡ show_text show → show ≡ cond test Handles Births
+    go Births written = ap (λ b. cond b Handles Births)
+        (sym (ap (λ t. bytes_eq t (codes "handles")) written) ∙ tested)
+    go Handles written = ap (λ b. cond b Handles Births)
+        (sym (ap (λ t. bytes_eq t (codes "handles")) written) ∙ tested)
