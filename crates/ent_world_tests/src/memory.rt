@@ -1,13 +1,15 @@
 //! Memory that is refused.
+ghost use Rattle.std.specs.Prelude.{◌≡◌, ◌≤◌, ◌^◌, length};
+ghost use Rattle.ent_world.specs.Sync.{IsStop};
+
 use crate::checks::{
-    apply, assert_born, assert_faults, assert_len, assert_needs_flush, assert_phase, assert_shown,
-    spawn,
+    assert_born, assert_faults, assert_len, assert_needs_flush, assert_phase, assert_shown, spawn,
 };
 use crate::scene::{Call, bundle, handle, opened, pair, queue};
 use ent_alloc::{AllocFault, Limits};
 use ent_handle::{Handle, Memory};
 use ent_queue::{Bundle, CommandQueue};
-use ent_world::{SyncFault, World};
+use ent_world::{SyncFault, SyncReport, World};
 use std::alloc::Global;
 use std::process::Abort;
 
@@ -103,22 +105,17 @@ fn assert_unchanged(rt: &impl Abort, alloc: Global, world: &World) {
     assert_shown(rt, alloc, world, BEFORE);
 }
 
-// Passes whichever single allocation is refused: `rt try --test --fail-alloc N -- refused_memory`
-// refuses the Nth. A refused flush changes nothing, and the call is made again. At a refused
-// command all births stand, and of the commands just those before.
-#[test]
-fn refused_memory_stops_between_commands(rt: HostRuntime) {
-    let alloc = rt.alloc();
-    let (mut world, queues) = with_queues(&rt, alloc);
-    let answer = match apply(&rt, &mut world, &queues) {
-        Err(SyncFault::FlushMemory) => {
-            assert_unchanged(&rt, alloc, &world);
-            apply(&rt, &mut world, &queues)
-        }
-        answer => answer,
-    };
-    let (report, after, faults) = match answer {
-        Ok(report) => (report, AFTER, FAULTS),
+/// Applies the queues. If it stops at a command, all births stand, and of the commands just those
+/// before; and then it goes on where it stopped. The report has the faults of both.
+fn apply_at_last(
+    rt: &impl Abort,
+    alloc: Global,
+    world: &mut World,
+    queues: &[CommandQueue],
+) -> Result<SyncReport, SyncFault>
+    requires { length queues.now ≤ 2 ^ 16 }
+{
+    match world.apply(queues) {
         Err(
             SyncFault::Memory {
                 system,
@@ -127,14 +124,64 @@ fn refused_memory_stops_between_commands(rt: HostRuntime) {
                 so_far,
             },
         ) => {
-            let (after, faults) = before_stop(system, command, done);
-            (so_far, after, faults)
+            let rest = gone_on(rt, alloc, world, queues, (system, command, done), &so_far)?;
+            Ok(joined(rt, so_far, rest))
         }
-        Err(SyncFault::FlushMemory) => panic!(rt; "memory for the flush"),
+        whole => whole,
+    }
+}
+
+/// Compares what stands after a stop, and goes on there.
+fn gone_on(
+    rt: &impl Abort,
+    alloc: Global,
+    world: &mut World,
+    queues: &[CommandQueue],
+    stop: (usize, usize, usize),
+    so_far: &SyncReport,
+) -> Result<SyncReport, SyncFault>
+    requires flushed { world.old.allocator.asked ≡ 0 }
+    requires stop { IsStop stop.0 stop.1 stop.2 queues.now }
+{
+    let (system, command, done) = stop;
+    let (after, faults) = before_stop(system, command, done);
+    assert_shown(rt, alloc, world, after);
+    assert_faults(rt, alloc, &so_far.faults, faults);
+    let rest = world.apply_from(queues, system, command, done)?;
+    assert!(rt; rest.born.is_empty());
+    Ok(rest)
+}
+
+/// One report of the two parts of a sync point.
+fn joined(rt: &impl Abort, so_far: SyncReport, rest: SyncReport) -> SyncReport {
+    let SyncReport { born, mut faults } = so_far;
+    for fault in rest.faults {
+        faults.push(fault).expect(rt, "memory for the faults");
+    }
+    SyncReport { born, faults }
+}
+
+// Passes whichever single allocation is refused (`examples/refuse_each_allocation.sh`). A refused
+// flush changes nothing, and the call is made again. A sync point that stops at a command goes on
+// there, and ends as an undisturbed one.
+#[test]
+fn refused_memory_stops_between_commands(rt: HostRuntime) {
+    let alloc = rt.alloc();
+    let (mut world, queues) = with_queues(&rt, alloc);
+    assert!(rt; queues.len() == 2);
+    let applied = match apply_at_last(&rt, alloc, &mut world, &queues) {
+        Err(SyncFault::FlushMemory) => {
+            assert_unchanged(&rt, alloc, &world);
+            apply_at_last(&rt, alloc, &mut world, &queues)
+        }
+        applied => applied,
+    };
+    let Ok(report) = applied else {
+        panic!(rt; "memory for the sync point")
     };
     assert_born(&rt, &report.born, &[(2, 1), (3, 1), (4, 1)]);
-    assert_shown(&rt, alloc, &world, after);
-    assert_faults(&rt, alloc, &report.faults, faults);
+    assert_shown(&rt, alloc, &world, AFTER);
+    assert_faults(&rt, alloc, &report.faults, FAULTS);
     assert_phase(&rt, &world, 1);
 }
 
