@@ -1,5 +1,5 @@
 #!/bin/sh
-# Runs the program with each of its allocations refused in turn: a schedule, scripts on one worker and on eight, and a script that is
+# Runs the program with each of its allocations refused in turn: schedules, scripts on one worker and on eight, and a script that is
 # refused. Each run must end as an undisturbed one does (the program may do without that piece of memory), or with status 3, `memory` on
 # standard error and nothing else. Then it runs each test of refused memory in the same way: it must pass, whichever allocation is
 # refused. It needs `cc` on the path, and the program and the tests as `.ci/run` built them. If the program wasn't built, `rt`, which
@@ -51,7 +51,14 @@ each() {
 }
 
 printf '[]' >"$room/no_script.json"
+cat >"$room/targets.json" <<'END'
+{"components":["hp","mp"],"frames":[
+  [[{"spawn_many":2,"with":{"hp":1},"as":"g"},{"insert":{"mp":4},"on":{"name":"g"}}]],
+  [[{"remove":"hp","on":{"each":"hp"}}],[{"insert":{"hp":8},"on":{"each":"mp"}}]]]}
+END
+each "$here/one_caller.txt" replay
 each "$here/two_callers.txt" replay
+each "$room/targets.json" run --show handles
 each "$scripts/reuse.json" run --show handles
 each "$scripts/spawners.json" run --workers 8
 each "$room/no_script.json" run

@@ -40,16 +40,16 @@ if [ "${1-}" = instructions ]; then
             print "| Work | Verified | Plain | Ratio |"
             print "|---|---|---|---|"
             count = split("alloc_with_free alloc_fresh state reserve_in_bulk reserve_singly", work)
+            split("`alloc` with `free`|`alloc` of fresh slots|`state`|reserving in bulks of 64, flush and free|" \
+                "reserving singly, flush and free", name, "|")
             for (i = 1; i <= count; i++) {
                 ours = each[work[i] " verified"]
                 theirs = each[work[i] " plain"]
-                printf "| `%s` | %.1f | %.1f | %.2f |\n", work[i], ours, theirs, ours / theirs
+                printf "| %s | %.1f | %.1f | %.2f |\n", name[i], ours, theirs, ours / theirs
             }
         }'
 else
-    for round in 1 2; do
-        for padding in 0 16 32 48; do "$out/alloc$padding"; done
-    done | awk -F'|' '
+    for padding in 0 16 32 48; do "$out/alloc$padding"; done | awk -F'|' '
         { key = "| " $1 " | " $2 " |" }
         !(key in ours) { order[++count] = key; ours[key] = $3; theirs[key] = $4; next }
         $3 + 0 < ours[key] + 0 { ours[key] = $3 }

@@ -1,8 +1,9 @@
 #!/bin/sh
-# Builds the program of crates/bench_world and the plain one beside it, lets them take turns, and prints two tables of
-# nanoseconds a command: of queues of all four kinds of commands, and of queues of one kind, at entities in a scattered and in a
-# rising order. Each figure is the shortest of all runs of its case. Both programs have to end with the same number of entities
-# and the same sum of values. It needs `rt` and `rustc` on the path. An argument is how many turns there are.
+# Builds the program of crates/bench_world and the plain one beside it, lets them take turns, and prints three tables of
+# nanoseconds a command: of queues of all four kinds of commands; of queues of one kind, at entities in a scattered and in a
+# rising order; and of 512,000 spawns by 1, 2, 16 and 256 systems that reserved in turns. Each figure is the shortest of all
+# runs of its case. Both programs have to end with the same number of entities and the same sum of values. It needs `rt` and
+# `rustc` on the path. An argument is how many turns there are.
 # `run.sh instructions` prints the instructions a command instead, which are the same in each run. It needs `valgrind`.
 set -eu
 crate=$(cd "$(dirname "$0")" && pwd)
@@ -44,14 +45,17 @@ if [ "${1-}" = instructions ]; then
     exit
 fi
 
-for turn in $(seq "${1-15}"); do
+for turn in $(seq "${1-9}"); do
     for entities in 1000 10000 100000 1000000; do
         "$crate/out/bench_world" "$entities" | sed "s/^/verified|$entities|/"
         "$out/plain_world" "$entities" | sed "s/^/plain|$entities|/"
     done
+    "$crate/out/bench_world" turns | sed 's/^/verified|0|/'
+    "$out/plain_world" turns | sed 's/^/plain|0|/'
 done >"$out/lines"
 
-# A line: the side, how many entities, the order, the kind, how many commands, the seconds, and what is left.
+# A line: the side, how many entities, the order, the kind (or how many systems), how many commands, the seconds, and what is
+# left.
 awk -F'|' '
     { key = $2 " " $3 " " $4; left = $7 " " $8; time = $6 * 1e9 / $5 }
     !(key in ends) { ends[key] = left }
@@ -78,4 +82,10 @@ awk -F'|' '
                 for (entities = 100000; entities <= 1000000; entities *= 10)
                     printf "| %s | %s | %d | %s\n", kind[i], order[j], entities, \
                         times(entities " " order[j] " " kind[i])
+        print ""
+        print "| Systems in turns | Verified | Plain | Ratio |"
+        print "|---|---|---|---|"
+        systems = split("1 2 16 256", many, " ")
+        for (i = 1; i <= systems; i++)
+            printf "| %d | %s\n", many[i], times("0 turns " many[i])
     }' "$out/lines"

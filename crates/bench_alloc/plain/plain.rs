@@ -30,9 +30,9 @@ pub enum FreeFault {
     NotAlive,
 }
 
+/// The handle that the slot gives next, if it isn't retired.
 pub struct Freed {
-    pub next: Handle,
-    pub wrapped: bool,
+    pub next: Option<Handle>,
 }
 
 /// One slot: its generation, and the row that a caller keeps with its occupant.
@@ -98,19 +98,23 @@ impl Entities {
         if meta.generation != handle.generation {
             return Err(FreeFault::NotAlive);
         }
-        let wrapped = handle.generation == LAST;
+        // No handle has the generation after the last one, so its slot is retired by it.
+        let generation = handle.generation + 1;
         *meta = Meta {
-            generation: if wrapped { 1 } else { handle.generation + 1 },
+            generation,
             location: None,
         };
+        self.len -= 1;
+        if handle.generation == LAST {
+            return Ok(Freed { next: None });
+        }
         let next = Handle {
             index: handle.index,
-            generation: meta.generation,
+            generation,
         };
         self.pending.push(handle.index);
         self.cursor = self.pending.len() as i64;
-        self.len -= 1;
-        Ok(Freed { next, wrapped })
+        Ok(Freed { next: Some(next) })
     }
 
     /// The row that is kept with the handle.

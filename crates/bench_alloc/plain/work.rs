@@ -1,6 +1,6 @@
 //! The work of `crates/bench_alloc`, over the plain allocator.
 
-use crate::plain::{Entities, Handle};
+use crate::plain::{Entities, Freed, Handle};
 
 /// How many handles a reservation in bulk requests.
 const BULK: usize = 64;
@@ -90,8 +90,8 @@ fn alloc_all(entities: &mut Entities, given: &mut [Handle]) {
 fn free_all(entities: &mut Entities, handles: &[Handle]) -> u64 {
     let mut sum: u64 = 0;
     for handle in handles {
-        if let Ok(freed) = entities.free(*handle) {
-            sum = sum.wrapping_add(freed.next.to_bits());
+        if let Ok(Freed { next: Some(next) }) = entities.free(*handle) {
+            sum = sum.wrapping_add(next.to_bits());
         }
     }
     sum

@@ -6,7 +6,7 @@
 
 ghost use Rattle.std.specs.Prelude.{◌≡◌, ◌+◌, ◌^◌, ◌<◌, ◌≤◌, IfOk, length, vec_len};
 
-use ent_alloc::{Entities, Limits, State};
+use ent_alloc::{Entities, Freed, Limits, State};
 use ent_handle::Handle;
 use std::alloc::{AllocError, Global};
 
@@ -113,8 +113,8 @@ fn alloc_all(entities: &mut Entities, given: &mut [Handle]) {
 fn free_all(entities: &mut Entities, handles: &[Handle]) -> u64 {
     let mut sum: u64 = 0;
     for handle in handles {
-        if let Ok(freed) = entities.free(*handle) {
-            sum = sum.wrapping_add(freed.next.to_bits());
+        if let Ok(Freed { next: Some(next) }) = entities.free(*handle) {
+            sum = sum.wrapping_add(next.to_bits());
         }
     }
     sum

@@ -1,8 +1,9 @@
 //! Reservations by threads beside a bare atomic subtraction, for `run.sh` to time.
 //!
 //! `bench_shared STEPS PAIRS` makes that many steps in each thread of each case, in that many pairs
-//! of runs, and prints the times of each pair. Without words it makes a few steps and prints what
-//! they gave, which is the same on every machine.
+//! of runs, and prints the times of each pair. `bench_shared HANDLES RUNS lives` has each thread
+//! reserve that many handles, which are then brought to life, and prints the times of each run.
+//! Without words it makes a few steps and prints what they gave. That is the same on every machine.
 #![tactic(auto)]
 
 ghost use Rattle.ent_shared.specs.Phase.{IsOf};
@@ -116,13 +117,16 @@ fn main(rt: HostRuntime) -> io::Result<()> {
     let _ = words.next();
     let steps = words.next();
     let pairs = words.next();
+    let lives = words.next().is_some();
     match (steps, pairs) {
         (Some(steps), Some(pairs)) => {
-            print_times(
-                &rt,
-                steps.parse().unwrap_or(FEW),
-                pairs.parse().unwrap_or(1),
-            )
+            let steps = steps.parse().unwrap_or(FEW);
+            let pairs = pairs.parse().unwrap_or(1);
+            if lives {
+                print_lives(&rt, steps, pairs)
+            } else {
+                print_times(&rt, steps, pairs)
+            }
         }
         _ => print_counts(&rt),
     }
@@ -172,6 +176,54 @@ where
         "{threads} {requested} {:.9} {:.9} {:.9} {:.9}",
         ours.seconds, ours.together, theirs.seconds, theirs.together
     )
+}
+
+/// A line for each run: the case, how many handles live at its end, its seconds, and those in which
+/// all threads ran.
+fn print_lives<R>(rt: &R, handles: u32, runs: u32) -> io::Result<()>
+where
+    R: Clock + Print + Threads + Sync + AllocGlobal,
+{
+    for _ in 0..runs {
+        for case in &CASES {
+            let Case { threads, requested } = *case;
+            let run = bring_to_life(rt, *case, handles / requested.max(1))?;
+            println!(rt;
+                "{threads} {requested} {} {:.9} {:.9}",
+                run.given, run.seconds, run.together
+            )?;
+        }
+    }
+    Ok(())
+}
+
+/// Threads that reserve from one allocator. Then the phase is closed, and what they reserved is
+/// brought to life, which counts to the run's seconds.
+fn bring_to_life<R>(rt: &R, case: Case, steps: u32) -> io::Result<Run>
+where
+    R: Clock + Threads + Sync + AllocGlobal,
+{
+    let entities = Entities::new(rt.alloc(), Limits::default_limits());
+    let threads = case.threads.clamp(1, 1_024);
+    let Ok((shared, reservers)) = share(rt.alloc(), entities, threads) else {
+        return Err(io::ErrorKind::OutOfMemory.into());
+    };
+    let start = Instant::now(rt)?;
+    let laps = map_vec(
+        rt,
+        reservers,
+        &|reserver| { reserve_lap(rt, &start, &shared, reserver, case.requested, steps) },
+    )?;
+    let mut run = run_of(&laps)?;
+    let start = Instant::now(rt)?;
+    let mut entities = shared.close_lost(Vec::new(rt.alloc()));
+    let mut born = Vec::new(rt.alloc());
+    let Ok(()) = entities.flush(&mut born) else {
+        return Err(io::ErrorKind::OutOfMemory.into());
+    };
+    run.seconds += start.elapsed(rt)?.as_secs_f64();
+    run.given = born.len() as u64;
+    Ok(run)
 }
 
 /// Threads that reserve from one allocator.

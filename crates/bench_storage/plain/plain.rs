@@ -8,7 +8,7 @@ pub type Handle = (u32, u32);
 
 /// The frame, the system and the ordinal of a birth. Nothing reads it: it is here because an entity of
 /// `ent_storage` has one too.
-type Birth = (u64, u32, u32);
+pub type Birth = (u64, u32, u32);
 
 /// What is timed.
 pub trait Store: Default {

@@ -5,6 +5,8 @@
 //! and a large prime in a scattered order. Each returns how many calls of its last round succeeded.
 #![tactic(auto)]
 
+mod whole;
+
 ghost use Rattle.std.specs.Prelude.{◌<◌, ◌≤◌};
 
 use ent_handle::{Birth, ComponentId, Handle};

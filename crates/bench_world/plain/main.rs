@@ -16,10 +16,14 @@ use std::time::Instant;
 
 /// The component that every entity has, and the one that comes and goes.
 const VALUE: u8 = 0;
-const MARK: u8 = 1;
+const FLAG: u8 = 1;
 
 /// Rounds of a queue.
 const ROUNDS: u32 = 25_000;
+
+/// How many systems reserve in turns, and how many spawns they have together.
+const SYSTEMS: [u32; 4] = [1, 2, 16, 256];
+const SPAWNS: u32 = 512_000;
 
 #[derive(Clone, Copy)]
 enum Kind {
@@ -40,6 +44,9 @@ const KINDS: [(Kind, &str); 4] = [
 
 fn main() {
     let word = std::env::args().nth(1).expect("a number of entities");
+    if word == "turns" {
+        return print_turns();
+    }
     let entities = word.parse().expect("a number of entities");
     for (order, stride) in [("scattered", 7919), ("rising", 1)] {
         let mut world = filled(entities);
@@ -55,11 +62,40 @@ fn main() {
     }
 }
 
+/// Spawns by systems that reserve in turns, each time in an empty world.
+fn print_turns() {
+    for systems in SYSTEMS {
+        let mut world = World::default();
+        let queues = in_turns(&mut world, systems);
+        let seconds = timed(&mut world, &queues);
+        let sum: i64 = (0..SPAWNS).map(|index| value_at(&world, index)).sum();
+        let living = world.storage.len();
+        println!("turns|{systems}|{SPAWNS}|{seconds:.9}|{living}|{sum}");
+    }
+}
+
+fn in_turns(world: &mut World, systems: u32) -> Vec<Vec<Command>> {
+    let mut queues: Vec<_> = (0..systems).map(|_| Vec::new()).collect();
+    for round in 0..SPAWNS / systems {
+        for (system, queue) in queues.iter_mut().enumerate() {
+            let spawned = world.entities.reserve().expect("a slot");
+            let value = i64::from(round) + system as i64;
+            queue.push(Command::Spawn(spawned, bundle(VALUE, value)));
+        }
+    }
+    queues
+}
+
 /// Issues the commands and applies them. Returns the seconds of `apply`.
 fn phase(world: &mut World, entities: u32, stride: u32, kind: Kind) -> f64 {
     let queues = vec![issued(world, entities, stride, kind)];
+    timed(world, &queues)
+}
+
+/// The sync point. Returns the seconds of `apply`.
+fn timed(world: &mut World, queues: &[Vec<Command>]) -> f64 {
     let start = Instant::now();
-    let report = world.apply(black_box(&queues));
+    let report = world.apply(black_box(queues));
     let seconds = start.elapsed().as_secs_f64();
     assert!(report.faults.is_empty(), "a command had no effect");
     black_box(&report.born);
@@ -76,16 +112,16 @@ fn issued(world: &mut World, entities: u32, stride: u32, kind: Kind) -> Vec<Comm
             Kind::All => {
                 let spawned = world.entities.reserve().expect("a slot");
                 commands.push(Command::Spawn(spawned, bundle(VALUE, value)));
-                commands.push(Command::Insert(target, bundle(MARK, value)));
-                commands.push(Command::Remove(target, MARK));
+                commands.push(Command::Insert(target, bundle(FLAG, value)));
+                commands.push(Command::Remove(target, FLAG));
                 commands.push(Command::Despawn(spawned));
             }
             Kind::Spawns => {
                 let spawned = world.entities.reserve().expect("a slot");
                 commands.push(Command::Spawn(spawned, bundle(VALUE, value)));
             }
-            Kind::Inserts => commands.push(Command::Insert(target, bundle(MARK, value))),
-            Kind::Removes => commands.push(Command::Remove(target, MARK)),
+            Kind::Inserts => commands.push(Command::Insert(target, bundle(FLAG, value))),
+            Kind::Removes => commands.push(Command::Remove(target, FLAG)),
             Kind::Despawns => commands.push(Command::Despawn(entity_at(entities + round))),
         }
     }
@@ -103,18 +139,18 @@ fn print_line(world: &World, entities: u32, order: &str, kind: &str, commands: u
 /// The sum of the values of the slot's first occupant.
 fn value_at(world: &World, index: u32) -> i64 {
     let value = |id| world.storage.get(entity_at(index), id).unwrap_or(0);
-    value(VALUE) + value(MARK)
+    value(VALUE) + value(FLAG)
 }
 
-/// A world of that many entities, at least one. Each has a value, and the last one the mark too, so
-/// that what a storage keeps for the mark at each entity is there before anything is timed.
+/// A world of that many entities, at least one. Each has a value, and the last one the flag too, so
+/// that what a storage keeps for the flag at each entity is there before anything is timed.
 fn filled(entities: u32) -> World {
     let mut world = World::default();
     let mut bundle = bundle(VALUE, 7);
     for ordinal in 1..entities {
         world.spawn(ordinal, bundle.items()).expect("a slot");
     }
-    bundle.put(MARK, 1);
+    bundle.put(FLAG, 1);
     world.spawn(0, bundle.items()).expect("a slot");
     world
 }

@@ -3,29 +3,41 @@
 //! `bench_world ENTITIES` applies queues of 25,000 rounds to worlds of that many entities. It
 //! prints a line for each: the order, the kind of its commands, how many commands it has, the
 //! seconds of `World::apply`, and how many entities are alive then and the sum of their values.
-//! Without a word it does so with few entities and few rounds, and prints no seconds.
+//! `bench_world turns` applies queues of 512,000 spawns together, of 1, 2, 16 and 256 systems that
+//! reserved in turns, each to an empty world. Its lines have how many systems there are in the
+//! place of the kind.
+//! Without a word it does both with few entities and few commands, and prints no seconds.
 #![tactic(auto)]
 
-ghost use Rattle.std.specs.Prelude.{◌≡◌};
+ghost use Rattle.std.specs.Prelude.{◌≡◌, ◌≤◌, ◌^◌, length};
 ghost use Rattle.ent_shared.specs.Phase.{IsOf};
 
+mod turns;
 mod work;
 
 use ent_alloc::Limits;
 use ent_handle::Birth;
-use ent_queue::Bundle;
+use ent_queue::{Bundle, CommandQueue};
 use ent_shared::Reserver;
 use ent_world::{OpenWorld, World};
 use std::rt::Clock;
 use std::time::Instant;
 use std::{env, io};
-use work::{Kind, MARK, VALUE, Work, bundle, entity_at, issued};
+use turns::Turns;
+use work::{FLAG, Kind, VALUE, Work, bundle, entity_at, issued};
 
 /// Rounds of a queue that is timed.
 const ROUNDS: u32 = 25_000;
 
 /// Entities and rounds if nothing is timed.
 const FEW: u32 = 100;
+
+/// How many systems reserve in turns, and how many spawns they have together.
+const SYSTEMS: [u32; 4] = [1, 2, 16, 256];
+
+const SPAWNS: u32 = 512_000;
+
+const FEW_SPAWNS: u32 = 512;
 
 /// How far apart the entities of two rounds are.
 const RISING: u32 = 1;
@@ -39,8 +51,12 @@ fn main(rt: HostRuntime) -> io::Result<()> {
     let mut words = env::args(&rt)?;
     let _ = words.next();
     match words.next() {
+        Some(word) if word.as_str() == "turns" => print_turns(&rt, SPAWNS, true),
         Some(entities) => print_all(&rt, entities.parse().unwrap_or(FEW), ROUNDS, true),
-        None => print_all(&rt, FEW, FEW, false),
+        None => {
+            print_all(&rt, FEW, FEW, false)?;
+            print_turns(&rt, FEW_SPAWNS, false)
+        }
     }
 }
 
@@ -59,6 +75,66 @@ where
         print_apart(rt, work, timed)?;
     }
     Ok(())
+}
+
+/// So many spawns, by systems that reserved in turns.
+fn print_turns<R>(rt: &R, spawns: u32, timed: bool) -> io::Result<()>
+where
+    R: Clock + Print + AllocGlobal,
+{
+    for systems in SYSTEMS {
+        let turns = Turns {
+            systems,
+            rounds: spawns / systems.max(1),
+        };
+        let (world, seconds) = in_turns(rt, turns)?;
+        let commands = turns.spawns();
+        let living = world.len();
+        let sum = sum_of(&world, commands);
+        if timed {
+            println!(rt; "turns|{systems}|{commands}|{seconds:.9}|{living}|{sum}")?;
+        } else {
+            println!(rt; "turns systems {systems} commands {commands} living {living} sum {sum}")?;
+        }
+    }
+    Ok(())
+}
+
+/// Issues the commands and applies them to an empty world. Returns the seconds of `apply`.
+fn in_turns<R>(rt: &R, turns: Turns) -> io::Result<(World, f64)>
+where
+    R: Clock + AllocGlobal,
+{
+    let queues = turns.queues(rt.alloc())?;
+    let world = World::new(rt.alloc(), Limits::default_limits());
+    let Ok((opened, mut reservers)) = world.open(1) else {
+        return Err(io::ErrorKind::OutOfMemory.into());
+    };
+    let Some(reserver) = reservers.pop() else {
+        return Err(io::ErrorKind::Unsupported.into());
+    };
+    reserved(rt, opened, reserver, turns, &queues)
+}
+
+/// The slots of all systems are reserved, and then comes the sync point.
+fn reserved<R>(
+    rt: &R,
+    opened: OpenWorld,
+    mut reserver: Reserver,
+    turns: Turns,
+    queues: &[CommandQueue],
+) -> io::Result<(World, f64)>
+where
+    R: Clock + AllocGlobal,
+    requires alone { opened.shared.count ≡ 1 }
+    requires own { IsOf opened.shared reserver }
+{
+    let _ = opened.shared().reserve_many(&mut reserver, turns.spawns());
+    let reservers = Vec::from_array(rt.alloc(), [reserver])?;
+    if queues.len() > 65_536 {
+        return Err(io::ErrorKind::Unsupported.into());
+    }
+    timed(rt, opened.close(reservers), queues)
 }
 
 /// A queue of rounds of all four kinds.
@@ -118,9 +194,17 @@ where
     let queue = issued(rt.alloc(), opened.shared(), &mut reserver, work);
     let reservers = Vec::from_array(rt.alloc(), [reserver])?;
     let queues = Vec::from_array(rt.alloc(), [queue])?;
-    let mut world = opened.close(reservers);
+    timed(rt, opened.close(reservers), &queues)
+}
+
+/// The sync point. Returns the seconds of `apply`.
+fn timed<R>(rt: &R, mut world: World, queues: &[CommandQueue]) -> io::Result<(World, f64)>
+where
+    R: Clock + AllocGlobal,
+    requires { length queues.now ≤ 2 ^ 16 }
+{
     let start = Instant::now(rt)?;
-    let applied = world.apply(&queues);
+    let applied = world.apply(queues);
     let seconds = start.elapsed(rt)?.as_secs_f64();
     let Ok(report) = applied else {
         return Err(io::ErrorKind::OutOfMemory.into());
@@ -143,7 +227,7 @@ where
     let kind = work.kind.name();
     let commands = work.commands();
     let living = world.len();
-    let sum = sum_of(world, work);
+    let sum = sum_of(world, work.entities.saturating_add(work.rounds));
     if timed {
         println!(rt; "{order}|{kind}|{commands}|{seconds:.9}|{living}|{sum}")
     } else {
@@ -152,27 +236,27 @@ where
 }
 
 /// The sum of all values of the first occupants of all slots.
-fn sum_of(world: &World, work: Work) -> i64 {
+fn sum_of(world: &World, slots: u32) -> i64 {
     let mut sum: i64 = 0;
-    for index in 0..work.entities.saturating_add(work.rounds) {
+    for index in 0..slots {
         if let Some(handle) = entity_at(index) {
             let value = world.get(handle, VALUE).unwrap_or(0);
-            let mark = world.get(handle, MARK).unwrap_or(0);
-            sum = sum.wrapping_add(value).wrapping_add(mark);
+            let flag = world.get(handle, FLAG).unwrap_or(0);
+            sum = sum.wrapping_add(value).wrapping_add(flag);
         }
     }
     sum
 }
 
-/// A world of that many entities, at least one. Each has a value, and the last one the mark too, so
-/// that what a storage keeps for the mark at each entity is there before anything is timed.
+/// A world of that many entities, at least one. Each has a value, and the last one the flag too, so
+/// that what a storage keeps for the flag at each entity is there before anything is timed.
 fn filled<R: AllocGlobal>(rt: &R, entities: u32) -> io::Result<World> {
     let mut world = World::new(rt.alloc(), Limits::default_limits());
     let mut bundle = bundle(rt.alloc(), VALUE, 7);
     for ordinal in 1..entities {
         spawn(&mut world, ordinal, &bundle)?;
     }
-    let _ = bundle.put(MARK, 1);
+    let _ = bundle.put(FLAG, 1);
     spawn(&mut world, 0, &bundle)?;
     Ok(world)
 }

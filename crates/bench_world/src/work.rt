@@ -10,7 +10,7 @@ use std::alloc::Global;
 pub const VALUE: ComponentId = ComponentId(0);
 
 /// The component that comes and goes.
-pub const MARK: ComponentId = ComponentId(1);
+pub const FLAG: ComponentId = ComponentId(1);
 
 /// Which commands a round has.
 #[derive(Clone, Copy)]
@@ -75,8 +75,8 @@ pub fn issued(alloc: Global, shared: &Shared, reserver: &mut Reserver, work: Wor
         match work.kind {
             Kind::All => {
                 let spawned = commands.spawn(bundle(alloc, VALUE, value));
-                let _ = commands.insert(target, bundle(alloc, MARK, value));
-                let _ = commands.remove(target, MARK);
+                let _ = commands.insert(target, bundle(alloc, FLAG, value));
+                let _ = commands.remove(target, FLAG);
                 if let Ok(handle) = spawned {
                     let _ = commands.despawn(handle);
                 }
@@ -85,10 +85,10 @@ pub fn issued(alloc: Global, shared: &Shared, reserver: &mut Reserver, work: Wor
                 let _ = commands.spawn(bundle(alloc, VALUE, value));
             }
             Kind::Inserts => {
-                let _ = commands.insert(target, bundle(alloc, MARK, value));
+                let _ = commands.insert(target, bundle(alloc, FLAG, value));
             }
             Kind::Removes => {
-                let _ = commands.remove(target, MARK);
+                let _ = commands.remove(target, FLAG);
             }
             Kind::Despawns => {
                 if let Some(handle) = entity_at(work.entities.saturating_add(round)) {

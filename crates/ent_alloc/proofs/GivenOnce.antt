@@ -1,24 +1,24 @@
--- No handle is given twice: each step keeps the list of all given handles free of repetitions, if
--- no free wraps.
-use Rattle.std.proofs.Common.{le_of_eq, append-nil, ◌≡◌, ◌≢◌, refl, sym, ap, subst, ℕ, ◌+◌, ◌<◌}
+-- No handle is given twice: each step keeps the list of all given handles free of repetitions.
+use Rattle.std.proofs.Common.{le_of_eq, append-nil, ◌≡◌, ◌≢◌, refl, sym, ap, subst, ℕ, ◌<◌}
 use Rattle.std.proofs.Common.{◌≤◌, List, [], ◌∷◌, ◌++◌, length, get_or, take, drop, All, Contains}
 use Rattle.std.proofs.Common.{IsPermutation, Ok, arith, inl, inr}
 use Rattle.std.proofs.lemmas.Bool.{cases_lt}
-use Rattle.std.proofs.lemmas.List.Elements.{Contains-get_or, All-push, All-nil, All-cons}
+use Rattle.std.proofs.lemmas.List.Elements.{Contains-get_or, All-push, All-nil}
 use Rattle.std.proofs.lemmas.List.Elements.{All-append, All-head, All-contains, All-contains_itself}
 use Rattle.std.proofs.lemmas.List.Elements.{All-weaker, All-take, All-drop, Contains-append_left}
 use Rattle.std.proofs.lemmas.List.Quantifiers.{all_pairs_push}
 use Rattle.std.proofs.lemmas.List.Sorted.{All-permutation}
 use Rattle.ent_handle.specs.Handle.{Handle}
 use Rattle.ent_alloc.specs.Sequential.{Allocator, available, after_take, after_flush}
-use Rattle.ent_alloc.specs.Sequential.{after_alloc, after_free, next, reply_to}
+use Rattle.ent_alloc.specs.Sequential.{after_alloc, after_free, next, in_front, reply_to}
 use Rattle.ent_alloc.specs.Sound.{IsSound, AreApart, IsLive}
-use Rattle.ent_alloc.specs.Given.{IsSpent, AreSpent}
+use Rattle.ent_alloc.specs.Spent.{IsSpent, AreSpent}
 use Rattle.ent_alloc.proofs.ListLaws.{All-left, All-right, AllPairs-append, AllPairs-left}
 use Rattle.ent_alloc.proofs.ListLaws.{AllPairs-across, AllPairs-IsPermutation, same_from_AllPairs}
 use Rattle.ent_alloc.proofs.HandleSets.{inserted, in_removed, of_inserted, of_joined}
 use Rattle.ent_alloc.proofs.Taken.{after_take-served, after_take-refused}
-use Rattle.ent_alloc.proofs.Soundness.{after_alloc-sound, after_take-sound, next-later}
+use Rattle.ent_alloc.proofs.Soundness.{after_alloc-sound, after_take-sound, of_next}
+use Rattle.ent_alloc.proofs.Soundness.{All-in_front}
 use Rattle.ent_alloc.proofs.Replies.{of_reply, reply-taken, reply-distinct}
 
 -- g comes after h, where both are of one slot
@@ -128,17 +128,18 @@ alloc-stays_spent s x rest h front spent =
           (All-head (After h) x rest (subst (All (After h)) front in_pool))) spent.live;
     }
 
--- after a free that does not wrap: the slot goes on with the next generation
-free-stays_spent : (s : Allocator) (x h : Handle) → IsLive s x → x.generation ≢ s.limits.generations
-    → IsSpent s h → IsSpent (after_free s x) h
-free-stays_spent s x h alive before spent =
+-- after a free: the slot goes on with the next generation, or gives nothing more
+free-stays_spent : (s : Allocator) (x h : Handle) → IsLive s x → IsSpent s h
+    → IsSpent (after_free s x) h
+free-stays_spent s x h alive spent =
     let in_pool : All (After h) s.pool = All-right (After h) s.aside s.pool spent.left in
-    let later : (next s.limits x).generation ≡ x.generation + 1 = next-later s.limits x before in
+    let front = next s.limits x in
     record {
-      left = All-append (After h) s.aside (next s.limits x ∷ s.pool)
+      left = All-append (After h) s.aside (in_front front s.pool)
           (All-left (After h) s.aside s.pool spent.left)
-          (All-cons (After h) (next s.limits x) s.pool (λ same. let occupant = spent.live x alive
-          same in omega arith) in_pool);
+          (All-in_front (After h) front s.pool
+          (of_next (After h) s.limits x (λ _ same. let occupant = spent.live x alive
+          same in omega arith)) in_pool);
       taken = spent.taken;
       live = λ g kept. spent.live g (in_removed s.live x g kept).1;
     }
@@ -195,13 +196,13 @@ alloc-given s x rest given sound flushed front once = record {
       (inserted s.live x));
 }
 
--- a free that does not wrap gives nothing
-pub free-given : (s : Allocator) (x : Handle) (given : List Handle) → IsLive s x → x.generation
-    ≢ s.limits.generations → AreSpent s given → AreSpent (after_free s x) given
-free-given s x given alive before once = record {
+-- a free gives nothing
+pub free-given : (s : Allocator) (x : Handle) (given : List Handle) → IsLive s x → AreSpent s given
+    → AreSpent (after_free s x) given
+free-given s x given alive once = record {
   distinct = once.distinct;
   spent =
-      All-weaker (IsSpent s) (IsSpent (after_free s x)) (λ h. free-stays_spent s x h alive before)
+      All-weaker (IsSpent s) (IsSpent (after_free s x)) (λ h. free-stays_spent s x h alive)
       given once.spent;
 }
 

@@ -130,7 +130,7 @@ pub row_at-set : (records : List SlotRecord) (index : ℕ) (r : SlotRecord) (q :
 row_at-set records index r q =
     read-set (λ (x : SlotRecord). row_in x q.generation) records index r q.index
 
--- a record without a row in the place of another one leaves the rows
+-- a record without a row instead of another one leaves the rows
 pub rows_from-set : (from : ℕ) (records : List SlotRecord) (index : ℕ) (r : SlotRecord)
     → row_of r.occupancy ≡ None → row_of (record_at records index).occupancy ≡ None
     → rows_from from (set records index r) ≡ rows_from from records

@@ -18,6 +18,7 @@ pub mod Reused
 pub mod Linked
 pub mod LivingOccupant
 pub mod Released
+pub mod Retired
 pub mod Listing
 pub mod Reversed
 pub mod Meaning

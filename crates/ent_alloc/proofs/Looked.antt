@@ -20,6 +20,7 @@ use Rattle.ent_alloc.specs.Sequential.{fresh, stands_in}
 use Rattle.ent_alloc.specs.declared.slot_record.SlotRecord.{SlotRecord}
 use Rattle.ent_alloc.specs.declared.slot_record.Occupancy.{Occupancy}
 use Rattle.ent_alloc.specs.declared.slot_record.Occupancy.TheVariants.{Alive, AliveWithRow, Pending}
+use Rattle.ent_alloc.specs.declared.slot_record.Occupancy.TheVariants.{Retired}
 use Rattle.ent_alloc.specs.Slots.{occupants, occupancy_of, is_alive, lives, row_of, row_kept}
 use Rattle.ent_alloc.specs.Slots.{record_at, no_slot, handle_at, rows_from, is_pending_from}
 use Rattle.ent_alloc.specs.Slots.{waits_from, roster_of, AreLinked}
@@ -121,6 +122,7 @@ waiting_position : (t : Occupancy) (from : ℕ) → is_pending_from t from ≡ t
     × (t ≡ Pending position) × (from ≤ position)
 waiting_position Alive from is = absurd (false≢true is)
 waiting_position (AliveWithRow row) from is = absurd (false≢true is)
+waiting_position Retired from is = absurd (false≢true is)
 waiting_position (Pending position) from is = (position, refl, leb-true from position is)
 
 module _ (limits : Limits) (records : List SlotRecord) (pending : List ℕ) (live : ℕ)

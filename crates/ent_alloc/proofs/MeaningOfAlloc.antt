@@ -1,5 +1,5 @@
 -- What `alloc` and `free` make of the roster is the allocator's step.
-use Rattle.std.proofs.Common.{◌≡◌, ◌+◌, ◌-◌, ◌<◌, true, false, cond, ◌||◌, List, [], ◌∷◌, ◌++◌}
+use Rattle.std.proofs.Common.{◌≡◌, ◌≢◌, ◌+◌, ◌-◌, ◌<◌, true, false, cond, ◌||◌, List, [], ◌∷◌, ◌++◌}
 use Rattle.std.proofs.Common.{length, take, drop, reverse, sym, ap, ◌∙◌, arith, suc, slice_get}
 use Rattle.std.proofs.Common.{Some, subst, All}
 use Rattle.std.specs.Ordering.{eq_by_cmp}
@@ -15,11 +15,12 @@ use Rattle.ent_handle.specs.Handle.{handle_cmp-IsAntisymmetric}
 use Rattle.ent_alloc.specs.Roster.{Roster}
 use Rattle.ent_alloc.specs.declared.requests.Requests.{Requests}
 use Rattle.ent_alloc.specs.Sequential.{Allocator, fresh, is_old, after_alloc, after_free, next}
+use Rattle.ent_alloc.specs.Sequential.{following, in_front}
 use Rattle.ent_alloc.specs.Sound.{IsSound}
 use Rattle.ent_alloc.specs.Entities.{idle, allocator_of, AreReserved}
 use Rattle.ent_alloc.proofs.FreshHandles.{fresh-next}
 use Rattle.ent_alloc.proofs.HandleSets.{contains-union_list}
-use Rattle.ent_alloc.proofs.Soundness.{after_alloc-sound}
+use Rattle.ent_alloc.proofs.Soundness.{after_alloc-sound, next-last, next-later}
 use Rattle.ent_alloc.proofs.Meaning.{pending_below, length-idle, IsAtRest, closed, closed_is}
 
 -- one handle that comes to life
@@ -163,21 +164,42 @@ module _ (r : Roster) (requests : Requests) (s : Allocator) (rest : IsAtRest r r
 
 -- ---- free
 
--- the roster after an occupant was taken out
+-- the roster after an occupant was taken out, and after the last one of its slot was
 abbrev pub freed_roster : Roster → Handle → Roster
 freed_roster r h = record r {
   live = sets.remove r.live h;
   rows = maps.remove r.rows h;
-  pending = r.pending ++ next r.limits h ∷ [];
+  pending = r.pending ++ following h ∷ [];
 }
 
-pub free_is : (r : Roster) (h : Handle)
+abbrev pub retired_roster : Roster → Handle → Roster
+retired_roster r h = record r { live = sets.remove r.live h; rows = maps.remove r.rows h }
+
+pub free_is : (r : Roster) (h : Handle) → h.generation ≢ r.limits.generations
     → allocator_of (freed_roster r h) 0 0 ≡ after_free (allocator_of r 0 0) h
-free_is r h =
-    let front : reverse (r.pending ++ next r.limits h ∷ [])
-    ++ fresh r.made (r.limits.slots - r.made) ≡ next r.limits h ∷ idle r =
+free_is r h before =
+    let front : reverse (r.pending ++ following h ∷ [])
+    ++ fresh r.made (r.limits.slots - r.made) ≡ in_front (next r.limits h) (idle r) =
     ap (λ hs. hs ++ fresh r.made (r.limits.slots - r.made))
-    (reverse-append r.pending (next r.limits h ∷ [])) in
+    (reverse-append r.pending (following h ∷ []))
+    ∙ ap (λ o. in_front o (idle r)) (sym (next-later r.limits h before)) in
+    λ i. record {
+      limits = r.limits;
+      live = sets.remove r.live h;
+      rows = maps.remove r.rows h;
+      pool = front i;
+      taken = [];
+      aside = [];
+      made = r.made;
+      asked = 0;
+    }
+
+-- the last occupant of a slot leaves the pool as it is
+pub retire_is : (r : Roster) (h : Handle) → h.generation ≡ r.limits.generations
+    → allocator_of (retired_roster r h) 0 0 ≡ after_free (allocator_of r 0 0) h
+retire_is r h last =
+    let front : idle r ≡ in_front (next r.limits h) (idle r) =
+    ap (λ o. in_front o (idle r)) (sym (next-last r.limits h last)) in
     λ i. record {
       limits = r.limits;
       live = sets.remove r.live h;

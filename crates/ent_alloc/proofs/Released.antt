@@ -1,21 +1,22 @@
--- A slot whose occupant is freed: the vectors stay linked, and the roster loses the occupant.
+-- A slot whose occupant is freed, and waits for the next one or is retired: the vectors stay
+-- linked, and the roster loses the occupant.
 use Rattle.std.proofs.Common.{◌≡◌, ◌≢◌, ℕ, ◌+◌, ◌-◌, ◌<◌, ◌≤◌, Bool, true, false, cond, not, ◌&&◌}
 use Rattle.std.proofs.Common.{eqb, List, [], ◌∷◌, ◌++◌, length, get_or, set, refl, sym, ap, ◌∙◌}
-use Rattle.std.proofs.Common.{arith, inl, inr, Option, None}
+use Rattle.std.proofs.Common.{arith, inl, inr, Option, None, subst, map}
 use Rattle.std.specs.FinSet as sets
 use Rattle.std.specs.FinMap as maps
-use Rattle.std.proofs.lemmas.Bool.{cases_lt, cases_eq, false≢true, eqb-false}
+use Rattle.std.proofs.lemmas.Bool.{cases_lt, cases_eq, false≢true}
 use Rattle.std.proofs.lemmas.List.{length-set, length_push, map_push, get_or-set_same}
 use Rattle.std.proofs.lemmas.List.{get_or-set_other, get_or_append_left, get_or_push}
 use Rattle.ent_handle.specs.Handle.{Handle, handle_cmp, handle_cmp_total}
 use Rattle.ent_handle.specs.Handle.{handle_cmp-IsAntisymmetric}
 use Rattle.ent_alloc.proofs.ListLaws.{eqb_sym, map_alike}
 use Rattle.ent_alloc.specs.Limits.{Limits}
-use Rattle.ent_alloc.specs.Sequential.{next}
+use Rattle.ent_alloc.specs.Sequential.{following}
 use Rattle.ent_alloc.specs.declared.slot_record.SlotRecord.{SlotRecord}
-use Rattle.ent_alloc.specs.declared.slot_record.Occupancy.TheVariants.{Pending}
-use Rattle.ent_alloc.specs.Slots.{occupants, is_alive, record_at, no_slot, handle_at, rows_from}
-use Rattle.ent_alloc.specs.Slots.{roster_of, AreLinked}
+use Rattle.ent_alloc.specs.declared.slot_record.Occupancy.TheVariants.{Pending, Retired}
+use Rattle.ent_alloc.specs.Slots.{occupants, is_alive, row_of, record_at, no_slot, handle_at}
+use Rattle.ent_alloc.specs.Slots.{rows_from, roster_of, AreLinked}
 use Rattle.ent_alloc.proofs.Occupants.{is_occupant, contains_occupants, is_occupant-set, ties, one}
 use Rattle.ent_alloc.proofs.Occupants.{length-occupants-set}
 use Rattle.ent_alloc.proofs.Reused.{position_of}
@@ -35,38 +36,17 @@ gone_row true true old is = refl
 gone_row true false old is = sym (is refl refl)
 gone_row false gen old is = refl
 
+Retired≢Pending : {position : ℕ} → Retired ≢ Pending position
+Retired≢Pending e = cc
+
 never : (b : Bool) (row : Option ℕ) → row ≡ None → cond b row None ≡ None
 never true row is = is
 never false row is = refl
 
 module _ (limits : Limits) (records : List SlotRecord) (pending : List ℕ) (live : ℕ) (h : Handle)
     (linked : AreLinked limits records pending live) (lives : is_occupant records h ≡ true) where
-  abbrev vacant : SlotRecord
-  vacant = record { generation = (next limits h).generation; occupancy = Pending (length pending) }
-
-  abbrev released : List SlotRecord
-  released = set records h.index vacant
-
   made_slot : h.index < length records
   made_slot = occupant_made records h lives
-
-  pub next_generation : (1 ≤ (next limits h).generation)
-      × ((next limits h).generation ≤ limits.generations)
-  next_generation =
-      let same = occupant_generation records h lives in
-      let g = linked.greatest h.index made_slot in
-      let some = linked.limited.some_generation in
-      let within : h.generation ≤ limits.generations = omega arith in
-      by_test (eqb h.generation limits.generations) refl within some
-    where
-      by_test : (b : Bool) → eqb h.generation limits.generations ≡ b → h.generation
-          ≤ limits.generations → 1 ≤ limits.generations → (1 ≤ cond b 1 (h.generation + 1))
-          × (cond b 1 (h.generation + 1) ≤ limits.generations)
-      by_test true e within some = (omega arith, some)
-      by_test false e within some =
-          let differ : h.generation ≢ limits.generations = eqb-false h.generation limits.generations
-          e in
-          (omega arith, omega arith)
 
   apart : (position : ℕ) → position < length pending → get_or pending position 0 ≢ h.index
   apart position below e =
@@ -76,61 +56,108 @@ module _ (limits : Limits) (records : List SlotRecord) (pending : List ℕ) (liv
       ∙ ap is_alive (linked.forward position below) in
       false≢true (sym waits ∙ alive)
 
-  other : (at : ℕ) → at ≢ h.index → record_at released at ≡ record_at records at
-  other at ne = get_or-set_other records h.index at vacant no_slot ne
+  -- its record has no occupant any more
+  module _ (left : SlotRecord) (dead : is_alive left.occupancy ≡ false)
+      (bare : row_of left.occupancy ≡ None) where
+    abbrev changed : List SlotRecord
+    changed = set records h.index left
 
-  same : record_at released h.index ≡ vacant
-  same = get_or-set_same records h.index vacant no_slot made_slot
+    other : (at : ℕ) → at ≢ h.index → record_at changed at ≡ record_at records at
+    other at ne = get_or-set_other records h.index at left no_slot ne
 
-  same_at : (at : ℕ) → at ≡ h.index → record_at released at ≡ vacant
-  same_at at e = ap (record_at released) e ∙ same
+    same : record_at changed h.index ≡ left
+    same = get_or-set_same records h.index left no_slot made_slot
 
-  fewer : length (occupants 0 released) + 1 ≡ length (occupants 0 records)
-  fewer =
-      let step = length-occupants-set 0 records h.index vacant made_slot in
-      let was : one (is_alive (record_at records h.index).occupancy)
-      ≡ 1 = ap one (occupant_alive records h lives) in
-      omega (arith, step)
+    same_at : (at : ℕ) → at ≡ h.index → record_at changed at ≡ left
+    same_at at e = ap (record_at changed) e ∙ same
+
+    fewer : length (occupants 0 changed) + 1 ≡ length (occupants 0 records)
+    fewer =
+        let step = length-occupants-set 0 records h.index left made_slot in
+        let was : one (is_alive (record_at records h.index).occupancy)
+        ≡ 1 = ap one (occupant_alive records h lives) in
+        let is : one (is_alive left.occupancy) ≡ 0 = ap one dead in
+        omega (arith, step)
+
+    generation_in : (P : ℕ → Type 0) → P left.generation
+        → ((index : ℕ) → index < length records → P (record_at records index).generation)
+        → (index : ℕ) → index < length changed → P (record_at changed index).generation
+    generation_in P here each index within =
+        let long : length changed ≡ length records = length-set records h.index left in
+        elim (cases_eq index h.index) [
+          | inl e ↦ subst (λ (r : SlotRecord). P r.generation) (sym (same_at index e)) here
+          | inr ne ↦ subst (λ (r : SlotRecord). P r.generation) (sym (other index ne))
+              (each index (omega arith))
+        ]
+
+    live_is : sets.from_list {R = handle_cmp} (occupants 0 changed)
+        ≡ sets.remove (sets.from_list (occupants 0 records)) h
+    live_is =
+        sets.same_set handle_cmp_total handle_cmp-IsAntisymmetric _ _ (λ q.
+        contains_occupants changed q
+        ∙ is_occupant-set records h.index left q made_slot
+        ∙ (λ i. cond (eqb q.index h.index) (dead i && eqb left.generation q.generation)
+        (is_occupant records q))
+        ∙ gone_test (eqb q.index h.index) (eqb q.generation h.generation) (is_occupant records q)
+        (at_h q)
+        ∙ (λ i. not (sym (ties q h) i) && sym (contains_occupants records q) i)
+        ∙ sym (sets.contains-remove handle_cmp_total (sets.from_list (occupants 0 records)) h q))
+      where
+        at_h : (q : Handle) → eqb q.index h.index ≡ true → is_occupant records q
+            ≡ eqb q.generation h.generation
+        at_h q e = is_occupant-same_slot records h q lives e ∙ eqb_sym h.generation q.generation
+
+    rows_is : maps.from_entries {R = handle_cmp} (rows_from 0 changed)
+        ≡ maps.remove (maps.from_entries (rows_from 0 records)) h
+    rows_is =
+        maps.same_map handle_cmp_total handle_cmp-IsAntisymmetric _ _ (λ q.
+        get_rows changed q
+        ∙ row_at-set records h.index left q made_slot
+        ∙ (λ i. cond (eqb q.index h.index) (never (eqb left.generation q.generation)
+        (row_of left.occupancy) bare i) (row_at records q))
+        ∙ gone_row (eqb q.index h.index) (eqb q.generation h.generation) (row_at records q)
+        (row_at-same_slot records h q lives)
+        ∙ (λ i. cond (sym (ties q h) i) None (sym (get_rows records q) i))
+        ∙ sym (maps.get-remove handle_cmp_total (maps.from_entries (rows_from 0 records)) h q))
+
+    pending_is : map (handle_at changed) pending ≡ map (handle_at records) pending
+    pending_is = map_alike (handle_at changed) (handle_at records) pending
+        (λ k below i. record {
+          index = get_or pending k 0;
+          generation = (other (get_or pending k 0) (apart k below) i).generation;
+        })
+
+  -- ---- the slot waits for the next one
+
+  abbrev vacant : SlotRecord
+  vacant = record { generation = h.generation + 1; occupancy = Pending (length pending) }
+
+  abbrev released : List SlotRecord
+  released = set records h.index vacant
 
   pub one_lives : 1 ≤ live
-  one_lives = let counted = linked.counted in omega (arith, fewer)
+  one_lives = let counted = linked.counted in omega (arith, fewer vacant refl refl)
 
-  pub release_keeps_links : AreLinked limits released (pending ++ h.index ∷ []) (live - 1)
-  release_keeps_links =
+  pub release_keeps_links : h.generation ≢ limits.generations
+      → AreLinked limits released (pending ++ h.index ∷ []) (live - 1)
+  release_keeps_links before =
       let long : length released ≡ length records = length-set records h.index vacant in
       let more : length (pending ++ h.index ∷ []) ≡ length pending + 1 = length_push pending h.index
       in
       let counted = linked.counted in
       let each = linked.each_once in
       let few = linked.few in
-      let range = next_generation in
+      let less = fewer vacant refl refl in
+      let generation = occupant_generation records h lives in
+      let greatest = linked.greatest h.index made_slot in
       record {
         limited = linked.limited;
         few = omega arith;
-        counted = omega (arith, fewer);
-        each_once = omega (arith, fewer);
-        least = λ index within.
-            elim (cases_eq index h.index) [
-              | inl e ↦ omega (
-                arith,
-                range.0,
-                ap (λ (r : SlotRecord). r.generation)
-                    (same_at index e),
-              )
-              | inr ne ↦ (let b = linked.least index (omega arith) in
-                  omega (arith, ap (λ (r : SlotRecord). r.generation) (other index ne)))
-            ];
-        greatest = λ index within.
-            elim (cases_eq index h.index) [
-              | inl e ↦ omega (
-                arith,
-                range.1,
-                ap (λ (r : SlotRecord). r.generation)
-                    (same_at index e),
-              )
-              | inr ne ↦ (let b = linked.greatest index (omega arith) in
-                  omega (arith, ap (λ (r : SlotRecord). r.generation) (other index ne)))
-            ];
+        counted = omega arith;
+        each_once = omega arith;
+        least = generation_in vacant refl refl (λ g. 1 ≤ g) (omega arith) linked.least;
+        greatest = generation_in vacant refl refl (λ g. g ≤ limits.generations) (omega arith)
+            linked.greatest;
         made = λ position below.
             elim (cases_lt position (length pending)) [
               | inl old ↦ (let b = linked.made position old in
@@ -146,90 +173,121 @@ module _ (limits : Limits) (records : List SlotRecord) (pending : List ℕ) (liv
               | inl old ↦
                   ap (λ n. (record_at released n).occupancy)
                   (get_or_append_left pending (h.index ∷ []) 0 position old)
-                  ∙ ap (λ (r : SlotRecord). r.occupancy) (other (get_or pending position 0)
-                  (apart position old))
+                  ∙ ap (λ (r : SlotRecord). r.occupancy)
+                  (other vacant refl refl (get_or pending position 0) (apart position old))
                   ∙ linked.forward position old
               | inr new ↦
                   ap (λ n. (record_at released n).occupancy) (get_or_push pending h.index 0 position
                   (omega arith))
-                  ∙ ap (λ (r : SlotRecord). r.occupancy) same
+                  ∙ ap (λ (r : SlotRecord). r.occupancy) (same vacant refl refl)
                   ∙ ap Pending (omega arith)
             ];
         listed = λ index position within is.
             elim (cases_eq index h.index) [
               | inl e ↦
                   (let at : Pending (length pending) ≡ Pending position =
-                  sym (ap (λ (r : SlotRecord). r.occupancy) (same_at index e)) ∙ is in
+                  sym (ap (λ (r : SlotRecord). r.occupancy) (same_at vacant refl refl index e)) ∙ is
+                  in
                   let there : length pending ≡ position = ap position_of at in omega arith)
               | inr ne ↦
                   (let b = linked.listed index position (omega arith)
-                  (sym (ap (λ (r : SlotRecord). r.occupancy) (other index ne)) ∙ is) in
+                  (sym
+                  (ap (λ (r : SlotRecord). r.occupancy) (other vacant refl refl index ne)) ∙ is)
+                  in
                   omega arith)
             ];
         back = λ index position within is.
             elim (cases_eq index h.index) [
               | inl e ↦
                   (let at : Pending (length pending) ≡ Pending position =
-                  sym (ap (λ (r : SlotRecord). r.occupancy) (same_at index e)) ∙ is in
+                  sym (ap (λ (r : SlotRecord). r.occupancy) (same_at vacant refl refl index e)) ∙ is
+                  in
                   let there : length pending ≡ position = ap position_of at in
                   get_or_push pending h.index 0 position there ∙ sym e)
               | inr ne ↦
-                  (let old_is = sym (ap (λ (r : SlotRecord). r.occupancy) (other index ne)) ∙ is in
+                  (let old_is =
+                  sym (ap (λ (r : SlotRecord). r.occupancy) (other vacant refl refl index ne)) ∙ is
+                  in
                   let b = linked.listed index position (omega arith) old_is in
                   get_or_append_left pending (h.index ∷ []) 0 position b
                   ∙ linked.back index position (omega arith) old_is)
             ];
       }
 
-  live_is : sets.from_list {R = handle_cmp} (occupants 0 released)
-      ≡ sets.remove (sets.from_list (occupants 0 records)) h
-  live_is =
-      sets.same_set handle_cmp_total handle_cmp-IsAntisymmetric _ _ (λ q.
-      contains_occupants released q
-      ∙ is_occupant-set records h.index vacant q made_slot
-      ∙ gone_test (eqb q.index h.index) (eqb q.generation h.generation) (is_occupant records q)
-      (at_h q)
-      ∙ (λ i. not (sym (ties q h) i) && sym (contains_occupants records q) i)
-      ∙ sym (sets.contains-remove handle_cmp_total (sets.from_list (occupants 0 records)) h q))
-    where
-      at_h : (q : Handle) → eqb q.index h.index ≡ true → is_occupant records q
-          ≡ eqb q.generation h.generation
-      at_h q e = is_occupant-same_slot records h q lives e ∙ eqb_sym h.generation q.generation
-
-  rows_is : maps.from_entries {R = handle_cmp} (rows_from 0 released)
-      ≡ maps.remove (maps.from_entries (rows_from 0 records)) h
-  rows_is =
-      maps.same_map handle_cmp_total handle_cmp-IsAntisymmetric _ _ (λ q.
-      get_rows released q
-      ∙ row_at-set records h.index vacant q made_slot
-      ∙ (λ i. cond (eqb q.index h.index) (never (eqb (next limits h).generation q.generation) None
-      refl i) (row_at records q))
-      ∙ gone_row (eqb q.index h.index) (eqb q.generation h.generation) (row_at records q)
-      (row_at-same_slot records h q lives)
-      ∙ (λ i. cond (sym (ties q h) i) None (sym (get_rows records q) i))
-      ∙ sym (maps.get-remove handle_cmp_total (maps.from_entries (rows_from 0 records)) h q))
-
   pub roster_of-release : roster_of limits released (pending ++ h.index ∷ [])
       ≡ record (roster_of limits records pending) {
         live = sets.remove (roster_of limits records pending).live h;
         rows = maps.remove (roster_of limits records pending).rows h;
-        pending = (roster_of limits records pending).pending ++ next limits h ∷ [];
+        pending = (roster_of limits records pending).pending ++ following h ∷ [];
       }
   roster_of-release =
       let pending_is =
       map_push (handle_at released) pending h.index
-      ∙ (λ i. map_alike (handle_at released) (handle_at records) pending
-      (λ k below j. record {
-        index = get_or pending k 0;
-        generation =
-            (other (get_or pending k 0) (apart k below) j).generation;
-      }) i
-      ++ record { index = h.index; generation = (same i).generation } ∷ []) in
+      ∙ (λ i. pending_is vacant refl refl i
+      ++ record { index = h.index; generation = (same vacant refl refl i).generation } ∷ []) in
       λ i. record {
         limits = limits;
-        live = live_is i;
-        rows = rows_is i;
-        pending =
-            pending_is i;
+        live = live_is vacant refl refl i;
+        rows = rows_is vacant refl refl i;
+        pending = pending_is i;
         made = length-set records h.index vacant i;
+      }
+
+  -- ---- the slot is retired
+
+  abbrev unused : SlotRecord
+  unused = record { generation = (record_at records h.index).generation; occupancy = Retired }
+
+  abbrev retired : List SlotRecord
+  retired = set records h.index unused
+
+  -- it waits nowhere
+  waits_else : (index position : ℕ) → (record_at retired index).occupancy ≡ Pending position
+      → (record_at records index).occupancy ≡ Pending position
+  waits_else index position is =
+      elim (cases_eq index h.index) [
+        | inl e ↦ absurd (Retired≢Pending
+            (sym (ap (λ (r : SlotRecord). r.occupancy) (same_at unused refl refl index e)) ∙ is))
+        | inr ne ↦ sym (ap (λ (r : SlotRecord). r.occupancy) (other unused refl refl index ne)) ∙ is
+      ]
+
+  pub retire_keeps_links : AreLinked limits retired pending (live - 1)
+  retire_keeps_links =
+      let long : length retired ≡ length records = length-set records h.index unused in
+      let counted = linked.counted in
+      let each = linked.each_once in
+      let few = linked.few in
+      let less = fewer unused refl refl in
+      record {
+        limited = linked.limited;
+        few = omega arith;
+        counted = omega arith;
+        each_once = omega arith;
+        least = generation_in unused refl refl (λ g. 1 ≤ g) (linked.least h.index made_slot)
+            linked.least;
+        greatest = generation_in unused refl refl (λ g. g ≤ limits.generations)
+            (linked.greatest h.index made_slot) linked.greatest;
+        made = λ position below. let b = linked.made position below in omega arith;
+        forward = λ position below.
+            ap (λ (r : SlotRecord). r.occupancy)
+            (other unused refl refl (get_or pending position 0) (apart position below))
+            ∙ linked.forward position below;
+        listed = λ index position within is. linked.listed index position (omega arith)
+            (waits_else index position is);
+        back = λ index position within is. linked.back index position (omega arith)
+            (waits_else index position is);
+      }
+
+  pub roster_of-retire : roster_of limits retired pending
+      ≡ record (roster_of limits records pending) {
+        live = sets.remove (roster_of limits records pending).live h;
+        rows = maps.remove (roster_of limits records pending).rows h;
+      }
+  roster_of-retire =
+      λ i. record {
+        limits = limits;
+        live = live_is unused refl refl i;
+        rows = rows_is unused refl refl i;
+        pending = pending_is unused refl refl i;
+        made = length-set records h.index unused i;
       }

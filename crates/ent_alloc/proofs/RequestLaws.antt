@@ -10,7 +10,7 @@ use Rattle.std.proofs.lemmas.List.Sorted.{All-permutation, Contains-permutation}
 use Rattle.ent_handle.specs.Handle.{Handle}
 use Rattle.ent_alloc.specs.Sequential.{Allocator, after_take, after_flush, reply_to}
 use Rattle.ent_alloc.specs.Sound.{IsSound, AreApart, IsLive}
-use Rattle.ent_alloc.specs.Given.{AreSpent}
+use Rattle.ent_alloc.specs.Spent.{AreSpent}
 use Rattle.ent_alloc.specs.History.{handles_in}
 use Rattle.ent_alloc.proofs.ListLaws.{All-left, All-right, AllPairs-left, AllPairs-right}
 use Rattle.ent_alloc.proofs.ListLaws.{AllPairs-IsPermutation}

@@ -14,6 +14,7 @@ use Rattle.ent_alloc.proofs.ListLaws.{eqb_sym}
 use Rattle.ent_alloc.specs.declared.slot_record.SlotRecord.{SlotRecord}
 use Rattle.ent_alloc.specs.declared.slot_record.Occupancy.{Occupancy}
 use Rattle.ent_alloc.specs.declared.slot_record.Occupancy.TheVariants.{Alive, AliveWithRow, Pending}
+use Rattle.ent_alloc.specs.declared.slot_record.Occupancy.TheVariants.{Retired}
 use Rattle.ent_alloc.specs.Slots.{occupants, record_at, no_slot, is_alive, row_of, rows_from, reuse}
 use Rattle.ent_alloc.specs.Slots.{reused, handle_at}
 use Rattle.ent_alloc.proofs.Occupants.{is_occupant, has_occupant, contains_occupants}
@@ -30,6 +31,7 @@ abbrev pub position_of : Occupancy → ℕ
 position_of Alive = 0
 position_of (AliveWithRow row) = 0
 position_of (Pending position) = position
+position_of Retired = 0
 
 -- after the first of them got its occupant, the others still wait
 pub Wait-rest : (records : List SlotRecord) (from index : ℕ) (indices : List ℕ)

@@ -1,8 +1,10 @@
 -- Every step of the sequential allocator leads from a sound state to a sound state.
 use Rattle.std.proofs.Common.{◌≡◌, refl, sym, ap, ◌∙◌, subst, ℕ, zero, suc, ◌+◌, ◌-◌, ◌<◌, ◌≤◌}
 use Rattle.std.proofs.Common.{true, false, true≢false, List, [], ◌∷◌, ◌++◌, length, get_or, take}
-use Rattle.std.proofs.Common.{drop, All, arith, append-nil, lt-ltb, le-ltb, is_some, ◌==◌, ◌≢◌}
-use Rattle.std.proofs.Common.{eq-eqb, ne_eqb, inl, inr, Bool, cond, Some, Option, ◌⊎◌}
+use Rattle.std.proofs.Common.{drop, All, AllPairs, arith, append-nil, lt-ltb, le-ltb, is_some, ◌==◌}
+use Rattle.std.proofs.Common.{◌≢◌}
+use Rattle.std.proofs.Common.{eq-eqb, ne_eqb, inl, inr, Bool, cond, Some, None, Option, ◌⊎◌}
+use Rattle.std.specs.Option.{IfSome}
 use Rattle.std.proofs.lemmas.Bool.{cases_lt, cases_eq}
 use Rattle.std.specs.FinSet as set
 use Rattle.std.specs.Ordering.{eq_by_cmp}
@@ -14,7 +16,8 @@ use Rattle.std.proofs.lemmas.List.Kept.{AllPairs-filter, AllPairs-cons}
 use Rattle.ent_handle.specs.Handle.{Handle, handle_cmp, handle_cmp_total}
 use Rattle.ent_alloc.specs.Limits.{Limits, AreLimits}
 use Rattle.ent_alloc.specs.Sequential.{Allocator, opening, available, after_take, after_flush}
-use Rattle.ent_alloc.specs.Sequential.{after_alloc, after_free, next, fresh, is_old, after_set_row}
+use Rattle.ent_alloc.specs.Sequential.{after_alloc, after_free, next, following, in_front, fresh}
+use Rattle.ent_alloc.specs.Sequential.{is_old, after_set_row}
 use Rattle.ent_alloc.specs.Sound.{IsSound, IsWithin, AreApart, IsLive}
 use Rattle.ent_alloc.proofs.ListLaws.{AllPairs-left, AllPairs-across, All-left, AllPairs-drop}
 use Rattle.ent_alloc.proofs.ListLaws.{AllPairs-head, AllPairs-tail}
@@ -94,63 +97,81 @@ after_take-sound s n h = elim (cases_lt (length s.pool) n) [
       )
 ]
 
--- after the last generation comes the first
-pub next-last : (limits : Limits) (h : Handle) → h.generation ≡ limits.generations
-    → (next limits h).generation ≡ 1
+-- after the last generation comes nothing
+pub next-last : (limits : Limits) (h : Handle) → h.generation ≡ limits.generations → next limits h
+    ≡ None
 next-last limits h last = let test : (h.generation == limits.generations)
     ≡ true = eq-eqb _ _ last in rw test
 
 -- else the next one
-pub next-later : (limits : Limits) (h : Handle) → h.generation ≢ limits.generations
-    → (next limits h).generation ≡ h.generation + 1
+pub next-later : (limits : Limits) (h : Handle) → h.generation ≢ limits.generations → next limits h
+    ≡ Some (following h)
 next-later limits h before = let test : (h.generation == limits.generations)
     ≡ false = ne_eqb _ _ before in rw test
 
--- the limits allow what follows
-pub next-within : (limits : Limits) (h : Handle) → AreLimits limits → IsWithin limits h
-    → IsWithin limits (next limits h)
-next-within limits h ok within = elim (cases_eq h.generation limits.generations) [
-  | inl last ↦ let is : (next limits h).generation ≡ 1 = next-last limits h last in
-      record {
-        index = within.index;
-        least = omega arith;
-        greatest =
-            omega (arith, ok.some_generation);
-      }
-  | inr before ↦ let is : (next limits h).generation ≡ h.generation + 1 = next-later limits h before
-      in
-      record {
-        index = within.index;
-        least = omega arith;
-        greatest =
-            omega (arith, within.greatest);
-      }
+-- what holds of what follows
+pub of_next : (P : Handle → Type 0) (limits : Limits) (h : Handle)
+    → (h.generation ≢ limits.generations → P (following h)) → IfSome (next limits h) P
+of_next P limits h each = elim (cases_eq h.generation limits.generations) [
+  | inl last ↦ rw (next-last limits h last) tt
+  | inr before ↦ rw (next-later limits h before) (each before)
 ]
+
+-- the limits allow what follows
+pub following-within : (limits : Limits) (h : Handle) → IsWithin limits h → h.generation
+    ≢ limits.generations → IsWithin limits (following h)
+following-within limits h within before = record {
+  index = within.index;
+  least = omega arith;
+  greatest = omega (arith, within.greatest);
+}
+
+-- what holds of a list and of what stands in front of it
+pub All-in_front : (P : Handle → Type 0) (o : Option Handle) (handles : List Handle) → IfSome o P
+    → All P handles → All P (in_front o handles)
+All-in_front P None handles first all = all
+All-in_front P (Some h) handles first all = All-cons P h handles first all
+
+AllPairs-in_front : (o : Option Handle) (handles : List Handle)
+    → IfSome o (λ h. All (AreApart h) handles) → AllPairs AreApart handles
+    → AllPairs AreApart (in_front o handles)
+AllPairs-in_front None handles first all = all
+AllPairs-in_front (Some h) handles first all = AllPairs-cons AreApart h handles first all
+
+append-in_front : (o : Option Handle) (handles more : List Handle) → in_front o (handles ++ more)
+    ≡ in_front o handles ++ more
+append-in_front None handles more = refl
+append-in_front (Some h) handles more = refl
 
 -- a living handle goes
 pub after_free-sound : (s : Allocator) (x : Handle) → IsSound s → s.asked ≡ 0 → IsLive s x
     → IsSound (after_free s x)
 after_free-sound s x h flushed alive =
     let was = flushed-laid_out s h flushed in
-    laid_out-sound (after_free s x) (next s.limits x ∷ old_ones s) record {
+    let front = next s.limits x in
+    laid_out-sound (after_free s x) (in_front front (old_ones s)) record {
       limits = was.limits;
       made = was.made;
       taken = was.taken;
       aside = was.aside;
       asked = was.asked;
-      pool = ap (next s.limits x ∷◌) was.pool;
-      within = All-cons (IsWithin s.limits) (next s.limits x) (old_ones s)
-          (next-within s.limits x h.limits (was.live_within x alive)) was.within;
-      below = All-cons (λ h. h.index < s.made) (next s.limits x) (old_ones s)
-          (was.live_below x alive) was.below;
-      apart = AllPairs-cons AreApart (next s.limits x) (old_ones s) (was.live_apart x alive)
+      pool = ap (in_front front) was.pool
+          ∙ append-in_front front (old_ones s) (fresh s.made (s.limits.slots - s.made));
+      within = All-in_front (IsWithin s.limits) front (old_ones s)
+          (of_next (IsWithin s.limits) s.limits x
+          (following-within s.limits x (was.live_within x alive))) was.within;
+      below = All-in_front (λ h. h.index < s.made) front (old_ones s)
+          (of_next (λ h. h.index < s.made) s.limits x (λ _. was.live_below x alive)) was.below;
+      apart = AllPairs-in_front front (old_ones s)
+          (of_next (λ h. All (AreApart h) (old_ones s)) s.limits x (λ _. was.live_apart x alive))
           was.apart;
       live_within = λ y kept. was.live_within y (in_removed s.live x y kept).1;
       live_below = λ y kept. was.live_below y (in_removed s.live x y kept).1;
       live_apart = λ y kept.
           let other = in_removed s.live x y kept in
-          All-cons (AreApart y) (next s.limits x) (old_ones s)
-          (λ same. other.0 (was.one_occupant y x other.1 alive same))
+          All-in_front (AreApart y) front (old_ones s)
+          (of_next (AreApart y) s.limits x
+          (λ _ same. other.0 (was.one_occupant y x other.1 alive same)))
           (was.live_apart y other.1);
       one_occupant = λ g y kept_g kept_y same. was.one_occupant g y (in_removed s.live x g kept_g).1
           (in_removed s.live x y kept_y).1 same;

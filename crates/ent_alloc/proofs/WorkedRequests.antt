@@ -1,8 +1,8 @@
 -- Worked runs of the sequential allocator, computed from its definitions alone. Each run begins
 -- with an allocator that has given nothing; few slots stand for many, since only the first handles
 -- are named.
-use Rattle.std.proofs.Common.{◌≡◌, refl, ℕ, ◌==◌, Bool, true, false, ℤ, pos, neg_ℤ, List, [], ◌∷◌}
-use Rattle.std.proofs.Common.{take, Result, Ok, Err}
+use Rattle.std.proofs.Common.{◌≡◌, refl, ℕ, false, ℤ, pos, neg_ℤ, List, [], ◌∷◌}
+use Rattle.std.proofs.Common.{take, Result, Ok, Err, Some, None}
 use Rattle.std.specs.FinSet as set
 use Rattle.ent_handle.specs.Handle.{Handle, handle_cmp_total}
 use Rattle.ent_alloc.specs.declared.space.Space.{Space}
@@ -27,7 +27,8 @@ space wanted left = Err (record { wanted = wanted; left = left })
 -- one step with what it returns
 data Line : Type 0 where
   allocates : Handle → Line
-  frees : (freed : Handle) (next : Handle) (wrapped : Bool) → Line
+  frees : (freed : Handle) (next : Handle) → Line
+  retires : (freed : Handle) → Line
   not_alive : Handle → Line
   takes : (requested : ℕ) (cursor : ℤ) (reply : Result (List Handle) Space) → Line
   flushes : (born : List Handle) → Line
@@ -37,8 +38,10 @@ abbrev Goes : Allocator → List Line → Type 0
 Goes s [] = Unit {0}
 Goes s (allocates h ∷ lines) = (s.asked ≡ 0) × (take 1 s.pool ≡ h ∷ [])
     × Goes (after_alloc s h) lines
-Goes s (frees h to wrapped ∷ lines) = (s.asked ≡ 0) × IsLive s h × (next s.limits h ≡ to)
-    × ((h.generation == s.limits.generations) ≡ wrapped) × Goes (after_free s h) lines
+Goes s (frees h to ∷ lines) = (s.asked ≡ 0) × IsLive s h × (next s.limits h ≡ Some to)
+    × Goes (after_free s h) lines
+Goes s (retires h ∷ lines) = (s.asked ≡ 0) × IsLive s h × (next s.limits h ≡ None)
+    × Goes (after_free s h) lines
 Goes s (not_alive h ∷ lines) = (s.asked ≡ 0) × (set.contains s.live h ≡ false) × Goes s lines
 Goes s (takes requested low reply ∷ lines) = (cursor (after_take s requested) ≡ low)
     × (reply_to s requested ≡ reply) × Goes (after_take s requested) lines
@@ -53,7 +56,7 @@ start slots generations = opening (record { slots = slots; generations = generat
 
 -- one bulk over old and fresh handles: the flush lists the fresh ones first
 bulk_over_both : Goes (start 5 9) (
-    allocates (0 v 1) ∷ allocates (1 v 1) ∷ frees (0 v 1) (0 v 2) false
+    allocates (0 v 1) ∷ allocates (1 v 1) ∷ frees (0 v 1) (0 v 2)
     ∷ takes 2 (minus 1) (Ok (0 v 2 ∷ 2 v 1 ∷ [])) ∷ flushes (2 v 1 ∷ 0 v 2 ∷ []) ∷ [])
 unfolding fresh
 bulk_over_both = (
@@ -66,7 +69,6 @@ bulk_over_both = (
       refl,
       inserted_keeps _ _ _ (inserted _ _),
       refl,
-      refl,
       (refl, refl, (refl, tt)),
     ),
   ),
@@ -74,8 +76,8 @@ bulk_over_both = (
 
 -- a bulk lists old handles in the other order than single requests do
 bulk_of_four : Goes (start 5 9) (
-    allocates (0 v 1) ∷ allocates (1 v 1) ∷ allocates (2 v 1) ∷ frees (2 v 1) (2 v 2) false
-    ∷ frees (0 v 1) (0 v 2) false
+    allocates (0 v 1) ∷ allocates (1 v 1) ∷ allocates (2 v 1) ∷ frees (2 v 1) (2 v 2)
+    ∷ frees (0 v 1) (0 v 2)
     ∷ takes 4 (minus 2) (Ok (2 v 2 ∷ 0 v 2 ∷ 3 v 1 ∷ 4 v 1 ∷ []))
     ∷ flushes (3 v 1 ∷ 4 v 1 ∷ 2 v 2 ∷ 0 v 2 ∷ []) ∷ [])
 unfolding fresh
@@ -92,8 +94,7 @@ bulk_of_four = (
         refl,
         inserted _ _,
         refl,
-        refl,
-        (refl, simp living, refl, refl, (refl, refl, (refl, tt))),
+        (refl, simp living, refl, (refl, refl, (refl, tt))),
       ),
     ),
   ),
@@ -101,8 +102,8 @@ bulk_of_four = (
 
 -- four requests one in its position
 four_singles : Goes (start 5 9) (
-    allocates (0 v 1) ∷ allocates (1 v 1) ∷ allocates (2 v 1) ∷ frees (2 v 1) (2 v 2) false
-    ∷ frees (0 v 1) (0 v 2) false
+    allocates (0 v 1) ∷ allocates (1 v 1) ∷ allocates (2 v 1) ∷ frees (2 v 1) (2 v 2)
+    ∷ frees (0 v 1) (0 v 2)
     ∷ takes 1 (pos 1) (Ok (0 v 2 ∷ [])) ∷ takes 1 (pos 0) (Ok (2 v 2 ∷ []))
     ∷ takes 1 (minus 1) (Ok (3 v 1 ∷ [])) ∷ takes 1 (minus 2) (Ok (4 v 1 ∷ []))
     ∷ flushes (3 v 1 ∷ 4 v 1 ∷ 2 v 2 ∷ 0 v 2 ∷ []) ∷ [])
@@ -120,11 +121,9 @@ four_singles = (
         refl,
         inserted _ _,
         refl,
-        refl,
         (
           refl,
           simp living,
-          refl,
           refl,
           (refl, refl, (refl, refl, (refl, refl, (refl, refl, (refl, tt))))),
         ),
@@ -135,12 +134,12 @@ four_singles = (
 
 -- two requests: the second is for what the first has left
 one_after_two : Goes (start 5 9) (
-    allocates (0 v 1) ∷ frees (0 v 1) (0 v 2) false ∷ takes 2 (minus 1) (Ok (0 v 2 ∷ 1 v 1 ∷ []))
+    allocates (0 v 1) ∷ frees (0 v 1) (0 v 2) ∷ takes 2 (minus 1) (Ok (0 v 2 ∷ 1 v 1 ∷ []))
     ∷ takes 1 (minus 2) (Ok (2 v 1 ∷ []))
     ∷ flushes (1 v 1 ∷ 2 v 1 ∷ 0 v 2 ∷ []) ∷ [])
 unfolding fresh
 one_after_two =
-    (refl, refl, (refl, inserted _ _, refl, refl, (refl, refl, (refl, refl, (refl, tt)))))
+    (refl, refl, (refl, inserted _ _, refl, (refl, refl, (refl, refl, (refl, tt)))))
 
 -- a request for nothing
 request_for_nothing : Goes (start 5 9) (takes 0 (pos 0) (Ok []) ∷ flushes [] ∷ [])
@@ -156,7 +155,7 @@ unfolding fresh
 pool_shut = (refl, refl, (refl, refl, (refl, refl, (refl, (refl, refl, tt)))))
 
 -- only the occupant of a slot is alive
-gone : Goes (start 5 9) (allocates (0 v 1) ∷ frees (0 v 1) (0 v 2) false ∷ not_alive (0 v 1)
+gone : Goes (start 5 9) (allocates (0 v 1) ∷ frees (0 v 1) (0 v 2) ∷ not_alive (0 v 1)
     ∷ not_alive (0 v 2) ∷ not_alive (9 v 1) ∷ [])
 unfolding fresh
 gone = (
@@ -166,27 +165,31 @@ gone = (
     refl,
     inserted _ _,
     refl,
-    refl,
     (refl, simp living, (refl, simp living, (refl, simp living, tt))),
   ),
 )
 
--- after the last generation comes the first
-wrapped : Goes (start 5 2) (
-    allocates (0 v 1) ∷ frees (0 v 1) (0 v 2) false ∷ allocates (0 v 2) ∷ frees (0 v 2) (0 v 1) true
-    ∷ allocates (0 v 1) ∷ [])
+-- after the last generation the slot is retired
+last_generation : Goes (start 5 2) (
+    allocates (0 v 1) ∷ frees (0 v 1) (0 v 2) ∷ allocates (0 v 2) ∷ retires (0 v 2)
+    ∷ allocates (1 v 1) ∷ [])
 unfolding fresh
-wrapped = (
+last_generation = (
   refl,
   refl,
   (
     refl,
     inserted _ _,
     refl,
-    refl,
-    (refl, refl, (refl, inserted _ _, refl, refl, (refl, refl, tt))),
+    (refl, refl, (refl, inserted _ _, refl, (refl, refl, tt))),
   ),
 )
+
+-- a retired slot is not given again
+no_slot_left : Goes (start 1 1) (
+    allocates (0 v 1) ∷ retires (0 v 1) ∷ takes 1 (minus 1) (space 1 0) ∷ flushes [] ∷ [])
+unfolding fresh
+no_slot_left = (refl, refl, (refl, inserted _ _, refl, (refl, refl, (refl, tt))))
 
 -- requests as great as they may be
 greatest_requests : Goes (start 1 9) (takes 4294967295 (minus 4294967295) (space 4294967295 1)

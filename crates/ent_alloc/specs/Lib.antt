@@ -6,5 +6,5 @@ pub mod Slots
 pub mod Sound
 pub mod Reserved
 pub mod Entities
-pub mod Given
+pub mod Spent
 pub mod History

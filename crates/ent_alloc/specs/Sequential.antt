@@ -2,8 +2,8 @@
 -- steps, and the calls of many threads are compared with it.
 use Rattle.std.specs.Prelude.{ℕ, ◌+◌, ◌-◌, ℤ, pos, negsuc, suc, zero, ◌-ℤ◌, Bool, nat_lt, nat_le}
 use Rattle.std.specs.Prelude.{◌==◌, if◌then◌else◌, List, [], ◌∷◌, ◌++◌, length, take, drop, reverse}
-use Rattle.std.specs.Prelude.{filter, Result, Ok, Err, refl}
-use Rattle.std.specs.List.{list_any}
+use Rattle.std.specs.Prelude.{filter, Result, Ok, Err, Option, None, Some, not, ◌||◌, refl}
+use Rattle.std.specs.List.{list_any, count_by, range_with_len}
 use Rattle.std.specs.Ordering.{eq_by_cmp}
 use Rattle.std.specs.Coded.{Coded, code_by, coded×, coded_ℕ, coded_list}
 use Rattle.std.specs.FinSet as set
@@ -119,19 +119,26 @@ after_alloc s h = record s {
   made = if is_old s.made h then s.made else s.made + 1;
 }
 
--- what the slot gives after this handle: the next generation, and the first one after the last
-abbrev pub next : Limits → Handle → Handle
-next limits h = record {
-  index = h.index;
-  generation = if h.generation == limits.generations then 1 else h.generation + 1;
-}
+-- the handle of the same slot with the next generation
+abbrev pub following : Handle → Handle
+following h = record { index = h.index; generation = h.generation + 1 }
 
--- a living handle goes, and its slot's next one stands at the front of the pool
+-- what the slot gives after this handle: nothing if the generation is the last
+abbrev pub next : Limits → Handle → Option Handle
+next limits h = if h.generation == limits.generations then None else Some (following h)
+
+-- a list with this handle at its front, if there is one
+abbrev pub in_front : Option Handle → List Handle → List Handle
+in_front None handles = handles
+in_front (Some h) handles = h ∷ handles
+
+-- A living handle goes, and its slot's next one stands at the front of the pool. If there is none,
+-- the pool stays as it is, and the slot is retired.
 abbrev pub after_free : Allocator → Handle → Allocator
 after_free s h = record s {
   live = set.remove s.live h;
   rows = map.remove s.rows h;
-  pool = next s.limits h ∷ s.pool;
+  pool = in_front (next s.limits h) s.pool;
 }
 
 -- a row is kept with a living handle
@@ -163,6 +170,18 @@ stands_in handles h = list_any (eq_by_cmp handle_cmp h) handles
 abbrev pub state_of : Allocator → Handle → State
 state_of s h =
     if set.contains s.live h then Alive else (if stands_in s.taken h then Reserved else Gone)
+
+-- one of these handles is of the slot
+abbrev pub has_slot : List Handle → ℕ → Bool
+has_slot handles index = list_any (λ (h : Handle). h.index == index) handles
+
+-- no handle of the slot is alive or to be given
+abbrev pub is_retired : Allocator → ℕ → Bool
+is_retired s index = not (has_slot (set.items s.live) index || has_slot (available s) index)
+
+-- how many of the slots that were made are retired
+abbrev pub retired : Allocator → ℕ
+retired s = count_by (is_retired s) (range_with_len 0 s.made)
 
 -- an allocator is stored as the tuple of its fields
 abbrev pub allocator_code : Coded Allocator

@@ -11,24 +11,28 @@ use Rattle.ent_alloc.specs.Roster.{Roster}
 use Rattle.ent_alloc.specs.declared.slot_record.SlotRecord.{SlotRecord}
 use Rattle.ent_alloc.specs.declared.slot_record.Occupancy.{Occupancy}
 use Rattle.ent_alloc.specs.declared.slot_record.Occupancy.TheVariants.{Alive, AliveWithRow, Pending}
+use Rattle.ent_alloc.specs.declared.slot_record.Occupancy.TheVariants.{Retired}
 
 -- a living entity has the slot
 abbrev pub is_alive : Occupancy → Bool
 is_alive Alive = true
 is_alive (AliveWithRow row) = true
 is_alive (Pending position) = false
+is_alive Retired = false
 
 -- the row that is kept with it
 abbrev pub row_of : Occupancy → Option ℕ
 row_of Alive = None
 row_of (AliveWithRow row) = Some row
 row_of (Pending position) = None
+row_of Retired = None
 
 -- the slot waits at this position or after it
 abbrev pub is_pending_from : Occupancy → ℕ → Bool
 is_pending_from Alive from = false
 is_pending_from (AliveWithRow row) from = false
 is_pending_from (Pending position) from = nat_le from position
+is_pending_from Retired from = false
 
 -- the same of an occupancy that may be missing
 abbrev pub lives : Option Occupancy → Bool

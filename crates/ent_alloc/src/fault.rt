@@ -11,7 +11,7 @@ pub enum AllocFault {
     /// Handles were requested since the last flush, even if the request was refused.
     #[error("a flush is needed first")]
     NeedsFlush,
-    /// Every slot has a living occupant.
+    /// Every slot has a living occupant or is retired.
     #[error("no slot is free")]
     Space,
     /// Memory ran out.
@@ -52,9 +52,7 @@ impl From<Memory> for FreeFault {
 /// What `Entities::free` returns.
 #[derive(Clone, Copy, Debug, PartialEq, Eq)]
 pub struct Freed {
-    /// The handle that the slot gives next.
-    pub next: Handle,
-    /// `next` has generation 1 because the last generation was freed, so it may be a handle that
-    /// was given before.
-    pub wrapped: bool,
+    /// The handle that the slot gives next. `None` if the freed one was of the last generation: the
+    /// slot is retired then, and gives no handle any more.
+    pub next: Option<Handle>,
 }

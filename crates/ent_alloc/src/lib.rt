@@ -5,6 +5,7 @@
 mod entities;
 mod fault;
 mod limits;
+mod requesting;
 mod requests;
 mod reserved;
 mod slot_record;

@@ -11,15 +11,18 @@ use ent_handle::Handle;
 pub(crate) enum Occupancy {
     /// A living entity.
     Alive,
-    /// A living entity, and the row that a caller keeps with it.
+    /// A living entity, and the row that a program keeps with it.
     AliveWithRow { row: u32 },
     /// Nobody: the slot waits at this position of the pending list.
     Pending { position: u32 },
+    /// Nobody: the last generation was freed, and the slot is not given again.
+    Retired,
 }
 
 /// One slot that was made.
 ///
-/// The generation is that of the living occupant, or of the next one if the slot waits.
+/// The generation is that of the living occupant, of the next one if the slot waits, or of the last
+/// one if the slot is retired.
 #[derive(Clone, Copy)]
 pub(crate) struct SlotRecord {
     pub(crate) generation: u32,

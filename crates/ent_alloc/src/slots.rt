@@ -1,11 +1,11 @@
-ghost use Rattle.std.specs.Prelude.{◌≡◌, ℕ, ◌+◌, ◌-◌, ◌^◌, ◌<◌, ◌≤◌, ◌↔◌, ◌⊎◌, if◌then◌else◌, ◌==◌};
+ghost use Rattle.std.specs.Prelude.{◌≡◌, ℕ, ◌+◌, ◌-◌, ◌^◌, ◌<◌, ◌≤◌, ◌↔◌, ◌⊎◌, ◌≢◌};
 ghost use Rattle.std.specs.Prelude.{IsTrue, IfOk, OnOk, OnErr, IfSome, OnSome, IfNone, true, []};
 ghost use Rattle.std.specs.Prelude.{◌∷◌, ◌++◌};
 ghost use Rattle.std.specs.Prelude.{length, take, drop, pos, slice_get, vec_len, vec_capacity};
 ghost use Rattle.std.specs.FinSet as set;
 ghost use Rattle.std.specs.FinMap as maps;
 ghost use Rattle.ent_alloc.specs.Limits.{AreLimits};
-ghost use Rattle.ent_alloc.specs.Sequential.{fresh as fresh_handles, next, stands_in};
+ghost use Rattle.ent_alloc.specs.Sequential.{fresh as fresh_handles, following, stands_in};
 ghost use Rattle.ent_alloc.specs.Slots.{lives, row_kept, waits_from};
 
 use crate::limits::Limits;
@@ -117,7 +117,7 @@ impl Slots {
     {
         match self.occupancy_of(handle) {
             Some(Occupancy::Alive | Occupancy::AliveWithRow { .. }) => true,
-            Some(Occupancy::Pending { .. }) | None => false,
+            Some(Occupancy::Pending { .. } | Occupancy::Retired) | None => false,
         }
     }
 
@@ -127,7 +127,7 @@ impl Slots {
     {
         match self.occupancy_of(handle) {
             Some(Occupancy::AliveWithRow { row }) => Some(row),
-            Some(Occupancy::Alive | Occupancy::Pending { .. }) | None => None,
+            Some(Occupancy::Alive | Occupancy::Pending { .. } | Occupancy::Retired) | None => None,
         }
     }
 
@@ -237,17 +237,18 @@ impl Slots {
 
     /// Takes an occupant out of its slot, which then waits after all others for the next one.
     pub(crate) fn release(&mut self, handle: Handle) -> Result<Handle, Memory>
-        requires { set.contains self.old.live handle ≡ true }
+        requires lives { set.contains self.old.live handle ≡ true }
+        requires not_last { handle.generation ≢ self.old.limits.generations }
         ensures ok { OnOk result (self.new ≡ record self.old {
           live = set.remove self.old.live handle;
           rows = maps.remove self.old.rows handle;
-          pending = self.old.pending ++ next self.old.limits handle ∷ [];
+          pending = self.old.pending ++ following handle ∷ [];
         }) }
-        ensures next { IfOk result (λ h. h ≡ next self.old.limits handle) }
+        ensures next { IfOk result (λ h. h ≡ following handle) }
         ensures err { OnErr result (self.new ≡ self.old) }
     {
         let index = handle.index();
-        let generation = following(self.limits, handle.generation());
+        let generation = handle.generation() + 1;
         let position = self.pending.len() as u32;
         self.pending.push(index)?;
         self.records[index as usize] = SlotRecord {
@@ -257,16 +258,17 @@ impl Slots {
         self.live -= 1;
         Ok(Handle::from_parts(index, generation))
     }
-}
 
-/// The generation that a slot gives after this one.
-fn following(limits: Limits, generation: u32) -> u32
-    requires { generation ≤ limits.generations }
-    ensures { result ≡ (if generation == limits.generations then 1 else generation + 1) }
-{
-    if generation == limits.generations() {
-        1
-    } else {
-        generation + 1
+    /// Takes an occupant out of its slot, which is not given again.
+    pub(crate) fn retire(&mut self, handle: Handle)
+        requires { set.contains self.old.live handle ≡ true }
+        ensures { self.new ≡ record self.old {
+          live = set.remove self.old.live handle;
+          rows = maps.remove self.old.rows handle;
+        } }
+    {
+        let index = handle.index();
+        self.records[index as usize].occupancy = Occupancy::Retired;
+        self.live -= 1;
     }
 }

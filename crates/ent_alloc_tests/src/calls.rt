@@ -35,14 +35,17 @@ pub fn free(entities: &mut Entities, handle: Handle) -> Result<Freed, FreeFault>
 }
 
 /// Frees a living entity, and compares what is returned.
-pub fn assert_frees(
-    rt: &impl Abort,
-    entities: &mut Entities,
-    living: Handle,
-    next: Handle,
-    wrapped: bool,
-) {
-    assert!(rt; entities.free(living) == Ok(Freed { next, wrapped }));
+pub fn assert_frees(rt: &impl Abort, entities: &mut Entities, living: Handle, next: Handle) {
+    assert!(rt; entities.free(living) == Ok(Freed { next: Some(next) }));
+}
+
+/// Frees the last occupant of a slot, and compares what is returned.
+pub fn assert_retires(rt: &impl Abort, entities: &mut Entities, last: Handle) {
+    let retired = entities.retired();
+    assert!(rt; entities.free(last) == Ok(Freed { next: None }));
+    assert!(rt; entities.retired() == retired.wrapping_add(1));
+    assert!(rt; entities.state(last) == State::Gone);
+    assert!(rt; entities.row(last) == None);
 }
 
 pub fn set_row(rt: &impl Abort, entities: &mut Entities, living: Handle, row: u32) {

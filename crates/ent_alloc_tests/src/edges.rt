@@ -1,10 +1,10 @@
 //! The edges of the allocator: shut pools, the last generation and rows.
 
 use crate::calls::{
-    allocate, allocated, assert_flushes, assert_frees, assert_reserves, free, handle, limited,
-    set_row, unlimited,
+    allocate, allocated, assert_flushes, assert_frees, assert_reserves, assert_retires, free,
+    handle, limited, set_row, unlimited,
 };
-use ent_alloc::{Entities, FreeFault, Space};
+use ent_alloc::{AllocFault, Entities, FreeFault, Space, State};
 use ent_handle::Handle;
 use std::alloc::Global;
 use std::process::Abort;
@@ -103,20 +103,73 @@ fn a_row_that_is_set_twice_is_the_later_one(rt: HostRuntime) {
 }
 
 #[test]
-fn one_generation_gives_the_same_handle_again(rt: HostRuntime) {
-    let mut entities = limited(&rt, rt.alloc(), 1, 1);
+fn one_generation_is_given_once(rt: HostRuntime) {
+    let alloc = rt.alloc();
+    let mut entities = limited(&rt, alloc, 1, 1);
     let first = allocated(&rt, &mut entities);
-    assert_frees(&rt, &mut entities, first, first, true);
-    assert!(rt; allocate(&mut entities) == Ok(first));
+    set_row(&rt, &mut entities, first, 7);
+    assert_retires(&rt, &mut entities, first);
+    assert!(rt; free(&mut entities, first) == Err(FreeFault::NotAlive));
+    assert!(rt; allocate(&mut entities) == Err(AllocFault::Space));
+    let none_left = Err(Space { wanted: 1, left: 0 });
+    assert_reserves(&rt, alloc, &mut entities, 1, none_left);
+    assert!(rt; entities.state(first) == State::Gone);
+    assert_flushes(&rt, alloc, &mut entities, &[], &[]);
+    assert_retired(&rt, &entities, 1);
 }
 
 #[test]
-fn the_last_generation_wraps_and_the_one_before_does_not(rt: HostRuntime) {
+fn the_last_generation_retires_and_the_one_before_does_not(rt: HostRuntime) {
     let mut entities = limited(&rt, rt.alloc(), 2, 2);
     let (first, second) = (allocated(&rt, &mut entities), allocated(&rt, &mut entities));
-    assert_frees(&rt, &mut entities, first, handle(&rt, 0, 2), false);
-    let again = allocated(&rt, &mut entities);
-    assert_frees(&rt, &mut entities, again, handle(&rt, 0, 1), true);
-    assert_frees(&rt, &mut entities, second, handle(&rt, 1, 2), false);
+    let last = handle(&rt, 0, 2);
+    assert_frees(&rt, &mut entities, first, last);
+    assert!(rt; allocated(&rt, &mut entities) == last);
+    assert_retires(&rt, &mut entities, last);
+    assert_frees(&rt, &mut entities, second, handle(&rt, 1, 2));
     assert!(rt; free(&mut entities, second) == Err(FreeFault::NotAlive));
+    assert!(rt; allocate(&mut entities) == Ok(handle(&rt, 1, 2)));
+    assert!(rt; allocate(&mut entities) == Err(AllocFault::Space));
+    assert_retired(&rt, &entities, 1);
+}
+
+// Handles that are reserved are no retired ones.
+#[test]
+fn reserved_slots_are_not_retired(rt: HostRuntime) {
+    let alloc = rt.alloc();
+    let mut entities = limited(&rt, alloc, 5, 2);
+    let (first, second) = (allocated(&rt, &mut entities), allocated(&rt, &mut entities));
+    let (again, fresh) = (handle(&rt, 0, 2), handle(&rt, 2, 1));
+    assert_frees(&rt, &mut entities, first, again);
+    assert_reserves(&rt, alloc, &mut entities, 2, Ok(&[again, fresh]));
+    assert_retired(&rt, &entities, 0);
+    assert_flushes(&rt, alloc, &mut entities, &[], &[fresh, again]);
+    assert_retires(&rt, &mut entities, again);
+    assert!(rt; entities.state(first) == State::Gone);
+    assert!(rt; entities.state(second) == State::Alive);
+    assert_retired(&rt, &entities, 1);
+    assert_eq!(rt; (entities.len(), entities.total()), (2, 3));
+}
+
+// 3,000 slots of one generation: each is given once.
+#[test]
+fn many_slots_retire(rt: HostRuntime) {
+    let mut entities = limited(&rt, rt.alloc(), 3_000, 1);
+    assert_retired(&rt, &entities, 0);
+    for index in 0..3_000 {
+        assert!(rt; allocated(&rt, &mut entities) == handle(&rt, index, 1));
+    }
+    for index in 0..3_000 {
+        assert_retires(&rt, &mut entities, handle(&rt, index, 1));
+    }
+    assert_retired(&rt, &entities, 3_000);
+    assert_eq!(rt;
+        (entities.len(), entities.total(), entities.room()),
+        (0, 3_000, 0)
+    );
+    assert!(rt; allocate(&mut entities) == Err(AllocFault::Space));
+}
+
+fn assert_retired(rt: &impl Abort, entities: &Entities, want: u32) {
+    assert!(rt; entities.retired() == want);
 }

@@ -27,6 +27,23 @@ fn refused_memory_changes_nothing(rt: HostRuntime) {
     assert_eq!(rt; (entities.len(), entities.total()), (60, 60));
 }
 
+// The same of a flush of three. They are still reserved after a refusal, and the list has nothing.
+#[test]
+fn refused_memory_of_a_flush_of_three(rt: HostRuntime) {
+    let mut entities = unlimited(rt.alloc());
+    let span = lower(&rt, &mut entities, 3);
+    assert_eq!(rt; (span.high, span.low), (0, -3));
+    let mut out = Vec::new(rt.alloc());
+    if let Err(Memory) = entities.flush(&mut out) {
+        assert_eq!(rt; (entities.asked(), entities.len()), (3, 0));
+        assert!(rt; out.is_empty());
+        entities.flush(&mut out).expect(&rt, "memory for the born");
+    }
+    let born = [handle(&rt, 0, 1), handle(&rt, 1, 1), handle(&rt, 2, 1)];
+    assert!(rt; out.as_slice() == born.as_slice());
+    assert_eq!(rt; (entities.asked(), entities.len()), (0, 3));
+}
+
 fn lower(rt: &impl Abort, entities: &mut Entities, n: u32) -> Span {
     assert!(rt; entities.asked() <= 1 << 49);
     entities.lower(n)

@@ -1,6 +1,6 @@
 use crate::calls::{
-    allocate, allocated, assert_flushes, assert_frees, assert_reserves, free, handle, limited,
-    set_row, unlimited,
+    allocate, allocated, assert_flushes, assert_frees, assert_reserves, assert_retires, free,
+    handle, limited, set_row, unlimited,
 };
 use ent_alloc::{AllocFault, Entities, FreeFault, Limits, Space, Span, State};
 use std::process::Abort;
@@ -13,7 +13,7 @@ fn gives_old_slots_and_then_fresh_ones(rt: HostRuntime) {
     let mut entities = unlimited(alloc);
     assert!(rt; allocate(&mut entities) == Ok(first));
     assert!(rt; allocate(&mut entities) == Ok(handle(&rt, 1, 1)));
-    assert_frees(&rt, &mut entities, first, again, false);
+    assert_frees(&rt, &mut entities, first, again);
     assert_reserves(&rt, alloc, &mut entities, 2, Ok(&[again, fresh]));
     assert_eq!(rt; (entities.cursor(), entities.reserved()), (-1, 2));
     assert!(rt; entities.state(fresh) == State::Reserved);
@@ -57,8 +57,10 @@ fn keeps_a_row_until_the_entity_goes(rt: HostRuntime) {
     assert!(rt; entities.row(first) == None);
     assert!(rt; entities.state(first) == State::Gone);
     assert!(rt; free(&mut entities, first) == Err(FreeFault::NotAlive));
-    assert!(rt; allocate(&mut entities) == Ok(freed.next));
-    assert_frees(&rt, &mut entities, freed.next, first, true);
+    let next = freed.next.expect(&rt, "one generation is left");
+    assert!(rt; allocate(&mut entities) == Ok(next));
+    assert!(rt; entities.row(next) == None);
+    assert_retires(&rt, &mut entities, next);
 }
 
 #[test]

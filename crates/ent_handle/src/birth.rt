@@ -12,11 +12,11 @@ use std::cmp::Ordering;
 /// project's own.
 #[derive(Clone, Copy, Debug, PartialEq, Eq, Hash)]
 pub struct Birth {
-    /// The number of the frame.
+    /// The number of the phase that brought it to life.
     pub frame: u64,
-    /// Which system of the frame asked for the entity, counted from 0.
+    /// The first system whose queue lists the entity, counted from 0.
     pub system: u32,
-    /// Which of the handles that the system was given in that frame it is, counted from 0.
+    /// How many handles that queue lists before it.
     pub ordinal: u32,
 }
 

@@ -19,7 +19,7 @@ use Rattle.ent_shared.specs.Record.{after_reservation, reservation_at}
 use Rattle.ent_alloc.specs.Sequential.{listed_alone}
 use Rattle.ent_shared.specs.Replies.{Reserves}
 use Rattle.ent_queue.specs.Command.{Command, Refused, HasRange, IsRefusal}
-use Rattle.ent_queue.specs.Reserving.{stands_for, cost, FitsCredit, FitCredit, Gains, IsReply}
+use Rattle.ent_queue.specs.Reserving.{stands_for, cost, FitsCredit, FitCredit, Gains, IsReturned}
 use Rattle.ent_queue.specs.Reserving.{as_fault, refused_by}
 
 pub gains_nothing : (r : Record) → Gains r [] r
@@ -113,7 +113,7 @@ gains_then a b c cs ds first second =
 
 module _ (shared : Shared) (before after : Reserver) (n : ℕ) where
   -- what was given
-  pub served_gains : (hs : List Handle) (c : Command) → IsReply shared before after n (Ok hs)
+  pub served_gains : (hs : List Handle) (c : Command) → IsReturned shared before after n (Ok hs)
       → (0 < n → stands_for c ≡ (n, Ok hs) ∷ []) → (n ≡ 0 → hs ≡ [] → stands_for c ≡ [])
       → (n ≤ before.own.left → FitsCredit before.own.left c) → Gains before.own (c ∷ []) after.own
   served_gains hs c replied one none within =
@@ -135,7 +135,7 @@ module _ (shared : Shared) (before after : Reserver) (n : ℕ) where
       ]
 
   -- what was refused
-  pub refused_gains : (why : Refusal) → IsReply shared before after n (Err why)
+  pub refused_gains : (why : Refusal) → IsReturned shared before after n (Err why)
       → Gains before.own (Refused n why ∷ []) after.own
   refused_gains (Space wanted left) replied =
       elim (cases_lt before.own.left n) [
@@ -169,7 +169,7 @@ module _ (shared : Shared) (before after : Reserver) (n : ℕ) where
 pub replies_alone : (shared : Shared) (before after : Reserver) (result : Result Handle Refusal)
     → (before.own.left ≡ 0 → (result ≡ Err (Quota 0)) × (after ≡ before))
     → (0 < before.own.left → Reserves shared before after 1 (listed_alone result))
-    → IsReply shared before after 1 (listed_alone result)
+    → IsReturned shared before after 1 (listed_alone result)
 replies_alone shared before after result quota gains = record {
   quota = λ short. let none : before.own.left ≡ 0 = omega arith in (
     ap listed_alone (quota none).0
@@ -194,7 +194,7 @@ space_wanted made pool n wanted left e = by (nat_le n (length pool)) e
 
 -- a refusal by the pool says how many handles were requested
 pub is_refusal : (shared : Shared) (before after : Reserver) (n : ℕ) (why : Refusal)
-    → IsReply shared before after n (Err why) → HasRange why → IsRefusal n why
+    → IsReturned shared before after n (Err why) → HasRange why → IsRefusal n why
 is_refusal shared before after n (Space wanted left) replied range =
     elim (cases_lt before.own.left n) [
       | inl short ↦ let no = (replied.quota short).0 in absurd (cc)

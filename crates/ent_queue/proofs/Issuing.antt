@@ -13,7 +13,7 @@ use Rattle.ent_queue.specs.declared.fault.QueueFault.{QueueFault}
 use Rattle.ent_queue.specs.declared.fault.QueueFault.TheVariants as fault
 use Rattle.ent_queue.specs.Command.{Command, Bundle, Spawn, SpawnMany, Refused}
 use Rattle.ent_queue.specs.Commands.{Issued, IsReady, Extends, queue_of, reserver_of, shared_of}
-use Rattle.ent_queue.specs.Reserving.{stands_for, FitsCredit, Gains, IsReply, queued, as_list}
+use Rattle.ent_queue.specs.Reserving.{stands_for, FitsCredit, Gains, IsReturned, queued, as_list}
 use Rattle.ent_queue.specs.Reserving.{refused_by, as_fault}
 use Rattle.ent_queue.proofs.Gaining.{gains_nothing, gains_none, served_gains, refused_gains}
 
@@ -69,7 +69,8 @@ same_fault f g e = cc
 module _ (shared : Shared) (before after : Reserver) (old new : List Command) where
   added_refusal : (n : ℕ) (f : QueueFault) → new ≡ old ++ refused_by n f
       → (f ≡ fault.Memory → after ≡ before)
-      → ((why : Refusal) → Err f ≡ queued {X = List Handle} (Err why) → IsReply shared before after
+      → ((why : Refusal) → Err f ≡ queued {X = List Handle} (Err why) → IsReturned shared before
+      after
       n (Err why)) → Added old new before.own after.own
   added_refusal n (fault.Space wanted left) queue memory replied =
       record {
@@ -99,7 +100,7 @@ module _ (shared : Shared) (before after : Reserver) (old new : List Command) wh
       → IfOk result (λ h. new ≡ old ++ Spawn h items ∷ [])
       → IfErr result (λ f. new ≡ old ++ refused_by 1 f) → (IsErrOf result fault.Memory → after
       ≡ before) → ((reply : Result Handle Refusal) → result ≡ queued reply
-      → IsReply shared before after 1 (listed_alone reply)) → Added old new before.own after.own
+      → IsReturned shared before after 1 (listed_alone reply)) → Added old new before.own after.own
   added_spawn items (Ok h) ok refused memory replied =
       record {
         added = Spawn h items ∷ [];
@@ -116,7 +117,7 @@ module _ (shared : Shared) (before after : Reserver) (old new : List Command) wh
       → IfOk result (λ hs. new ≡ old ++ SpawnMany hs.items items ∷ [])
       → IfErr result (λ f. new ≡ old ++ refused_by n f) → (IsErrOf result fault.Memory → after
       ≡ before) → ((reply : Result (List Handle) Refusal) → as_list result ≡ queued reply
-      → IsReply shared before after n reply) → IfOk result (λ hs. length hs.items ≡ n)
+      → IsReturned shared before after n reply) → IfOk result (λ hs. length hs.items ≡ n)
       → Added old new before.own after.own
   added_many n items (Ok hs) ok refused memory replied number =
       record {

@@ -1,6 +1,7 @@
 -- A command at the end of a queue.
 use Rattle.std.proofs.Common.{◌≡◌, ℕ, ◌+◌, ◌≤◌, List, [], ◌∷◌, ◌++◌, length, arith, ap, sym, ◌∙◌}
-use Rattle.std.proofs.Common.{subst, append_assoc, append-nil, length-append}
+use Rattle.std.proofs.Common.{subst, append_assoc, append-nil, length-append, Fits, Vec, w64}
+use Rattle.std.proofs.Math.Facts.{Fits-of_lt}
 use Rattle.std.specs.List.{All, flat_map}
 use Rattle.std.proofs.lemmas.List.Elements.{All-nil, All-push}
 use Rattle.ent_handle.specs.Handle.{Handle}
@@ -57,7 +58,7 @@ counted (c ∷ cs) = omega (
 )
 
 -- there are no more commands than bytes
-pub count_le_bytes : (count : ℕ) (bytes : List ℕ) → ArePacked count bytes → count ≤ length bytes
+count_le_bytes : (count : ℕ) (bytes : List ℕ) → ArePacked count bytes → count ≤ length bytes
 count_le_bytes count bytes packed =
     omega (
       arith,
@@ -66,6 +67,13 @@ count_le_bytes count bytes packed =
       ap length
           packed.bytes_are,
     )
+
+-- so that one more can be counted
+pub count_fits : {Z : Type 0} (count : ℕ) (bytes : Vec ℕ Z) → ArePacked count bytes.items
+    → Fits w64 (count + 1)
+count_fits count bytes packed =
+    let few = count_le_bytes count bytes.items packed in
+    Fits-of_lt (omega (arith, few, bytes.ok.0, bytes.small))
 
 pub nothing_packed : ArePacked 0 []
 nothing_packed = are_packed [] (All-nil IsCommand)

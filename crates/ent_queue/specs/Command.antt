@@ -15,8 +15,8 @@ abbrev pub Bundle : Type 0
 Bundle = List (ComponentId × ℤ)
 
 -- Spawn and SpawnMany give what was reserved its components, Insert sets components of an entity,
--- Remove takes one away, Despawn takes the entity. Refused stands for a reservation that was
--- refused: how many handles it requested, and why.
+-- Remove takes one away, Despawn takes the entity. Refused stands for a request that was
+-- refused: for how many handles, and why.
 pub data Command : Type 0 where
   Spawn : Handle → Bundle → Command
   SpawnMany : List Handle → Bundle → Command

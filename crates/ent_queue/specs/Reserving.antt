@@ -81,8 +81,8 @@ refused_by wanted (fault.Space same left) = Refused wanted (Space same left) ∷
 refused_by wanted (fault.Quota left) = Refused wanted (Quota left) ∷ []
 refused_by wanted fault.Memory = []
 
--- The result is that of a reservation of n handles.
-pub record IsReply (shared : Shared) (before after : Reserver) (n : ℕ)
+-- The result is that of a request for n handles.
+pub record IsReturned (shared : Shared) (before after : Reserver) (n : ℕ)
     (reply : Result (List Handle) Refusal) : Type 0 where
   pub quota : before.own.left < n → (reply ≡ Err (Quota before.own.left)) × (after ≡ before)
   pub nothing : n ≡ 0 → (reply ≡ Ok []) × (after ≡ before)

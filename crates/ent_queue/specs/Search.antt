@@ -14,7 +14,7 @@ pub record IsIndexOf (items : Bundle) (number index : ℕ) : Type 0 where
   pub lower : AllWithin (λ item. item.0.0 < number) items 0 index
   pub here : HoldsAt (λ item. item.0.0 ≡ number) items index
 
-pub record IsGapFor (items : Bundle) (number index : ℕ) : Type 0 where
+pub record IsItemGap (items : Bundle) (number index : ℕ) : Type 0 where
   pub within : index ≤ length items
   pub lower : AllWithin (λ item. item.0.0 < number) items 0 index
   pub greater : index < length items → HoldsAt (λ item. number < item.0.0) items index

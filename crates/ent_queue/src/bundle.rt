@@ -5,7 +5,7 @@ ghost use Rattle.std.specs.FinMap.{put, find};
 ghost use Rattle.ent_handle.specs.Component.{component_cmp};
 ghost use Rattle.ent_handle.specs.declared.component.ComponentId.{ComponentId as Id};
 ghost use Rattle.ent_queue.specs.Command.{IsBundle, bundle_of};
-ghost use Rattle.ent_queue.specs.Search.{AreRising, IsIndexOf, IsGapFor};
+ghost use Rattle.ent_queue.specs.Search.{AreRising, IsIndexOf, IsItemGap};
 
 use ent_handle::{ComponentId, Memory};
 use smallvec::SmallVec;
@@ -66,7 +66,7 @@ impl Bundle {
         Ok(bundle)
     }
 
-    /// Puts the component's value, in place of the one that is there.
+    /// Puts the component's value, instead of the one that is there.
     ///
     /// # Errors
     ///
@@ -99,7 +99,7 @@ fn index_of(items: &[(ComponentId, i64)], number: u8) -> Result<usize, usize>
     requires { AreRising items.now }
     ensures number { number < 2 ^ 8 }
     ensures found { IfOk result (IsIndexOf items.now number) }
-    ensures absent { IfErr result (IsGapFor items.now number) }
+    ensures absent { IfErr result (IsItemGap items.now number) }
 {
     let index = first_from(items, number);
     if index < items.len() && items[index].0.0 == number {

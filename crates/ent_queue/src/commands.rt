@@ -27,7 +27,7 @@ pub struct Commands<'a, Q = CommandQueue> {
 
 impl<'a> Commands<'a> {
     ghost use Rattle.ent_queue.specs.Commands.{IsReady, Extends, queue_of, reserver_of, shared_of};
-    ghost use Rattle.ent_queue.specs.Reserving.{IsReply, refused_by, queued, as_list};
+    ghost use Rattle.ent_queue.specs.Reserving.{IsReturned, refused_by, queued, as_list};
 
     /// Begins with an empty queue. The reserver is one of those that came with the allocator.
     pub fn new(alloc: Global, shared: &'a Shared, reserver: &'a mut Reserver) -> Self
@@ -65,7 +65,7 @@ impl<'a> Commands<'a> {
 
         // Anything but Memory is the result of a reservation.
         ensures replies { (reply : Result HandleValue Refusal) → result ≡ queued reply
-            → IsReply (shared_of self.new) (reserver_of self.old) (reserver_of self.new) 1
+            → IsReturned (shared_of self.new) (reserver_of self.old) (reserver_of self.new) 1
             (listed_alone reply) }
     {
         self.queue.spawn(self.shared, self.reserver, bundle.items())
@@ -75,7 +75,7 @@ impl<'a> Commands<'a> {
     ///
     /// # Errors
     ///
-    /// As [`Commands::spawn`], with [`Shared::reserve_many`] in the place of [`Shared::reserve`].
+    /// As [`Commands::spawn`], with [`Shared::reserve_many`] instead of [`Shared::reserve`].
     pub fn spawn_many(&mut self, n: u32, bundle: Bundle) -> Result<Vec<Handle>, QueueFault>
         requires { IsReady self.old }
         ensures extends { Extends self.old self.new }
@@ -90,13 +90,14 @@ impl<'a> Commands<'a> {
         // Anything but Memory is the result of a reservation.
         ensures replies { (reply : Result (List HandleValue) Refusal)
             → as_list result ≡ queued reply
-            → IsReply (shared_of self.new) (reserver_of self.old) (reserver_of self.new) n reply }
+            → IsReturned (shared_of self.new) (reserver_of self.old) (reserver_of self.new) n
+            reply }
     {
         self.queue
             .spawn_many(self.alloc, self.shared, self.reserver, n, bundle.items())
     }
 
-    /// Gives the entity the components, in place of those that it has under the same numbers.
+    /// Gives the entity the components, instead of those that it has under the same numbers.
     ///
     /// # Errors
     ///

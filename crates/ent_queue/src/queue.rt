@@ -45,7 +45,7 @@ impl Model for CommandQueue {
 }
 
 impl CommandQueue {
-    ghost use Rattle.ent_queue.specs.Reserving.{IsReply, refused_by, queued, as_list};
+    ghost use Rattle.ent_queue.specs.Reserving.{IsReturned, refused_by, queued, as_list};
 
     pub(crate) fn new(alloc: Global) -> Self
         ensures { result ≡ [] }
@@ -115,7 +115,7 @@ impl CommandQueue {
         ensures refused { IfErr result (λ fault. self.new ≡ self.old ++ refused_by 1 fault) }
         ensures memory { IsErrOf result QueueFault.Memory → reserver.new ≡ reserver.old }
         ensures replies { (reply : Result HandleValue Refusal) → result ≡ queued reply
-            → IsReply shared.now reserver.old reserver.new 1 (listed_alone reply) }
+            → IsReturned shared.now reserver.old reserver.new 1 (listed_alone reply) }
     {
         let own = 11 + 9 * items.len();
         self.bytes.reserve(own.max(REFUSAL))?;
@@ -152,7 +152,7 @@ impl CommandQueue {
         ensures memory { IsErrOf result QueueFault.Memory → reserver.new ≡ reserver.old }
         ensures replies { (reply : Result (List HandleValue) Refusal)
             → as_list result ≡ queued reply
-            → IsReply shared.now reserver.old reserver.new n reply }
+            → IsReturned shared.now reserver.old reserver.new n reply }
     {
         let mut handles = Vec::with_capacity(alloc, n as usize)?;
         let own = 7 + 8 * n as usize + 9 * items.len();

@@ -1,5 +1,5 @@
 -- What the events of a call do to the fields of a `Machine`, and that they keep them in order.
-use Rattle.std.proofs.Common.{◌≡◌, refl, sym, ap, subst, ◌∙◌, ℕ, ◌+◌, ◌^◌, ◌<◌, ◌≤◌, pos, ◌-ℤ◌}
+use Rattle.std.proofs.Common.{◌≡◌, sym, ap, subst, ◌∙◌, ℕ, ◌+◌, ◌^◌, ◌<◌, ◌≤◌, pos, ◌-ℤ◌}
 use Rattle.std.proofs.Common.{◌≤ℤ◌, true, nat_lt, length, drop, filter, Option, Some, None, Ok, Err}
 use Rattle.std.proofs.Common.{arith}
 use Rattle.std.proofs.lemmas.Int.{ints}
@@ -29,7 +29,7 @@ use Rattle.ent_replay.specs.Totals.{sum_below}
 use Rattle.ent_replay.specs.Machine.{map_values, open_call_of, machine_state, unasked, awaited}
 use Rattle.ent_replay.specs.Machine.{AreConsistent}
 use Rattle.ent_replay.proofs.Conditions.{when, unless}
-use Rattle.ent_replay.proofs.Giving.{all_held-next, not_wrapped-reported}
+use Rattle.ent_replay.proofs.Giving.{all_held-next}
 use Rattle.ent_replay.proofs.Totals.{sum_below-changed, sum_below-part}
 use Rattle.ent_replay.proofs.Maps.{get-inserted, get-insert_other, get-removed, get-remove_other}
 use Rattle.ent_replay.proofs.Maps.{get-map_values, map_values-insert, map_values-remove}
@@ -163,7 +163,7 @@ module _ (s : Allocator) (spent : FinMap nat_cmp ℕ) (calls : FinMap nat_cmp St
       once = all_held-next (machine_state s spent calls) (event.Begin caller n) (Ok outcome.Open)
           (machine_state s (finite.insert spent caller (more n))
           (finite.insert calls caller (begun n)))
-          (begin-begun n is enough) refl h.sound h.once;
+          (begin-begun n is enough) h.sound h.once;
     }
 
     pub step-not_open : finite.get calls caller ≡ None → on_step (machine_state s spent calls)
@@ -295,7 +295,7 @@ module _ (s : Allocator) (spent : FinMap nat_cmp ℕ) (calls : FinMap nat_cmp St
         once = all_held-next (machine_state s spent calls) (event.Step caller)
             (Ok (outcome.Cursor (cursor s -ℤ pos call.requested)))
             (machine_state (after_take s call.requested) spent (finite.insert calls caller stepped))
-            (step-taken h.sound waits) refl h.sound h.once;
+            (step-taken h.sound waits) h.sound h.once;
       }
 
       pub answer-not_stepped : call.span ≡ None → on_answer (machine_state s spent calls) caller
@@ -352,7 +352,6 @@ module _ (s : Allocator) (spent : FinMap nat_cmp ℕ) (calls : FinMap nat_cmp St
             (Ok (reported (reply_from s.made (pool_at s span.high) call.requested)))
             (machine_state s spent (finite.remove calls caller))
             (answer-answered span passed)
-            (not_wrapped-reported (reply_from s.made (pool_at s span.high) call.requested))
             h.sound h.once;
       }
         where

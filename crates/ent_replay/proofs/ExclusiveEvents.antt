@@ -1,10 +1,10 @@
 -- What the events that need the allocator to themselves do to the fields of a `Machine`, and that
 -- they keep them in order.
-use Rattle.std.proofs.Common.{◌≡◌, refl, sym, ap, ◌∙◌, ℕ, ◌+◌, ◌*◌, ◌^◌, ◌<◌, ◌≤◌, Bool, true}
+use Rattle.std.proofs.Common.{◌≡◌, ◌≢◌, refl, sym, ap, ◌∙◌, ℕ, ◌+◌, ◌*◌, ◌^◌, ◌<◌, ◌≤◌, Bool, true}
 use Rattle.std.proofs.Common.{false, not, nat_lt, [], length, drop, filter, slice_get, Some, None}
 use Rattle.std.proofs.Common.{Ok, Err, arith}
 use Rattle.std.specs.Prelude.{◌==◌}
-use Rattle.std.specs.Option.{unwrap_or}
+use Rattle.std.specs.Option.{unwrap_or, is_some}
 use Rattle.std.specs.Ordering.{nat_cmp}
 use Rattle.std.specs.FinSet as set
 use Rattle.std.specs.FinMap as finite
@@ -16,14 +16,15 @@ use Rattle.ent_alloc.specs.Limits.{credit}
 use Rattle.ent_alloc.specs.Sequential.{Allocator, top, available, next, born, is_old, after_alloc}
 use Rattle.ent_alloc.specs.Sequential.{after_free, after_flush}
 use Rattle.ent_alloc.specs.Sound.{IsSound}
-use Rattle.ent_alloc.specs.Given as given
+use Rattle.ent_alloc.specs.Spent as given
 use Rattle.ent_alloc.proofs.Flushes.{born-IsPermutation}
 use Rattle.ent_alloc.proofs.Soundness.{after_alloc-sound, after_free-sound, after_flush-sound}
+use Rattle.ent_alloc.proofs.Soundness.{next-later}
 use Rattle.ent_replay.specs.declared.stored_call.StoredCall.{StoredCall}
 use Rattle.ent_replay.specs.declared.outcome.Outcome.TheVariants as outcome
 use Rattle.ent_replay.specs.declared.fault.ReplayFault.TheVariants as fault
 use Rattle.ent_replay.specs.Schedule.{OpenCall, is_busy, on_alloc, on_free, on_flush, alloc_front}
-use Rattle.ent_replay.specs.Schedule.{event_takes_memory, callers, wraps}
+use Rattle.ent_replay.specs.Schedule.{event_takes_memory, callers}
 use Rattle.ent_replay.specs.Totals.{sum_below}
 use Rattle.ent_replay.specs.Held.{all_held}
 use Rattle.ent_replay.specs.Machine.{map_values, open_call_of, machine_state, awaited}
@@ -179,7 +180,7 @@ module _ (s : Allocator) (spent : FinMap nat_cmp ℕ) (calls : FinMap nat_cmp St
     pub free-freed : (h : Handle) → ¬ (0 < s.asked) → set.contains s.live h ≡ true
         → on_free (machine_state s spent calls) h
         ≡ (
-          Ok (outcome.Freed h (next s.limits h) (wraps s.limits h)),
+          Ok (outcome.Freed h (next s.limits h)),
           machine_state
               (after_free s h) spent calls,
         )
@@ -188,7 +189,7 @@ module _ (s : Allocator) (spent : FinMap nat_cmp ℕ) (calls : FinMap nat_cmp St
         ∙ unless (nat_lt 0 s.asked) _ _ (grind (arith, nat_tests))
         ∙ when (set.contains s.live h) _ _ lives
         ∙ ap (λ m. (
-          Ok (outcome.Freed h (next s.limits h) (wraps s.limits h)),
+          Ok (outcome.Freed h (next s.limits h)),
           record {
             allocator =
                 after_free s h;
@@ -197,12 +198,15 @@ module _ (s : Allocator) (spent : FinMap nat_cmp ℕ) (calls : FinMap nat_cmp St
           },
         )) (quiet_calls none (after_free s h))
 
-    -- to free what lives takes memory
+    -- to free what lives takes memory, unless its slot is retired
     pub free-takes_memory : (h : Handle) → ¬ (0 < s.asked) → ¬ (set.contains s.live h ≡ false)
+        → h.generation ≢ s.limits.generations
         → event_takes_memory (machine_state s spent calls) (on_free (machine_state s spent calls)
         h).0 ≡ true
-    free-takes_memory h rest lives = ap (λ p. event_takes_memory (machine_state s spent calls) p.0)
+    free-takes_memory h rest lives before =
+        ap (λ p. event_takes_memory (machine_state s spent calls) p.0)
         (free-freed h rest (not_false (set.contains s.live h) lives))
+        ∙ ap is_some (next-later s.limits h before)
 
     pub free-consistent : (h : Handle) → AreConsistent s spent calls → ¬ (0 < s.asked)
         → set.contains s.live h ≡ true → AreConsistent (after_free s h) spent calls

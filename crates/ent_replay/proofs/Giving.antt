@@ -1,12 +1,11 @@
--- No handle is given twice in a run in which no free wrapped.
-use Rattle.std.proofs.Common.{◌≡◌, ◌≢◌, refl, sym, ap, subst, ◌∙◌, ℕ, zero, suc, ◌<◌, false, List}
+-- No handle is given twice in a run.
+use Rattle.std.proofs.Common.{◌≡◌, ◌≢◌, refl, sym, ap, subst, ◌∙◌, ℕ, zero, suc, ◌<◌, List}
 use Rattle.std.proofs.Common.{[], ◌∷◌, ◌++◌, append-nil, append_assoc, Some, None, Result, Ok, Err}
 use Rattle.std.proofs.Common.{AllPairs, IsPermutation, inl, inr, arith}
 use Rattle.std.specs.Ordering.{nat_cmp}
 use Rattle.std.specs.FinMap as finite
 use Rattle.std.specs.FinMap.{FinMap, get-empty}
 use Rattle.std.proofs.lemmas.Bool.{cases_lt}
-use Rattle.std.proofs.lemmas.Bool.Decides.{nat_tests}
 use Rattle.std.proofs.lemmas.List.Elements.{All-nil}
 use Rattle.std.proofs.lemmas.List.Sorted.{IsPermutation-refl, IsPermutation-sym}
 use Rattle.std.proofs.lemmas.List.Sorted.{IsPermutation-trans, IsPermutation-append_left}
@@ -15,7 +14,7 @@ use Rattle.ent_handle.specs.Handle.{Handle}
 use Rattle.ent_alloc.specs.Sequential.{Allocator, after_take, after_alloc, after_free, after_flush}
 use Rattle.ent_alloc.specs.Sequential.{reply_to}
 use Rattle.ent_alloc.specs.Sound.{IsSound}
-use Rattle.ent_alloc.specs.Given as spent
+use Rattle.ent_alloc.specs.Spent as spent
 use Rattle.ent_alloc.specs.History.{handles_in}
 use Rattle.ent_alloc.proofs.ListLaws.{All-right, AllPairs-left, AllPairs-right}
 use Rattle.ent_alloc.proofs.RequestLaws.{requested-given}
@@ -26,10 +25,10 @@ use Rattle.ent_replay.specs.declared.event.Event.{Event}
 use Rattle.ent_replay.specs.declared.outcome.Outcome.{Outcome}
 use Rattle.ent_replay.specs.declared.outcome.Outcome.TheVariants as outcome
 use Rattle.ent_replay.specs.declared.fault.ReplayFault.{ReplayFault}
-use Rattle.ent_replay.specs.Schedule.{MachineState, OpenCall, Reply, Answered, on_event, outcome_of}
-use Rattle.ent_replay.specs.Schedule.{after_event, outcomes_of, reported, callers, wraps}
+use Rattle.ent_replay.specs.Schedule.{MachineState, OpenCall, Reply, Returned, on_event, outcome_of}
+use Rattle.ent_replay.specs.Schedule.{after_event, outcomes_of, reported, callers}
 use Rattle.ent_replay.specs.Held.{joined, held_by, held, all_held}
-use Rattle.ent_replay.specs.Histories.{given_by, given_by_all, has_wrapped, NoneWrapped}
+use Rattle.ent_replay.specs.Histories.{given_by, given_by_all}
 use Rattle.ent_alloc.specs.History.{AreGivenOnce}
 use Rattle.ent_replay.proofs.Maps.{get-inserted, get-insert_other, get-removed, get-remove_other}
 use Rattle.ent_replay.proofs.Moves.{Move, move, stays, allocates, frees, flushes, begins, steps}
@@ -126,11 +125,10 @@ onward : (s : MachineState) (e : Event) (given : List Handle) (r : Result Outcom
 onward s e given r t is h = subst (λ p. IsGiven p.1 (given ++ given_by p.0)) (sym is) h
 
 given-next : (s : MachineState) (e : Event) (given : List Handle) → IsGiven s given
-    → has_wrapped (outcome_of s e) ≡ false → Move s e → IsGiven (after_event s e) (given
-    ++ given_by (outcome_of s e))
-given-next s e given h fresh (stays r is gives fine tells none) =
+    → Move s e → IsGiven (after_event s e) (given ++ given_by (outcome_of s e))
+given-next s e given h (stays r is gives fine tells none) =
     onward s e given r s is (subst (IsGiven s) (sym (none_left given (given_by r) gives)) h)
-given-next s e given h fresh (allocates x rest is none flushed pool at) =
+given-next s e given h (allocates x rest is none flushed pool at) =
     let nothing = all_held-none s.calls none in
     onward s e given (Ok (outcome.Handle x)) (record s { allocator = after_alloc s.allocator x }) is
     (record {
@@ -141,23 +139,21 @@ given-next s e given h fresh (allocates x rest is none flushed pool at) =
           (subst (spent.AreSpent s.allocator) (none_left given (all_held s.calls) nothing)
           h.once));
     })
-given-next s e given h fresh (frees x is none flushed lives at) =
-    let new : wraps s.allocator.limits x ≡ false = sym (ap (λ p. has_wrapped p.0) is) ∙ fresh in
+given-next s e given h (frees x is none flushed lives at) =
     onward s e given _ (record s { allocator = after_free s.allocator x }) is (record {
       sound = after_free-sound s.allocator x h.sound flushed lives;
       once = subst (λ hs. spent.AreSpent (after_free s.allocator x) (hs ++ all_held s.calls))
           (sym (append-nil given))
-          (free-given s.allocator x (given ++ all_held s.calls) lives (grind (arith, nat_tests))
-          h.once);
+          (free-given s.allocator x (given ++ all_held s.calls) lives h.once);
     })
-given-next s e given h fresh (flushes is none at) =
+given-next s e given h (flushes is none at) =
     onward s e given _ (record s { allocator = after_flush s.allocator; spent = finite.empty }) is
     (record {
       sound = after_flush-sound s.allocator h.sound;
       once = subst (λ hs. spent.AreSpent (after_flush s.allocator) (hs ++ all_held s.calls))
           (sym (append-nil given)) (flush-given s.allocator (given ++ all_held s.calls) h.once);
     })
-given-next s e given h fresh (begins caller n costs is below none at) =
+given-next s e given h (begins caller n costs is below none at) =
     let new : OpenCall = record { requested = n; reply = None } in
     let kept = all_held-inserted s.calls caller below new (ap held none) in
     onward s e given (Ok outcome.Open)
@@ -173,7 +169,7 @@ given-next s e given h fresh (begins caller n costs is below none at) =
           (append-nil (all_held s.calls)) kept)))
           h.once;
     })
-given-next s e given h fresh (steps caller call is below some waits makes at) =
+given-next s e given h (steps caller call is below some waits makes at) =
     let n = call.requested in
     let new : OpenCall = record { requested = n; reply = Some (reply_to s.allocator n) } in
     let hs = handles_in (reply_to s.allocator n) in
@@ -194,7 +190,7 @@ given-next s e given h fresh (steps caller call is below some waits makes at) =
           (all_held (finite.insert s.calls caller new)) kept)))
           (requested-given s.allocator n (given ++ all_held s.calls) h.sound h.once);
     })
-given-next s e given h fresh (answers caller call reply is below some stepped at) =
+given-next s e given h (answers caller call reply is below some stepped at) =
     let left = all_held (finite.remove s.calls caller) in
     let hs = handles_in reply in
     let holds : held (finite.get s.calls caller) ≡ hs = ap held some ∙ ap held_by stepped in
@@ -236,36 +232,29 @@ given-none s hs none = subst (spent.AreSpent s) (sym none)
       spent = All-nil (spent.IsSpent s);
     })
 
-pub not_wrapped-reported : (reply : Reply) → has_wrapped (Ok (reported reply)) ≡ false
-not_wrapped-reported (Ok handles) = refl
-not_wrapped-reported (Err space) = refl
-
 pub all_held-next : (s : MachineState) (e : Event) (r : Result Outcome ReplayFault)
-    (t : MachineState) → on_event s e ≡ (r, t) → has_wrapped r ≡ false
-    → IsSound s.allocator → spent.AreSpent s.allocator (all_held s.calls)
+    (t : MachineState) → on_event s e ≡ (r, t) → IsSound s.allocator → spent.AreSpent s.allocator
+    (all_held s.calls)
     → spent.AreSpent t.allocator (all_held t.calls)
-all_held-next s e r t is fresh sound once =
-    let h = given-next s e [] (record { sound = sound; once = once }) (ap (λ p. has_wrapped p.0) is
-    ∙ fresh) (move s e) in
-    subst (λ (p : Answered). spent.AreSpent p.1.allocator (all_held p.1.calls)) is
+all_held-next s e r t is sound once =
+    let h = given-next s e [] (record { sound = sound; once = once }) (move s e) in
+    subst (λ (p : Returned). spent.AreSpent p.1.allocator (all_held p.1.calls)) is
     (given-right (after_event s e).allocator (given_by (outcome_of s e))
     (all_held (after_event s e).calls) h.once)
 
 -- ---- whole runs
 
 given_run : (s : MachineState) (events : List Event) (given : List Handle) → IsGiven s given
-    → NoneWrapped (outcomes_of s events)
     → AllPairs (λ g h. g ≢ h) (given ++ given_by_all (outcomes_of s events))
-given_run s [] given h fresh = subst (AllPairs (λ g h. g ≢ h)) (sym (append-nil given))
+given_run s [] given h = subst (AllPairs (λ g h. g ≢ h)) (sym (append-nil given))
     (AllPairs-left (λ g h. g ≢ h) given (all_held s.calls) h.once.distinct)
-given_run s (e ∷ events) given h fresh =
+given_run s (e ∷ events) given h =
     subst (AllPairs (λ g h. g ≢ h)) (append_assoc given (given_by (outcome_of s e))
     (given_by_all (outcomes_of (after_event s e) events)))
     (given_run (after_event s e) events (given ++ given_by (outcome_of s e))
-    (given-next s e given h fresh.0 (move s e)) fresh.1)
+    (given-next s e given h (move s e)))
 
 pub given_once : (s : MachineState) (events : List Event) → IsSound s.allocator
-    → spent.AreSpent s.allocator (all_held s.calls) → NoneWrapped (outcomes_of s events)
+    → spent.AreSpent s.allocator (all_held s.calls)
     → AreGivenOnce (given_by_all (outcomes_of s events))
-given_once s events sound once fresh = given_run s events [] (record { sound = sound; once = once })
-    fresh
+given_once s events sound once = given_run s events [] (record { sound = sound; once = once })

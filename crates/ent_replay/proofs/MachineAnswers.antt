@@ -1,26 +1,24 @@
 -- What a test of a machine's answer tells, and what a refusal for want of memory has to be.
-use Rattle.std.proofs.Common.{◌≡◌, refl, sym, ap, ◌∙◌, ℕ, ◌<◌, suc, Bool, true, false, IsTrue}
+use Rattle.std.proofs.Common.{◌≡◌, refl, sym, ap, ◌∙◌, ℕ, ◌<◌, suc, Bool, true, false}
 use Rattle.std.proofs.Common.{nat_lt, List, [], ◌∷◌, length, drop, filter, slice_get, Option, Some}
 use Rattle.std.proofs.Common.{None, Result, Ok, Err, arith, inl, inr}
-use Rattle.std.specs.Prelude.{◌==◌}
 use Rattle.std.specs.Option.{option_map, is_some}
 use Rattle.std.specs.Result.{OnOk, OnErr, is_err}
 use Rattle.std.proofs.lemmas.Bool.Decides.{nat_tests}
-use native.Mathlib.Decide.{ℕ_discrete}
 use Rattle.ent_handle.specs.Handle.{Handle}
 use Rattle.ent_alloc.specs.Sequential.{next, is_old, is_fresh}
 use Rattle.ent_replay.specs.declared.outcome.Outcome.{Outcome}
 use Rattle.ent_replay.specs.declared.outcome.Outcome.TheVariants as outcome
 use Rattle.ent_replay.specs.declared.fault.ReplayFault.{ReplayFault}
 use Rattle.ent_replay.specs.declared.fault.ReplayFault.TheVariants as fault
-use Rattle.ent_replay.specs.Schedule.{MachineState, Answered, alloc_front, event_takes_memory}
+use Rattle.ent_replay.specs.Schedule.{MachineState, Returned, alloc_front, event_takes_memory}
 use Rattle.ent_replay.specs.Machine.{Makes}
 use Rattle.ent_replay.proofs.Conditions.{when}
 use Rattle.ent_replay.proofs.Maps.{no_test}
 
 -- The machine did what the step says, or refused for want of memory: told of the values that a
 -- contract sees.
-pub done : (on : MachineState → Answered) (inside now : MachineState) → inside ≡ now
+pub done : (on : MachineState → Returned) (inside now : MachineState) → inside ≡ now
     → (result answer : Result Outcome ReplayFault) → result ≡ answer → (after next : MachineState)
     → after ≡ next
     → on inside ≡ (answer, next) → Makes (on now) now result after
@@ -31,20 +29,18 @@ done on inside now view result answer is after next is_next step =
           ∙ ap (λ v. (on v).1) view,
     )
 
-pub refused : (on : MachineState → Answered) (inside now : MachineState) → inside ≡ now
+-- It found a fault, and changed nothing.
+pub faulty : (on : MachineState → Returned) (inside now : MachineState) → inside ≡ now
+    → (why : ReplayFault) → on inside ≡ (Err why, inside) → Makes (on now) now (Err why) now
+faulty on inside now view why =
+    done on inside now view (Err why) (Err why) refl now inside (sym view)
+
+pub refused : (on : MachineState → Returned) (inside now : MachineState) → inside ≡ now
     → (result : Result Outcome ReplayFault) → result ≡ Err fault.Memory → (after : MachineState)
     → after ≡ inside
     → event_takes_memory inside (on inside).0 ≡ true → Makes (on now) now result after
 refused on inside now view result is after unchanged takes =
     inr (is, unchanged ∙ view, ap (λ v. event_takes_memory v (on v).0) (sym view) ∙ takes)
-
--- two tests that say the same are one
-pub same_test : (b : Bool) (m n : ℕ) → (IsTrue b → m ≡ n) × (m ≡ n → IsTrue b) → b ≡ (m == n)
-same_test true m n both = let same = both.0 refl in grind (arith, nat_tests)
-same_test false m n both = elim (ℕ_discrete m n) [
-  | yes same ↦ absurd (no_test (both.1 same))
-  | no other ↦ grind (arith, nat_tests)
-]
 
 -- what a test of an answer tells
 pub some_of : {X : Type 0} (o : Option X) → true ≡ is_some o → (x : X) × (o ≡ Some x)

@@ -19,7 +19,7 @@ use Rattle.ent_replay.specs.declared.fault.ReplayFault.TheVariants as fault
 use Rattle.ent_replay.specs.Schedule.{MachineState, OpenCall, Reply, is_busy, on_event, outcome_of}
 use Rattle.ent_replay.specs.Schedule.{after_event, outcomes_of, alloc_front, begin_with, step_with}
 use Rattle.ent_replay.specs.Schedule.{step_open, answer_with, answer_open, spent_by, left_of}
-use Rattle.ent_replay.specs.Schedule.{callers, reported, wraps}
+use Rattle.ent_replay.specs.Schedule.{callers, reported}
 use Rattle.ent_replay.specs.Histories.{reserved_by_request, reserved_by_call, reservations}
 use Rattle.ent_replay.specs.Histories.{given_by}
 use Rattle.std.proofs.lemmas.List.Elements.{All-nil, All-cons}
@@ -43,7 +43,7 @@ pub data Move (s : MachineState) (e : Event) : Type 0 where
       ≡ event.Alloc → Move s e
   frees : (h : Handle) → on_event s e
       ≡ (
-        Ok (outcome.Freed h (next s.allocator.limits h) (wraps s.allocator.limits h)),
+        Ok (outcome.Freed h (next s.allocator.limits h)),
         record s
             { allocator = after_free s.allocator h },
       )

@@ -1,8 +1,8 @@
 -- Runs of a schedule as histories: the calls between two flushes in the order of their steps, and
 -- the handles that are given.
-use Rattle.std.specs.Prelude.{◌≡◌, ℕ, zero, suc, Bool, false, nat_lt, ◌==◌, if◌then◌else◌}
+use Rattle.std.specs.Prelude.{◌≡◌, ℕ, zero, suc, nat_lt, ◌==◌, if◌then◌else◌}
 use Rattle.std.specs.Prelude.{List, [], ◌∷◌, ◌++◌, Option, Some, None, Result, Ok, ◌⊎◌}
-use Rattle.std.specs.List.{AllByRecursion, flat_map}
+use Rattle.std.specs.List.{flat_map}
 use Rattle.std.specs.Option.{option_or}
 use Rattle.std.specs.FinMap as map
 use Rattle.ent_handle.specs.Handle.{Handle}
@@ -101,11 +101,3 @@ given_by other = []
 -- what all outcomes give
 abbrev pub given_by_all : List (Result Outcome ReplayFault) → List Handle
 given_by_all results = flat_map given_by results
-
--- the generations of a slot began anew
-abbrev pub has_wrapped : Result Outcome ReplayFault → Bool
-has_wrapped (Ok (outcome.Freed h next wrapped)) = wrapped
-has_wrapped other = false
-
-abbrev pub NoneWrapped : List (Result Outcome ReplayFault) → Type 0
-NoneWrapped results = AllByRecursion (λ r. has_wrapped r ≡ false) results

@@ -8,13 +8,13 @@ use Rattle.std.specs.FinMap as finite
 use Rattle.ent_alloc.specs.Limits.{credit}
 use Rattle.ent_alloc.specs.Sequential.{Allocator, top, pool_at, reply_from}
 use Rattle.ent_alloc.specs.Sound.{IsSound}
-use Rattle.ent_alloc.specs.Given as given
+use Rattle.ent_alloc.specs.Spent as given
 use Rattle.ent_alloc.specs.declared.span.Span.{Span}
 use Rattle.ent_replay.specs.declared.stored_call.StoredCall.{StoredCall}
 use Rattle.ent_replay.specs.declared.outcome.Outcome.{Outcome}
 use Rattle.ent_replay.specs.declared.fault.ReplayFault.{ReplayFault}
 use Rattle.ent_replay.specs.declared.fault.ReplayFault.TheVariants as fault
-use Rattle.ent_replay.specs.Schedule.{MachineState, OpenCall, Answered, event_takes_memory, callers}
+use Rattle.ent_replay.specs.Schedule.{MachineState, OpenCall, Returned, event_takes_memory, callers}
 use Rattle.ent_replay.specs.Totals.{sum_below}
 use Rattle.ent_replay.specs.Held.{all_held}
 
@@ -65,7 +65,7 @@ pub record AreConsistent (s : Allocator) (spent : finite.FinMap nat_cmp ℕ)
 
 -- The machine did this step; or it was one that takes memory, memory ran out, and nothing has
 -- changed.
-abbrev pub Makes : Answered → MachineState → Result Outcome ReplayFault → MachineState → Type 0
+abbrev pub Makes : Returned → MachineState → Result Outcome ReplayFault → MachineState → Type 0
 Makes step before result after =
     ((result ≡ step.0) × (after ≡ step.1))
     ⊎ ((result ≡ Err fault.Memory) × (after ≡ before) × (event_takes_memory before step.0 ≡ true))

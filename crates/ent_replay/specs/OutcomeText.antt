@@ -1,6 +1,6 @@
 -- The line of each outcome and of each fault.
-use Rattle.std.specs.Prelude.{ℕ, Bool, true, false, List, [], ◌∷◌, ◌++◌, map, if◌then◌else◌, codes}
-use Rattle.std.specs.Prelude.{Result, Ok, Err}
+use Rattle.std.specs.Prelude.{ℕ, Bool, true, false, List, [], ◌∷◌, ◌++◌, map, codes}
+use Rattle.std.specs.Prelude.{Option, Some, None, Result, Ok, Err}
 use Rattle.std.specs.Fmt.{decimal, signed_decimal}
 use Rattle.std.specs.List.{flat_map, join_with_byte}
 use Rattle.ent_handle.specs.Handle.{Handle}
@@ -21,10 +21,13 @@ spaced handles = flat_map (λ h. 32 ∷ handle_text h) handles
 abbrev pub born_text : List Handle → List ℕ
 born_text handles = codes "born" ++ spaced handles
 
-abbrev pub freed_text : Handle → Handle → Bool → List ℕ
-freed_text handle next wrapped =
-    codes "freed " ++ handle_text handle ++ codes " next " ++ handle_text next
-    ++ (if wrapped then codes " wrapped" else [])
+-- what the slot of a freed handle gives next
+abbrev pub next_text : Option Handle → List ℕ
+next_text None = codes " retired"
+next_text (Some next) = codes " next " ++ handle_text next
+
+abbrev pub freed_text : Handle → Option Handle → List ℕ
+freed_text handle next = codes "freed " ++ handle_text handle ++ next_text next
 
 abbrev pub space_text : ℕ → ℕ → List ℕ
 space_text wanted left = codes "space wanted " ++ decimal wanted ++ codes " left " ++ decimal left
@@ -32,7 +35,7 @@ space_text wanted left = codes "space wanted " ++ decimal wanted ++ codes " left
 abbrev pub outcome_text : Outcome → List ℕ
 outcome_text (outcomes.Handle h) = handle_text h
 outcome_text outcomes.NeedsFlush = codes "needs flush"
-outcome_text (outcomes.Freed handle next wrapped) = freed_text handle next wrapped
+outcome_text (outcomes.Freed handle next) = freed_text handle next
 outcome_text outcomes.NotAlive = codes "not alive"
 outcome_text (outcomes.Born handles) = born_text handles
 outcome_text outcomes.Open = codes "open"

@@ -4,7 +4,7 @@ use Rattle.std.specs.Prelude.{◌≡◌, ℕ, ◌+◌, ◌-◌, Bool, true, fals
 use Rattle.std.specs.Prelude.{◌⊎◌, refl}
 use Rattle.std.specs.Prelude.{List, [], ◌∷◌, length, take, slice_get, Option, Some, None, IsSomeAnd}
 use Rattle.std.specs.Prelude.{Result, Ok, Err}
-use Rattle.std.specs.Option.{unwrap_or}
+use Rattle.std.specs.Option.{unwrap_or, is_some}
 use Rattle.std.specs.Ordering.{nat_cmp}
 use Rattle.std.specs.Coded.{Coded, code_by, coded×, coded_ℕ, coded_list, coded_option, coded_result}
 use Rattle.std.specs.FinMap as map
@@ -42,24 +42,24 @@ pub record MachineState : Type 0 where
 abbrev pub starting : Limits → MachineState
 starting limits = record { allocator = opening limits; spent = map.empty; calls = map.empty }
 
--- what an event answers, and the state after it
-abbrev pub Answered : Type 0
-Answered = Result Outcome ReplayFault × MachineState
+-- what an event returns, and the state after it
+abbrev pub Returned : Type 0
+Returned = Result Outcome ReplayFault × MachineState
 
 -- a fault changes nothing
-abbrev pub refuse : MachineState → ReplayFault → Answered
+abbrev pub refuse : MachineState → ReplayFault → Returned
 refuse s why = (Err why, s)
 
--- nor do some answers
-abbrev pub say : MachineState → Outcome → Answered
+-- nor do some outcomes
+abbrev pub say : MachineState → Outcome → Returned
 say s what = (Ok what, s)
 
--- An event with this outcome may take memory: it makes a slot, frees one, brings handles to life,
--- opens a call, or lists what a call was given. No other event takes any: no fault, no handle of an
--- old slot, no empty list.
+-- An event with this outcome may take memory: it makes a slot, frees one that is given again,
+-- brings handles to life, opens a call, or lists what a call was given. No other event takes any:
+-- no fault, no handle of an old slot, no slot that is retired, no empty list.
 abbrev pub event_takes_memory : MachineState → Result Outcome ReplayFault → Bool
 event_takes_memory s (Ok (outcome.Handle h)) = is_fresh s.allocator.made h
-event_takes_memory s (Ok (outcome.Freed h after wrapped)) = true
+event_takes_memory s (Ok (outcome.Freed h after)) = is_some after
 event_takes_memory s (Ok (outcome.Born handles)) = nat_lt 0 (length handles)
 event_takes_memory s (Ok outcome.Open) = true
 event_takes_memory s (Ok (outcome.Handles handles)) = nat_lt 0 (length handles)
@@ -75,33 +75,29 @@ is_busy s = not (map.len s.calls == 0)
 abbrev pub state_needs_flush : MachineState → Bool
 state_needs_flush s = nat_lt 0 s.allocator.asked
 
-abbrev pub alloc_front : MachineState → List Handle → Answered
+abbrev pub alloc_front : MachineState → List Handle → Returned
 alloc_front s [] = say s (outcome.Space 1 0)
 alloc_front s (h ∷ rest) =
     (Ok (outcome.Handle h), record s { allocator = after_alloc s.allocator h })
 
-abbrev pub on_alloc : MachineState → Answered
+abbrev pub on_alloc : MachineState → Returned
 on_alloc s =
     if is_busy s then refuse s fault.Busy else
     (if state_needs_flush s then say s outcome.NeedsFlush else alloc_front s s.allocator.pool)
 
--- the generation of this handle is the last, so that its slot begins anew
-abbrev pub wraps : Limits → Handle → Bool
-wraps limits h = h.generation == limits.generations
-
-abbrev pub on_free : MachineState → Handle → Answered
+abbrev pub on_free : MachineState → Handle → Returned
 on_free s h =
     if is_busy s then refuse s fault.Busy else
     (if state_needs_flush s then say s outcome.NeedsFlush else
     (if set.contains s.allocator.live h
     then (
-      Ok (outcome.Freed h (next s.allocator.limits h) (wraps s.allocator.limits h)),
+      Ok (outcome.Freed h (next s.allocator.limits h)),
       record s { allocator = after_free s.allocator h },
     )
     else say s outcome.NotAlive))
 
 -- it also renews the credit of every caller
-abbrev pub on_flush : MachineState → Answered
+abbrev pub on_flush : MachineState → Returned
 on_flush s =
     if is_busy s then refuse s fault.Busy else (
       Ok (outcome.Born (born s.allocator)),
@@ -122,7 +118,7 @@ spent_by s caller = unwrap_or (map.get s.spent caller) 0
 abbrev pub left_of : MachineState → ℕ → ℕ
 left_of s caller = credit - spent_by s caller
 
-abbrev pub begin_with : MachineState → ℕ → ℕ → Option OpenCall → Answered
+abbrev pub begin_with : MachineState → ℕ → ℕ → Option OpenCall → Returned
 begin_with s caller n (Some call) = refuse s fault.AlreadyOpen
 begin_with s caller n None =
     if nat_lt (left_of s caller) n then refuse s (fault.Quota (left_of s caller)) else (
@@ -133,13 +129,13 @@ begin_with s caller n None =
       },
     )
 
-abbrev pub on_begin : MachineState → ℕ → ℕ → Answered
+abbrev pub on_begin : MachineState → ℕ → ℕ → Returned
 on_begin s caller n =
     if nat_lt caller callers then begin_with s caller n (map.get s.calls caller)
     else refuse s fault.Caller
 
 -- the request takes from the pool, and the reply is fixed
-abbrev pub step_with : MachineState → ℕ → ℕ → Option Reply → Answered
+abbrev pub step_with : MachineState → ℕ → ℕ → Option Reply → Returned
 step_with s caller n (Some reply) = refuse s fault.AlreadyStepped
 step_with s caller n None = (
   Ok (outcome.Cursor (cursor (after_take s.allocator n))),
@@ -150,11 +146,11 @@ step_with s caller n None = (
   },
 )
 
-abbrev pub step_open : MachineState → ℕ → Option OpenCall → Answered
+abbrev pub step_open : MachineState → ℕ → Option OpenCall → Returned
 step_open s caller None = refuse s fault.NotOpen
 step_open s caller (Some call) = step_with s caller call.requested call.reply
 
-abbrev pub on_step : MachineState → ℕ → Answered
+abbrev pub on_step : MachineState → ℕ → Returned
 on_step s caller =
     if nat_lt caller callers then step_open s caller (map.get s.calls caller)
     else refuse s fault.Caller
@@ -164,23 +160,23 @@ abbrev pub reported : Reply → Outcome
 reported (Ok handles) = outcome.Handles handles
 reported (Err space) = outcome.Space space.wanted space.left
 
-abbrev pub answer_with : MachineState → ℕ → Option Reply → Answered
+abbrev pub answer_with : MachineState → ℕ → Option Reply → Returned
 answer_with s caller None = refuse s fault.NotStepped
 answer_with s caller (Some reply) =
     (Ok (reported reply), record s { calls = map.remove s.calls caller })
 
-abbrev pub answer_open : MachineState → ℕ → Option OpenCall → Answered
+abbrev pub answer_open : MachineState → ℕ → Option OpenCall → Returned
 answer_open s caller None = refuse s fault.NotOpen
 answer_open s caller (Some call) = answer_with s caller call.reply
 
-abbrev pub on_answer : MachineState → ℕ → Answered
+abbrev pub on_answer : MachineState → ℕ → Returned
 on_answer s caller =
     if nat_lt caller callers then answer_open s caller (map.get s.calls caller)
     else refuse s fault.Caller
 
 -- ---- whole schedules
 
-abbrev pub on_event : MachineState → Event → Answered
+abbrev pub on_event : MachineState → Event → Returned
 on_event s event.Alloc = on_alloc s
 on_event s (event.Free h) = on_free s h
 on_event s event.Flush = on_flush s

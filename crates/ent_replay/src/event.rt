@@ -1,6 +1,6 @@
 use ent_handle::Handle;
 
-/// One step of a schedule.
+/// One event of a schedule.
 ///
 /// `Alloc`, `Free` and `Flush` are exclusive. A reservation of a caller is three events: `Begin`
 /// opens the call with its request, `Step` is its atomic step, and `Answer` gives the reply.

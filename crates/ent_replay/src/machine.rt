@@ -7,7 +7,7 @@ ghost use Rattle.ent_replay.specs.Schedule.{on_alloc, on_free, on_flush, on_begi
 ghost use Rattle.ent_replay.specs.Schedule.{on_answer};
 ghost use Rattle.ent_replay.specs.Machine.{Makes};
 ghost use Rattle.ent_replay.specs.Histories.{IsAtRest, new_phase, StandInHistory};
-ghost use Rattle.ent_replay.specs.Histories.{NoneWrapped, given_by_all};
+ghost use Rattle.ent_replay.specs.Histories.{given_by_all};
 ghost use Rattle.ent_alloc.specs.History.{AreGivenOnce};
 
 use crate::by_caller::ByCaller;
@@ -90,9 +90,9 @@ impl Machine {
     /// - `AlreadyOpen`, and then `Quota` if the request is above the caller's credit: `Begin`.
     /// - `NotOpen`, and then `AlreadyStepped`: `Step`.
     /// - `NotOpen`, and then `NotStepped`: `Answer`.
-    /// - `Memory`: tested last, and only if the event makes a slot, frees a handle, brings handles
-    ///   to life, opens a call or lists the handles of a reply. A reply and a flush ask for their
-    ///   whole list before they list a handle.
+    /// - `Memory`: tested last, and only if the event makes a slot, frees a handle whose slot isn't
+    ///   retired, brings handles to life, opens a call or lists the handles of a reply. A reply and
+    ///   a flush ask for their whole list before they list a handle.
     pub fn step(&mut self, event: Event) -> Result<Outcome, ReplayFault>
         ensures outcome { ¬ (result ≡ Err ReplayFault.Memory) → result ≡ outcome_of self.old event }
         ensures state { ¬ (result ≡ Err ReplayFault.Memory)
@@ -115,7 +115,7 @@ impl Machine {
     /// outcome, and the events after it are applied as usual.
     ///
     /// From a machine at rest, the reservations of the run are a legal history in the order of
-    /// their steps. If no free of the run wrapped, no handle is given twice in it.
+    /// their steps. No handle is given twice in a run, whatever the limits are.
     ///
     /// # Errors
     ///
@@ -129,7 +129,7 @@ impl Machine {
         ensures history { IfOk result (λ outcomes. IsAtRest self.old
             → StandInHistory (new_phase self.old) self.old events.now outcomes.items) }
         ensures given_once { IfOk result (λ outcomes.
-            NoneWrapped outcomes.items → AreGivenOnce (given_by_all outcomes.items)) }
+            AreGivenOnce (given_by_all outcomes.items)) }
 
         ensures cut { IfErr result (λ memory. memory.done < length events.now) }
         ensures cut_state { IfErr result (λ memory.
@@ -173,7 +173,6 @@ impl Machine {
             Ok(freed) => Ok(Outcome::Freed {
                 handle,
                 next: freed.next,
-                wrapped: freed.wrapped,
             }),
             Err(FreeFault::NeedsFlush) => Ok(Outcome::NeedsFlush),
             Err(FreeFault::NotAlive) => Ok(Outcome::NotAlive),

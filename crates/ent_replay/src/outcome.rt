@@ -12,10 +12,8 @@ pub enum Outcome {
     Freed {
         /// The handle that was freed.
         handle: Handle,
-        /// The handle that its slot gives next.
-        next: Handle,
-        /// Whether the generation began anew, so that an old handle may name the slot again.
-        wrapped: bool,
+        /// The handle that its slot gives next. `None` if the slot is retired.
+        next: Option<Handle>,
     },
     /// `Free` of a handle that was not alive. Nothing changed.
     NotAlive,

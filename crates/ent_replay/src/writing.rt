@@ -107,21 +107,20 @@ fn write_born(out: &mut Vec<u8>, handles: &HandleList) -> Result<(), Memory>
     append_spaced(out, handles.as_slice())
 }
 
-fn write_freed(out: &mut Vec<u8>, handle: Handle, next: Handle, wrapped: bool) -> Result<(), Memory>
-    ensures ok { OnOk result (out.new.items ≡ out.old.items ++ freed_text handle next wrapped) }
+fn write_freed(out: &mut Vec<u8>, handle: Handle, next: Option<Handle>) -> Result<(), Memory>
+    ensures ok { OnOk result (out.new.items ≡ out.old.items ++ freed_text handle next) }
     ensures kept { OnErr result (take (vec_len out.old) out.new.items ≡ out.old.items) }
     ensures full { OnErr result (vec_capacity out.old
-        < vec_len out.old + length (freed_text handle next wrapped)) }
+        < vec_len out.old + length (freed_text handle next)) }
     ensures capacity { vec_capacity out.old ≤ vec_capacity out.new }
 {
     append(out, b"freed ")?;
     handle.write_text(out)?;
+    let Some(next) = next else {
+        return append(out, b" retired");
+    };
     append(out, b" next ")?;
-    next.write_text(out)?;
-    if wrapped {
-        append(out, b" wrapped")?;
-    }
-    Ok(())
+    next.write_text(out)
 }
 
 fn write_space(out: &mut Vec<u8>, wanted: u32, left: u32) -> Result<(), Memory>
@@ -147,11 +146,7 @@ fn write_text(outcome: &Outcome, out: &mut Vec<u8>) -> Result<(), Memory>
     match outcome {
         Outcome::Handle(handle) => handle.write_text(out),
         Outcome::NeedsFlush => append(out, b"needs flush"),
-        Outcome::Freed {
-            handle,
-            next,
-            wrapped,
-        } => write_freed(out, *handle, *next, *wrapped),
+        Outcome::Freed { handle, next } => write_freed(out, *handle, *next),
         Outcome::NotAlive => append(out, b"not alive"),
         Outcome::Born(handles) => write_born(out, handles),
         Outcome::Open => append(out, b"open"),

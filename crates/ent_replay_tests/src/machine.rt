@@ -70,11 +70,11 @@ const SCHEDULES: [(u32, &[u8], &[u8]); 6] = [
         b"begin 7 4\nstep 7\nanswer 7\nbegin 7 1\nstep 7\nanswer 7\nflush\nalloc\nalloc\nalloc\nalloc\n",
         b"open\ncursor -4\nspace wanted 4 left 3\nopen\ncursor -5\nspace wanted 1 left 0\nborn\n0v1\n1v1\n2v1\nspace wanted 1 left 0\n",
     ),
-    // With one generation a slot's next handle is the one that was freed.
+    // With one generation each slot is given once.
     (
         1,
-        b"alloc\nfree 0v1\nalloc\nfree 0v1\nbegin 1 1\nstep 1\nanswer 1\nflush\n",
-        b"0v1\nfreed 0v1 next 0v1 wrapped\n0v1\nfreed 0v1 next 0v1 wrapped\nopen\ncursor 0\n0v1\nborn 0v1\n",
+        b"alloc\nfree 0v1\nalloc\nfree 0v1\nfree 1v1\nbegin 1 1\nstep 1\nanswer 1\nflush\nfree 2v1\nalloc\n",
+        b"0v1\nfreed 0v1 retired\n1v1\nnot alive\nfreed 1v1 retired\nopen\ncursor -1\n2v1\nborn 2v1\nfreed 2v1 retired\nspace wanted 1 left 0\n",
     ),
     // The first caller and the last one; their answers come in another order than their steps.
     (

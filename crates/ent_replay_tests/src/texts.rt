@@ -26,7 +26,11 @@ fn each_event_is_read(rt: HostRuntime) -> Result<(), Fail> {
     Ok(())
 }
 
-const REFUSED: [(&[u8], usize, Cause, &str); 7] = [
+const REFUSED: [(&[u8], usize, Cause, &str); 12] = [
+    // Schedules that break off in a line.
+    (b"alloc\nal", 2, Cause::Word, "word"),
+    (b"alloc\nbegin 1", 2, Cause::Count, "count"),
+    (b"alloc\nalloc\nfree 0v", 3, Cause::Handle, "handle"),
     (b"alloc\nfree 0v0", 2, Cause::Handle, "handle"),
     (b"alloc ", 1, Cause::Count, "count"),
     (b"\n", 1, Cause::Word, "word"),
@@ -34,6 +38,8 @@ const REFUSED: [(&[u8], usize, Cause, &str); 7] = [
     (b"begin 01 1", 1, Cause::Number, "number"),
     // A carriage return is a byte like any other, and the first fault in a line counts.
     (b"flush\r\n", 1, Cause::Word, "word"),
+    (b"alloc\r\n", 1, Cause::Word, "word"),
+    (b"alloc\r", 1, Cause::Word, "word"),
     (b"flush\nbegin x\nfree 0v0", 2, Cause::Count, "count"),
 ];
 

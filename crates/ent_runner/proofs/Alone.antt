@@ -134,8 +134,8 @@ module _ {S : Type 0} (may : S → View → List Command → Type 0) (systems : 
       record {
         legal = subst (IsLegal before.allocator) is ends.frame.legal;
         world = subst (λ h. after ≡ (sync queues (reserved_by h before)).world) is ends.world;
-        births_are = subst (λ h. births ≡ born (after_history before.allocator h)) is
-            ends.births_are;
+        born_are = subst (λ h. births ≡ born (after_history before.allocator h)) is
+            ends.born_are;
         faults_are = subst (λ h. faults ≡ (sync queues (reserved_by h before)).faults) is
             ends.faults_are;
       }
@@ -170,6 +170,6 @@ ends may leave systems workers before world closed after got queues seen births 
       frame = subst (λ w. IsFrame may systems w before queues.items r.0) count
           (subst (λ b. IsFrame may systems world.shared.count b queues.items r.0) same frame);
       world = ok ∙ (λ i. (sync (shown i) (is i)).world);
-      births_are = born_are ∙ ap (λ w. born w.allocator) is;
+      born_are = born_are ∙ ap (λ w. born w.allocator) is;
       faults_are = faults_are ∙ (λ i. (sync (shown i) (is i)).faults);
     }

@@ -31,7 +31,8 @@ use Rattle.ent_runner.specs.declared.worker.Worker.{Worker}
 use Rattle.ent_runner.specs.Frame.{IsFrame, IsBrokenOff, SystemMayIssue, SystemMayHaveIssued}
 use Rattle.ent_runner.specs.Frame.{view_of, reserved_by}
 use Rattle.ent_runner.specs.Worker.{HasWorked, HaveWorked, HaveRunFirst, HasClaimed, IsUnused}
-use Rattle.ent_runner.specs.Worker.{IsRoomForOne, IsFresh, systems_of, commands_issued, all_records}
+use Rattle.ent_runner.specs.Worker.{IsRoomForOne, IsNewWorker, systems_of, commands_issued}
+use Rattle.ent_runner.specs.Worker.{all_records}
 use Rattle.ent_runner.specs.Collecting.{queues_put}
 use Rattle.ent_runner.proofs.Lists.{all_from_each, each_of_all, mapped_at, same_flat}
 use Rattle.ent_runner.proofs.BySystem.{length_put}
@@ -321,7 +322,8 @@ pub all_ready : (shared : Shared) (claims : Claims) (old : List Worker) (given :
     → map (λ (w : Worker). w.claimer) old ≡ reverse fresh → All (IsClaimerOf claims) fresh
     → All IsUnused fresh
     → All (λ (w : Worker). IsRoomForOne w.issued) old
-    → All (λ (w : Worker). IsOf shared w.reserver × IsClaimerOf claims w.claimer × IsFresh w) old
+    → All
+    (λ (w : Worker). IsOf shared w.reserver × IsClaimerOf claims w.claimer × IsNewWorker w) old
 all_ready shared claims old given fresh reservers own claimers theirs unused empty =
     let one : All (λ (w : Worker). IsOf shared w.reserver) old = unmapped (IsOf shared)
     (λ (w : Worker). w.reserver) old (subst (All (IsOf shared)) (sym reservers) own) in

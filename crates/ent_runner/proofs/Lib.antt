@@ -3,6 +3,9 @@ pub mod Lists
 pub mod Framed
 pub mod Lost
 pub mod Alone
+pub mod GoingOn
+pub mod ListedOnce
+pub mod ListedBirths
 pub mod Conducting
 pub mod Running
 pub mod Disbanding

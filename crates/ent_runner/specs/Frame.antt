@@ -14,7 +14,8 @@ use Rattle.ent_queue.specs.Command.{Command}
 use Rattle.ent_queue.specs.Reserving.{stands_for, FitCredit}
 use Rattle.ent_world.specs.World.{World}
 use Rattle.ent_world.specs.OpenWorld.{View}
-use Rattle.ent_world.specs.Sync.{sync, sync_until, IsStop}
+use Rattle.ent_world.specs.Sync.{sync, IsStop, IfStopped}
+use Rattle.ent_world.specs.Rest.{HasStoppedSo}
 use Rattle.ent_world.specs.declared.fault.Fault.{Fault}
 use Rattle.ent_world.specs.declared.fault.SyncFault.{SyncFault}
 use Rattle.ent_world.specs.declared.fault.SyncFault.TheVariants as stop
@@ -112,19 +113,18 @@ pub record IsBrokenOff {S : Type 0} (may leave : S → View → List Command →
 pub record IsHalf (queues : List (List Command)) (before : World) (system command done : ℕ)
     (so_far : SyncReport) (after : World) : Type 0 where
   pub stop : IsStop system command done queues
-  pub world : after ≡ (sync_until system command done queues before).world
-  pub births_are : so_far.born.items ≡ born before.allocator
-  pub faults_are : so_far.faults.items ≡ (sync_until system command done queues before).faults
+  pub so : HasStoppedSo system command done queues before after so_far.faults.items
+  pub born_are : so_far.born.items ≡ born before.allocator
 
 -- The frame ends with this world and this report.
 pub record Ends {S : Type 0} (may : S → View → List Command → Type 0) (systems : List S)
     (workers : ℕ) (before : World) (queues : List (List Command)) (after : World)
-    (births : List Handle) (faults : List Fault) : Type 0 where
+    (came : List Handle) (faults : List Fault) : Type 0 where
   -- all reservations of the workers, in one order
   pub history : List Call
   pub frame : IsFrame may systems workers before queues history
   pub world : after ≡ (sync queues (reserved_by history before)).world
-  pub births_are : births ≡ born (after_history before.allocator history)
+  pub born_are : came ≡ born (after_history before.allocator history)
   pub faults_are : faults ≡ (sync queues (reserved_by history before)).faults
 
 -- a reservation of the first worker
@@ -138,10 +138,10 @@ calls_in_order queues = map first_call (flat_map stands_for (flat_map (λ queue.
 -- With one worker the reservations stand in the order of the systems. So what the frame ends with
 -- follows from the queues.
 pub record EndsInOrder (before : World) (queues : List (List Command)) (after : World)
-    (births : List Handle) (faults : List Fault) : Type 0 where
+    (came : List Handle) (faults : List Fault) : Type 0 where
   pub legal : IsLegal before.allocator (calls_in_order queues)
   pub world : after ≡ (sync queues (reserved_by (calls_in_order queues) before)).world
-  pub births_are : births ≡ born (after_history before.allocator (calls_in_order queues))
+  pub born_are : came ≡ born (after_history before.allocator (calls_in_order queues))
   pub faults_are : faults ≡ (sync queues (reserved_by (calls_in_order queues) before)).faults
 
 -- The world as it was, but that handles were requested from its allocator. All that there was to
@@ -175,3 +175,10 @@ IfSyncStopped (Ok x) P = Unit {0}
 IfSyncStopped (Err frame.Memory) P = Unit {0}
 IfSyncStopped (Err frame.Lost) P = Unit {0}
 IfSyncStopped (Err (frame.Sync fault queues)) P = P fault queues.items
+
+-- what holds of one whose sync point stopped at a command
+abbrev pub IfStoppedAt : {X : Type 0} → Result X FrameFault
+    → (ℕ → ℕ → ℕ → SyncReport → List (List Command) → Type 0) → Type 0
+IfStoppedAt {X} result P = IfSyncStopped result (λ fault queues.
+    IfStopped {X = X} (Err fault) (λ system command done so_far.
+    P system command done so_far queues))

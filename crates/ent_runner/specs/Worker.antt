@@ -59,7 +59,7 @@ pub record IsRoomForOne (list : Vec SystemQueue Global) : Type 0 where
   pub one : 0 < vec_capacity list
 
 -- It has claimed and issued nothing yet, and has room for the queue of its first system.
-pub record IsFresh (w : Worker) : Type 0 where
+pub record IsNewWorker (w : Worker) : Type 0 where
   pub unused : IsUnused w.claimer
   pub issued : IsRoomForOne w.issued
 

@@ -11,10 +11,11 @@ ghost use Rattle.ent_claims.specs.Claims.{IsClaimerOf};
 ghost use Rattle.ent_shared.specs.Record.{opened_records};
 ghost use Rattle.ent_runner.specs.Frame.{IsFrame, Ends, EndsInOrder, IsBrokenOff, IsLost, StopsAt};
 ghost use Rattle.ent_world.specs.OpenWorld.{world_at_start};
-ghost use Rattle.ent_runner.specs.Frame.{IfSyncStopped, reserved_by};
+ghost use Rattle.ent_runner.specs.Frame.{IfSyncStopped, IfStoppedAt, reserved_by};
+ghost use Rattle.ent_world.specs.Sync.{IsStop};
 ghost use Rattle.ent_runner.specs.Collecting.{queues_put};
-ghost use Rattle.ent_runner.specs.Worker.{IsRoomFor, HasReturns, HasClaimed, HaveWorked, IsFresh};
-ghost use Rattle.ent_runner.specs.Worker.{HaveRunFirst, systems_of, all_records};
+ghost use Rattle.ent_runner.specs.Worker.{IsRoomFor, HasReturns, HasClaimed, HaveWorked};
+ghost use Rattle.ent_runner.specs.Worker.{IsNewWorker, HaveRunFirst, systems_of, all_records};
 
 use crate::collecting::collect;
 use crate::crew::{Returned, Room, disband, recruit, some_stopped};
@@ -45,7 +46,9 @@ use std::thread::Threads;
 ///   applied. What the systems that ran had reserved stays reserved, and nothing else is:
 ///   [`World::flush`] brings it to life.
 /// - [`FrameFault::Sync`] if all systems ran and the sync point stopped. Unless memory was refused
-///   for the flush, the world is flushed.
+///   for the flush, the world is flushed, and [`World::apply_from`] goes on with these queues
+///   where it stopped. It then ends as this frame would have. After a refused flush
+///   [`World::apply`] does the same.
 pub fn run_frame<R, S, G>(
     rt: &R,
     alloc: Global,
@@ -76,6 +79,11 @@ where
         StopsAt S.may_issue systems.now workers world.old queues world.new fault) }
     ensures stopped_flushed { IfSyncStopped result (λ fault _.
         fault ≢ SyncFault.FlushMemory → world.new.allocator.asked ≡ 0) }
+
+    // What `World::apply_from` requires of who goes on after a stop at a command.
+    ensures stop { IfStoppedAt result (λ system command done _ queues.
+        IsStop system command done queues) }
+    ensures stop_flushed { IfStoppedAt result (λ _ _ _ _ _. world.new.allocator.asked ≡ 0) }
 {
     let Ok(room) = Room::new(alloc, systems.len(), workers) else {
         return Err(FrameFault::Memory);
@@ -158,7 +166,7 @@ where
     requires some { 0 < opened.now.shared.count }
     requires count { length workers.old.items ≡ opened.now.shared.count }
     requires ready { All (λ w. IsOf opened.now.shared w.reserver
-        × IsClaimerOf claims.now w.claimer × IsFresh w) workers.old.items }
+        × IsClaimerOf claims.now w.claimer × IsNewWorker w) workers.old.items }
     requires unused { map (λ w. w.reserver.own) workers.old.items
         ≡ opened_records opened.now.shared.start 0 opened.now.shared.count }
     ensures { HaveWorked S.may_issue S.may_leave systems.now opened.now claims.now

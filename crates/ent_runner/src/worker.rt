@@ -5,7 +5,7 @@ ghost use Rattle.ent_shared.specs.Phase.{IsOf};
 ghost use Rattle.ent_queue.specs.Reserving.{Gains};
 ghost use Rattle.ent_claims.specs.Claims.{IsClaimerOf};
 ghost use Rattle.ent_runner.specs.Frame.{SystemMayIssue};
-ghost use Rattle.ent_runner.specs.Worker.{HasRun, HasRunSome, IsFresh, HasWorked};
+ghost use Rattle.ent_runner.specs.Worker.{HasRun, HasRunSome, IsNewWorker, HasWorked};
 
 use crate::gate::Gate;
 use crate::system::System;
@@ -73,7 +73,7 @@ impl Worker {
         requires systems { stage.now.claims.now.numbers ≡ length stage.now.systems.now }
         requires reserver { IsOf stage.now.shared.now self.old.reserver }
         requires claimer { IsClaimerOf stage.now.claims.now self.old.claimer }
-        requires fresh { IsFresh self.old }
+        requires fresh { IsNewWorker self.old }
         ensures reserver { IsOf stage.now.shared.now self.new.reserver }
         ensures claimer { IsClaimerOf stage.now.claims.now self.new.claimer }
         ensures inside { All (λ i. i.system < length stage.now.systems.now) self.new.issued.items }
@@ -101,7 +101,7 @@ impl Worker {
         requires systems { stage.now.claims.now.numbers ≡ length stage.now.systems.now }
         requires reserver { IsOf stage.now.shared.now self.old.reserver }
         requires claimer { IsClaimerOf stage.now.claims.now self.old.claimer }
-        requires fresh { IsFresh self.old }
+        requires fresh { IsNewWorker self.old }
         ensures { HasWorked S.may_issue S.may_leave stage.now.shared.now stage.now.claims.now
             stage.now.systems.now stage.now.view self.old.reserver.own self.new }
     {
@@ -118,7 +118,7 @@ where
     requires systems { stage.now.claims.now.numbers ≡ length stage.now.systems.now }
     requires some { 0 < length workers.old }
     requires ready { All (λ w. IsOf stage.now.shared.now w.reserver
-        × IsClaimerOf stage.now.claims.now w.claimer × IsFresh w) workers.old }
+        × IsClaimerOf stage.now.claims.now w.claimer × IsNewWorker w) workers.old }
     ensures count { length workers.new ≡ length workers.old }
     ensures each { (k : ℕ) (d : _) → k < length workers.old
         → HasWorked S.may_issue S.may_leave stage.now.shared.now stage.now.claims.now

@@ -3,7 +3,7 @@ ghost use Rattle.std.specs.Prelude.{List};
 ghost use Rattle.ent_queue.specs.Commands.{IsReady, Extends};
 
 use crate::counts::Counts;
-use crate::meeting::Meeting;
+use crate::rendezvous::Rendezvous;
 use ent_handle::{ComponentId, Handle, Memory};
 use ent_queue::{Bundle, Commands, QueueFault};
 use ent_runner::System;
@@ -23,6 +23,8 @@ pub enum Act {
     Spawn(i64),
     /// Spawns so many entities, each with its ordinal as `HP`.
     SpawnEach(u32),
+    /// Spawns so many entities at once, each with this `HP`.
+    SpawnMany(u32, i64),
     /// Spawns one entity with this `HP`, also if memory is refused to it once.
     SpawnSurely(i64),
     /// Spawns one entity with this `HP`, and then returns that memory was refused.
@@ -48,6 +50,7 @@ impl System for Act {
             Act::Nothing => Ok(()),
             Act::Spawn(value) => spawn(alloc, commands, *value),
             Act::SpawnEach(count) => spawn_each(alloc, commands, *count),
+            Act::SpawnMany(count, value) => spawn_many(alloc, commands, *count, *value),
             Act::SpawnSurely(value) => spawn_surely(alloc, commands, *value),
             Act::SpawnAndStop(value) => {
                 spawn(alloc, commands, *value)?;
@@ -63,7 +66,7 @@ impl System for Act {
 /// A system that spawns one entity, whose `HP` is how many systems the gate was told of.
 #[derive(Clone, Copy)]
 pub struct Count<'a> {
-    pub gate: &'a Meeting,
+    pub gate: &'a Rendezvous,
 }
 
 impl System for Count<'_> {
@@ -138,6 +141,22 @@ fn spawn(alloc: Global, commands: &mut Commands<'_>, value: i64) -> Result<(), M
 {
     let bundle = one(alloc, HP, value)?;
     match commands.spawn(bundle) {
+        Err(QueueFault::Memory) => Err(Memory),
+        _ => Ok(()),
+    }
+}
+
+fn spawn_many(
+    alloc: Global,
+    commands: &mut Commands<'_>,
+    count: u32,
+    value: i64,
+) -> Result<(), Memory>
+    requires { IsReady commands.old }
+    ensures { Extends commands.old commands.new }
+{
+    let bundle = one(alloc, HP, value)?;
+    match commands.spawn_many(count, bundle) {
         Err(QueueFault::Memory) => Err(Memory),
         _ => Ok(()),
     }

@@ -2,7 +2,7 @@
 //! fails. If the workers do not claim the systems one by one, the second fails.
 use crate::acts::{Act, Count};
 use crate::frames::frame;
-use crate::meeting::Meeting;
+use crate::rendezvous::Rendezvous;
 use crate::shown::{births, commands, text};
 use ent_alloc::Limits;
 use ent_world::World;
@@ -13,7 +13,7 @@ use std::thread::Threads;
 const NUMBERS: u32 = 40;
 
 /// How many of the systems that wait at the gate saw all others, in a frame of that many workers.
-fn saw_all<R>(rt: &R, alloc: Global, systems: &[Act], workers: usize, gate: &Meeting) -> u32
+fn saw_all<R>(rt: &R, alloc: Global, systems: &[Act], workers: usize, gate: &Rendezvous) -> u32
 where
     R: Threads + Sync + Abort,
 {
@@ -27,9 +27,9 @@ where
 fn workers_overlap(rt: HostRuntime) {
     let alloc = rt.alloc();
     let two = [Act::Spawn(0), Act::Spawn(1)];
-    assert_eq!(rt; saw_all(&rt, alloc, &two, 2, &Meeting::new(2, 2)), 2);
+    assert_eq!(rt; saw_all(&rt, alloc, &two, 2, &Rendezvous::new(2, 2)), 2);
     let four = [Act::Spawn(0), Act::Spawn(1), Act::Spawn(2), Act::Spawn(3)];
-    assert_eq!(rt; saw_all(&rt, alloc, &four, 4, &Meeting::new(4, 4)), 4);
+    assert_eq!(rt; saw_all(&rt, alloc, &four, 4, &Rendezvous::new(4, 4)), 4);
 }
 
 /// While one worker is busy with the first system, the other one takes all the rest.
@@ -37,7 +37,7 @@ fn workers_overlap(rt: HostRuntime) {
 fn a_busy_worker_leaves_systems_to_others(rt: HostRuntime) {
     let alloc = rt.alloc();
     let four = [Act::Spawn(0), Act::Spawn(1), Act::Spawn(2), Act::Spawn(3)];
-    assert_eq!(rt; saw_all(&rt, alloc, &four, 2, &Meeting::new(4, 1)), 1);
+    assert_eq!(rt; saw_all(&rt, alloc, &four, 2, &Rendezvous::new(4, 1)), 1);
 }
 
 /// The first system ends last, and its queue is the first all the same.
@@ -51,7 +51,7 @@ fn queues_stand_in_the_order_of_the_systems(rt: HostRuntime) {
             .expect(&rt, "memory for the systems");
     }
     let mut world = World::new(alloc, Limits::default_limits());
-    let gate = Meeting::new(NUMBERS, 1);
+    let gate = Rendezvous::new(NUMBERS, 1);
     let report = frame(&rt, alloc, &mut world, &systems, 4, &gate);
     assert_eq!(rt; gate.saw_all(), 1);
     assert_eq!(rt; (report.queues.len(), world.len()), (40, 40));
@@ -71,7 +71,7 @@ fn queues_stand_in_the_order_of_the_systems(rt: HostRuntime) {
 #[test]
 fn the_gate_is_told_before_a_system_runs(rt: HostRuntime) {
     let alloc = rt.alloc();
-    let gate = Meeting::new(3, 0);
+    let gate = Rendezvous::new(3, 0);
     let systems = [
         Count { gate: &gate },
         Count { gate: &gate },

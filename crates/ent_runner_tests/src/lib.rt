@@ -13,13 +13,15 @@ mod entered;
 #[cfg(test)]
 mod frames;
 #[cfg(test)]
+mod going_on;
+#[cfg(test)]
 mod leaks;
 #[cfg(test)]
 mod limits;
 #[cfg(test)]
-mod meeting;
-#[cfg(test)]
 mod memory;
+#[cfg(test)]
+mod rendezvous;
 #[cfg(test)]
 mod shown;
 #[cfg(test)]

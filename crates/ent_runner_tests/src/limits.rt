@@ -1,7 +1,7 @@
 //! Frames of as many systems, workers and commands as there may be.
 use crate::acts::{Act, HP};
 use crate::frames::frame;
-use crate::meeting::Meeting;
+use crate::rendezvous::Rendezvous;
 use ent_alloc::Limits;
 use ent_handle::Birth;
 use ent_runner::NoGate;
@@ -79,7 +79,7 @@ where
     R: Threads + Sync + Abort,
 {
     let (before, number) = (world.len(), world.phase());
-    let gate = Meeting::new(workers, 64);
+    let gate = Rendezvous::new(workers, 64);
     let _report = frame(rt, alloc, world, acts, acts.len(), &gate);
     assert_eq!(rt; gate.saw_all(), workers);
     assert_eq!(rt; world.len(), before.saturating_add(acts.len()));

@@ -3,7 +3,7 @@
 use crate::acts::{Act, all_counted};
 use crate::counts::Counts;
 use crate::frames::{frame, tried};
-use crate::shown::births;
+use crate::shown::{births, commands};
 use ent_alloc::Limits;
 use ent_queue::CommandQueue;
 use ent_runner::{FrameFault, FrameReport, NoGate};
@@ -13,6 +13,9 @@ use std::process::Abort;
 use std::thread::Threads;
 
 const SYSTEMS: [Act; 2] = [Act::Spawn(5), Act::Spawn(7)];
+
+/// The queues of these systems.
+const QUEUES: &str = "spawn 0=5\nspawn 0=7\n";
 
 /// The world after a frame of these systems.
 const AFTER: &str = "0.0.0 0=5\n0.1.0 0=7\n";
@@ -36,7 +39,7 @@ where
             goes_on_after_loss(rt, alloc, &mut world, workers);
         }
         Err(FrameFault::Sync { fault, queues }) => {
-            assert!(rt; queues.len() == 2 && queues.iter().all(|queue| queue.len() == 1));
+            assert_eq!(rt; commands(rt, alloc, &queues).as_str(), QUEUES);
             goes_on_after_stop(rt, alloc, &mut world, &fault, &queues);
         }
     }

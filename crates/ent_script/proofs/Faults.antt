@@ -40,3 +40,15 @@ pub passes_to_list : {A B : Type 0} (e : ReadFault) (result : Result (Vec A) Rea
 passes_to_list {A} e result part whole is h follows =
     subst (λ (r : Result (Vec A) ReadFault). ReadsList r whole) (sym is)
     (as_list e part whole h follows)
+
+-- the same of a list that lies in a vector
+pub passes_from_list : {A B : Type 0} (e : ReadFault) (part : Result (List A) ReadFault)
+    (whole : Result B ReadFault)
+    → ReadsList {A = A} (Err e) part → (part ≡ Err e → whole ≡ Err e) → ReadsAs {A = B} (Err e)
+    whole
+passes_from_list Json part whole h follows = follows h
+passes_from_list (Script c) part whole h follows = follows h
+passes_from_list (Frame f) part whole h follows = follows h
+passes_from_list (System f s) part whole h follows = follows h
+passes_from_list (Operation f s o c) part whole h follows = follows h
+passes_from_list Memory part whole h follows = tt

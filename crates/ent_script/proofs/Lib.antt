@@ -5,6 +5,14 @@ pub mod Faults
 pub mod Keys
 pub mod Numbering
 pub mod Texts
+pub mod Turns
+pub mod Stepping
+pub mod Cuts
+pub mod Finding
+pub mod CutMeanings
+pub mod Listing
+pub mod Puts
+pub mod Whole
 pub mod PartRanges
 pub mod Ranges
 pub mod WorkedScripts

@@ -51,7 +51,7 @@ onto_none (Err e) = refl
 abbrev ok : (A E : Type 0) → List A → Result (List A) E
 ok A E xs = Ok xs
 
-onto_one : {A E : Type 0} (front : List A) (x : A) (read : Result (List A) E)
+pub onto_one : {A E : Type 0} (front : List A) (x : A) (read : Result (List A) E)
     → onto front (read >>= λ xs. Ok (x ∷ xs)) ≡ onto (front ++ x ∷ []) read
 onto_one {A} {E} front x (Ok xs) = ap (ok A E) (sym (append_assoc front (x ∷ []) xs))
 onto_one front x (Err e) = refl

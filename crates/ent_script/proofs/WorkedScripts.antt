@@ -59,8 +59,10 @@ no_frames = refl
 -- a frame of one system, and a frame of two; the second one begins with no name
 two_frames : script_of_text
     (codes "{\"components\":[\"hp\",\"mp\"],\"frames\":["
-    ++ codes "[[{\"spawn_many\":2,\"with\":{\"hp\":1},\"as\":\"g\"},{\"insert\":{\"mp\":4},\"on\":{\"name\":\"g\"}}]],"
-    ++ codes "[[{\"remove\":\"hp\",\"on\":{\"each\":\"hp\"}}],[{\"insert\":{\"hp\":8},\"on\":{\"each\":\"mp\"}}]]]}")
+    ++ codes
+    "[[{\"spawn_many\":2,\"with\":{\"hp\":1},\"as\":\"g\"},{\"insert\":{\"mp\":4},\"on\":{\"name\":\"g\"}}]],"
+    ++ codes
+    "[[{\"remove\":\"hp\",\"on\":{\"each\":\"hp\"}}],[{\"insert\":{\"hp\":8},\"on\":{\"each\":\"mp\"}}]]]}")
     ≡ Ok (record {
       limits = default_limits;
       components = hp_mp;
@@ -95,7 +97,8 @@ bundle_by_number = refl
 
 -- names are numbered by their first `as`, and one that is bound again keeps its number
 names_numbered : script_of_text
-    (codes "{\"components\":[],\"frames\":[[[{\"spawn\":{},\"as\":\"b\"},{\"spawn\":{},\"as\":\"a\"},{\"spawn_many\":0,\"as\":\"b\"},{\"despawn\":{\"name\":\"a\"}}]]]}")
+    (codes
+    "{\"components\":[],\"frames\":[[[{\"spawn\":{},\"as\":\"b\"},{\"spawn\":{},\"as\":\"a\"},{\"spawn_many\":0,\"as\":\"b\"},{\"despawn\":{\"name\":\"a\"}}]]]}")
     ≡ one_system [] (operation.Spawn [] (Some 0) ∷ operation.Spawn [] (Some 1)
     ∷ operation.SpawnMany 0 [] (Some 0) ∷ operation.Despawn (target.Name 1) ∷ [])
 unfolding script_on_literals

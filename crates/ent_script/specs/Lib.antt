@@ -5,3 +5,6 @@ pub mod Reading
 pub mod Refusal
 pub mod Numbers
 pub mod Ranges
+pub mod Passing
+pub mod Cut
+pub mod Streaming

@@ -1,13 +1,18 @@
-ghost use Rattle.std.specs.Prelude.{◌≡◌, ◌≤◌, length, map, OnOk};
+ghost use Rattle.std.specs.Prelude.{◌≡◌, ℕ, ◌<◌, ◌≤◌, List, length, map, Some, OnOk};
+ghost use Rattle.json.specs.Json.{value, items};
+ghost use Rattle.json.specs.Token.{Token as SpecToken};
+ghost use Rattle.serde_json.specs.Data.{Data, Items, array};
+ghost use Rattle.serde_json.specs.Read.{of_json, of_items, converted};
 ghost use Rattle.serde_json.specs.View.{view};
 ghost use Rattle.ent_script.specs.Names.{with_part};
 ghost use Rattle.ent_script.specs.Reading.{of_kind, operation_of, bound_name, at_operation};
 ghost use Rattle.ent_script.specs.Reading.{operation_at, system_of, frame_of, numbered};
-ghost use Rattle.ent_script.specs.Reading.{ReadsPart, ReadsAs, ReadsList};
+ghost use Rattle.ent_script.specs.Reading.{ReadsPart, ReadsAs};
+ghost use Rattle.ent_script.specs.Streaming.{Streams, StreamsList, frames_of};
 
 use crate::at::At;
-use crate::cause::Cause;
-use crate::elements::{at_most, name};
+use crate::cause::{Cause, ScriptCause};
+use crate::elements::name;
 use crate::frame::Frame;
 use crate::kind::{Kind, kind_of};
 use crate::names::Names;
@@ -15,8 +20,10 @@ use crate::operation::Operation;
 use crate::part_fault::PartFault;
 use crate::parts::{binding, bundle, bundle_or_none, count, removed, target};
 use crate::read_fault::ReadFault;
+use crate::streaming::{begins_array, fault_of_array, read_elements};
 use crate::system::System;
 use ent_handle::Memory;
+use json::Reader;
 use serde_json::Value;
 use std::alloc::Global;
 
@@ -129,7 +136,7 @@ fn operations(
         (operation_at components.now frame system (map view values.now)) 0 (map view values.now)) }
 {
     let mut bound = Names::new(alloc);
-    let mut operations = Vec::new(alloc);
+    let mut operations = Vec::with_capacity(alloc, values.len())?;
     for (number, value) in values.iter().enumerate() {
         let at = At {
             frame,
@@ -143,71 +150,135 @@ fn operations(
     Ok(System::new(operations))
 }
 
+/// The system that comes next.
 #[tactic(auto, unfolding(crate::specs::Reading::system_of))]
 fn system(
     alloc: Global,
     components: &Names<'_>,
     frame: usize,
     number: usize,
-    value: &Value,
+    reader: &mut Reader<'_>,
+    depth: usize,
 ) -> Result<System, ReadFault>
     requires { length components.now ≤ 256 }
-    ensures { ReadsAs result (system_of components.now frame number (view value.now)) }
+    ensures value { (d : Data) (rest : List SpecToken)
+        → converted of_json (value depth reader.old) ≡ Some (d, rest)
+        → Streams result reader.new (system_of components.now frame number d) rest }
+    ensures shorter { OnOk result (length reader.new < length reader.old) }
+    ensures no_longer { length reader.new ≤ length reader.old }
 {
-    let Some(values) = at_most(value, 10_000) else {
+    let Some(values) = read_elements(alloc, reader, depth, 2, 10_000)? else {
         return Err(ReadFault::System {
             frame,
             system: number,
         });
     };
-    operations(alloc, components, frame, number, values)
+    operations(alloc, components, frame, number, &values)
 }
 
+/// The systems of a frame, of which the bracket was taken.
 fn systems(
     alloc: Global,
     components: &Names<'_>,
     frame: usize,
-    values: &[Value],
+    reader: &mut Reader<'_>,
+    depth: usize,
 ) -> Result<Frame, ReadFault>
     requires { length components.now ≤ 256 }
-    ensures { ReadsAs result
-        (numbered (system_of components.now frame) 0 (map view values.now)) }
+    ensures value { (n : ℕ) (ds : Items) (rest : List SpecToken)
+        → converted of_items (items (value depth) n reader.old) ≡ Some (ds, rest)
+        → Streams result reader.new (frame_of components.now frame (array ds)) rest }
+    ensures shorter { OnOk result (length reader.new ≤ length reader.old) }
+    ensures no_longer { length reader.new ≤ length reader.old }
 {
+    let limit = ReadFault::Frame { frame };
     let mut systems = Vec::new(alloc);
-    for (number, value) in values.iter().enumerate() {
-        systems.push(system(alloc, components, frame, number, value)?)?;
+    let mut number = 0;
+    'systems: while !reader.take_end_array() {
+        if number == 256 {
+            return Err(fault_of_array(reader, depth, 0, limit, limit));
+        }
+        match system(alloc, components, frame, number, reader, depth) {
+            Ok(system) => systems.push(system)?,
+            Err(fault) => {
+                return Err(fault_of_array(reader, depth, 255 - number, fault, limit));
+            }
+        }
+        number += 1;
     }
     Ok(Frame::new(systems))
 }
 
+/// The frame that comes next.
 #[tactic(auto, unfolding(crate::specs::Reading::frame_of))]
 fn frame(
     alloc: Global,
     components: &Names<'_>,
     number: usize,
-    value: &Value,
+    reader: &mut Reader<'_>,
+    depth: usize,
 ) -> Result<Frame, ReadFault>
     requires { length components.now ≤ 256 }
-    ensures { ReadsAs result (frame_of components.now number (view value.now)) }
+    ensures value { (d : Data) (rest : List SpecToken)
+        → converted of_json (value depth reader.old) ≡ Some (d, rest)
+        → Streams result reader.new (frame_of components.now number d) rest }
+    ensures shorter { OnOk result (length reader.new < length reader.old) }
+    ensures no_longer { length reader.new ≤ length reader.old }
 {
-    let Some(values) = at_most(value, 256) else {
+    if !begins_array(reader, depth)? {
         return Err(ReadFault::Frame { frame: number });
-    };
-    systems(alloc, components, number, values)
+    }
+    systems(alloc, components, number, reader, depth - 1)
+}
+
+/// The frames of a script with these components, of which the bracket was taken.
+fn frames_inside(
+    alloc: Global,
+    components: &Names<'_>,
+    reader: &mut Reader<'_>,
+    depth: usize,
+) -> Result<Vec<Frame>, ReadFault>
+    requires { length components.now ≤ 256 }
+    ensures value { (n : ℕ) (ds : Items) (rest : List SpecToken)
+        → converted of_items (items (value depth) n reader.old) ≡ Some (ds, rest)
+        → StreamsList result reader.new (frames_of components.now (Some (array ds))) rest }
+    ensures shorter { OnOk result (length reader.new ≤ length reader.old) }
+    ensures no_longer { length reader.new ≤ length reader.old }
+{
+    let limit = ReadFault::Script(ScriptCause::Frames);
+    let mut frames = Vec::new(alloc);
+    let mut number = 0;
+    'frames: while !reader.take_end_array() {
+        if number == 1_000 {
+            return Err(fault_of_array(reader, depth, 0, limit, limit));
+        }
+        match frame(alloc, components, number, reader, depth) {
+            Ok(frame) => frames.push(frame)?,
+            Err(fault) => {
+                return Err(fault_of_array(reader, depth, 999 - number, fault, limit));
+            }
+        }
+        number += 1;
+    }
+    Ok(frames)
 }
 
 /// The frames of a script with these components.
 pub(crate) fn frames(
     alloc: Global,
     components: &Names<'_>,
-    values: &[Value],
+    reader: &mut Reader<'_>,
+    depth: usize,
 ) -> Result<Vec<Frame>, ReadFault>
     requires { length components.now ≤ 256 }
-    ensures { ReadsList result (numbered (frame_of components.now) 0 (map view values.now)) }
+    ensures value { (d : Data) (rest : List SpecToken)
+        → converted of_json (value depth reader.old) ≡ Some (d, rest)
+        → StreamsList result reader.new (frames_of components.now (Some d)) rest }
+    ensures shorter { OnOk result (length reader.new < length reader.old) }
+    ensures no_longer { length reader.new ≤ length reader.old }
 {
-    let mut frames = Vec::new(alloc);
-    for (number, value) in values.iter().enumerate() {
-        frames.push(frame(alloc, components, number, value)?)?;
+    if !begins_array(reader, depth)? {
+        return Err(ReadFault::Script(ScriptCause::Frames));
     }
-    Ok(frames)
+    frames_inside(alloc, components, reader, depth - 1)
 }

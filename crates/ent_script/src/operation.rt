@@ -2,7 +2,7 @@ use crate::bundle::Bundle;
 use crate::target::Target;
 use ent_handle::ComponentId;
 
-/// What a system does at one of its steps.
+/// One thing that a system does.
 ///
 /// A spawn may bind a name to what it got. The names of a system are numbered from 0, in the order
 /// of their first `as`.

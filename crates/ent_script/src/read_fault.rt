@@ -3,6 +3,7 @@ ghost use Rattle.ent_script.specs.declared.read_fault.ReadFault.TheVariants as f
 
 use crate::cause::{Cause, ScriptCause};
 use ent_handle::Memory;
+use json::Invalid;
 use std::alloc::{AllocError, AllocFailed};
 use thiserror::Error;
 
@@ -76,5 +77,13 @@ impl<T: Drop> From<AllocFailed<T>> for ReadFault {
 
     fn from(_refused: AllocFailed<T>) -> Self {
         ReadFault::Memory
+    }
+}
+
+impl From<Invalid> for ReadFault {
+    ghost from_gives = { λ _ fault. fault ≡ faults.Json };
+
+    fn from(_refused: Invalid) -> Self {
+        ReadFault::Json
     }
 }

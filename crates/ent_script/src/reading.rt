@@ -1,23 +1,38 @@
 ghost use Rattle.std.specs.Prelude.{◌≡◌, ◌≤◌, length, map, option_map, IfOk, IfErr};
-ghost use Rattle.std.specs.Prelude.{string_bytes};
+ghost use Rattle.std.specs.Prelude.{string_bytes, ◌∷◌, ℕ, List, Some, false, is_some, codes};
+ghost use Rattle.std.specs.Prelude.{option_and_then, IfSome};
+ghost use Rattle.std.specs.Bool.{MatchBool};
+ghost use Rattle.json.specs.Json.{value, members};
+ghost use Rattle.json.specs.Token.{Token as SpecToken, begin_object};
+ghost use Rattle.serde_json.specs.Data.{Data, Members, no_members};
+ghost use Rattle.serde_json.specs.Find.{get, get_member};
+ghost use Rattle.serde_json.specs.Read.{of_members, converted, read};
+ghost use Rattle.ent_script.specs.Json.{at_most};
+ghost use Rattle.ent_script.specs.Streaming.{begins_object, FindsElements, frames_of};
+ghost use Rattle.ent_script.specs.Streaming.{ran_out};
 ghost use Rattle.ent_script.specs.declared.read_fault.ReadFault.TheVariants.{Memory};
 ghost use Rattle.serde_json.specs.View.{view};
 ghost use Rattle.ent_script.specs.Json.{whole_within as whole_of};
 ghost use Rattle.ent_script.specs.Ranges.{IsScript};
-ghost use Rattle.ent_script.specs.Reading.{or_absent, new_name, component_at, component_names};
+ghost use Rattle.ent_script.specs.Reading.{or_absent, new_name, component_at};
 ghost use Rattle.ent_script.specs.Reading.{limits_of, numbered, in_script, script_of};
 ghost use Rattle.ent_script.specs.Reading.{script_of_text};
-ghost use Rattle.ent_script.specs.Reading.{ReadsAs};
+ghost use Rattle.ent_script.specs.Reading.{ReadsAs, ReadsList};
 
 use crate::cause::ScriptCause;
-use crate::elements::{are_keys_among, at_most, members, name, whole_within};
+use crate::cutting::read_cut;
+use crate::elements::{are_keys_among, members, name, whole_within};
+use crate::frame::Frame;
 use crate::frames::frames;
 use crate::names::Names;
+use crate::passing::pass_value;
 use crate::read_fault::ReadFault;
 use crate::script::Script;
+use crate::streaming::read_elements;
 use ent_alloc::Limits;
+use json::{Reader, Scratch, Token};
 use serde_json::Value;
-use std::alloc::Global;
+use std::alloc::{AllocError, Global};
 
 /// The whole number in this range that a part is, or this one if the part is absent.
 fn number_or(part: Option<&Value>, absent: u32, low: u32, high: u32) -> Option<u32>
@@ -75,18 +90,6 @@ fn different_names<'a>(alloc: Global, values: &'a [Value]) -> Result<Names<'a>, 
     Ok(names)
 }
 
-/// The names of the components.
-#[tactic(auto, unfolding(crate::specs::Reading::component_names))]
-fn components<'a>(alloc: Global, part: Option<&'a Value>) -> Result<Names<'a>, ReadFault>
-    ensures names { ReadsAs result (in_script (component_names
-        (option_map (λ v. view v.now) part.entry))) }
-    ensures few { IfOk result (λ names. length names ≤ 256) }
-{
-    let value = part.ok_or(ScriptCause::Components)?;
-    let values = at_most(value, 256).ok_or(ScriptCause::Components)?;
-    different_names(alloc, values)
-}
-
 /// The names as texts of their own.
 fn owned(alloc: Global, names: &[&str]) -> Result<Vec<String>, ReadFault>
     ensures ok { IfOk result (λ texts. map string_bytes texts.items
@@ -100,54 +103,162 @@ fn owned(alloc: Global, names: &[&str]) -> Result<Vec<String>, ReadFault>
     Ok(texts)
 }
 
-#[tactic(auto, unfolding(crate::specs::Reading::script_of))]
-fn script_at(alloc: Global, value: &Value) -> Result<Script, ReadFault>
-    ensures { ReadsAs result (script_of (view value.now)) }
+/// How deep arrays and objects nest at most.
+const DEPTH: usize = 127;
+
+/// The limits that a text means, if it is JSON.
+fn limits_in(alloc: Global, text: &str, scratch: &mut Scratch) -> Result<Limits, ReadFault>
+    ensures { (d : Data) → read text.now ≡ Some d → ReadsAs result (in_script (limits_of d)) }
 {
-    let limits = limits(value)?;
-    let components = components(alloc, value.get("components"))?;
-    let part = value.get("frames").ok_or(ScriptCause::Frames)?;
-    let values = at_most(part, 1_000).ok_or(ScriptCause::Frames)?;
-    let frames = frames(alloc, &components, values)?;
+    let mut reader = Reader::new(text, scratch)?;
+    let value = read_cut(alloc, &mut reader, DEPTH, 1)?;
+    Ok(limits(&value)?)
+}
+
+/// Takes the brace that begins an object, if one is next.
+fn opens(reader: &mut Reader<'_>) -> bool
+    ensures { MatchBool result (reader.old ≡ begin_object ∷ reader.new)
+        (begins_object reader.old ≡ false) }
+{
+    matches!(reader.next(), Some(Token::BeginObject))
+}
+
+/// The elements of `components`, each cut, of an object of which the brace was taken. Of a key that
+/// stands twice the last counts.
+fn components_inside(
+    alloc: Global,
+    reader: &mut Reader<'_>,
+    depth: usize,
+) -> Result<Option<Vec<Value>>, ReadFault>
+    ensures found { (n : ℕ) (ms : Members) (rest : List SpecToken)
+        → converted (λ ms. of_members ms no_members) (members (value depth) n reader.old)
+        ≡ Some (ms, rest)
+        → FindsElements result (option_and_then (at_most 256)
+        (get_member (codes "components") ms)) }
+    ensures few { IfOk result (λ found. IfSome found (λ values. length values.items ≤ 256)) }
+{
+    let mut found = None;
+    'members: while let Some(key) = reader.next_key()? {
+        if key == "components" {
+            found = None;
+            found = read_elements(alloc, reader, depth, 0, 256)?;
+        } else {
+            pass_value(reader, depth)?;
+        }
+    }
+    Ok(found)
+}
+
+/// The elements of the `components` of a text, each cut, if it is JSON.
+fn components_in(
+    alloc: Global,
+    text: &str,
+    scratch: &mut Scratch,
+) -> Result<Option<Vec<Value>>, ReadFault>
+    ensures found { (d : Data) → read text.now ≡ Some d
+        → FindsElements result (option_and_then (at_most 256) (get (codes "components") d)) }
+    ensures few { IfOk result (λ found. IfSome found (λ values. length values.items ≤ 256)) }
+{
+    let mut reader = Reader::new(text, scratch)?;
+    if !opens(&mut reader) {
+        return Ok(None);
+    }
+    components_inside(alloc, &mut reader, DEPTH - 1)
+}
+
+fn ran_out(read: &Result<Vec<Frame>, ReadFault>) -> bool
+    ensures { result ≡ ran_out read.now }
+{
+    matches!(read, Err(ReadFault::Memory))
+}
+
+/// The frames of an object of which the brace was taken. Of a key that stands twice the last
+/// counts.
+fn frames_inside(
+    alloc: Global,
+    components: &Names<'_>,
+    reader: &mut Reader<'_>,
+    depth: usize,
+) -> Result<Vec<Frame>, ReadFault>
+    requires { length components.now ≤ 256 }
+    ensures { (n : ℕ) (ms : Members) (rest : List SpecToken)
+        → converted (λ ms. of_members ms no_members) (members (value depth) n reader.old)
+        ≡ Some (ms, rest)
+        → ReadsList result (frames_of components.now (get_member (codes "frames") ms)) }
+{
+    let mut found = Err(ReadFault::Script(ScriptCause::Frames));
+    'members: while let Some(key) = reader.next_key()? {
+        if key == "frames" {
+            found = Err(ReadFault::Script(ScriptCause::Frames));
+            found = frames(alloc, components, reader, depth);
+            if ran_out(&found) {
+                return Err(ReadFault::Memory);
+            }
+        } else {
+            pass_value(reader, depth)?;
+        }
+    }
+    found
+}
+
+/// The frames of a text with these components, if it is JSON.
+fn frames_in(
+    alloc: Global,
+    components: &Names<'_>,
+    text: &str,
+    scratch: &mut Scratch,
+) -> Result<Vec<Frame>, ReadFault>
+    requires { length components.now ≤ 256 }
+    ensures { (d : Data) → read text.now ≡ Some d
+        → ReadsList result (frames_of components.now (get (codes "frames") d)) }
+{
+    let mut reader = Reader::new(text, scratch)?;
+    if !opens(&mut reader) {
+        return Err(ReadFault::Script(ScriptCause::Frames));
+    }
+    frames_inside(alloc, components, &mut reader, DEPTH - 1)
+}
+
+/// The script that a text means, if it is JSON.
+#[tactic(auto, unfolding(crate::specs::Reading::script_of))]
+fn script_in(alloc: Global, text: &str, scratch: &mut Scratch) -> Result<Script, ReadFault>
+    ensures { (d : Data) → read text.now ≡ Some d → ReadsAs result (script_of d) }
+{
+    let limits = limits_in(alloc, text, scratch)?;
+    let values = components_in(alloc, text, scratch)?.ok_or(ScriptCause::Components)?;
+    let components = different_names(alloc, &values)?;
+    let frames = frames_in(alloc, &components, text, scratch)?;
     let names = owned(alloc, components.as_slice())?;
     Ok(Script::new(limits, names, frames))
 }
 
-/// The script that a JSON value means.
-///
-/// It takes time linear in the value, but for look-ups of names in logarithmic time.
-///
-/// # Errors
-///
-/// `Script`, `Frame`, `System` or `Operation` with the first test that fails; `Memory` if memory
-/// ran out.
-pub fn script_of(alloc: Global, value: &Value) -> Result<Script, ReadFault>
-    ensures exact { ReadsAs result (script_of (view value.now)) }
-    ensures ranges { IfOk result IsScript }
+/// Whether `serde_json` reads a value from the text.
+fn is_json(text: &str, scratch: &mut Scratch) -> Result<bool, AllocError>
+    ensures { IfOk result (λ is. is ≡ is_some (read text.now)) }
 {
-    script_at(alloc, value)
+    let mut reader = Reader::new(text, scratch)?;
+    Ok(pass_value(&mut reader, DEPTH).is_ok() && reader.next().is_none())
 }
 
 /// The script that a JSON text means.
 ///
-/// It takes time linear in the text, but for look-ups of names in logarithmic time.
+/// It takes time linear in the text, but for look-ups of names in logarithmic time. The text is
+/// read more than once, and of its values no more than those of one system are kept at a time.
 ///
 /// # Errors
 ///
-/// `Json` if `serde_json` reads no value from the text; else what `script_of` says of the value.
-/// `Memory` if memory ran out.
+/// `Json` if `serde_json` reads no value from the text; `Script`, `Frame`, `System` or `Operation`
+/// with the first test that the value fails. `Memory` if memory ran out.
 pub fn read_script(alloc: Global, text: &[u8]) -> Result<Script, ReadFault>
     ensures exact { ReadsAs result (script_of_text text.now) }
     ensures ranges { IfOk result IsScript }
 {
-    match Value::from_slice(alloc, text) {
-        Ok(value) => script_of(alloc, &value),
-        Err(error) => {
-            if error.is_memory() {
-                Err(ReadFault::Memory)
-            } else {
-                Err(ReadFault::Json)
-            }
-        }
+    let Ok(checked) = simdutf8::basic::from_utf8(text) else {
+        return Err(ReadFault::Json);
+    };
+    let mut scratch = Scratch::new(alloc);
+    if !is_json(checked, &mut scratch)? {
+        return Err(ReadFault::Json);
     }
+    script_in(alloc, checked, &mut scratch)
 }

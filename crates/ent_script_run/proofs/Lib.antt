@@ -5,3 +5,4 @@ pub mod SmallWorlds
 pub mod WorkedWithoutSystems
 pub mod WorkedOnOneWorker
 pub mod WorkedOnTwoWorkers
+pub mod WorkedScriptsAlone

@@ -83,7 +83,7 @@ module _ (workers : ℕ) (show : Show) (first now after : World)
         text_is =
             ap (λ (p : List ℕ × (List Handle × List Fault)). p.0 ++ frame_text show (length frames)
             p.1.0 p.1.1)
-            (λ i. (run.text_is i, (ends.births_are i, ends.faults_are i)))
+            (λ i. (run.text_is i, (ends.born_are i, ends.faults_are i)))
             ∙ ap (λ (w : World). frames_text show 0 first run.executions
             ++ frame_text show (length frames) (born_in w e) (synced w e).faults) run.world_is
             ∙ ap (λ (n : ℕ). frames_text show 0 first run.executions

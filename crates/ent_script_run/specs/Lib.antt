@@ -1,3 +1,4 @@
 pub mod Report
 pub mod Given
 pub mod Course
+pub mod ScriptAlone

@@ -4,7 +4,7 @@ use Rattle.ent_handle.specs.Handle.{Handle}
 use Rattle.ent_alloc.specs.History.{Call, after_history}
 use Rattle.ent_alloc.specs.Sequential.{born}
 use Rattle.ent_queue.specs.Command.{Command}
-use Rattle.ent_world.specs.Command.{Applied}
+use Rattle.ent_world.specs.Effects.{Applied}
 use Rattle.ent_world.specs.Sync.{sync}
 use Rattle.ent_world.specs.World.{World, first_world}
 use Rattle.ent_runner.specs.Frame.{IsFrame, reserved_by}

@@ -2,10 +2,9 @@
 ghost use Rattle.std.specs.Prelude.{◌≡◌, ◌<◌, ◌≤◌, ℕ, List, IfOk};
 ghost use Rattle.ent_script.specs.Ranges.{IsScript};
 ghost use Rattle.ent_script_run.specs.Course.{AreFew, HaveGone};
-ghost use Rattle.ent_script_run.specs.Given.{NeverWraps, handles_in_run};
+ghost use Rattle.ent_script_run.specs.Given.{handles_in_run};
 ghost use Rattle.ent_alloc.specs.History.{AreGivenOnce};
 ghost use Rattle.ent_script_run.specs.Report.{Execution, IsReport, IsReportOf};
-ghost use Rattle.ent_world.specs.World.{first_world};
 
 use crate::frame;
 use ent_handle::Memory;
@@ -92,10 +91,9 @@ where
     ensures only { workers ≡ 1 → IfOk result (λ text. (other : List ℕ)
         → IsReport script.now workers show other → text.items ≡ other) }
 
-    // However the frames went.
+    // However the frames went, and whatever the limits are.
     ensures given_once { IfOk result (λ text. (executions : List Execution)
         → IsReportOf script.now workers show executions text.items
-        → NeverWraps (first_world script.now.limits) executions
         → AreGivenOnce (handles_in_run executions)) }
 {
     report(rt, alloc, script, workers, show)

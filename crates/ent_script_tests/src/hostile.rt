@@ -89,6 +89,50 @@ const TEXTS: [(&[u8], &[u8]); 13] = [
     ),
 ];
 
+// Of a key that stands twice the last value counts, at each level.
+const TWICE: [(&[u8], &[u8]); 8] = [
+    (
+        b"{\"slots\":0,\"components\":[],\"frames\":[],\"slots\":1}",
+        b"read\n",
+    ),
+    (
+        b"{\"frames\":[[[{}]]],\"components\":[],\"frames\":[]}",
+        b"read\n",
+    ),
+    (
+        b"{\"frames\":[],\"components\":[],\"frames\":[[],[[{}]]]}",
+        b"refused operation 1 0 0 shape\n",
+    ),
+    (
+        b"{\"frames\":[],\"components\":[\"a\",\"a\"],\"frames\":7,\"components\":[]}",
+        b"refused script frames\n",
+    ),
+    (
+        b"{\"components\":[],\"frames\":[[[{\"spawn\":7,\"spawn\":{}}]]]}",
+        b"read\n",
+    ),
+    (
+        b"{\"components\":[],\"frames\":[[[{\"spawn\":{},\"spawn\":7}]]]}",
+        b"refused operation 0 0 0 bundle\n",
+    ),
+    (
+        b"{\"components\":[\"hp\"],\"frames\":[[[{\"spawn\":{\"hp\":[],\"hp\":1}}]]]}",
+        b"read\n",
+    ),
+    (
+        b"{\"components\":[\"hp\"],\"frames\":[[[{\"despawn\":{\"each\":\"x\",\"each\":\"hp\"}}]]]}",
+        b"read\n",
+    ),
+];
+
+#[test]
+fn keys_that_stand_twice(rt: HostRuntime) -> Result<(), Fail> {
+    for (text, line) in TWICE {
+        assert!(rt; has_line(rt.alloc(), text, line)?, "at {text:?}");
+    }
+    Ok(())
+}
+
 #[test]
 fn texts(rt: HostRuntime) -> Result<(), Fail> {
     for (text, line) in TEXTS {

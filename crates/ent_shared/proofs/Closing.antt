@@ -82,7 +82,7 @@ module _ (start : Allocator) (count : ℕ) (records : List Record) (at : ℤ)
 
     pub legal : history.IsLegal start (history_of records)
     legal = subst (history.IsLegal start) (sym history_is) (legal_from start start k.log at itself
-        k.follow k.answered)
+        k.follow k.replied)
 
     pub respected : All (Respects (reservations_of records)) records
     respected = respects_all start count records at k whole

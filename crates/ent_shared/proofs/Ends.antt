@@ -17,7 +17,7 @@ use Rattle.ent_alloc.specs.Sequential.{Allocator, cursor}
 use Rattle.ent_shared.specs.declared.record.Reservation.{Reservation}
 use Rattle.ent_shared.specs.declared.record.Record.{Record}
 use Rattle.ent_shared.specs.Record.{low, own_reservations, opened, opened_records}
-use Rattle.ent_shared.specs.Rule.{cursor_of, Follow, weigh, IsAnswered, IsKept, IsStart}
+use Rattle.ent_shared.specs.Rule.{cursor_of, Follow, weigh, HasItsReply, IsKept, IsStart}
 use Rattle.ent_shared.specs.Rule.{IsRuled, IsClosed}
 use Rattle.ent_shared.proofs.Words.{requested, left_of, numbered, all_credit}
 
@@ -116,7 +116,7 @@ module _ (start : Allocator) (count : ℕ) where
           all = λ f. (let sums = sum_of (weigh f) in let none = weigh-opened f 0 count in
               omega arith);
         };
-        answered = All-nil (IsAnswered start);
+        replied = All-nil (HasItsReply start);
         records = (let sums = sum_of length in let n = length-opened 0 count in omega arith);
         numbers = λ number. (let sums = sum_of (numbered number) in let n =
             (numbered-opened number 0 count).0 in omega arith);
@@ -132,7 +132,7 @@ module _ (start : Allocator) (count : ℕ) where
       record {
         log = k.spans.log;
         follow = subst (Follow (cursor start) k.spans.log) here k.spans.follow;
-        answered = k.answered;
+        replied = k.replied;
         each = subst (λ z. All (IsKept start z k.spans.log) v) here
             (all_at (All (IsKept start (cursor_of k.word) k.spans.log)) s.views id v there k.each);
         numbers = λ number.

@@ -30,7 +30,7 @@ use Rattle.ent_shared.specs.declared.record.Record.{Record}
 use Rattle.ent_shared.specs.declared.rule.Opening.{Opening}
 use Rattle.ent_shared.specs.Record.{low, own_reservations, requested_by}
 use Rattle.ent_shared.specs.Phase.{after_loss}
-use Rattle.ent_shared.specs.Rule.{Follow, IsAnswered, IsKept, IsStart, IsClosed}
+use Rattle.ent_shared.specs.Rule.{Follow, HasItsReply, IsKept, IsStart, IsClosed}
 use Rattle.ent_shared.specs.Order.{history_of, handles_of}
 use Rattle.ent_shared.proofs.Words.{requested}
 use Rattle.ent_shared.proofs.Records.{all_own}
@@ -48,10 +48,10 @@ front_contains xs k n asked le =
     subst (All P) (drop-take k n xs) (All-drop P k (take (k + n) xs) (subst (All P) same all))
 
 -- the handles of a call are in the front that reaches as far
-reservation_contains : (start : Allocator) (c : Reservation) (asked : ℕ) → IsAnswered start c
+reservation_contains : (start : Allocator) (c : Reservation) (asked : ℕ) → HasItsReply start c
     → asked_at (top start) c.high + c.requested ≤ asked
     → All (Contains (take asked (available start))) (history.handles_in c.reply)
-reservation_contains start c asked answered le =
+reservation_contains start c asked replied le =
     let pool : List Handle = pool_at start c.high in
     let P : Handle → Type 0 = Contains (take asked (available start)) in
     let inside : All P (take c.requested pool) = front_contains (available start)
@@ -63,22 +63,22 @@ reservation_contains start c asked answered le =
     let goal : Bool → Type 0 = λ b.
     All P (history.handles_in (cond {A = Result (List Handle) Space} b
     (Ok (listed start.made (take c.requested pool))) (Err space))) in
-    subst (λ (r : Result (List Handle) Space). All P (history.handles_in r)) (sym answered)
+    subst (λ (r : Result (List Handle) Space). All P (history.handles_in r)) (sym replied)
     (elim (nat_le c.requested (length pool)) as goal [ true ↦ given | false ↦ All-nil P ])
 
 reservations_contain : (start : Allocator) (asked : ℕ) (cs : List Reservation)
-    → All (IsAnswered start) cs → All (λ (c : Reservation). asked_at (top start) c.high
+    → All (HasItsReply start) cs → All (λ (c : Reservation). asked_at (top start) c.high
     + c.requested ≤ asked) cs → All (Contains (take asked (available start))) (handles_of cs)
-reservations_contain start asked [] answered within =
+reservations_contain start asked [] replied within =
     All-nil (Contains (take asked (available start)))
-reservations_contain start asked (c ∷ cs) answered within =
+reservations_contain start asked (c ∷ cs) replied within =
     let P : Handle → Type 0 = Contains (take asked (available start)) in
     let W : Reservation → Type 0 = λ (d : Reservation). asked_at (top start) d.high + d.requested
     ≤ asked in
     All-append P (history.handles_in c.reply) (handles_of cs)
-    (reservation_contains start c asked (All-head (IsAnswered start) c cs answered)
+    (reservation_contains start c asked (All-head (HasItsReply start) c cs replied)
     (All-head W c cs within))
-    (reservations_contain start asked cs (All-tail (IsAnswered start) c cs answered)
+    (reservations_contain start asked cs (All-tail (HasItsReply start) c cs replied)
     (All-tail W c cs within))
 
 -- each call lies between the top and the cursor
@@ -227,8 +227,8 @@ lost_at start count records at floor sound flushed few k which =
           subst (λ (xs : List Handle). All (Contains (take asked xs))
           (handles_of (own_reservations r.entries))) (all_pool start sound flushed)
           (reservations_contain start asked (own_reservations r.entries)
-          (All-weaker (Contains k.log) (IsAnswered start)
-          (λ c inside. All-contains (IsAnswered start) k.log c k.answered inside)
+          (All-weaker (Contains k.log) (HasItsReply start)
+          (λ c inside. All-contains (HasItsReply start) k.log c k.replied inside)
           (own_reservations r.entries) own)
           (All-weaker (Contains k.log) W (λ c inside. All-contains W k.log c log_within inside)
           (own_reservations r.entries) own)))

@@ -23,7 +23,7 @@ use Rattle.ent_alloc.proofs.PoolLaw.{length-taken}
 use Rattle.ent_shared.specs.declared.record.Reservation.{Reservation}
 use Rattle.ent_shared.specs.declared.record.Record.{Record}
 use Rattle.ent_shared.specs.Record.{low, own_reservations}
-use Rattle.ent_shared.specs.Rule.{Follow, IsAnswered, floor_after, floor_of, least_floor, IsKept}
+use Rattle.ent_shared.specs.Rule.{Follow, HasItsReply, floor_after, floor_of, least_floor, IsKept}
 use Rattle.ent_shared.specs.Order.{insert_reservation, by_falling_high, as_call}
 
 -- the same things to give, and the same slots made
@@ -57,15 +57,15 @@ follow_on s c cs end sound at f = subst (λ (z : ℤ). Follow z cs end)
     (ap (λ (z : ℤ). z -ℤ pos c.requested) at ∙ sym (cursor-after_take s c.requested sound)) f
 
 pub legal_from : (start s : Allocator) (cs : List Reservation) (end : ℤ) → IsLater start s
-    → Follow (cursor s) cs end → All (IsAnswered start) cs → history.IsLegal s (map as_call cs)
-legal_from start s [] end l f answered = tt
-legal_from start s (c ∷ cs) end l f answered =
+    → Follow (cursor s) cs end → All (HasItsReply start) cs → history.IsLegal s (map as_call cs)
+legal_from start s [] end l f replied = tt
+legal_from start s (c ∷ cs) end l f replied =
     let answer : c.reply ≡ reply_from start.made (pool_at start c.high) c.requested =
-    All-head (IsAnswered start) c cs answered in (
+    All-head (HasItsReply start) c cs replied in (
       f.1,
       answer ∙ (λ i. reply_from (sym l.made_is i) (pool_there start s c l f.0 i) c.requested),
       legal_from start (after_take s c.requested) cs end (later_take start s c.requested l)
-          (follow_on s c cs end l.sound f.0 f.2) (All-tail (IsAnswered start) c cs answered),
+          (follow_on s c cs end l.sound f.0 f.2) (All-tail (HasItsReply start) c cs replied),
     )
 
 -- the lesser of two that is known

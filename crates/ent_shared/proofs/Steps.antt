@@ -25,7 +25,7 @@ use Rattle.ent_shared.specs.declared.record.Record.{Record}
 use Rattle.ent_shared.specs.Record.{low, own_reservations, known_reservations, reservation_at}
 use Rattle.ent_shared.specs.Record.{after_reservation}
 use Rattle.ent_shared.specs.Moves.{after_meeting, met_in}
-use Rattle.ent_shared.specs.Rule.{cursor_of, Follow, weigh, IsAnswered, IsKept, IsRuled}
+use Rattle.ent_shared.specs.Rule.{cursor_of, Follow, weigh, HasItsReply, IsKept, IsRuled}
 use Rattle.ent_shared.specs.Rule.{AfterReserve, ReserveTells}
 use Rattle.ent_shared.proofs.Records.{own-made, own-met, kept_on, kept_reserved, kept_met}
 use Rattle.ent_shared.proofs.Words.{follow_asked, word_least, word_greatest, lowered}
@@ -123,8 +123,8 @@ module _ (start : Allocator) (count : ℕ) where
                 (c ∷ []) ∙ ap (λ (x : ℕ). sum_by f log + x) (sum_by-cons f c []) in
                 omega arith;
           };
-          answered = All-append (IsAnswered start) log (c ∷ []) k.answered
-              (all_one (IsAnswered start) c
+          replied = All-append (HasItsReply start) log (c ∷ []) k.replied
+              (all_one (HasItsReply start) c
               (ap (λ (a : Allocator). reply_from a.made (pool_at a high) n) kept.start_is));
           records = (let changed : sum_by length (set s.views id w) + 1 ≡ sum_by length s.views
               + 1 = sum_at length s.views id (r ∷ []) w at in let was = k.records in omega arith);
@@ -165,7 +165,7 @@ module _ (start : Allocator) (count : ℕ) where
       all = λ f. sum_regrouped s.views views same (λ (r : Record).
           sum_by f (own_reservations r.entries)) ∙ k.spans.all f;
     };
-    answered = k.answered;
+    replied = k.replied;
     records = length-regrouped s.views views same ∙ k.records;
     numbers = λ number.
         let sums : sum_by (numbered number) views ≡ sum_by (numbered number) s.views =
@@ -201,7 +201,7 @@ module _ (start : Allocator) (count : ℕ) where
               sum_at (weigh f) views other w [] there in let was = k.spans.all f in let x =
               weights f in omega arith);
         };
-        answered = k.answered;
+        replied = k.replied;
         records = (let first = sum_at length s.views id v both at in let second =
             sum_at length views other w [] there in let was = k.records in omega arith);
         numbers = λ number. (let first = sum_at (numbered number) s.views id v both at in

@@ -16,14 +16,14 @@ Tells (Err (Quota left)) reply = ⊥
 
 -- A reserver has made one more reservation, of n handles.
 pub record Reserves (shared : Shared) (old new : Reserver) (n : ℕ)
-    (answer : Result (List Handle) Refused) : Type 0 where
+    (returned : Result (List Handle) Refused) : Type 0 where
   -- the cursor that its step found, which is the mark or lower
   pub high : ℤ
   pub at_mark : high ≤ℤ old.own.mark
   -- the record ends with it, and nothing else has changed
   pub after : new ≡ record old { own = after_reservation old.own high n }
   -- the result is the reply that is recorded
-  pub recorded : Tells answer (reservation_at old.own high n).reply
+  pub recorded : Tells returned (reservation_at old.own high n).reply
   -- and that is the reply of an allocator whose cursor is there
   pub reply : (reservation_at old.own high n).reply
       ≡ reply_from shared.start.made (pool_at shared.start high) n

@@ -37,8 +37,8 @@ pub record SpansPartition (start : Allocator) (word : ℕ) (views : List (List R
   pub all : (f : Reservation → ℕ) → sum_by (weigh f) views ≡ sum_by f log
 
 -- the reply of a reservation is what the allocator says there
-abbrev pub IsAnswered : Allocator → Reservation → Type 0
-IsAnswered start c = c.reply ≡ reply_from start.made (pool_at start c.high) c.requested
+abbrev pub HasItsReply : Allocator → Reservation → Type 0
+HasItsReply start c = c.reply ≡ reply_from start.made (pool_at start c.high) c.requested
 
 -- the cursor that a reservation leaves, if it was served, and else the top
 abbrev pub floor_after : Allocator → Reservation → ℤ
@@ -96,7 +96,7 @@ pub record IsRuled (start : Allocator) (count : ℕ) (s : State (Unit {0}) (List
   pub word : ℕ
   pub words : s.words ≡ word ∷ []
   pub spans : SpansPartition start word s.views
-  pub answered : All (IsAnswered start) spans.log
+  pub replied : All (HasItsReply start) spans.log
   pub records : sum_by length s.views ≡ count
   pub numbers : (k : ℕ) → sum_by (count_by (λ (r : Record). r.number == k)) s.views ≤ 1
   pub each : All (All (IsKept start (cursor_of word) spans.log)) s.views
@@ -118,7 +118,7 @@ ReserveTells n before found after =
 pub record IsClosed (start : Allocator) (count : ℕ) (records : List Record) (at : ℤ) : Type 0 where
   pub log : List Reservation
   pub follow : Follow (cursor start) log at
-  pub answered : All (IsAnswered start) log
+  pub replied : All (HasItsReply start) log
   pub each : All (IsKept start at log) records
   pub numbers : (k : ℕ) → count_by (λ (r : Record). r.number == k) records ≤ 1
   pub some : (f : Reservation → ℕ) → weigh f records ≤ sum_by f log

@@ -4,7 +4,7 @@ ghost use Rattle.ent_shared.specs.declared.refused.Refused.TheVariants.{Space as
 use ent_alloc::Space;
 use thiserror::Error;
 
-/// Why a reservation gave no handle.
+/// Why a request gave no handle.
 #[derive(Clone, Copy, Debug, PartialEq, Eq, Error)]
 pub enum Refused {
     /// The pool had fewer handles than were requested. The request is taken from the reserver's

@@ -26,6 +26,8 @@ fn credit_is_used_to_the_last_unit(rt: HostRuntime) {
     assert!(rt; only.refusal(&shared, 256) == Some(shut));
     assert!(rt; only.reserve(&shared) == Err(Refused::Quota { left: 0 }));
     assert!(rt; only.refusal(&shared, 0) == None);
+    only.at_once(&shared, 0);
+    only.assert_given(&rt, &[]);
     give_back(&rt, &shared, &mut reservers, only.reserver);
     let mut entities = closed(&rt, shared, reservers);
     assert_cursor(&rt, &entities, -1_099_511_627_776);

@@ -135,6 +135,37 @@ fn a_lost_reserver_counts(rt: HostRuntime) {
     }
 }
 
+/// The first of two reservers of five slots gets what it requests, and is dropped. If the same
+/// request of the other one was refused, a flush brings to life all five, though only three were
+/// given.
+#[test]
+fn a_dropped_reserver_counts(rt: HostRuntime) {
+    let short = Refused::Space { wanted: 3, left: 2 };
+    let all = [(0, 1), (1, 1), (2, 1), (3, 1), (4, 1)];
+    assert_after_drop(&rt, rt.alloc(), 3, Some(short), &all);
+    assert_after_drop(&rt, rt.alloc(), 1, None, &[(0, 1), (1, 1)]);
+}
+
+/// Compares how the second request for so many handles is refused, and who lives after the phase.
+fn assert_after_drop(
+    rt: &impl Abort,
+    alloc: Global,
+    requested: u32,
+    refusal: Option<Refused>,
+    alive: &[(u32, u32)],
+) {
+    let (shared, mut reservers) = opened(rt, alloc, with_slots(rt, alloc, 5), 2);
+    let mut b = last(rt, alloc, &shared, &mut reservers);
+    let mut a = last(rt, alloc, &shared, &mut reservers);
+    a.at_once(&shared, requested);
+    assert!(rt; a.given.len() == requested as usize);
+    assert!(rt; b.refusal(&shared, requested) == refusal);
+    drop(a);
+    give_back(rt, &shared, &mut reservers, b.reserver);
+    let mut entities = shared.close_lost(reservers);
+    assert_handles(rt, &flushed(rt, alloc, &mut entities), alive);
+}
+
 /// Three reservers of five slots request so many handles, one after the other, and all are lost. If
 /// too few are left for one of them, all that the pool had counts, though nobody got some of it: a
 /// flush brings it to life, fresh handles first.

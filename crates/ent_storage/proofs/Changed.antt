@@ -1,17 +1,15 @@
 -- The components of the entity at a place are changed.
-use Rattle.std.proofs.Common.{◌≡◌, ℕ, zero, suc, ◌<◌, List, [], ◌∷◌, length, get_or, set, Some}
-use Rattle.std.proofs.Common.{refl}
-use Rattle.std.proofs.Common.{sym, ap, subst, ◌∙◌, arith}
+use Rattle.std.proofs.Common.{◌≡◌, ℕ, zero, suc, ◌-◌, ◌<◌, List, [], ◌∷◌, length, get_or, set}
+use Rattle.std.proofs.Common.{Some, min, refl, sym, ap, subst, ◌∙◌, arith}
 use Rattle.std.proofs.lemmas.List.{get_or_default}
 use Rattle.std.specs.FinMap as finite
 use Rattle.std.specs.FinMap.{FinMap}
 use Rattle.ent_handle.specs.Handle.{Handle, handle_cmp}
 use Rattle.ent_storage.specs.Components.{Components}
-use Rattle.ent_storage.specs.EntityMap.{with_components}
+use Rattle.ent_storage.specs.EntityMap.{Store, with_components}
 use Rattle.ent_storage.specs.Living.{LivingEntity, change_at}
-use Rattle.ent_storage.specs.Indexed.{entity_of, entities_of, handles_by_place, counted}
-use Rattle.ent_storage.specs.Indexed.{IsKeptIndex}
-use Rattle.ent_storage.proofs.Indexed.{some_entity, get_read, entities_changed}
+use Rattle.ent_storage.specs.Indexed.{entities_of, handles_by_place, counted, IsKeptIndex}
+use Rattle.ent_storage.proofs.Indexed.{some_entity, entities_changed}
 use Rattle.ent_storage.proofs.Counted.{kept_changed}
 use Rattle.ent_storage.proofs.Placed.{handles_changed}
 
@@ -26,48 +24,56 @@ as_set [] i d change l = absurd (omega arith)
 as_set (e ∷ living) zero d change l = refl
 as_set (e ∷ living) (suc i) d change l = ap (λ es. e ∷ es) (as_set living i d change (omega arith))
 
-pub length_changed : (living : List LivingEntity) (i : ℕ) (change : Components → Components)
+length_changed : (living : List LivingEntity) (i : ℕ) (change : Components → Components)
     → length (change_at living i change) ≡ length living
 length_changed [] i change = refl
 length_changed (e ∷ living) zero change = refl
 length_changed (e ∷ living) (suc i) change = ap suc (length_changed living i change)
 
-module _ (living : List LivingEntity) (index : FinMap handle_cmp ℕ) (room : ℕ)
-    (kept : IsKeptIndex living index room) (h : Handle) (i : ℕ)
-    (placed : finite.get (counted living index) h ≡ Some i) where
-  abbrev pub was : LivingEntity
+-- the store in which the components of one entity are changed
+pub record IsChanged (s : Store) (h : Handle) (change : Components → Components)
+    (living : List LivingEntity) (index : FinMap handle_cmp ℕ) (room : ℕ) : Type 0 where
+  pub entities : entities_of living ≡ with_components s.entities h change
+  pub places : handles_by_place living ≡ s.places
+  pub spare : room - length living ≡ s.spare
+  pub kept : IsKeptIndex living index room
+
+module _ (living : List LivingEntity) (index : FinMap handle_cmp ℕ) (room others : ℕ) (s : Store)
+    (kept : IsKeptIndex living index (min room others)) (view : record {
+      entities = entities_of living;
+      places = handles_by_place living;
+      spare = min room others - length living;
+    } ≡ s) (h : Handle) (i : ℕ) (placed : finite.get (counted living index) h ≡ Some i) where
+  abbrev was : LivingEntity
   was = get_or living i (some_entity h)
 
-  pub inside : i < length living
+  inside : i < length living
   inside = (kept.indexed.each_place h i placed).0
 
   read : was ≡ get_or living i was
   read = get_or_default living i (some_entity h) (get_or living i (some_entity h)) inside
 
-  pub found : finite.get (entities_of living) h ≡ Some (entity_of was)
-  found = get_read living (counted living index) kept.indexed h i placed was read
-
-  module _ (change : Components → Components) where
-    is_set : change_at living i change
-        ≡ set living i (record {
-          handle = was.handle;
-          birth = was.birth;
-          components =
-              change was.components;
-        })
-    is_set = as_set living i (some_entity h) change inside
-
-    pub changed_entities : entities_of (change_at living i change)
-        ≡ with_components (entities_of living) h change
-    changed_entities =
-        ap entities_of is_set ∙ entities_changed living (counted living index) kept.indexed h i
-        placed was read (change was.components) change refl
-
-    pub changed_handles : handles_by_place (change_at living i change) ≡ handles_by_place living
-    changed_handles = ap handles_by_place is_set ∙ handles_changed living i was read
-        (change was.components)
-
-    pub changed_kept : IsKeptIndex (change_at living i change) index room
-    changed_kept =
-        subst (λ es. IsKeptIndex es index room) (sym is_set) (kept_changed living index room kept h
-        i placed was read (change was.components))
+  pub changed : (change : Components → Components) (after : List LivingEntity) (now : ℕ) → after
+      ≡ change_at living i change → now ≡ room → IsChanged s h change after index (min now others)
+  changed change after now is same = rw (is, same) (record {
+    entities = ap entities_of is_set
+        ∙ entities_changed living (counted living index) kept.indexed h i placed was read
+        (change was.components) change refl
+        ∙ ap (λ (s : Store). with_components s.entities h change) view;
+    places = ap handles_by_place is_set ∙ handles_changed living i was read (change was.components)
+        ∙ ap (λ (s : Store). s.places) view;
+    spare = ap (λ n. min room others - n) (length_changed living i change)
+        ∙ ap (λ (s : Store). s.spare) view;
+    kept = subst (λ es. IsKeptIndex es index (min room others)) (sym is_set)
+        (kept_changed living index (min room others) kept h i placed was read
+        (change was.components));
+  })
+    where
+      is_set : change_at living i change
+          ≡ set living i (record {
+            handle = was.handle;
+            birth = was.birth;
+            components =
+                change was.components;
+          })
+      is_set = as_set living i (some_entity h) change inside

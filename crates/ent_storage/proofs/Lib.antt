@@ -1,5 +1,6 @@
 pub mod ByBirth
 pub mod Changed
+pub mod Reborn
 pub mod ColumnsLemmas
 pub mod Counted
 pub mod Dense

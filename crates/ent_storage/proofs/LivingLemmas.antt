@@ -48,29 +48,21 @@ at_from n (r ∷ residents) columns (suc i) resident d l =
     at_from (suc n) residents columns i resident d (omega arith)
     ∙ ap (λ (p : ℕ). entity_at columns p (get_or residents i resident)) next
 
-module _ (residents : List Resident) (columns : List Column) (i : ℕ) (resident : Resident)
-    (d : LivingEntity) (inside : i < length residents) where
-  pub handle_from : (get_or (entities_from 0 residents columns) i d).handle
-      ≡ (get_or residents i resident).handle
-  handle_from = ap (λ (e : LivingEntity). e.handle) (at_from 0 residents columns i resident d
-      inside)
+-- and that at a place of what contracts see
+module _ (residents : List Resident) (columns : List Column) (room : ℕ) (living : Living) (i : ℕ)
+    (view : record { entities = entities_from 0 residents columns; room = room } ≡ living)
+    (there : i < length living.entities) where
+  pub inside_from : i < length residents
+  inside_from =
+      omega (arith, length_from 0 residents columns, ap (λ (x : Living). length x.entities) view)
 
-  pub birth_from : (get_or (entities_from 0 residents columns) i d).birth
-      ≡ (get_or residents i resident).birth
-  birth_from = ap (λ (e : LivingEntity). e.birth) (at_from 0 residents columns i resident d inside)
-
-  pub components_from : (get_or (entities_from 0 residents columns) i d).components
-      ≡ components_at columns i
-  components_from =
+  pub read_from : (resident : Resident) (d : LivingEntity) → get_or living.entities i d
+      ≡ entity_at columns i (get_or residents i resident)
+  read_from resident d =
       let at_i : 0 + i ≡ i = omega arith in
-      ap (λ (e : LivingEntity). e.components) (at_from 0 residents columns i resident d inside)
-      ∙ ap (components_at columns) at_i
-
-pub inside_from : (residents : List Resident) (columns : List Column) (room : ℕ) (living : Living)
-    (i : ℕ) → record { entities = entities_from 0 residents columns; room = room } ≡ living → i
-    < length living.entities → i < length residents
-inside_from residents columns room living i is l =
-    omega (arith, l, length_from 0 residents columns, ap (λ (x : Living). length x.entities) is)
+      ap (λ (l : Living). get_or l.entities i d) (sym view)
+      ∙ at_from 0 residents columns i resident d inside_from
+      ∙ ap (λ (p : ℕ). entity_at columns p (get_or residents i resident)) at_i
 
 -- ---- the columns are changed
 
@@ -147,7 +139,7 @@ module _ (residents left : List Resident) (i n m : ℕ) (whole : n ≡ length re
   components_others k far room =
       same_components old new k k (λ id. (down id.0).others k far (λ e. absurd (omega arith)))
 
-  pub moved_from : IsMovedInto (entities_from 0 residents old) i (entities_from 0 left new)
+  moved_from : IsMovedInto (entities_from 0 residents old) i (entities_from 0 left new)
   moved_from = record {
     one_less = omega (arith, length_from 0 left new, length_from 0 residents old);
     moved = λ d room.
@@ -179,7 +171,7 @@ module _ (residents left : List Resident) (i n m : ℕ) (whole : n ≡ length re
         ∙ sym (at_old k resident d (omega arith));
   }
 
-  pub moved_within : length new ≡ length old → AreColumnsOf (length residents) old
+  moved_within : length new ≡ length old → AreColumnsOf (length residents) old
       → AreColumnsOf (length left) new
   moved_within len within = record {
     none_beyond = λ p id l. by p id l (cases_eq p (n - 1));
@@ -192,6 +184,11 @@ module _ (residents left : List Resident) (i n m : ℕ) (whole : n ≡ length re
       by p id l (inr far) =
           (down id.0).others p (λ e. absurd (omega arith)) far
           ∙ within.none_beyond p id (omega arith)
+
+  pub moved : length new ≡ length old → AreColumnsOf (length residents) old
+      → IsMovedInto (entities_from 0 residents old) i (entities_from 0 left new)
+      × AreColumnsOf (length left) new
+  moved len within = (moved_from, moved_within len within)
 
 -- ---- what stays within the residents
 

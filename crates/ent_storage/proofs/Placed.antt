@@ -50,20 +50,27 @@ pub record IsEntityAt (living : List LivingEntity) (s : Store) (h : Handle) (i :
   pub inside : i < length living
   pub found : finite.get s.entities h ≡ Some (entity_of (get_or living i (some_entity h)))
 
-pub entity_at : (living : List LivingEntity) (index : FinMap handle_cmp ℕ) (spare : ℕ) (s : Store)
-    → IsIndexed living index → record {
+module _ (living : List LivingEntity) (index : FinMap handle_cmp ℕ) (spare : ℕ) (s : Store)
+    (indexed : IsIndexed living index) (view : record {
       entities = entities_of living;
       places = handles_by_place living;
       spare = spare;
-    } ≡ s → (h : Handle) (i : ℕ) → slice_get s.places i ≡ Some h → IsEntityAt living s h i
-entity_at living index spare s indexed view h i at =
-    let here = ap (λ (s : Store). slice_get s.places i) view ∙ at in
-    record {
-      inside = (at_place living i h here).0;
-      found = ap (λ (s : Store). finite.get s.entities h) (sym view)
-          ∙ get_placed living index indexed h i (some_entity h) (placed_from_place living index
-          indexed h i here);
-    }
+    } ≡ s) (h : Handle) where
+  pub none_placed : finite.get index h ≡ None → finite.get s.entities h ≡ None
+  none_placed none = ap (λ (s : Store). finite.get s.entities h) (sym view)
+      ∙ get_unplaced living index indexed h none
+
+  pub entity_placed : (i : ℕ) → finite.get index h ≡ Some i → IsEntityAt living s h i
+  entity_placed i at = record {
+    inside = (indexed.each_place h i at).0;
+    found = ap (λ (s : Store). finite.get s.entities h) (sym view)
+        ∙ get_placed living index indexed h i (some_entity h) at;
+  }
+
+  pub entity_at : (i : ℕ) → slice_get s.places i ≡ Some h → IsEntityAt living s h i
+  entity_at i at =
+      entity_placed i (placed_from_place living index indexed h i
+      (ap (λ (s : Store). slice_get s.places i) view ∙ at))
 
 pub is_inside : (handles : List Handle) (i : ℕ) (h : Handle) → slice_get handles i ≡ Some h → i
     < length handles
@@ -72,7 +79,7 @@ is_inside (x ∷ handles) zero h e = omega arith
 is_inside (x ∷ handles) (suc i) h e = let rest = is_inside handles i h e in omega (arith, rest)
 
 -- an entity that keeps its handle
-handles_set : (living : List LivingEntity) (i : ℕ) (entity : LivingEntity)
+pub handles_set : (living : List LivingEntity) (i : ℕ) (entity : LivingEntity)
     → ((d : LivingEntity) → i < length living → entity.handle ≡ (get_or living i d).handle)
     → handles_by_place (set living i entity) ≡ handles_by_place living
 handles_set [] i entity is = refl

@@ -40,6 +40,11 @@ with_components m h change =
     option_map_or (λ e. map.insert m h (record e { components = change e.components }))
     (map.get m h) m
 
+-- the map after the birth of one entity was changed; the same map if the entity is not there
+abbrev pub with_birth : EntityMap → Handle → Birth → EntityMap
+with_birth m h birth =
+    option_map_or (λ e. map.insert m h (record e { birth = birth })) (map.get m h) m
+
 -- what contracts see of a storage: its entities, the handle at each place, and for how many more
 -- it has room
 pub record Store : Type 0 where

@@ -81,6 +81,12 @@ change_at [] place change = []
 change_at (e ∷ es) zero change = record e { components = change e.components } ∷ es
 change_at (e ∷ es) (suc place) change = e ∷ change_at es place change
 
+-- the entities after the birth of the one at the place was changed
+abbrev pub with_birth_at : List LivingEntity → ℕ → Birth → List LivingEntity
+with_birth_at [] place birth = []
+with_birth_at (e ∷ es) zero birth = record e { birth = birth } ∷ es
+with_birth_at (e ∷ es) (suc place) birth = e ∷ with_birth_at es place birth
+
 -- the component of the entity at the place has that value
 abbrev pub IsValueAt : List LivingEntity → ℕ → ComponentId → ℤ → Type 0
 IsValueAt living place id v =

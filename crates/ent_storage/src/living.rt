@@ -5,7 +5,8 @@ ghost use Rattle.std.specs.Prelude.{slice_get};
 ghost use Rattle.std.specs.List.{All, HoldsAt, AllPairs};
 ghost use Rattle.std.specs.FinMap as finite;
 ghost use Rattle.ent_storage.specs.Components.{with_items, missing};
-ghost use Rattle.ent_storage.specs.Living.{born_at, change_at, IsMovedInto, IsValueAt};
+ghost use Rattle.ent_storage.specs.Living.{born_at, change_at, with_birth_at, IsMovedInto};
+ghost use Rattle.ent_storage.specs.Living.{IsValueAt};
 ghost use Rattle.ent_storage.specs.Indexed.{has_handle_at};
 
 use super::columns;
@@ -108,6 +109,15 @@ impl Living {
         ensures { HoldsAt (λ entity. result ≡ entity.birth) self.now.entities place }
     {
         self.residents[place].birth
+    }
+
+    /// Changes the birth of the entity at the place. It takes no memory.
+    pub fn set_birth(&mut self, place: usize, birth: Birth)
+        requires { place < length self.old.entities }
+        ensures entities { self.new.entities ≡ with_birth_at self.old.entities place birth }
+        ensures room { self.new.room ≡ self.old.room }
+    {
+        self.residents[place].birth = birth;
     }
 
     /// The value of a component of the entity at the place, if it has the component.

@@ -1,12 +1,12 @@
 ghost use Rattle.std.specs.Prelude.{◌≡◌, ◌+◌, ◌≤◌, ◌<◌, ◌↔◌, IsTrue, IsErrOf, IfOk, IfSome, IfErr};
 ghost use Rattle.std.specs.Prelude.{Contains, ◌≢◌, ℤ};
 ghost use Rattle.std.specs.Prelude.{OnOk, OnErr, IsOk, None, Some, ℕ, [], ◌∷◌, ◌++◌, is_some};
-ghost use Rattle.std.specs.Prelude.{slice_get, SomeIndex};
+ghost use Rattle.std.specs.Prelude.{slice_get, SomeIndex, length};
 ghost use Rattle.std.specs.Option.{option_map};
 ghost use Rattle.std.specs.FinMap as map;
 ghost use Rattle.ent_storage.specs.Components.{with_items, missing};
 ghost use Rattle.ent_storage.specs.EntityMap.{newborn, birth_of, components_of, value_of};
-ghost use Rattle.ent_storage.specs.EntityMap.{with_components, value_at_place};
+ghost use Rattle.ent_storage.specs.EntityMap.{with_components, with_birth, value_at_place};
 ghost use Rattle.std.specs.List.{AllPairs};
 ghost use Rattle.ent_storage.specs.BirthOrder.{ListsAll, ListsWith};
 ghost use Rattle.ent_storage.specs.Indexed.{entity_of};
@@ -67,9 +67,10 @@ impl Storage {
         }
     }
 
-    /// How many entities there are.
+    /// How many entities there are. That is also the place of the next one that is born.
     pub fn len(&self) -> usize
-        ensures { result ≡ map.len self.now.entities }
+        ensures value { result ≡ map.len self.now.entities }
+        ensures places { result ≡ length self.now.places }
     {
         self.living.len()
     }
@@ -127,6 +128,26 @@ impl Storage {
         ensures { result ≡ value_of self.now.entities handle id }
     {
         self.living.value(place, id)
+    }
+
+    /// When and by whom the entity at a place was brought to life, whose handle has to be this one.
+    /// It takes constant time.
+    pub fn birth_at(&self, place: usize, handle: Handle) -> Birth
+        requires { slice_get self.now.places place ≡ Some handle }
+        ensures { birth_of self.now.entities handle ≡ Some result }
+    {
+        self.living.birth(place)
+    }
+
+    /// Changes the birth of the entity at a place, whose handle has to be this one, and leaves the
+    /// rest. It takes no memory and constant time.
+    pub fn set_birth_at(&mut self, place: usize, handle: Handle, birth: Birth)
+        requires { slice_get self.old.places place ≡ Some handle }
+        ensures entities { self.new.entities ≡ with_birth self.old.entities handle birth }
+        ensures spare { self.new.spare ≡ self.old.spare }
+        ensures places { self.new.places ≡ self.old.places }
+    {
+        self.living.set_birth(place, birth);
     }
 
     /// For how many more entities there is room.

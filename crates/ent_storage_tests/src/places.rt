@@ -3,7 +3,7 @@
 use crate::entities::{
     HEALTH, MANA, assert_lists, assert_lives, assert_reserves, birth, entity, fill, handle, mana_at,
 };
-use ent_handle::{ComponentId, Handle};
+use ent_handle::{Birth, ComponentId, Handle};
 use ent_storage::{Storage, StorageFault};
 use std::process::Abort;
 use std::test::Fail;
@@ -46,6 +46,49 @@ fn despawn_at_returns_who_has_moved(rt: HostRuntime) -> Result<(), Fail> {
     assert_eq!(rt; despawn_at(&mut storage, second), Some((1, None)));
     assert_places(&rt, &storage, &[(third, 0, 12)]);
     Ok(())
+}
+
+// An entity in the middle gets the latest birth, and then the last one does. Nothing else changes.
+#[test]
+fn a_birth_is_changed_in_its_place(rt: HostRuntime) -> Result<(), Fail> {
+    let (first, second, third) = (handle(0)?, handle(1)?, handle(2)?);
+    let mut storage = Storage::new(rt.alloc());
+    let entities = [(first, 2, 10), (second, 1, 11), (third, 0, 12)];
+    assert_lives(&rt, &mut storage, &entities);
+    assert_lists(&rt, &storage, &[third, second, first], &[])?;
+    assert_eq!(rt;
+        changed_birth(&mut storage, second, birth(345)),
+        Some(birth(1))
+    );
+    assert_eq!(rt; birth_at(&storage, second), Some(birth(345)));
+    assert_eq!(rt; storage.birth(second), Some(birth(345)));
+    assert_lists(&rt, &storage, &[third, first, second], &[])?;
+    assert_eq!(rt;
+        changed_birth(&mut storage, third, birth(400)),
+        Some(birth(0))
+    );
+    assert_lists(&rt, &storage, &[first, second, third], &[])?;
+    assert_eq!(rt; birth_at(&storage, first), Some(birth(2)));
+    assert_places(
+        &rt,
+        &storage,
+        &[(first, 0, 10), (second, 1, 11), (third, 2, 12)],
+    );
+    assert_eq!(rt; changed_birth(&mut storage, handle(3)?, birth(5)), None);
+    Ok(())
+}
+
+// The birth that it had.
+fn changed_birth(storage: &mut Storage, entity: Handle, birth: Birth) -> Option<Birth> {
+    let place = storage.place(entity)?;
+    let before = storage.birth_at(place, entity);
+    storage.set_birth_at(place, entity, birth);
+    Some(before)
+}
+
+fn birth_at(storage: &Storage, entity: Handle) -> Option<Birth> {
+    let place = storage.place(entity)?;
+    Some(storage.birth_at(place, entity))
 }
 
 fn assert_left(

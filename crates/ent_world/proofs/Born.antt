@@ -1,34 +1,35 @@
 -- What enters the map after a flush is each handle that is born, with its birth.
-use Rattle.std.proofs.Common.{◌≡◌, refl, sym, ap, ◌∙◌, ℕ, ◌+◌, ◌≤◌, Bool, true, false, cond, not}
-use Rattle.std.proofs.Common.{◌&&◌, ◌||◌, true≢false, List, [], ◌∷◌, length}
+use Rattle.std.proofs.Common.{◌≡◌, refl, sym, ap, ◌∙◌, ℕ, ◌+◌, ◌≤◌, ◌^◌, Bool, true, false, cond}
+use Rattle.std.proofs.Common.{not}
+use Rattle.std.proofs.Common.{◌&&◌, ◌||◌, true≢false, List, [], ◌∷◌, ◌++◌, length, drop, eqb}
 use Rattle.std.proofs.Common.{Option, Some, None, is_some, is_none, inl, inr, unwrap_or, arith}
 use Rattle.std.specs.Ordering.{eq_by_cmp}
+use Rattle.std.specs.Option.{option_map_or}
 use Rattle.std.specs.List.{position_from}
 use Rattle.std.specs.FinSet as set
 use Rattle.std.specs.FinMap as map
 use Rattle.std.proofs.lemmas.List.Elements.{All-contains}
-use Rattle.std.proofs.lemmas.List.Sorted.{Contains-permutation, length_permutation}
+use Rattle.std.proofs.lemmas.List.Sorted.{Contains-permutation}
 use Rattle.std.proofs.lemmas.Map.Views.{any-filter_same}
 use Rattle.ent_handle.specs.declared.birth.Birth.{Birth}
 use Rattle.ent_handle.specs.Handle.{Handle, handle_cmp, handle_cmp_total}
 use Rattle.ent_handle.specs.Handle.{handle_cmp-IsAntisymmetric}
 use Rattle.ent_alloc.specs.Sequential.{Allocator, stands_in, born, after_flush}
 use Rattle.ent_alloc.specs.Sound.{IsSound, IsLive}
-use Rattle.ent_alloc.proofs.HandleSets.{same_handle, Contains-from_stands_in}
+use Rattle.ent_alloc.proofs.HandleSets.{same_handle, itself, Contains-from_stands_in}
 use Rattle.ent_alloc.proofs.HandleSets.{stands_in-from_Contains}
 use Rattle.ent_alloc.proofs.Flushes.{live-after_flush, live-stays, born-IsPermutation, born-lives}
 use Rattle.ent_alloc.proofs.Flushes.{born-apart, born-not_live}
-use Rattle.ent_storage.specs.EntityMap.{Entity, EntityMap, Store, newborn}
+use Rattle.ent_storage.specs.EntityMap.{Entity, EntityMap, newborn}
 use Rattle.ent_queue.specs.Command.{Command}
 use Rattle.ent_world.specs.World.{AreLiving}
 use Rattle.ent_world.specs.Sync.{ordinal, no_system, handles_listed, ordinal_among, at_ordinal}
 use Rattle.ent_world.specs.Sync.{listed_birth, unlisted, unlisted_birth, birth_in, with_born}
-use Rattle.ent_world.specs.Entering.{HasRoomForBorn, first_birth}
-use Rattle.ent_world.specs.Entering.{entered_queues, entered_others}
-use Rattle.ent_world.proofs.Entered.{or_born, given, or_born-none}
-use Rattle.ent_world.proofs.Entered.{birth_by_index, get-entered_queues}
-use Rattle.ent_world.proofs.Unlisted.{distinct, filter_alike, some_index, no_index, without}
-use Rattle.ent_world.proofs.Unlisted.{get-entered_others}
+use Rattle.ent_world.specs.Entering.{first_birth, AreNew, is_unnamed, named_queues, numbered}
+use Rattle.ent_world.proofs.BirthsByQueues.{or_named, given, or_named-none, IsOfSystem}
+use Rattle.ent_world.proofs.BirthsByQueues.{birth_by_index, listed_of_system, get-named_queues}
+use Rattle.ent_world.proofs.Numbered.{AreDistinct, distinct, filter_alike, some_index, no_index}
+use Rattle.ent_world.proofs.Numbered.{or_numbered, or_numbered-none, waiting, get-numbered}
 
 -- All that are born, in one step.
 
@@ -70,29 +71,42 @@ pub no_entity : (o : Option Entity) → is_some o ≡ false → o ≡ None
 no_entity None _ = refl
 no_entity (Some e) none = absurd (true≢false none)
 
-pub an_entity : (o : Option Entity) → is_some o ≡ true → (e : Entity) × (o ≡ Some e)
-an_entity None none = absurd (true≢false (sym none))
-an_entity (Some e) _ = (e, refl)
-
 -- a flush of a sound allocator whose living ones are those of the map
 module _ (s : Allocator) (m : EntityMap) (sound : IsSound s) (living : AreLiving s m) where
   -- who is born lives, and was not there
-  pub born-alive : (h : Handle) → stands_in (born s) h ≡ true → set.contains (after_flush s).live h
+  born-alive : (h : Handle) → stands_in (born s) h ≡ true → set.contains (after_flush s).live h
       ≡ true
   born-alive h there = All-contains (IsLive (after_flush s)) (born s) h (born-lives s)
       (Contains-from_stands_in (born s) h there)
 
-  born-new : (h : Handle) → stands_in (born s) h ≡ true → map.get m h ≡ None
-  born-new h there = no_entity (map.get m h) (living h ∙ by_test (set.contains s.live h) refl)
+  born-absent : (h : Handle) → stands_in (born s) h ≡ true → map.contains_key m h ≡ false
+  born-absent h there = living h ∙ by_test (set.contains s.live h) refl
     where
       by_test : (b : Bool) → set.contains s.live h ≡ b → b ≡ false
       by_test false _ = refl
       by_test true lived = absurd (All-contains (λ x. ¬ (IsLive s x)) (born s) h
           (born-not_live s sound) (Contains-from_stands_in (born s) h there) lived)
 
+  pub born-new : AreNew (born s) m
+  born-new = all_new (born s) (distinct (born s) (born-apart s sound)) born-absent
+    where
+      later : (a b : Bool) → b ≡ true → (a || b) ≡ true
+      later true b _ = refl
+      later false b there = there
+
+      all_new : (hs : List Handle) → AreDistinct hs → ((h : Handle) → stands_in hs h ≡ true
+          → map.contains_key m h ≡ false) → AreNew hs m
+      all_new [] once absent = tt
+      all_new (h ∷ hs) once absent = (
+        absent h (ap (λ b. b || stands_in hs h) (itself h)),
+        once.0,
+        all_new hs once.1
+            (λ g there. absent g (later (eq_by_cmp handle_cmp g h) (stands_in hs g) there)),
+      )
+
   -- who lives and is not born was there
-  pub lived-before : (h : Handle) → stands_in (born s) h ≡ false → set.contains (after_flush s).live
-      h ≡ true → set.contains s.live h ≡ true
+  lived-before : (h : Handle) → stands_in (born s) h ≡ false → set.contains (after_flush s).live h
+      ≡ true → set.contains s.live h ≡ true
   lived-before h none lives = elim (live-after_flush s h lives) [
     | inl before ↦ before
     | inr taken ↦ absurd
@@ -121,136 +135,145 @@ module _ (s : Allocator) (m : EntityMap) (sound : IsSound s) (living : AreLiving
       by_test true there = sym (born-alive h there)
       by_test false none = living h ∙ not_born none (set.contains (after_flush s).live h) refl
 
-  module _ (phase : ℕ) (queues : List (List Command)) where
-    listed : EntityMap
-    listed = entered_queues (after_flush s) phase 0 queues m
+-- all have entered, then the queues have named those that they list
+module _ (m : EntityMap) (phase : ℕ) (queues : List (List Command)) (hs : List Handle)
+    (once : AreDistinct hs) (few : length queues ≤ 2 ^ 16) where
+  abbrev bare : Entity
+  bare = newborn (first_birth phase no_system)
 
-    abbrev By : Handle → Option Birth
-    By q = listed_birth phase 0 queues q
+  abbrev all : EntityMap
+  all = with_born m (λ _. first_birth phase no_system) hs
 
-    listed-get : (q : Handle) → map.get listed q
-        ≡ or_born (map.get m q) (given (set.contains (after_flush s).live q) (By q))
-    unfolding listed
-    listed-get q = get-entered_queues (after_flush s) phase 0 queues m q
+  listed : EntityMap
+  listed = named_queues hs phase 0 queues all
 
-    listed-born : (q : Handle) → stands_in (born s) q ≡ true → map.get listed q
-        ≡ or_born None (By q)
-    listed-born q there = listed-get q
-        ∙ (λ i. or_born (born-new q there i) (given (born-alive q there i) (By q)))
+  abbrev By : Handle → Option Birth
+  By q = listed_birth phase 0 queues q
 
-    abbrev others : List Handle
-    others = unlisted queues (born s)
+  listed-get : (q : Handle) → map.get listed q
+      ≡ or_named (cond (stands_in hs q) (Some bare) (map.get m q)) (given (stands_in hs q) (By q))
+  unfolding listed
+  listed-get q =
+      get-named_queues hs phase 0 queues all q (omega (arith, few))
+      ∙ ap (λ o. or_named o (given (stands_in hs q) (By q)))
+      (get-with_born (λ _. first_birth phase no_system) hs m q)
 
-    -- those without an entity are those that no queue lists
-    others_are : without listed (born s) ≡ others
-    others_are = filter_alike (λ h. not (map.contains_key listed h))
-        (λ h. is_none (listed_birth 0 0 queues h)) (born s) (λ h there.
-        ap (λ o. not (is_some o)) (listed-born h there)
-        ∙ ap not (some_born (By h))
-        ∙ sym (listed_anyhow queues phase 0 0 h))
-      where
-        some_born : (b : Option Birth) → is_some (or_born None b) ≡ is_some b
-        some_born (Some b) = refl
-        some_born None = refl
+  listed-born : (q : Handle) → stands_in hs q ≡ true → map.get listed q
+      ≡ or_named (Some bare) (By q)
+  listed-born q there = listed-get q
+      ∙ ap (λ t. or_named (cond t (Some bare) (map.get m q)) (given t (By q))) there
 
-    abbrev index : Handle → Option ℕ
-    index q = position_from (eq_by_cmp handle_cmp q) 0 others
+  abbrev others : List Handle
+  others = unlisted queues hs
 
-    -- who is born and not listed stands among the others
-    among_others : (q : Handle) → stands_in (born s) q ≡ true → By q ≡ None → stands_in others q
-        ≡ true
-    among_others q there none =
-        any-filter_same (eq_by_cmp handle_cmp q) (λ h. is_none (listed_birth 0 0 queues h)) true
-        (λ h tied. ap (λ x. is_none (listed_birth 0 0 queues x)) (sym (same_handle q h tied))
-        ∙ listed_anyhow queues phase 0 0 q ∙ ap (λ o. not (is_some o)) none) (born s)
-        ∙ there
+  -- those that have no birth of a system are those that no queue lists
+  others_are : waiting listed hs ≡ others
+  others_are = filter_alike (is_unnamed listed) (λ h. is_none (listed_birth 0 0 queues h)) hs
+      (λ h there.
+      ap (λ (o : Option Entity). option_map_or (λ e. eqb e.birth.system no_system) o false)
+      (listed-born h there)
+      ∙ by_birth (By h) (listed_of_system phase 0 queues h (omega (arith, few)))
+      ∙ sym (listed_anyhow queues phase 0 0 h))
+    where
+      by_birth : (b : Option Birth) → IsOfSystem b
+          → option_map_or (λ (e : Entity). eqb e.birth.system no_system) (or_named (Some bare) b)
+          false ≡ not (is_some b)
+      by_birth (Some b) is = is
+      by_birth None is = refl
 
-    not_among : (q : Handle) → stands_in (born s) q ≡ false → stands_in others q ≡ false
-    not_among q none =
-        any-filter_same (eq_by_cmp handle_cmp q) (λ h. is_none (listed_birth 0 0 queues h))
-        (is_none (listed_birth 0 0 queues q))
-        (λ h tied. ap (λ x. is_none (listed_birth 0 0 queues x)) (sym (same_handle q h tied)))
-        (born s)
-        ∙ neither (is_none (listed_birth 0 0 queues q)) (stands_in (born s) q) none
-      where
-        neither : (a b : Bool) → b ≡ false → (a && b) ≡ false
-        neither true b none = none
-        neither false b none = refl
+  abbrev index : Handle → Option ℕ
+  index q = position_from (eq_by_cmp handle_cmp q) 0 others
 
-    -- who is born has its birth by the queues
-    of_born : (q : Handle) → stands_in (born s) q ≡ true → (b : Option Birth) → By q ≡ b
-        → or_born (or_born None b) (birth_by_index phase no_system (index q))
-        ≡ Some (newborn (unwrap_or b (unlisted_birth phase others q)))
-    of_born q there (Some b) is = refl
-    of_born q there None is =
-        let some = some_index q 0 others (among_others q there is) in
-        ap (λ p. or_born None (birth_by_index phase no_system p)) some.1
-        ∙ ap (λ p. Some
-        (newborn (record {
-          frame = phase;
-          system = no_system;
-          ordinal = ordinal (unwrap_or p 0);
-        }))) (sym some.1)
+  -- who is born and not listed stands among the others, and nobody else does
+  among : (q : Handle) → stands_in others q
+      ≡ (is_none (listed_birth 0 0 queues q) && stands_in hs q)
+  among q = any-filter_same (eq_by_cmp handle_cmp q) (λ h. is_none (listed_birth 0 0 queues h))
+      (is_none (listed_birth 0 0 queues q))
+      (λ h tied. ap (λ x. is_none (listed_birth 0 0 queues x)) (sym (same_handle q h tied))) hs
 
-    of_old : (q : Handle) → stands_in (born s) q ≡ false → (b : Bool)
-        → set.contains (after_flush s).live q ≡ b → or_born (map.get m q) (given b (By q))
-        ≡ map.get m q
-    of_old q none false dead = or_born-none (map.get m q)
-    of_old q none true lives =
-        let some = an_entity (map.get m q) (living q ∙ lived-before q none lives) in
-        ap (λ o. or_born o (By q)) some.1 ∙ sym some.1
+  among_others : (q : Handle) (b : Option Birth) → stands_in hs q ≡ true → By q ≡ b
+      → stands_in others q ≡ not (is_some b)
+  among_others q b there is =
+      among q ∙ ap (λ t. is_none (listed_birth 0 0 queues q) && t) there
+      ∙ ap (λ t. t && true) (listed_anyhow queues phase 0 0 q ∙ ap (λ o. not (is_some o)) is)
+      ∙ both (not (is_some b))
+    where
+      both : (t : Bool) → (t && true) ≡ t
+      both true = refl
+      both false = refl
 
-    -- what enters by queues, and then the others, is each with its birth
-    pub births_entered : entered_others (after_flush s) (first_birth phase no_system) (born s)
-        (entered_queues (after_flush s) phase 0 queues m)
-        ≡ with_born m (birth_in phase queues (born s)) (born s)
-    unfolding listed
-    births_entered = map.same_map handle_cmp_total handle_cmp-IsAntisymmetric _ _ (λ q.
-        get-entered_others (after_flush s) phase 0 (born s) listed q
-        (distinct (born s) (born-apart s sound)) born-alive
-        ∙ ap (λ hs. or_born (map.get listed q)
-        (birth_by_index phase no_system (position_from (eq_by_cmp handle_cmp q) 0 hs)))
-        others_are
-        ∙ by_test q (stands_in (born s) q) refl
-        ∙ sym (get-with_born (birth_in phase queues (born s)) (born s) m q))
-      where
-        by_test : (q : Handle) (b : Bool) → stands_in (born s) q ≡ b
-            → or_born (map.get listed q) (birth_by_index phase no_system (index q))
-            ≡ cond b (Some (newborn (birth_in phase queues (born s) q))) (map.get m q)
-        by_test q true there = ap (λ o. or_born o (birth_by_index phase no_system (index q)))
-            (listed-born q there) ∙ of_born q there (By q) refl
-        by_test q false none =
-            ap (λ p. or_born (map.get listed q) (birth_by_index phase no_system p))
-            (no_index q 0 others (not_among q none))
-            ∙ or_born-none (map.get listed q)
-            ∙ listed-get q
-            ∙ of_old q none (set.contains (after_flush s).live q) refl
+  not_among : (q : Handle) → stands_in hs q ≡ false → stands_in others q ≡ false
+  not_among q none = among q ∙ neither (is_none (listed_birth 0 0 queues q)) (stands_in hs q) none
+    where
+      neither : (a b : Bool) → b ≡ false → (a && b) ≡ false
+      neither true b none = none
+      neither false b none = refl
 
--- a storage of that map with room for what is taken has room for what is born
-pub room-flushed : (s : Allocator) (store : Store) → IsSound s → AreLiving s store.entities
-    → length s.taken ≤ store.spare → HasRoomForBorn (after_flush s) store
-room-flushed s store sound living enough = record {
-  waiting = born s;
-  all = λ h lives absent. by_test h lives absent (stands_in (born s) h) refl;
-  room = let same = length_permutation s.taken (born s) (born-IsPermutation s) in omega arith;
-}
-  where
-    by_test : (h : Handle) → set.contains (after_flush s).live h ≡ true
-        → map.contains_key store.entities h ≡ false → (b : Bool) → stands_in (born s) h ≡ b → b
-        ≡ true
-    by_test h lives absent true _ = refl
-    by_test h lives absent false none =
-        absurd (true≢false (sym (living h ∙ lived-before s store.entities sound living h none lives)
-        ∙ absent))
+  -- who is born has its birth by the queues
+  of_born : (q : Handle) → stands_in hs q ≡ true → (b : Option Birth) → By q ≡ b
+      → or_numbered (or_named (Some bare) b) (birth_by_index phase no_system (index q))
+      ≡ Some (newborn (unwrap_or b (unlisted_birth phase others q)))
+  of_born q there (Some b) is =
+      ap (λ p. or_numbered (Some (newborn b)) (birth_by_index phase no_system p))
+      (no_index q 0 others (among_others q (Some b) there is))
+  of_born q there None is =
+      let some = some_index q 0 others (among_others q None there is) in
+      ap (λ p. or_numbered (Some bare) (birth_by_index phase no_system p)) some.1
+      ∙ ap (λ p. Some
+      (newborn (record {
+        frame = phase;
+        system = no_system;
+        ordinal = ordinal (unwrap_or p 0);
+      }))) (sym some.1)
 
--- the map after a flush, the queues' handles, and then all that are born
-pub all_entered : (s t : Allocator) (m n listed_ones last : EntityMap) (phase : ℕ)
-    (queues : List (List Command)) (handles : List Handle) → IsSound s → AreLiving s m
-    → t ≡ after_flush s → n ≡ m → handles ≡ born s → listed_ones ≡ entered_queues t phase 0 queues n
-    → last ≡ entered_others t (first_birth phase no_system) handles listed_ones
+  -- what enters, is named and is numbered is each with its birth
+  pub births_given : numbered (first_birth phase no_system) hs (named_queues hs phase 0 queues all)
+      ≡ with_born m (birth_in phase queues hs) hs
+  unfolding listed
+  births_given = map.same_map handle_cmp_total handle_cmp-IsAntisymmetric _ _ (λ q.
+      get-numbered phase 0 hs listed q once
+      ∙ ap (λ gs. or_numbered (map.get listed q)
+      (birth_by_index phase no_system (position_from (eq_by_cmp handle_cmp q) 0 gs)))
+      others_are
+      ∙ by_test q (stands_in hs q) refl
+      ∙ sym (get-with_born (birth_in phase queues hs) hs m q))
+    where
+      by_test : (q : Handle) (b : Bool) → stands_in hs q ≡ b
+          → or_numbered (map.get listed q) (birth_by_index phase no_system (index q))
+          ≡ cond b (Some (newborn (birth_in phase queues hs q))) (map.get m q)
+      by_test q true there = ap (λ o. or_numbered o (birth_by_index phase no_system (index q)))
+          (listed-born q there) ∙ of_born q there (By q) refl
+      by_test q false none =
+          ap (λ p. or_numbered (map.get listed q) (birth_by_index phase no_system p))
+          (no_index q 0 others (not_among q none))
+          ∙ or_numbered-none (map.get listed q)
+          ∙ listed-get q
+          ∙ ap (λ t. or_named (cond t (Some bare) (map.get m q)) (given t (By q))) none
+          ∙ or_named-none (map.get m q)
+
+-- the places of those that have entered at the end
+drop_all_before : (xs ys : List Handle) → drop (length xs) (xs ++ ys) ≡ ys
+drop_all_before [] ys = refl
+drop_all_before (x ∷ xs) ys = drop_all_before xs ys
+
+-- those that are born now stand from that place on
+pub stand_after : (before : ℕ) (old new handles : List Handle) → before ≡ length old → new
+    ≡ old ++ handles → drop before new ≡ handles
+stand_after before old new handles at are =
+    ap (λ n. drop n new) at ∙ ap (drop (length old)) are ∙ drop_all_before old handles
+
+-- the map after all have entered, were named and were numbered
+pub all_given : (s : Allocator) (m n bare_ones listed_ones last : EntityMap) (phase : ℕ)
+    (queues : List (List Command)) (handles later again : List Handle) → IsSound s
+    → length queues ≤ 2 ^ 16 → n ≡ m → handles ≡ born s → later ≡ handles → again ≡ born s
+    → bare_ones ≡ with_born n (λ _. first_birth phase no_system) handles
+    → listed_ones ≡ named_queues later phase 0 queues bare_ones
+    → last ≡ numbered (first_birth phase no_system) again listed_ones
     → last ≡ with_born m (birth_in phase queues (born s)) (born s)
-all_entered s t m n listed_ones last phase queues handles sound living flushed same are first then =
-    then
-    ∙ (λ i. entered_others (flushed i) (first_birth phase no_system) (are i)
-    ((first ∙ (λ j. entered_queues (flushed j) phase 0 queues (same j))) i))
-    ∙ births_entered s m sound living phase queues
+all_given s m n bare_ones listed_ones last phase queues handles later again sound few same are stand
+    are_again first then at_last =
+    at_last
+    ∙ (λ i. numbered (first_birth phase no_system) (are_again i)
+    ((then ∙ (λ j. named_queues ((stand ∙ are) j) phase 0 queues
+    ((first ∙ (λ k. with_born (same k) (λ _. first_birth phase no_system) (are k))) j))) i))
+    ∙ births_given m phase queues (born s) (distinct (born s) (born-apart s sound)) few

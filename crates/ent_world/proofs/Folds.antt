@@ -5,8 +5,8 @@ use Rattle.std.proofs.lemmas.List.{take_more, drop_more, length-drop, length-tak
 use Rattle.ent_handle.specs.Handle.{Handle}
 use Rattle.ent_queue.specs.Command.{Command, Spawn, SpawnMany, Insert, Remove, Despawn, Refused}
 use Rattle.ent_world.specs.World.{World}
-use Rattle.ent_world.specs.Command.{Applied, on_entity, on_each, after_command, after_commands}
-use Rattle.ent_world.specs.Command.{after_queues}
+use Rattle.ent_world.specs.Effects.{Applied, on_entity, on_each, after_command, after_commands}
+use Rattle.ent_world.specs.Effects.{after_queues}
 use Rattle.ent_world.specs.Sync.{first_part, cut_commands, cut_queue, cut}
 
 -- the next element of a list, of which the first ones are done

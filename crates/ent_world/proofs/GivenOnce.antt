@@ -1,6 +1,6 @@
--- Over the frames of a run no handle is given twice, if no slot's generations begin anew: each
--- frame keeps the list of all given handles free of repetitions.
-use Rattle.std.proofs.Common.{◌≡◌, ◌≢◌, refl, sym, ap, ◌∙◌, subst, append-nil, append_assoc, arith}
+-- Over the frames of a run no handle is given twice: each frame keeps the list of all given handles
+-- free of repetitions.
+use Rattle.std.proofs.Common.{◌≡◌, refl, sym, ◌∙◌, subst, append-nil, append_assoc, arith}
 use Rattle.std.proofs.Common.{ℕ, true, List, [], ◌∷◌, ◌++◌, Result, Ok, Err}
 use Rattle.std.proofs.lemmas.List.Elements.{All-nil}
 use Rattle.ent_handle.specs.Handle.{Handle}
@@ -8,19 +8,15 @@ use Rattle.ent_alloc.specs.Limits.{Limits, AreLimits}
 use Rattle.ent_alloc.specs.declared.space.Space.{Space}
 use Rattle.ent_alloc.specs.Sequential.{Allocator, opening, after_take, reply_to, born}
 use Rattle.ent_alloc.specs.Sound.{IsSound, IsLive}
-use Rattle.ent_alloc.specs.Given.{IsSpent, AreSpent}
+use Rattle.ent_alloc.specs.Spent.{IsSpent, AreSpent}
 use Rattle.ent_alloc.specs.History.{Call, IsLegal, after_history, handles_in, given_in}
-use Rattle.ent_alloc.proofs.HandleSets.{in_removed}
 use Rattle.ent_alloc.proofs.Soundness.{opening-sound, after_take-sound, after_flush-sound}
 use Rattle.ent_alloc.proofs.Soundness.{after_free-sound}
 use Rattle.ent_alloc.proofs.GivenOnce.{take-given, refused-given, flush-given, free-given}
 use Rattle.ent_queue.specs.Command.{Command}
-use Rattle.ent_storage.specs.Components.{Components}
-use Rattle.ent_storage.specs.EntityMap.{with_components}
 use Rattle.ent_world.specs.World.{World, AreLiving, lives_in, first_world}
-use Rattle.ent_world.specs.Command.{applied, after_despawn}
+use Rattle.ent_world.specs.Effects.{applied}
 use Rattle.ent_world.specs.Sync.{after_births, sync, birth_in}
-use Rattle.ent_world.specs.Wrapping.{NoneWraps}
 use Rattle.ent_world.proofs.Living.{keys-empty, keys-remove, keys-components, living-history}
 use Rattle.ent_world.proofs.Born.{living-after}
 use Rattle.ent_world.proofs.Kept.{IsKept, after_queues-keeps}
@@ -82,67 +78,24 @@ flushed-kept = record {
   };
 }
 
--- ---- who lives after a change lived before it
-
-components-lives : (change : Components → Components) (h : Handle) (w : World) (g : Handle)
-    → AreLiving w.allocator w.entities
-    → lives_in (record w { entities = with_components w.entities h change }) g ≡ lives_in w g
-components-lives change h w g living = keys-components w.allocator.live w.entities h change living g
-    ∙ sym (living g)
-
--- who is left by a despawn is another, who lived
-despawn-left : (h : Handle) (w : World) (g : Handle) → AreLiving w.allocator w.entities
-    → lives_in (after_despawn h w) g ≡ true → (g ≢ h) × (lives_in w g ≡ true)
-despawn-left h w g living left =
-    let was = in_removed w.allocator.live h g
-    (sym (keys-remove w.allocator.live w.entities h living g) ∙ left) in
-    (was.0, living g ∙ was.1)
-
 -- ---- what was given stays spent
 
--- Each last occupant that lived at the start lives still.
-abbrev LastLive : World → World → Type 0
-LastLive start w = (h : Handle) → h.generation ≡ start.allocator.limits.generations
-    → lives_in start h ≡ true → lives_in w h ≡ true
-
--- a world on the way from the start: if no slot's generations began anew, all that was given is
--- spent
-record IsOnTheWay (start : World) (given : List Handle) (w : World) : Type 0 where
+-- a world on the way through a sync: all that was given is spent
+record IsOnTheWay (given : List Handle) (w : World) : Type 0 where
   flushed : IsFlushed w
-  limits : w.allocator.limits ≡ start.allocator.limits
-  lived : (h : Handle) → lives_in w h ≡ true → lives_in start h ≡ true
-  spent : LastLive start w → AreSpent w.allocator given
+  spent : AreSpent w.allocator given
 
-module _ (start : World) (given : List Handle) where
-  components-on_the_way : (change : Components → Components) (h : Handle) (w : World) → lives_in w h
-      ≡ true → IsOnTheWay start given w
-      → IsOnTheWay start given (record w { entities = with_components w.entities h change })
-  components-on_the_way change h w there before =
-      let living = before.flushed.living in
-      record {
-        flushed = flushed-kept.components change h w there before.flushed;
-        limits = before.limits;
-        lived = λ g lives. before.lived g (sym (components-lives change h w g living) ∙ lives);
-        spent = λ last. before.spent (λ g is lived. sym (components-lives change h w g living)
-            ∙ last g is lived);
-      }
-
-  despawn-on_the_way : (h : Handle) (w : World) → lives_in w h ≡ true → IsOnTheWay start given w
-      → IsOnTheWay start given (after_despawn h w)
-  despawn-on_the_way h w there before =
-      let living = before.flushed.living in
-      record {
-        flushed = flushed-kept.despawn h w there before.flushed;
-        limits = before.limits;
-        lived = λ g left. before.lived g (despawn-left h w g living left).1;
-        spent = λ last. free-given w.allocator h given (alive w h living there)
-            (λ is. (despawn-left h w h living (last h (is ∙ ap (λ l. l.generations) before.limits)
-            (before.lived h there))).0 refl)
-            (before.spent (λ g is lived. (despawn-left h w g living (last g is lived)).1));
-      }
-
-  on_the_way-kept : IsKept (IsOnTheWay start given)
-  on_the_way-kept = record { components = components-on_the_way; despawn = despawn-on_the_way }
+on_the_way-kept : (given : List Handle) → IsKept (IsOnTheWay given)
+on_the_way-kept given = record {
+  components = λ change h w there before. record {
+    flushed = flushed-kept.components change h w there before.flushed;
+    spent = before.spent;
+  };
+  despawn = λ h w there before. record {
+    flushed = flushed-kept.despawn h w there before.flushed;
+    spent = free-given w.allocator h given (alive w h before.flushed.living there) before.spent;
+  };
+}
 
 -- ---- a sync
 
@@ -170,25 +123,19 @@ module _ (queues : List (List Command)) (w : World) (sound : IsSound w.allocator
 
 -- it gives nothing
 pub sync-given : (queues : List (List Command)) (w : World) (given : List Handle)
-    → IsSound w.allocator → AreLiving w.allocator w.entities → NoneWraps queues w
-    → AreSpent w.allocator given → AreSpent (sync queues w).world.allocator given
-sync-given queues w given sound living none_wraps once = at_end.spent none_wraps
+    → IsSound w.allocator → AreLiving w.allocator w.entities → AreSpent w.allocator given
+    → AreSpent (sync queues w).world.allocator given
+sync-given queues w given sound living once = at_end.spent
   where
-    start : World
-    start = after_births queues w
-
-    at_start : IsOnTheWay start given start
+    at_start : IsOnTheWay given (after_births queues w)
     at_start = record {
       flushed = births-flushed queues w sound living;
-      limits = refl;
-      lived =
-          λ h lives. lives;
-      spent = λ _. flush-given w.allocator given once;
+      spent = flush-given w.allocator given once;
     }
 
-    at_end : IsOnTheWay start given (sync queues w).world
-    at_end = after_queues-keeps (IsOnTheWay start given) (on_the_way-kept start given) 0 queues
-        (applied start []) at_start
+    at_end : IsOnTheWay given (sync queues w).world
+    at_end = after_queues-keeps (IsOnTheWay given) (on_the_way-kept given) 0 queues
+        (applied (after_births queues w) []) at_start
 
 -- ---- a frame: reservations, and the sync after them
 
@@ -204,12 +151,11 @@ calls-living history w living = living-history w.allocator (after_history w.allo
 -- it gives what was never given
 pub frame-given : (queues : List (List Command)) (history : List Call) (w : World)
     (given : List Handle) → IsSound w.allocator → AreLiving w.allocator w.entities
-    → IsLegal w.allocator history
-    → NoneWraps queues (after_calls history w) → AreSpent w.allocator given
+    → IsLegal w.allocator history → AreSpent w.allocator given
     → AreSpent (sync queues (after_calls history w)).world.allocator (given ++ given_in history)
-frame-given queues history w given sound living legal none_wraps once =
+frame-given queues history w given sound living legal once =
     sync-given queues (after_calls history w) (given ++ given_in history)
-    (history-sound w.allocator history sound) (calls-living history w living) none_wraps
+    (history-sound w.allocator history sound) (calls-living history w living)
     (history-given w.allocator history given sound legal once)
 
 -- it keeps the allocator sound

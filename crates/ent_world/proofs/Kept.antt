@@ -7,9 +7,9 @@ use Rattle.ent_storage.specs.EntityMap.{with_components}
 use Rattle.ent_queue.specs.Command.{Command, Spawn, SpawnMany, Insert, Remove, Despawn, Refused}
 use Rattle.ent_world.specs.declared.fault.FaultKind.TheVariants as kind
 use Rattle.ent_world.specs.World.{World, lives_in}
-use Rattle.ent_world.specs.Command.{Applied, on_entity, on_each, with_fault, after_insert}
-use Rattle.ent_world.specs.Command.{after_remove, after_despawn, after_command, after_commands}
-use Rattle.ent_world.specs.Command.{after_queues}
+use Rattle.ent_world.specs.Effects.{Applied, on_entity, on_each, with_fault, after_insert}
+use Rattle.ent_world.specs.Effects.{after_remove, after_despawn, after_command, after_commands}
+use Rattle.ent_world.specs.Effects.{after_queues}
 
 -- A fact about worlds that holds after each change of a living entity, if it held before.
 pub record IsKept (P : World → Type 0) : Type 0 where

@@ -1,5 +1,5 @@
--- What is left of a list after a stop, one element after the other: none before the stop, the rest of
--- the element at the stop, and each later one whole.
+-- What is left of a list after a stop, one element after the other: none before the stop, the rest
+-- of the element at the stop, and each later one whole.
 use Rattle.std.proofs.Common.{◌≡◌, refl, sym, ap, ◌∙◌, ℕ, zero, suc, ◌+◌, ◌-◌, ◌<◌, ◌≤◌, List, []}
 use Rattle.std.proofs.Common.{◌∷◌, ◌++◌, length, take, drop, arith, inl, inr}
 use Rattle.std.specs.Prelude.{◌⊎◌}
@@ -9,8 +9,8 @@ use Rattle.ent_handle.specs.Handle.{Handle}
 use Rattle.ent_alloc.proofs.ListLaws.{drop-append}
 use Rattle.ent_queue.specs.Command.{Command, Spawn, SpawnMany, Insert, Remove, Despawn, Refused}
 use Rattle.ent_world.specs.World.{World}
-use Rattle.ent_world.specs.declared.applying.Stop.{Stop}
-use Rattle.ent_world.specs.Command.{Applied, on_entity, on_each, after_commands, after_queues}
+use Rattle.ent_world.specs.declared.stop.Stop.{Stop}
+use Rattle.ent_world.specs.Effects.{Applied, on_entity, on_each, after_commands, after_queues}
 use Rattle.ent_world.specs.Sync.{first_part, stops, cut_commands, cut_queue, cut}
 use Rattle.ent_world.specs.Rest.{last_part, left_commands, after_left_queues, after_left}
 use Rattle.ent_world.proofs.Folds.{next_below, next_taken, on_each-append, after_commands-append}
@@ -50,7 +50,8 @@ module _ {X : Type 0} (xs rest : List X) (k : ℕ) (x : X) (left : drop k xs ≡
       ∙ drop_of_length-le (take k xs ++ x ∷ []) (omega (arith, long, taken_long))
 
   -- from the stop on one more is left, whatever comes after
-  pub more_left : (d : ℕ) (ys : List X) → d ≤ k → drop d (take k xs ++ ys) ≡ drop d (take k xs) ++ ys
+  pub more_left : (d : ℕ) (ys : List X) → d ≤ k → drop d (take k xs ++ ys) ≡ drop d (take k xs) ++
+      ys
   more_left d ys le =
       let none : d - length (take k xs) ≡ 0 = omega (arith, taken_long) in
       drop-append d (take k xs) ys ∙ ap (λ n. drop d (take k xs) ++ drop n ys) none
@@ -160,7 +161,9 @@ module _ (system from done : ℕ) (q rest : List Command) (k : ℕ) (c : Command
       omega (arith, long, part_long done front) in
       ap (λ cs. after_commands system from (last_part done cs) a)
       (more_left q rest k c left from ds (omega arith))
-      ∙ (ap (λ cs. after_commands system from cs a) (part_append done front ds (omega (arith, long)))
+      ∙
+      (ap
+      (λ cs. after_commands system from cs a) (part_append done front ds (omega (arith, long)))
       ∙ (after_commands-append system from (last_part done front) ds a
       ∙ ap (λ n. after_commands system n ds (so_far k)) same))
 
@@ -201,10 +204,14 @@ module _ (system from done : ℕ) (q rest : List Command) (k : ℕ) (c : Command
   -- one command more, from where that is left of it
   module _ (n d : ℕ) (number : n ≡ k) (le : from ≤ k) (first : k ≡ from → d ≡ done)
       (later : from < k → d ≡ 0) where
-    pub commands_left-step : so_far (k + 1) ≡ after_commands system n (last_part d (c ∷ [])) (so_far k)
+    pub commands_left-step : so_far (k + 1) ≡ after_commands system n (last_part d (c ∷ []))
+        (so_far k)
     commands_left-step = by_either (up_to from k le) (λ is. commands_left-first (sym is)
-        ∙ ap (λ m. after_commands system m (last_part done (c ∷ [])) (so_far k)) (omega (arith, is, number))
-        ∙ ap (λ m. after_commands system n (last_part m (c ∷ [])) (so_far k)) (sym (first (sym is))))
+        ∙ ap
+        (λ m. after_commands system m (last_part done (c ∷ [])) (so_far k))
+        (omega (arith, is, number))
+        ∙ ap
+        (λ m. after_commands system n (last_part m (c ∷ [])) (so_far k)) (sym (first (sym is))))
         (λ lt. commands_left-next lt
         ∙ ap (λ m. after_commands system m (last_part 0 (c ∷ [])) (so_far k)) (sym number)
         ∙ ap (λ m. after_commands system n (last_part m (c ∷ [])) (so_far k)) (sym (later lt)))
@@ -322,7 +329,8 @@ module _ (from command done : ℕ) (qs rest : List (List Command)) (k : ℕ) (q 
         ∙ after_stop (cut_commands stop stop_done q) lt
 
   -- one queue more, from where that is left of it
-  module _ (n m d : ℕ) (number : n ≡ k) (le : from ≤ k) (first : k ≡ from → (m ≡ command) × (d ≡ done))
+  module _ (n m d : ℕ) (number : n ≡ k) (le : from ≤ k)
+      (first : k ≡ from → (m ≡ command) × (d ≡ done))
       (later : from < k → (m ≡ 0) × (d ≡ 0)) where
     same_step : (p : List Command) (i j e : ℕ) → i ≡ n → j ≡ m → e ≡ d
         → after_commands i j (left_commands j e p) (queues_so_far k)
@@ -335,7 +343,8 @@ module _ (from command done : ℕ) (qs rest : List (List Command)) (k : ℕ) (q 
     pub queues_left-step : queues_so_far (k + 1)
         ≡ after_commands n m (left_commands m d q) (queues_so_far k)
     queues_left-step = by_either (up_to from k le)
-        (λ is. queues_left-first (sym is) ∙ same_step q from command done (omega (arith, is, number))
+        (λ is. queues_left-first (sym is) ∙ same_step q from command done
+        (omega (arith, is, number))
         (sym (first (sym is)).0) (sym (first (sym is)).1))
         (λ lt. queues_left-next lt ∙ same_step q k 0 0 (sym number) (sym (later lt).0)
         (sym (later lt).1))

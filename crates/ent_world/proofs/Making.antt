@@ -23,7 +23,7 @@ use Rattle.ent_alloc.proofs.Replies.{fresh_is_not_old, served_from, refused_from
 use Rattle.ent_storage.specs.Components.{with_items}
 use Rattle.ent_storage.specs.EntityMap.{Entity, EntityMap, newborn, with_components}
 use Rattle.ent_queue.specs.Command.{Bundle}
-use Rattle.ent_world.specs.Command.{spawned}
+use Rattle.ent_world.specs.Effects.{spawned}
 
 -- what a test of a result tells
 pub on_ok : {X E : Type 0} {P : Type 0} (r : Result X E) → is_err r ≡ false → OnOk r P → P

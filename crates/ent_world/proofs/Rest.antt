@@ -1,5 +1,5 @@
--- A sync that is cut anywhere, and goes on with what is left, is the whole sync; and faults are only
--- added to those that there were.
+-- A sync that is cut anywhere, and goes on with what is left, is the whole sync; and faults are
+-- only added to those that there were.
 use Rattle.std.proofs.Common.{◌≡◌, refl, sym, ap, ◌∙◌, ℕ, zero, suc, ◌+◌, List, [], ◌∷◌, ◌++◌, Bool}
 use Rattle.std.proofs.Common.{length, take, drop, arith, true, false, inl, inr, ◌≤◌, append-nil}
 use Rattle.std.specs.Prelude.{◌⊎◌}
@@ -12,9 +12,9 @@ use Rattle.ent_world.specs.World.{World, lives_in}
 use Rattle.ent_world.specs.declared.fault.Fault.{Fault}
 use Rattle.ent_world.specs.declared.fault.FaultKind.{FaultKind}
 use Rattle.ent_world.specs.declared.fault.FaultKind.TheVariants as kind
-use Rattle.ent_world.specs.Command.{Applied, applied, on_entity, on_each, with_fault, after_insert}
-use Rattle.ent_world.specs.Command.{after_remove, after_despawn, refused, after_command}
-use Rattle.ent_world.specs.Command.{after_commands, after_queues}
+use Rattle.ent_world.specs.Effects.{Applied, applied, on_entity, on_each, with_fault, after_insert}
+use Rattle.ent_world.specs.Effects.{after_remove, after_despawn, refused, after_command}
+use Rattle.ent_world.specs.Effects.{after_commands, after_queues}
 use Rattle.ent_world.specs.Sync.{first_part, cut_commands, cut_queue, cut}
 use Rattle.ent_world.specs.Rest.{last_part, left_commands, after_left_queues, after_left}
 use Rattle.ent_world.specs.Rest.{IsLaterIn, IsLater}
@@ -57,7 +57,8 @@ commands_split system from (suc command) done [] a = refl
 commands_split system from (suc command) done (c ∷ q) a =
     commands_split system (from + 1) command done q (after_command system from c a)
     ∙ ap (λ n. after_commands system n (left_commands command done q)
-    (after_commands system (from + 1) (cut_commands command done q) (after_command system from c a)))
+    (after_commands system (from + 1) (cut_commands command done q)
+    (after_command system from c a)))
     (omega arith)
 
 commands_whole : (system command done : ℕ) (q : List Command) (a : Applied)

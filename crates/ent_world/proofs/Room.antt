@@ -1,9 +1,9 @@
--- Room for those that are alive and not there yet.
-use Rattle.std.proofs.Common.{◌≡◌, refl, sym, ap, ◌∙◌, subst, ◌+◌, ◌<◌, ◌≤◌, Bool, true, false}
-use Rattle.std.proofs.Common.{cond, not}
-use Rattle.std.proofs.Common.{true≢false, List, [], ◌∷◌, length, filter, is_some, arith}
-use Rattle.std.proofs.Common.{Result, Ok, Err, OnOk, OnErr, IsErrOf, IsTrue, ◌||◌}
-use Rattle.std.proofs.lemmas.Map.Views.{any-filter_same}
+-- Entering one by one, with room for all, and who stands from a place on.
+use Rattle.std.proofs.Common.{◌≡◌, refl, sym, ap, ◌∙◌, ◌+◌, ◌<◌, ◌≤◌, Bool, true, false, cond}
+use Rattle.std.proofs.Common.{true≢false, ℕ, zero, suc, ◌-◌, List, [], ◌∷◌, ◌++◌, drop}
+use Rattle.std.proofs.Common.{slice_get, is_some, arith}
+use Rattle.std.proofs.lemmas.Option.{none-some, same_Some}
+use Rattle.std.proofs.Common.{Some, Result, Ok, Err, OnOk, IsErrOf, IsTrue, ◌||◌, ◌↔◌}
 use Rattle.std.specs.Ordering.{eq_by_cmp}
 use Rattle.std.specs.FinSet as set
 use Rattle.std.specs.FinMap as map
@@ -12,97 +12,110 @@ use Rattle.ent_handle.specs.Handle.{Handle, handle_cmp, handle_cmp_total}
 use Rattle.ent_alloc.specs.declared.state.State.TheVariants.{Alive, Reserved, Gone}
 use Rattle.ent_alloc.specs.Sequential.{Allocator, stands_in, state_of}
 use Rattle.ent_alloc.proofs.HandleSets.{same_handle, itself}
-use Rattle.ent_storage.specs.EntityMap.{Store, newborn}
+use Rattle.ent_storage.specs.EntityMap.{Entity, EntityMap, Store, newborn}
 use Rattle.ent_storage.specs.declared.fault.StorageFault.{StorageFault}
-use Rattle.ent_storage.specs.declared.fault.StorageFault.TheVariants.{Present}
-use Rattle.ent_world.specs.Entering.{HasRoomForBorn}
-use Rattle.ent_world.proofs.Living.{some_more}
+use Rattle.ent_storage.specs.declared.fault.StorageFault.TheVariants.{Absent, Present, Memory}
+use Rattle.ent_world.specs.Entering.{AreNew}
 
--- the other handles
-abbrev other_than : Handle → Handle → Bool
-other_than h g = not (eq_by_cmp handle_cmp h g)
-
-no_more : (p : Handle → Bool) (hs : List Handle) → length (filter p hs) ≤ length hs
-no_more p [] = omega arith
-no_more p (h ∷ hs) = elim (p h) as (λ b. length (cond b (h ∷ filter p hs) (filter p hs))
-    ≤ length (h ∷ hs)) [
-      | true ↦ let rest = no_more p hs in omega arith
-      | false ↦ let rest = no_more p hs in omega arith
-    ]
-
--- without a handle that stands there they are fewer
-fewer : (h : Handle) (hs : List Handle) → stands_in hs h ≡ true → length (filter (other_than h) hs)
-    + 1 ≤ length hs
-fewer h [] none = absurd (true≢false (sym none))
-fewer h (g ∷ hs) some =
-    elim (eq_by_cmp handle_cmp h g) as (λ b. (b || stands_in hs h) ≡ true
-    → length (cond (not b) (g ∷ filter (other_than h) hs) (filter (other_than h) hs)) + 1
-    ≤ length (g ∷ hs)) [
-      | true ↦ λ _. let rest = no_more (other_than h) hs in omega arith
-      | false ↦ λ others. let rest = fewer h hs others in omega arith
-    ] some
-
--- one of those that wait has entered
-pub room-entered : (s : Allocator) (before after : Store) (h : Handle) (birth : Birth)
-    → HasRoomForBorn s before
-    → set.contains s.live h ≡ true → map.contains_key before.entities h ≡ false
-    → after.entities ≡ map.insert before.entities h (newborn birth)
-    → (0 < before.spare → after.spare + 1 ≡ before.spare) → HasRoomForBorn s after
-room-entered s before after h birth has alive absent entered less =
-    let here : stands_in has.waiting h ≡ true = has.all h alive absent in
-    let few = fewer h has.waiting here in
-    let some : 0 < before.spare = omega (arith, has.room) in
-    let one_less = less some in
-    record {
-      waiting = filter (other_than h) has.waiting;
-      all = λ g lives none.
-          let none_after : map.contains_key (map.insert before.entities h (newborn birth)) g
-          ≡ false = subst (λ m. map.contains_key m g ≡ false) entered none in
-          still g lives
-          (sym (ap is_some (map.get-insert handle_cmp_total before.entities h (newborn birth) g)
-          ∙ some_more (eq_by_cmp handle_cmp g h) (newborn birth) (map.get before.entities g))
-          ∙ none_after);
-      room = omega (arith, has.room);
-    }
+-- the others are new still
+pub new_later : (h : Handle) (e : Entity) (hs : List Handle) (m : EntityMap) → stands_in hs h
+    ≡ false → AreNew hs m → AreNew hs (map.insert m h e)
+new_later h e [] m none new = tt
+new_later h e (g ∷ hs) m none new =
+    let both = neither (eq_by_cmp handle_cmp h g) (stands_in hs h) none in (
+      ap is_some (map.get-insert handle_cmp_total m h e g)
+          ∙ by_test (eq_by_cmp handle_cmp g h) refl both.0,
+      new.1,
+      new_later h e hs m both.1 new.2,
+    )
   where
-    others : (g : Handle) → eq_by_cmp handle_cmp g h ≡ false → (k : Handle)
-        → eq_by_cmp handle_cmp g k ≡ true → other_than h k ≡ true
-    others g apart k same = elim (eq_by_cmp handle_cmp h k) as (λ b. eq_by_cmp handle_cmp h k ≡ b
-        → not b ≡ true) [
-          | true ↦ λ tied.
-              absurd (true≢false (sym (itself h) ∙ ap (λ x. eq_by_cmp handle_cmp x h)
-              (same_handle h k tied ∙ sym (same_handle g k same)) ∙ apart))
-          | false ↦ λ _. refl
-        ] refl
+    neither : (a b : Bool) → (a || b) ≡ false → (a ≡ false) × (b ≡ false)
+    neither true b some = absurd (true≢false some)
+    neither false b some = (refl, some)
 
-    still : (g : Handle) → set.contains s.live g ≡ true
-        → (eq_by_cmp handle_cmp g h || map.contains_key before.entities g) ≡ false
-        → stands_in (filter (other_than h) has.waiting) g ≡ true
-    still g lives none =
-        elim (eq_by_cmp handle_cmp g h) as (λ b. eq_by_cmp handle_cmp g h ≡ b
-        → (b || map.contains_key before.entities g) ≡ false
-        → stands_in (filter (other_than h) has.waiting) g ≡ true) [
-          | true ↦ λ _ t. absurd (true≢false t)
-          | false ↦ λ apart absent. any-filter_same (eq_by_cmp handle_cmp g) (other_than h) true
-              (others g apart) has.waiting ∙ has.all g lives absent
-        ] refl none
+    turned : eq_by_cmp handle_cmp g h ≡ true → eq_by_cmp handle_cmp h g ≡ true
+    turned tied = ap (eq_by_cmp handle_cmp h) (same_handle g h tied) ∙ itself h
 
--- a storage was asked to enter one that is alive
-pub room-born : {X : Type 0} (s : Allocator) (before after : Store) (h : Handle) (birth : Birth)
-    (r : Result X StorageFault) → HasRoomForBorn s before
-    → set.contains s.live h ≡ true
+    by_test : (b : Bool) → eq_by_cmp handle_cmp g h ≡ b → eq_by_cmp handle_cmp h g ≡ false
+        → is_some (cond b (Some e) (map.get m g)) ≡ false
+    by_test true tied apart = absurd (true≢false (sym (turned tied) ∙ apart))
+    by_test false _ apart = new.0
+
+-- a storage with room is asked to enter one that is new
+pub record HasEntered (before after : Store) (h : Handle) (birth : Birth) : Type 0 where
+  pub entities : after.entities ≡ map.insert before.entities h (newborn birth)
+  pub places : after.places ≡ before.places ++ h ∷ []
+  pub spare : after.spare + 1 ≡ before.spare
+
+pub has_entered : {X : Type 0} (before after : Store) (h : Handle) (birth : Birth)
+    (r : Result X StorageFault) → map.contains_key before.entities h ≡ false → 0 < before.spare
     → OnOk r (after.entities ≡ map.insert before.entities h (newborn birth))
     → OnOk r (0 < before.spare → after.spare + 1 ≡ before.spare)
-    → (IsTrue (map.contains_key before.entities h) → IsErrOf r Present) → OnErr r (after ≡ before)
-    → HasRoomForBorn s after
-room-born s before after h birth (Ok x) has alive ok less present err = room-entered s before after
-    h birth has alive (absent (map.contains_key before.entities h) refl) ok less
+    → OnOk r (after.places ≡ before.places ++ h ∷ [])
+    → (IsErrOf r Present ↔ IsTrue (map.contains_key before.entities h))
+    → (IsErrOf r Memory → before.spare ≡ 0) → ¬ (IsErrOf r Absent)
+    → HasEntered before after h birth
+has_entered before after h birth (Ok x) new room ok less places present memory absent =
+    record { entities = ok; places = places; spare = less room }
+has_entered before after h birth (Err Present) new room ok less places present memory absent =
+    absurd (true≢false (sym (present.0 refl) ∙ new))
+has_entered before after h birth (Err Memory) new room ok less places present memory absent =
+    let none = memory refl in absurd (omega arith)
+has_entered before after h birth (Err Absent) new room ok less places present memory absent =
+    absurd (absent refl)
+
+-- The places from one on.
+
+slice_get-drop : (places : List Handle) (n i : ℕ) → slice_get (drop n places) i
+    ≡ slice_get places (n + i)
+slice_get-drop places zero i = let same : i ≡ 0 + i = omega arith in ap (slice_get places) same
+slice_get-drop [] (suc n) i = refl
+slice_get-drop (x ∷ places) (suc n) i =
+    let next : suc (n + i) ≡ suc n + i = omega arith in
+    slice_get-drop places n i ∙ ap (slice_get (x ∷ places)) next
+
+some_one : (x h : Handle) → Some x ≡ Some h → eq_by_cmp handle_cmp h x ≡ true
+some_one x h is = ap (λ y. eq_by_cmp handle_cmp h y) (same_Some x h is) ∙ itself h
+
+stands_at : (places : List Handle) (i : ℕ) (h : Handle) → slice_get places i ≡ Some h
+    → stands_in places h ≡ true
+stands_at [] i h is = absurd (none-some h is)
+stands_at (x ∷ places) zero h is = ap (λ b. b || stands_in places h) (some_one x h is)
+stands_at (x ∷ places) (suc i) h is = later (eq_by_cmp handle_cmp h x) (stands_at places i h is)
   where
-    absent : (b : Bool) → map.contains_key before.entities h ≡ b → b ≡ false
-    absent false _ = refl
-    absent true there = let refused = present there in cc
-room-born s before after h birth (Err fault) has alive ok less present err =
-    subst (HasRoomForBorn s) (sym err) has
+    later : (a : Bool) → stands_in places h ≡ true → (a || stands_in places h) ≡ true
+    later true there = refl
+    later false there = there
+
+place_of : (places : List Handle) (h : Handle) → stands_in places h ≡ true → (i : ℕ)
+    × (slice_get places i ≡ Some h)
+place_of [] h none = absurd (true≢false (sym none))
+place_of (x ∷ places) h there =
+    elim (eq_by_cmp handle_cmp h x) as (λ b. eq_by_cmp handle_cmp h x ≡ b
+    → (b || stands_in places h) ≡ true → (i : ℕ) × (slice_get (x ∷ places) i ≡ Some h)) [
+      | true ↦ λ tied _. (0, ap Some (sym (same_handle h x tied)))
+      | false ↦ λ _ others. let rest = place_of places h others in (suc rest.0, rest.1)
+    ] refl there
+
+pub stands_from : (places : List Handle) (n i : ℕ) (h : Handle) → slice_get places i ≡ Some h → n
+    ≤ i → stands_in (drop n places) h ≡ true
+stands_from places n i h is after =
+    let whole : n + (i - n) ≡ i = omega arith in
+    stands_at (drop n places) (i - n) h
+    (slice_get-drop places n (i - n) ∙ ap (slice_get places) whole ∙ is)
+
+-- a handle that stands before, and at no other place
+pub stands_before : (places : List Handle) (n i : ℕ) (h : Handle) → ((k : ℕ) → slice_get places k
+    ≡ Some h → Some i ≡ Some k) → i < n → stands_in (drop n places) h ≡ false
+stands_before places n i h once before = by_test (stands_in (drop n places) h) refl
+  where
+    by_test : (b : Bool) → stands_in (drop n places) h ≡ b → b ≡ false
+    by_test false _ = refl
+    by_test true there =
+        let other = place_of (drop n places) h there in
+        let same : i ≡ n + other.0 = same_Some i (n + other.0) (once (n + other.0)
+        (sym (slice_get-drop places n other.0) ∙ other.1)) in
+        absurd (omega arith)
 
 -- whose state is alive lives
 pub alive_by_state : (s : Allocator) (h : Handle) → state_of s h ≡ Alive → set.contains s.live h

@@ -1,5 +1,5 @@
 -- Worked sync points, computed from the definitions alone.
-use Rattle.std.proofs.Common.{◌≡◌, refl, sym, ◌∙◌, ℕ, ℤ, pos, true, false, true≢false, List, []}
+use Rattle.std.proofs.Common.{◌≡◌, refl, ℕ, ℤ, pos, true, false, List, []}
 use Rattle.std.proofs.Common.{◌∷◌, Some, None}
 use Rattle.std.specs.FinMap as map
 use Rattle.ent_handle.specs.declared.birth.Birth.{Birth}
@@ -12,9 +12,8 @@ use Rattle.ent_queue.specs.Command.{Command, Spawn, SpawnMany, Despawn}
 use Rattle.ent_world.specs.declared.fault.Fault.{Fault}
 use Rattle.ent_world.specs.declared.fault.FaultKind.TheVariants.{NotAlive}
 use Rattle.ent_world.specs.World.{World, first_world, lives_in}
-use Rattle.ent_world.specs.Command.{Applied, after_spawn, after_despawn}
+use Rattle.ent_world.specs.Effects.{Applied, after_spawn, after_despawn}
 use Rattle.ent_world.specs.Sync.{after_births, sync, sync_until}
-use Rattle.ent_world.specs.Wrapping.{NoneWraps}
 
 -- a handle, as its text reads
 infix 70 ◌v◌
@@ -99,7 +98,7 @@ value_of_spawned : value_of spawned.entities (0 v 1) (record { 0 = 0 }) ≡ Some
 unfolding fresh
 value_of_spawned = simp found
 
-slot_gives_next : next spawned.allocator.limits (0 v 1) ≡ 0 v 2
+slot_gives_next : next spawned.allocator.limits (0 v 1) ≡ Some (0 v 2)
 unfolding fresh
 slot_gives_next = refl
 
@@ -155,8 +154,8 @@ first_with : value_of stopped.world.entities (0 v 2) (record { 0 = 0 }) ≡ Some
 unfolding fresh
 first_with = simp found
 
--- the only occupant of a slot with one generation dies: the generations begin anew, and the same
--- handle can be given again
+-- the only occupant of a slot with one generation dies: the slot is retired, and nothing is given
+-- again
 abbrev one_generation : World
 one_generation = after_spawn (birth 0 0 0) [] (0 v 1)
     (first_world (record { slots = 1; generations = 1 }))
@@ -172,9 +171,6 @@ dead_at_last : lives_in (sync its_death one_generation).world (0 v 1) ≡ false
 unfolding fresh
 dead_at_last = simp found
 
-wraps : NoneWraps its_death one_generation → ⊥
-wraps none = true≢false (sym (none (0 v 1) refl lives_at_first) ∙ dead_at_last)
-
-given_again : (sync its_death one_generation).world.allocator.pool ≡ 0 v 1 ∷ []
+none_left : (sync its_death one_generation).world.allocator.pool ≡ []
 unfolding fresh
-given_again = simp found
+none_left = simp found

@@ -14,7 +14,7 @@ use Rattle.ent_storage.specs.Components.{Components}
 use Rattle.ent_storage.specs.EntityMap.{EntityMap, with_components}
 use Rattle.ent_queue.specs.Command.{Bundle, Command}
 use Rattle.ent_world.specs.World.{World, IsWorld, lives_in}
-use Rattle.ent_world.specs.Command.{Applied, after_spawn, after_despawn, after_queues, spawned}
+use Rattle.ent_world.specs.Effects.{Applied, after_spawn, after_despawn, after_queues, spawned}
 use Rattle.ent_world.specs.Sync.{after_births, birth_in}
 use Rattle.ent_world.proofs.Living.{keys-insert, keys-remove, keys-components}
 use Rattle.ent_world.proofs.Living.{living-history}

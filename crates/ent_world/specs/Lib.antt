@@ -1,8 +1,9 @@
 pub mod World
 pub mod OpenWorld
-pub mod Command
+pub mod Effects
 pub mod Sync
 pub mod Rest
 pub mod Memory
 pub mod Entering
-pub mod Wrapping
+pub mod BirthsAlone
+pub mod Named

@@ -1,7 +1,9 @@
 -- Which commands may take memory, so that a sync point may stop there.
 use Rattle.std.specs.Prelude.{◌≡◌, ℕ, ◌||◌, Bool, true, not, nat_lt, List, length, slice_get}
 use Rattle.std.specs.Prelude.{Option, None, Some, false, IsSomeAnd}
+use Rattle.std.specs.Option.{is_some}
 use Rattle.ent_handle.specs.Handle.{Handle}
+use Rattle.ent_alloc.specs.Sequential.{next}
 use Rattle.ent_queue.specs.Command.{Bundle, Command, Spawn, SpawnMany, Insert, Remove}
 use Rattle.ent_queue.specs.Command.{Despawn, Refused}
 use Rattle.ent_world.specs.World.{World, lives_in}
@@ -15,15 +17,20 @@ abbrev pub one_takes_memory : World → Bundle → Option Handle → Bool
 one_takes_memory w items None = false
 one_takes_memory w items (Some h) = insert_takes_memory w items h
 
+-- The entity's slot is given again, or it is not alive, which is a fault to be listed.
+abbrev pub despawn_takes_memory : World → Handle → Bool
+despawn_takes_memory w h = is_some (next w.allocator.limits h) || not (lives_in w h)
+
 -- The command may take memory in this world, at that of its handles: it gives an entity components,
--- frees a handle, or lists a fault. No other takes any: no spawn of nobody, no empty bundle for who
--- lives, no component that is taken away from who lives.
+-- frees a handle whose slot is given again, or lists a fault. No other takes any: no spawn of
+-- nobody, no empty bundle for who lives, no component that is taken away from who lives, no despawn
+-- by which a slot is retired.
 abbrev pub command_takes_memory : World → ℕ → Command → Bool
 command_takes_memory w done (Spawn h items) = insert_takes_memory w items h
 command_takes_memory w done (SpawnMany hs items) = one_takes_memory w items (slice_get hs done)
 command_takes_memory w done (Insert h items) = insert_takes_memory w items h
 command_takes_memory w done (Remove h id) = not (lives_in w h)
-command_takes_memory w done (Despawn h) = true
+command_takes_memory w done (Despawn h) = despawn_takes_memory w h
 command_takes_memory w done (Refused wanted why) = true
 
 -- The queue has that command, and there it may take memory.

@@ -3,7 +3,7 @@ use Rattle.std.specs.Prelude.{◌≡◌, ℕ, ◌+◌, ◌<◌, ◌≤◌, ◌�
 use Rattle.ent_queue.specs.Command.{Command, Spawn, SpawnMany, Insert, Remove, Despawn, Refused}
 use Rattle.ent_world.specs.World.{World}
 use Rattle.ent_world.specs.declared.fault.Fault.{Fault}
-use Rattle.ent_world.specs.Command.{Applied, after_commands, after_queues}
+use Rattle.ent_world.specs.Effects.{Applied, after_commands, after_queues}
 use Rattle.ent_world.specs.Sync.{sync_until}
 
 -- The commands without the first handles of the first one; only a spawn of many has several.
@@ -41,8 +41,10 @@ abbrev pub IsLater : ℕ → ℕ → ℕ → ℕ → ℕ → ℕ → Type 0
 IsLater system command done later later_command later_done =
     (system < later) ⊎ ((system ≡ later) × IsLaterIn command done later_command later_done)
 
--- The sync of the queues on a world has stopped there: this is the world then, and these the faults.
-pub record HasStoppedSo (system command done : ℕ) (queues : List (List Command)) (before now : World)
+-- The sync of the queues on a world has stopped there: this is the world then, and these the
+-- faults.
+pub record HasStoppedSo (system command done : ℕ) (queues : List (List Command))
+    (before now : World)
     (faults : List Fault) : Type 0 where
   pub world : now ≡ (sync_until system command done queues before).world
   pub faults_are : faults ≡ (sync_until system command done queues before).faults

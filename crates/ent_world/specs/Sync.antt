@@ -15,7 +15,7 @@ use Rattle.ent_world.specs.declared.fault.SyncFault.{SyncFault}
 use Rattle.ent_world.specs.declared.fault.SyncFault.TheVariants.{FlushMemory, Memory}
 use Rattle.ent_world.specs.declared.fault.SyncReport.{SyncReport}
 use Rattle.ent_world.specs.World.{World}
-use Rattle.ent_world.specs.Command.{Applied, applied, after_queues}
+use Rattle.ent_world.specs.Effects.{Applied, applied, after_queues}
 
 -- the handles that were reserved for a command
 abbrev pub listed_by : Command → List Handle

@@ -1,95 +1,25 @@
 //! The commands of a sync point take effect, one by one. Each changes the world whole or not at
 //! all.
-ghost use Rattle.std.specs.Prelude.{◌≡◌, ◌<◌, ◌++◌, [], ◌∷◌, length, take, drop, max};
+ghost use Rattle.std.specs.Prelude.{◌≡◌, ◌<◌, ◌≤◌, ◌⊎◌, ◌++◌, [], ◌∷◌, length, take, drop, max};
 ghost use Rattle.std.specs.Prelude.{OnOk, OnErr, IfErr, slice_get, true, false};
 ghost use Rattle.ent_queue.specs.Entry.{command_of};
 ghost use Rattle.ent_world.specs.World.{lives_in};
-ghost use Rattle.ent_world.specs.Command.{applied, refused, on_entity, on_each, after_insert};
-ghost use Rattle.ent_world.specs.Command.{after_remove, after_despawn, after_command};
-ghost use Rattle.ent_world.specs.Command.{after_commands, after_queues};
+ghost use Rattle.ent_world.specs.Effects.{applied, refused, on_entity, on_each, after_insert};
+ghost use Rattle.ent_world.specs.Effects.{after_remove, after_despawn, after_command};
+ghost use Rattle.ent_world.specs.Effects.{after_commands, after_queues};
 ghost use Rattle.ent_world.specs.Sync.{first_part, stops, cut_commands, cut, IsStop};
 ghost use Rattle.ent_world.specs.Memory.{insert_takes_memory, one_takes_memory};
-ghost use Rattle.ent_world.specs.Memory.{command_takes_memory, TakesMemoryIn};
-ghost use Rattle.ent_world.specs.Memory.{TakesMemoryAt};
+ghost use Rattle.ent_world.specs.Memory.{despawn_takes_memory, command_takes_memory};
+ghost use Rattle.ent_world.specs.Memory.{TakesMemoryIn, TakesMemoryAt};
 ghost use Rattle.ent_world.specs.Rest.{last_part, left_commands, after_left, IsLater, IsLaterIn};
-ghost use Rattle.std.specs.Prelude.{◌≤◌, ◌⊎◌};
 
-use crate::fault::{Fault, FaultKind, SyncFault, SyncReport};
+use crate::fault::{Fault, FaultKind};
+use crate::stop::{At, Stop};
 use crate::world::World;
 use ent_handle::{ComponentId, Handle, Memory};
 use ent_queue::{BundleRef, CommandQueue, Entry, HandlesRef};
 use ent_shared::Refused;
 use std::alloc::Global;
-
-/// A command, by its system and its number in the system's queue.
-#[derive(Clone, Copy)]
-pub(crate) struct At {
-    pub(crate) system: usize,
-    pub(crate) command: usize,
-}
-
-/// A command of which that many handles are done, and with it all before it and nothing else: where
-/// memory ran out, and where a sync point goes on.
-#[derive(Clone, Copy)]
-pub(crate) struct Stop {
-    pub(crate) at: At,
-    pub(crate) done: usize,
-}
-
-impl Stop {
-    /// Before the first command of a queue.
-    pub(crate) fn before(system: usize) -> Self
-        ensures { result ≡ record { at = record { system = system; command = 0 }; done = 0 } }
-    {
-        Stop {
-            at: At { system, command: 0 },
-            done: 0,
-        }
-    }
-
-    /// The fault of a sync point that stopped there, with what it has done so far.
-    pub(crate) fn fault(self, so_far: SyncReport) -> SyncFault
-        ensures { result ≡ SyncFault.Memory self.at.system self.at.command self.done so_far }
-    {
-        SyncFault::Memory {
-            system: self.at.system,
-            command: self.at.command,
-            done: self.done,
-            so_far,
-        }
-    }
-
-    /// Where the queue of a system begins that is this one's or comes after it.
-    fn in_queue(self, system: usize) -> Self
-        ensures system { self.at.system ≤ system → result.at.system ≡ system }
-        ensures first { system ≡ self.at.system → result ≡ self }
-        ensures later { self.at.system < system
-            → result ≡ record { at = record { system = system; command = 0 }; done = 0 } }
-    {
-        if system == self.at.system {
-            self
-        } else {
-            Stop::before(system)
-        }
-    }
-
-    /// Where a command of that queue begins that is this one or comes after it.
-    fn at_command(self, command: usize) -> Self
-        ensures system { result.at.system ≡ self.at.system }
-        ensures command { self.at.command ≤ command → result.at.command ≡ command }
-        ensures first { command ≡ self.at.command → result ≡ self }
-        ensures later { self.at.command < command → result.done ≡ 0 }
-    {
-        if command == self.at.command {
-            return self;
-        }
-        let system = self.at.system;
-        Stop {
-            at: At { system, command },
-            done: 0,
-        }
-    }
-}
 
 /// What commands are applied with, beside the world.
 #[derive(Drop)]
@@ -110,7 +40,7 @@ impl Applying {
         }
     }
 
-    /// Reads the components of a bundle, in place of what was read before. After an `Err` there
+    /// Reads the components of a bundle, instead of what was read before. After an `Err` there
     /// are none.
     fn read(&mut self, bundle: BundleRef<'_>) -> Result<(), Memory>
         ensures faults { self.new.faults.items ≡ self.old.faults.items }
@@ -322,7 +252,7 @@ impl World {
         Ok(())
     }
 
-    /// Gives the entity the components that were read last, in place of those that it has under
+    /// Gives the entity the components that were read last, instead of those that it has under
     /// the same numbers.
     fn insert_items(
         &mut self,
@@ -386,6 +316,7 @@ impl World {
             (applied self.old applying.old.faults.items)) }
         ensures err { OnErr result (applied self.new applying.new.faults.items
             ≡ applied self.old applying.old.faults.items) }
+        ensures memory { OnErr result (despawn_takes_memory self.new handle ≡ true) }
     {
         if !self.contains(handle) {
             return applying.add_fault(at, FaultKind::NotAlive(handle));

@@ -1,12 +1,15 @@
 //! What a flush brings to life enters the storage, each entity with its birth.
-ghost use Rattle.std.specs.Prelude.{◌≡◌, ◌≤◌, ◌^◌, length};
+//!
+//! All enter in the order of the flush, so that nothing moves: fresh slots come after all others,
+//! and old ones are there. Their births are of no system at first. Then the queues name them, one
+//! after the other, and an entity that has the birth of a system keeps it. Those that no queue
+//! lists are numbered at last. Each handle takes constant time.
+ghost use Rattle.std.specs.Prelude.{◌≡◌, ◌≤◌, ◌++◌, ◌^◌, drop, length};
 ghost use Rattle.ent_queue.specs.Entry.{command_of};
-ghost use Rattle.ent_world.specs.Sync.{no_system, listed_by, handles_listed};
-ghost use Rattle.ent_world.specs.Entering.{first_birth, next_birth, birth_after, HasRoomForBorn};
-ghost use Rattle.ent_world.specs.Entering.{entered, entered_handles, entered_queues};
-ghost use Rattle.ent_world.specs.Entering.{entered_others};
+ghost use Rattle.ent_world.specs.Sync.{no_system, with_born, listed_by, handles_listed};
+ghost use Rattle.ent_world.specs.Entering.{first_birth, next_birth, birth_after, AreNew};
+ghost use Rattle.ent_world.specs.Entering.{named, named_handles, named_queues, numbered};
 
-use ent_alloc::{Entities, State};
 use ent_handle::{Birth, Handle};
 use ent_queue::{CommandQueue, Entry, Handles};
 use ent_storage::Storage;
@@ -14,113 +17,104 @@ use ent_storage::Storage;
 /// The number of no system: births of handles that no queue lists have it.
 const NO_SYSTEM: u32 = u32::MAX;
 
-/// Enters what the queues list, as far as it is alive and not there yet. The first queue that lists
-/// a handle counts.
-pub(crate) fn enter_listed(
-    storage: &mut Storage,
-    entities: &Entities,
-    phase: u64,
-    queues: &[CommandQueue],
-)
-    requires few { length queues.now ≤ 2 ^ 16 }
-    requires room { HasRoomForBorn entities.now storage.old }
-    ensures room { HasRoomForBorn entities.now storage.new }
-    ensures entered { storage.new.entities
-        ≡ entered_queues entities.now phase 0 queues.now storage.old.entities }
+/// Enters all that are born, each with the first birth of no system. There has to be room for them.
+pub(crate) fn enter_all(storage: &mut Storage, phase: u64, handles: &[Handle])
+    requires new { AreNew handles.now storage.old.entities }
+    requires room { length handles.now ≤ storage.old.spare }
+    ensures entered { storage.new.entities ≡ with_born
+        storage.old.entities (λ _. first_birth phase no_system) handles.now }
+    ensures places { storage.new.places ≡ storage.old.places ++ handles.now }
 {
-    for (system, queue) in queues.iter().enumerate() {
-        enter_queue(storage, entities, phase, system as u32, queue);
+    let birth = first_birth(phase, NO_SYSTEM);
+    for handle in handles {
+        let _ = storage.born(*handle, birth);
     }
 }
 
-/// Enters those of the handles that are not there yet. No queue lists them.
-pub(crate) fn enter_others(
-    storage: &mut Storage,
-    entities: &Entities,
-    phase: u64,
-    handles: &[Handle],
-)
-    requires { HasRoomForBorn entities.now storage.old }
-    ensures { storage.new.entities ≡ entered_others
-        entities.now (first_birth phase no_system) handles.now storage.old.entities }
+/// Gives what the queues list their births, as far as it is born now: from the place `before` on.
+/// The first queue that lists a handle counts.
+pub(crate) fn name_listed(storage: &mut Storage, before: usize, phase: u64, queues: &[CommandQueue])
+    requires { length queues.now ≤ 2 ^ 16 }
+    ensures named { storage.new.entities ≡ named_queues
+        (drop before storage.old.places) phase 0 queues.now storage.old.entities }
+    ensures places { storage.new.places ≡ storage.old.places }
+{
+    for (system, queue) in queues.iter().enumerate() {
+        name_queue(storage, before, phase, system as u32, queue);
+    }
+}
+
+/// Numbers those of the handles that no queue lists. They stand from the place `before` on.
+pub(crate) fn number_others(storage: &mut Storage, before: usize, phase: u64, handles: &[Handle])
+    requires { drop before storage.old.places ≡ handles.now }
+    ensures { storage.new.entities ≡ numbered
+        (first_birth phase no_system) handles.now storage.old.entities }
 {
     let mut birth = first_birth(phase, NO_SYSTEM);
-    for handle in handles {
-        if !storage.contains(*handle) {
-            enter(storage, entities, *handle, birth);
+    for place in before..storage.len() {
+        let handle = handles[place - before];
+        if storage.birth_at(place, handle).system == NO_SYSTEM {
+            storage.set_birth_at(place, handle, birth);
             birth = next_birth(birth);
         }
     }
 }
 
-/// Enters what one queue lists.
-fn enter_queue(
-    storage: &mut Storage,
-    entities: &Entities,
-    phase: u64,
-    system: u32,
-    queue: &CommandQueue,
-)
-    requires { HasRoomForBorn entities.now storage.old }
-    ensures room { HasRoomForBorn entities.now storage.new }
-    ensures entered { storage.new.entities ≡ entered_handles
-        entities.now (first_birth phase system) (handles_listed queue.now) storage.old.entities }
+/// Names what one queue lists.
+fn name_queue(storage: &mut Storage, before: usize, phase: u64, system: u32, queue: &CommandQueue)
+    ensures named { storage.new.entities ≡ named_handles (drop before storage.old.places)
+        (first_birth phase system) (handles_listed queue.now) storage.old.entities }
+    ensures places { storage.new.places ≡ storage.old.places }
 {
     let mut birth = first_birth(phase, system);
     for entry in queue.entries() {
-        birth = enter_entry(storage, entities, birth, entry);
+        birth = name_entry(storage, before, birth, entry);
     }
 }
 
-/// Enters the handles of one command, from this birth on, and returns the birth of the next handle.
-fn enter_entry(storage: &mut Storage, entities: &Entities, birth: Birth, entry: Entry<'_>) -> Birth
-    requires { HasRoomForBorn entities.now storage.old }
-    ensures room { HasRoomForBorn entities.now storage.new }
-    ensures entered { storage.new.entities ≡ entered_handles
-        entities.now birth (listed_by (command_of entry.entry)) storage.old.entities }
+/// Names the handles of one command, from this birth on, and returns the birth of the next handle.
+fn name_entry(storage: &mut Storage, before: usize, birth: Birth, entry: Entry<'_>) -> Birth
+    ensures named { storage.new.entities ≡ named_handles (drop before storage.old.places)
+        birth (listed_by (command_of entry.entry)) storage.old.entities }
+    ensures places { storage.new.places ≡ storage.old.places }
     ensures next { result ≡ birth_after birth (listed_by (command_of entry.entry)) }
 {
     match entry {
         Entry::Spawn(only, _) => {
-            enter(storage, entities, only, birth);
+            name(storage, before, only, birth);
             next_birth(birth)
         }
-        Entry::SpawnMany(handles, _) => enter_handles(storage, entities, birth, handles.iter()),
+        Entry::SpawnMany(handles, _) => name_handles(storage, before, birth, handles.iter()),
         _ => birth,
     }
 }
 
-/// Enters the handles, from this birth on, and returns the birth of the next one.
-fn enter_handles(
-    storage: &mut Storage,
-    entities: &Entities,
-    first: Birth,
-    handles: Handles<'_>,
-) -> Birth
-    requires { HasRoomForBorn entities.now storage.old }
-    ensures room { HasRoomForBorn entities.now storage.new }
-    ensures entered { storage.new.entities
-        ≡ entered_handles entities.now first handles.entry storage.old.entities }
+/// Names the handles, from this birth on, and returns the birth of the next one.
+fn name_handles(storage: &mut Storage, before: usize, first: Birth, handles: Handles<'_>) -> Birth
+    ensures named { storage.new.entities ≡ named_handles
+        (drop before storage.old.places) first handles.entry storage.old.entities }
+    ensures places { storage.new.places ≡ storage.old.places }
     ensures next { result ≡ birth_after first handles.entry }
 {
     let mut birth = first;
     for handle in handles {
-        enter(storage, entities, handle, birth);
+        name(storage, before, handle, birth);
         birth = next_birth(birth);
     }
     birth
 }
 
-/// Enters the entity, if it is alive and not there yet.
-fn enter(storage: &mut Storage, entities: &Entities, handle: Handle, birth: Birth)
-    requires { HasRoomForBorn entities.now storage.old }
-    ensures room { HasRoomForBorn entities.now storage.new }
-    ensures entered { storage.new.entities
-        ≡ entered entities.now handle birth storage.old.entities }
+/// Gives the entity its birth, if it is born now and has none of a system yet.
+fn name(storage: &mut Storage, before: usize, handle: Handle, birth: Birth)
+    ensures named { storage.new.entities ≡ named
+        (drop before storage.old.places) handle birth storage.old.entities }
+    ensures places { storage.new.places ≡ storage.old.places }
 {
-    if entities.state(handle) == State::Alive {
-        // An entity that is there keeps its birth.
-        let _ = storage.born(handle, birth);
+    let Some(place) = storage.place(handle) else {
+        return;
+    };
+    if before <= place && storage.birth_at(place, handle).system == NO_SYSTEM {
+        storage.set_birth_at(place, handle, birth);
     }
 }
 

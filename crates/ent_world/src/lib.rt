@@ -7,6 +7,8 @@ mod births;
 mod fault;
 mod open_world;
 mod spawning;
+mod stop;
+mod sync;
 mod view;
 mod world;
 

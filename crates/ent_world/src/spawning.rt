@@ -4,7 +4,7 @@ ghost use Rattle.std.specs.Prelude.{◌≡◌, ◌<◌, ◌↔◌, [], Some, Non
 ghost use Rattle.std.specs.Prelude.{IfOk, OnOk, OnErr, IsErrOf, false};
 ghost use Rattle.std.specs.FinSet as set;
 ghost use Rattle.std.specs.FinMap as map;
-ghost use Rattle.ent_world.specs.Command.{spawned};
+ghost use Rattle.ent_world.specs.Effects.{spawned};
 
 use ent_alloc::{AllocFault, Entities, Span};
 use ent_handle::{Birth, ComponentId, Handle, Memory};

@@ -1,31 +1,24 @@
-ghost use Rattle.std.specs.Prelude.{◌≡◌, ◌<◌, ◌≤◌, ◌^◌, ◌↔◌, [], length};
+ghost use Rattle.std.specs.Prelude.{◌≡◌, ◌≢◌, ◌<◌, ◌≤◌, ◌^◌, ◌↔◌, [], length};
 ghost use Rattle.std.specs.Prelude.{All, IsTrue, IfOk, IfErr, OnOk, OnErr, IsErrOf, Some};
-ghost use Rattle.std.specs.Prelude.{true, false, slice_get, List, ◌++◌, ◌⊎◌};
+ghost use Rattle.std.specs.Prelude.{true, false, slice_get};
 ghost use Rattle.std.specs.Option.{option_map};
 ghost use Rattle.std.specs.FinSet as set;
 ghost use Rattle.std.specs.FinMap as map;
-ghost use Rattle.ent_alloc.specs.Sequential.{born, next};
+ghost use Rattle.ent_alloc.specs.Sequential.{next, retired};
 ghost use Rattle.ent_alloc.specs.Sound.{IsSound};
 ghost use Rattle.ent_shared.specs.Record.{opened_records};
 ghost use Rattle.ent_shared.specs.Phase.{IsOf, records_of};
 ghost use Rattle.ent_storage.specs.EntityMap.{birth_of, components_of, value_of};
 ghost use Rattle.ent_storage.specs.BirthOrder.{ListsAll};
 ghost use Rattle.ent_world.specs.World.{first_world, AreLiving, IsWorld, lives_in};
-ghost use Rattle.ent_world.specs.World.{World as WorldValue};
-ghost use Rattle.ent_world.specs.declared.fault.Fault.{Fault as FaultValue};
-ghost use Rattle.ent_world.specs.Command.{after_spawn, after_despawn, applied};
-ghost use Rattle.ent_world.specs.Sync.{after_births, sync, sync_until, cut, IsStop, IfStopped};
-ghost use Rattle.ent_world.specs.Rest.{after_left, IsLater, HasStoppedSo};
-ghost use Rattle.ent_world.specs.Memory.{TakesMemoryAt};
+ghost use Rattle.ent_world.specs.Effects.{after_spawn, after_despawn};
+ghost use Rattle.ent_world.specs.Sync.{after_births};
 
-use crate::applying::{Applying, At, Stop};
-use crate::births::{enter_listed, enter_others};
-use crate::fault::{SyncFault, SyncReport};
 use crate::open_world::OpenWorld;
 use crate::spawning::{make, next_handle};
 use ent_alloc::{AllocFault, Entities, FreeFault, Freed, Limits, State};
 use ent_handle::{Birth, ComponentId, Handle, Memory};
-use ent_queue::{Bundle, CommandQueue};
+use ent_queue::Bundle;
 use ent_shared::{Reserver, share};
 use ent_storage::{Items, Storage};
 use std::alloc::Global;
@@ -95,6 +88,13 @@ impl World {
         ensures { IsTrue result ↔ (self.now.entities ≡ map.empty) }
     {
         self.storage.is_empty()
+    }
+
+    /// How many slots are retired: they give no handle any more. It takes constant time.
+    pub fn retired(&self) -> u32
+        ensures { result ≡ retired self.now.allocator }
+    {
+        self.entities.retired()
     }
 
     /// Whether the entity is alive. It takes constant time.
@@ -176,7 +176,7 @@ impl World {
     /// # Errors
     ///
     /// Nothing changes. `NeedsFlush` if handles were requested since the last flush, even if the
-    /// request was refused. `Space` if every slot has a living occupant. `Memory`.
+    /// request was refused. `Space` if every slot has a living occupant or is retired. `Memory`.
     pub fn spawn(&mut self, birth: Birth, bundle: &Bundle) -> Result<Handle, AllocFault>
         ensures front { IfOk result (λ handle.
             slice_get self.old.allocator.pool 0 ≡ Some handle) }
@@ -203,151 +203,23 @@ impl World {
     /// # Errors
     ///
     /// Nothing changes. `NeedsFlush` if handles were requested since the last flush, even if the
-    /// request was refused; then `NotAlive`; then `Memory`.
+    /// request was refused; then `NotAlive`; then `Memory`, which never comes if the slot is
+    /// retired.
     pub fn despawn(&mut self, handle: Handle) -> Result<Freed, FreeFault>
         ensures ok { OnOk result (self.new ≡ after_despawn handle self.old) }
         ensures next { IfOk result (λ freed. freed.next ≡ next self.old.allocator.limits handle) }
-        ensures wrapped { IfOk result (λ freed. IsTrue freed.wrapped
-            ↔ (handle.generation ≡ self.old.allocator.limits.generations)) }
         ensures lived { OnOk result (lives_in self.old handle ≡ true) }
         ensures needs_flush { IsErrOf result FreeFault.NeedsFlush ↔ (0 < self.old.allocator.asked) }
         ensures not_alive { IsErrOf result FreeFault.NotAlive
             ↔ ((self.old.allocator.asked ≡ 0) × (lives_in self.old handle ≡ false)) }
+        ensures memory { IsErrOf result FreeFault.Memory
+            → handle.generation ≢ self.old.allocator.limits.generations }
         ensures err { OnErr result (self.new ≡ self.old) }
         ensures world { IsWorld self.new }
     {
         let freed = self.entities.free(handle)?;
         let _ = self.storage.despawn(handle);
         Ok(freed)
-    }
-
-    /// The sync point: brings to life what is reserved, each entity with its birth by these queues,
-    /// and then applies the queues in their order, which is that of the systems. At most 65,536
-    /// queues are applied at once.
-    ///
-    /// A command on an entity that is not alive at its turn has no effect and is a fault of the
-    /// report, and so is a refused spawn. A spawn of many acts handle by handle.
-    ///
-    /// # Errors
-    ///
-    /// - `FlushMemory`, only if something is reserved: nothing was done, and the call may be made
-    ///   again.
-    /// - `Memory`: it stopped before a command, or at a spawn of many before one of its handles.
-    ///   That command would there give an entity components, free a handle or list a fault: no
-    ///   other takes memory. All births stand, and of the commands just those before.
-    pub fn apply(&mut self, queues: &[CommandQueue]) -> Result<SyncReport, SyncFault>
-        requires { length queues.now ≤ 2 ^ 16 }
-        ensures ok { OnOk result (self.new ≡ (sync queues.now self.old).world) }
-        ensures born { IfOk result (λ report. report.born.items ≡ born self.old.allocator) }
-        ensures faults { IfOk result (λ report.
-            report.faults.items ≡ (sync queues.now self.old).faults) }
-        ensures flushed { OnOk result (self.new.allocator.asked ≡ 0) }
-        ensures world { IsWorld self.new }
-
-        ensures flush_memory { IsErrOf result SyncFault.FlushMemory → self.new ≡ self.old }
-        ensures flush_reserved { IsErrOf result SyncFault.FlushMemory
-            → 0 < length self.old.allocator.taken }
-
-        // What stands after it stopped at a command.
-        ensures stop { IfStopped result (λ system command done _.
-            IsStop system command done queues.now) }
-        ensures stopped_world { IfStopped result (λ system command done _.
-            self.new ≡ (sync_until system command done queues.now self.old).world) }
-        ensures stopped_flushed { IfStopped result (λ _ _ _ _. self.new.allocator.asked ≡ 0) }
-        ensures stopped_born { IfStopped result (λ _ _ _ so_far.
-            so_far.born.items ≡ born self.old.allocator) }
-        ensures stopped_faults { IfStopped result (λ system command done so_far.
-            so_far.faults.items ≡ (sync_until system command done queues.now self.old).faults) }
-        ensures stopped_memory { IfStopped result (λ system command done _.
-            TakesMemoryAt self.new system command done queues.now) }
-    {
-        let Ok(born) = self.bring_to_life(queues) else {
-            return Err(SyncFault::FlushMemory);
-        };
-        let mut applying = Applying::new(self.alloc);
-        let applied = self.apply_all(queues, &mut applying);
-        let Applying { items: _, faults } = applying;
-        match applied {
-            Ok(()) => Ok(SyncReport { born, faults }),
-            Err(stop) => Err(stop.fault(SyncReport { born, faults })),
-        }
-    }
-
-    /// Goes on after a stop of [`World::apply`], or of this call, from where it stopped, with the
-    /// same queues. The first `done` handles of that command are done. Nothing is flushed or born,
-    /// and the phase stays.
-    ///
-    /// If the world is as the stop has left it, the world after it is that of a sync point that did
-    /// not stop, and the faults are those that the stop's report doesn't have yet.
-    ///
-    /// # Errors
-    ///
-    /// `Memory`: it stopped again, there or later, and can go on from there. Of the commands just
-    /// those before have taken effect.
-    pub fn apply_from(
-        &mut self,
-        queues: &[CommandQueue],
-        system: usize,
-        command: usize,
-        done: usize,
-    ) -> Result<SyncReport, SyncFault>
-        requires flushed { self.old.allocator.asked ≡ 0 }
-        requires stop { IsStop system command done queues.now }
-        ensures ok { OnOk result (self.new
-            ≡ (after_left system command done queues.now (applied self.old [])).world) }
-        ensures born { IfOk result (λ report. report.born.items ≡ []) }
-        ensures faults { IfOk result (λ report. report.faults.items
-            ≡ (after_left system command done queues.now (applied self.old [])).faults) }
-        ensures flushed { self.new.allocator.asked ≡ 0 }
-        ensures world { IsWorld self.new }
-
-        // What stands after it stopped again.
-        ensures no_flush { IsErrOf result SyncFault.FlushMemory → ⊥ }
-        ensures stop { IfStopped result (λ later later_command later_done _.
-            IsStop later later_command later_done queues.now) }
-        ensures later { IfStopped result (λ later later_command later_done _.
-            IsLater system command done later later_command later_done) }
-        ensures stopped_world { IfStopped result (λ later later_command later_done _.
-            self.new ≡ (after_left system command done
-            (cut later later_command later_done queues.now) (applied self.old [])).world) }
-        ensures stopped_born { IfStopped result (λ _ _ _ so_far. so_far.born.items ≡ []) }
-        ensures stopped_faults { IfStopped result (λ later later_command later_done so_far.
-            so_far.faults.items ≡ (after_left system command done
-            (cut later later_command later_done queues.now) (applied self.old [])).faults) }
-        ensures stopped_memory { IfStopped result (λ later later_command later_done _.
-            TakesMemoryAt self.new later later_command later_done queues.now) }
-
-        // Who stopped there in the sync point of a world has now done the whole of it, or stopped
-        // again in that sync point. The faults of all reports are its faults.
-        ensures whole_world { (before : WorldValue) (earlier : List FaultValue)
-            → HasStoppedSo system command done queues.now before self.old earlier
-            → OnOk result (self.new ≡ (sync queues.now before).world) }
-        ensures whole_faults { (before : WorldValue) (earlier : List FaultValue)
-            → HasStoppedSo system command done queues.now before self.old earlier
-            → IfOk result (λ report.
-            earlier ++ report.faults.items ≡ (sync queues.now before).faults) }
-        ensures whole_later { (before : WorldValue) (earlier : List FaultValue)
-            → HasStoppedSo system command done queues.now before self.old earlier
-            → IfStopped result (λ later later_command later_done so_far.
-            HasStoppedSo later later_command later_done queues.now before self.new
-            (earlier ++ so_far.faults.items)) }
-    {
-        let from = Stop {
-            at: At { system, command },
-            done,
-        };
-        let mut applying = Applying::new(self.alloc);
-        let applied = self.apply_queues(from, queues, &mut applying);
-        let Applying { items: _, faults } = applying;
-        let nobody = Vec::new(self.alloc);
-        let report = SyncReport {
-            born: nobody,
-            faults,
-        };
-        match applied {
-            Ok(()) => Ok(report),
-            Err(stop) => Err(stop.fault(report)),
-        }
     }
 
     /// Shares the world's allocator among `n` reservers, 1 to 1,024, as [`share`] does. Systems
@@ -394,24 +266,5 @@ impl World {
                 memory,
             )),
         }
-    }
-
-    /// Brings to life what is reserved, each entity with its birth by these queues, and returns the
-    /// handles in the order of the flush.
-    fn bring_to_life(&mut self, queues: &[CommandQueue]) -> Result<Vec<Handle>, Memory>
-        requires { length queues.now ≤ 2 ^ 16 }
-        ensures ok { OnOk result (self.new ≡ after_births queues.now self.old) }
-        ensures born { IfOk result (λ handles. handles.items ≡ born self.old.allocator) }
-        ensures err { OnErr result (self.new ≡ self.old) }
-        ensures memory { OnErr result (0 < length self.old.allocator.taken) }
-        ensures world { IsWorld self.new }
-    {
-        let mut handles = Vec::new(self.alloc);
-        self.storage.reserve(self.entities.reserved() as usize)?;
-        self.entities.flush(&mut handles)?;
-        enter_listed(&mut self.storage, &self.entities, self.phase, queues);
-        enter_others(&mut self.storage, &self.entities, self.phase, &handles);
-        self.phase = self.phase.saturating_add(1);
-        Ok(handles)
     }
 }

@@ -55,6 +55,10 @@ pub fn assert_shown(rt: &impl Abort, alloc: Global, world: &World, wanted: &str)
     assert!(rt; shown(rt, alloc, world).as_str() == wanted);
 }
 
+pub fn assert_retired(rt: &impl Abort, world: &World, slots: u32) {
+    assert!(rt; world.retired() == slots);
+}
+
 pub fn assert_phase(rt: &impl Abort, world: &World, phase: u64) {
     assert!(rt; world.phase() == phase);
 }

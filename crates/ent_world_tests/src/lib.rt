@@ -4,6 +4,8 @@
 #[cfg(test)]
 mod checks;
 #[cfg(test)]
+mod going_on;
+#[cfg(test)]
 mod limits;
 #[cfg(test)]
 mod memory;
@@ -11,5 +13,7 @@ mod memory;
 mod scene;
 #[cfg(test)]
 mod shown;
+#[cfg(test)]
+mod turns;
 #[cfg(test)]
 mod worked_syncs;

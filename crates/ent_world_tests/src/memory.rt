@@ -6,6 +6,7 @@ use crate::checks::{
     assert_born, assert_faults, assert_len, assert_needs_flush, assert_phase, assert_shown, spawn,
 };
 use crate::scene::{Call, bundle, handle, opened, pair, queue};
+use crate::worked_syncs::after_second_and_first;
 use ent_alloc::{AllocFault, Limits};
 use ent_handle::{Handle, Memory};
 use ent_queue::{Bundle, CommandQueue};
@@ -21,10 +22,30 @@ const AFTER: &str = "0.0.0 0v1 0=10 1=5\n0.0.0 2v1 1=1 2=2\n0.0.1 3v1 1=1 2=2\n0
 
 const FAULTS: &str = "0 4 not alive 1v1\n1 1 not alive 9v1\n";
 
+/// The queues of which sync point are applied.
+#[derive(Clone, Copy)]
+enum Queues {
+    /// Those of `with_queues`.
+    Several,
+    /// Each of two systems has spawned.
+    TwoSpawns,
+}
+
 /// The world and the faults before the command, or before that handle of it, at which memory ran
 /// out.
-fn before_stop(system: usize, command: usize, done: usize) -> (&'static str, &'static str) {
-    match (system, command, done) {
+fn before_stop(which: Queues, stop: (usize, usize, usize)) -> (&'static str, &'static str) {
+    match which {
+        Queues::Several => before_stop_of_several(stop),
+        Queues::TwoSpawns => match stop {
+            (0, 0, 0) => ("0.0.0 1v1\n0.1.0 0v1\n", ""),
+            (1, 0, 0) => ("0.0.0 1v1 0=5\n0.1.0 0v1\n", ""),
+            _ => ("no stop", ""),
+        },
+    }
+}
+
+fn before_stop_of_several(stop: (usize, usize, usize)) -> (&'static str, &'static str) {
+    match stop {
         (0, 0, 0) => (
             "0.0.0 0v1 0=10\n0.0.0 2v1\n0.0.1 1v1 0=20\n0.0.1 3v1\n0.1.0 4v1\n",
             "",
@@ -78,7 +99,7 @@ fn with_two(rt: &impl Abort, alloc: Global) -> World {
 }
 
 /// A world after a phase in which two systems wrote their commands.
-fn with_queues(rt: &impl Abort, alloc: Global) -> (World, Vec<CommandQueue>) {
+pub fn with_queues(rt: &impl Abort, alloc: Global) -> (World, Vec<CommandQueue>) {
     let world = with_two(rt, alloc);
     assert!(rt; !world.needs_flush());
     let (open, mut one, mut other) = opened(rt, world);
@@ -112,6 +133,7 @@ fn apply_at_last(
     alloc: Global,
     world: &mut World,
     queues: &[CommandQueue],
+    which: Queues,
 ) -> Result<SyncReport, SyncFault>
     requires { length queues.now ≤ 2 ^ 16 }
 {
@@ -124,29 +146,28 @@ fn apply_at_last(
                 so_far,
             },
         ) => {
-            let rest = gone_on(rt, alloc, world, queues, (system, command, done), &so_far)?;
+            let stop = (system, command, done);
+            let (after, faults) = before_stop(which, stop);
+            assert_shown(rt, alloc, world, after);
+            assert_faults(rt, alloc, &so_far.faults, faults);
+            let rest = gone_on(rt, world, queues, stop)?;
             Ok(joined(rt, so_far, rest))
         }
         whole => whole,
     }
 }
 
-/// Compares what stands after a stop, and goes on there.
+/// Goes on at a stop. Nobody more is born.
 fn gone_on(
     rt: &impl Abort,
-    alloc: Global,
     world: &mut World,
     queues: &[CommandQueue],
     stop: (usize, usize, usize),
-    so_far: &SyncReport,
 ) -> Result<SyncReport, SyncFault>
     requires flushed { world.old.allocator.asked ≡ 0 }
     requires stop { IsStop stop.0 stop.1 stop.2 queues.now }
 {
     let (system, command, done) = stop;
-    let (after, faults) = before_stop(system, command, done);
-    assert_shown(rt, alloc, world, after);
-    assert_faults(rt, alloc, &so_far.faults, faults);
     let rest = world.apply_from(queues, system, command, done)?;
     assert!(rt; rest.born.is_empty());
     Ok(rest)
@@ -169,10 +190,10 @@ fn refused_memory_stops_between_commands(rt: HostRuntime) {
     let alloc = rt.alloc();
     let (mut world, queues) = with_queues(&rt, alloc);
     assert!(rt; queues.len() == 2);
-    let applied = match apply_at_last(&rt, alloc, &mut world, &queues) {
+    let applied = match apply_at_last(&rt, alloc, &mut world, &queues, Queues::Several) {
         Err(SyncFault::FlushMemory) => {
             assert_unchanged(&rt, alloc, &world);
-            apply_at_last(&rt, alloc, &mut world, &queues)
+            apply_at_last(&rt, alloc, &mut world, &queues, Queues::Several)
         }
         applied => applied,
     };
@@ -182,6 +203,30 @@ fn refused_memory_stops_between_commands(rt: HostRuntime) {
     assert_born(&rt, &report.born, &[(2, 1), (3, 1), (4, 1)]);
     assert_shown(&rt, alloc, &world, AFTER);
     assert_faults(&rt, alloc, &report.faults, FAULTS);
+    assert_phase(&rt, &world, 1);
+}
+
+// The same of two spawns. A second `apply` after a refused flush gives the undisturbed report.
+#[test]
+fn refused_memory_stops_between_spawns(rt: HostRuntime) {
+    let alloc = rt.alloc();
+    let (mut world, queues) = after_second_and_first(&rt, alloc);
+    assert!(rt; queues.len() == 2);
+    let applied = match apply_at_last(&rt, alloc, &mut world, &queues, Queues::TwoSpawns) {
+        Err(SyncFault::FlushMemory) => {
+            assert_needs_flush(&rt, &world);
+            assert_phase(&rt, &world, 0);
+            assert!(rt; world.is_empty());
+            apply_at_last(&rt, alloc, &mut world, &queues, Queues::TwoSpawns)
+        }
+        applied => applied,
+    };
+    let Ok(report) = applied else {
+        panic!(rt; "memory for the sync point")
+    };
+    assert_born(&rt, &report.born, &[(0, 1), (1, 1)]);
+    assert!(rt; report.faults.is_empty());
+    assert_shown(&rt, alloc, &world, "0.0.0 1v1 0=5\n0.1.0 0v1 0=7\n");
     assert_phase(&rt, &world, 1);
 }
 

@@ -3,7 +3,7 @@ ghost use Rattle.std.specs.Prelude.{◌≡◌};
 
 use crate::checks::{
     applied, assert_born, assert_faults, assert_len, assert_needs_flush, assert_phase,
-    assert_shown, assert_value, despawn, spawn,
+    assert_retired, assert_shown, assert_value, despawn, spawn,
 };
 use crate::scene::{Call, bundle, handle, opened, pair, queue, with_slots};
 use ent_alloc::{AllocFault, FreeFault, Freed, Limits};
@@ -27,7 +27,7 @@ fn births_go_by_system(rt: HostRuntime) {
 }
 
 /// A new world after a phase in which each of two systems spawned, the second one first.
-fn after_second_and_first(rt: &impl Abort, alloc: Global) -> (World, Vec<CommandQueue>) {
+pub fn after_second_and_first(rt: &impl Abort, alloc: Global) -> (World, Vec<CommandQueue>) {
     let world = World::new(alloc, Limits::default_limits());
     let (open, mut first, mut second) = opened(rt, world);
     let calls = [Call::Spawn(&[(0, 7)])];
@@ -62,11 +62,40 @@ fn spawns_and_despawns(rt: HostRuntime) {
     assert!(rt; world.is_empty());
     assert!(rt; spawn(&mut world, 0, &items) == Ok(old));
     assert_value(&rt, &world, old, ComponentId(0), 7);
-    let wrapped = false;
-    assert!(rt; despawn(&mut world, old) == Ok(Freed { next, wrapped }));
+    assert!(rt; despawn(&mut world, old) == Ok(Freed { next: Some(next) }));
     assert_len(&rt, &world, 0);
     assert!(rt; despawn(&mut world, old) == Err(FreeFault::NotAlive));
     assert!(rt; !world.contains(old));
+}
+
+// With one generation, who goes retires its slot, and the next spawn makes one.
+#[test]
+fn a_slot_of_one_generation_is_given_once(rt: HostRuntime) {
+    let alloc = rt.alloc();
+    let mut world = World::new(alloc, Limits::new(2, 1).expect(&rt, "limits"));
+    let items = bundle(&rt, alloc, &[(0, 7)]);
+    let first = handle(&rt, (0, 1));
+    assert!(rt; spawn(&mut world, 0, &items) == Ok(first));
+    assert!(rt; despawn(&mut world, first) == Ok(Freed { next: None }));
+    assert_retired(&rt, &world, 1);
+    assert!(rt; spawn(&mut world, 1, &items) == Ok(handle(&rt, (1, 1))));
+    assert!(rt; spawn(&mut world, 2, &items) == Err(AllocFault::Space));
+    assert_retired(&rt, &world, 1);
+}
+
+#[test]
+fn a_command_retires_a_slot(rt: HostRuntime) {
+    let alloc = rt.alloc();
+    let world = World::new(alloc, Limits::new(2, 1).expect(&rt, "limits"));
+    let (open, mut first, second) = opened(&rt, world);
+    let calls = [Call::Spawn(&[(0, 7)]), Call::Despawn((0, 1))];
+    let one = queue(&rt, alloc, open.shared(), &mut first, &calls);
+    let mut world = open.close(pair(&rt, alloc, first, second));
+    let report = applied(&rt, &mut world, &[one]);
+    assert_born(&rt, &report.born, &[(0, 1)]);
+    assert!(rt; report.faults.is_empty());
+    assert_len(&rt, &world, 0);
+    assert_retired(&rt, &world, 1);
 }
 
 // A world whose slots are all taken.
@@ -102,7 +131,7 @@ fn faults_stand_in_order(rt: HostRuntime) {
 }
 
 /// A world of two slots, and the handle of an entity that came and went.
-fn with_freed_slot(rt: &impl Abort, alloc: Global) -> (World, Handle) {
+pub fn with_freed_slot(rt: &impl Abort, alloc: Global) -> (World, Handle) {
     let mut world = with_slots(rt, alloc, 2);
     let old = spawn(&mut world, 0, &bundle(rt, alloc, &[(0, 1)])).expect(rt, "a slot");
     let _ = despawn(&mut world, old).expect(rt, "a living entity");
@@ -110,7 +139,7 @@ fn with_freed_slot(rt: &impl Abort, alloc: Global) -> (World, Handle) {
 }
 
 /// The world after a phase in which the first system names entities that are gone.
-fn after_faulty_commands(
+pub fn after_faulty_commands(
     rt: &impl Abort,
     alloc: Global,
     world: World,

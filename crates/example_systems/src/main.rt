@@ -7,6 +7,7 @@ ghost use Rattle.std.specs.Prelude.{◌≡◌, ◌≤◌, length, IfOk, OnOk};
 ghost use Rattle.ent_runner.specs.Frame.{queue_at};
 
 mod by_hand;
+mod going_on;
 mod meadow;
 
 use anyhow::Result;
@@ -15,6 +16,7 @@ use either::{Left, Right};
 use ent_alloc::Limits;
 use ent_runner::{FrameFault, FrameReport, NoGate, run_frame};
 use ent_world::World;
+use going_on::frame_that_goes_on;
 use meadow::{Grow, Reap, Sow};
 use std::thread::Threads;
 
@@ -26,6 +28,8 @@ fn main(rt: HostRuntime) -> Result<()> {
     println!(rt; "sown and grown: {} alive", world.len())?;
     let _ = reap(&rt, &mut world)?;
     println!(rt; "reaped: {} alive", world.len())?;
+    let _ = frame_that_goes_on(&rt, &mut world, &[Sow, Sow])?;
+    println!(rt; "sown twice: {} alive", world.len())?;
     Ok(())
 }
 

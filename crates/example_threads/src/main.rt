@@ -5,14 +5,14 @@
 ghost use Rattle.std.specs.Prelude.{◌≡◌, ◌≢◌, ◌+◌, [], vec_len, AllPairs, OnOk, IfOk};
 ghost use Rattle.ent_shared.specs.Phase.{IsOf};
 
-mod worker;
+mod caller;
 
 use anyhow::{Result, anyhow};
+use caller::Caller;
 use ent_alloc::{Entities, Limits};
 use ent_handle::Handle;
 use ent_shared::{Reserver, Shared, share};
 use std::thread::{Threads, join_mut};
-use worker::Worker;
 
 fn main(rt: HostRuntime) -> Result<()> {
     let entities = Entities::new(rt.alloc(), Limits::default_limits());
@@ -42,11 +42,11 @@ where
     ensures count { IfOk result (λ given. vec_len given ≡ 1024) }
     ensures distinct { IfOk result (λ given. AllPairs (λ g h. g ≢ h) given.items) }
 {
-    let mut a = Worker {
+    let mut a = Caller {
         reserver: a,
         given: Vec::new(rt.alloc()),
     };
-    let mut b = Worker {
+    let mut b = Caller {
         reserver: b,
         given: Vec::new(rt.alloc()),
     };
@@ -61,19 +61,19 @@ where
 
 /// The phase ends with all its reservers, and a flush brings to life what they were given. Returns
 /// all these handles.
-fn end<R: Print + AllocGlobal>(rt: &R, shared: Shared, a: Worker, b: Worker) -> Result<Vec<Handle>>
+fn end<R: Print + AllocGlobal>(rt: &R, shared: Shared, a: Caller, b: Caller) -> Result<Vec<Handle>>
     requires two { shared.count ≡ 2 }
     requires first { IsOf shared a.reserver }
     requires second { IsOf shared b.reserver }
     ensures count { IfOk result (λ given. vec_len given ≡ vec_len a.given + vec_len b.given) }
     ensures distinct { IfOk result (λ given. AllPairs (λ g h. g ≢ h) given.items) }
 {
-    let Worker {
+    let Caller {
         reserver: first,
         given: mut given,
         ..
     } = a;
-    let Worker {
+    let Caller {
         reserver: second,
         given: mut others,
         ..
@@ -93,7 +93,7 @@ fn flush<R: Print + AllocGlobal>(rt: &R, mut entities: Entities) -> Result<()> {
 }
 
 /// One thread reserves one by one, the other at once.
-fn side_by_side<R>(rt: &R, shared: &Shared, a: &mut Worker, b: &mut Worker) -> Result<()>
+fn side_by_side<R>(rt: &R, shared: &Shared, a: &mut Caller, b: &mut Caller) -> Result<()>
 where
     R: Threads + Print,
     requires first { IsOf shared.now a.old.reserver }

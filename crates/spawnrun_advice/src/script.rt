@@ -11,15 +11,21 @@ use serde_json::{Map, Value};
 use std::alloc::Global;
 use std::fmt;
 
+// The longest text that is read once more, in bytes. A value takes up to 173 times its text.
+const LONGEST: usize = 65_536;
+
 /// What a text has instead of what a test of scripts wants, and where.
 ///
 /// The text is read as JSON once more, so this is for a text that is refused. If there is no memory
-/// for that, where it stands is all that is said.
+/// for that, or the text is longer than 65,536 bytes, where it stands is all that is said.
 pub fn script_found(alloc: Global, text: &[u8], fault: ReadFault) -> Found
     ensures found { TellsOfScript fault (inline_text result) }
 {
     if fault == ReadFault::Memory {
         return Found::new();
+    }
+    if text.len() > LONGEST {
+        return with_position(Found::new(), fault);
     }
     match Value::from_slice(alloc, text) {
         Ok(script) => found(part(&script, fault), fault),

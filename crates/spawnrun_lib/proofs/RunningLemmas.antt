@@ -9,10 +9,9 @@ use Rattle.ent_script.specs.Script.{Script}
 use Rattle.ent_script.specs.declared.ReadFault.{ReadFault}
 use Rattle.ent_script.specs.declared.ReadFault.TheVariants as fault
 use Rattle.ent_script_report.specs.declared.Show.{Show}
-use Rattle.ent_script_run.specs.Given.{handles_in_run, NeverWraps}
+use Rattle.ent_script_run.specs.Given.{handles_in_run}
 use Rattle.ent_alloc.specs.History.{AreGivenOnce}
 use Rattle.ent_script_run.specs.Report.{Execution, IsReport, IsReportOf}
-use Rattle.ent_world.specs.World.{first_world}
 use Rattle.spawnrun_lib.specs.Running.{IsScriptReport}
 
 -- what the run of a script returns is an output
@@ -21,8 +20,7 @@ pub made : (script : Script) (workers : ℕ) (show : Show) (r : Result (Vec ℕ)
     → (workers ≡ 1 → IfOk r (λ text. (other : List ℕ) → IsReport script workers show other
     → text.items ≡ other))
     → IfOk r (λ text. (executions : List Execution) → IsReportOf script workers show executions
-    text.items
-    → NeverWraps (first_world script.limits) executions → AreGivenOnce (handles_in_run executions))
+    text.items → AreGivenOnce (handles_in_run executions))
     → IfOk r (λ text. IsScriptReport script workers show text.items)
 made script workers show (Ok text) report only once =
     record { report = report; only = only; given_once = once }

@@ -6,9 +6,8 @@ use Rattle.ent_script.specs.Script.{Script}
 use Rattle.ent_script.specs.declared.ReadFault.{ReadFault}
 use Rattle.ent_script_report.specs.declared.Show.{Show}
 use Rattle.ent_alloc.specs.History.{AreGivenOnce}
-use Rattle.ent_script_run.specs.Given.{handles_in_run, NeverWraps}
+use Rattle.ent_script_run.specs.Given.{handles_in_run}
 use Rattle.ent_script_run.specs.Report.{Execution, IsReport, IsReportOf}
-use Rattle.ent_world.specs.World.{first_world}
 use Rattle.spawnrun_lib.specs.Device.{Writes}
 use Rattle.spawnrun_lib.specs.Replay.{input_limit, size_line}
 use Rattle.spawnrun_lib.specs.declared.status.Status.{Status}
@@ -21,10 +20,9 @@ pub record IsScriptReport (script : Script) (workers : ℕ) (show : Show) (text 
   pub report : IsReport script workers show text
   -- one worker writes no other
   pub only : workers ≡ 1 → (other : List ℕ) → IsReport script workers show other → text ≡ other
-  -- no handle was given twice, unless the generations of a slot began anew
+  -- no handle was given twice, however the frames went
   pub given_once : (executions : List Execution)
-      → IsReportOf script workers show executions text
-      → NeverWraps (first_world script.limits) executions → AreGivenOnce (handles_in_run executions)
+      → IsReportOf script workers show executions text → AreGivenOnce (handles_in_run executions)
 
 -- how the run of an input ends, and what it writes
 pub data RunEnds (workers : ℕ) (show : Show) (input : List ℕ) : Status → List ℕ → Type 0 where

@@ -1,9 +1,9 @@
 //! What the error stream is told of an input that is refused.
 use crate::memory::{EndlessSource, MemorySink, MemorySource, NEVER};
-use crate::runs::{run_of_schedule, run_of_script};
+use crate::runs::{run_between, run_of_schedule, run_of_script};
 use ent_alloc::Limits;
 use ent_script_report::Show;
-use spawnrun_lib::{Source, Status, run};
+use spawnrun_lib::{Source, Status};
 use std::process::Abort;
 use std::test::Fail;
 use std::thread::Threads;
@@ -259,15 +259,7 @@ fn refused_memory_of_an_advice(rt: HostRuntime) {
     if sink.bytes.reserve(1_000).is_err() || errors.bytes.reserve(1_000).is_err() {
         return;
     }
-    let status = run(
-        &rt,
-        rt.alloc(),
-        &mut source,
-        &mut sink,
-        &mut errors,
-        1,
-        Show::Births,
-    );
+    let status = run_between(&rt, 1, &mut source, &mut sink, &mut errors);
     if status == Status::Memory {
         assert!(rt; sink.bytes.is_empty() && errors.bytes.is_empty());
         return;

@@ -1,4 +1,4 @@
-//! Runs over devices in memory that don't fail.
+//! Runs over devices in memory.
 ghost use Rattle.std.specs.Prelude.{◌<◌, ◌≤◌};
 
 use crate::memory::{MemorySink, NEVER};
@@ -15,7 +15,31 @@ pub(crate) struct Ran {
     pub(crate) errors: Vec<u8>,
 }
 
-/// Runs the script that the source gives.
+/// Runs the script that the source gives, between these devices. It shows births.
+pub(crate) fn run_between<R, I: Source>(
+    rt: &R,
+    workers: usize,
+    source: &mut I,
+    output: &mut MemorySink,
+    errors: &mut MemorySink,
+) -> Status
+where
+    R: Threads + Sync + AllocGlobal,
+    requires some { 0 < workers }
+    requires few { workers ≤ 64 }
+{
+    run(
+        rt,
+        rt.alloc(),
+        source,
+        output,
+        errors,
+        workers,
+        Show::Births,
+    )
+}
+
+/// Runs the script that the source gives, over devices that don't fail.
 pub(crate) fn run_of_script<R, I: Source>(rt: &R, source: &mut I, workers: usize, show: Show) -> Ran
 where
     R: Threads + Sync + AllocGlobal,
@@ -40,7 +64,7 @@ where
     }
 }
 
-/// Runs the schedule that the source gives.
+/// Runs the schedule that the source gives, over devices that don't fail.
 pub(crate) fn run_of_schedule<I: Source>(
     rt: &impl AllocGlobal,
     source: &mut I,

@@ -1,7 +1,7 @@
 use crate::memory::{EndlessSource, MemorySink, MemorySource, NEVER};
 use crate::runs::run_of_schedule;
 use ent_alloc::Limits;
-use spawnrun_lib::{Status, replay};
+use spawnrun_lib::{Source, Status, replay};
 use std::alloc::{AllocError, Global};
 use std::process::Abort;
 use std::test::Fail;
@@ -27,7 +27,7 @@ fn replays(
 }
 
 // A schedule with its limits, and what it writes.
-const WORKED: [(u32, u32, &str, &str); 13] = [
+const WORKED: [(u32, u32, &str, &str); 14] = [
     // One bulk takes freed slots and fresh ones, and a flush lists the fresh ones first.
     (
         SLOTS,
@@ -95,7 +95,7 @@ const WORKED: [(u32, u32, &str, &str); 13] = [
         "begin 1 1\nalloc\nstep 1\nanswer 1\nalloc\nflush\nalloc\n",
         "open\nbusy\ncursor -1\n0v1\nneeds flush\nborn 0v1\n1v1\n",
     ),
-    // Only the living are freed, and generations begin anew after the last.
+    // Only the living are freed, and a slot is retired after the last generation.
     (
         SLOTS,
         GENERATIONS,
@@ -106,7 +106,14 @@ const WORKED: [(u32, u32, &str, &str); 13] = [
         SLOTS,
         2,
         "alloc\nfree 0v1\nalloc\nfree 0v2\nalloc\n",
-        "0v1\nfreed 0v1 next 0v2\n0v2\nfreed 0v2 next 0v1 wrapped\n0v1\n",
+        "0v1\nfreed 0v1 next 0v2\n0v2\nfreed 0v2 retired\n1v1\n",
+    ),
+    (
+        1,
+        1,
+        "alloc\nfree 0v1\nalloc\nbegin 1 1\nstep 1\nanswer 1\nalloc\nflush\n",
+        "0v1\nfreed 0v1 retired\nspace wanted 1 left 0\nopen\ncursor -1\n\
+         space wanted 1 left 0\nneeds flush\nborn\n",
     ),
     // The events of a call have their order, and callers their numbers.
     (
@@ -176,6 +183,13 @@ fn no_schedule_is_refused_with_its_line(rt: HostRuntime) {
         ("\n", "refused line 1 word\n"),
         ("begin 1 4294967296\n", "refused line 1 number\n"),
         ("begin 01 1\n", "refused line 1 number\n"),
+        // They break off in a line.
+        ("alloc\nal", "refused line 2 word\n"),
+        ("alloc\nbegin 1", "refused line 2 count\n"),
+        ("alloc\nalloc\nfree 0v", "refused line 3 handle\n"),
+        // A carriage return is a byte like any other.
+        ("alloc\r", "refused line 1 word\n"),
+        ("alloc\r\n", "refused line 1 word\n"),
     ];
     for (schedule, line) in cases {
         replays(&rt, SLOTS, GENERATIONS, schedule, Status::Refused, line);
@@ -191,50 +205,63 @@ fn an_input_without_end_is_refused(rt: HostRuntime) {
 
 #[test]
 fn each_read_and_the_write_fails_in_turn(rt: HostRuntime) {
-    let schedule = b"alloc\nalloc\nfree 0v1\nflush\n";
-    let limits = Limits::default_limits();
-    let mut errors = MemorySink::new(rt.alloc(), NEVER);
-    for calls in 0..5 {
+    let schedule = b"alloc\nalloc\nfree 0v1\nflush\n".as_slice();
+    let wrong = b"al\n".as_slice();
+
+    // There are five reads, the last one at the end.
+    for calls in 0..6 {
         let mut source = MemorySource::new(schedule, 7, calls);
         let mut sink = MemorySink::new(rt.alloc(), NEVER);
-        let status = replay(rt.alloc(), &mut source, &mut sink, &mut errors, limits);
-        assert!(rt; status == Status::Device, "after {calls} reads");
-        assert!(rt; sink.bytes.is_empty());
+        let is_failed = status_of(&rt, &mut source, &mut sink) == Status::Device;
+        assert!(rt; is_failed == (calls < 5), "after {calls} reads");
+        assert!(rt; sink.bytes.is_empty() == is_failed, "after {calls} reads");
     }
-    for text in [schedule.as_slice(), b"al\n".as_slice()] {
-        let mut source = MemorySource::new(text, 7, NEVER);
-        let mut sink = MemorySink::new(rt.alloc(), 0);
-        let status = replay(rt.alloc(), &mut source, &mut sink, &mut errors, limits);
-        assert!(rt; status == Status::Device);
+
+    // There is one write.
+    for (text, undisturbed) in [(schedule, Status::Done), (wrong, Status::Refused)] {
+        for (calls, wanted) in [(0, Status::Device), (1, undisturbed)] {
+            let mut source = MemorySource::new(text, 7, NEVER);
+            let mut sink = MemorySink::new(rt.alloc(), calls);
+            assert!(rt;
+                status_of(&rt, &mut source, &mut sink) == wanted,
+                "after {calls} writes"
+            );
+        }
     }
     let mut sink = MemorySink::new(rt.alloc(), 0);
-    let status = replay(
-        rt.alloc(),
-        &mut EndlessSource,
-        &mut sink,
-        &mut errors,
-        limits,
-    );
-    assert!(rt; status == Status::Device);
-    assert!(rt; errors.bytes.is_empty());
+    assert!(rt; status_of(&rt, &mut EndlessSource, &mut sink) == Status::Device);
 }
 
-/// Passes whichever single allocation is refused, be it the run's or its sink's.
+/// How a run over these devices ends. It tells the error stream of a refused input alone.
+fn status_of<I: Source>(
+    rt: &(impl Abort + AllocGlobal),
+    source: &mut I,
+    sink: &mut MemorySink,
+) -> Status {
+    let mut errors = MemorySink::new(rt.alloc(), NEVER);
+    let limits = Limits::default_limits();
+    let status = replay(rt.alloc(), source, sink, &mut errors, limits);
+    assert!(rt; errors.bytes.is_empty() == (status != Status::Refused));
+    status
+}
+
+/// Passes whichever single allocation is refused.
 #[test]
 fn refused_memory_writes_nothing(rt: HostRuntime) {
     let schedule = b"alloc\nalloc\nfree 0v1\nbegin 1 2\nstep 1\nanswer 1\nflush\n";
     let output = b"0v1\n1v1\nfreed 0v1 next 0v2\nopen\ncursor -1\n0v2 2v1\nborn 2v1 0v2\n";
     let mut source = MemorySource::new(schedule, 7, NEVER);
-    let mut sink = MemorySink::new(rt.alloc(), NEVER);
-    let mut errors = MemorySink::new(rt.alloc(), NEVER);
+    let mut sink = MemorySink::with_room(&rt, rt.alloc(), 1_000);
+    let mut errors = MemorySink::with_room(&rt, rt.alloc(), 1_000);
     let limits = Limits::default_limits();
     match replay(rt.alloc(), &mut source, &mut sink, &mut errors, limits) {
-        Status::Memory | Status::Device => assert!(rt; sink.bytes.is_empty()),
+        Status::Memory => assert!(rt; sink.bytes.is_empty()),
         status => {
             assert!(rt; status == Status::Done);
             assert!(rt; sink.bytes.as_slice() == output.as_slice());
         }
     }
+    assert!(rt; errors.bytes.is_empty());
 }
 
 // The handles of that many fresh slots, with a space before each but the first.

@@ -1,7 +1,7 @@
 ghost use Rattle.std.specs.Prelude.{◌<◌, ◌≤◌, None};
 
 use crate::memory::{EndlessSource, MemorySink, MemorySource, NEVER};
-use crate::runs::run_of_script;
+use crate::runs::{run_between, run_of_script};
 use ent_script_report::Show;
 use spawnrun_lib::{Failed, INPUT_LIMIT, Source, Status, run};
 use std::process::Abort;
@@ -33,6 +33,14 @@ where
     let ran = run_of_script(rt, &mut source, workers, show);
     assert!(rt; ran.status == status);
     assert!(rt; ran.output.as_slice() == output.as_bytes());
+}
+
+// Runs the script, given in pieces of 7 bytes, on one worker, and compares the line of its refusal.
+fn refuses_text<R>(rt: &R, show: Show, script: &[u8], line: &str)
+where
+    R: Threads + Sync + Abort + AllocGlobal,
+{
+    runs(rt, 1, show, script, Status::Refused, line);
 }
 
 #[test]
@@ -69,10 +77,10 @@ const WORKED: [(&str, &str); 7] = [
         r#"{"components":["hp"],"frames":[[[{"insert":{"hp":1},"on":{"handle":"4294967294v2147483647"}},{"despawn":{"handle":"0v1"}},{"spawn":{}}]]]}"#,
         "frame 0 born 1 faults 2\nfault 0 0 not alive 4294967294v2147483647\nfault 0 2 not alive 0v1\nalive 0\n",
     ),
-    // Generations begin anew after the last.
+    // With one generation a slot is retired when its entity goes, and the next spawn makes one.
     (
         r#"{"generations":1,"components":[],"frames":[[[{"spawn":{},"as":"a"},{"despawn":{"name":"a"}}]],[[{"spawn":{}}]]]}"#,
-        "frame 0 born 1 faults 0\nframe 1 born 1 faults 0\n1.0.0 0v1\nalive 1\n",
+        "frame 0 born 1 faults 0\nframe 1 born 1 faults 0\n1.0.0 1v1\nalive 1\n",
     ),
     (r#"{"components":[],"frames":[]}"#, "alive 0\n"),
 ];
@@ -80,14 +88,8 @@ const WORKED: [(&str, &str); 7] = [
 #[test]
 fn worked_scripts(rt: HostRuntime) {
     for (script, output) in WORKED {
-        runs(
-            &rt,
-            1,
-            Show::Handles,
-            script.as_bytes(),
-            Status::Done,
-            output,
-        );
+        let script = script.as_bytes();
+        runs(&rt, 1, Show::Handles, script, Status::Done, output);
     }
 }
 
@@ -112,14 +114,7 @@ const REFUSED: [(&str, &str); 5] = [
 #[test]
 fn no_script_is_refused_with_its_position(rt: HostRuntime) {
     for (script, line) in REFUSED {
-        runs(
-            &rt,
-            1,
-            Show::Handles,
-            script.as_bytes(),
-            Status::Refused,
-            line,
-        );
+        refuses_text(&rt, Show::Handles, script.as_bytes(), line);
     }
 }
 
@@ -128,14 +123,7 @@ fn a_script_that_breaks_off_is_refused(rt: HostRuntime) {
     let script = TARGETS.as_bytes();
     for length in 0..script.len() {
         let (start, _) = script.split_at(length);
-        runs(
-            &rt,
-            1,
-            Show::Handles,
-            start,
-            Status::Refused,
-            "refused json\n",
-        );
+        refuses_text(&rt, Show::Handles, start, "refused json\n");
     }
 }
 
@@ -144,28 +132,14 @@ fn deep_arrays_are_refused(rt: HostRuntime) -> Result<(), Fail> {
     let mut script = Vec::new(rt.alloc());
     script.resize(200, b'[')?;
     script.resize(400, b']')?;
-    runs(
-        &rt,
-        1,
-        Show::Births,
-        &script,
-        Status::Refused,
-        "refused json\n",
-    );
+    refuses_text(&rt, Show::Births, &script, "refused json\n");
     Ok(())
 }
 
 #[test]
 fn names_are_utf8(rt: HostRuntime) {
     let script = b"{\"components\":[\"h\xffp\"],\"frames\":[]}";
-    runs(
-        &rt,
-        1,
-        Show::Births,
-        script,
-        Status::Refused,
-        "refused json\n",
-    );
+    refuses_text(&rt, Show::Births, script, "refused json\n");
 }
 
 // Gives that many spaces, and then its end.
@@ -215,69 +189,80 @@ fn an_input_without_end_is_refused(rt: HostRuntime) {
 #[test]
 fn each_read_and_the_write_fails_in_turn(rt: HostRuntime) {
     let script = TWO_SPAWNERS.as_bytes();
-    let mut errors = MemorySink::new(rt.alloc(), NEVER);
-    for calls in 0..script.len() as u64 / 7 + 1 {
+
+    // There are twelve reads of the 76 bytes, the last one at the end.
+    for calls in 0..13 {
         let mut source = MemorySource::new(script, 7, calls);
         let mut sink = MemorySink::new(rt.alloc(), NEVER);
-        let status = run(
-            &rt,
-            rt.alloc(),
-            &mut source,
-            &mut sink,
-            &mut errors,
-            1,
-            Show::Births,
-        );
-        assert!(rt; status == Status::Device, "after {calls} reads");
-        assert!(rt; sink.bytes.is_empty());
+        let is_failed = status_of(&rt, &mut source, &mut sink) == Status::Device;
+        assert!(rt; is_failed == (calls < 12), "after {calls} reads");
+        assert!(rt; sink.bytes.is_empty() == is_failed, "after {calls} reads");
     }
-    for text in [script, b"[]".as_slice()] {
-        let mut source = MemorySource::new(text, 7, NEVER);
-        let mut sink = MemorySink::new(rt.alloc(), 0);
-        let status = run(
-            &rt,
-            rt.alloc(),
-            &mut source,
-            &mut sink,
-            &mut errors,
-            1,
-            Show::Births,
-        );
-        assert!(rt; status == Status::Device);
+
+    // There is one write.
+    let wrong = b"[]".as_slice();
+    for (text, undisturbed) in [(script, Status::Done), (wrong, Status::Refused)] {
+        for (calls, wanted) in [(0, Status::Device), (1, undisturbed)] {
+            let mut source = MemorySource::new(text, 7, NEVER);
+            let mut sink = MemorySink::new(rt.alloc(), calls);
+            assert!(rt;
+                status_of(&rt, &mut source, &mut sink) == wanted,
+                "after {calls} writes"
+            );
+        }
     }
     let mut sink = MemorySink::new(rt.alloc(), 0);
-    let status = run(
-        &rt,
-        rt.alloc(),
-        &mut EndlessSource,
-        &mut sink,
-        &mut errors,
-        1,
-        Show::Births,
-    );
-    assert!(rt; status == Status::Device);
-    assert!(rt; errors.bytes.is_empty());
+    assert!(rt; status_of(&rt, &mut EndlessSource, &mut sink) == Status::Device);
 }
 
-/// Passes whichever single allocation is refused, be it the run's or its sink's.
-#[test]
-fn refused_memory_of_a_run_writes_nothing(rt: HostRuntime) {
-    let mut source = MemorySource::new(TARGETS.as_bytes(), 64, NEVER);
-    let mut sink = MemorySink::new(rt.alloc(), NEVER);
+/// How a run over these devices ends, on one worker. It tells the error stream of a refused input
+/// alone.
+fn status_of<R, I: Source>(rt: &R, source: &mut I, sink: &mut MemorySink) -> Status
+where
+    R: Threads + Sync + Abort + AllocGlobal,
+{
     let mut errors = MemorySink::new(rt.alloc(), NEVER);
+    let status = run_between(rt, 1, source, sink, &mut errors);
+    assert!(rt; errors.bytes.is_empty() == (status != Status::Refused));
+    status
+}
+
+/// Runs the script with targets. Without memory nothing is written, else all.
+fn runs_or_writes_nothing<R>(rt: &R, workers: usize, show: Show, output: &str)
+where
+    R: Threads + Sync + Abort + AllocGlobal,
+    requires some { 0 < workers }
+    requires few { workers ≤ 64 }
+{
+    let mut source = MemorySource::new(TARGETS.as_bytes(), 64, NEVER);
+    let mut sink = MemorySink::with_room(rt, rt.alloc(), 1_000);
+    let mut errors = MemorySink::with_room(rt, rt.alloc(), 1_000);
     match run(
-        &rt,
+        rt,
         rt.alloc(),
         &mut source,
         &mut sink,
         &mut errors,
-        2,
-        Show::Births,
+        workers,
+        show,
     ) {
-        Status::Memory | Status::Device => assert!(rt; sink.bytes.is_empty()),
+        Status::Memory => assert!(rt; sink.bytes.is_empty()),
         status => {
             assert!(rt; status == Status::Done);
-            assert!(rt; sink.bytes.as_slice() == TARGETS_BIRTHS.as_bytes());
+            assert!(rt; sink.bytes.as_slice() == output.as_bytes());
         }
     }
+    assert!(rt; errors.bytes.is_empty());
+}
+
+/// Passes whichever single allocation is refused.
+#[test]
+fn refused_memory_of_a_run_writes_nothing(rt: HostRuntime) {
+    runs_or_writes_nothing(&rt, 1, Show::Handles, TARGETS_OUTPUT);
+}
+
+/// The same with two workers.
+#[test]
+fn refused_memory_of_two_workers_writes_nothing(rt: HostRuntime) {
+    runs_or_writes_nothing(&rt, 2, Show::Births, TARGETS_BIRTHS);
 }

@@ -12,7 +12,7 @@ import time
 from itertools import zip_longest
 from pathlib import Path
 
-RUNS = 10
+RUNS = 5
 PAGE = 4096  # the least that a pipe holds
 
 

@@ -1,31 +1,35 @@
-use Rattle.std.proofs.Common.{◌≡◌, ◌+◌, ◌∙◌, List, Err, map, ap, rules}
-use Rattle.serde_json.specs.View.{view}
-use Rattle.ent_script.specs.declared.operation.Operation.{Operation}
-use Rattle.ent_script.specs.Reading.{numbered, frame_of}
-use Rattle.ent_script.proofs.Faults.{passes_to_list}
-use Rattle.ent_script.proofs.Numbering.{goes_on, stops, onto, from}
+use Rattle.std.proofs.Common.{◌≡◌, length, Option, Some, None, option_map, option_and_then, ok_or}
+use Rattle.std.proofs.Common.{sym, subst, ap, true, false, Bool, cond, arith}
+use Rattle.std.specs.Prelude.{Ok, nat_le}
+use Rattle.serde_json.specs.Data.{Data, Items}
+use Rattle.ent_script.specs.Json.{list_of}
+use Rattle.ent_script.specs.Reading.{◌>>=◌, numbered, frame_of}
+use Rattle.ent_script.specs.Streaming.{BeginsArray, StreamsList, frames_of}
+use Rattle.ent_script.specs.declared.read_fault.ReadFault.TheVariants as fault
+use Rattle.ent_script.specs.declared.cause.ScriptCause.TheVariants as script_cause
 use Rattle.ent_script.proofs.frames.frames.Goals as goal
 
-pub loop-number-preserved : goal.loop-number-preserved
-loop-number-preserved c =
-    let f = frame_of c.args.components.now in
-    let vs = c.args.values.now in
-    let i = c.loop-number.number in
-    ap (λ (done : List (List (List Operation))). onto done (numbered f (i + 1) (from vs (i + 1))))
-    c.in_ok-push.ensures.items
-    ∙ goes_on f vs i c.index-values-number.result c.loop-number.frames.items c.in_ok-frame.field-0
-    (numbered f 0 (map view vs)) c.loop-number-test.true c.index-values-number.is
-    c.in_ok-frame.ensures c.loop-number.invariant
+pub returns-then-not-branch-clause-value : goal.returns-then-not-branch-clause-value
+returns-then-not-branch-clause-value c d rest e =
+    let no : c.in_ok-begins_array.field-0 ≡ false = grind arith in
+    let is = subst (λ (b : Bool). BeginsArray c.args.depth (Ok b) c.begins_array.new.reader d rest)
+    no
+    (c.in_ok-begins_array.ensures.value d rest e) in (
+      ap
+          (λ (o : Option Items). ok_or (option_and_then
+          (λ ds. cond (nat_le (length ds) 1000) (Some ds) None) (option_map list_of o))
+          (fault.Script script_cause.Frames)
+          >>= λ ds. numbered (frame_of c.args.components.now) 0 ds) is.0,
+      is.1,
+    )
 
-pub returns-in_err-frame : goal.returns-in_err-frame
-returns-in_err-frame c =
-    let f = frame_of c.args.components.now in
-    let vs = c.args.values.now in
-    let i = c.loop-number.number in
-    let total = numbered f 0 (map view vs) in
-    let e = c.in_err-frame.field-0.0 in
-    let is : c.from_residual.result ≡ Err e = search rules in
-    passes_to_list e c.from_residual.result (f i (view c.index-values-number.result)) total is
-    c.in_err-frame.ensures
-    (λ means. stops f vs i c.index-values-number.result c.loop-number.frames.items e total
-    c.loop-number-test.true c.index-values-number.is means c.loop-number.invariant)
+pub returns-clause-value : goal.returns-clause-value
+returns-clause-value c d rest e =
+    let yes : c.in_ok-begins_array.field-0 ≡ true = grind arith in
+    let is = subst (λ (b : Bool). BeginsArray c.args.depth (Ok b) c.begins_array.new.reader d rest)
+    yes
+    (c.in_ok-begins_array.ensures.value d rest e) in
+    subst
+    (λ (x : Data). StreamsList c.frames_inside.result c.frames_inside.new.reader
+    (frames_of c.args.components.now (Some x)) rest)
+    (sym is.1) (c.frames_inside.ensures.value _ is.0 rest is.2)

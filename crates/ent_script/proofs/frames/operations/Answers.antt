@@ -38,12 +38,12 @@ returns-in_err-operation c =
     let v = c.index-values-number.result in
     let total = numbered f 0 (map view vs) in
     let e = c.in_err-operation.field-0.0 in
-    let is : c.from_residual.result ≡ Err e = search rules in
+    let is : c.from_residual-in_err-operation.result ≡ Err e = search rules in
     let read = at_operation c.args.frame c.args.system i
     (operation_of components c.loop-number.bound (view v)) in
     let same = ap (λ (names : List (List ℕ)). at_operation c.args.frame c.args.system i
     (operation_of components names (view v))) (sym c.loop-number.invariant.bound) in
-    returned e c.from_residual.result total is
+    returned e c.from_residual-in_err-operation.result total is
     (passes_on e read total c.in_err-operation.ensures
     (λ means. stops f vs i v c.loop-number.operations.items e total c.loop-number-test.true
     c.index-values-number.is (same ∙ means) c.loop-number.invariant.rest))

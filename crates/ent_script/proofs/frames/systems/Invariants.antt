@@ -1,11 +1,21 @@
-use Rattle.std.proofs.Common.{◌≡◌, map}
-use Rattle.serde_json.specs.View.{view}
-use Rattle.ent_script.specs.Reading.{numbered, system_of}
-use Rattle.ent_script.proofs.Numbering.{onto, from}
+use Rattle.std.proofs.Common.{◌≡◌, ℕ, ◌≤◌, List, length, Some}
+use Rattle.json.specs.Token.{Token}
+use Rattle.json.specs.Json.{items, value}
+use Rattle.serde_json.specs.Data.{Items}
+use Rattle.serde_json.specs.Read.{of_items, converted}
+use Rattle.ent_script.specs.Reading.{system_of}
+use Rattle.ent_script.proofs.Listing.{At}
 use Rattle.ent_script.proofs.frames.systems.Given as goal
 
-abbrev pub invariant-loop-number : goal.invariant-loop-number
-invariant-loop-number l =
-    onto l.systems.items (numbered (system_of l.components l.frame) l.number
-    (from l.values l.number))
-    ≡ numbered (system_of l.components l.frame) 0 (map view l.values)
+abbrev pub invariant-systems : goal.invariant-systems
+invariant-systems l = record {
+  at : (n : ℕ) (ds : Items) (rest : List Token)
+      → converted of_items (items (value l.depth) n l.initial.reader) ≡ Some (ds, rest)
+      → At (value l.depth) (system_of l.components l.frame) l.systems.items l.number l.reader ds
+      rest;
+  few : l.number ≤ 256;
+  shorter : length l.reader ≤ length l.initial.reader;
+}
+
+abbrev pub decreases-systems : goal.decreases-systems
+decreases-systems l = length l.reader

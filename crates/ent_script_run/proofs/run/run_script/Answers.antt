@@ -14,6 +14,6 @@ returns-clause-only g c alone =
 
 pub returns-clause-given_once : goal.returns-clause-given_once
 returns-clause-given_once g c =
-    IfOk-weaker c.report.result _ _ (λ text is executions report wraps.
+    IfOk-weaker c.report.result _ _ (λ text is executions report.
     given_once c.args.script.now c.args.workers c.args.show executions text.items
-    c.requires.ranges.limits report wraps) c.report.ensures
+    c.requires.ranges.limits report) c.report.ensures

@@ -1,11 +1,14 @@
-use Rattle.std.proofs.Common.{◌≡◌, true, sym, ap, ◌∙◌}
+use Rattle.std.proofs.Common.{◌≡◌, ◌≢◌, true, sym, ap, ◌∙◌}
 use Rattle.std.specs.FinSet as sets
+use Rattle.ent_alloc.specs.Limits.{Limits}
 use Rattle.ent_alloc.specs.Sequential.{Allocator, after_free}
 use Rattle.ent_alloc.specs.Entities.{allocator_of}
 use Rattle.ent_alloc.proofs.Soundness.{after_free-sound}
 use Rattle.ent_alloc.proofs.Meaning.{IsAtRest, at_rest, closed, closed_is}
-use Rattle.ent_alloc.proofs.MeaningOfAlloc.{freed_roster, free_is}
-use Rattle.ent_alloc.proofs.entities.Entities.free.Goals.{Else-needs_flush}
+use Rattle.ent_alloc.proofs.MeaningOfAlloc.{freed_roster, free_is, retired_roster}
+use Rattle.ent_alloc.proofs.MeaningOfAlloc.{retire_is}
+use Rattle.ent_alloc.proofs.entities.Entities.free.Goals.{Else-needs_flush, Else-not-is_alive}
+use Rattle.ent_alloc.proofs.entities.Entities.free.Goals.{Else-generation-generations}
 use Rattle.ent_alloc.proofs.entities.Entities.free.Goals as goal
 
 -- nothing is reserved
@@ -13,28 +16,58 @@ rest : (c : Else-needs_flush) → IsAtRest c.self.inside.slots c.self.inside.req
 rest c = at_rest c.self.inside.slots c.self.inside.requests c.args.self.now c.needs_flush.result
     c.self.invariant c.self.view_is c.needs_flush.ensures c.if-needs_flush.false
 
-freed_is : (c : Else-needs_flush) → allocator_of
-    (freed_roster c.self.inside.slots c.args.handle) 0 0
+freed_is : (c : Else-needs_flush) → c.args.handle.generation ≢
+    c.self.inside.slots.limits.generations
+    → allocator_of (freed_roster c.self.inside.slots c.args.handle) 0 0
     ≡ after_free c.args.self.now c.args.handle
-freed_is c = free_is c.self.inside.slots c.args.handle
+freed_is c before = free_is c.self.inside.slots c.args.handle before
     ∙ ap (λ s. after_free s c.args.handle) (rest c).view
+
+retired_is : (c : Else-needs_flush) → c.args.handle.generation
+    ≡ c.self.inside.slots.limits.generations
+    → allocator_of (retired_roster c.self.inside.slots c.args.handle) 0 0
+    ≡ after_free c.args.self.now c.args.handle
+retired_is c last = retire_is c.self.inside.slots c.args.handle last
+    ∙ ap (λ s. after_free s c.args.handle) (rest c).view
+
+-- it is not of the last generation
+not_last : (c : Else-generation-generations) → c.args.handle.generation
+    ≢ c.self.inside.slots.limits.generations
+not_last c last = c.if-generation-generations.false (c.generation.ensures ∙ last
+    ∙ sym (ap (λ (l : Limits). l.generations) c.limits.ensures) ∙ sym c.generations.ensures)
+
+-- the handle lives
+lives : (c : Else-not-is_alive) → sets.contains c.args.self.now.live c.args.handle ≡ true
+lives c = sym (ap (λ (s : Allocator). sets.contains s.live c.args.handle) c.self.view_is)
+    ∙ sym c.is_alive.ensures ∙ c.if-not-is_alive.false
+
+pub invariant_of-self : goal.invariant_of-self
+invariant_of-self c =
+    let h = c.args.handle in
+    let at = (goal.at.invariant_of-self c).Else-needs_flush in
+    let rest = rest at in
+    let last = sym c.generation.ensures ∙ c.if-generation-generations.true ∙ c.generations.ensures
+    ∙ ap (λ (l : Limits). l.generations) c.limits.ensures in
+    closed c.retire.new.self (retired_roster c.self.inside.slots h) c.self.inside.requests
+    (after_free c.args.self.now h) c.retire.ensures rest.requests_is (retired_is at last)
+    (after_free-sound c.args.self.now h rest.sound rest.asked
+    (lives (goal.at.invariant_of-self c).Else-not-is_alive))
 
 pub invariant_of-self-2 : goal.invariant_of-self-2
 invariant_of-self-2 c =
     let h = c.args.handle in
-    let r = c.self.inside.slots in
     let at = (goal.at.invariant_of-self-2 c).Else-needs_flush in
     let rest = rest at in
-    let lives : sets.contains c.args.self.now.live h
-    ≡ true = sym (ap (λ (s : Allocator). sets.contains s.live h) c.self.view_is)
-    ∙ sym c.is_alive.ensures ∙ c.if-not-is_alive.false in
-    closed c.release.new.self (freed_roster r h) c.self.inside.requests
-    (after_free c.args.self.now h) c.in_ok-next.ensures.ok rest.requests_is (freed_is at)
-    (after_free-sound c.args.self.now h rest.sound rest.asked lives)
+    let before = not_last (goal.at.invariant_of-self-2 c).Else-generation-generations in
+    closed c.release.new.self (freed_roster c.self.inside.slots h) c.self.inside.requests
+    (after_free c.args.self.now h) c.in_ok-next.ensures.ok rest.requests_is (freed_is at before)
+    (after_free-sound c.args.self.now h rest.sound rest.asked
+    (lives (goal.at.invariant_of-self-2 c).Else-not-is_alive))
 
 pub returns-clause-ok : goal.returns-clause-ok
 returns-clause-ok c =
     let at = (goal.at.returns-clause-ok c).Else-needs_flush in
+    let before = not_last (goal.at.returns-clause-ok c).Else-generation-generations in
     closed_is c.release.new.self (freed_roster c.self.inside.slots c.args.handle)
     c.self.inside.requests (after_free c.args.self.now c.args.handle) c.in_ok-next.ensures.ok
-    (rest at).requests_is (freed_is at)
+    (rest at).requests_is (freed_is at before)

@@ -11,7 +11,8 @@ use Rattle.ent_alloc.specs.Entities.{allocator_of, AreReserved}
 use Rattle.ent_alloc.proofs.Looked.{fresh_no}
 use Rattle.ent_alloc.proofs.MeaningOfFlush.{stands_in_taken}
 use Rattle.ent_alloc.proofs.entities.Entities.state.Goals as goal
-use Rattle.ent_alloc.proofs.entities.Entities.state.Goals.{in-Some-Pending, in-None, in-None-2}
+use Rattle.ent_alloc.proofs.entities.Entities.state.Goals.{in-Some-Pending, in-Some-Retired}
+use Rattle.ent_alloc.proofs.entities.Entities.state.Goals.{in-None, in-None-2}
 use Rattle.ent_alloc.proofs.entities.Entities.state.Goals.{Joined-occupancy_of}
 
 -- the state of a handle that isn't alive, by the test whether it is reserved
@@ -56,6 +57,16 @@ told_by c {b} test =
           (λ _ after _. absurd (omega arith)) i)
           ∙ or-false (leb w.kept.result w.in-Some-Pending.position)
           ∙ sym (w.reserved-is ∙ ap (leb w.kept.result) w.in-Some-Pending.position-is))))
+      | in-Some-Retired w ↦
+          (let news = e.requests.served - length r.pending in
+          let made = w.in-Some-Retired.ensures.made in
+          by_test
+          (w.in-Some-Retired.ensures.lives ∙ ap is_alive w.in-Some-Retired.field-0-is)
+          (w.reserved-is
+          ∙ (λ i. sym (w.in-Some-Retired.ensures.waits (length r.pending - e.requests.served)
+          ∙ ap (λ o. is_pending_from o (length r.pending - e.requests.served))
+          w.in-Some-Retired.field-0-is) i || sym
+          (fresh_no c.args.handle r.made news (λ _ after _. absurd (omega arith))) i)))
       | in-None w ↦
           (let news = e.requests.served - length r.pending in
           let made : c.args.handle.index < r.made = w.is_made.ensures.0 w.if-is_made.true in

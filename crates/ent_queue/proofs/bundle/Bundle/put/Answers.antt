@@ -7,7 +7,7 @@ use Rattle.std.proofs.lemmas.Int.{to_z-of_z}
 use Rattle.std.specs.FinMap.{put, find}
 use Rattle.ent_handle.specs.Component.{component_cmp}
 use Rattle.ent_queue.specs.Command.{IsBundle}
-use Rattle.ent_queue.specs.Search.{AreRising, IsIndexOf, IsGapFor}
+use Rattle.ent_queue.specs.Search.{AreRising, IsIndexOf, IsItemGap}
 use Rattle.std.proofs.lemmas.Bool.{cases_lt, false≢true}
 use Rattle.ent_queue.proofs.Results.{OnErr-always}
 use Rattle.ent_queue.proofs.Rising.{are_rising, put_between, put_over, find_between, bundle_put}
@@ -56,7 +56,7 @@ added : (c : goal.In_ok-insert-in-Err) → c.insert.new.self.items ≡ put compo
     c.args.value c.self.inside.items.items
 added c =
     let es = c.self.inside.items.items in
-    let at = subst (λ xs. IsGapFor xs c.args.id.0 c.in-Err.index) c.as_slice.ensures
+    let at = subst (λ xs. IsItemGap xs c.args.id.0 c.in-Err.index) c.as_slice.ensures
     c.in-Err.ensures.absent in
     c.in_ok-insert-in-Err.ensures.ok ∙ ap (λ z. insert es c.in-Err.index (c.args.id, z))
     (to_z-of_z w64 c.args.value c.ranges.value)
@@ -77,7 +77,7 @@ returns-in_ok-insert-in-Err-clause-ok c = added c ∙ ap (put component_cmp c.ar
 pub returns-in_err-insert-in-Err-clause-memory : goal.returns-in_err-insert-in-Err-clause-memory
 returns-in_err-insert-in-Err-clause-memory c =
     let es = c.self.inside.items.items in
-    let at = subst (λ xs. IsGapFor xs c.args.id.0 c.in-Err.index) c.as_slice.ensures
+    let at = subst (λ xs. IsItemGap xs c.args.id.0 c.in-Err.index) c.as_slice.ensures
     c.in-Err.ensures.absent in
     let none = find_between c.args.id c.args.value es c.in-Err.index c.self.invariant.0.rising
     at.within at.lower at.greater in

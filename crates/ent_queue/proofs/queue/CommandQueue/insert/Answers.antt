@@ -1,15 +1,12 @@
-use Rattle.std.proofs.Common.{◌++◌, ◌∷◌, [], ap, ◌∙◌, arith}
-use Rattle.std.proofs.Math.Facts.{Fits-of_lt}
+use Rattle.std.proofs.Common.{◌++◌, ◌∷◌, [], ap, ◌∙◌}
 use Rattle.ent_queue.specs.Command.{Insert}
 use Rattle.ent_queue.specs.Packing.{command_bytes}
-use Rattle.ent_queue.proofs.Pushes.{Pushed, pushed, count_le_bytes}
+use Rattle.ent_queue.proofs.Pushes.{Pushed, pushed, count_fits}
 use Rattle.ent_queue.proofs.queue.CommandQueue.insert.Goals.{After-write_with_bundle}
 use Rattle.ent_queue.proofs.queue.CommandQueue.insert.Goals as goal
 
 pub overflow_add-self : goal.overflow_add-self
-overflow_add-self c =
-    let few = count_le_bytes c.self.inside.count c.self.inside.bytes.items c.self.invariant in
-    Fits-of_lt (omega (arith, few, c.self.inside.bytes.ok.0, c.self.inside.bytes.small))
+overflow_add-self c = count_fits c.self.inside.count c.self.inside.bytes c.self.invariant
 
 -- the bytes after the command
 after : (c : After-write_with_bundle) → Pushed c.self.inside.count c.self.inside.bytes.items

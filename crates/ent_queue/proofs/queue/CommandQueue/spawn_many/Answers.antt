@@ -1,10 +1,9 @@
-use Rattle.std.proofs.Common.{◌≡◌, ◌++◌, ◌∷◌, [], Ok, Err, ap, sym, subst, ◌∙◌, arith, length}
+use Rattle.std.proofs.Common.{◌≡◌, ◌++◌, ◌∷◌, [], Ok, Err, ap, sym, subst, ◌∙◌, length}
 use Rattle.std.proofs.Common.{◌<◌, ◌^◌}
-use Rattle.std.proofs.Math.Facts.{Fits-of_lt}
 use Rattle.ent_queue.specs.Command.{SpawnMany, Refused}
 use Rattle.ent_queue.specs.Packing.{command_bytes, bundle_bytes}
-use Rattle.ent_queue.specs.Reserving.{refused_by, IsReply}
-use Rattle.ent_queue.proofs.Pushes.{Pushed, pushed, count_le_bytes, many_written}
+use Rattle.ent_queue.specs.Reserving.{refused_by, IsReturned}
+use Rattle.ent_queue.proofs.Pushes.{Pushed, pushed, count_fits, many_written}
 use Rattle.ent_queue.proofs.Issuing.{queued_ok}
 use Rattle.ent_queue.proofs.Gaining.{is_refusal, refused_by_fault}
 use Rattle.ent_queue.proofs.queue.CommandQueue.spawn_many.Goals.{After-write_bundle}
@@ -12,14 +11,10 @@ use Rattle.ent_queue.proofs.queue.CommandQueue.spawn_many.Goals.{After-write_ref
 use Rattle.ent_queue.proofs.queue.CommandQueue.spawn_many.Goals as goal
 
 pub overflow_add-self : goal.overflow_add-self
-overflow_add-self c =
-    let few = count_le_bytes c.self.inside.count c.self.inside.bytes.items c.self.invariant in
-    Fits-of_lt (omega (arith, few, c.self.inside.bytes.ok.0, c.self.inside.bytes.small))
+overflow_add-self c = count_fits c.self.inside.count c.self.inside.bytes c.self.invariant
 
 pub overflow_add-self-in-Err : goal.overflow_add-self-in-Err
-overflow_add-self-in-Err c =
-    let few = count_le_bytes c.self.inside.count c.self.inside.bytes.items c.self.invariant in
-    Fits-of_lt (omega (arith, few, c.self.inside.bytes.ok.0, c.self.inside.bytes.small))
+overflow_add-self-in-Err c = count_fits c.self.inside.count c.self.inside.bytes c.self.invariant
 
 -- the bytes after the spawn
 served : (c : After-write_bundle) → Pushed c.self.inside.count c.self.inside.bytes.items
@@ -52,7 +47,8 @@ refused : (c : After-write_refused) → Pushed c.self.inside.count c.self.inside
     c.write_refused.new.bytes.items (Refused c.args.n c.in-Err.why)
 refused c =
     let command = Refused c.args.n c.in-Err.why in
-    let replied : IsReply c.args.shared.now c.args.reserver.now c.reserve_many.new.reserver c.args.n
+    let replied : IsReturned c.args.shared.now c.args.reserver.now c.reserve_many.new.reserver
+    c.args.n
     (Err c.in-Err.why) = record {
       quota = c.in-Err.ensures.quota;
       nothing =
@@ -83,12 +79,13 @@ returns-in-Ok-clause-replies c reply e =
     let listed : Ok hs ≡ reply = queued_ok reply hs
     (ap Ok (sym (c.write_many.ensures.handles
     ∙ ap (λ gs. gs ++ hs) c.in_ok-handles.ensures.items)) ∙ e) in
-    let given : IsReply c.args.shared.now c.args.reserver.now c.reserve_many.new.reserver c.args.n
+    let given : IsReturned c.args.shared.now c.args.reserver.now c.reserve_many.new.reserver
+    c.args.n
     (Ok hs) = record {
       quota = c.in-Ok.ensures.quota;
       nothing = c.in-Ok.ensures.nothing;
       gains =
           c.in-Ok.ensures.gains;
     } in
-    subst (IsReply c.args.shared.now c.args.reserver.now c.reserve_many.new.reserver c.args.n)
+    subst (IsReturned c.args.shared.now c.args.reserver.now c.reserve_many.new.reserver c.args.n)
     listed given

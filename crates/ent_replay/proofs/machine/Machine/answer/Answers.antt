@@ -8,7 +8,7 @@ use Rattle.ent_replay.specs.declared.machine.Machine.TheInside.{Inside}
 use Rattle.ent_replay.specs.declared.outcome.Outcome.{Outcome}
 use Rattle.ent_replay.specs.declared.outcome.Outcome.TheVariants as outcome
 use Rattle.ent_replay.specs.declared.fault.ReplayFault.TheVariants as fault
-use Rattle.ent_replay.proofs.MachineAnswers.{done, refused, listed-takes_memory}
+use Rattle.ent_replay.proofs.MachineAnswers.{done, faulty, refused, listed-takes_memory}
 use Rattle.ent_replay.proofs.CallEvents.{answer-not_open, answer-not_stepped, answer-answered}
 use Rattle.ent_replay.proofs.CallEvents.{answer-consistent}
 use Rattle.ent_replay.proofs.machine.Machine.answer.Goals as goal
@@ -17,19 +17,16 @@ use Rattle.ent_replay.proofs.machine.Machine.answer.Goals.{in-Ok+in-Ok-listed, i
 pub returns-in_default : goal.returns-in_default
 returns-in_default c =
     let e = c.self.inside in
-    let before = machine_state e.entities e.spent e.calls in
-    done (λ v. on_answer v c.args.caller) before c.args.self.now c.self.view_is (Err fault.NotOpen)
-    (Err fault.NotOpen) refl c.args.self.now before (sym c.self.view_is)
+    faulty (λ v. on_answer v c.args.caller) (machine_state e.entities e.spent e.calls)
+    c.args.self.now c.self.view_is fault.NotOpen
     (answer-not_open e.entities e.spent e.calls c.args.caller (omega arith) (sym c.get.ensures
     ∙ c.in_default.is))
 
 pub returns-in_default-span : goal.returns-in_default-span
 returns-in_default-span c =
     let e = c.self.inside in
-    let before = machine_state e.entities e.spent e.calls in
-    done (λ v. on_answer v c.args.caller) before c.args.self.now c.self.view_is
-    (Err fault.NotStepped) (Err fault.NotStepped) refl c.args.self.now before
-    (sym c.self.view_is)
+    faulty (λ v. on_answer v c.args.caller) (machine_state e.entities e.spent e.calls)
+    c.args.self.now c.self.view_is fault.NotStepped
     (answer-not_stepped e.entities e.spent e.calls c.args.caller (omega arith) c.in-Some.call
     (sym c.get.ensures ∙ c.in-Some.is) c.in_default-span.is)
 
@@ -104,7 +101,6 @@ returns c =
     (ap (λ (o : Outcome). Ok o) told)
     (machine_state c.match-reply.self-inside.entities c.match-reply.self-inside.spent
     c.remove.new.self)
-    (machine_state e.entities e.spent (finite.remove e.calls c.args.caller))
-    (λ i. machine_state (unchanged i).entities (unchanged i).spent (calls i))
+    _ (λ i. machine_state (unchanged i).entities (unchanged i).spent (calls i))
     (answer-answered e.entities e.spent e.calls c.args.caller (omega arith) call (sym c.get.ensures
     ∙ c.in-Some.is) span c.in-Some-span.is)

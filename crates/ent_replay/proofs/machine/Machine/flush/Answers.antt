@@ -9,7 +9,7 @@ use Rattle.ent_replay.specs.Machine.{machine_state, AreConsistent}
 use Rattle.ent_replay.specs.declared.outcome.Outcome.TheVariants as outcome
 use Rattle.ent_replay.specs.declared.fault.ReplayFault.TheVariants as fault
 use Rattle.ent_replay.proofs.Maps.{no_test}
-use Rattle.ent_replay.proofs.MachineAnswers.{done, refused, on_ok, on_err}
+use Rattle.ent_replay.proofs.MachineAnswers.{done, faulty, refused, on_ok, on_err}
 use Rattle.ent_replay.proofs.ExclusiveEvents.{busy-flush, flush-flushed, flush-takes_memory}
 use Rattle.ent_replay.proofs.ExclusiveEvents.{flush-consistent}
 use Rattle.ent_replay.proofs.machine.Machine.flush.Goals as goal
@@ -17,9 +17,8 @@ use Rattle.ent_replay.proofs.machine.Machine.flush.Goals as goal
 pub returns-then-not-is_empty : goal.returns-then-not-is_empty
 returns-then-not-is_empty c =
     let e = c.self.inside in
-    let before = machine_state e.entities e.spent e.calls in
-    done on_flush before c.args.self.now c.self.view_is (Err fault.Busy) (Err fault.Busy) refl
-    c.args.self.now before (sym c.self.view_is)
+    faulty on_flush (machine_state e.entities e.spent e.calls) c.args.self.now c.self.view_is
+    fault.Busy
     (busy-flush e.entities e.spent e.calls (λ none. no_test (c.if-not-is_empty.ensures.1 none)))
 
 -- what has an element that passes has an element

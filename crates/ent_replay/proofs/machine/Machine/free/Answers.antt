@@ -3,12 +3,12 @@ use Rattle.ent_alloc.specs.Sequential.{Allocator, after_free, next}
 use Rattle.ent_alloc.specs.declared.fault.Freed.{Freed}
 use Rattle.ent_alloc.specs.declared.fault.FreeFault.{FreeFault}
 use Rattle.ent_alloc.specs.declared.fault.FreeFault.TheVariants as why
-use Rattle.ent_replay.specs.Schedule.{on_free, wraps}
+use Rattle.ent_replay.specs.Schedule.{on_free}
 use Rattle.ent_replay.specs.Machine.{machine_state, AreConsistent}
 use Rattle.ent_replay.specs.declared.outcome.Outcome.TheVariants as outcome
 use Rattle.ent_replay.specs.declared.fault.ReplayFault.TheVariants as fault
 use Rattle.ent_replay.proofs.Maps.{no_test}
-use Rattle.ent_replay.proofs.MachineAnswers.{done, refused, flushed, ok_not_err, same_test}
+use Rattle.ent_replay.proofs.MachineAnswers.{done, refused, flushed, ok_not_err}
 use Rattle.ent_replay.proofs.ExclusiveEvents.{busy-free, free-needs_flush, free-not_alive}
 use Rattle.ent_replay.proofs.ExclusiveEvents.{free-freed, free-takes_memory, free-consistent}
 use Rattle.ent_replay.proofs.machine.Machine.free.Goals as goal
@@ -62,11 +62,9 @@ returns c =
     elim c.match-free.branch [
       | in-Ok w ↦
           let freed = w.in-Ok.freed in
-          let wrapped : freed.wrapped ≡ wraps e.entities.limits h = same_test freed.wrapped
-          h.generation e.entities.limits.generations w.in-Ok.ensures.wrapped in
           done (λ v. on_free v h) before c.args.self.now c.self.view_is c.match-free.result
-          (Ok (outcome.Freed h (next e.entities.limits h) (wraps e.entities.limits h)))
-          (w.result-is ∙ (λ i. Ok (outcome.Freed h (w.in-Ok.ensures.next i) (wrapped i))))
+          (Ok (outcome.Freed h (next e.entities.limits h)))
+          (w.result-is ∙ (λ i. Ok (outcome.Freed h (w.in-Ok.ensures.next i))))
           after (machine_state (after_free e.entities h) e.spent e.calls)
           (ap (λ (s : Allocator). machine_state s e.spent e.calls) w.in-Ok.ensures.ok)
           (free-freed e.entities e.spent e.calls none h (λ some. ok_not_err freed why.NeedsFlush
@@ -97,5 +95,6 @@ returns c =
             flushed (λ some. not_needs_flush why.field-0 why.field-0-is
                 (why.ensures.needs_flush.1 some)),
             gone,
-          ))))
+          )))
+          (why.ensures.memory (ap Err why.field-0-is)))
     ]

@@ -4,7 +4,7 @@ use Rattle.std.proofs.lemmas.List.{take_more, take_all}
 use Rattle.ent_replay.specs.declared.outcome.Outcome.{Outcome}
 use Rattle.ent_replay.specs.declared.fault.ReplayFault.{ReplayFault}
 use Rattle.ent_replay.specs.Machine.{machine_state}
-use Rattle.ent_replay.specs.Histories.{new_phase, StandInHistory, NoneWrapped, given_by_all}
+use Rattle.ent_replay.specs.Histories.{new_phase, StandInHistory, given_by_all}
 use Rattle.ent_alloc.specs.History.{AreGivenOnce}
 use Rattle.ent_replay.proofs.Linear.{linear}
 use Rattle.ent_replay.proofs.Giving.{given_once}
@@ -34,12 +34,11 @@ returns-clause-given_once c =
     let all = all_outcomes c.args.self.now c.loop-done.outcomes.items c.args.events.now
     c.loop-done.done (omega arith) c.loop-done.invariant.1 in
     let e = c.self.inside in
-    λ fresh. subst (λ results. AreGivenOnce (given_by_all results)) (sym all)
-    (subst (λ (s : MachineState). NoneWrapped (outcomes_of s c.args.events.now)
-    → AreGivenOnce (given_by_all (outcomes_of s c.args.events.now))) c.self.view_is
+    subst (λ results. AreGivenOnce (given_by_all results)) (sym all)
+    (subst (λ (s : MachineState). AreGivenOnce (given_by_all (outcomes_of s c.args.events.now)))
+    c.self.view_is
     (given_once (machine_state e.entities e.spent e.calls) c.args.events.now c.self.invariant.sound
-    c.self.invariant.once)
-    (subst NoneWrapped all fresh))
+    c.self.invariant.once))
 
 pub loop-done-preserved : goal.loop-done-preserved
 loop-done-preserved c =

@@ -1,4 +1,4 @@
-use Rattle.std.proofs.Common.{◌≡◌, pos, ◌-ℤ◌, refl, sym, ap, subst, ◌∙◌, Ok, Err, Some, arith, to_z}
+use Rattle.std.proofs.Common.{◌≡◌, pos, ◌-ℤ◌, sym, ap, subst, ◌∙◌, Ok, Some, arith, to_z}
 use Rattle.std.proofs.Common.{of_z, w64}
 use Rattle.std.specs.FinMap as finite
 use Rattle.std.proofs.lemmas.Int.{ints}
@@ -8,7 +8,7 @@ use Rattle.ent_replay.specs.Schedule.{on_step}
 use Rattle.ent_replay.specs.Machine.{machine_state, unasked, AreConsistent}
 use Rattle.ent_replay.specs.declared.outcome.Outcome.TheVariants as outcome
 use Rattle.ent_replay.specs.declared.fault.ReplayFault.TheVariants as fault
-use Rattle.ent_replay.proofs.MachineAnswers.{done, some_of, none_of}
+use Rattle.ent_replay.proofs.MachineAnswers.{done, faulty, some_of, none_of}
 use Rattle.ent_replay.proofs.CallEvents.{awaited-bound, step-not_open, step-stepped, step-taken}
 use Rattle.ent_replay.proofs.CallEvents.{step-consistent}
 use Rattle.ent_replay.proofs.machine.Machine.take.Goals as goal
@@ -16,20 +16,17 @@ use Rattle.ent_replay.proofs.machine.Machine.take.Goals as goal
 pub returns-in_default : goal.returns-in_default
 returns-in_default c =
     let e = c.self.inside in
-    let before = machine_state e.entities e.spent e.calls in
-    done (λ v. on_step v c.args.caller) before c.args.self.now c.self.view_is (Err fault.NotOpen)
-    (Err fault.NotOpen) refl c.args.self.now before (sym c.self.view_is)
+    faulty (λ v. on_step v c.args.caller) (machine_state e.entities e.spent e.calls)
+    c.args.self.now c.self.view_is fault.NotOpen
     (step-not_open e.entities e.spent e.calls c.args.caller (omega arith) (sym c.get.ensures
     ∙ c.in_default.is))
 
 pub returns-then-is_some : goal.returns-then-is_some
 returns-then-is_some c =
     let e = c.self.inside in
-    let before = machine_state e.entities e.spent e.calls in
     let passed = some_of c.in-Some.call.span c.if-is_some.ensures in
-    done (λ v. on_step v c.args.caller) before c.args.self.now c.self.view_is
-    (Err fault.AlreadyStepped) (Err fault.AlreadyStepped) refl c.args.self.now before
-    (sym c.self.view_is)
+    faulty (λ v. on_step v c.args.caller) (machine_state e.entities e.spent e.calls)
+    c.args.self.now c.self.view_is fault.AlreadyStepped
     (step-stepped e.entities e.spent e.calls c.args.caller (omega arith) c.in-Some.call
     (sym c.get.ensures ∙ c.in-Some.is) passed.0 passed.1)
 
@@ -75,13 +72,6 @@ returns c =
     (Ok (outcome.Cursor (cursor e.entities -ℤ pos call.requested)))
     (ap (λ z. Ok (outcome.Cursor z)) low)
     (machine_state c.lower-span.new.self e.spent c.replace.new.self)
-    (machine_state (after_take e.entities call.requested) e.spent
-    (finite.insert e.calls c.args.caller
-    (record {
-      requested = call.requested;
-      span =
-          Some (record { high = cursor e.entities; low = cursor e.entities -ℤ pos call.requested });
-    })))
-    (λ i. machine_state (c.lower-span.ensures.step i) e.spent (calls i))
+    _ (λ i. machine_state (c.lower-span.ensures.step i) e.spent (calls i))
     (step-taken e.entities e.spent e.calls c.args.caller (omega arith) call (sym c.get.ensures
     ∙ c.in-Some.is) c.self.invariant.sound waits)

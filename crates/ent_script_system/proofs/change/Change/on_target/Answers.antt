@@ -5,6 +5,7 @@ use Rattle.ent_script.specs.declared.target.Target.{Target}
 use Rattle.ent_script_system.specs.Issuing.{IsTargeted}
 use Rattle.ent_script_system.specs.Parts.{names_of}
 use Rattle.ent_script_system.proofs.Targeted.{issued_on, stopped_on}
+use Rattle.ent_script_system.proofs.change.Change.on_target.Goals.{After-deref}
 use Rattle.ent_script_system.proofs.change.Change.on_target.Goals as goal
 
 pub returns-in-Handle-clause-issued : goal.returns-in-Handle-clause-issued
@@ -15,26 +16,23 @@ returns-in-Handle-clause-issued c =
     (sym c.in-Handle.is) refl)
     c.on_each-in-Handle.ensures.ok
 
+-- the entities that have the component
+listed : (c : After-deref) → IsTargeted c.args.view.now (names_of c.args.names.now) c.args.target
+    c.deref.result.now
+listed c =
+    subst (λ (on : Target). IsTargeted c.args.view.now (names_of c.args.names.now) on
+    c.deref.result.now) (sym c.in-Each.is)
+    (subst (λ (hs : List Handle). ListsWith c.in-Each.id c.args.view.now.entities hs)
+    (sym c.deref.ensures.value) c.in_ok-with-in-Each.ensures)
+
 pub returns-in_ok-with-in-Each-clause-issued : goal.returns-in_ok-with-in-Each-clause-issued
 returns-in_ok-with-in-Each-clause-issued c =
-    let view = c.args.view.now in
-    let hs = c.deref.result.now in
-    let lists : ListsWith c.in-Each.id view.entities hs =
-    subst (λ (xs : List Handle). ListsWith c.in-Each.id view.entities xs)
-    (sym c.deref.ensures.value) c.in_ok-with-in-Each.ensures in
-    issued_on _ _ _ _ _ _ hs _
-    (subst (λ (on : Target). IsTargeted view (names_of c.args.names.now) on hs) (sym c.in-Each.is)
-    lists)
+    issued_on _ _ _ _ _ _ _ _
+    (listed (goal.at.returns-in_ok-with-in-Each-clause-issued c).After-deref)
     c.on_each-in-Each.ensures.ok
 
 pub returns-in_ok-with-in-Each-clause-stopped : goal.returns-in_ok-with-in-Each-clause-stopped
 returns-in_ok-with-in-Each-clause-stopped c =
-    let view = c.args.view.now in
-    let hs = c.deref.result.now in
-    let lists : ListsWith c.in-Each.id view.entities hs =
-    subst (λ (xs : List Handle). ListsWith c.in-Each.id view.entities xs)
-    (sym c.deref.ensures.value) c.in_ok-with-in-Each.ensures in
-    stopped_on _ _ _ _ _ _ hs _
-    (subst (λ (on : Target). IsTargeted view (names_of c.args.names.now) on hs) (sym c.in-Each.is)
-    lists)
+    stopped_on _ _ _ _ _ _ _ _
+    (listed (goal.at.returns-in_ok-with-in-Each-clause-stopped c).After-deref)
     c.on_each-in-Each.ensures.stopped

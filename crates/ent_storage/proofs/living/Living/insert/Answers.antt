@@ -5,7 +5,7 @@ use Rattle.ent_storage.specs.SparseSet.{Values}
 use Rattle.ent_storage.specs.declared.living.Resident.{Resident}
 use Rattle.ent_storage.specs.Living.{Living, LivingEntity, change_at}
 use Rattle.ent_storage.proofs.ColumnsLemmas.{same_components}
-use Rattle.ent_storage.proofs.LivingLemmas.{components_from, inside_from, same_from, changed_from}
+use Rattle.ent_storage.proofs.LivingLemmas.{read_from, inside_from, same_from, changed_from}
 use Rattle.ent_storage.proofs.LivingLemmas.{changed_within, written_back}
 use Rattle.ent_storage.proofs.Missing.{on_err}
 use Rattle.ent_storage.proofs.living.Living.insert.Goals as goal
@@ -23,13 +23,10 @@ returns-in_err-reserve_all-clause-growing c =
     on_err {P = (d : LivingEntity) → 0
     < missing (get_or c.args.self.now.entities c.args.place d).components c.args.items.now} _
     (λ d.
-    let inside = inside_from c.self.inside.residents.items c.self.inside.columns.items _
-    c.args.self.now c.args.place c.self.view_is c.requires in
     let resident : Resident = record { handle = d.handle; birth = d.birth } in
-    let held = sym (components_from c.self.inside.residents.items c.self.inside.columns.items
-    c.args.place resident d inside)
-    ∙ ap (λ (l : Living). (get_or l.entities c.args.place d).components) c.self.view_is in
-    subst (λ (m : Components). 0 < missing m c.args.items.now) held
+    let read = read_from c.self.inside.residents.items c.self.inside.columns.items _
+    c.args.self.now c.args.place c.self.view_is c.requires resident d in
+    subst (λ (e : LivingEntity). 0 < missing e.components c.args.items.now) (sym read)
     c.in_err-reserve_all.ensures.growing)
 
 pub invariant_of-self-2 : goal.invariant_of-self-2

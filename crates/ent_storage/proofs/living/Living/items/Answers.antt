@@ -1,10 +1,9 @@
-use Rattle.std.proofs.Common.{List, get_or, ap, sym, ◌∙◌}
+use Rattle.std.proofs.Common.{List, ap, sym, ◌∙◌}
 use Rattle.std.specs.FinMap as finite
-use Rattle.ent_storage.specs.Components.{Components}
 use Rattle.ent_storage.specs.SparseSet.{Column}
 use Rattle.ent_storage.specs.declared.living.Resident.{Resident}
-use Rattle.ent_storage.specs.Living.{Living, components_at}
-use Rattle.ent_storage.proofs.LivingLemmas.{components_from, inside_from}
+use Rattle.ent_storage.specs.Living.{LivingEntity, components_at}
+use Rattle.ent_storage.proofs.LivingLemmas.{read_from}
 use Rattle.ent_storage.proofs.living.Living.items.Goals as goal
 
 pub new-requires : goal.new-requires
@@ -12,14 +11,10 @@ new-requires c = rw c.deref.ensures.value c.self.invariant.numbered
 
 pub returns : goal.returns
 returns c d =
-    let inside = inside_from c.self.inside.residents.items c.self.inside.columns.items _
-    c.args.self.now c.args.place c.self.view_is c.requires in
     let resident : Resident = record { handle = d.handle; birth = d.birth } in
     c.new.ensures
     ∙ ap (λ (columns : List Column). finite.entries (components_at columns c.args.place))
     c.deref.ensures.value
-    ∙ ap (λ (m : Components). finite.entries m)
-    (sym (components_from c.self.inside.residents.items c.self.inside.columns.items c.args.place
-    resident d inside))
-    ∙ ap (λ (l : Living). finite.entries (get_or l.entities c.args.place d).components)
-    c.self.view_is
+    ∙ sym (ap (λ (e : LivingEntity). finite.entries e.components)
+    (read_from c.self.inside.residents.items c.self.inside.columns.items _ c.args.self.now
+    c.args.place c.self.view_is c.requires resident d))

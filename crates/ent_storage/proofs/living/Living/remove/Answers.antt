@@ -1,10 +1,9 @@
-use Rattle.std.proofs.Common.{length, get_or, ap, sym, ◌∙◌, arith}
+use Rattle.std.proofs.Common.{length, ap, sym, ◌∙◌, arith}
 use Rattle.std.specs.FinMap as finite
-use Rattle.ent_storage.specs.Components.{Components}
 use Rattle.ent_storage.specs.declared.living.Resident.{Resident}
-use Rattle.ent_storage.specs.Living.{Living, change_at}
+use Rattle.ent_storage.specs.Living.{Living, LivingEntity, change_at}
 use Rattle.ent_storage.proofs.ColumnsLemmas.{get_components}
-use Rattle.ent_storage.proofs.LivingLemmas.{components_from, inside_from, changed_from}
+use Rattle.ent_storage.proofs.LivingLemmas.{read_from, inside_from, changed_from}
 use Rattle.ent_storage.proofs.LivingLemmas.{changed_within, written_back}
 use Rattle.ent_storage.proofs.living.Living.remove.Goals as goal
 
@@ -23,16 +22,12 @@ invariant_of-self c =
 pub returns-clause-value : goal.returns-clause-value
 returns-clause-value c d =
     let remove_value = rw c.deref_mut.ensures.value at c.remove.ensures.value in
-    let inside = inside_from c.self.inside.residents.items c.self.inside.columns.items _
-    c.args.self.now c.args.place c.self.view_is c.requires in
     let resident : Resident = record { handle = d.handle; birth = d.birth } in
     remove_value
     ∙ sym (get_components c.self.inside.columns.items c.args.place c.args.id)
-    ∙ ap (λ (m : Components). finite.get m c.args.id)
-    (sym (components_from c.self.inside.residents.items c.self.inside.columns.items c.args.place
-    resident d inside))
-    ∙ ap (λ (l : Living). finite.get (get_or l.entities c.args.place d).components c.args.id)
-    c.self.view_is
+    ∙ sym (ap (λ (e : LivingEntity). finite.get e.components c.args.id)
+    (read_from c.self.inside.residents.items c.self.inside.columns.items _ c.args.self.now
+    c.args.place c.self.view_is c.requires resident d))
 
 pub returns-clause-entities : goal.returns-clause-entities
 returns-clause-entities c =

@@ -1,27 +1,23 @@
-use Rattle.std.proofs.Common.{Option, slice_get, option_and_then, ap, sym, ◌∙◌}
+use Rattle.std.proofs.Common.{Option, option_and_then, ap, sym, ◌∙◌}
 use Rattle.std.specs.FinMap as map
-use Rattle.ent_storage.specs.EntityMap.{Entity, Store}
-use Rattle.ent_storage.specs.Indexed.{counted}
-use Rattle.ent_storage.proofs.Indexed.{get_placed, some_entity}
-use Rattle.ent_storage.proofs.Placed.{placed_from_place, at_place}
+use Rattle.ent_storage.specs.EntityMap.{Entity}
+use Rattle.ent_storage.proofs.Indexed.{some_entity}
+use Rattle.ent_storage.proofs.Placed.{IsEntityAt, entity_at}
+use Rattle.ent_storage.proofs.storage.Storage.get_at.Goals.{After-self}
 use Rattle.ent_storage.proofs.storage.Storage.get_at.Goals as goal
 
--- the place is one of the entities'
-pub value-requires : goal.value-requires
-value-requires c =
-    (at_place c.self.inside.living.entities c.args.place c.args.handle
-    (ap (λ (s : Store). slice_get s.places c.args.place) c.self.view_is ∙ c.requires)).0
+-- the place is that of the handle
+at : (c : After-self) → IsEntityAt c.self.inside.living.entities c.args.self.now c.args.handle
+    c.args.place
+at c = entity_at _ _ _ _ c.self.invariant.indexed c.self.view_is c.args.handle c.args.place
+    c.requires
 
--- the entity that was read is the handle's
+pub value-requires : goal.value-requires
+value-requires c = (at (goal.at.value-requires c).After-self).inside
+
 pub returns : goal.returns
 returns c =
-    let living = c.self.inside.living.entities in
-    let index = counted living c.self.inside.index.by_handle in
-    let placed = placed_from_place living index c.self.invariant.indexed c.args.handle c.args.place
-    (ap (λ (s : Store). slice_get s.places c.args.place) c.self.view_is ∙ c.requires) in
-    let found = get_placed living index c.self.invariant.indexed c.args.handle c.args.place
-    (some_entity c.args.handle) placed in
+    let at = at (goal.at.returns c).After-self in
     c.value.ensures (some_entity c.args.handle)
-    ∙ sym (ap (λ (s : Store). option_and_then (λ e. map.get e.components c.args.id)
-    (map.get s.entities c.args.handle)) (sym c.self.view_is)
-    ∙ ap (λ (o : Option Entity). option_and_then (λ e. map.get e.components c.args.id) o) found)
+    ∙ sym (ap (λ (o : Option Entity). option_and_then (λ e. map.get e.components c.args.id) o)
+    at.found)

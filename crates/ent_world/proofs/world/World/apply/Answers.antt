@@ -1,6 +1,6 @@
 use Rattle.std.proofs.Common.{ap}
 use Rattle.ent_world.specs.World.{World}
-use Rattle.ent_world.specs.Command.{applied}
+use Rattle.ent_world.specs.Effects.{applied}
 use Rattle.ent_world.specs.Sync.{cut}
 use Rattle.ent_world.proofs.Worlds.{commands-world}
 use Rattle.ent_world.proofs.world.World.apply.Goals as goal

@@ -1,6 +1,6 @@
 use Rattle.std.proofs.Common.{◌≡◌, ap, ◌∙◌, ℕ, List, []}
 use Rattle.ent_world.specs.declared.fault.Fault.{Fault}
-use Rattle.ent_world.specs.Command.{Applied, applied}
+use Rattle.ent_world.specs.Effects.{Applied, applied}
 use Rattle.ent_world.specs.Sync.{after_births, sync, sync_until, cut}
 use Rattle.ent_world.specs.Rest.{after_left, HasStoppedSo}
 use Rattle.ent_queue.specs.Command.{Command}
@@ -30,7 +30,9 @@ returns-in-Ok-clause-whole_world c before earlier stopped =
 pub returns-in-Ok-clause-whole_faults : goal.returns-in-Ok-clause-whole_faults
 returns-in-Ok-clause-whole_faults c before earlier stopped =
     let a = c.args in
-    ap (λ (b : Applied). b.faults) (all_done a.system a.command a.done a.queues.now before a.self.now
+    ap
+    (λ (b : Applied). b.faults) (all_done a.system a.command a.done a.queues.now before
+    a.self.now
     earlier c.new-applying.result.faults.items (applied c.apply_queues-applied.new.self
     c.apply_queues-applied.new.applying.faults.items) c.new-applying.ensures c.in-Ok.ensures.ok
     stopped)

@@ -1,9 +1,9 @@
 use Rattle.std.proofs.Common.{◌≡◌, ◌<◌, sym, ap, ◌∙◌, subst, ◌∷◌, [], length, arith}
 use Rattle.std.proofs.lemmas.Result.{err_from_is_err_and}
 use Rattle.ent_queue.specs.Entry.{command_of}
-use Rattle.ent_world.specs.declared.applying.At.{At}
-use Rattle.ent_world.specs.declared.applying.Stop.{Stop}
-use Rattle.ent_world.specs.Command.{applied, after_commands}
+use Rattle.ent_world.specs.declared.stop.At.{At}
+use Rattle.ent_world.specs.declared.stop.Stop.{Stop}
+use Rattle.ent_world.specs.Effects.{applied, after_commands}
 use Rattle.ent_world.specs.Sync.{first_part, cut_commands}
 use Rattle.ent_world.specs.Memory.{TakesMemoryIn}
 use Rattle.ent_world.specs.Rest.{last_part, left_commands}
@@ -54,7 +54,8 @@ returns-in_err-apply_command-clause-err c =
     c.next.new.self c.loop-command.command command start left c.at_command.result.at.command
     c.at_command.result.done number (omega (arith, le))
     (λ is. ap (λ (s : Stop). s.done) (here.first is)) here.later stop.done)
-    ∙ ap (λ n. after_commands from.at.system from.at.command (left_commands from.at.command from.done
+    ∙ ap
+    (λ n. after_commands from.at.system from.at.command (left_commands from.at.command from.done
     (cut_commands n stop.done c.args.queue.now)) start)
     (sym (ap (λ (at : At). at.command) c.in_err-apply_command.ensures.at ∙ number))
     )

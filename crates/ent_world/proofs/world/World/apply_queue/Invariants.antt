@@ -1,5 +1,5 @@
 use Rattle.std.proofs.Common.{◌≡◌, take, drop}
-use Rattle.ent_world.specs.Command.{applied, after_commands}
+use Rattle.ent_world.specs.Effects.{applied, after_commands}
 use Rattle.ent_world.specs.Rest.{left_commands}
 use Rattle.ent_world.proofs.world.World.apply_queue.Given as goal
 

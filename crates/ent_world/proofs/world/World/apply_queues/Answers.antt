@@ -2,8 +2,8 @@ use Rattle.std.proofs.Common.{◌≡◌, refl, sym, ap, ◌+◌, ◌∙◌, subs
 use Rattle.std.proofs.lemmas.Result.{err_from_is_err_and}
 use Rattle.std.proofs.lemmas.List.{drop_more}
 use Rattle.ent_queue.specs.Command.{Command}
-use Rattle.ent_world.specs.declared.applying.Stop.{Stop}
-use Rattle.ent_world.specs.Command.{applied, after_commands}
+use Rattle.ent_world.specs.declared.stop.Stop.{Stop}
+use Rattle.ent_world.specs.Effects.{applied, after_commands}
 use Rattle.ent_world.specs.Sync.{cut_commands, cut}
 use Rattle.ent_world.specs.Memory.{TakesMemoryAt}
 use Rattle.ent_world.specs.Rest.{left_commands, after_left}
@@ -34,8 +34,12 @@ returns-in_err-apply_queue-clause-err c =
     left here.at.system here.at.command here.done number (omega (arith, le))
     (λ is. let same = c.in_queue.ensures.first is in
     (ap (λ (s : Stop). s.at.command) same, ap (λ (s : Stop). s.done) same))
-    (λ lt. let same = c.in_queue.ensures.later lt in
-    (ap (λ (s : Stop). s.at.command) same, ap (λ (s : Stop). s.done) same)) stop.at.command stop.done)
+    (λ lt. let same = c.in_queue.ensures.later lt in (
+      ap
+          (λ (s : Stop). s.at.command) same,
+      ap (λ (s : Stop). s.done) same,
+    )) stop.at.command
+    stop.done)
     ∙ ap (λ n. after_left from.at.system from.at.command from.done
     (cut n stop.at.command stop.done qs) start)
     (sym (c.in_err-apply_queue.ensures.at ∙ number))
@@ -73,7 +77,8 @@ loop-system-preserved c =
     record {
       flushed = c.apply_queue.ensures.flushed;
       so_far = c.in_ok-apply_queue.ensures.ok
-          ∙ ap (after_commands here.at.system here.at.command (left_commands here.at.command here.done
+          ∙ ap (after_commands here.at.system here.at.command
+          (left_commands here.at.command here.done
           q)) c.loop-system.invariant.so_far
           ∙ sym (queues_left-step from.at.system from.at.command from.done qs (drop (k + 1) qs) k q
           start left here.at.system here.at.command here.done number (omega (arith, le))

@@ -1,5 +1,5 @@
 use Rattle.std.proofs.Common.{◌≡◌, take}
-use Rattle.ent_world.specs.Command.{applied}
+use Rattle.ent_world.specs.Effects.{applied}
 use Rattle.ent_world.specs.Rest.{after_left}
 use Rattle.ent_world.proofs.world.World.apply_queues.Given as goal
 

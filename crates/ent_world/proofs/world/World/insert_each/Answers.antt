@@ -1,5 +1,5 @@
 use Rattle.std.proofs.Common.{◌≡◌, ◌<◌, true, sym, ap, ◌∙◌, length, arith}
-use Rattle.ent_world.specs.Command.{applied, on_entity, after_insert}
+use Rattle.ent_world.specs.Effects.{applied, on_entity, after_insert}
 use Rattle.ent_world.specs.Memory.{insert_takes_memory}
 use Rattle.ent_world.proofs.Making.{on_ok, on_err}
 use Rattle.ent_world.proofs.Folds.{next_left, some_left}

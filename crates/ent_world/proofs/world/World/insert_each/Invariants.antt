@@ -1,5 +1,5 @@
 use Rattle.std.proofs.Common.{◌≡◌, take, drop}
-use Rattle.ent_world.specs.Command.{applied, on_each, after_insert}
+use Rattle.ent_world.specs.Effects.{applied, on_each, after_insert}
 use Rattle.ent_world.proofs.world.World.insert_each.Given as goal
 
 -- the first ones have their components, which are still there to be given

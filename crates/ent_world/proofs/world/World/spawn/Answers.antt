@@ -1,7 +1,7 @@
 use Rattle.std.proofs.Common.{◌≡◌, sym, ap, ◌∙◌, is_some, Some}
 use Rattle.std.specs.FinMap as map
 use Rattle.ent_world.specs.World.{World, IsWorld}
-use Rattle.ent_world.specs.Command.{spawned}
+use Rattle.ent_world.specs.Effects.{spawned}
 use Rattle.ent_world.proofs.TakenOut.{taken_out}
 use Rattle.ent_world.proofs.Born.{no_entity}
 use Rattle.ent_world.proofs.Making.{get_inserted, taken_back}

@@ -1,0 +1,256 @@
+-- How many slots are retired: all that were made but those of the living and those of the old
+-- handles that may be given.
+use Rattle.std.proofs.Common.{◌≡◌, ℕ, ◌+◌, ◌<◌, ◌≤◌, Bool, true, false, cond, not, ◌||◌}
+use Rattle.std.proofs.Common.{eqb, List, [], ◌∷◌, length, get_or, filter, refl, sym, ap, ◌∙◌}
+use Rattle.std.proofs.Common.{arith, inl, inr, suc, zero, subst, All, AllPairs, Contains}
+use Rattle.std.proofs.Common.{true≢false}
+use Rattle.std.specs.List.{count_by, range_with_len}
+use Rattle.std.specs.FinSet as set
+use Rattle.std.proofs.lemmas.Bool.{cases_lt, cases_eq, eq-eqb, ne_eqb, eqb-true, lt-ltb, le-ltb}
+use Rattle.std.proofs.lemmas.Bool.{false_from_ne_true}
+use Rattle.std.proofs.lemmas.List.Kept.{AllPairs-filter}
+use Rattle.std.proofs.lemmas.List.Sums.{sum_by-cons}
+use Rattle.std.proofs.lemmas.List.Elements.{All-head, All-tail, All-contains, Contains-get_or}
+use Rattle.ent_handle.specs.Handle.{Handle, handle_cmp, handle_cmp_total}
+use Rattle.ent_handle.specs.Handle.{handle_cmp-IsAntisymmetric}
+use Rattle.ent_alloc.specs.Sequential.{Allocator, available, top, is_old, has_slot}
+use Rattle.ent_alloc.specs.Sequential.{retired}
+use Rattle.ent_alloc.specs.Sound.{IsSound, AreApart, IsLive}
+use Rattle.ent_alloc.proofs.ListLaws.{AllPairs-head, AllPairs-tail}
+use Rattle.ent_alloc.proofs.HandleSets.{Contains-from_stands_in, stands_in-from_Contains}
+use Rattle.ent_alloc.proofs.LaidOut.{old_ones, old_ones_below}
+
+-- ---- counting numbers
+
+-- what a test adds to a count
+abbrev weight : Bool → ℕ
+weight b = cond b 1 0
+
+-- how many of the next numbers pass
+abbrev count : (ℕ → Bool) → ℕ → ℕ → ℕ
+count p from n = count_by p (range_with_len from n)
+
+count-next : (p : ℕ → Bool) (from n : ℕ) → count p from (suc n) ≡ weight (p from)
+    + count p (from + 1) n
+count-next p from n = sum_by-cons (λ i. weight (p i)) from (range_with_len (from + 1) n)
+
+-- two tests that agree on these numbers
+count_alike : (p q : ℕ → Bool) (from n : ℕ)
+    → ((i : ℕ) → from ≤ i → i < from + n → p i ≡ q i) → count p from n ≡ count q from n
+count_alike p q from zero alike = refl
+count_alike p q from (suc n) alike =
+    count-next p from n
+    ∙ (λ i. weight (alike from (omega arith) (omega arith) i)
+    + count_alike p q (from + 1) n (λ k least below. alike k (omega arith) (omega arith)) i)
+    ∙ sym (count-next q from n)
+
+one_part : (x y : Bool) → (x ≡ true → y ≡ true → ⊥) → weight (not (x || y))
+    + (weight x + weight y) ≡ 1
+one_part true true apart = absurd (apart refl refl)
+one_part true false apart = refl
+one_part false true apart = refl
+one_part false false apart = refl
+
+-- each number passes one of two tests or none, and never both
+count-parts : (p q : ℕ → Bool) (from n : ℕ)
+    → ((i : ℕ) → from ≤ i → i < from + n → p i ≡ true → q i ≡ true → ⊥)
+    → count (λ i. not (p i || q i)) from n + (count p from n + count q from n) ≡ n
+count-parts p q from zero apart = refl
+count-parts p q from (suc n) apart =
+    let here = one_part (p from) (q from) (apart from (omega arith) (omega arith)) in
+    let rest = count-parts p q (from + 1) n (λ k least below. apart k (omega arith) (omega arith))
+    in
+    omega (
+      arith,
+      count-next p from n,
+      count-next q from n,
+      count-next (λ i. not (p i || q i)) from n,
+    )
+
+count-none : (from n : ℕ) → count (λ _. false) from n ≡ 0
+count-none from zero = refl
+count-none from (suc n) = count-next (λ _. false) from n
+    ∙ ap (λ m. 0 + m) (count-none (from + 1) n)
+
+either : (a b : Bool) → a ≡ true → (a || b) ≡ true
+either true b is = refl
+either false b is = absurd (true≢false (sym is))
+
+-- one number more that passes
+count-one_more : (p : ℕ → Bool) (k from n : ℕ) → from ≤ k → k < from + n → p k ≡ false
+    → count (λ i. eqb k i || p i) from n ≡ count p from n + 1
+count-one_more p k from zero least below fails = absurd (omega arith)
+count-one_more p k from (suc n) least below fails =
+    let now = count-next (λ i. eqb k i || p i) from n in
+    let before = count-next p from n in
+    elim (cases_eq k from) [
+      | inl here ↦
+          let passes : weight (eqb k from || p from) ≡ 1 =
+          ap weight (either (eqb k from) (p from) (eq-eqb k from here)) in
+          let failed : weight (p from) ≡ 0 = ap (λ i. weight (p i)) (sym here) ∙ ap weight fails in
+          let rest : count (λ i. eqb k i || p i) (from + 1) n ≡ count p (from + 1) n =
+          count_alike (λ i. eqb k i || p i) p (from + 1) n
+          (λ i past _. ap (λ b. b || p i) (ne_eqb k i (λ e. absurd (omega arith)))) in
+          omega arith
+      | inr later ↦
+          let same : weight (eqb k from || p from) ≡ weight (p from) =
+          ap (λ b. weight (b || p from)) (ne_eqb k from later) in
+          let rest = count-one_more p k (from + 1) n (omega arith) (omega arith) fails in
+          omega arith
+    ]
+
+-- ---- the slots of a list
+
+has_slot-found : (handles : List Handle) (index : ℕ) → has_slot handles index ≡ true
+    → (h : Handle) × Contains handles h × (h.index ≡ index)
+has_slot-found [] index is = absurd (true≢false (sym is))
+has_slot-found (x ∷ handles) index is =
+    elim (cases_eq x.index index) [
+      | inl here ↦ (x, (0, omega arith, refl), here)
+      | inr other ↦
+          let found = has_slot-found handles index
+          (sym (ap (λ b. b || has_slot handles index) (ne_eqb x.index index other)) ∙ is) in
+          let below = found.1.1 in
+          (found.0, (suc found.1.0, omega arith, found.1.2), found.2)
+    ]
+
+has_slot-has : (handles : List Handle) (h : Handle) → Contains handles h → has_slot handles h.index
+    ≡ true
+has_slot-has [] h (k, below, is) = absurd (omega arith)
+has_slot-has (x ∷ handles) h (zero, below, is) =
+    either (eqb x.index h.index) (has_slot handles h.index)
+    (eq-eqb x.index h.index (ap (λ (g : Handle). g.index) is))
+has_slot-has (x ∷ handles) h (suc k, below, is) =
+    or-later (eqb x.index h.index) (has_slot handles h.index)
+    (has_slot-has handles h (k, omega arith, is))
+  where
+    or-later : (a b : Bool) → b ≡ true → (a || b) ≡ true
+    or-later true b is = refl
+    or-later false b is = is
+
+has_slot-apart : (handles : List Handle) (h : Handle) → All (AreApart h) handles
+    → has_slot handles h.index ≡ false
+has_slot-apart [] h apart = refl
+has_slot-apart (x ∷ handles) h apart =
+    let other : eqb x.index h.index ≡ false = ne_eqb x.index h.index
+    (λ e. All-head (AreApart h) x handles apart (sym e)) in
+    ap (λ b. b || has_slot handles h.index) other
+    ∙ has_slot-apart handles h (All-tail (AreApart h) x handles apart)
+
+-- handles of as many slots
+count-apart : (handles : List Handle) (n : ℕ) → AllPairs AreApart handles
+    → All (λ h. h.index < n) handles → count (has_slot handles) 0 n ≡ length handles
+count-apart [] n apart below = count-none 0 n
+count-apart (h ∷ handles) n apart below =
+    let first : h.index < n = All-head (λ h. h.index < n) h handles below in
+    let rest = count-apart handles n (AllPairs-tail AreApart h handles apart)
+    (All-tail (λ h. h.index < n) h handles below) in
+    count-one_more (has_slot handles) h.index 0 n (omega arith) (omega arith)
+    (has_slot-apart handles h (AllPairs-head AreApart h handles apart))
+    ∙ omega (arith, rest)
+
+-- a slot has one of these handles at most
+abbrev AreAlone : List Handle → Type 0
+AreAlone handles = (g h : Handle) → Contains handles g → Contains handles h → g.index ≡ h.index
+    → g ≡ h
+
+in_tail : (x : Handle) (handles : List Handle) (h : Handle) → Contains handles h
+    → Contains (x ∷ handles) h
+in_tail x handles h (k, below, is) = (suc k, omega arith, is)
+
+alone-tail : (x : Handle) (handles : List Handle) → AreAlone (x ∷ handles) → AreAlone handles
+alone-tail x handles alone g h in_g in_h = alone g h (in_tail x handles g in_g)
+    (in_tail x handles h in_h)
+
+either_of : (b : Bool) (P : Type 0) → (b ≡ true → P) → (b ≡ false → P) → P
+either_of true P f g = f refl
+either_of false P f g = g refl
+
+-- the set of them has as many
+count-alone : (handles : List Handle) (n : ℕ) → AreAlone handles → All (λ h. h.index < n) handles
+    → count (has_slot handles) 0 n ≡ set.len {R = handle_cmp} (set.from_list handles)
+count-alone [] n alone below = count-none 0 n ∙ sym (set.len-empty handle_cmp)
+count-alone (h ∷ handles) n alone below =
+    let first : h.index < n = All-head (λ h. h.index < n) h handles below in
+    let rest = count-alone handles n (alone-tail h handles alone)
+    (All-tail (λ h. h.index < n) h handles below) in
+    let long = set.len-insert handle_cmp_total (set.from_list handles) h in
+    let tells = set.contains-from_list handle_cmp_total handles h in
+    either_of (set.contains {R = handle_cmp} (set.from_list handles) h)
+    (count (has_slot (h ∷ handles)) 0 n ≡ set.len {R = handle_cmp} (set.from_list (h ∷ handles)))
+    (λ is.
+    let there : has_slot handles h.index ≡ true = has_slot-has handles h
+    (Contains-from_stands_in handles h (sym tells ∙ is)) in
+    count_alike (has_slot (h ∷ handles)) (has_slot handles) 0 n
+    (λ i _ _. again (eqb h.index i) (has_slot handles i)
+    (λ e. ap (has_slot handles) (sym (eqb-true h.index i e)) ∙ there))
+    ∙ rest
+    ∙ sym (long ∙ ap (λ b. cond b (set.len {R = handle_cmp} (set.from_list handles))
+    (set.len {R = handle_cmp} (set.from_list handles) + 1)) is))
+    (λ is.
+    let none : has_slot handles h.index ≡ false = false_from_ne_true _ (λ one.
+    let found = has_slot-found handles h.index one in
+    let same : found.0 ≡ h = alone found.0 h (in_tail h handles found.0 found.1)
+    (0, omega arith, refl) found.2 in
+    true≢false (sym (stands_in-from_Contains handles h (subst (Contains handles) same found.1))
+    ∙ sym tells ∙ is)) in
+    count-one_more (has_slot handles) h.index 0 n (omega arith) (omega arith) none
+    ∙ ap (λ m. m + 1) rest
+    ∙ sym (long ∙ ap (λ b. cond b (set.len {R = handle_cmp} (set.from_list handles))
+    (set.len {R = handle_cmp} (set.from_list handles) + 1)) is))
+  where
+    again : (a b : Bool) → (a ≡ true → b ≡ true) → (a || b) ≡ b
+    again true b is = sym (is refl)
+    again false b is = refl
+
+-- of the old slots, the old handles tell
+has_slot-old : (made : ℕ) (handles : List Handle) (index : ℕ) → index < made
+    → has_slot handles index ≡ has_slot (filter (is_old made) handles) index
+has_slot-old made [] index below = refl
+has_slot-old made (h ∷ handles) index below =
+    let rest = has_slot-old made handles index below in
+    elim (cases_lt h.index made) [
+      | inl old ↦ rw (lt-ltb h.index made old) (ap (λ b. eqb h.index index || b) rest)
+      | inr new ↦ rw (le-ltb h.index made new)
+          (ap (λ b. b || has_slot handles index)
+          (ne_eqb h.index index (λ e. absurd (omega arith))) ∙ rest)
+    ]
+
+-- ---- the slots of an allocator
+
+module _ (s : Allocator) (sound : IsSound s) where
+  abbrev living : List Handle
+  living = set.items s.live
+
+  lives : (h : Handle) → Contains living h → IsLive s h
+  lives h has = set.contains-items s.live h ∙ stands_in-from_Contains living h has
+
+  listed : s.live ≡ set.from_list living
+  listed = set.same_set handle_cmp_total handle_cmp-IsAntisymmetric _ _ (λ q.
+      set.contains-items s.live q ∙ sym (set.contains-from_list handle_cmp_total living q))
+
+  count-living : count (has_slot living) 0 s.made ≡ set.len s.live
+  count-living =
+      count-alone living s.made
+      (λ g h in_g in_h. sound.one_occupant g h (lives g in_g) (lives h in_h))
+      (λ i d lt. (sound.live (get_or living i d) (lives (get_or living i d)
+      (Contains-get_or living i d lt))).made)
+      ∙ ap (λ l. set.len l) (sym listed)
+
+  count-waiting : count (has_slot (available s)) 0 s.made ≡ top s
+  count-waiting =
+      count_alike (has_slot (available s)) (has_slot (old_ones s)) 0 s.made
+      (λ i _ below. has_slot-old s.made (available s) i (omega arith))
+      ∙ count-apart (old_ones s) s.made
+      (AllPairs-filter AreApart (is_old s.made) (available s) sound.apart) (old_ones_below s)
+
+  -- what is neither alive nor old and to be given is retired
+  pub retired-rest : retired s + (set.len s.live + top s) ≡ s.made
+  retired-rest =
+      let parts = count-parts (has_slot living) (has_slot (available s)) 0 s.made
+      (λ i _ _ alive waits.
+      let g = has_slot-found living i alive in
+      let h = has_slot-found (available s) i waits in
+      All-contains (AreApart g.0) (available s) h.0 (sound.live g.0 (lives g.0 g.1)).apart h.1
+      (g.2 ∙ sym h.2)) in
+      omega (arith, count-living, count-waiting)

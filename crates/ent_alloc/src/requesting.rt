@@ -1,0 +1,158 @@
+//! What callers request, one or many of them: a step lowers the cursor, and what it gives follows
+//! from the cursor that it found.
+ghost use Rattle.std.specs.Prelude.{◌≡◌, ℕ, ◌+◌, ◌-◌, ◌^◌, ◌<◌, ◌≤◌, pos, ◌+ℤ◌, ◌-ℤ◌};
+ghost use Rattle.std.specs.Prelude.{◌≤ℤ◌, neg_ℤ, length};
+ghost use Rattle.ent_alloc.specs.Sequential.{top, cursor, available, asked_at, pool_at};
+ghost use Rattle.ent_alloc.specs.Sequential.{reply_from, listed_alone, settled, after_take};
+ghost use Rattle.ent_alloc.specs.Span.{IsSpanOf};
+
+use crate::entities::Entities;
+use crate::requests::Requests;
+use crate::reserved::Reserved;
+use crate::slot_record::first_occupant;
+use crate::space::Space;
+use crate::span::Span;
+use ent_handle::Handle;
+
+impl Entities {
+    /// Sets the state to the one after requests that leave the cursor and the floor at these
+    /// positions. What is reserved is all from the top down to the floor. It is also the state
+    /// after one request down to the floor, which was served, and one for the rest down to the
+    /// cursor, which was refused if there is a rest.
+    ///
+    /// Nothing may have been requested since the last flush. The cursor is at most 2^50 below the
+    /// top. The floor is from the cursor to the top, at least `-room`, and equal to the cursor if
+    /// the cursor is at least `-room`.
+    pub fn settle(&mut self, cursor: i64, floor: i64)
+        requires flushed { self.old.asked ≡ 0 }
+        requires least { pos (top self.old) ≤ℤ (cursor +ℤ pos (2 ^ 50)) }
+        requires greatest { floor ≤ℤ pos (top self.old) }
+        requires ordered { cursor ≤ℤ floor }
+        requires reachable { pos 0 ≤ℤ (floor +ℤ pos (self.old.limits.slots - self.old.made)) }
+        requires all_given { pos 0 ≤ℤ (cursor +ℤ pos (self.old.limits.slots - self.old.made))
+            → floor ≡ cursor }
+        ensures settled { self.new
+            ≡ settled self.old (asked_at (top self.old) floor) (asked_at (top self.old) cursor) }
+        ensures requests { let given = asked_at (top self.old) floor in
+            let asked = asked_at (top self.old) cursor in
+            self.new ≡ after_take (after_take self.old given) (asked - given) }
+    {
+        let waiting = self.slots.waiting();
+        self.requests = Requests {
+            asked: distance(waiting, cursor),
+            served: distance(waiting, floor) as u32,
+        };
+    }
+
+    /// Requests `n` handles: lowers the cursor by `n`, and returns the positions that it passed.
+    /// `reply` tells what the request is given.
+    ///
+    /// If fewer than `n` handles are left, the request is refused, and the pool is shut: the cursor
+    /// stays lowered, and every later request above 0 is refused until the next flush. A request
+    /// for 0 handles is always served.
+    ///
+    /// At most 2^50 handles may be requested between two flushes.
+    pub fn lower(&mut self, n: u32) -> Span
+        requires { self.old.asked + n ≤ 2 ^ 50 }
+        ensures span { result ≡ record { high = cursor self.old; low = cursor self.old -ℤ pos n } }
+        ensures step { self.new ≡ after_take self.old n }
+
+        // `reply` takes the span.
+        ensures valid { IsSpanOf self.new result }
+    {
+        let available = self.available();
+        let span = Span::new(self.cursor(), n);
+        self.requests = self.requests.and(n, available);
+        span
+    }
+
+    /// What the request that passed these positions was given: the old handles first, in the order
+    /// of their positions, then the fresh ones. It may be asked at any time until the next flush,
+    /// also after later requests.
+    ///
+    /// The span is one that `lower` returned since the last flush, or any with `high` from -2^60 to
+    /// the top, and `low` from `high - (2^32 - 1)` to `high`.
+    ///
+    /// # Errors
+    ///
+    /// `Space`, with how many were left, if the positions reach past the last slot.
+    pub fn reply(&self, span: Span) -> Result<Reserved<'_>, Space>
+        requires { IsSpanOf self.now span }
+        ensures { (n : ℕ) → span.low ≡ span.high -ℤ pos n
+            → result ≡ reply_from self.now.made (pool_at self.now span.high) n }
+    {
+        let Span { high, low } = span;
+        if low == high {
+            return Ok(Reserved::new(&self.slots, 0, 0, 0, 0, 0));
+        }
+        let count = (high - low) as usize;
+        let made = self.slots.made();
+        if low >= 0 {
+            return Ok(Reserved::new(&self.slots, low as usize, high as usize, made, made, count));
+        }
+        let index_end = u64::from(made) + (-low) as u64;
+        if index_end > u64::from(self.slots.limits().slots()) {
+            return Err(Space {
+                wanted: (high - low) as u32,
+                left: self.left_below(high),
+            });
+        }
+        let index_end = index_end as u32;
+        if high > 0 {
+            return Ok(Reserved::new(&self.slots, 0, high as usize, made, index_end, count));
+        }
+        let index = made + (-high) as u32;
+        Ok(Reserved::new(&self.slots, 0, 0, index, index_end, count))
+    }
+
+    /// What the request for one handle was given that found the cursor at `high`: the handle that
+    /// `reply` lists for its span. It is faster, since there is nothing to list.
+    ///
+    /// `high` is from -2^60 to the top.
+    ///
+    /// # Errors
+    ///
+    /// `Space`, with 1 wanted and 0 left, if the position is that of no slot.
+    pub fn reply_one(&self, high: i64) -> Result<Handle, Space>
+        requires least { neg_ℤ (pos (2 ^ 60)) ≤ℤ high }
+        requires passed { high ≤ℤ pos (top self.now) }
+        ensures { listed_alone result ≡ reply_from self.now.made (pool_at self.now high) 1 }
+    {
+        if high > 0 {
+            return Ok(self.slots.pending_at(high as usize - 1));
+        }
+        let index = u64::from(self.slots.made()) + (-high) as u64;
+        if index < u64::from(self.slots.limits().slots()) {
+            Ok(first_occupant(index as u32))
+        } else {
+            Err(Space { wanted: 1, left: 0 })
+        }
+    }
+
+    /// How many handles a request finds that finds the cursor at `high`.
+    fn left_below(&self, high: i64) -> u32
+        requires least { neg_ℤ (pos (2 ^ 61)) ≤ℤ high }
+        requires passed { high ≤ℤ pos (top self.now) }
+        ensures { result ≡ length (pool_at self.now high) }
+    {
+        let before = distance(self.slots.waiting(), high);
+        self.available().saturating_sub(before) as u32
+    }
+
+    /// How many handles there were to give after the last flush.
+    pub(crate) fn available(&self) -> u64
+        ensures value { result ≡ length (available self.now) }
+        ensures fits { result < 2 ^ 32 }
+    {
+        u64::from(self.slots.waiting()) + u64::from(self.room())
+    }
+}
+
+/// How far a position is below the top.
+fn distance(top: u32, position: i64) -> u64
+    requires least { neg_ℤ (pos (2 ^ 61)) ≤ℤ position }
+    requires passed { position ≤ℤ pos top }
+    ensures { result ≡ asked_at top position }
+{
+    (i64::from(top) - position) as u64
+}

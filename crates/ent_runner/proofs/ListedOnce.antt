@@ -1,0 +1,394 @@
+-- The handles that the queues of a frame list are those that its history gave. After this law
+-- neither the workers nor the history count. It speaks of the definitions alone.
+use Rattle.std.proofs.Common.{◌≡◌, ℕ, zero, suc, ◌+◌, ◌<◌, ◌≤◌, List, [], ◌∷◌, ◌++◌, length, map}
+use Rattle.std.proofs.Common.{refl, ap, sym, ◌∙◌, arith, subst, Some, Bool, true, false, cond}
+use Rattle.std.proofs.Common.{eq-eqb, ne_eqb, append-nil, append_assoc, inl, inr, Result}
+use Rattle.std.proofs.Common.{get_or, swap, set, ◌≢◌, Option, None}
+use Rattle.std.specs.Prelude.{◌==◌, filter, slice_get, is_none}
+use Rattle.std.specs.List.{All, Contains, flat_map, range_with_len, position_from}
+use Rattle.std.specs.Ordering.{eq_by_cmp}
+use Rattle.std.specs.List.Sorted.{IsPermutation}
+use Rattle.std.proofs.lemmas.Bool.{cases_eq}
+use Rattle.std.proofs.lemmas.Option.{get_or_from_slice_get, slice_get_within}
+use Rattle.std.proofs.lemmas.List.Concat.{flat_map-append}
+use Rattle.std.proofs.lemmas.List.Edits.{swap_is}
+use Rattle.std.proofs.lemmas.List.Elements.{All-nil, All-head, All-tail, All-append, All-weaker}
+use Rattle.std.proofs.lemmas.List.Elements.{All-contains, All-contains_itself}
+use Rattle.std.proofs.lemmas.List.Elements.{Contains-append_left, Contains-append_right}
+use Rattle.std.proofs.lemmas.List.Sorted.{IsPermutation-refl, IsPermutation-sym}
+use Rattle.std.proofs.lemmas.List.Sorted.{IsPermutation-trans, IsPermutation-keeps}
+use Rattle.std.proofs.lemmas.List.Sorted.{IsPermutation-append_left, IsPermutation-append_right}
+use Rattle.std.proofs.lemmas.List.Sorted.{IsPermutation-append_comm, All-permutation}
+use Rattle.ent_handle.specs.Handle.{Handle, handle_cmp}
+use Rattle.ent_handle.specs.declared.birth.Birth.{Birth}
+use Rattle.ent_alloc.specs.declared.space.Space.{Space}
+use Rattle.ent_alloc.specs.Sequential.{born}
+use Rattle.ent_alloc.specs.Sound.{IsSound}
+use Rattle.ent_alloc.specs.History.{Call, handles_in, given_in, AreGivenOnce, after_history}
+use Rattle.ent_alloc.proofs.ListLaws.{filter_none, AllPairs-head, AllPairs-tail, AllPairs-left}
+use Rattle.ent_alloc.proofs.ListLaws.{AllPairs-right, AllPairs-across, AllPairs-IsPermutation}
+use Rattle.ent_alloc.proofs.HandleSets.{itself, other_handle, stands_in-from_Contains}
+use Rattle.ent_alloc.proofs.Flushes.{born-IsPermutation}
+use Rattle.ent_alloc.proofs.Histories.{given_in-distinct, given_in-taken}
+use Rattle.ent_shared.specs.declared.refused.Refused.TheVariants as why
+use Rattle.ent_queue.specs.Command.{Command, Spawn, SpawnMany, Insert, Remove, Despawn, Refused}
+use Rattle.ent_queue.specs.Reserving.{stands_for}
+use Rattle.ent_world.specs.World.{World}
+use Rattle.ent_world.specs.OpenWorld.{View}
+use Rattle.ent_world.specs.Sync.{listed_by, handles_listed, at_ordinal, listed_birth, unlisted}
+use Rattle.ent_world.proofs.Numbered.{some_index}
+use Rattle.ent_runner.specs.Frame.{IsFrame, queue_at, commands_of}
+use Rattle.ent_runner.proofs.Lists.{each_of_all}
+
+-- ---- lists in another order
+
+-- two lists in front of a third change places
+flipped : {X : Type 0} (xs ys zs : List X) → IsPermutation (xs ++ (ys ++ zs)) (ys ++ (xs ++ zs))
+flipped xs ys zs =
+    subst (λ l. IsPermutation l (ys ++ (xs ++ zs))) (append_assoc xs ys zs)
+    (subst (IsPermutation ((xs ++ ys) ++ zs)) (append_assoc ys xs zs)
+    (IsPermutation-append_left zs (xs ++ ys) (ys ++ xs) (IsPermutation-append_comm xs ys)))
+
+module _ {X Y : Type 0} (f : X → List Y) where
+  -- an element is put instead of another one
+  flat_put : (x : X) (xs : List X) (k : ℕ) → k < length xs → IsPermutation (f x ++ flat_map f xs)
+      (f (get_or xs k x) ++ flat_map f (set xs k x))
+  flat_put x [] k within = absurd (omega arith)
+  flat_put x (y ∷ xs) zero within = flipped (f x) (f y) (flat_map f xs)
+  flat_put x (y ∷ xs) (suc k) within =
+      let rest = flat_put x xs k (omega arith) in
+      let z : X = get_or xs k x in
+      IsPermutation-trans (f x ++ (f y ++ flat_map f xs)) (f y ++ (f x ++ flat_map f xs))
+      (f z ++ (f y ++ flat_map f (set xs k x)))
+      (flipped (f x) (f y) (flat_map f xs))
+      (IsPermutation-trans (f y ++ (f x ++ flat_map f xs)) (f y ++ (f z ++ flat_map f (set xs k x)))
+      (f z ++ (f y ++ flat_map f (set xs k x)))
+      (IsPermutation-append_right (f y) (f x ++ flat_map f xs) (f z ++ flat_map f (set xs k x))
+      rest)
+      (flipped (f y) (f z) (flat_map f (set xs k x))))
+
+  flat_swap : (xs : List X) (i j : ℕ) → i < length xs → j < length xs
+      → IsPermutation (flat_map f xs) (flat_map f (swap xs i j))
+  flat_swap [] i j li lj = absurd (omega arith)
+  flat_swap (x ∷ xs) zero zero li lj = IsPermutation-refl (flat_map f (x ∷ xs))
+  flat_swap (x ∷ xs) zero (suc j) li lj = flat_put x xs j (omega arith)
+  flat_swap (x ∷ xs) (suc i) zero li lj = flat_put x xs i (omega arith)
+  flat_swap (x ∷ xs) (suc i) (suc j) li lj =
+      let rest = flat_swap xs i j (omega arith) (omega arith) in
+      let same : swap xs i j ≡ set (set xs i (get_or xs j x)) j (get_or xs i x) =
+      sym (swap_is xs i j x (omega arith) (omega arith)) in
+      IsPermutation-append_right (f x) (flat_map f xs)
+      (flat_map f (set (set xs i (get_or xs j x)) j (get_or xs i x)))
+      (subst (λ l. IsPermutation (flat_map f xs) (flat_map f l)) same rest)
+
+  -- what the elements of a list stand for, in another order
+  flat_moved : (xs ys : List X) → IsPermutation xs ys → IsPermutation (flat_map f xs)
+      (flat_map f ys)
+  flat_moved xs ys moved =
+      IsPermutation-keeps xs (λ l. IsPermutation (flat_map f xs) (flat_map f l))
+      (IsPermutation-refl (flat_map f xs))
+      (λ l i j li lj before. IsPermutation-trans (flat_map f xs) (flat_map f l)
+      (flat_map f (swap l i j)) before (flat_swap l i j li lj)) ys moved
+
+-- a list of lists of lists
+flat_flat : {X Y Z : Type 0} (g : Y → List Z) (f : X → List Y) (xs : List X) → flat_map g
+    (flat_map f xs) ≡ flat_map (λ x. flat_map g (f x)) xs
+flat_flat g f [] = refl
+flat_flat g f (x ∷ xs) = flat_map-append g (f x) (flat_map f xs) ∙ ap (λ l. flat_map g (f x) ++ l)
+    (flat_flat g f xs)
+
+-- the elements of a list by their numbers
+flat_by_number : {X Y : Type 0} (f : ℕ → List Y) (g : X → List Y) (a : ℕ) (xs : List X)
+    → ((k : ℕ) (x : X) → slice_get xs k ≡ Some x → f (a + k) ≡ g x)
+    → flat_map f (range_with_len a (length xs)) ≡ flat_map g xs
+flat_by_number f g a [] each = refl
+flat_by_number f g a (x ∷ xs) each =
+    let zeroth : a ≡ a + 0 = omega arith in
+    let here : f a ≡ g x = ap f zeroth ∙ each 0 x refl in
+    let rest : flat_map f (range_with_len (a + 1) (length xs)) ≡ flat_map g xs =
+    flat_by_number f g (a + 1) xs (λ k y at.
+    let next : (a + 1) + k ≡ a + suc k = omega arith in ap f next ∙ each (suc k) y at) in
+    λ i. here i ++ rest i
+
+-- ---- the calls of a history, caller by caller
+
+-- with one more call of this caller
+with_call : (caller : ℕ) (handles : List Handle) (given : ℕ → List Handle) (k : ℕ) → List Handle
+with_call caller handles given k = cond (caller == k) (handles ++ given k) (given k)
+
+none_below : (c a many : ℕ) (handles : List Handle) (given : ℕ → List Handle) → c < a
+    → flat_map given (range_with_len a many)
+    ≡ flat_map (with_call c handles given) (range_with_len a many)
+unfolding with_call
+none_below c a zero handles given less = refl
+none_below c a (suc many) handles given less =
+    let away : (c == a) ≡ false = ne_eqb c a (λ e. absurd (omega arith)) in
+    let here : given a ≡ with_call c handles given a =
+    ap (λ b. cond b (handles ++ given a) (given a)) (sym away) in
+    let rest = none_below c (a + 1) many handles given (omega arith) in
+    λ i. here i ++ rest i
+
+one_gets : (c a many : ℕ) (handles : List Handle) (given : ℕ → List Handle) → a ≤ c → c < a + many
+    → IsPermutation (handles ++ flat_map given (range_with_len a many))
+    (flat_map (with_call c handles given) (range_with_len a many))
+unfolding with_call
+one_gets c a zero handles given from below = absurd (omega arith)
+one_gets c a (suc many) handles given from below =
+    let rest : List Handle = flat_map given (range_with_len (a + 1) many) in
+    let more : List Handle = flat_map (with_call c handles given) (range_with_len (a + 1) many) in
+    let goal : Bool → Type 0 = λ b. IsPermutation (handles ++ (given a ++ rest))
+    (cond b (handles ++ given a) (given a) ++ more) in
+    elim (cases_eq c a) [
+      | inl e ↦
+          let same : rest ≡ more = none_below c (a + 1) many handles given (omega arith) in
+          let whole : handles ++ (given a ++ rest) ≡ (handles ++ given a) ++ more =
+          sym (append_assoc handles (given a) rest) ∙ ap (λ l. (handles ++ given a) ++ l) same in
+          subst goal (sym (eq-eqb c a e))
+          (subst (IsPermutation (handles ++ (given a ++ rest))) whole
+          (IsPermutation-refl (handles ++ (given a ++ rest))))
+      | inr ne ↦
+          subst goal (sym (ne_eqb c a ne))
+          (IsPermutation-trans (handles ++ (given a ++ rest)) (given a ++ (handles ++ rest))
+          (given a ++ more) (flipped handles (given a) rest)
+          (IsPermutation-append_right (given a) (handles ++ rest) more
+          (one_gets c (a + 1) many handles given (omega arith) (omega arith))))
+    ]
+
+-- what a history gave to one caller
+given_to : List Call → ℕ → List Handle
+given_to history caller = given_in (filter (λ (call : Call). call.caller == caller) history)
+
+abbrev no_handles : ℕ → List Handle
+no_handles k = []
+
+none_given : (xs : List ℕ) → flat_map no_handles xs ≡ []
+none_given [] = refl
+none_given (x ∷ xs) = none_given xs
+
+-- each handle was given to one of the callers
+by_callers : (workers : ℕ) (history : List Call)
+    → All (λ (call : Call). call.caller < workers) history
+    → IsPermutation (given_in history) (flat_map (given_to history) (range_with_len 0 workers))
+unfolding with_call given_to
+by_callers workers [] callers = subst (IsPermutation [])
+    (sym (none_given (range_with_len 0 workers))) (IsPermutation-refl [])
+by_callers workers (call ∷ history) callers =
+    let P : Call → Type 0 = λ (call : Call). call.caller < workers in
+    let handles : List Handle = handles_in call.reply in
+    let numbers : List ℕ = range_with_len 0 workers in
+    let rest = by_callers workers history (All-tail P call history callers) in
+    let less : call.caller < workers = All-head P call history callers in
+    let whole : flat_map (with_call call.caller handles (given_to history)) numbers
+    ≡ flat_map (given_to (call ∷ history)) numbers =
+    λ i. flat_map (λ k. by_test (call.caller == k) (filter (λ (c : Call). c.caller == k) history) i)
+    numbers in
+    subst (IsPermutation (handles ++ given_in history)) whole
+    (IsPermutation-trans (handles ++ given_in history)
+    (handles ++ flat_map (given_to history) numbers)
+    (flat_map (with_call call.caller handles (given_to history)) numbers)
+    (IsPermutation-append_right handles (given_in history) (flat_map (given_to history) numbers)
+    rest)
+    (one_gets call.caller 0 workers handles (given_to history) (omega arith) (omega arith)))
+  where
+    by_test : (b : Bool) (others : List Call)
+        → cond b (handles_in call.reply ++ given_in others) (given_in others)
+        ≡ given_in (cond b (call ∷ others) others)
+    by_test true others = refl
+    by_test false others = refl
+
+-- ---- the commands of a worker
+
+abbrev replied : ℕ × Result (List Handle) Space → List Handle
+replied request = handles_in request.1
+
+-- a command lists what the replies gave for which it stands
+listed_are : (c : Command) → flat_map replied (stands_for c) ≡ listed_by c
+listed_are (Spawn h items) = refl
+listed_are (SpawnMany [] items) = refl
+listed_are (SpawnMany (h ∷ hs) items) = append-nil (h ∷ hs)
+listed_are (Insert h items) = refl
+listed_are (Remove h id) = refl
+listed_are (Despawn h) = refl
+listed_are (Refused wanted (why.Space same left)) = refl
+listed_are (Refused wanted (why.Quota left)) = refl
+
+replies_are : (commands : List Command) → flat_map replied (flat_map stands_for commands)
+    ≡ handles_listed commands
+replies_are commands = flat_flat replied stands_for commands
+    ∙ (λ i. flat_map (λ c. listed_are c i) commands)
+
+given_replies : (calls : List Call) → given_in calls
+    ≡ flat_map replied (map (λ (call : Call). (call.requested, call.reply)) calls)
+given_replies [] = refl
+given_replies (call ∷ calls) = ap (λ l. handles_in call.reply ++ l) (given_replies calls)
+
+-- ---- where a handle stands
+
+-- two different handles
+abbrev pub Differ : Handle → Handle → Type 0
+Differ g h = g ≢ h
+
+-- the queue of a system lists the handle, and k others before it
+abbrev pub Lists : List (List Command) → ℕ → ℕ → Handle → Type 0
+Lists queues system k h = slice_get (handles_listed (queue_at queues system)) k ≡ Some h
+
+contains_at : (hs : List Handle) (k : ℕ) (h : Handle) → slice_get hs k ≡ Some h → Contains hs h
+contains_at hs k h at = (k, slice_get_within hs k h at, get_or_from_slice_get hs k h h at)
+
+-- it stands among those that the queues list
+pub contains_listed : (queues : List (List Command)) (system k : ℕ) (h : Handle)
+    → Lists queues system k h → Contains (flat_map handles_listed queues) h
+contains_listed [] system k h at = absurd (cc)
+contains_listed (q ∷ qs) zero k h at = Contains-append_left (handles_listed q)
+    (flat_map handles_listed qs) h (contains_at (handles_listed q) k h at)
+contains_listed (q ∷ qs) (suc system) k h at = Contains-append_right (handles_listed q)
+    (flat_map handles_listed qs) h (contains_listed qs system k h at)
+
+-- what stands in the first of two lists does not stand in the second
+pub not_in_both : (xs ys : List Handle) (h : Handle) → AreGivenOnce (xs ++ ys) → Contains xs h
+    → Contains ys h → h ≢ h
+not_in_both xs ys h once here there = All-contains (Differ h) ys h
+    (All-contains (λ g. All (Differ g) ys) xs h (AllPairs-across Differ xs ys once) here) there
+
+-- the first index of a handle that stands there once
+pub position_is : (hs : List Handle) (index k : ℕ) (h : Handle) → AreGivenOnce hs → slice_get hs k
+    ≡ Some h → position_from (eq_by_cmp handle_cmp h) index hs ≡ Some (index + k)
+position_is [] index k h once at = absurd (cc)
+position_is (x ∷ hs) index zero h once at =
+    let same : x ≡ h = cc in
+    let found : eq_by_cmp handle_cmp h x ≡ true = ap (eq_by_cmp handle_cmp h) same ∙ itself h in
+    let first : index ≡ index + 0 = omega arith in
+    ap (λ b. cond b (Some index) (position_from (eq_by_cmp handle_cmp h) (index + 1) hs)) found
+    ∙ ap Some first
+position_is (x ∷ hs) index (suc k) h once at =
+    let apart : x ≢ h = each_of_all (Differ x) hs k h (AllPairs-head Differ x hs once) at in
+    let on : eq_by_cmp handle_cmp h x ≡ false = other_handle h x (λ e. apart (sym e)) in
+    let next : (index + 1) + k ≡ index + suc k = omega arith in
+    ap (λ b. cond b (Some index) (position_from (eq_by_cmp handle_cmp h) (index + 1) hs)) on
+    ∙ (position_is hs (index + 1) k h (AllPairs-tail Differ x hs once) at ∙ ap Some next)
+
+queues_once : (queues : List (List Command)) (m n i j : ℕ) (h : Handle)
+    → AreGivenOnce (flat_map handles_listed queues) → Lists queues m i h → Lists queues n j h
+    → (m ≡ n) × (i ≡ j)
+queues_once [] m n i j h once at there = absurd (cc)
+queues_once (q ∷ qs) zero zero i j h once at there =
+    let own : AreGivenOnce (handles_listed q) = AllPairs-left Differ (handles_listed q)
+    (flat_map handles_listed qs) once in
+    let first : position_from (eq_by_cmp handle_cmp h) 0 (handles_listed q) ≡ Some (0 + i) =
+    position_is (handles_listed q) 0 i h own at in
+    let second : position_from (eq_by_cmp handle_cmp h) 0 (handles_listed q) ≡ Some (0 + j) =
+    position_is (handles_listed q) 0 j h own there in
+    let same : 0 + i ≡ 0 + j = cc in
+    (refl, omega arith)
+queues_once (q ∷ qs) zero (suc n) i j h once at there =
+    absurd (not_in_both (handles_listed q) (flat_map handles_listed qs) h once
+    (contains_at (handles_listed q) i h at) (contains_listed qs n j h there) refl)
+queues_once (q ∷ qs) (suc m) zero i j h once at there =
+    absurd (not_in_both (handles_listed q) (flat_map handles_listed qs) h once
+    (contains_at (handles_listed q) j h there) (contains_listed qs m i h at) refl)
+queues_once (q ∷ qs) (suc m) (suc n) i j h once at there =
+    let rest = queues_once qs m n i j h
+    (AllPairs-right Differ (handles_listed q) (flat_map handles_listed qs) once) at there in
+    (ap suc rest.0, rest.1)
+
+-- who is listed has a birth by the queues
+abbrev HasBirth : List (List Command) → ℕ → Handle → Type 0
+HasBirth queues system h = is_none (listed_birth 0 system queues h) ≡ false
+
+all_have_births : (queues : List (List Command)) (system : ℕ)
+    → All (HasBirth queues system) (flat_map handles_listed queues)
+all_have_births [] system = All-nil (HasBirth [] system)
+all_have_births (q ∷ qs) system =
+    All-append (HasBirth (q ∷ qs) system) (handles_listed q) (flat_map handles_listed qs)
+    (λ k d within. own (get_or (handles_listed q) k d)
+    (All-contains_itself (handles_listed q) k d within))
+    (All-weaker (HasBirth qs (system + 1)) (HasBirth (q ∷ qs) system)
+    (λ h has. later (position_from (eq_by_cmp handle_cmp h) 0 (handles_listed q))
+    (listed_birth 0 (system + 1) qs h) has)
+    (flat_map handles_listed qs) (all_have_births qs (system + 1)))
+  where
+    own : (h : Handle) → Contains (handles_listed q) h → HasBirth (q ∷ qs) system h
+    own h here =
+        let index = some_index h 0 (handles_listed q)
+        (stands_in-from_Contains (handles_listed q) h here) in
+        ap (λ o. is_none (at_ordinal 0 system o (listed_birth 0 (system + 1) qs h))) index.1
+
+    later : (index : Option ℕ) (others : Option Birth) → is_none others ≡ false
+        → is_none (at_ordinal 0 system index others) ≡ false
+    later (Some k) others has = refl
+    later None others has = has
+
+-- ---- the law
+
+module _ {S : Type 0} (may : S → View → List Command → Type 0) (systems : List S) (workers : ℕ)
+    (before : World) (queues : List (List Command)) (history : List Call)
+    (frame : IsFrame may systems workers before queues history) where
+  listed_at : ℕ → List Handle
+  listed_at n = handles_listed (queue_at queues n)
+
+  -- what was given to a worker is what the queues of its systems list
+  given_listed : (k : ℕ) (mine : List ℕ) → slice_get frame.ran k ≡ Some mine
+      → given_to history k ≡ flat_map listed_at mine
+  unfolding given_to listed_at
+  given_listed k mine at =
+      given_replies (filter (λ (call : Call). call.caller == k) history)
+      ∙ (ap (flat_map replied) (frame.work k mine at).calls
+      ∙ (replies_are (commands_of queues mine) ∙ flat_flat listed_by (queue_at queues) mine))
+
+  -- The queues list the handles that the history gave, each as often as it was given.
+  pub listed-IsPermutation : IsPermutation (flat_map handles_listed queues) (given_in history)
+  unfolding listed_at
+  listed-IsPermutation =
+      let ran : List ℕ = flat_map (λ mine. mine) frame.ran in
+      let numbers : List ℕ = range_with_len 0 (length systems) in
+      let by_system : flat_map listed_at numbers ≡ flat_map handles_listed queues =
+      ap (λ n. flat_map listed_at (range_with_len 0 n)) (sym frame.count)
+      ∙ flat_by_number listed_at handles_listed 0 queues
+      (λ k q at. let same : 0 + k ≡ k = omega arith in ap listed_at same
+      ∙ ap handles_listed (get_or_from_slice_get queues k q [] at)) in
+      let by_worker : flat_map (given_to history) (range_with_len 0 workers)
+      ≡ flat_map listed_at ran =
+      ap (λ n. flat_map (given_to history) (range_with_len 0 n)) (sym frame.each_worker)
+      ∙ (flat_by_number (given_to history) (flat_map listed_at) 0 frame.ran
+      (λ k mine at. let same : 0 + k ≡ k = omega arith in ap (given_to history) same
+      ∙ given_listed k mine at)
+      ∙ sym (flat_flat listed_at (λ mine. mine) frame.ran)) in
+      subst (λ l. IsPermutation l (given_in history)) by_system
+      (IsPermutation-sym (given_in history) (flat_map listed_at numbers)
+      (IsPermutation-trans (given_in history) (flat_map listed_at ran) (flat_map listed_at numbers)
+      (subst (IsPermutation (given_in history)) by_worker
+      (by_callers workers history frame.callers))
+      (flat_moved listed_at ran numbers frame.once)))
+
+  module _ (sound : IsSound before.allocator) where
+    -- No handle is listed twice, by one queue or by two.
+    pub listed-distinct : AreGivenOnce (flat_map handles_listed queues)
+    listed-distinct = AllPairs-IsPermutation Differ (λ g h apart same. apart (sym same))
+        (given_in history) (flat_map handles_listed queues)
+        (IsPermutation-sym (flat_map handles_listed queues) (given_in history)
+        listed-IsPermutation) (given_in-distinct before.allocator history sound frame.legal)
+
+    -- So a handle is listed by one queue at most, and under one ordinal.
+    pub listed-once : (m n i j : ℕ) (h : Handle) → Lists queues m i h → Lists queues n j h
+        → (m ≡ n) × (i ≡ j)
+    listed-once m n i j h at there = queues_once queues m n i j h listed-distinct at there
+
+    module _ (flushed : before.allocator.asked ≡ 0) where
+      -- The handles that the queues list are those that are born in the sync of the frame.
+      pub listed-born : IsPermutation (flat_map handles_listed queues)
+          (born (after_history before.allocator history))
+      listed-born =
+          let after = after_history before.allocator history in
+          IsPermutation-trans (flat_map handles_listed queues) (given_in history) (born after)
+          listed-IsPermutation
+          (IsPermutation-trans (given_in history) after.taken (born after)
+          (given_in-taken before.allocator history sound frame.legal flushed)
+          (born-IsPermutation after))
+
+      -- So nobody is born whom no queue lists.
+      pub none_unlisted : unlisted queues (born (after_history before.allocator history)) ≡ []
+      none_unlisted =
+          let handles : List Handle = born (after_history before.allocator history) in
+          filter_none (λ h. is_none (listed_birth 0 0 queues h)) handles
+          (All-permutation (HasBirth queues 0) (flat_map handles_listed queues) handles listed-born
+          (all_have_births queues 0))

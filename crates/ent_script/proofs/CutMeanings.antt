@@ -1,0 +1,429 @@
+-- One law, with a step for each test of the format, and so one file of more than 400 lines: a value
+-- that is cut means the same.
+use Rattle.std.proofs.Common.{◌≡◌, ℕ, ℤ, false, zero, suc, ◌+◌, List, [], ◌∷◌, map, take, refl, ap}
+use Rattle.std.proofs.Common.{ap₂, ◌∙◌, Option, Some, None, option_map, Result, Ok, Ordering, Less}
+use Rattle.std.proofs.Common.{Equal, Greater, Bool, ◌&&◌, is_some, nat_cmp, option_and_then, ok_or}
+use Rattle.std.proofs.Common.{codes, unwrap_or, bytes_eq, cond}
+use Rattle.std.specs.Cmp.Lexicographic.{slice_cmp}
+use Rattle.std.specs.List.{list_all, list_any, fold}
+use Rattle.std.specs.Ordering.{match_ordering}
+use Rattle.serde_json.specs.Data.{Data, null, boolean, number, string, array, object, Members}
+use Rattle.serde_json.specs.Data.{no_members, member}
+use Rattle.serde_json.specs.Find.{get, get_member, as_str}
+use Rattle.ent_handle.specs.declared.component.ComponentId.{ComponentId}
+use Rattle.ent_script.specs.Cut.{cut, cut_members}
+use Rattle.ent_script.specs.Json.{members, pairs_of, keys_among, whole, whole_within}
+use Rattle.ent_script.specs.Names.{as_name, number_among, names_in, with_part}
+use Rattle.ent_script.specs.Reading.{◌>>=◌, has_keys, item_of, items_of, bundle_by, read_bundle}
+use Rattle.ent_script.specs.Reading.{with_of, count_of, binding_of, removed_of, only, target_of}
+use Rattle.ent_script.specs.Reading.{target_at, by_number}
+use Rattle.ent_script.specs.Reading.{is_spawn, is_spawn_many, is_insert, is_remove, is_despawn}
+use Rattle.ent_script.specs.Reading.{kind_of, of_kind, operation_of, operation_at, at_operation}
+use Rattle.ent_script.specs.Reading.{bound_name, limits_of, or_absent, numbered, script_keys, test}
+use Rattle.ent_script.specs.Reading.{new_name, component_at}
+use Rattle.ent_alloc.specs.Limits.{Limits}
+use Rattle.ent_script.specs.declared.cause.ScriptCause.{ScriptCause}
+use Rattle.ent_script.specs.declared.cause.ScriptCause.TheVariants as script_cause
+use Rattle.ent_script.specs.declared.kind.Kind.{Kind}
+use Rattle.ent_script.specs.declared.kind.Kind.TheVariants as kinds
+use Rattle.ent_script.specs.declared.cause.Cause.{Cause}
+use Rattle.ent_script.specs.declared.cause.Cause.TheVariants as cause
+
+found_cut : (l : ℕ) (o : Ordering) (a : Option Data) (d : Data) (b : Option Data) → b ≡ option_map
+    (cut l) a
+    → match_ordering o b (Some (cut l d)) b ≡ option_map (cut l) (match_ordering o a (Some d) a)
+found_cut l Less a d b e = e
+found_cut l Equal a d b e = refl
+found_cut l Greater a d b e = e
+
+get_member-cut : (l : ℕ) (k : List ℕ) (ms : Members) → get_member k (cut_members l ms) ≡ option_map
+    (cut l) (get_member k ms)
+get_member-cut l k no_members = refl
+get_member-cut l k (member key d ms) = found_cut l (slice_cmp nat_cmp k key) (get_member k ms) d
+    (get_member k (cut_members l ms)) (get_member-cut l k ms)
+
+pub get-cut : (l : ℕ) (k : List ℕ) (d : Data) → get k (cut (suc l) d) ≡ option_map (cut l) (get k d)
+get-cut l k null = refl
+get-cut l k (boolean b) = refl
+get-cut l k (number n) = refl
+get-cut l k (string s) = refl
+get-cut l k (array ds) = refl
+get-cut l k (object ms) = get_member-cut l k ms
+
+abbrev cut_pair : ℕ → List ℕ × Data → List ℕ × Data
+cut_pair l m = (m.0, cut l m.1)
+
+pairs_of-cut : (l : ℕ) (ms : Members) → pairs_of (cut_members l ms) ≡ map (cut_pair l) (pairs_of ms)
+pairs_of-cut l no_members = refl
+pairs_of-cut l (member k d ms) = ap
+    (λ (ps : List (List ℕ × Data)). (k, cut l d) ∷ ps) (pairs_of-cut l ms)
+
+members-cut : (l : ℕ) (d : Data) → members (cut (suc l) d) ≡ option_map (map (cut_pair l))
+    (members d)
+members-cut l null = refl
+members-cut l (boolean b) = refl
+members-cut l (number n) = refl
+members-cut l (string s) = refl
+members-cut l (array ds) = refl
+members-cut l (object ms) = ap (λ (ps : List (List ℕ × Data)). Some ps) (pairs_of-cut l ms)
+
+as_str-cut : (l : ℕ) (d : Data) → as_str (cut l d) ≡ as_str d
+as_str-cut l null = refl
+as_str-cut l (boolean b) = refl
+as_str-cut l (number n) = refl
+as_str-cut l (string s) = refl
+as_str-cut l (array ds) = refl
+as_str-cut zero (object ms) = refl
+as_str-cut (suc l) (object ms) = refl
+
+pub as_name-cut : (l : ℕ) (d : Data) → as_name (cut l d) ≡ as_name d
+as_name-cut l null = refl
+as_name-cut l (boolean b) = refl
+as_name-cut l (number n) = refl
+as_name-cut l (string s) = refl
+as_name-cut l (array ds) = refl
+as_name-cut zero (object ms) = refl
+as_name-cut (suc l) (object ms) = refl
+
+whole-cut : (l : ℕ) (d : Data) → whole (cut l d) ≡ whole d
+whole-cut l null = refl
+whole-cut l (boolean b) = refl
+whole-cut l (number n) = refl
+whole-cut l (string s) = refl
+whole-cut l (array ds) = refl
+whole-cut zero (object ms) = refl
+whole-cut (suc l) (object ms) = refl
+
+among_cut : (l : ℕ) (allowed : List (List ℕ)) (ms : List (List ℕ × Data)) → keys_among allowed
+    (map (cut_pair l) ms) ≡ keys_among allowed ms
+among_cut l allowed [] = refl
+among_cut l allowed (m ∷ ms) = ap
+    (λ (b : Bool). list_any (λ key. bytes_eq m.0 key) allowed && b) (among_cut l allowed ms)
+
+among_option : (l : ℕ) (allowed : List (List ℕ)) (o : Option (List (List ℕ × Data))) → option_map
+    (keys_among allowed) (option_map (map (cut_pair l)) o) ≡ option_map (keys_among allowed) o
+among_option l allowed None = refl
+among_option l allowed (Some ms) = ap (λ (b : Bool). Some b) (among_cut l allowed ms)
+
+some_cut : (l : ℕ) (o : Option Data) → is_some (option_map (cut l) o) ≡ is_some o
+some_cut l None = refl
+some_cut l (Some d) = refl
+
+all_cut : (l : ℕ) (required : List (List ℕ)) (d : Data) → list_all
+    (λ key. is_some (get key (cut (suc l) d))) required ≡ list_all (λ key. is_some (get key d))
+    required
+all_cut l [] d = refl
+all_cut l (k ∷ ks) d = ap₂
+    (λ (a b : Bool). a && b) (ap (λ (o : Option Data). is_some o) (get-cut l k d) ∙ some_cut l
+    (get k d)) (all_cut l ks d)
+
+has_keys-cut : (l : ℕ) (required allowed : List (List ℕ)) (d : Data) → has_keys required allowed
+    (cut (suc l) d) ≡ has_keys required allowed d
+unfolding has_keys
+has_keys-cut l required allowed d =
+    ap₂ (λ (a b : Bool). a && b) (all_cut l required d)
+    (ap
+    (λ (o : Option Bool). unwrap_or o false)
+    (ap (option_map (keys_among allowed)) (members-cut l d) ∙ among_option l allowed
+    (members d)))
+
+kind_of-cut : (l : ℕ) (d : Data) → kind_of (cut (suc l) d) ≡ kind_of d
+unfolding is_spawn is_spawn_many is_insert is_remove is_despawn
+kind_of-cut l d =
+    rw (
+      has_keys-cut l (codes "spawn" ∷ []) (codes "spawn" ∷ codes "as" ∷ []) d,
+      has_keys-cut l (codes "spawn_many" ∷ []) (codes "spawn_many" ∷ codes "with" ∷ codes "as" ∷ [])
+          d,
+      has_keys-cut l (codes "insert" ∷ codes "on" ∷ []) (codes "insert" ∷ codes "on" ∷ []) d,
+      has_keys-cut l (codes "remove" ∷ codes "on" ∷ []) (codes "remove" ∷ codes "on" ∷ []) d,
+      has_keys-cut l (codes "despawn" ∷ []) (codes "despawn" ∷ []) d,
+    ) refl
+
+-- ---- the parts of an operation
+
+item_of-cut : (l : ℕ) (components : List (List ℕ)) (m : List ℕ × Data) → item_of components
+    (cut_pair l m) ≡ item_of components m
+item_of-cut l components m = rw (whole-cut l m.1) refl
+
+items_of-cut : (l : ℕ) (components : List (List ℕ)) (ms : List (List ℕ × Data)) → items_of
+    components (map (cut_pair l) ms) ≡ items_of components ms
+items_of-cut l components [] = refl
+items_of-cut l components (m ∷ ms) =
+    ap₂
+    (λ (i : Result (ComponentId × ℤ) Cause) (is : Result (List (ComponentId × ℤ)) Cause). i >>=
+    λ x. is >>= λ xs. Ok (x ∷ xs))
+    (item_of-cut l components m) (items_of-cut l components ms)
+
+bundle_option : (l : ℕ) (components : List (List ℕ)) (o : Option (List (List ℕ × Data)))
+    → (ok_or (option_map (map (cut_pair l)) o) cause.Bundle >>= bundle_by components) ≡
+    (ok_or o cause.Bundle >>= bundle_by components)
+bundle_option l components None = refl
+bundle_option l components (Some ms) = ap
+    (λ (is : Result (List (ComponentId × ℤ)) Cause). is >>= λ items. Ok (by_number items))
+    (items_of-cut l components ms)
+
+bundle-cut : (l : ℕ) (components : List (List ℕ)) (o : Option Data) → read_bundle components
+    (option_map (cut (suc l)) o) ≡ read_bundle components o
+unfolding read_bundle
+bundle-cut l components None = refl
+bundle-cut l components (Some d) =
+    ap
+    (λ (o : Option (List (List ℕ × Data))). ok_or o cause.Bundle >>= bundle_by components)
+    (members-cut l d)
+    ∙ bundle_option l components (members d)
+
+with-cut : (l : ℕ) (components : List (List ℕ)) (o : Option Data) → with_of components
+    (option_map (cut (suc l)) o) ≡ with_of components o
+with-cut l components None = refl
+with-cut l components (Some d) = bundle-cut l components (Some d)
+
+count-cut : (l : ℕ) (o : Option Data) → count_of (option_map (cut l) o) ≡ count_of o
+unfolding count_of
+count-cut l None = refl
+count-cut l (Some d) = rw (whole-cut l d) refl
+
+binding-cut : (l : ℕ) (bound : List (List ℕ)) (o : Option Data) → binding_of bound
+    (option_map (cut l) o) ≡ binding_of bound o
+unfolding binding_of
+binding-cut l bound None = refl
+binding-cut l bound (Some d) = rw (as_name-cut l d) refl
+
+removed-cut : (l : ℕ) (components : List (List ℕ)) (o : Option Data) → removed_of components
+    (option_map (cut l) o) ≡ removed_of components o
+unfolding removed_of
+removed-cut l components None = refl
+removed-cut l components (Some d) = rw (as_str-cut l d) refl
+
+only_cut : (l : ℕ) (ms : List (List ℕ × Data)) → only (map (cut_pair l) ms) ≡ option_map
+    (cut_pair l) (only ms)
+only_cut l [] = refl
+only_cut l (m ∷ []) = refl
+only_cut l (m ∷ n ∷ ms) = refl
+
+target_only : (l : ℕ) (components bound : List (List ℕ)) (o : Option (List ℕ × Data))
+    → (ok_or (option_map (cut_pair l) o) cause.Target >>=
+    λ m. ok_or (as_str m.1) cause.Target >>= target_at components bound m.0)
+    ≡
+    (ok_or o cause.Target >>=
+    λ m. ok_or (as_str m.1) cause.Target >>= target_at components bound m.0)
+target_only l components bound None = refl
+target_only l components bound (Some m) = rw (as_str-cut l m.1) refl
+
+target_option : (l : ℕ) (components bound : List (List ℕ)) (o : Option (List (List ℕ × Data)))
+    → (ok_or (option_and_then only (option_map (map (cut_pair l)) o)) cause.Target >>=
+    λ m. ok_or (as_str m.1) cause.Target >>= target_at components bound m.0)
+    ≡ (ok_or (option_and_then only o) cause.Target >>=
+    λ m. ok_or (as_str m.1) cause.Target >>= target_at components bound m.0)
+target_option l components bound None = refl
+target_option l components bound (Some ms) =
+    ap
+    (λ (o : Option (List ℕ × Data)). ok_or o cause.Target >>= λ m. ok_or (as_str m.1)
+    cause.Target >>= target_at components bound m.0) (only_cut l ms)
+    ∙ target_only l components bound (only ms)
+
+target-cut : (l : ℕ) (components bound : List (List ℕ)) (o : Option Data) → target_of components
+    bound (option_map (cut (suc l)) o) ≡ target_of components bound o
+unfolding target_of
+target-cut l components bound None = refl
+target-cut l components bound (Some d) =
+    ap
+    (λ (o : Option (List (List ℕ × Data))). ok_or (option_and_then only o) cause.Target >>= λ m.
+    ok_or (as_str m.1) cause.Target >>= target_at components bound m.0) (members-cut l d)
+    ∙ target_option l components bound (members d)
+
+of_kind-cut : (components bound : List (List ℕ)) (d : Data) (kind : Kind) → of_kind components bound
+    (cut 2 d) kind ≡ of_kind components bound d kind
+unfolding of_kind
+of_kind-cut components bound d kinds.Spawn =
+    rw (
+      get-cut 1 (codes "spawn") d,
+      get-cut 1 (codes "as") d,
+      bundle-cut 0 components
+          (get (codes "spawn") d),
+      binding-cut 1 bound (get (codes "as") d),
+    ) refl
+of_kind-cut components bound d kinds.SpawnMany =
+    rw (
+      get-cut 1 (codes "spawn_many") d,
+      get-cut 1 (codes "with") d,
+      get-cut 1 (codes "as") d,
+      count-cut 1 (get (codes "spawn_many") d),
+      with-cut 0 components (get (codes "with") d),
+      binding-cut 1 bound (get (codes "as") d),
+    ) refl
+of_kind-cut components bound d kinds.Insert =
+    rw (
+      get-cut 1 (codes "insert") d,
+      get-cut 1 (codes "on") d,
+      bundle-cut 0 components
+          (get (codes "insert") d),
+      target-cut 0 components bound (get (codes "on") d),
+    ) refl
+of_kind-cut components bound d kinds.Remove =
+    rw (
+      get-cut 1 (codes "remove") d,
+      get-cut 1 (codes "on") d,
+      removed-cut 1 components
+          (get (codes "remove") d),
+      target-cut 0 components bound (get (codes "on") d),
+    ) refl
+of_kind-cut components bound d kinds.Despawn =
+    rw (get-cut 1 (codes "despawn") d, target-cut 0 components bound (get (codes "despawn") d)) refl
+
+kind_then : (components bound : List (List ℕ)) (d : Data) (o : Option Kind)
+    → (ok_or o cause.Shape >>= of_kind components bound (cut 2 d)) ≡
+    (ok_or o cause.Shape >>= of_kind components bound d)
+kind_then components bound d None = refl
+kind_then components bound d (Some kind) = of_kind-cut components bound d kind
+
+-- an operation
+pub operation_of-cut : (components bound : List (List ℕ)) (d : Data) → operation_of components bound
+    (cut 2 d) ≡ operation_of components bound d
+unfolding operation_of
+operation_of-cut components bound d =
+    ap
+    (λ (o : Option Kind). ok_or o cause.Shape >>= of_kind components bound (cut 2 d))
+    (kind_of-cut 1 d)
+    ∙ kind_then components bound d (kind_of d)
+
+name_option : (l : ℕ) (o : Option Data) → option_and_then as_name (option_map (cut l) o) ≡
+    option_and_then as_name o
+name_option l None = refl
+name_option l (Some d) = as_name-cut l d
+
+pub bound_name-cut : (d : Data) → bound_name (cut 2 d) ≡ bound_name d
+bound_name-cut d = ap
+    (λ (o : Option Data). option_and_then as_name o) (get-cut 1 (codes "as") d) ∙ name_option 1
+    (get (codes "as") d)
+
+names_from : (names : List (List ℕ)) (ds : List Data) → fold
+    (λ names d. with_part names (bound_name d)) names (map (cut 2) ds) ≡ fold
+    (λ names d. with_part names (bound_name d)) names ds
+names_from names [] = refl
+names_from names (d ∷ ds) =
+    ap
+    (λ (n : Option (List ℕ)). fold (λ names d. with_part names (bound_name d))
+    (with_part names n) (map (cut 2) ds)) (bound_name-cut d)
+    ∙ names_from (with_part names (bound_name d)) ds
+
+take_cut : (n : ℕ) (ds : List Data) → take n (map (cut 2) ds) ≡ map (cut 2) (take n ds)
+take_cut zero ds = refl
+take_cut (suc n) [] = refl
+take_cut (suc n) (d ∷ ds) = ap (λ (xs : List Data). cut 2 d ∷ xs) (take_cut n ds)
+
+operation_at-cut : (components : List (List ℕ)) (frame system : ℕ) (all : List Data) (n : ℕ)
+    (d : Data)
+    → operation_at components frame system (map (cut 2) all) n (cut 2 d) ≡ operation_at components
+    frame system all n d
+operation_at-cut components frame system all n d =
+    ap
+    (λ (names : List (List ℕ)). at_operation frame system n
+    (operation_of components names (cut 2 d)))
+    (ap (λ (ds : List Data). names_in bound_name ds) (take_cut n all) ∙ names_from [] (take n all))
+    ∙ ap (at_operation frame system n) (operation_of-cut components
+    (names_in bound_name (take n all)) d)
+
+numbered-cut : {A E : Type 0} (f g : ℕ → Data → Result A E) (l n : ℕ) (ds : List Data) →
+    ((m : ℕ) (d : Data) → f m (cut l d) ≡ g m d)
+    → numbered f n (map (cut l) ds) ≡ numbered g n ds
+numbered-cut f g l n [] same = refl
+numbered-cut {A} {E} f g l n (d ∷ ds) same =
+    ap₂
+    (λ (x : Result A E) (xs : Result (List A) E). x >>= λ y. xs >>= λ ys. Ok (y ∷ ys))
+    (same n d) (numbered-cut f g l (n + 1) ds same)
+
+-- the operations of a system
+pub operations-cut : (components : List (List ℕ)) (frame system : ℕ) (ds : List Data)
+    → numbered (operation_at components frame system (map (cut 2) ds)) 0 (map (cut 2) ds) ≡ numbered
+    (operation_at components frame system ds) 0 ds
+operations-cut components frame system ds =
+    numbered-cut (operation_at components frame system (map (cut 2) ds))
+    (operation_at components frame system ds) 2 0 ds
+    (operation_at-cut components frame system ds)
+
+-- ---- the limits, and the names of the components
+
+part_cut : (l absent low high : ℕ) (o : Option Data) → or_absent absent (whole_within low high)
+    (option_map (cut l) o) ≡ or_absent absent (whole_within low high) o
+part_cut l absent low high None = refl
+part_cut l absent low high (Some d) = rw (whole-cut l d) refl
+
+number_cut : (absent low high : ℕ) (k : List ℕ) (d : Data) → or_absent absent
+    (whole_within low high) (get k (cut 1 d)) ≡ or_absent absent (whole_within low high) (get k d)
+number_cut absent low high k d = ap
+    (λ (o : Option Data). or_absent absent (whole_within low high) o) (get-cut 0 k d) ∙ part_cut 0
+    absent low high (get k d)
+
+abbrev numbers : Data → Result Limits ScriptCause
+numbers d =
+    ok_or (or_absent 1 (whole_within 1 1) (get (codes "format") d)) script_cause.Format
+    >>=
+    λ _. ok_or (or_absent 4294967295 (whole_within 1 4294967295) (get (codes "slots") d))
+    script_cause.Slots
+    >>=
+    λ slots. ok_or (or_absent 2147483647 (whole_within 1 2147483647)
+    (get (codes "generations") d)) script_cause.Generations
+    >>= λ generations. Ok (record { slots = slots; generations = generations })
+
+numbers-cut : (d : Data) → numbers (cut 1 d) ≡ numbers d
+numbers-cut d =
+    rw (
+      number_cut 1 1 1 (codes "format") d,
+      number_cut 4294967295 1 4294967295 (codes "slots") d,
+      number_cut 2147483647 1 2147483647 (codes "generations") d,
+    ) refl
+
+first_tests : (o : Option (List (List ℕ × Data))) (rest : Result Limits ScriptCause)
+    → (ok_or (option_map (map (cut_pair 0)) o) script_cause.Top >>=
+    λ ms. test (keys_among script_keys ms) script_cause.Key >>= λ _. rest)
+    ≡
+    (ok_or o script_cause.Top >>=
+    λ ms. test (keys_among script_keys ms) script_cause.Key >>= λ _. rest)
+first_tests None rest = refl
+first_tests (Some ms) rest = ap
+    (λ (b : Bool). test b script_cause.Key >>= λ _. rest) (among_cut 0 script_keys ms)
+
+pub limits_of-cut : (d : Data) → limits_of (cut 1 d) ≡ limits_of d
+unfolding limits_of
+limits_of-cut d =
+    ap
+    (λ (o : Option (List (List ℕ × Data))). ok_or o script_cause.Top >>= λ ms. test
+    (keys_among script_keys ms) script_cause.Key >>= λ _. numbers (cut 1 d))
+    (members-cut 0 d)
+    ∙ first_tests (members d) (numbers (cut 1 d))
+    ∙ ap
+    (λ (r : Result Limits ScriptCause). ok_or (members d) script_cause.Top >>= λ ms. test
+    (keys_among script_keys ms) script_cause.Key >>= λ _. r) (numbers-cut d)
+
+component_names_from : (names : List (List ℕ)) (ds : List Data) → fold
+    (λ names d. with_part names (as_name d)) names (map (cut 0) ds) ≡ fold
+    (λ names d. with_part names (as_name d)) names ds
+component_names_from names [] = refl
+component_names_from names (d ∷ ds) =
+    ap
+    (λ (n : Option (List ℕ)). fold (λ names d. with_part names (as_name d)) (with_part names n)
+    (map (cut 0) ds)) (as_name-cut 0 d)
+    ∙ component_names_from (with_part names (as_name d)) ds
+
+take_none : (n : ℕ) (ds : List Data) → take n (map (cut 0) ds) ≡ map (cut 0) (take n ds)
+take_none zero ds = refl
+take_none (suc n) [] = refl
+take_none (suc n) (d ∷ ds) = ap (λ (xs : List Data). cut 0 d ∷ xs) (take_none n ds)
+
+component_at-cut : (all : List Data) (n : ℕ) (d : Data) → component_at (map (cut 0) all) n (cut 0 d)
+    ≡ component_at all n d
+component_at-cut all n d =
+    ap (λ (names : List (List ℕ)). ok_or (new_name names (cut 0 d)) script_cause.Components)
+    (ap
+    (λ (ds : List Data). names_in as_name ds) (take_none n all) ∙ component_names_from []
+    (take n all))
+    ∙ ap
+    (λ (o : Option (List ℕ)). ok_or (option_and_then
+    (λ name. cond (is_some (number_among name (names_in as_name (take n all)))) None
+    (Some name)) o) script_cause.Components)
+    (as_name-cut 0 d)
+
+pub components-cut : (ds : List Data) → numbered (component_at (map (cut 0) ds)) 0 (map (cut 0) ds)
+    ≡ numbered (component_at ds) 0 ds
+components-cut ds = numbered-cut (component_at (map (cut 0) ds)) (component_at ds) 0 0 ds
+    (component_at-cut ds)

@@ -1,0 +1,112 @@
+-- Values that are cut, beside the members of an object as they are put in.
+use Rattle.std.proofs.Common.{◌≡◌, ℕ, List, [], ◌∷◌, Option, Some, None, String, Vec, BTreeMap}
+use Rattle.std.proofs.Common.{Global, Ordering, Less, Equal, Greater, string_bytes, string_cmp}
+use Rattle.std.proofs.Common.{nat_cmp, refl, sym, ap, ◌∙◌, rules, zero, suc, ◌<◌, ◌-◌, length}
+use Rattle.std.proofs.Common.{arith}
+use Rattle.std.specs.Cmp.Lexicographic.{slice_cmp}
+use Rattle.std.specs.Ordering.{match_ordering}
+use Rattle.std.specs.BTreeMap.{insert_entry}
+use Rattle.json.specs.Token.{Token}
+use Rattle.json.specs.Json.{parse_map, value, items, members}
+use Rattle.json.proofs.Grammar.{value-begin_array, value-begin_object}
+use Rattle.serde_json.specs.Read.{of_json, of_items, of_members, converted}
+use Rattle.ent_script.proofs.Turns.{converted-array, converted-object}
+use Rattle.serde_json.specs.Data.{Data, array, object, Items, Members, no_members, member, put}
+use Rattle.serde_json.specs.View.{view, items_view, members_view}
+use Rattle.serde_json.specs.declared.value.Value.{Value, Array, Object, the_lemmas}
+use Rattle.ent_script.specs.Cut.{cut, cut_members}
+
+pub view-Array : (v : Vec Value Global) → view (Array v) ≡ array (items_view v.items)
+view-Array v = search (rules, the_lemmas)
+
+pub view-Object : (m : BTreeMap (String Global) Value) → view (Object m) ≡ object
+    (members_view m.entries)
+view-Object m = search (rules, the_lemmas)
+
+members_view-match_ordering : (o : Ordering) (a b c : List (String Global × Value)) → members_view
+    (match_ordering o a b c) ≡ match_ordering o (members_view a) (members_view b) (members_view c)
+members_view-match_ordering Less a b c = refl
+members_view-match_ordering Equal a b c = refl
+members_view-match_ordering Greater a b c = refl
+
+pub members_view-insert_entry : (es : List (String Global × Value)) (k : String Global) (v : Value)
+    → members_view (insert_entry string_cmp es k v) ≡ put (string_bytes k) (view v)
+    (members_view es)
+members_view-insert_entry [] k v = refl
+members_view-insert_entry (e ∷ es) k v = members_view-match_ordering (string_cmp k e.0) _ _ _ ∙
+    rw (members_view-insert_entry es k v)
+
+cut_members-match_ordering : (levels : ℕ) (o : Ordering) (a b c : Members) → cut_members levels
+    (match_ordering o a b c) ≡ match_ordering o (cut_members levels a) (cut_members levels b)
+    (cut_members levels c)
+cut_members-match_ordering levels Less a b c = refl
+cut_members-match_ordering levels Equal a b c = refl
+cut_members-match_ordering levels Greater a b c = refl
+
+pub cut_members-put : (levels : ℕ) (k : List ℕ) (d : Data) (ms : Members) → cut_members levels
+    (put k d ms) ≡ put k (cut levels d) (cut_members levels ms)
+cut_members-put levels k d no_members = refl
+cut_members-put levels k d (member l e ms) =
+    cut_members-match_ordering levels (slice_cmp nat_cmp k l) _ _ _ ∙
+    rw (cut_members-put levels k d ms)
+
+-- an array that was read, and an object
+abbrev data_of : Data → Option (Data × List Token) → Data
+data_of d None = d
+data_of d (Some p) = p.0
+
+abbrev rest_of : List Token → Option (Data × List Token) → List Token
+rest_of r None = r
+rest_of r (Some p) = p.1
+
+pub array_read : (o : Option (Items × List Token)) (d : Data) (r : List Token) → parse_map array o ≡
+    Some (d, r) → (ds : Items) × (d ≡ array ds) × (o ≡ Some (ds, r))
+array_read None d r e = absurd (cc)
+array_read (Some p) d r e = (
+  p.0,
+  ap
+      (λ (x : Option (Data × List Token)). data_of d x) (sym e),
+  ap
+      (λ (x : Option (Data × List Token)). Some (p.0, rest_of r x)) e,
+)
+
+pub object_read : (o : Option (Members × List Token)) (d : Data) (r : List Token) → parse_map object
+    o ≡ Some (d, r) → (ms : Members) × (d ≡ object ms) × (o ≡ Some (ms, r))
+object_read None d r e = absurd (cc)
+object_read (Some p) d r e = (
+  p.0,
+  ap
+      (λ (x : Option (Data × List Token)). data_of d x) (sym e),
+  ap
+      (λ (x : Option (Data × List Token)). Some (p.0, rest_of r x)) e,
+)
+
+pub opened_array : (depth : ℕ) (ts r : List Token) (d : Data) → converted of_json
+    (value depth (Token.begin_array ∷ ts)) ≡ Some (d, r)
+    → (0 < depth) × ((ds : Items) × (d ≡ array ds) ×
+    (converted of_items (items (value (depth - 1)) (length ts) ts) ≡ Some (ds, r)))
+unfolding value
+opened_array zero ts r d e = absurd (cc)
+opened_array (suc n) ts r d e =
+    let some : 0 < suc n = omega arith in
+    let read = array_read (converted of_items (items (value (suc n - 1)) (length ts) ts)) d r
+    (sym (ap (converted of_json) (value-begin_array (suc n) ts some) ∙ converted-array
+    (items (value (suc n - 1)) (length ts) ts)) ∙ e) in
+    (some, read)
+
+pub opened_object : (depth : ℕ) (ts r : List Token) (d : Data) → converted of_json
+    (value depth (Token.begin_object ∷ ts)) ≡ Some (d, r)
+    → (0 < depth) × ((ms : Members) × (d ≡ object ms)
+    ×
+    (converted
+    (λ ms. of_members ms no_members) (members (value (depth - 1)) (length ts) ts) ≡ Some
+    (ms, r)))
+unfolding value
+opened_object zero ts r d e = absurd (cc)
+opened_object (suc n) ts r d e =
+    let some : 0 < suc n = omega arith in
+    let read = object_read (converted (λ ms. of_members ms no_members)
+    (members (value (suc n - 1)) (length ts) ts)) d r
+    (sym (ap (converted of_json) (value-begin_object (suc n) ts some) ∙ converted-object
+    (members (value (suc n - 1)) (length ts) ts)) ∙ e) in
+    (some, read)

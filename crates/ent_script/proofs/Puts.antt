@@ -1,0 +1,71 @@
+-- What an object has after a member is put into it.
+use Rattle.std.proofs.Common.{◌≡◌, ℕ, List, Option, Some, Ordering, Less, Equal, Greater, nat_cmp}
+use Rattle.std.proofs.Common.{is_eq, Bool, true, false, bytes_eq, true≢false, refl, sym, ap, ◌∙◌}
+use Rattle.std.proofs.lemmas.Cmp.{nat_list_cmp_total, tied_itself}
+use Rattle.std.proofs.lemmas.Map.Text.{is_eq-slice_cmp}
+use Rattle.std.proofs.lemmas.Slice.Eq.{bytes_eq-Decides}
+use Rattle.std.specs.Cmp.Lexicographic.{slice_cmp}
+use Rattle.std.specs.Ordering.{match_ordering}
+use Rattle.serde_json.specs.Data.{Data, Members, no_members, member, put}
+use Rattle.serde_json.specs.Find.{get_member}
+
+same_text : (xs : List ℕ) → slice_cmp nat_cmp xs xs ≡ Equal
+same_text xs = tied_itself nat_list_cmp_total xs
+
+get_member-put_at : (o : Ordering) (k l : List ℕ) (d e : Data) (ms : Members) → slice_cmp nat_cmp k
+    l ≡ o → get_member k (put k d ms) ≡ Some d
+    → get_member k (match_ordering o (member k d (member l e ms)) (member l d ms)
+    (member l e (put k d ms))) ≡ Some d
+get_member-put_at Less k l d e ms is later = rw same_text
+get_member-put_at Equal k l d e ms is later = rw is
+get_member-put_at Greater k l d e ms is later = rw is later
+
+-- what was put at a name is found there
+pub get_member-put : (k : List ℕ) (d : Data) (ms : Members) → get_member k (put k d ms) ≡ Some d
+get_member-put k d no_members = rw same_text
+get_member-put k d (member l e ms) = get_member-put_at _ k l d e ms refl (get_member-put k d ms)
+
+either : (o : Ordering) (a b : Option Data) → is_eq o ≡ false → match_ordering o a b a ≡ a
+either Less a b e = refl
+either Equal a b e = absurd (true≢false e)
+either Greater a b e = refl
+
+differ : (xs ys : List ℕ) (b : Bool) → bytes_eq xs ys ≡ b → (xs ≡ ys → ⊥) → b ≡ false
+differ xs ys true e other = absurd (other ((bytes_eq-Decides xs ys).0 e))
+differ xs ys false e other = refl
+
+skips : (q k : List ℕ) (d : Data) (ms : Members) → (q ≡ k → ⊥) → get_member q (member k d ms) ≡
+    get_member q ms
+skips q k d ms other = either (slice_cmp nat_cmp q k) _ _
+    (is_eq-slice_cmp q k ∙ differ q k _ refl other)
+
+get_member-put_other_at : (o : Ordering) (q k l : List ℕ) (d e : Data) (ms : Members) → slice_cmp
+    nat_cmp k l ≡ o → (q ≡ k → ⊥) → get_member q (put k d ms) ≡ get_member q ms
+    → get_member q (match_ordering o (member k d (member l e ms)) (member l d ms)
+    (member l e (put k d ms))) ≡ get_member q (member l e ms)
+get_member-put_other_at Less q k l d e ms is other later = skips q k d (member l e ms) other
+get_member-put_other_at Equal q k l d e ms is other later =
+    let same : k ≡ l = (bytes_eq-Decides k l).0 (sym (is_eq-slice_cmp k l) ∙ ap is_eq is) in
+    let apart = λ (h : q ≡ l). other (h ∙ sym same) in
+    skips q l d ms apart ∙ sym (skips q l e ms apart)
+get_member-put_other_at Greater q k l d e ms is other later = ap
+    (λ r. match_ordering (slice_cmp nat_cmp q l) r (Some e) r) later
+
+-- the other names keep their values
+pub get_member-put_other : (q k : List ℕ) (d : Data) (ms : Members) → (q ≡ k → ⊥) → get_member q
+    (put k d ms) ≡ get_member q ms
+get_member-put_other q k d no_members other = skips q k d no_members other
+get_member-put_other q k d (member l e ms) other = get_member-put_other_at _ q k l d e ms refl other
+    (get_member-put_other q k d ms other)
+
+pub found_here : (name k : List ℕ) (d : Data) (ms : Members) → bytes_eq k name ≡ true → get_member
+    name (put k d ms) ≡ Some d
+found_here name k d ms e =
+    let same : k ≡ name = (bytes_eq-Decides k name).0 e in
+    ap (λ (n : List ℕ). get_member n (put k d ms)) (sym same) ∙ get_member-put k d ms
+
+pub found_before : (name k : List ℕ) (d : Data) (ms : Members) → bytes_eq k name ≡ false →
+    get_member name (put k d ms) ≡ get_member name ms
+found_before name k d ms e =
+    get_member-put_other name k d ms
+    (λ same. true≢false (sym ((bytes_eq-Decides k name).1 (sym same)) ∙ e))

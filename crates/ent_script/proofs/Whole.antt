@@ -1,0 +1,101 @@
+-- A script, of the parts that are read one after another.
+use Rattle.std.proofs.Common.{◌≡◌, ℕ, List, map, Option, Some, None, option_map, option_and_then}
+use Rattle.std.proofs.Common.{ok_or, codes, Result, refl, ap, ◌∙◌, unwrap_or}
+use Rattle.std.specs.Prelude.{Ok, Err}
+use Rattle.serde_json.specs.Data.{Data}
+use Rattle.serde_json.specs.Find.{get}
+use Rattle.serde_json.specs.View.{view}
+use Rattle.serde_json.specs.declared.value.Value.{Value}
+use Rattle.ent_alloc.specs.Limits.{Limits}
+use Rattle.ent_script.specs.Cut.{cut}
+use Rattle.ent_script.specs.Json.{at_most}
+use Rattle.ent_script.specs.Reading.{◌>>=◌, numbered, frame_of, component_at, component_names}
+use Rattle.ent_script.specs.Reading.{limits_of, in_script, script_of}
+use Rattle.ent_script.specs.Script.{Script}
+use Rattle.ent_script.specs.Streaming.{frames_of}
+use Rattle.ent_script.specs.declared.cause.ScriptCause.TheVariants as script_cause
+use Rattle.ent_script.specs.declared.operation.Operation.{Operation}
+use Rattle.ent_script.specs.declared.read_fault.ReadFault.{ReadFault}
+use Rattle.ent_script.specs.declared.read_fault.ReadFault.TheVariants as fault
+use Rattle.ent_script.proofs.CutMeanings.{components-cut}
+
+abbrev pub Names : Type 0
+Names = List (List ℕ)
+
+no_names_by : (o : Option (List Data)) → None ≡ option_map (map (cut 0)) o
+    → in_script (ok_or o script_cause.Components >>=
+    λ ds. numbered (component_at ds) 0 ds) ≡ Err (fault.Script script_cause.Components)
+no_names_by None e = refl
+no_names_by (Some ds) e = absurd (cc e)
+
+names_by : (o : Option (List Data)) (vs : List Value) → Some (map view vs) ≡ option_map
+    (map (cut 0)) o
+    → in_script (numbered (component_at (map view vs)) 0 (map view vs)) ≡ in_script
+    (ok_or o script_cause.Components >>= λ ds. numbered (component_at ds) 0 ds)
+names_by None vs e = absurd (cc e)
+names_by (Some ds) vs e =
+    let same : map view vs ≡ map (cut 0) ds = ap
+    (λ (x : Option (List Data)). unwrap_or x (map view vs)) e in
+    ap
+    (λ (xs : List Data). in_script (numbered (component_at xs) 0 xs)) same ∙ ap
+    (in_script {A = Names}) (components-cut ds)
+
+pub no_names : (part : Option Data) → None ≡ option_map (map (cut 0))
+    (option_and_then (at_most 256) part) → in_script (component_names part) ≡ Err
+    (fault.Script script_cause.Components)
+unfolding component_names
+no_names part e = no_names_by (option_and_then (at_most 256) part) e
+
+pub names_meant : (part : Option Data) (vs : List Value) → Some (map view vs) ≡ option_map
+    (map (cut 0)) (option_and_then (at_most 256) part)
+    → in_script (numbered (component_at (map view vs)) 0 (map view vs)) ≡ in_script
+    (component_names part)
+unfolding component_names
+names_meant part vs e = names_by (option_and_then (at_most 256) part) vs e
+
+abbrev pub all_of : Limits → Names → List (List (List Operation)) → Result Script ReadFault
+all_of limits names frames = Ok (record { limits = limits; components = names; frames = frames })
+
+abbrev after_these : Limits → Names → Option (List Data) → Result Script ReadFault
+after_these limits names o = ok_or o (fault.Script script_cause.Frames) >>=
+    λ ds. numbered (frame_of names) 0 ds >>= λ frames. all_of limits names frames
+
+after_frames : (limits : Limits) (names : Names) (o : Option (List Data))
+    → after_these limits names o ≡ ((ok_or o (fault.Script script_cause.Frames) >>=
+    λ ds. numbered (frame_of names) 0 ds) >>= λ frames. all_of limits names frames)
+after_frames limits names None = refl
+after_frames limits names (Some ds) = refl
+
+pub script_is : (d : Data) (limits : Limits) (names : Names) → in_script (limits_of d) ≡ Ok limits →
+    in_script (component_names (get (codes "components") d)) ≡ Ok names
+    → script_of d ≡ (frames_of names (get (codes "frames") d) >>=
+    λ frames. all_of limits names frames)
+unfolding script_of
+script_is d limits names a b =
+    ap
+    (λ (r : Result Limits ReadFault). r >>= λ limits. in_script
+    (component_names (get (codes "components") d)) >>= λ names.
+    after_these limits names (option_and_then (at_most 1000) (get (codes "frames") d))) a
+    ∙ ap (λ (r : Result Names ReadFault). r >>= λ names.
+    after_these limits names (option_and_then (at_most 1000) (get (codes "frames") d))) b
+    ∙ after_frames limits names (option_and_then (at_most 1000) (get (codes "frames") d))
+
+pub limits_refused : (d : Data) (e : ReadFault) → in_script (limits_of d) ≡ Err e → script_of d ≡
+    Err e
+unfolding script_of
+limits_refused d e a =
+    ap
+    (λ (r : Result Limits ReadFault). r >>= λ limits. in_script
+    (component_names (get (codes "components") d)) >>= λ names.
+    after_these limits names (option_and_then (at_most 1000) (get (codes "frames") d))) a
+
+pub names_refused : (d : Data) (limits : Limits) (e : ReadFault) → in_script (limits_of d) ≡ Ok
+    limits → in_script (component_names (get (codes "components") d)) ≡ Err e → script_of d ≡ Err e
+unfolding script_of
+names_refused d limits e a b =
+    ap
+    (λ (r : Result Limits ReadFault). r >>= λ limits. in_script
+    (component_names (get (codes "components") d)) >>= λ names.
+    after_these limits names (option_and_then (at_most 1000) (get (codes "frames") d))) a
+    ∙ ap (λ (r : Result Names ReadFault). r >>= λ names.
+    after_these limits names (option_and_then (at_most 1000) (get (codes "frames") d))) b

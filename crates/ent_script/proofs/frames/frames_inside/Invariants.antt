@@ -1,0 +1,20 @@
+use Rattle.std.proofs.Common.{◌≡◌, ℕ, ◌≤◌, List, length, Some}
+use Rattle.json.specs.Token.{Token}
+use Rattle.json.specs.Json.{items, value}
+use Rattle.serde_json.specs.Data.{Items}
+use Rattle.serde_json.specs.Read.{of_items, converted}
+use Rattle.ent_script.specs.Reading.{frame_of}
+use Rattle.ent_script.proofs.Listing.{At}
+use Rattle.ent_script.proofs.frames.frames_inside.Given as goal
+
+abbrev pub invariant-frames : goal.invariant-frames
+invariant-frames l = record {
+  at : (n : ℕ) (ds : Items) (rest : List Token)
+      → converted of_items (items (value l.depth) n l.initial.reader) ≡ Some (ds, rest)
+      → At (value l.depth) (frame_of l.components) l.frames.items l.number l.reader ds rest;
+  few : l.number ≤ 1000;
+  shorter : length l.reader ≤ length l.initial.reader;
+}
+
+abbrev pub decreases-frames : goal.decreases-frames
+decreases-frames l = length l.reader

@@ -1,0 +1,110 @@
+use Rattle.std.proofs.Common.{◌≡◌, ◌-◌, List, map, Option, Some, None, option_map, option_and_then}
+use Rattle.std.proofs.Common.{codes, Result, sym, subst, ap, ◌∙◌, refl, true, false, bytes_eq}
+use Rattle.std.proofs.Common.{arith, rules}
+use Rattle.std.specs.Prelude.{Err}
+use Rattle.std.specs.Global.{Vec}
+use Rattle.json.specs.Json.{read_key, members, value}
+use Rattle.serde_json.specs.Data.{Data, no_members, put}
+use Rattle.serde_json.specs.Find.{get_member}
+use Rattle.serde_json.specs.Read.{of_json, of_members, converted}
+use Rattle.serde_json.specs.declared.value.Value.{Value}
+use Rattle.ent_script.specs.Cut.{cut}
+use Rattle.ent_script.specs.Json.{at_most}
+use Rattle.ent_script.specs.Streaming.{FindsElements}
+use Rattle.ent_script.specs.declared.read_fault.ReadFault.{ReadFault}
+use Rattle.ent_script.proofs.Finding.{next_member, last_member, no_key, passed, not_passed}
+use Rattle.ent_script.proofs.Puts.{found_here, found_before}
+use Rattle.ent_script.proofs.reading.components_inside.Goals as goal
+
+abbrev Seen : Option Data → Option (List Data)
+Seen o = option_map (map (cut 0)) (option_and_then (at_most 256) o)
+
+pub members-init : goal.members-init
+members-init c = record { found = λ n ms rest e. (n, no_members, e, refl); few = tt }
+
+pub returns-in_err-key-clause-found : goal.returns-in_err-key-clause-found
+returns-in_err-key-clause-found c n ms rest e =
+    let p = value c.args.depth in
+    let l = c.members in
+    let at = l.invariant.found n ms rest e in
+    no_key p at.0 l.reader rest at.1 ms c.in_err-key.ensures.value at.2
+
+pub returns-in_err-found-clause-found : goal.returns-in_err-found-clause-found
+returns-in_err-found-clause-found c n ms rest e =
+    let p = value c.args.depth in
+    let l = c.members in
+    let k = c.in-Some.key.now in
+    let s = c.next_key.new.self in
+    let named : read_key l.reader ≡ Some (Some k, s) = grind arith in
+    let at = l.invariant.found n ms rest e in
+    let next = next_member p at.0 k l.reader s rest at.1 ms named at.2 in
+    let is : c.from_residual-in_err-found.result ≡ Err c.in_err-found.field-0.0 = search rules in
+    subst
+    (λ (r : Result (Option (Vec Value)) ReadFault). FindsElements r
+    (option_and_then (at_most 256) (get_member (codes "components") ms))) (sym is)
+    (c.in_err-found.ensures.value next.0 next.1 next.2)
+
+pub members-preserved-then-eq : goal.members-preserved-then-eq
+members-preserved-then-eq c = record {
+  found = λ n ms rest e.
+      let p = value c.args.depth in
+      let l = c.members in
+      let k = c.in-Some.key.now in
+      let s = c.next_key.new.self in
+      let named : read_key l.reader ≡ Some (Some k, s) = grind arith in
+      let same : bytes_eq k (codes "components") ≡ true = sym c.if-eq.ensures in
+      let at = l.invariant.found n ms rest e in
+      let next = next_member p at.0 k l.reader s rest at.1 ms named at.2 in
+      let read = c.in_ok-found.ensures.value next.0 next.1 next.2 in (
+        at.0 - 1,
+        put k next.0 at.1,
+        ap
+            (λ ts. converted (λ ms. of_members ms (put k next.0 at.1)) (members p (at.0 - 1) ts))
+            read.1 ∙ next.3,
+        read.0 ∙ sym (ap Seen (found_here (codes "components") k next.0 at.1 same)),
+      );
+  few = c.in_ok-found.ensures.few;
+}
+
+pub members-preserved : goal.members-preserved
+members-preserved c = record {
+  found = λ n ms rest e.
+      let p = value c.args.depth in
+      let l = c.members in
+      let k = c.in-Some.key.now in
+      let s = c.next_key.new.self in
+      let named : read_key l.reader ≡ Some (Some k, s) = grind arith in
+      let other : bytes_eq k (codes "components") ≡ false = sym c.if-eq.ensures in
+      let at = l.invariant.found n ms rest e in
+      let next = next_member p at.0 k l.reader s rest at.1 ms named at.2 in
+      let same = passed (converted of_json (p s)) c.pass_value.new.reader next.1 next.0
+      c.in_ok-pass_value.ensures.value next.2 in (
+        at.0 - 1,
+        put k next.0 at.1,
+        ap
+            (λ ts. converted (λ ms. of_members ms (put k next.0 at.1)) (members p (at.0 - 1) ts))
+            same ∙ next.3,
+        at.3 ∙ sym (ap Seen (found_before (codes "components") k next.0 at.1 other)),
+      );
+  few = c.members.invariant.few;
+}
+
+pub returns-in_err-pass_value-clause-found : goal.returns-in_err-pass_value-clause-found
+returns-in_err-pass_value-clause-found c n ms rest e =
+    let p = value c.args.depth in
+    let l = c.members in
+    let k = c.in-Some.key.now in
+    let s = c.next_key.new.self in
+    let named : read_key l.reader ≡ Some (Some k, s) = grind arith in
+    let at = l.invariant.found n ms rest e in
+    let next = next_member p at.0 k l.reader s rest at.1 ms named at.2 in
+    not_passed (converted of_json (p s)) next.1 next.0 c.in_err-pass_value.ensures.value next.2
+
+pub returns-clause-found : goal.returns-clause-found
+returns-clause-found c n ms rest e =
+    let p = value c.args.depth in
+    let l = c.members in
+    let over : read_key l.reader ≡ Some (None, c.next_key.new.self) = grind arith in
+    let at = l.invariant.found n ms rest e in
+    let last = last_member p at.0 l.reader c.next_key.new.self rest at.1 ms over at.2 in
+    at.3 ∙ sym (ap (λ x. Seen (get_member (codes "components") x)) last.0)

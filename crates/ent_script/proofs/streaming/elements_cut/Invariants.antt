@@ -1,0 +1,24 @@
+use Rattle.std.proofs.Common.{◌≡◌, ℕ, ◌≤◌, List, ◌++◌, length, map, Some}
+use Rattle.json.specs.Token.{Token}
+use Rattle.json.specs.Json.{items, value}
+use Rattle.serde_json.specs.Data.{Items}
+use Rattle.serde_json.specs.Read.{of_items, converted}
+use Rattle.serde_json.specs.View.{view}
+use Rattle.ent_script.specs.Cut.{cut}
+use Rattle.ent_script.specs.Json.{list_of}
+use Rattle.ent_script.proofs.streaming.elements_cut.Given as goal
+
+abbrev pub invariant-elements : goal.invariant-elements
+invariant-elements l = record {
+  found : (n : ℕ) (ds : Items) (rest : List Token)
+      → converted of_items (items (value l.depth) n l.initial.reader) ≡ Some (ds, rest)
+      → (m : ℕ) × (later : Items)
+      × (converted of_items (items (value l.depth) m l.reader) ≡ Some (later, rest))
+      × (map (cut l.levels) (list_of ds)
+      ≡ map view l.found.items ++ map (cut l.levels) (list_of later));
+  few : length l.found.items ≤ l.most;
+  shorter : length l.reader ≤ length l.initial.reader;
+}
+
+abbrev pub decreases-elements : goal.decreases-elements
+decreases-elements l = length l.reader

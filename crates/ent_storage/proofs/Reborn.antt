@@ -1,0 +1,99 @@
+-- The birth of the entity at a place is changed.
+use Rattle.std.proofs.Common.{◌≡◌, ℕ, zero, suc, ◌<◌, List, [], ◌∷◌, length, get_or, set, Some}
+use Rattle.std.proofs.Common.{Option, refl, sym, ap, subst, ◌∙◌, arith}
+use Rattle.std.proofs.lemmas.List.{get_or_default, length-set}
+use Rattle.std.specs.Option.{option_map_or}
+use Rattle.std.specs.FinMap as finite
+use Rattle.std.specs.FinMap.{FinMap}
+use Rattle.ent_handle.specs.declared.birth.Birth.{Birth}
+use Rattle.ent_handle.specs.Handle.{Handle, handle_cmp}
+use Rattle.ent_storage.specs.declared.living.Resident.{Resident}
+use Rattle.ent_storage.specs.EntityMap.{Entity, with_birth}
+use Rattle.ent_storage.specs.SparseSet.{Column}
+use Rattle.ent_storage.specs.Living.{LivingEntity, components_at, entities_from, with_birth_at}
+use Rattle.ent_storage.specs.Indexed.{entity_of, entities_of, handles_by_place, counted}
+use Rattle.ent_storage.specs.Indexed.{IsKeptIndex}
+use Rattle.ent_storage.proofs.Indexed.{some_entity, entities_set, indexed_set, read_handle}
+use Rattle.ent_storage.proofs.Indexed.{get_read}
+use Rattle.ent_storage.proofs.Counted.{counted_gives, indexed_counted}
+use Rattle.ent_storage.proofs.Placed.{handles_set}
+
+-- the resident at the place is written again with another birth
+pub reborn_from : (n : ℕ) (residents : List Resident) (columns : List Column) (i : ℕ)
+    (birth : Birth) (resident : Resident) → i < length residents → resident
+    ≡ get_or residents i resident
+    → entities_from n (set residents i (record resident { birth = birth })) columns
+    ≡ with_birth_at (entities_from n residents columns) i birth
+reborn_from n [] columns i birth resident l read = absurd (omega arith)
+reborn_from n (r ∷ residents) columns zero birth resident l read =
+    ap (λ (x : Resident).
+    record { handle = x.handle; birth = birth; components = components_at columns n }
+    ∷ entities_from (suc n) residents columns) read
+reborn_from n (r ∷ residents) columns (suc i) birth resident l read =
+    ap (λ (es : List LivingEntity).
+    record { handle = r.handle; birth = r.birth; components = components_at columns n } ∷ es)
+    (reborn_from (suc n) residents columns i birth resident (omega arith) read)
+
+pub length_reborn : (living : List LivingEntity) (i : ℕ) (birth : Birth)
+    → length (with_birth_at living i birth) ≡ length living
+length_reborn [] i birth = refl
+length_reborn (e ∷ living) zero birth = refl
+length_reborn (e ∷ living) (suc i) birth = ap suc (length_reborn living i birth)
+
+as_set : (living : List LivingEntity) (i : ℕ) (d : LivingEntity) (birth : Birth) → i < length living
+    → with_birth_at living i birth
+    ≡ set living i (record {
+      handle = (get_or living i d).handle;
+      birth = birth;
+      components = (get_or living i d).components;
+    })
+as_set [] i d birth l = absurd (omega arith)
+as_set (e ∷ living) zero d birth l = refl
+as_set (e ∷ living) (suc i) d birth l = ap (λ es. e ∷ es) (as_set living i d birth (omega arith))
+
+module _ (living : List LivingEntity) (index : FinMap handle_cmp ℕ) (room : ℕ)
+    (kept : IsKeptIndex living index room) (h : Handle) (i : ℕ)
+    (placed : finite.get (counted living index) h ≡ Some i) (birth : Birth) where
+  abbrev was : LivingEntity
+  was = get_or living i (some_entity h)
+
+  abbrev changed : LivingEntity
+  changed = record { handle = was.handle; birth = birth; components = was.components }
+
+  inside : i < length living
+  inside = (kept.indexed.each_place h i placed).0
+
+  read : was ≡ get_or living i was
+  read = get_or_default living i (some_entity h) (get_or living i (some_entity h)) inside
+
+  its_handle : was.handle ≡ h
+  its_handle = read_handle living (counted living index) kept.indexed h i placed was read
+
+  at : finite.get (counted living index) changed.handle ≡ Some i
+  at = ap (finite.get (counted living index)) its_handle ∙ placed
+
+  is_set : with_birth_at living i birth ≡ set living i changed
+  is_set = as_set living i (some_entity h) birth inside
+
+  pub reborn_entities : entities_of (with_birth_at living i birth)
+      ≡ with_birth (entities_of living) h birth
+  reborn_entities =
+      ap entities_of is_set
+      ∙ entities_set living (counted living index) kept.indexed i changed at
+      ∙ ap (λ (q : Handle). finite.insert (entities_of living) q (entity_of changed)) its_handle
+      ∙ sym (ap (λ (o : Option Entity). option_map_or (λ e. finite.insert (entities_of living) h
+      (record e { birth = birth })) o (entities_of living))
+      (get_read living (counted living index) kept.indexed h i placed was read))
+
+  pub reborn_handles : handles_by_place (with_birth_at living i birth) ≡ handles_by_place living
+  reborn_handles = ap handles_by_place is_set
+      ∙ handles_set living i changed (λ d l. ap (λ (r : LivingEntity). r.handle)
+      (get_or_default living i (some_entity h) d l))
+
+  pub reborn_kept : IsKeptIndex (with_birth_at living i birth) index room
+  reborn_kept = subst (λ es. IsKeptIndex es index room) (sym is_set) (record {
+    indexed = indexed_counted (set living i changed) index (counted living index)
+        (indexed_set living (counted living index) kept.indexed i changed at)
+        (λ q j there. (counted_gives living index q j there).0);
+    fits = omega (arith, length-set living i changed, kept.fits);
+  })

@@ -1,0 +1,22 @@
+use Rattle.std.proofs.Common.{Some, ap, sym, ◌∙◌}
+use Rattle.std.specs.Option.{option_map}
+use Rattle.ent_storage.specs.EntityMap.{Entity}
+use Rattle.ent_storage.proofs.Indexed.{some_entity}
+use Rattle.ent_storage.proofs.Placed.{IsEntityAt, entity_at}
+use Rattle.ent_storage.proofs.storage.Storage.birth_at.Goals.{After-self}
+use Rattle.ent_storage.proofs.storage.Storage.birth_at.Goals as goal
+
+-- the place is that of the handle
+at : (c : After-self) → IsEntityAt c.self.inside.living.entities c.args.self.now c.args.handle
+    c.args.place
+at c = entity_at _ _ _ _ c.self.invariant.indexed c.self.view_is c.args.handle c.args.place
+    c.requires
+
+pub birth-requires : goal.birth-requires
+birth-requires c = (at (goal.at.birth-requires c).After-self).inside
+
+pub returns : goal.returns
+returns c =
+    let at = at (goal.at.returns c).After-self in
+    ap (option_map (λ (e : Entity). e.birth)) at.found
+    ∙ ap Some (sym (c.birth.ensures (some_entity c.args.handle)))

@@ -1,0 +1,56 @@
+use Rattle.std.proofs.Common.{◌≡◌, min, Some, slice_get, ap, ◌∙◌}
+use Rattle.std.specs.FinMap as map
+use Rattle.ent_storage.specs.EntityMap.{Store, with_birth}
+use Rattle.ent_storage.specs.Indexed.{counted, handles_by_place}
+use Rattle.ent_storage.proofs.Placed.{placed_from_place, at_place}
+use Rattle.ent_storage.proofs.Reborn.{reborn_entities, reborn_handles, reborn_kept, length_reborn}
+use Rattle.ent_storage.proofs.storage.Storage.set_birth_at.Goals.{After-self}
+use Rattle.ent_storage.proofs.storage.Storage.set_birth_at.Goals as goal
+
+-- the place is one of the entities', and the index has it
+at : (c : After-self) → slice_get (handles_by_place c.self.inside.living.entities) c.args.place
+    ≡ Some c.args.handle
+at c = ap (λ (s : Store). slice_get s.places c.args.place) c.self.view_is ∙ c.requires
+
+placed : (c : After-self) → map.get (counted c.self.inside.living.entities
+    c.self.inside.index.by_handle) c.args.handle ≡ Some c.args.place
+placed c = placed_from_place c.self.inside.living.entities (counted c.self.inside.living.entities
+    c.self.inside.index.by_handle) c.self.invariant.indexed c.args.handle c.args.place (at c)
+
+pub set_birth-requires : goal.set_birth-requires
+set_birth-requires c = (at_place c.self.inside.living.entities c.args.place c.args.handle
+    (at (goal.at.set_birth-requires c).After-self)).0
+
+pub invariant_of-self : goal.invariant_of-self
+invariant_of-self c =
+    rw (c.set_birth.ensures.entities, c.set_birth.ensures.room)
+    (reborn_kept c.self.inside.living.entities c.self.inside.index.by_handle
+    (min c.self.inside.living.room c.self.inside.index.room) c.self.invariant c.args.handle
+    c.args.place (placed (goal.at.invariant_of-self c).After-self) c.args.birth)
+
+-- the entity has the new birth
+pub returns-clause-entities : goal.returns-clause-entities
+returns-clause-entities c =
+    rw c.set_birth.ensures.entities (reborn_entities c.self.inside.living.entities
+    c.self.inside.index.by_handle (min c.self.inside.living.room c.self.inside.index.room)
+    c.self.invariant c.args.handle c.args.place
+    (placed (goal.at.returns-clause-entities c).After-self) c.args.birth)
+    ∙ ap (λ (s : Store). with_birth s.entities c.args.handle c.args.birth) c.self.view_is
+
+pub returns-clause-spare : goal.returns-clause-spare
+returns-clause-spare c =
+    rw (
+      c.set_birth.ensures.entities,
+      c.set_birth.ensures.room,
+      length_reborn c.self.inside.living.entities c.args.place c.args.birth,
+    )
+    (ap (λ (s : Store). s.spare) c.self.view_is)
+
+-- no handle is changed
+pub returns-clause-places : goal.returns-clause-places
+returns-clause-places c =
+    rw c.set_birth.ensures.entities (reborn_handles c.self.inside.living.entities
+    c.self.inside.index.by_handle (min c.self.inside.living.room c.self.inside.index.room)
+    c.self.invariant c.args.handle c.args.place
+    (placed (goal.at.returns-clause-places c).After-self) c.args.birth)
+    ∙ ap (λ (s : Store). s.places) c.self.view_is

@@ -1,0 +1,492 @@
+-- One induction over queues, and so one file of more than 400 lines: queues do to a world what the
+-- same queues by births do to births alone. If the births told what the world was, they tell what
+-- it is afterwards, and the faults are the same.
+use Rattle.std.proofs.Common.{◌≡◌, refl, sym, ap, ◌∙◌, subst, ℕ, suc, ◌+◌, Bool, true, false}
+use Rattle.std.proofs.Common.{cond, not, T, true≢false, List, [], ◌∷◌, ◌++◌, map, filter, All}
+use Rattle.std.proofs.Common.{length}
+use Rattle.std.proofs.Common.{Option, Some, None, is_some, option_map, unwrap_or}
+use Rattle.std.specs.List.{AllZip}
+use Rattle.std.specs.Option.{option_map_or}
+use Rattle.std.specs.Ordering.{eq_by_cmp}
+use Rattle.std.specs.declared.cmp.Ordering.{Ordering}
+use Rattle.std.specs.Cmp.{IsTotalOrder}
+use Rattle.std.specs.FinMap as finite
+use Rattle.std.specs.FinMap.{find, put, is_sorted, IsAntisymmetric}
+use Rattle.std.specs.FinMap.Entries.{find-put, find-where_key, is_sorted-put, is_sorted-where_key}
+use Rattle.std.specs.FinMap.Entries.{same_entries}
+use Rattle.std.proofs.lemmas.Cmp.{eq_by_cmp_equiv}
+use Rattle.std.proofs.lemmas.Map.Views.{tells_apart}
+use Rattle.std.proofs.lemmas.Option.{none-some, same_Some}
+use Rattle.std.proofs.lemmas.List.Elements.{All-head, All-tail}
+use Rattle.ent_handle.specs.declared.birth.Birth.{Birth}
+use Rattle.ent_handle.specs.declared.component.ComponentId.{ComponentId}
+use Rattle.ent_handle.specs.Birth.{birth_cmp, birth_cmp_total, birth_cmp-IsAntisymmetric}
+use Rattle.ent_handle.specs.Component.{component_cmp, component_cmp_total}
+use Rattle.ent_handle.specs.Component.{component_cmp-IsAntisymmetric}
+use Rattle.ent_handle.specs.Handle.{Handle, handle_cmp, handle_cmp_total}
+use Rattle.ent_alloc.proofs.HandleSets.{same_handle, itself}
+use Rattle.ent_storage.specs.Components.{Components, with_items}
+use Rattle.ent_storage.specs.EntityMap.{Entity, EntityMap, birth_of, with_components}
+use Rattle.ent_queue.specs.Command.{Bundle, with_put, Command, Spawn, SpawnMany, Insert, Remove}
+use Rattle.ent_queue.specs.Command.{Despawn, Refused}
+use Rattle.ent_world.specs.declared.fault.Fault.{Fault}
+use Rattle.ent_world.specs.declared.fault.FaultKind.TheVariants as kind
+use Rattle.ent_world.specs.World.{World, lives_in}
+use Rattle.ent_world.specs.Effects.{Applied, applied, on_entity, on_each, with_fault, after_insert}
+use Rattle.ent_world.specs.Effects.{after_remove, after_despawn, after_command, after_commands}
+use Rattle.ent_world.specs.Effects.{after_queues}
+use Rattle.ent_world.specs.BirthsAlone.{BirthMap, BirthCommand, BirthFault, AppliedAlone, held_by}
+use Rattle.ent_world.specs.BirthsAlone.{inserted, removed, despawned, on_birth, on_each_birth}
+use Rattle.ent_world.specs.BirthsAlone.{after_birth_command, after_birth_commands}
+use Rattle.ent_world.specs.BirthsAlone.{after_birth_queues}
+use Rattle.ent_world.specs.Sync.{after_births, sync}
+use Rattle.ent_world.specs.Named.{AreNamed, AreNames, IsThere, IsNamedBy, AreNamedBy, IsSameFault}
+use Rattle.ent_world.specs.Named.{AreNamedAfter}
+
+-- ---- lists of entries in order
+
+turned : {X : Type 0} (b : Bool) (x y : X) → cond (not b) x y ≡ cond b y x
+turned true x y = refl
+turned false x y = refl
+
+module _ {K X : Type 0} {R : K → K → Ordering} (o : IsTotalOrder R) (same : IsAntisymmetric R) where
+  -- a key that was filtered out is not found
+  pub find-without : (k q : K) (es : List (K × X))
+      → find R q (filter (λ e. not (eq_by_cmp R e.0 k)) es)
+      ≡ cond (eq_by_cmp R q k) None (find R q es)
+  find-without k q es =
+      find-where_key R (λ x. not (eq_by_cmp R x k)) q
+      (λ x tied. ap (λ y. not (eq_by_cmp R y k)) (sym (same q x tied))) es
+      ∙ turned (eq_by_cmp R q k) (find R q es) None
+
+  -- a map without a key has the entries without that key
+  pub entries-remove : (m : finite.FinMap R X) (k : K) → finite.entries (finite.remove m k)
+      ≡ filter (λ e. not (eq_by_cmp R e.0 k)) (finite.entries m)
+  entries-remove m k =
+      same_entries R o same _ _ (finite.entries_sorted (finite.remove m k))
+      (is_sorted-where_key R (λ x. not (eq_by_cmp R x k)) (finite.entries m)
+      (finite.entries_sorted m))
+      (λ q. sym (finite.get-entries (finite.remove m k) q)
+      ∙ finite.get-remove o m k q
+      ∙ ap (cond (eq_by_cmp R q k) None) (finite.get-entries m q)
+      ∙ sym (find-without k q (finite.entries m)))
+
+-- the components of an entity and a bundle, after the same items
+entries-with_items : (held : Components) (items : Bundle)
+    → finite.entries (with_items held items) ≡ with_put (finite.entries held) items
+entries-with_items held [] = refl
+entries-with_items held (item ∷ items) =
+    entries-with_items (finite.insert held item.0 item.1) items
+    ∙ ap (λ es. with_put es items)
+    (finite.entries-insert component_cmp_total held item.0 item.1)
+
+-- ---- what births tell of a map
+
+-- what they tell of an entity
+abbrev told : Option Entity → Option Bundle
+told o = option_map (λ e. finite.entries e.components) o
+
+told_some : (o : Option Entity) → is_some (told o) ≡ is_some o
+told_some None = refl
+told_some (Some e) = refl
+
+-- the entity that is there
+pub entity_there : (m : EntityMap) (h : Handle) → IsThere m h
+    → (e : Entity) × (finite.get m h ≡ Some e)
+entity_there m h there = by (finite.get m h) refl
+  where
+    by : (o : Option Entity) → finite.get m h ≡ o → (e : Entity) × (finite.get m h ≡ Some e)
+    by None none = absurd (true≢false (sym there ∙ ap is_some none))
+    by (Some e) is = (e, is)
+
+-- The births tell the map, by the names of the handles that were there at the start.
+record AreTold (start : EntityMap) (name : Handle → Birth) (m : EntityMap) (births : BirthMap)
+    : Type 0 where
+  rising : T (is_sorted birth_cmp births)
+  lived : (h : Handle) → IsThere m h → IsThere start h
+  named : (h : Handle) (e : Entity) → finite.get m h ≡ Some e → name h ≡ e.birth
+  there : (h : Handle) → IsThere start h → find birth_cmp (name h) births ≡ told (finite.get m h)
+  only : (birth : Birth) → is_some (find birth_cmp birth births) ≡ true
+      → (h : Handle) × (IsThere start h × (name h ≡ birth))
+
+-- no name is that of two handles that are there
+abbrev pub AreDistinct : (Handle → Birth) → EntityMap → Type 0
+AreDistinct name m = (g h : Handle) → IsThere m g → IsThere m h → name g ≡ name h → g ≡ h
+
+module _ (start : EntityMap) (name : Handle → Birth) (distinct : AreDistinct name start) where
+  -- names tie where their handles tie
+  alike : (g h : Handle) → IsThere start g → IsThere start h
+      → eq_by_cmp birth_cmp (name g) (name h) ≡ eq_by_cmp handle_cmp g h
+  alike g h g_there h_there = by (eq_by_cmp handle_cmp g h) refl
+    where
+      not_tied : eq_by_cmp handle_cmp g h ≡ false → (b : Bool)
+          → eq_by_cmp birth_cmp (name g) (name h) ≡ b → b ≡ false
+      not_tied apart false _ = refl
+      not_tied apart true tied =
+          let same : g ≡ h = distinct g h g_there h_there
+          (tells_apart birth_cmp-IsAntisymmetric (name g) (name h) tied) in
+          absurd (true≢false (sym (itself h) ∙ ap (λ x. eq_by_cmp handle_cmp x h) (sym same)
+          ∙ apart))
+
+      by : (b : Bool) → eq_by_cmp handle_cmp g h ≡ b → eq_by_cmp birth_cmp (name g) (name h) ≡ b
+      by true tied = ap (λ x. eq_by_cmp birth_cmp (name x) (name h)) (same_handle g h tied)
+          ∙ (eq_by_cmp_equiv birth_cmp_total).refl (name h)
+      by false apart = not_tied apart (eq_by_cmp birth_cmp (name g) (name h)) refl
+
+  -- If both change under one handle and its name only, in the same way, they tell the map still.
+  changed : (h : Handle) (o : Option Entity) (m n : EntityMap) (births after : BirthMap)
+      → AreTold start name m births → IsThere m h
+      → ((e : Entity) → o ≡ Some e → name h ≡ e.birth)
+      → ((g : Handle) → finite.get n g ≡ cond (eq_by_cmp handle_cmp g h) o (finite.get m g))
+      → T (is_sorted birth_cmp after)
+      → ((b : Birth) → find birth_cmp b after
+      ≡ cond (eq_by_cmp birth_cmp b (name h)) (told o) (find birth_cmp b births))
+      → AreTold start name n after
+  changed h o m n births after before here birth gets rising finds = record {
+    rising = rising;
+    lived = λ g there. lived_by g there (eq_by_cmp handle_cmp g h) refl;
+    named = λ g e is. named_by g e (eq_by_cmp handle_cmp g h) refl (sym (gets g) ∙ is);
+    there = λ g there. finds (name g)
+        ∙ ap (λ b. cond b (told o) (find birth_cmp (name g) births))
+        (alike g h there (before.lived h here))
+        ∙ ap (cond (eq_by_cmp handle_cmp g h) (told o)) (before.there g there)
+        ∙ inside (eq_by_cmp handle_cmp g h) (finite.get m g)
+        ∙ ap told (sym (gets g));
+    only = λ b some. only_by b (eq_by_cmp birth_cmp b (name h)) refl
+        (ap is_some (sym (finds b)) ∙ some);
+  }
+    where
+      inside : (b : Bool) (p : Option Entity) → cond b (told o) (told p) ≡ told (cond b o p)
+      inside true p = refl
+      inside false p = refl
+
+      lived_by : (g : Handle) → IsThere n g → (b : Bool) → eq_by_cmp handle_cmp g h ≡ b
+          → IsThere start g
+      lived_by g there true tied = subst (IsThere start) (sym (same_handle g h tied))
+          (before.lived h here)
+      lived_by g there false apart = before.lived g
+          (ap (λ b. is_some (cond b o (finite.get m g))) (sym apart) ∙ ap is_some (sym (gets g))
+          ∙ there)
+
+      named_by : (g : Handle) (e : Entity) (b : Bool) → eq_by_cmp handle_cmp g h ≡ b
+          → cond (eq_by_cmp handle_cmp g h) o (finite.get m g) ≡ Some e → name g ≡ e.birth
+      named_by g e true tied is = ap name (same_handle g h tied)
+          ∙ birth e (ap (λ b. cond b o (finite.get m g)) (sym tied) ∙ is)
+      named_by g e false apart is = before.named g e
+          (ap (λ b. cond b o (finite.get m g)) (sym apart) ∙ is)
+
+      only_by : (b : Birth) (t : Bool) → eq_by_cmp birth_cmp b (name h) ≡ t
+          → is_some (cond (eq_by_cmp birth_cmp b (name h)) (told o) (find birth_cmp b births))
+          ≡ true → (g : Handle) × (IsThere start g × (name g ≡ b))
+      only_by b true tied some =
+          (h, (before.lived h here, sym (tells_apart birth_cmp-IsAntisymmetric b (name h) tied)))
+      only_by b false apart some = before.only b
+          (ap (λ t. is_some (cond t (told o) (find birth_cmp b births))) (sym apart) ∙ some)
+
+  -- ---- one entity
+
+  -- A change of the components of an entity, and the same change of the bundle of its birth.
+  components-told : (change : Components → Components) (alike_change : Bundle → Bundle)
+      → ((held : Components) → finite.entries (change held) ≡ alike_change (finite.entries held))
+      → (h : Handle) (m : EntityMap) (births : BirthMap) → IsThere m h
+      → AreTold start name m births
+      → AreTold start name (with_components m h change)
+      (put birth_cmp (name h) (alike_change (held_by births (name h))) births)
+  components-told change alike_change respects h m births here before =
+      let found = entity_there m h here in
+      let e : Entity = found.0 in
+      let later : Entity = record e { components = change e.components } in
+      let with_e : with_components m h change ≡ finite.insert m h later =
+      ap (λ o. option_map_or
+      (λ e. finite.insert m h (record e { components = change e.components })) o m) found.1 in
+      let items : Bundle = alike_change (held_by births (name h)) in
+      let items_are : items ≡ finite.entries later.components =
+      ap (λ o. alike_change (unwrap_or o [])) (before.there h (before.lived h here)
+      ∙ ap told found.1) ∙ sym (respects e.components) in
+      subst (λ n. AreTold start name n (put birth_cmp (name h) items births)) (sym with_e)
+      (changed h (Some later) m (finite.insert m h later) births
+      (put birth_cmp (name h) items births) before here
+      (λ f is. before.named h e found.1 ∙ ap (λ x. x.birth) (same_Some later f is))
+      (λ g. finite.get-insert handle_cmp_total m h later g)
+      (is_sorted-put birth_cmp birth_cmp_total (name h) items births before.rising)
+      (λ b. find-put birth_cmp birth_cmp_total b (name h) items births
+      ∙ ap (λ x. cond (eq_by_cmp birth_cmp b (name h)) (Some x) (find birth_cmp b births))
+      items_are))
+
+  despawn-told : (h : Handle) (m : EntityMap) (births : BirthMap) → IsThere m h
+      → AreTold start name m births
+      → AreTold start name (finite.remove m h) (despawned (name h) births)
+  despawn-told h m births here before =
+      changed h None m (finite.remove m h) births (despawned (name h) births) before here
+      (λ e is. absurd (none-some e is))
+      (λ g. finite.get-remove handle_cmp_total m h g)
+      (is_sorted-where_key birth_cmp (λ x. not (eq_by_cmp birth_cmp x (name h))) births
+      before.rising)
+      (λ b. find-without birth_cmp_total birth_cmp-IsAntisymmetric (name h) b births)
+
+  -- ---- commands
+
+  -- A world and births that tell its entities, with the same faults so far.
+  record AreAppliedTold (a : Applied) (b : AppliedAlone) : Type 0 where
+    told : AreTold start name a.world.entities b.entities
+    faults : AllZip IsSameFault a.faults b.faults
+
+  -- a change of an entity, and one of its birth, after which the births tell the map still
+  abbrev IsToldBy : (Handle → World → World) → (Birth → BirthMap → BirthMap) → Type 0
+  IsToldBy change change_alone =
+      (h : Handle) (w : World) (births : BirthMap) → IsThere w.entities h
+      → AreTold start name w.entities births
+      → AreTold start name (change h w).entities (change_alone (name h) births)
+
+  insert-told : (items : Bundle) → IsToldBy (after_insert items) (inserted items)
+  insert-told items h w births here before =
+      components-told (λ held. with_items held items) (λ held. with_put held items)
+      (λ held. entries-with_items held items) h w.entities births here before
+
+  remove-told : (id : ComponentId) → IsToldBy (after_remove id) (removed id)
+  remove-told id h w births here before =
+      components-told (λ held. finite.remove held id)
+      (filter (λ item. not (eq_by_cmp component_cmp item.0 id)))
+      (λ held. entries-remove component_cmp_total component_cmp-IsAntisymmetric held id)
+      h w.entities births here before
+
+  gone-told : IsToldBy after_despawn despawned
+  gone-told h w births here before = despawn-told h w.entities births here before
+
+  zip-push : {X Y : Type 0} (S : X → Y → Type 0) (xs : List X) (ys : List Y) (x : X) (y : Y)
+      → AllZip S xs ys → S x y → AllZip S (xs ++ x ∷ []) (ys ++ y ∷ [])
+  zip-push S [] [] x y zipped one = (one, tt)
+  zip-push S [] (y' ∷ ys) x y zipped one = absurd zipped
+  zip-push S (x' ∷ xs) [] x y zipped one = absurd zipped
+  zip-push S (x' ∷ xs) (y' ∷ ys) x y zipped one =
+      (zipped.0, zip-push S xs ys x y zipped.1 one)
+
+  module _ (system command : ℕ) where
+    module _ (change : Handle → World → World) (change_alone : Birth → BirthMap → BirthMap)
+        (is_told : IsToldBy change change_alone) where
+      -- one handle
+      entity-told : (h : Handle) (a : Applied) (b : AppliedAlone) → IsThere start h
+          → AreAppliedTold a b
+          → AreAppliedTold (on_entity system command change h a)
+          (on_birth system command change_alone (name h) b)
+      entity-told h a b here before =
+          let same : is_some (find birth_cmp (name h) b.entities) ≡ lives_in a.world h =
+          ap is_some (before.told.there h here) ∙ told_some (finite.get a.world.entities h) in
+          let fault : BirthFault = record { system = system; command = command } in
+          subst (λ t. AreAppliedTold (on_entity system command change h a)
+          (cond t (record b { entities = change_alone (name h) b.entities })
+          (record b { faults = b.faults ++ fault ∷ [] }))) (sym same)
+          (by (lives_in a.world h) refl)
+        where
+          by : (t : Bool) → lives_in a.world h ≡ t
+              → AreAppliedTold (cond t (record a { world = change h a.world })
+              (with_fault system command (kind.NotAlive h) a))
+              (cond t (record b { entities = change_alone (name h) b.entities })
+              (record b {
+                faults = b.faults ++ record { system = system; command = command } ∷ [];
+              }))
+          by true lives = record {
+            told = is_told h a.world b.entities lives before.told;
+            faults = before.faults;
+          }
+          by false gone = record {
+            told = before.told;
+            faults = zip-push IsSameFault a.faults b.faults
+                (record { system = system; command = command; kind = kind.NotAlive h })
+                (record { system = system; command = command })
+                before.faults
+                (record { system = refl; command = refl; handle = h; kind = refl });
+          }
+
+      -- each of the handles in turn
+      each-told : (hs : List Handle) (a : Applied) (b : AppliedAlone) → All (IsThere start) hs
+          → AreAppliedTold a b
+          → AreAppliedTold (on_each system command change hs a)
+          (on_each_birth system command change_alone (map name hs) b)
+      each-told [] a b there before = before
+      each-told (h ∷ hs) a b there before =
+          each-told hs (on_entity system command change h a)
+          (on_birth system command change_alone (name h) b)
+          (All-tail (IsThere start) h hs there)
+          (entity-told h a b (All-head (IsThere start) h hs there) before)
+
+    -- a command
+    command-told : (c : Command) (d : BirthCommand) (a : Applied) (b : AppliedAlone)
+        → IsNamedBy name start c d → AreAppliedTold a b
+        → AreAppliedTold (after_command system command c a)
+        (after_birth_command system command d b)
+    command-told (Spawn h items) d a b is before =
+        subst (λ d. AreAppliedTold (after_command system command (Spawn h items) a)
+        (after_birth_command system command d b)) (sym is.1)
+        (entity-told (after_insert items) (inserted items) (insert-told items) h a b is.0 before)
+    command-told (SpawnMany hs items) d a b is before =
+        subst (λ d. AreAppliedTold (after_command system command (SpawnMany hs items) a)
+        (after_birth_command system command d b)) (sym is.1)
+        (each-told (after_insert items) (inserted items) (insert-told items) hs a b is.0 before)
+    command-told (Insert h items) d a b is before =
+        subst (λ d. AreAppliedTold (after_command system command (Insert h items) a)
+        (after_birth_command system command d b)) (sym is.1)
+        (entity-told (after_insert items) (inserted items) (insert-told items) h a b is.0 before)
+    command-told (Remove h id) d a b is before =
+        subst (λ d. AreAppliedTold (after_command system command (Remove h id) a)
+        (after_birth_command system command d b)) (sym is.1)
+        (entity-told (after_remove id) (removed id) (remove-told id) h a b is.0 before)
+    command-told (Despawn h) d a b is before =
+        subst (λ d. AreAppliedTold (after_command system command (Despawn h) a)
+        (after_birth_command system command d b)) (sym is.1)
+        (entity-told after_despawn despawned gone-told h a b is.0 before)
+    command-told (Refused wanted why) d a b is before = absurd is
+
+  -- the commands of a queue
+  commands-told : (system command : ℕ) (q : List Command) (r : List BirthCommand) (a : Applied)
+      (b : AppliedAlone) → AllZip (IsNamedBy name start) q r → AreAppliedTold a b
+      → AreAppliedTold (after_commands system command q a)
+      (after_birth_commands system command r b)
+  commands-told system command [] [] a b are before = before
+  commands-told system command [] (d ∷ r) a b are before = absurd are
+  commands-told system command (c ∷ q) [] a b are before = absurd are
+  commands-told system command (c ∷ q) (d ∷ r) a b are before =
+      commands-told system (command + 1) q r (after_command system command c a)
+      (after_birth_command system command d b) are.1
+      (command-told system command c d a b are.0 before)
+
+  -- one queue after the other
+  queues-told : (system : ℕ) (queues : List (List Command)) (births : List (List BirthCommand))
+      (a : Applied) (b : AppliedAlone) → AreNamedBy name start queues births → AreAppliedTold a b
+      → AreAppliedTold (after_queues system queues a) (after_birth_queues system births b)
+  queues-told system [] [] a b are before = before
+  queues-told system [] (r ∷ births) a b are before = absurd are
+  queues-told system (q ∷ queues) [] a b are before = absurd are
+  queues-told system (q ∷ queues) (r ∷ births) a b are before =
+      queues-told (system + 1) queues births (after_commands system 0 q a)
+      (after_birth_commands system 0 r b) are.1
+      (commands-told system 0 q r a b are.0 before)
+
+-- ---- from what is named, and back
+
+-- the entity with this birth
+pub entity_with : (m : EntityMap) (h : Handle) (birth : Birth) → birth_of m h ≡ Some birth
+    → (e : Entity) × ((finite.get m h ≡ Some e) × (e.birth ≡ birth))
+entity_with m h birth is = by (finite.get m h) refl
+  where
+    by : (o : Option Entity) → finite.get m h ≡ o
+        → (e : Entity) × ((finite.get m h ≡ Some e) × (e.birth ≡ birth))
+    by None none = absurd
+        (none-some birth (sym (ap (λ o. option_map (λ e. e.birth) o) none) ∙ is))
+    by (Some e) there = (
+      e,
+      (
+        there,
+        same_Some e.birth birth
+            (sym (ap (λ o. option_map (λ e. e.birth) o) there) ∙ is),
+      ),
+    )
+
+-- an entity that is there, by its name
+pub birth_by_name : (name : Handle → Birth) (m : EntityMap) (h : Handle) → AreNames name m
+    → IsThere m h → birth_of m h ≡ Some (name h)
+birth_by_name name m h names there =
+    let found = entity_there m h there in
+    ap (λ o. option_map (λ e. e.birth) o) found.1 ∙ ap Some (sym (names h found.0 found.1))
+
+-- the names of entities with births of their own are distinct
+pub names_apart : (name : Handle → Birth) (m : EntityMap) (births : BirthMap) → AreNamed m births
+    → AreNames name m → AreDistinct name m
+names_apart name m births named names g h g_there h_there same =
+    named.apart g h (name h)
+    (birth_by_name name m g names g_there ∙ ap Some same)
+    (birth_by_name name m h names h_there)
+
+told_at_start : (name : Handle → Birth) (m : EntityMap) (births : BirthMap) → AreNamed m births
+    → AreNames name m → AreTold m name m births
+told_at_start name m births named names = record {
+  rising = named.rising;
+  lived = λ h there. there;
+  named = names;
+  there = λ h here.
+      let found = entity_there m h here in
+      ap (λ b. find birth_cmp b births) (names h found.0 found.1)
+      ∙ named.there h found.0 found.1
+      ∙ sym (ap told found.1);
+  only = λ birth some. by birth (find birth_cmp birth births) refl some;
+}
+  where
+    by : (birth : Birth) (o : Option Bundle) → find birth_cmp birth births ≡ o
+        → is_some (find birth_cmp birth births) ≡ true
+        → (h : Handle) × (IsThere m h × (name h ≡ birth))
+    by birth None none some = absurd (true≢false (sym some ∙ ap is_some none))
+    by birth (Some items) is some =
+        let owner = named.only birth items is in
+        let found = entity_with m owner.0 birth owner.1 in
+        (owner.0, (ap is_some found.1.0, names owner.0 found.0 found.1.0 ∙ found.1.1))
+
+named_at_end : (start : EntityMap) (name : Handle → Birth) (m : EntityMap) (births : BirthMap)
+    → AreDistinct name start → AreTold start name m births → AreNamed m births
+named_at_end start name m births distinct after = record {
+  rising = after.rising;
+  there = λ h e is.
+      ap (λ b. find birth_cmp b births) (sym (after.named h e is))
+      ∙ after.there h (after.lived h (ap is_some is))
+      ∙ ap told is;
+  apart = λ g h birth g_is h_is.
+      let one = entity_with m g birth g_is in
+      let other = entity_with m h birth h_is in
+      distinct g h (after.lived g (ap is_some one.1.0)) (after.lived h (ap is_some other.1.0))
+      (after.named g one.0 one.1.0 ∙ one.1.1
+      ∙ sym (after.named h other.0 other.1.0 ∙ other.1.1));
+  only = λ birth items is.
+      let owner = after.only birth (ap is_some is) in
+      let there : told (finite.get m owner.0) ≡ Some items =
+      sym (after.there owner.0 owner.1.0)
+      ∙ ap (λ b. find birth_cmp b births) owner.1.1 ∙ is in
+      let here : IsThere m owner.0 =
+      sym (told_some (finite.get m owner.0)) ∙ ap is_some there in
+      (owner.0, birth_by_name name m owner.0 after.named here ∙ ap Some owner.1.1);
+}
+
+-- ---- the law
+
+-- Births that are those of a world tell what queues do to it: the same entities under the same
+-- births, and the same faults.
+pub queues-named : (name : Handle → Birth) (system : ℕ) (queues : List (List Command))
+    (births : List (List BirthCommand)) (a : Applied) (b : AppliedAlone)
+    → AreNamedAfter name a b → AreNamedBy name a.world.entities queues births
+    → AreNamedAfter name (after_queues system queues a) (after_birth_queues system births b)
+queues-named name system queues births a b before are =
+    let start : EntityMap = a.world.entities in
+    let distinct = names_apart name start b.entities before.entities before.names in
+    let after = queues-told start name distinct system queues births a b are
+    (record {
+      told = told_at_start name start b.entities before.entities before.names;
+      faults = before.faults;
+    }) in
+    record {
+      entities = named_at_end start name (after_queues system queues a).world.entities
+          (after_birth_queues system births b).entities distinct after.told;
+      names = after.told.named;
+      faults = after.faults;
+    }
+
+-- the same of a sync, from its births on
+pub sync-named : (name : Handle → Birth) (queues : List (List Command))
+    (births : List (List BirthCommand)) (w : World) (m : BirthMap)
+    → AreNamed (after_births queues w).entities m → AreNames name (after_births queues w).entities
+    → AreNamedBy name (after_births queues w).entities queues births
+    → AreNamedAfter name (sync queues w)
+    (after_birth_queues 0 births (record { entities = m; faults = [] }))
+sync-named name queues births w m named names are =
+    queues-named name 0 queues births (applied (after_births queues w) [])
+    (record { entities = m; faults = [] })
+    (record { entities = named; names = names; faults = tt }) are
+
+-- so there are as many of the faults
+pub faults_as_many : (name : Handle → Birth) (a : Applied) (b : AppliedAlone)
+    → AreNamedAfter name a b → length a.faults ≡ length b.faults
+faults_as_many name a b named = length_all_zip_two a.faults b.faults named.faults
+  where
+    length_all_zip_two : (xs : List Fault) (ys : List BirthFault) → AllZip IsSameFault xs ys
+        → length xs ≡ length ys
+    length_all_zip_two [] [] zipped = refl
+    length_all_zip_two [] (y ∷ ys) zipped = absurd zipped
+    length_all_zip_two (x ∷ xs) [] zipped = absurd zipped
+    length_all_zip_two (x ∷ xs) (y ∷ ys) zipped = ap suc (length_all_zip_two xs ys zipped.1)

@@ -1,0 +1,183 @@
+-- The handles that no queue lists: each gets the birth of its ordinal among them.
+use Rattle.std.proofs.Common.{◌≡◌, refl, sym, ap, ◌∙◌, ℕ, ◌+◌, Bool, true, false, cond, eqb}
+use Rattle.std.proofs.Common.{◌||◌, true≢false, List, [], ◌∷◌, filter, All, AllPairs}
+use Rattle.std.proofs.Common.{Option, Some, None}
+use Rattle.std.specs.Ordering.{eq_by_cmp}
+use Rattle.std.specs.Option.{option_map, option_map_or}
+use Rattle.std.specs.List.{position_from}
+use Rattle.std.specs.FinMap as map
+use Rattle.std.proofs.lemmas.List.Elements.{All-contains}
+use Rattle.ent_handle.specs.declared.birth.Birth.{Birth}
+use Rattle.ent_handle.specs.Handle.{Handle, handle_cmp}
+use Rattle.ent_alloc.specs.Sequential.{stands_in}
+use Rattle.ent_alloc.specs.Sound.{AreApart}
+use Rattle.ent_alloc.proofs.HandleSets.{same_handle, itself, Contains-from_stands_in}
+use Rattle.ent_alloc.proofs.ListLaws.{AllPairs-head, AllPairs-tail}
+use Rattle.ent_alloc.proofs.Replies.{not_apart}
+use Rattle.ent_storage.specs.EntityMap.{Entity, EntityMap, with_birth}
+use Rattle.ent_world.specs.Sync.{no_system}
+use Rattle.ent_world.specs.Entering.{next_birth, is_unnamed, numbered}
+use Rattle.ent_world.proofs.BirthsByQueues.{birth_at, next-birth_at, get-with_birth, birth_by_index}
+use Rattle.ent_world.proofs.BirthsByQueues.{reborn}
+
+-- each stands there once
+abbrev pub AreDistinct : List Handle → Type 0
+AreDistinct [] = Unit {0}
+AreDistinct (h ∷ hs) = (stands_in hs h ≡ false) × AreDistinct hs
+
+no_other : (h : Handle) (hs : List Handle) → All (AreApart h) hs → stands_in hs h ≡ false
+no_other h hs apart = by_test (stands_in hs h) refl
+  where
+    by_test : (b : Bool) → stands_in hs h ≡ b → b ≡ false
+    by_test false _ = refl
+    by_test true there =
+        absurd (not_apart h (All-contains (AreApart h) hs h apart
+        (Contains-from_stands_in hs h there)))
+
+pub distinct : (hs : List Handle) → AllPairs AreApart hs → AreDistinct hs
+distinct [] apart = tt
+distinct (h ∷ hs) apart = (
+  no_other h hs (AllPairs-head AreApart h hs apart),
+  distinct hs
+      (AllPairs-tail AreApart h hs apart),
+)
+
+-- two tests that agree at each of the handles keep the same
+pub filter_alike : (p q : Handle → Bool) (hs : List Handle) → ((h : Handle) → stands_in hs h ≡ true
+    → p h ≡ q h) → filter p hs ≡ filter q hs
+filter_alike p q [] alike = refl
+filter_alike p q (h ∷ hs) alike =
+    let first : p h ≡ q h = alike h (ap (λ b. b || stands_in hs h) (itself h)) in
+    let rest = filter_alike p q hs
+    (λ g there. alike g (later (eq_by_cmp handle_cmp g h) (stands_in hs g) there)) in
+    λ i. cond (first i) (h ∷ rest i) (rest i)
+  where
+    later : (a b : Bool) → b ≡ true → (a || b) ≡ true
+    later true b _ = refl
+    later false b there = there
+
+-- neither of the two
+neither : (a b : Bool) → (a || b) ≡ false → (a ≡ false) × (b ≡ false)
+neither true b none = absurd (true≢false none)
+neither false b none = (refl, none)
+
+-- who doesn't stand there is not kept
+not_kept : (p : Handle → Bool) (q : Handle) (hs : List Handle) → stands_in hs q ≡ false
+    → stands_in (filter p hs) q ≡ false
+not_kept p q [] none = refl
+not_kept p q (h ∷ hs) none =
+    let both = neither (eq_by_cmp handle_cmp q h) (stands_in hs q) none in
+    elim (p h) as (λ b. stands_in (cond b (h ∷ filter p hs) (filter p hs)) q ≡ false) [
+      | true ↦ ap (λ b. b || stands_in (filter p hs) q) both.0 ∙ not_kept p q hs both.1
+      | false ↦ not_kept p q hs both.1
+    ]
+
+-- the index of what stands there, and none of what doesn't
+pub some_index : (q : Handle) (index : ℕ) (hs : List Handle) → stands_in hs q ≡ true → (k : ℕ)
+    × (position_from (eq_by_cmp handle_cmp q) index hs ≡ Some k)
+some_index q index [] none = absurd (true≢false (sym none))
+some_index q index (h ∷ hs) there =
+    elim (eq_by_cmp handle_cmp q h) as (λ b. (b || stands_in hs q) ≡ true → (k : ℕ)
+    × (cond b (Some index) (position_from (eq_by_cmp handle_cmp q) (index + 1) hs) ≡ Some k)) [
+      | true ↦ λ _. (index, refl)
+      | false ↦ λ others. some_index q (index + 1) hs others
+    ] there
+
+pub no_index : (q : Handle) (index : ℕ) (hs : List Handle) → stands_in hs q ≡ false
+    → position_from (eq_by_cmp handle_cmp q) index hs ≡ None
+no_index q index [] none = refl
+no_index q index (h ∷ hs) none =
+    elim (eq_by_cmp handle_cmp q h) as (λ b. (b || stands_in hs q) ≡ false
+    → cond b (Some index) (position_from (eq_by_cmp handle_cmp q) (index + 1) hs) ≡ None) [
+      | true ↦ λ t. absurd (true≢false t)
+      | false ↦ λ others. no_index q (index + 1) hs others
+    ] none
+
+-- The handles that no queue lists.
+
+-- what a map has after the others were numbered
+abbrev pub or_numbered : Option Entity → Option Birth → Option Entity
+or_numbered None b = None
+or_numbered (Some e) None = Some e
+or_numbered (Some e) (Some b) = Some (record e { birth = b })
+
+pub or_numbered-none : (o : Option Entity) → or_numbered o None ≡ o
+or_numbered-none None = refl
+or_numbered-none (Some e) = refl
+
+-- those that have no birth of a system
+abbrev pub waiting : EntityMap → List Handle → List Handle
+waiting m hs = filter (is_unnamed m) hs
+
+apart_in : (h g : Handle) (hs : List Handle) → stands_in hs h ≡ false → stands_in hs g ≡ true
+    → eq_by_cmp handle_cmp g h ≡ false
+apart_in h g hs none there = by_test (eq_by_cmp handle_cmp g h) refl
+  where
+    by_test : (b : Bool) → eq_by_cmp handle_cmp g h ≡ b → b ≡ false
+    by_test false _ = refl
+    by_test true tied = absurd (true≢false (sym there ∙ ap (stands_in hs) (same_handle g h tied)
+        ∙ none))
+
+-- one more birth changes nothing of the others
+waiting-others : (h : Handle) (birth : Birth) (hs : List Handle) (m : EntityMap) → stands_in hs h
+    ≡ false → waiting (with_birth m h birth) hs ≡ waiting m hs
+waiting-others h birth hs m none =
+    filter_alike (is_unnamed (with_birth m h birth)) (is_unnamed m) hs (λ g there.
+    ap (λ (o : Option Entity). option_map_or (λ e. eqb e.birth.system no_system) o false) (
+    get-with_birth m h birth g
+    ∙ ap (λ b. cond b (option_map (reborn birth) (map.get m g)) (map.get m g))
+    (apart_in h g hs none there)))
+
+module _ (phase : ℕ) where
+  numbered_new : (index : ℕ) (o : Option Entity) (later : Option ℕ) (b : Bool)
+      → (b ≡ true → later ≡ None)
+      → or_numbered (cond b (option_map (reborn (birth_at phase no_system index))
+      o) o) (birth_by_index phase no_system later)
+      ≡ or_numbered o (birth_by_index phase no_system (cond b (Some index) later))
+  numbered_new index o later true once =
+      ap (λ l. or_numbered (option_map (reborn (birth_at phase no_system index)) o)
+      (birth_by_index phase no_system l)) (once refl)
+      ∙ settled o
+    where
+      settled : (o : Option Entity)
+          → or_numbered (option_map (reborn (birth_at phase no_system index)) o)
+          None ≡ or_numbered o (Some (birth_at phase no_system index))
+      settled None = refl
+      settled (Some e) = refl
+  numbered_new index o later false once = refl
+
+  -- the next one has this index
+  pub get-numbered : (index : ℕ) (hs : List Handle) (m : EntityMap) (q : Handle) → AreDistinct hs
+      → map.get (numbered (birth_at phase no_system index) hs m) q
+      ≡ or_numbered (map.get m q)
+      (birth_by_index phase no_system (position_from (eq_by_cmp handle_cmp q) index (waiting m hs)))
+  get-numbered index [] m q apart = sym (or_numbered-none (map.get m q))
+  get-numbered index (h ∷ hs) m q apart =
+      elim (is_unnamed m h) as
+      (λ b. map.get (cond b (numbered (next_birth (birth_at phase no_system index)) hs n)
+      (numbered (birth_at phase no_system index) hs m)) q
+      ≡ or_numbered (map.get m q)
+      (birth_by_index phase no_system (position_from (eq_by_cmp handle_cmp q) index
+      (cond b (h ∷ waiting m hs) (waiting m hs))))) [
+        | true ↦
+            ap (λ b. map.get (numbered b hs n) q) (next-birth_at phase no_system index)
+            ∙ get-numbered (index + 1) hs n q apart.1
+            ∙ ap (λ rest. or_numbered (map.get n q)
+            (birth_by_index phase no_system (position_from (eq_by_cmp handle_cmp q) (index + 1)
+            rest))) (waiting-others h (birth_at phase no_system index) hs m apart.0)
+            ∙ ap (λ o. or_numbered o
+            (birth_by_index phase no_system (position_from (eq_by_cmp handle_cmp q) (index + 1)
+            (waiting m hs)))) (get-with_birth m h (birth_at phase no_system index) q)
+            ∙ numbered_new index (map.get m q)
+            (position_from (eq_by_cmp handle_cmp q) (index + 1) (waiting m hs))
+            (eq_by_cmp handle_cmp q h) once
+        | false ↦ get-numbered index hs m q apart.1
+      ]
+    where
+      n : EntityMap
+      n = with_birth m h (birth_at phase no_system index)
+
+      once : eq_by_cmp handle_cmp q h ≡ true
+          → position_from (eq_by_cmp handle_cmp q) (index + 1) (waiting m hs) ≡ None
+      once tied = no_index q (index + 1) (waiting m hs)
+          (not_kept (is_unnamed m) q hs (ap (stands_in hs) (same_handle q h tied) ∙ apart.0))

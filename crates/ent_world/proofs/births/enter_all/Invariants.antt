@@ -1,0 +1,15 @@
+use Rattle.std.proofs.Common.{◌≡◌, ◌≤◌, ◌++◌, drop, length}
+use Rattle.ent_world.specs.Sync.{no_system, with_born}
+use Rattle.ent_world.specs.Entering.{AreNew, first_birth}
+use Rattle.ent_world.proofs.births.enter_all.Given as goal
+
+-- what is left to enter gives the whole
+abbrev pub invariant-loop-handle : goal.invariant-loop-handle
+invariant-loop-handle l = record {
+  new : AreNew (drop l.handle-index l.handles) l.storage.entities;
+  room : length (drop l.handle-index l.handles) ≤ l.storage.spare;
+  entered : with_born l.storage.entities (λ _. first_birth l.fn.phase no_system)
+      (drop l.handle-index l.handles)
+      ≡ with_born l.fn.storage.entities (λ _. first_birth l.fn.phase no_system) l.handles;
+  places : l.storage.places ++ drop l.handle-index l.handles ≡ l.fn.storage.places ++ l.handles;
+}

@@ -1,0 +1,376 @@
+#!/usr/bin/env python3
+"""Measures for docs/PERFORMANCE.md and draws its chart. It needs nothing but Python, and runs from any folder.
+
+    docs/performance.py measure [PART..]   runs the scripts that the page names (or those with a PART in their names), puts
+                                           their tables into the page, and draws the chart
+    docs/performance.py draw               draws docs/performance.svg of the tables in the page
+    docs/performance.py check              ends with status 1 if the chart is another one, or a table is missing
+
+The figures stand in the page alone. Above each table stands a line that says what prints it:
+
+    <!-- measured by COMMAND -->
+
+The command prints one table or several. A table of the page is the printed one with the same head. The lines after
+`<!-- measured on -->` say when and on what machine all of them were measured. `measure` needs what the scripts need: `rt`, `rustc` and
+`valgrind` on the path, and the two peers that docs/PERFORMANCE.md names. A script builds what it measures, which takes a minute more
+where the crate has not been built.
+"""
+
+import datetime
+import math
+import os
+import pathlib
+import re
+import subprocess
+import sys
+import time
+from html import escape
+
+TOP = pathlib.Path(__file__).resolve().parent.parent
+PAGE = TOP / "docs/PERFORMANCE.md"
+CHART = TOP / "docs/performance.svg"
+MARK = re.compile(r"<!-- measured by (.*) -->$")
+MACHINE = "<!-- measured on -->"
+
+
+# The tables of the page.
+
+
+def tables_of(lines):
+    """Each run of table lines among these: where it begins and ends."""
+    begin = None
+    for at, line in enumerate([*lines, ""]):
+        if line.startswith("|"):
+            begin = at if begin is None else begin
+        elif begin is not None:
+            yield begin, at
+            begin = None
+
+
+def measured_tables(lines):
+    """Each table that a command prints: the command, and where the table begins and ends."""
+    for begin, end in tables_of(lines):
+        mark = MARK.match(lines[begin - 1])
+        if mark:
+            yield mark.group(1), begin, end
+
+
+def cells_of(line):
+    """The cells of a line of a table. Numbers have no commas."""
+    return [re.sub(r"(?<=\d),(?=\d)", "", it.strip()) for it in line.strip().removeprefix("|").removesuffix("|").split("|")]
+
+
+def with_commas(line):
+    """A line of a table, with commas in whole numbers."""
+    return re.sub(r"(?<=\| )\d{4,}(?= \|)", lambda it: f"{int(it.group()):,}", line)
+
+
+class Table:
+    """A table whose rows are found by their first cells."""
+
+    def __init__(self, lines):
+        self.head = cells_of(lines[0])
+        self.rows = [cells_of(it) for it in lines[2:]]
+
+    def number(self, key, column):
+        """The number in that column of the row that begins with these cells, or None."""
+        for row in self.rows:
+            if row[: len(key)] == [str(it) for it in key] and column in self.head:
+                found = re.match(r"[0-9.]+", row[self.head.index(column)])
+                return float(found.group()) if found else None
+        return None
+
+    def ratio(self, key, ours, other_key, theirs):
+        """The one number beside the other, if both are above 0."""
+        a, b = self.number(key, ours), self.number(other_key, theirs)
+        return a / b if a and b else None
+
+
+def tables_by_head(lines):
+    return {lines[begin]: Table(lines[begin:end]) for _, begin, end in measured_tables(lines)}
+
+
+def table_with(tables, *columns):
+    """The table whose head begins with these columns."""
+    for table in tables.values():
+        if table.head[: len(columns)] == list(columns):
+            return table
+    return Table(["| |", "|---|"])
+
+
+# What the chart shows: groups of rows, each a label and up to three ratios of times, ours beside the peer's.
+
+SIZES = [1_000, 100_000, 1_000_000]
+COUNTS = [1, 2, 4]
+
+
+def of_sides(table, ours, theirs, calls, order):
+    """Rows of a table that has a line for each side, order and size."""
+    for label, column in calls:
+        ratios = [table.ratio([ours, order, n], column, [theirs, order, n], column) for n in SIZES]
+        yield label + (", scattered" if order == "scattered" else ""), ratios
+
+
+def groups_of(tables):
+    whole = table_with(tables, "Side", "Order", "Entities")
+    storage = table_with(tables, "Storage", "Order", "Entities")
+    alloc = table_with(tables, "Work", "Handles")
+    shared = table_with(tables, "Threads", "Request")
+    lives = table_with(tables, "Handles of a thread", "Threads")
+    queue = table_with(tables, "Spawns", "Queue")
+    mixed = table_with(tables, "Entities before")
+    kinds = table_with(tables, "Command", "Order", "Entities before")
+    frames = table_with(tables, "The long system", "Workers")
+    empty = table_with(tables, "Systems", "Workers")
+
+    def whole_rows(theirs):
+        ours = "`ent_alloc`, `ent_storage`"
+        every = ("spawn, read and despawn", "all three")
+        yield from of_sides(whole, ours, theirs, [every], "rising")
+        yield from of_sides(whole, ours, theirs, [every], "scattered")
+        yield from of_sides(whole, ours, theirs, [("read by handle", "read")], "rising")
+        yield from of_sides(whole, ours, theirs, [("read by handle", "read")], "scattered")
+        calls = [("spawn, from nothing", "spawn"), ("despawn", "despawn")]
+        yield from of_sides(whole, ours, theirs, calls, "rising")
+
+    def verified(table, rows, key_of):
+        for label, keys in rows:
+            yield label, [table.number(key_of(it), "Ratio") for it in keys]
+
+    calls = [("get", "`get`"), ("insert", "`insert`"), ("birth in a slot that was left", "again"), ("despawn", "`despawn`")]
+    slotmap = next((it[0] for it in whole.rows if it[0].startswith("slotmap")), "slotmap")
+    works = [(it.replace("`", ""), it) for it in dict.fromkeys(row[0] for row in alloc.rows)]
+    yield f"A whole entity: allocator and storage, beside {slotmap} with a secondary map", whole_rows(slotmap)
+    yield "The same, beside an allocator of Bevy's form with sparse sets", list(whole_rows("Bevy's form, sparse sets"))[:4]
+    yield "Calls of the storage, beside plain sparse sets", [
+        row for order in ("rising", "scattered") for row in of_sides(storage, "`ent_storage`", "sparse sets", calls, order)
+    ]
+    yield "The allocator of one caller, beside Bevy's form", [
+        (label, [alloc.number([name, n], "Ratio") for n in SIZES]) for label, name in works
+    ]
+    yield "Reservations by threads, beside bare atomic subtractions", [
+        (label, [shared.number([n, request], "Ratio") for n in COUNTS])
+        for label, request in (("a reservation of one handle", 1), ("a reservation of 64 handles", 64))
+    ]
+    yield "1,000,000 handles by each thread, until they live, beside sharded-slab", [
+        (label, [lives.number([1_000_000, n], column) for n in COUNTS])
+        for label, column in (("reserved singly", "Ratio, singly"), ("reserved in bulks of 64", "Ratio, in bulks"))
+    ]
+    yield "A queue of commands", [
+        (f"{call}, beside {peer}", [queue.ratio([n, "verified"], column, [n, name], column) for n in SIZES])
+        for peer, name in (("a vector", "plain, a vector of commands"), ("packed bytes", "plain, packed bytes"))
+        for call, column in (("a spawn", "ns a spawn"), ("a read", "ns a read"))
+    ]
+    yield "The sync point, beside a world in plain Rust", [
+        ("all kinds of commands, scattered", [mixed.number([n], "Ratio") for n in SIZES]),
+        *(
+            (f"{kind}, {order}", [kinds.number([kind, order, n], "Ratio") for n in SIZES])
+            for kind in ("spawn", "insert", "remove", "despawn")
+            for order in ("rising", "scattered")
+        ),
+    ]
+    yield "Frames, beside threads in plain Rust", [
+        (label, [table.ratio([name, n], "Verified", [name, n], "Plain") for n in COUNTS])
+        for label, table, name in (
+            ("64 systems, a long one first", frames, "the first of 64"),
+            ("64 systems, a long one last", frames, "the last of 64"),
+            ("64 systems that do nothing", empty, "64"),
+        )
+    ]
+
+
+# The picture. Each dot stands at a ratio of times; left of the middle line we are the faster side.
+
+TITLE = "Time of each call, ours beside a peer's"
+WIDTH, LEFT, RIGHT, ROW, HEAD = 940, 290, 760, 19, 30
+LEAST, MOST = -5, 4
+DOTS = [("few", 3.5), ("some", 5), ("many", 6.5)]
+
+STYLE = """
+    .paper { fill: #ffffff } .faster { fill: #e9f6ec } .slower { fill: #fdf3ec }
+    text { font: 12px system-ui, -apple-system, "Segoe UI", Helvetica, Arial, sans-serif; fill: #1f2328 }
+    .title { font-size: 16px; font-weight: 600 } .group { font-weight: 600 } .quiet { fill: #59636e }
+    .figure { text-anchor: end; font-variant-numeric: tabular-nums } .middle { text-anchor: middle }
+    .grid { stroke: #d1d9e0 } .even { stroke: #59636e; stroke-width: 1.5 } .span { stroke: #818b98; stroke-width: 1.5 }
+    circle, path { stroke: #ffffff; stroke-width: 1 } .few { fill: #79b0f2 } .some { fill: #2f6fd0 } .many { fill: #143a7b }
+    @media (prefers-color-scheme: dark) {
+        .paper { fill: #0d1117 } .faster { fill: #0f2117 } .slower { fill: #241a12 } text { fill: #e6edf3 } .quiet { fill: #9198a1 }
+        .grid { stroke: #30363d } .even { stroke: #9198a1 } .span { stroke: #6e7681 }
+        circle, path { stroke: #0d1117 } .few { fill: #3f6fb5 } .some { fill: #77aef5 } .many { fill: #dbe9ff }
+    }"""
+
+
+def place_of(ratio):
+    """Where a ratio stands, in the picture's width."""
+    part = (min(max(math.log2(ratio), LEAST), MOST) - LEAST) / (MOST - LEAST)
+    return round(LEFT + part * (RIGHT - LEFT), 1)
+
+
+def text(x, y, words, kind):
+    return f'<text class="{kind}" x="{x}" y="{y}">{escape(words, quote=False)}</text>'
+
+
+def line(kind, x1, y1, x2, y2):
+    return f'<line class="{kind}" x1="{x1}" y1="{y1}" x2="{x2}" y2="{y2}"/>'
+
+
+def dot(kind, size, ratio, y):
+    """A dot, or an arrow at the edge if it lies past it."""
+    x, power = place_of(ratio), math.log2(ratio)
+    if LEAST <= power <= MOST:
+        return f'<circle class="{kind}" cx="{x}" cy="{y}" r="{size}"/>'
+    tip = size * (1 if power > MOST else -1)
+    return f'<path class="{kind}" d="M{x - tip} {y - size}L{x + tip} {y}L{x - tip} {y + size}Z"/>'
+
+
+def row_of(label, ratios, y):
+    known = [it for it in ratios if it]
+    yield text(16, y + 4, label, "")
+    if len(known) > 1:
+        yield line("span", place_of(min(known)), y, place_of(max(known)), y)
+    for (kind, size), ratio in reversed([*zip(DOTS, ratios)]):
+        if ratio:
+            yield dot(kind, size, ratio, y)
+    for column, ratio in enumerate(ratios):
+        if ratio:
+            yield text(RIGHT + 70 + 48 * column, y + 4, f"{ratio:.2f}", "figure")
+
+
+def drawn(lines):
+    """The chart of the tables among these lines."""
+    groups = [(name, [*rows]) for name, rows in groups_of(tables_by_head(lines))]
+    groups = [(name, [it for it in rows if any(it[1])]) for name, rows in groups]
+    groups = [it for it in groups if it[1]]
+    top = 96
+    height = top + sum(HEAD + ROW * len(rows) for _, rows in groups) + 34
+    bottom = height - 26
+
+    marks = [
+        f'<rect class="paper" width="{WIDTH}" height="{height}"/>',
+        f'<rect class="faster" x="{LEFT}" y="{top}" width="{place_of(1) - LEFT}" height="{bottom - top}"/>',
+        f'<rect class="slower" x="{place_of(1)}" y="{top}" width="{RIGHT - place_of(1)}" height="{bottom - top}"/>',
+        text(16, 28, TITLE, "title"),
+    ]
+    for power in range(LEAST, MOST + 1):
+        x = place_of(2.0**power)
+        marks.append(line("even" if power == 0 else "grid", x, top, x, bottom))
+        name = "the same" if power == 0 else f"{2**power}×" if power > 0 else f"1/{2**-power}"
+        marks += [text(x, top - 8, name, "quiet middle"), text(x, bottom + 16, name, "quiet middle")]
+    x = 16
+    for (kind, size), words in zip(DOTS, ("1,000 entities, or one thread", "100,000, or two", "1,000,000, or four")):
+        marks += [f'<circle class="{kind}" cx="{x + 6}" cy="48" r="{size}"/>', text(x + 18, 52, words, "quiet")]
+        x += 40 + 6.2 * len(words)
+    marks += [
+        text(place_of(2.0**-2), top - 26, "◂ we take less time", "quiet middle"),
+        text(place_of(2.0**2), top - 26, "we take more time ▸", "quiet middle"),
+    ]
+    marks.append(text(RIGHT + 106, top - 26, "our time ÷ the peer's", "quiet middle"))
+    for column, (kind, size) in enumerate(DOTS):
+        marks.append(f'<circle class="{kind}" cx="{RIGHT + 58 + 48 * column}" cy="{top - 12}" r="{size}"/>')
+    y = top
+    for name, rows in groups:
+        marks += [f'<rect class="paper" x="{LEFT}" y="{y}" width="{RIGHT - LEFT}" height="{HEAD - 8}"/>', text(16, y + 18, name, "group")]
+        y += HEAD
+        for label, ratios in rows:
+            marks += row_of(label, ratios, y + 3)
+            y += ROW
+    body = "\n".join(marks)
+    size = f'width="{WIDTH}" height="{height}" viewBox="0 0 {WIDTH} {height}"'
+    head = f'<svg xmlns="http://www.w3.org/2000/svg" {size} role="img">\n<title>{TITLE}</title>'
+    return f"{head}\n<style>{STYLE}\n</style>\n{body}\n</svg>\n"
+
+
+# Measuring.
+
+
+def idle():
+    """The part of a second in which the processors have nothing to do."""
+
+    def read():
+        with open("/proc/stat") as file:
+            ticks = [int(it) for it in file.readline().split()[1:9]]
+        return ticks[3] + ticks[4], sum(ticks)
+
+    free, all_ticks = read()
+    time.sleep(1)
+    free_then, all_then = read()
+    return (free_then - free) / max(all_then - all_ticks, 1)
+
+
+def machine():
+    """The machine, and the day."""
+    found = re.search(r"model name\s*: (.*)", pathlib.Path("/proc/cpuinfo").read_text())
+    model = re.sub(r"\((R|TM)\)", "", found.group(1)) if found else "an unknown processor"
+    rust = subprocess.run(["rustc", "--version"], text=True, capture_output=True).stdout.split()[1]
+    return f"On {datetime.date.today()}, with {os.cpu_count()} processors ({' '.join(model.split())}), Rust {rust}"
+
+
+def with_tables(lines, command, printed):
+    """These lines, with the tables that the command has printed in place of those of before."""
+    new = [printed[begin:end] for begin, end in tables_of(printed)]
+    for its, begin, end in reversed([*measured_tables(lines)]):
+        if its == command:
+            same = [it for it in new if it[0] == lines[begin]]
+            if not same:
+                sys.exit(f"{command} has printed no table with the head {lines[begin]}")
+            lines = [*lines[:begin], *map(with_commas, same[0]), *lines[end:]]
+            new.remove(same[0])
+    for table in new:
+        print(f"  the page has no table with the head {table[0]}")
+    return lines
+
+
+def measure(parts):
+    lines = PAGE.read_text().splitlines()
+    every = dict.fromkeys(command for command, _, _ in measured_tables(lines))
+    commands = [it for it in every if not parts or any(part in it for part in parts)]
+    least = 1.0
+    for command in commands:
+        least = min(least, idle())
+        began = time.monotonic()
+        ran = subprocess.run(command, shell=True, cwd=TOP, text=True, stdout=subprocess.PIPE)
+        if ran.returncode:
+            sys.exit(f"{command} ended with status {ran.returncode}:\n{ran.stdout[-2000:]}")
+        print(f"{command}: {time.monotonic() - began:.0f} s", flush=True)
+        lines = with_tables(lines, command, ran.stdout.splitlines())
+        PAGE.write_text("\n".join(lines) + "\n")
+    if not parts:
+        begin = lines.index(MACHINE) + 1
+        end = lines.index("", begin)
+        free = f"Before each script the processors had nothing to do for at least {100 * least:.0f} % of a second."
+        lines[begin:end] = [f"{machine()}.", free]
+        PAGE.write_text("\n".join(lines) + "\n")
+    CHART.write_text(drawn(lines))
+
+
+def faults_of(lines):
+    """What is wrong with the page and the chart."""
+    for at, line_of_page in enumerate(lines):
+        if MARK.match(line_of_page) and not lines[at + 1].startswith("|"):
+            yield f"docs/PERFORMANCE.md:{at + 1}: no table stands under this line"
+    for command in dict.fromkeys(command for command, _, _ in measured_tables(lines)):
+        if not (TOP / command.split()[0]).exists():
+            yield f"docs/PERFORMANCE.md: there is no {command.split()[0]}"
+    if not CHART.exists() or CHART.read_text() != drawn(lines):
+        yield "docs/performance.svg isn't what `docs/performance.py draw` draws of the page's tables"
+
+
+def main(words):
+    lines = PAGE.read_text().splitlines()
+    match words:
+        case ["measure", *parts]:
+            measure(parts)
+        case ["draw"]:
+            CHART.write_text(drawn(lines))
+        case ["check"]:
+            faults = [*faults_of(lines)]
+            print(*faults, f"performance: {len([*measured_tables(lines)])} tables, {len(faults)} faults", sep="\n")
+            return 1 if faults else 0
+        case _:
+            print(__doc__, file=sys.stderr)
+            return 2
+    return 0
+
+
+if __name__ == "__main__":
+    sys.exit(main(sys.argv[1:]))
