@@ -53,7 +53,8 @@ fn two_spawns(rt: HostRuntime) -> Result<(), Fail> {
 fn a_late_command(rt: HostRuntime) -> Result<(), Fail> {
     let alloc = rt.alloc();
     let mut world = world(alloc, &[((0, 0, 0), &[(0, 1)])])?;
-    let _ = world.despawn(handle(0, 1)?)?;
+    let freed = world.despawn(handle(0, 1)?)?;
+    assert!(rt; freed.next == Some(handle(0, 2)?));
     let late = fault(1, 0, FaultKind::NotAlive(handle(0, 1)?));
     let reports = [report(alloc, 1, &[])?, report(alloc, 0, &[late])?];
     let handles = text(alloc, &reports, &world, Show::Handles)?;

@@ -32,11 +32,12 @@ impl Game {
         Ok(handle)
     }
 
-    /// Takes an entity out. Its slot is the next to be given, under another handle.
-    fn despawn(&mut self, handle: Handle) -> Result<()> {
-        self.entities.free(handle)?;
+    /// Takes an entity out. Returns the handle under which its slot is given next, or `None` if
+    /// the slot is retired.
+    fn despawn(&mut self, handle: Handle) -> Result<Option<Handle>> {
+        let freed = self.entities.free(handle)?;
         self.storage.despawn(handle)?;
-        Ok(())
+        Ok(freed.next)
     }
 }
 
@@ -57,7 +58,9 @@ fn take_the_slot<R: Print + AllocGlobal>(rt: &R, game: &mut Game) -> Result<(Han
     let rat = game.spawn(1, &[(HEALTH, 4)])?;
     println!(rt; "spawned {knight} and {rat}")?;
 
-    game.despawn(rat)?;
+    if let Some(next) = game.despawn(rat)? {
+        println!(rt; "{rat} is gone, its slot will be {next}")?;
+    }
     let raven = game.spawn(2, &[(HEALTH, 9)])?;
     println!(rt; "the slot of {rat} went to {raven}")?;
     Ok((rat, raven))
