@@ -1,6 +1,7 @@
 pub mod Values
 pub mod NamesLaws
 pub mod Bundles
+pub mod Rising
 pub mod Faults
 pub mod Keys
 pub mod Numbering

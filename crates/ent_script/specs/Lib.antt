@@ -8,3 +8,4 @@ pub mod Ranges
 pub mod Passing
 pub mod Cut
 pub mod Streaming
+pub mod Rising

@@ -1,16 +1,18 @@
-ghost use Rattle.std.specs.Prelude.{◌≡◌, [], OnOk, OnErr};
-ghost use Rattle.std.specs.BTreeMap.{insert_entry, IsOrdered};
+ghost use Rattle.std.specs.Prelude.{◌≡◌, ◌<◌, ◌≤◌, T, [], length, OnOk, OnErr, IfOk, IfErr};
+ghost use Rattle.std.specs.BTreeMap.{insert_entry};
+ghost use Rattle.std.specs.FinMap.{is_sorted};
+ghost use Rattle.std.specs.List.{AllWithin, HoldsAt};
 ghost use Rattle.ent_handle.specs.Component.{component_cmp};
+ghost use Rattle.ent_script.specs.Rising.{AreRising, IsIndexOf, IsItemGap};
 
 use ent_handle::{ComponentId, Memory};
 use std::alloc::Global;
-use std::collections::BTreeMap;
 use std::marker::Model;
 
 /// Components and their values, by strictly rising number. Contracts see the list of them.
 #[derive(Drop)]
 pub struct Bundle {
-    values: BTreeMap<ComponentId, i64>,
+    items: Vec<(ComponentId, i64)>,
 }
 
 impl Model for Bundle {
@@ -19,12 +21,13 @@ impl Model for Bundle {
 
     ghost Value = { List (ComponentId × ℤ) };
 
-    ghost use Rattle.std.specs.BTreeMap.{IsOrdered};
+    ghost use Rattle.std.specs.Prelude.{T};
+    ghost use Rattle.std.specs.FinMap.{is_sorted};
     ghost use Rattle.ent_handle.specs.Component.{component_cmp};
 
-    ghost view = { λ b. b.values.entries };
+    ghost view = { λ b. b.items.items };
 
-    ghost invariant = { λ b. IsOrdered component_cmp b.values };
+    ghost invariant = { λ b. T (is_sorted component_cmp b.items.items) };
 }
 
 impl Bundle {
@@ -33,8 +36,17 @@ impl Bundle {
         ensures { result ≡ [] }
     {
         Bundle {
-            values: BTreeMap::new(alloc),
+            items: Vec::new(alloc),
         }
+    }
+
+    /// A bundle with no components, and room for just so many.
+    pub(crate) fn with_capacity(alloc: Global, count: usize) -> Result<Self, Memory>
+        ensures { IfOk result (λ bundle. bundle ≡ []) }
+    {
+        Ok(Bundle {
+            items: Vec::with_capacity(alloc, count)?,
+        })
     }
 
     /// Puts the component's value, instead of the one that is there.
@@ -46,15 +58,43 @@ impl Bundle {
         ensures ok { OnOk result (self.new ≡ insert_entry component_cmp self.old id value) }
         ensures err { OnErr result (self.new ≡ self.old) }
     {
-        self.values.insert(id, value)?;
+        match index_of(self.items.as_slice(), id.0) {
+            Ok(index) => self.items[index].1 = value,
+            Err(index) => self.items.insert(index, (id, value))?,
+        }
         Ok(())
     }
 
     /// The components and their values, by strictly rising number.
-    pub fn values(&self) -> &BTreeMap<ComponentId, i64>
-        ensures entries { result.now.entries ≡ self.now }
-        ensures rising { IsOrdered component_cmp result.now }
+    pub fn items(&self) -> &[(ComponentId, i64)]
+        ensures items { result.now ≡ self.now }
+        ensures rising { T (is_sorted component_cmp self.now) }
     {
-        &self.values
+        self.items.as_slice()
     }
+}
+
+/// Where the component of this number stands, or else where it goes.
+fn index_of(items: &[(ComponentId, i64)], number: u8) -> Result<usize, usize>
+    requires { AreRising items.now }
+    ensures found { IfOk result (IsIndexOf items.now number) }
+    ensures absent { IfErr result (IsItemGap items.now number) }
+{
+    let index = first_from(items, number);
+    if index < items.len() && items[index].0.0 == number {
+        Ok(index)
+    } else {
+        Err(index)
+    }
+}
+
+/// How many of the components have a lower number.
+fn first_from(items: &[(ComponentId, i64)], number: u8) -> usize
+    requires { AreRising items.now }
+    ensures within { result ≤ length items.now }
+    ensures lower { AllWithin (λ item. item.0.0 < number) items.now 0 result }
+    ensures here { result < length items.now
+        → HoldsAt (λ item. number ≤ item.0.0) items.now result }
+{
+    items.partition_point(|item| item.0.0 < number)
 }

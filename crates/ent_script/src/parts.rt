@@ -128,7 +128,7 @@ fn items(
     ensures { ReadsPart result (bundle_by components.now
         (map (λ m. (string_bytes m.0, view m.1)) members.now.entries)) }
 {
-    let mut bundle = Bundle::new(alloc);
+    let mut bundle = Bundle::with_capacity(alloc, members.len().min(components.len()))?;
     for (key, value) in members {
         let (id, number) = item(components, key.as_str(), value)?;
         bundle.put(id, number)?;

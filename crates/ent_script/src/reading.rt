@@ -96,7 +96,7 @@ fn owned(alloc: Global, names: &[&str]) -> Result<Vec<String>, ReadFault>
         ≡ map (λ name. name.now) names.now) }
     ensures err { IfErr result (λ fault. fault ≡ Memory) }
 {
-    let mut texts = Vec::new(alloc);
+    let mut texts = Vec::with_capacity(alloc, names.len())?;
     for name in names {
         texts.push(String::from_str(alloc, *name)?)?;
     }

@@ -1,8 +1,14 @@
 pub mod Running
 pub mod OneReport
 pub mod GivenOnce
+pub mod NoRefusal
+pub mod Requested
+pub mod Enough
+pub mod TextsAlone
+pub mod SameText
 pub mod SmallWorlds
 pub mod WorkedWithoutSystems
 pub mod WorkedOnOneWorker
 pub mod WorkedOnTwoWorkers
 pub mod WorkedScriptsAlone
+pub mod WorkedPremises

@@ -2,3 +2,4 @@ pub mod Report
 pub mod Given
 pub mod Course
 pub mod ScriptAlone
+pub mod SameReport

@@ -5,6 +5,8 @@ ghost use Rattle.ent_script_run.specs.Course.{AreFew, HaveGone};
 ghost use Rattle.ent_script_run.specs.Given.{handles_in_run};
 ghost use Rattle.ent_alloc.specs.History.{AreGivenOnce};
 ghost use Rattle.ent_script_run.specs.Report.{Execution, IsReport, IsReportOf};
+ghost use Rattle.ent_script_run.specs.SameReport.{HasEnoughSlots, IsWithoutHandles, TellsNoRefusal};
+ghost use Rattle.ent_script_run.specs.ScriptAlone.{text_alone};
 
 use crate::frame;
 use ent_handle::Memory;
@@ -66,8 +68,10 @@ where
 /// text of each frame and of the world that the last one leaves. The script is one that
 /// `ent_script` has read.
 ///
-/// With several workers, which entity gets which handle may differ from run to run. What a frame
-/// has done is kept as text alone, so memory grows with the world, the text and the longest frame.
+/// With several workers, which entity gets which handle may differ from run to run. The text by
+/// births of a script that names no handle stays the same, as long as no request is refused, as of a
+/// script that spawns no more entities in all than it has slots. What a frame has done is kept as text
+/// alone, so memory grows with the world, the text and the longest frame.
 ///
 /// # Errors
 ///
@@ -86,7 +90,7 @@ where
     requires few { workers ≤ 64 }
     ensures report { IfOk result (λ text. IsReport script.now workers show text.items) }
 
-    // The other two are laws of the definitions: they follow from `report` and `ranges`, so a body
+    // The others are laws of the definitions: they follow from `report` and `ranges`, so a body
     // that meets `report` meets them. One worker has no other report.
     ensures only { workers ≡ 1 → IfOk result (λ text. (other : List ℕ)
         → IsReport script.now workers show other → text.items ≡ other) }
@@ -95,6 +99,16 @@ where
     ensures given_once { IfOk result (λ text. (executions : List Execution)
         → IsReportOf script.now workers show executions text.items
         → AreGivenOnce (handles_in_run executions)) }
+
+    // A script that names no handle has one text by births, however many workers run it, if no line
+    // of the text tells of a refused request.
+    ensures same { show ≡ Show.Births → IsWithoutHandles script.now → IfOk result (λ text.
+        TellsNoRefusal text.items → text.items ≡ text_alone script.now) }
+
+    // And in any case, if all its operations request no more handles than it has slots: then no
+    // request is refused.
+    ensures enough { show ≡ Show.Births → IsWithoutHandles script.now → HasEnoughSlots script.now
+        → IfOk result (λ text. text.items ≡ text_alone script.now) }
 {
     report(rt, alloc, script, workers, show)
 }

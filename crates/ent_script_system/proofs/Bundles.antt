@@ -1,30 +1,26 @@
 -- A component that is put after all lower ones goes last.
-use Rattle.std.proofs.Common.{◌≡◌, refl, ap, ◌∙◌, ℤ, [], ◌∷◌, ◌++◌, map}
-use Rattle.std.specs.List.{AllByRecursion}
-use Rattle.std.specs.List.Sorted.{IsStrictlySortedBy}
+use Rattle.std.proofs.Common.{◌≡◌, refl, ap, ◌∙◌, ℤ, [], ◌∷◌, ◌++◌, T}
 use Rattle.std.specs.Ordering.{ordering_reverse}
 use Rattle.std.specs.declared.cmp.Ordering.TheVariants.{Less, Greater}
-use Rattle.std.specs.FinMap.{put}
-use Rattle.std.specs.FinMap.Entries.{by_order}
+use Rattle.std.specs.FinMap.{put, is_sorted}
+use Rattle.std.specs.FinMap.Entries.{by_order, below_all}
 use Rattle.ent_handle.specs.declared.component.ComponentId.{ComponentId}
 use Rattle.ent_handle.specs.Component.{component_cmp, component_cmp_total}
 use Rattle.ent_queue.specs.Command.{Bundle}
+use Rattle.ent_queue.proofs.Rising.{first, second, less}
 
-at_seam : (P : ComponentId → Type 0) (item : ComponentId × ℤ) (items rest : Bundle)
-    → AllByRecursion P (map (λ item. item.0) (items ++ item ∷ rest)) → P item.0
-at_seam P item [] rest all = all.0
-at_seam P item (i ∷ items) rest all = at_seam P item items rest all.1
+at_seam : (low : ComponentId) (item : ComponentId × ℤ) (items rest : Bundle)
+    → T (below_all component_cmp low (items ++ item ∷ rest)) → component_cmp low item.0 ≡ Less
+at_seam low item [] rest below = less _ (first _ _ below)
+at_seam low item (i ∷ items) rest below = at_seam low item items rest (second _ _ below)
 
-pub put_last : (item : ComponentId × ℤ) (items rest : Bundle) → IsStrictlySortedBy component_cmp
-    (map (λ item. item.0) (items ++ item ∷ rest)) → put component_cmp item.0 item.1 items ≡ items
-    ++ item ∷ []
-unfolding IsStrictlySortedBy
+pub put_last : (item : ComponentId × ℤ) (items rest : Bundle)
+    → T (is_sorted component_cmp (items ++ item ∷ rest))
+    → put component_cmp item.0 item.1 items ≡ items ++ item ∷ []
 put_last item [] rest rising = refl
 put_last item (i ∷ items) rest rising =
-    let less : component_cmp i.0 item.0 ≡ Less = at_seam (λ id. component_cmp i.0 id ≡ Less) item
-    items rest rising.0 in
     let greater : component_cmp item.0 i.0 ≡ Greater = component_cmp_total.antisymm item.0 i.0
-    ∙ ap ordering_reverse less in
+    ∙ ap ordering_reverse (at_seam i.0 item items rest (first _ _ rising)) in
     ap (λ r. by_order r ((item.0, item.1) ∷ i ∷ items) ((i.0, item.1) ∷ items)
     (i ∷ put component_cmp item.0 item.1 items)) greater
-    ∙ ap (λ is. i ∷ is) (put_last item items rest rising.1)
+    ∙ ap (λ is. i ∷ is) (put_last item items rest (second _ _ rising))

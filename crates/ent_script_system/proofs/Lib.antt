@@ -6,3 +6,5 @@ mod WorkedSystems
 pub mod Running
 mod Served
 pub mod Targeted
+pub mod QueuesAlone
+pub mod FramesAlone

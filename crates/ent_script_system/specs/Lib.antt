@@ -1,2 +1,4 @@
 pub mod Issuing
 pub mod Parts
+pub mod IssuedAlone
+pub mod FrameAlone

@@ -13,7 +13,7 @@ pub(crate) fn copied_bundle(alloc: Global, said: &ent_script::Bundle) -> Result<
     ensures { IfOk result (λ bundle. bundle ≡ said.now) }
 {
     let mut bundle = Bundle::new(alloc);
-    for (id, value) in said.values() {
+    for (id, value) in said.items() {
         bundle.put(*id, *value)?;
     }
     Ok(bundle)

@@ -17,11 +17,11 @@ const SCRIPT: &[u8] =
 
 // Whether these are the components and values of a bundle.
 fn has(bundle: &Bundle, first: Option<(u8, i64)>, second: Option<(u8, i64)>) -> bool {
-    let mut items = bundle.values().iter();
+    let mut items = bundle.items().iter();
     is(items.next(), first) && is(items.next(), second) && items.next().is_none()
 }
 
-fn is(found: Option<(&ComponentId, &i64)>, expected: Option<(u8, i64)>) -> bool {
+fn is(found: Option<&(ComponentId, i64)>, expected: Option<(u8, i64)>) -> bool {
     match (found, expected) {
         (Some((id, value)), Some((number, other))) => id.0 == number && *value == other,
         (None, None) => true,

@@ -9,6 +9,7 @@ pub mod Indexed
 pub mod Keys
 pub mod LivingLemmas
 pub mod Missing
+pub mod OfBirth
 pub mod OneList
 pub mod Overwritten
 pub mod Placed

@@ -1,6 +1,6 @@
 -- The living entities that residents and columns stand for, after each change.
 use Rattle.std.proofs.Common.{◌≡◌, ◌≢◌, ℕ, zero, suc, ◌+◌, ◌-◌, ◌<◌, ◌≤◌, false}
-use Rattle.std.proofs.Common.{◌⊎◌, inl, inr, List, [], ◌∷◌, ◌++◌, length, get_or, Option}
+use Rattle.std.proofs.Common.{◌⊎◌, inl, inr, List, [], ◌∷◌, ◌++◌, map, length, get_or, Option}
 use Rattle.std.proofs.Common.{Some, None, slice_get, option_and_then, take, drop, refl, sym, ap}
 use Rattle.std.proofs.Common.{subst, ◌∙◌, arith}
 use Rattle.std.proofs.lemmas.Option.{none-some, same_Some, slice_get_past}
@@ -293,3 +293,11 @@ pub test_past : (residents : List Resident) (columns : List Column) (i : ℕ) (h
 test_past residents columns i h l =
     test_none _ h (handle_get residents columns 0 i ∙ ap (option_map (λ (r : Resident). r.handle))
     (slice_get_past residents i l))
+
+-- the birth and the handle of each resident
+pub births_from : (n : ℕ) (residents : List Resident) (columns : List Column)
+    → map {B = Birth × Handle} (λ resident. (resident.birth, resident.handle)) residents
+    ≡ map {B = Birth × Handle} (λ e. (e.birth, e.handle)) (entities_from n residents columns)
+births_from n [] columns = refl
+births_from n (resident ∷ residents) columns = ap (λ (es : List (Birth × Handle)).
+    (resident.birth, resident.handle) ∷ es) (births_from (suc n) residents columns)

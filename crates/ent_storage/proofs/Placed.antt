@@ -67,10 +67,12 @@ module _ (living : List LivingEntity) (index : FinMap handle_cmp ℕ) (spare : �
         ∙ get_placed living index indexed h i (some_entity h) at;
   }
 
+  pub placed_at : (i : ℕ) → slice_get s.places i ≡ Some h → finite.get index h ≡ Some i
+  placed_at i at = placed_from_place living index indexed h i
+      (ap (λ (s : Store). slice_get s.places i) view ∙ at)
+
   pub entity_at : (i : ℕ) → slice_get s.places i ≡ Some h → IsEntityAt living s h i
-  entity_at i at =
-      entity_placed i (placed_from_place living index indexed h i
-      (ap (λ (s : Store). slice_get s.places i) view ∙ at))
+  entity_at i at = entity_placed i (placed_at i at)
 
 pub is_inside : (handles : List Handle) (i : ℕ) (h : Handle) → slice_get handles i ≡ Some h → i
     < length handles

@@ -1,8 +1,9 @@
 -- Lists of handles in the order of births.
-use Rattle.std.specs.Prelude.{◌≡◌, Bool, true, ◌↔◌, List, map, Contains, IsTrue, IsSomeAnd}
+use Rattle.std.specs.Prelude.{◌≡◌, ◌≢◌, Bool, true, ◌↔◌, List, map, Contains, IsTrue, IsSomeAnd}
+use Rattle.std.specs.Prelude.{Option, IfSome}
 use Rattle.std.specs.Option.{option_cmp}
 use Rattle.std.specs.declared.cmp.Ordering.{Ordering}
-use Rattle.std.specs.declared.cmp.Ordering.TheVariants.{Less}
+use Rattle.std.specs.declared.cmp.Ordering.TheVariants.{Less, Greater}
 use Rattle.std.specs.Ordering.{on, then_cmp}
 use Rattle.std.specs.List.{AllPairs}
 use Rattle.std.specs.List.Sorted.{IsPermutation, IsSorted}
@@ -43,3 +44,10 @@ pub record IsInOrder (pairs : List (Birth × Handle)) (handles : List Handle) : 
   pub permutation : IsPermutation pairs sorted
   pub in_order : IsSorted pair_cmp sorted
   pub are : handles ≡ map (λ pair. pair.1) sorted
+
+-- the handle is the least of those that the pairs have with the birth; without one, none has it
+pub record IsLeastOf (birth : Birth) (pairs : List (Birth × Handle)) (least : Option Handle)
+    : Type 0 where
+  pub listed : IfSome least (λ h. Contains pairs (birth, h))
+  pub before : (h : Handle) → Contains pairs (birth, h)
+      → IsSomeAnd least (λ l. handle_cmp l h ≢ Greater)

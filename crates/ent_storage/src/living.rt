@@ -8,9 +8,11 @@ ghost use Rattle.ent_storage.specs.Components.{with_items, missing};
 ghost use Rattle.ent_storage.specs.Living.{born_at, change_at, with_birth_at, IsMovedInto};
 ghost use Rattle.ent_storage.specs.Living.{IsValueAt};
 ghost use Rattle.ent_storage.specs.Indexed.{has_handle_at};
+ghost use Rattle.ent_storage.specs.BirthOrder.{IsLeastOf};
 
 use super::columns;
 use super::items::Items;
+use super::order::least_of_birth;
 use super::sparse_set::SparseSet;
 use ent_handle::{Birth, ComponentId, Handle};
 use std::alloc::{AllocError, Global};
@@ -192,6 +194,14 @@ impl Living {
             ≡ map (λ entity. (entity.birth, entity.handle)) self.now.entities) }
     {
         births(alloc, &self.residents)
+    }
+
+    /// The least handle of an entity with that birth, if there is one. It takes no memory.
+    pub fn of_birth(&self, birth: Birth) -> Option<Handle>
+        ensures { IsLeastOf birth
+            (map (λ entity. (entity.birth, entity.handle)) self.now.entities) result }
+    {
+        least_of_birth(&self.residents, birth)
     }
 
     /// The birth and the handle of the entity at the place of each pair.

@@ -1,6 +1,9 @@
-ghost use Rattle.std.specs.Prelude.{◌≡◌, IfOk, map};
-ghost use Rattle.ent_storage.specs.BirthOrder.{IsInOrder};
+ghost use Rattle.std.specs.Prelude.{◌≡◌, ◌≢◌, ◌⊎◌, IfOk, IfSome, Some, map};
+ghost use Rattle.std.specs.declared.cmp.Ordering.TheVariants.{Greater};
+ghost use Rattle.ent_handle.specs.Handle.{handle_cmp};
+ghost use Rattle.ent_storage.specs.BirthOrder.{IsInOrder, IsLeastOf};
 
+use super::living::Resident;
 use ent_handle::{Birth, Handle};
 use std::alloc::{AllocError, Global};
 
@@ -19,4 +22,30 @@ fn handles(alloc: Global, births: &[(Birth, Handle)]) -> Result<Vec<Handle>, All
     ensures { IfOk result (λ handles. handles.items ≡ map (λ pair. pair.1) births.now) }
 {
     births.iter().map(|pair| pair.1).collect(alloc)
+}
+
+/// The least handle of a resident with that birth, if there is one.
+pub fn least_of_birth(residents: &[Resident], birth: Birth) -> Option<Handle>
+    ensures { IsLeastOf birth (map (λ resident. (resident.birth, resident.handle)) residents.now)
+        result }
+{
+    let mut least = None;
+    for resident in residents {
+        if resident.birth == birth {
+            least = Some(lesser(least, resident.handle));
+        }
+    }
+    least
+}
+
+/// The lesser of the two handles, or the one if there is no other.
+fn lesser(other: Option<Handle>, handle: Handle) -> Handle
+    ensures one { (result ≡ handle) ⊎ (other ≡ Some result) }
+    ensures handle { handle_cmp result handle ≢ Greater }
+    ensures other { IfSome other (λ h. handle_cmp result h ≢ Greater) }
+{
+    match other {
+        Some(least) if least < handle => least,
+        _ => handle,
+    }
 }

@@ -1,7 +1,9 @@
 ghost use Rattle.std.specs.Prelude.{◌≡◌, ◌+◌, ◌≤◌, ◌<◌, ◌↔◌, IsTrue, IsErrOf, IfOk, IfSome, IfErr};
 ghost use Rattle.std.specs.Prelude.{Contains, ◌≢◌, ℤ};
 ghost use Rattle.std.specs.Prelude.{OnOk, OnErr, IsOk, None, Some, ℕ, [], ◌∷◌, ◌++◌, is_some};
-ghost use Rattle.std.specs.Prelude.{slice_get, SomeIndex, length};
+ghost use Rattle.std.specs.Prelude.{slice_get, SomeIndex, length, IfNone};
+ghost use Rattle.std.specs.declared.cmp.Ordering.TheVariants.{Greater};
+ghost use Rattle.ent_handle.specs.Handle.{Handle, handle_cmp};
 ghost use Rattle.std.specs.Option.{option_map};
 ghost use Rattle.std.specs.FinMap as map;
 ghost use Rattle.ent_storage.specs.Components.{with_items, missing};
@@ -303,9 +305,41 @@ impl Storage {
         ensures never_present { ¬ (IsErrOf result StorageFault.Present) }
         ensures err { OnErr result (self.new ≡ self.old) }
     {
-        let Some(place) = self.index.place(&self.living, handle) else {
+        let Some(place) = self.place(handle) else {
             return Err(StorageFault::Absent);
         };
+        self.insert_at(place, handle, items)?;
+        Ok(())
+    }
+
+    /// Sets each of the components of the entity at a place, whose handle has to be this one, and
+    /// leaves its others as they are. If a component stands twice among the items, its last value
+    /// counts.
+    ///
+    /// It takes memory only for components that the entity does not have yet. The index is not
+    /// searched.
+    ///
+    /// # Errors
+    ///
+    /// `Memory`: there is no memory for the components that the entity does not have yet. Nothing
+    /// is changed.
+    pub fn insert_at(
+        &mut self,
+        place: usize,
+        handle: Handle,
+        items: &[(ComponentId, i64)],
+    ) -> Result<(), Memory>
+        requires { slice_get self.old.places place ≡ Some handle }
+        ensures ok { OnOk result (self.new.entities
+            ≡ with_components self.old.entities handle (λ held. with_items held items.now)) }
+        ensures spare { self.new.spare ≡ self.old.spare }
+        ensures places { self.new.places ≡ self.old.places }
+
+        ensures memory_to_grow { OnErr result
+            (IfSome (components_of self.old.entities handle)
+            (λ held. 0 < missing held items.now)) }
+        ensures err { OnErr result (self.new ≡ self.old) }
+    {
         self.living.insert(place, items)?;
         Ok(())
     }
@@ -328,10 +362,24 @@ impl Storage {
         ensures only_absent { IfErr result (λ fault. fault ≡ StorageFault.Absent) }
         ensures err { OnErr result (self.new ≡ self.old) }
     {
-        let Some(place) = self.index.place(&self.living, handle) else {
+        let Some(place) = self.place(handle) else {
             return Err(StorageFault::Absent);
         };
-        Ok(self.living.remove(place, id))
+        Ok(self.remove_at(place, handle, id))
+    }
+
+    /// Takes the component out of the entity at a place, whose handle has to be this one, and
+    /// returns the value that it had, or `None` if the entity does not have it. It takes no memory
+    /// and constant time.
+    pub fn remove_at(&mut self, place: usize, handle: Handle, id: ComponentId) -> Option<i64>
+        requires { slice_get self.old.places place ≡ Some handle }
+        ensures value { result ≡ value_of self.old.entities handle id }
+        ensures entities { self.new.entities
+            ≡ with_components self.old.entities handle (λ held. map.remove held id) }
+        ensures spare { self.new.spare ≡ self.old.spare }
+        ensures places { self.new.places ≡ self.old.places }
+    {
+        self.living.remove(place, id)
     }
 
     /// The handles of all entities, by birth and then by handle. The time is that of a sort.
@@ -344,6 +392,22 @@ impl Storage {
     {
         let births = self.living.births(self.alloc)?;
         Ok(handles_in_order(self.alloc, births)?)
+    }
+
+    /// The handle of the entity that was brought to life there and then, if there is one. If
+    /// several entities have the birth, it is the least of their handles.
+    ///
+    /// It takes no memory. The time is that of a look at each entity.
+    pub fn of_birth(&self, birth: Birth) -> Option<Handle>
+        ensures found { IfSome result (λ handle.
+            birth_of self.now.entities handle ≡ Some birth) }
+        ensures least { IfSome result (λ handle. (other : Handle)
+            → birth_of self.now.entities other ≡ Some birth
+            → handle_cmp handle other ≢ Greater) }
+        ensures none { IfNone result ((handle : Handle)
+            → birth_of self.now.entities handle ≢ Some birth) }
+    {
+        self.living.of_birth(birth)
     }
 
     /// The place and the value of each entity that has the component, in no stated order. It takes

@@ -105,6 +105,77 @@ fn assert_left(
     assert!(rt; storage.remove(second, ComponentId(7)) == Ok(None));
 }
 
+// Two entities get and lose components by their places, one of them after it has moved.
+#[test]
+fn components_are_changed_by_places(rt: HostRuntime) -> Result<(), Fail> {
+    let (first, second, third) = (handle(0)?, handle(1)?, handle(2)?);
+    let mut storage = Storage::new(rt.alloc());
+    let entities = [(first, 2, 10), (second, 1, 11), (third, 0, 12)];
+    assert_lives(&rt, &mut storage, &entities);
+    let both = [(HEALTH, 20), (MANA, 30), (MANA, 31)];
+    assert!(rt; insert_at(&mut storage, second, &both) == Some(true));
+    assert_mana(&rt, &storage, (first, 10, None), (second, 20, Some(31)));
+    assert!(rt; remove_at(&mut storage, first, MANA) == Some(None));
+    assert!(rt; remove_at(&mut storage, second, MANA) == Some(Some(31)));
+    assert_mana(&rt, &storage, (first, 10, None), (second, 20, None));
+    assert!(rt; despawn_at(&mut storage, first) == Some((0, Some(third))));
+    assert!(rt; insert_at(&mut storage, third, &[(MANA, 5)]) == Some(true));
+    assert_mana(&rt, &storage, (third, 12, Some(5)), (second, 20, None));
+    assert!(rt; remove_at(&mut storage, third, HEALTH) == Some(Some(12)));
+    assert!(rt; storage.get(third, HEALTH) == None);
+    assert!(rt; insert_at(&mut storage, first, &both) == None);
+    assert!(rt; remove_at(&mut storage, first, HEALTH) == None);
+    Ok(())
+}
+
+// Whether the items were set, if the entity has a place.
+fn insert_at(storage: &mut Storage, entity: Handle, items: &[(ComponentId, i64)]) -> Option<bool> {
+    let place = storage.place(entity)?;
+    Some(storage.insert_at(place, entity, items).is_ok())
+}
+
+// The value that was taken out, if the entity has a place.
+fn remove_at(storage: &mut Storage, entity: Handle, id: ComponentId) -> Option<Option<i64>> {
+    let place = storage.place(entity)?;
+    Some(storage.remove_at(place, entity, id))
+}
+
+// Two entities with their health and their mana.
+fn assert_mana(
+    rt: &impl Abort,
+    storage: &Storage,
+    one: (Handle, i64, Option<i64>),
+    other: (Handle, i64, Option<i64>),
+) {
+    for (entity, health, mana) in &[one, other] {
+        assert!(rt;
+            storage.get(*entity, HEALTH) == Some(*health),
+            "of {entity:?}"
+        );
+        assert!(rt; storage.get(*entity, MANA) == *mana, "of {entity:?}");
+    }
+}
+
+// Two entities have one birth, and a third has another one.
+#[test]
+fn a_birth_names_its_least_handle(rt: HostRuntime) -> Result<(), Fail> {
+    let (low, high, other) = (handle(3)?, handle(7)?, handle(1)?);
+    let mut storage = Storage::new(rt.alloc());
+    assert!(rt; storage.of_birth(birth(345)) == None);
+    let entities = [(high, 345, 1), (other, 344, 2), (low, 345, 3)];
+    assert_lives(&rt, &mut storage, &entities);
+    assert!(rt; storage.of_birth(birth(345)) == Some(low));
+    assert!(rt; storage.of_birth(birth(344)) == Some(other));
+    assert!(rt; storage.of_birth(birth(343)) == None);
+    assert!(rt; storage.of_birth(birth(335)) == None);
+    assert!(rt; storage.of_birth(birth(245)) == None);
+    assert!(rt; storage.despawn(low) == Ok(()));
+    assert!(rt; storage.of_birth(birth(345)) == Some(high));
+    assert!(rt; changed_birth(&mut storage, high, birth(5)) == Some(birth(345)));
+    assert!(rt; storage.of_birth(birth(345)) == None);
+    Ok(())
+}
+
 // Every third entity has mana. Half of the entities leave, some of them from the middle, and some
 // lose their mana alone. The pairs are then those of the entities that are left.
 #[test]

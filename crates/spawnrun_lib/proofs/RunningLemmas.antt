@@ -9,9 +9,12 @@ use Rattle.ent_script.specs.Script.{Script}
 use Rattle.ent_script.specs.declared.ReadFault.{ReadFault}
 use Rattle.ent_script.specs.declared.ReadFault.TheVariants as fault
 use Rattle.ent_script_report.specs.declared.Show.{Show}
+use Rattle.ent_script_report.specs.declared.Show.TheVariants.{Births}
 use Rattle.ent_script_run.specs.Given.{handles_in_run}
 use Rattle.ent_alloc.specs.History.{AreGivenOnce}
 use Rattle.ent_script_run.specs.Report.{Execution, IsReport, IsReportOf}
+use Rattle.ent_script_run.specs.SameReport.{IsWithoutHandles, HasEnoughSlots, TellsNoRefusal}
+use Rattle.ent_script_run.specs.ScriptAlone.{text_alone}
 use Rattle.spawnrun_lib.specs.Running.{IsScriptReport}
 
 -- what the run of a script returns is an output
@@ -21,10 +24,14 @@ pub made : (script : Script) (workers : ℕ) (show : Show) (r : Result (Vec ℕ)
     → text.items ≡ other))
     → IfOk r (λ text. (executions : List Execution) → IsReportOf script workers show executions
     text.items → AreGivenOnce (handles_in_run executions))
+    → (show ≡ Births → IsWithoutHandles script
+    → IfOk r (λ text. TellsNoRefusal text.items → text.items ≡ text_alone script))
+    → (show ≡ Births → IsWithoutHandles script → HasEnoughSlots script
+    → IfOk r (λ text. text.items ≡ text_alone script))
     → IfOk r (λ text. IsScriptReport script workers show text.items)
-made script workers show (Ok text) report only once =
-    record { report = report; only = only; given_once = once }
-made script workers show (Err e) report only once = tt
+made script workers show (Ok text) report only once same enough =
+    record { report = report; only = only; given_once = once; same = same; enough = enough }
+made script workers show (Err e) report only once same enough = tt
 
 -- a line that refuses a text
 abbrev pub IsRefusal : ReadFault → List ℕ → Type 0

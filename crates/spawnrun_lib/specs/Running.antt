@@ -5,9 +5,12 @@ use Rattle.ent_script.specs.Refusal.{refusal_line}
 use Rattle.ent_script.specs.Script.{Script}
 use Rattle.ent_script.specs.declared.ReadFault.{ReadFault}
 use Rattle.ent_script_report.specs.declared.Show.{Show}
+use Rattle.ent_script_report.specs.declared.Show.TheVariants.{Births}
 use Rattle.ent_alloc.specs.History.{AreGivenOnce}
 use Rattle.ent_script_run.specs.Given.{handles_in_run}
 use Rattle.ent_script_run.specs.Report.{Execution, IsReport, IsReportOf}
+use Rattle.ent_script_run.specs.SameReport.{IsWithoutHandles, HasEnoughSlots, TellsNoRefusal}
+use Rattle.ent_script_run.specs.ScriptAlone.{text_alone}
 use Rattle.spawnrun_lib.specs.Device.{Writes}
 use Rattle.spawnrun_lib.specs.Replay.{input_limit, size_line}
 use Rattle.spawnrun_lib.specs.declared.status.Status.{Status}
@@ -23,6 +26,13 @@ pub record IsScriptReport (script : Script) (workers : ℕ) (show : Show) (text 
   -- no handle was given twice, however the frames went
   pub given_once : (executions : List Execution)
       → IsReportOf script workers show executions text → AreGivenOnce (handles_in_run executions)
+  -- By births, a script that names no handle has one text, however many workers run it, if no line
+  -- of the text tells of a refused request.
+  pub same : show ≡ Births → IsWithoutHandles script → TellsNoRefusal text
+      → text ≡ text_alone script
+  -- and in any case, if its operations request no more handles in all than it has slots
+  pub enough : show ≡ Births → IsWithoutHandles script → HasEnoughSlots script
+      → text ≡ text_alone script
 
 -- how the run of an input ends, and what it writes
 pub data RunEnds (workers : ℕ) (show : Show) (input : List ℕ) : Status → List ℕ → Type 0 where

@@ -76,6 +76,8 @@ where
     match read_all(alloc, input, INPUT_LIMIT) {
         Ok(bytes) => match read_script(alloc, &bytes) {
             Ok(script) => {
+                // The text is given back before the frames run.
+                drop(bytes);
                 let report = run_script(rt, alloc, &script, workers, show);
                 write(output, report, Status::Done)
             }

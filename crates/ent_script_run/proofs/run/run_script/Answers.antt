@@ -1,8 +1,10 @@
 use Rattle.std.proofs.Common.{ℕ, subst}
+use Rattle.ent_script_report.specs.declared.show.Show.{Show}
 use Rattle.std.proofs.lemmas.Result.{IfOk-weaker}
 use Rattle.ent_script_run.specs.Report.{IsReport}
 use Rattle.ent_script_run.proofs.OneReport.{one_report}
 use Rattle.ent_script_run.proofs.GivenOnce.{given_once}
+use Rattle.ent_script_run.proofs.SameText.{enough_text, same_text}
 use Rattle.ent_script_run.proofs.run.run_script.Goals as goal
 
 pub returns-clause-only : goal.returns-clause-only
@@ -17,3 +19,17 @@ returns-clause-given_once g c =
     IfOk-weaker c.report.result _ _ (λ text is executions report.
     given_once c.args.script.now c.args.workers c.args.show executions text.items
     c.requires.ranges.limits report) c.report.ensures
+
+pub returns-clause-same : goal.returns-clause-same
+returns-clause-same g c births free =
+    IfOk-weaker c.report.result _ _ (λ text is none.
+    same_text c.args.script.now c.args.workers text.items c.requires.ranges
+    (subst (λ (show : Show). IsReport c.args.script.now c.args.workers show text.items) births is)
+    free none) c.report.ensures
+
+pub returns-clause-enough : goal.returns-clause-enough
+returns-clause-enough g c births free enough =
+    IfOk-weaker c.report.result _ _ (λ text is.
+    enough_text c.args.script.now c.args.workers text.items c.requires.ranges
+    (subst (λ (show : Show). IsReport c.args.script.now c.args.workers show text.items) births is)
+    free enough) c.report.ensures

@@ -30,11 +30,12 @@ returns-in-Ok-read_script-clause-done g c =
     (subst (λ known. script_of_text known ≡ Ok script) same means) output)
     (made script c.args.workers c.args.show c.run_script-report.result
     c.run_script-report.ensures.report c.run_script-report.ensures.only
-    c.run_script-report.ensures.given_once)
+    c.run_script-report.ensures.given_once c.run_script-report.ensures.same
+    c.run_script-report.ensures.enough)
     c.write.ensures.written c.write.ensures.memory
 
-pub returns-in-Ok-clause-refused : goal.returns-in-Ok-clause-refused
-returns-in-Ok-clause-refused g c =
+pub returns-in-Err-clause-refused : goal.returns-in-Err-clause-refused
+returns-in-Err-clause-refused g c =
     let input = g.I.Source.remaining c.args.input.now in
     let fault = c.in-Err.fault in
     let fits : length c.in-Ok.bytes.items ≤ input_limit =
@@ -54,8 +55,8 @@ returns-in-Ok-clause-refused g c =
     c.refusal_line-line.ensures.line)
     c.refuse.ensures.written c.refuse.ensures.memory
 
-pub returns-in-Ok-clause-advised : goal.returns-in-Ok-clause-advised
-returns-in-Ok-clause-advised g c = λ refused same.
+pub returns-in-Err-clause-advised : goal.returns-in-Err-clause-advised
+returns-in-Err-clause-advised g c = λ refused same.
     let input = g.I.Source.remaining c.args.input.now in
     let fault = c.in-Err.fault in
     let fits : length c.in-Ok.bytes.items ≤ input_limit =

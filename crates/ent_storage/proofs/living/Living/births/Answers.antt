@@ -1,18 +1,11 @@
-use Rattle.std.proofs.Common.{◌≡◌, ℕ, List, [], ◌∷◌, map, refl, ap, ◌∙◌, suc}
+use Rattle.std.proofs.Common.{◌≡◌, map, ap, ◌∙◌}
 use Rattle.std.proofs.lemmas.Result.{IfOk-weaker}
 use Rattle.ent_handle.specs.declared.birth.Birth.{Birth}
 use Rattle.ent_handle.specs.Handle.{Handle}
-use Rattle.ent_storage.specs.SparseSet.{Column}
 use Rattle.ent_storage.specs.declared.living.Resident.{Resident}
-use Rattle.ent_storage.specs.Living.{Living, entities_from}
+use Rattle.ent_storage.specs.Living.{Living}
+use Rattle.ent_storage.proofs.LivingLemmas.{births_from}
 use Rattle.ent_storage.proofs.living.Living.births.Goals as goal
-
-births_from : (n : ℕ) (residents : List Resident) (columns : List Column)
-    → map {B = Birth × Handle} (λ resident. (resident.birth, resident.handle)) residents
-    ≡ map {B = Birth × Handle} (λ e. (e.birth, e.handle)) (entities_from n residents columns)
-births_from n [] columns = refl
-births_from n (resident ∷ residents) columns = ap (λ (es : List (Birth × Handle)).
-    (resident.birth, resident.handle) ∷ es) (births_from (suc n) residents columns)
 
 pub returns : goal.returns
 returns c =

@@ -1,0 +1,3 @@
+pub mod BornCount
+pub mod Boxed
+pub mod OneHandle

@@ -1,0 +1,70 @@
+-- What an export answers: a code, and a handle where one was given.
+use Rattle.std.specs.Prelude.{ℕ, List, [], ◌∷◌, ◌≡◌, ◌⊎◌}
+use Rattle.ent_handle.specs.Handle.{Handle}
+
+-- it was done
+abbrev pub done : ℕ
+done = 0
+
+-- it was done, and the slot of the freed handle gives none any more
+abbrev pub done_and_retired : ℕ
+done_and_retired = 1
+
+-- the object holds nothing
+abbrev pub is_empty : ℕ
+is_empty = 2
+
+-- the object holds an allocator already
+abbrev pub is_full : ℕ
+is_full = 3
+
+-- the two numbers are of no limits
+abbrev pub no_limits : ℕ
+no_limits = 4
+
+-- the two numbers are of no handle
+abbrev pub no_handle : ℕ
+no_handle = 5
+
+-- a flush is needed first
+abbrev pub needs_flush : ℕ
+needs_flush = 6
+
+-- no slot is free
+abbrev pub no_space : ℕ
+no_space = 7
+
+-- the handle isn't alive
+abbrev pub not_alive : ℕ
+not_alive = 8
+
+-- memory ran out
+abbrev pub no_memory : ℕ
+no_memory = 9
+
+-- the handle is alive; the next flush brings it to life; neither
+abbrev pub is_alive : ℕ
+is_alive = 10
+
+abbrev pub is_reserved : ℕ
+is_reserved = 11
+
+abbrev pub is_gone : ℕ
+is_gone = 12
+
+-- no more may be requested before a flush
+abbrev pub no_credit : ℕ
+no_credit = 13
+
+-- there is room for another number of handles than are reserved
+abbrev pub no_room : ℕ
+no_room = 14
+
+-- the code is one of these
+abbrev pub IsOneOf : List ℕ → ℕ → Type 0
+IsOneOf [] code = ⊥
+IsOneOf (c ∷ cs) code = (code ≡ c) ⊎ IsOneOf cs code
+
+-- the handle of an index and a generation, as they cross
+abbrev pub handle : ℕ → ℕ → Handle
+handle index generation = record { index = index; generation = generation }

@@ -1,0 +1,4 @@
+pub mod Answers
+pub mod Holds
+pub mod Pair
+pub mod Place

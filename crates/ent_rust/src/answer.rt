@@ -1,0 +1,81 @@
+ghost use Rattle.std.specs.Prelude.{◌≡◌};
+ghost use Rattle.ent_rust.specs.Answers.{handle};
+
+use ent_handle::Handle;
+
+/// It was done.
+pub(crate) const DONE: u32 = 0;
+
+/// It was done, and the slot of the freed handle gives none any more.
+pub(crate) const DONE_AND_RETIRED: u32 = 1;
+
+/// The object holds nothing.
+pub(crate) const IS_EMPTY: u32 = 2;
+
+/// The object holds an allocator already.
+pub(crate) const IS_FULL: u32 = 3;
+
+/// The two numbers are of no limits.
+pub(crate) const NO_LIMITS: u32 = 4;
+
+/// The two numbers are of no handle.
+pub(crate) const NO_HANDLE: u32 = 5;
+
+/// A flush is needed first.
+pub(crate) const NEEDS_FLUSH: u32 = 6;
+
+/// No slot is free.
+pub(crate) const NO_SPACE: u32 = 7;
+
+/// The handle isn't alive.
+pub(crate) const NOT_ALIVE: u32 = 8;
+
+/// Memory ran out.
+pub(crate) const NO_MEMORY: u32 = 9;
+
+/// What became of a handle.
+pub(crate) const IS_ALIVE: u32 = 10;
+
+pub(crate) const IS_RESERVED: u32 = 11;
+
+pub(crate) const IS_GONE: u32 = 12;
+
+/// No more may be requested before a flush.
+pub(crate) const NO_CREDIT: u32 = 13;
+
+/// There is room for another number of handles than are reserved.
+pub(crate) const NO_ROOM: u32 = 14;
+
+/// A code and, where one was given, a handle.
+#[derive(Clone, Copy)]
+#[repr(C)]
+pub struct Answer {
+    pub code: u32,
+    pub index: u32,
+    pub generation: u32,
+}
+
+impl Answer {
+    /// A code with a handle.
+    pub(crate) fn with(code: u32, given: Handle) -> Self
+        ensures code { result.code ≡ code }
+        ensures handle { handle result.index result.generation ≡ given }
+    {
+        Answer {
+            code,
+            index: given.index(),
+            generation: given.generation(),
+        }
+    }
+
+    /// A code alone.
+    pub(crate) fn alone(code: u32) -> Self
+        ensures { result.code ≡ code }
+    {
+        Answer {
+            code,
+            index: 0,
+            generation: 0,
+        }
+    }
+}

@@ -1,0 +1,16 @@
+//! The proved allocator for programs in plain Rust, as exports of a static library.
+//!
+//! A program keeps an `Object`, hands it to each call, and gets a code back. Each export tests what
+//! the call of `ent_alloc` behind it requires. The safe calls over them are those of the package
+//! `rust/forgeni`.
+#![tactic(auto)]
+
+pub mod answer;
+pub mod counts;
+pub mod giving;
+pub mod life;
+pub mod object;
+pub mod pair;
+mod parts;
+mod place;
+pub mod requests;

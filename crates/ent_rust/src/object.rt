@@ -1,0 +1,59 @@
+ghost use Rattle.std.specs.Prelude.{◌≡◌, Option, None, Some, IsTrue, IsSome, IfSome, IfOk, OnErr, ◌↔◌};
+
+use crate::parts::Parts;
+use crate::place::Place;
+use ent_alloc::Entities;
+use std::alloc::Global;
+use std::mem::replace;
+
+/// What a Rust program holds in place of an `Entities`: room for one, that is full or empty.
+///
+/// Its ghost `place.holds` is what it holds. An object of zeros is an empty one.
+#[derive(Drop)]
+#[repr(C)]
+pub struct Object {
+    full: bool,
+    pub place: Place,
+    ghost agrees: { IsTrue full ↔ IsSome place.holds },
+}
+
+impl Object {
+    fn empty(alloc: Global) -> Self
+        ensures { result.place.holds ≡ None }
+    {
+        Object {
+            full: false,
+            place: Place::empty(alloc),
+        }
+    }
+
+    /// Whether it holds an allocator.
+    pub(crate) fn is_full(&self) -> bool
+        ensures { IsTrue result ↔ IsSome self.now.place.holds }
+    {
+        self.full
+    }
+
+    /// Takes the allocator out, if there is one. The object is empty then.
+    pub(crate) fn take(&mut self, alloc: Global) -> Option<Box<Entities, Global>>
+        ensures some { IfSome result (λ entities. self.old.place.holds ≡ Some entities.value) }
+        ensures found { IsSome result ↔ IsSome self.old.place.holds }
+        ensures emptied { self.new.place.holds ≡ None }
+    {
+        if !self.full {
+            return None;
+        }
+        let held = replace(self, Object::empty(alloc));
+        Some(held.place.into_parts().into_box())
+    }
+
+    /// Puts an allocator into the object.
+    pub(crate) fn put(&mut self, entities: Box<Entities, Global>)
+        ensures { self.new.place.holds ≡ Some entities.value }
+    {
+        *self = Object {
+            full: true,
+            place: Place::of_parts(Parts::of(entities)),
+        };
+    }
+}

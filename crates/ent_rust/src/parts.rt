@@ -1,0 +1,36 @@
+ghost use Rattle.std.specs.Prelude.{◌≡◌};
+ghost use Rattle.std_alloc.specs.Box.Ownership.{box_owns};
+
+use std::alloc::Allocator;
+use std::marker::Model;
+
+/// A box as its pointer and its allocator.
+pub(crate) struct Parts<T, A: Allocator> {
+    pub(crate) at: *mut T,
+    pub(crate) alloc: A,
+    pub(crate) ghost value: { T },
+}
+
+impl<T, A: Allocator> Model for Parts<T, A> {
+    ghost also_owns = { λ p. box_owns (A.dealloc_token p.alloc) T.row p.at p.value };
+}
+
+impl<T, A: Allocator> Parts<T, A> {
+    /// The parts of a box, which own what it owned.
+    pub(crate) fn of(whole: Box<T, A>) -> Self
+    where
+        T: Drop,
+        ensures { result.value ≡ whole.value }
+    {
+        let (at, alloc) = Box::into_raw_with_allocator(whole);
+        Parts { at, alloc }
+    }
+
+    /// The box again.
+    pub(crate) fn into_box(self) -> Box<T, A>
+        ensures { result.value ≡ self.value }
+    {
+        let Parts { at, alloc } = self;
+        unsafe { Box::from_raw(alloc, at) }
+    }
+}

@@ -1,0 +1,121 @@
+//! Handles are requested before they live, and a flush brings them to life.
+ghost use Rattle.std.specs.Prelude.{◌≡◌, ◌≢◌, ◌^◌, ◌<◌, ◌≤◌, ◌↔◌, [], ◌∷◌, None};
+ghost use Rattle.std.specs.Prelude.{IfSome, IfNone, Ok, IsErr, length, map};
+ghost use Rattle.ent_alloc.specs.Sequential.{reply_to, after_take, born, after_flush};
+ghost use Rattle.ent_rust.specs.Holds.{Holds, Becomes};
+ghost use Rattle.ent_rust.specs.Answers.{done, is_empty, no_space, no_credit, no_room, no_memory};
+ghost use Rattle.ent_rust.specs.Answers.{IsOneOf, handle};
+ghost use Rattle.ent_rust.specs.Pair.{handle_of};
+
+use crate::answer::{Answer, DONE, IS_EMPTY, NO_CREDIT, NO_MEMORY, NO_ROOM, NO_SPACE};
+use crate::object::Object;
+use crate::pair::Pair;
+use ent_alloc::Entities;
+use ent_handle::Handle;
+use std::alloc::Global;
+
+/// How many handles may be requested between two flushes.
+const CREDIT: u64 = 1 << 50;
+
+/// `Entities::lower` by 1, and its `reply`: a handle that the next flush brings to life.
+#[unsafe(no_mangle)]
+pub extern "C" fn ent_rust_request(alloc: Global, object: &mut Object) -> Answer
+    ensures served { result.code ≡ done
+        → Becomes object.old.place.holds object.new.place.holds (λ before after.
+        (reply_to before 1 ≡ Ok (handle result.index result.generation ∷ []))
+        × (after ≡ after_take before 1)) }
+    ensures space { result.code ≡ no_space
+        → Becomes object.old.place.holds object.new.place.holds (λ before after.
+        IsErr (reply_to before 1) × (after ≡ after_take before 1)) }
+    ensures empty { result.code ≡ is_empty ↔ object.old.place.holds ≡ None }
+    ensures credit { result.code ≡ no_credit
+        ↔ Holds object.old.place.holds (λ a. 2 ^ 50 ≤ a.asked) }
+    ensures refused { result.code ≢ done → result.code ≢ no_space
+        → object.new.place.holds ≡ object.old.place.holds }
+    ensures code { IsOneOf (done ∷ is_empty ∷ no_space ∷ no_credit ∷ []) result.code }
+{
+    let Some(mut entities) = object.take(alloc) else {
+        return Answer::alone(IS_EMPTY);
+    };
+    if entities.asked() >= CREDIT {
+        object.put(entities);
+        return Answer::alone(NO_CREDIT);
+    }
+    let given = request_one(&mut entities);
+    object.put(entities);
+    match given {
+        Some(handle) => Answer::with(DONE, handle),
+        None => Answer::alone(NO_SPACE),
+    }
+}
+
+/// `Entities::flush`. The list must have room for as many handles as are reserved, no more and no
+/// less, and gets those that come to life: first the fresh ones, then the reused ones.
+#[unsafe(no_mangle)]
+pub extern "C" fn ent_rust_flush(alloc: Global, object: &mut Object, list: &mut [Pair]) -> u32
+    ensures flushed { result ≡ done
+        → Becomes object.old.place.holds object.new.place.holds (λ before after.
+        (after ≡ after_flush before) × (map handle_of list.new ≡ born before)) }
+    ensures empty { result ≡ is_empty ↔ object.old.place.holds ≡ None }
+    ensures room { result ≡ no_room
+        ↔ Holds object.old.place.holds (λ a. length list.old ≢ length a.taken) }
+    ensures refused { result ≢ done → object.new.place.holds ≡ object.old.place.holds }
+    ensures unlisted { result ≢ done → list.new ≡ list.old }
+    ensures code { IsOneOf (done ∷ is_empty ∷ no_room ∷ no_memory ∷ []) result }
+{
+    let Some(mut entities) = object.take(alloc) else {
+        return IS_EMPTY;
+    };
+    if entities.reserved() as usize != list.len() {
+        object.put(entities);
+        return NO_ROOM;
+    }
+    let flushed = flush(alloc, &mut entities);
+    object.put(entities);
+    match flushed {
+        Some(handles) => {
+            write_all(list, &handles);
+            DONE
+        }
+        None => NO_MEMORY,
+    }
+}
+
+/// Brings to life what is reserved, and lists it. `None` if memory runs out.
+fn flush(alloc: Global, entities: &mut Entities) -> Option<Vec<Handle>>
+    ensures flushed { IfSome result (λ _. entities.new ≡ after_flush entities.old) }
+    ensures born { IfSome result (λ handles. handles.items ≡ born entities.old) }
+    ensures count { IfSome result (λ handles. length handles.items ≡ length entities.old.taken) }
+    ensures refused { IfNone result (entities.new ≡ entities.old) }
+{
+    let mut handles = Vec::new(alloc);
+    match entities.flush(&mut handles) {
+        Ok(()) => Some(handles),
+        Err(_) => None,
+    }
+}
+
+/// Lists the handles.
+fn write_all(list: &mut [Pair], handles: &[Handle])
+    requires { length list.old ≡ length handles.now }
+    ensures { map handle_of list.new ≡ handles.now }
+{
+    for i in 0..list.len() {
+        list[i] = Pair::of(handles[i]);
+    }
+}
+
+/// Requests one handle.
+fn request_one(entities: &mut Entities) -> Option<Handle>
+    requires { entities.old.asked < 2 ^ 50 }
+    ensures step { entities.new ≡ after_take entities.old 1 }
+    ensures served { IfSome result (λ h. reply_to entities.old 1 ≡ Ok (h ∷ [])) }
+    ensures refused { IfNone result (IsErr (reply_to entities.old 1)) }
+{
+    let high = entities.cursor();
+    let _span = entities.lower(1);
+    match entities.reply_one(high) {
+        Ok(handle) => Some(handle),
+        Err(_) => None,
+    }
+}

@@ -1,0 +1,105 @@
+-- A report by births is the text of births alone, if no request of the run was refused and the script
+-- names no handle: each frame is told by births alone, and so is the next one.
+use Rattle.std.proofs.Common.{◌≡◌, refl, ap, sym, ◌∙◌, ℕ, ◌+◌, ◌^◌, ◌<◌, List, [], ◌∷◌, length}
+use Rattle.std.proofs.Common.{All, Some, arith}
+use Rattle.std.specs.FinMap as finite
+use Rattle.std.specs.Option.{option_map}
+use Rattle.std.proofs.lemmas.List.Elements.{All-head, All-tail}
+use Rattle.std.proofs.lemmas.Option.{none-some}
+use Rattle.ent_handle.specs.declared.birth.Birth.{Birth}
+use Rattle.ent_handle.specs.Handle.{Handle, handle_cmp}
+use Rattle.ent_storage.specs.EntityMap.{Entity}
+use Rattle.ent_world.specs.BirthsAlone.{BirthMap, frame_alone}
+use Rattle.ent_world.specs.Named.{AreNamed, AreBelow}
+use Rattle.ent_world.specs.World.{World, IsWorld, first_world}
+use Rattle.ent_world.proofs.GivenOnce.{first_world-sound, first_world-living}
+use Rattle.ent_script.specs.Ranges.{IsScript}
+use Rattle.ent_script.specs.Script.{Script}
+use Rattle.ent_script.specs.declared.operation.Operation.{Operation}
+use Rattle.ent_script_system.specs.FrameAlone.{IsFrameAlone, queues_by_births}
+use Rattle.ent_script_system.specs.IssuedAlone.{NamesNoHandle, AreGranted}
+use Rattle.ent_script_system.proofs.FramesAlone.{frame-alone}
+use Rattle.ent_script_report.specs.declared.show.Show.TheVariants.{Births}
+use Rattle.ent_script_run.specs.Report.{Execution, AreExecutions, synced, IsReportOf, IsReport}
+use Rattle.ent_script_run.specs.SameReport.{IsWithoutHandles, HasEnoughSlots, TellsNoRefusal}
+use Rattle.ent_script_run.specs.ScriptAlone.{text_alone}
+use Rattle.ent_script_run.proofs.Enough.{granted_if_enough}
+use Rattle.ent_script_run.proofs.NoRefusal.{WereGranted, granted_if_untold}
+use Rattle.ent_script_run.proofs.TextsAlone.{AreToldAlone, text_alike}
+
+told_alone : (workers : ℕ) (w : World) (view : BirthMap) (frames : List (List (List Operation)))
+    (executions : List Execution) → AreExecutions workers w frames executions → IsWorld w
+    → w.allocator.asked ≡ 0 → AreNamed w.entities view → AreBelow w.phase w.entities
+    → w.phase + length frames < 2 ^ 64 → All (All NamesNoHandle) frames
+    → All WereGranted executions → AreToldAlone w view frames executions
+told_alone workers w view [] [] went is_world flushed named below few free granted = tt
+told_alone workers w view [] (e ∷ executions) went is_world flushed named below few free granted =
+    absurd went
+told_alone workers w view (systems ∷ frames) [] went is_world flushed named below few free granted =
+    absurd went
+told_alone workers w view (systems ∷ frames) (e ∷ executions) went is_world flushed named below few
+    free granted =
+    let early : w.phase + 1 < 2 ^ 64 = omega (arith, few) in
+    let one : IsFrameAlone w e.queues e.history systems view =
+    frame-alone systems workers w e.queues e.history view went.0 is_world flushed named below early
+    (All-head (All NamesNoHandle) systems frames free)
+    (All-head WereGranted e executions granted) in
+    let number = one.phase in (
+      one,
+      told_alone workers (synced w e).world
+          (frame_alone (queues_by_births w view systems) view).entities frames executions went.1
+          one.world one.flushed one.after.entities one.below (omega (arith, few, number))
+          (All-tail (All NamesNoHandle) systems frames free)
+          (All-tail WereGranted e executions granted),
+    )
+
+-- ---- from nobody on
+
+nobody : (h : Handle) (e : Entity) → finite.get (finite.empty {R = handle_cmp}) h ≡ Some e → ⊥
+nobody h e is = none-some e (sym (finite.get-empty handle_cmp h) ∙ is)
+
+no_birth : (h : Handle) (birth : Birth)
+    → option_map (λ (e : Entity). e.birth) (finite.get (finite.empty {R = handle_cmp}) h)
+    ≡ Some birth → ⊥
+no_birth h birth is =
+    none-some birth (sym (ap (option_map (λ (e : Entity). e.birth)) (finite.get-empty handle_cmp h))
+    ∙ is)
+
+nobody_named : AreNamed finite.empty []
+nobody_named = record {
+  rising = tt;
+  there = λ h e is. absurd (nobody h e is);
+  apart = λ g h birth is also. absurd (no_birth g birth is);
+  only = λ birth items is. absurd (none-some items is);
+}
+
+pub same_if_granted : (script : Script) (workers : ℕ) (executions : List Execution)
+    (text : List ℕ) → IsScript script → IsReportOf script workers Births executions text
+    → IsWithoutHandles script → All (λ e. AreGranted e.queues) executions
+    → text ≡ text_alone script
+same_if_granted script workers executions text ranges report free granted =
+    let first = first_world script.limits in
+    let is_world : IsWorld first = record {
+      sound = first_world-sound script.limits ranges.limits;
+      living = first_world-living script.limits;
+    } in
+    let count = ranges.count in
+    report.is
+    ∙ text_alike script.components first [] script.frames executions report.world_text nobody_named
+    (told_alone workers first [] script.frames executions report.frames is_world refl nobody_named
+    (λ h e is. absurd (nobody h e is)) (omega (arith, count)) free granted)
+    report.world
+
+pub same_text : (script : Script) (workers : ℕ) (text : List ℕ) → IsScript script
+    → IsReport script workers Births text → IsWithoutHandles script → TellsNoRefusal text
+    → text ≡ text_alone script
+same_text script workers text ranges (executions, report) free none =
+    same_if_granted script workers executions text ranges report free
+    (granted_if_untold script workers executions text report none)
+
+pub enough_text : (script : Script) (workers : ℕ) (text : List ℕ) → IsScript script
+    → IsReport script workers Births text → IsWithoutHandles script → HasEnoughSlots script
+    → text ≡ text_alone script
+enough_text script workers text ranges (executions, report) free enough =
+    same_if_granted script workers executions text ranges report free
+    (granted_if_enough script workers executions ranges.limits report.frames enough)

@@ -1,0 +1,142 @@
+-- The least handle of a birth, among pairs and in the map.
+use Rattle.std.proofs.Common.{◌≡◌, ◌≢◌, ◌⊎◌, inl, inr, List, [], ◌∷◌, ◌++◌, map, length}
+use Rattle.std.proofs.Common.{Option, Some, None, IfSome, IfNone, IsSomeAnd, Contains, true}
+use Rattle.std.proofs.Common.{ℕ, false, ◌<◌, refl, sym, ap, subst, ◌∙◌, arith}
+use Rattle.std.specs.declared.cmp.Ordering.{Ordering}
+use Rattle.std.specs.declared.cmp.Ordering.TheVariants.{Less, Equal, Greater}
+use Rattle.std.specs.Ordering.{is_eq, eq_by_cmp}
+use Rattle.std.specs.Cmp.{tied_itself}
+use Rattle.std.specs.Option.{option_map}
+use Rattle.std.proofs.lemmas.Bool.{false≢true}
+use Rattle.std.proofs.lemmas.Option.{IfSome_then, same_Some, none-some}
+use Rattle.std.proofs.lemmas.List.{get_or-map, length-map}
+use Rattle.std.proofs.lemmas.List.Elements.{Contains-push, Contains-push_cases}
+use Rattle.std.proofs.lemmas.List.Elements.{Contains-append_left}
+use Rattle.std.specs.FinMap as finite
+use Rattle.std.specs.FinMap.{FinMap}
+use Rattle.ent_handle.specs.declared.birth.Birth.{Birth}
+use Rattle.ent_handle.specs.Birth.{birth_cmp, birth_cmp_total, birth_cmp-IsAntisymmetric}
+use Rattle.ent_handle.specs.Handle.{Handle, handle_cmp, handle_cmp_total as total}
+use Rattle.ent_handle.specs.Handle.{handle_cmp-IsAntisymmetric as same}
+use Rattle.ent_storage.specs.Living.{LivingEntity}
+use Rattle.ent_storage.specs.EntityMap.{Entity, birth_of}
+use Rattle.ent_storage.specs.Indexed.{entities_of, IsIndexed}
+use Rattle.ent_storage.specs.BirthOrder.{IsLeastOf}
+use Rattle.ent_storage.proofs.ByBirth.{born_of}
+use Rattle.ent_storage.proofs.Indexed.{some_entity, get_placed, placed_from_get}
+
+-- ---- births that are tested
+
+equal : (r : Ordering) → is_eq r ≡ true → r ≡ Equal
+equal Less e = absurd (false≢true e)
+equal Equal e = refl
+equal Greater e = absurd (false≢true e)
+
+pub same_birth : (a b : Birth) → eq_by_cmp birth_cmp a b ≡ true → a ≡ b
+same_birth a b e = birth_cmp-IsAntisymmetric a b (equal _ e)
+
+pub other_birth : (a b : Birth) → eq_by_cmp birth_cmp a b ≡ false → a ≢ b
+other_birth a b e is = false≢true (sym e ∙ ap (λ x. eq_by_cmp birth_cmp a x) (sym is)
+    ∙ ap is_eq (tied_itself birth_cmp_total a))
+
+-- ---- a handle that is not after a second one, which is not after a third
+
+less_not : (r : Ordering) → r ≡ Less → r ≢ Greater
+less_not r p q = cc
+
+by_cases : (a b c : Handle) (r s : Ordering) → handle_cmp a b ≡ r → handle_cmp b c ≡ s
+    → r ≢ Greater → s ≢ Greater → handle_cmp a c ≢ Greater
+by_cases a b c Less Less p q n m = less_not _ (total.trans a b c p q)
+by_cases a b c Less Equal p q n m =
+    less_not _ (ap (handle_cmp a) (sym (same b c q)) ∙ p)
+by_cases a b c Less Greater p q n m = absurd (m refl)
+by_cases a b c Equal s p q n m = λ e. m (sym q ∙ sym (total.congr a b c p) ∙ e)
+by_cases a b c Greater s p q n m = absurd (n refl)
+
+not_after : (a b c : Handle) → handle_cmp a b ≢ Greater → handle_cmp b c ≢ Greater
+    → handle_cmp a c ≢ Greater
+not_after a b c n m = by_cases a b c _ _ refl refl n m
+
+-- ---- one pair more
+
+from_least : (o : Option Handle) (k q : Handle) → IfSome o (λ l. handle_cmp k l ≢ Greater)
+    → IsSomeAnd o (λ l. handle_cmp l q ≢ Greater) → handle_cmp k q ≢ Greater
+from_least None k q below at = absurd at
+from_least (Some l) k q below at = not_after k l q below at
+
+module _ (birth : Birth) (pairs : List (Birth × Handle)) (o : Option Handle)
+    (is : IsLeastOf birth pairs o) where
+  pub least_other : (p : Birth × Handle) → p.0 ≢ birth → IsLeastOf birth (pairs ++ p ∷ []) o
+  least_other p n = record {
+    listed = IfSome_then o is.listed (λ h at. Contains-append_left pairs (p ∷ []) (birth, h) at);
+    before = λ h at. elim (Contains-push_cases pairs p (birth, h) at) [
+      | inl old ↦ is.before h old
+      | inr e ↦ absurd (n (ap (λ (p : Birth × Handle). p.0) e))
+    ];
+  }
+
+  pub least_this : (h k : Handle) → (k ≡ h) ⊎ (o ≡ Some k) → handle_cmp k h ≢ Greater
+      → IfSome o (λ l. handle_cmp k l ≢ Greater)
+      → IsLeastOf birth (pairs ++ (birth, h) ∷ []) (Some k)
+  least_this h k one here below = record {
+    listed = elim one [
+      | inl e ↦ subst (λ q. Contains (pairs ++ (birth, h) ∷ []) (birth, q)) (sym e)
+          (Contains-push pairs (birth, h))
+      | inr e ↦ Contains-append_left pairs ((birth, h) ∷ []) (birth, k)
+          (subst (λ o. IfSome o (λ l. Contains pairs (birth, l))) e is.listed)
+    ];
+    before = λ q at. elim (Contains-push_cases pairs (birth, h) (birth, q) at) [
+      | inl old ↦ from_least o k q below (is.before q old)
+      | inr e ↦ subst (λ x. handle_cmp k x ≢ Greater) (ap (λ (p : Birth × Handle). p.1) e) here
+    ];
+  }
+
+-- ---- in the map
+
+module _ (living : List LivingEntity) (index : FinMap handle_cmp ℕ)
+    (indexed : IsIndexed living index) (birth : Birth) where
+  pub to_map : (h : Handle) → Contains (map born_of living) (birth, h)
+      → birth_of (entities_of living) h ≡ Some birth
+  to_map h at =
+      let r : LivingEntity = some_entity h in
+      let below : at.0 < length living =
+      omega (arith, length-map {B = Birth × Handle} living born_of, at.1) in
+      let pair = sym (get_or-map born_of living at.0 r (birth, h) below) ∙ at.2 in
+      let placed = ap (finite.get index) (sym (ap (λ (p : Birth × Handle). p.1) pair))
+      ∙ indexed.each_entity at.0 below r in
+      ap (option_map (λ (e : Entity). e.birth)) (get_placed living index indexed h at.0 r placed)
+      ∙ ap Some (ap (λ (p : Birth × Handle). p.0) pair)
+
+  found : (h : Handle) (o : Option Entity) → finite.get (entities_of living) h ≡ o
+      → option_map (λ e. e.birth) o ≡ Some birth → Contains (map born_of living) (birth, h)
+  found h None at is = absurd (none-some birth is)
+  found h (Some e) at is =
+      let r : LivingEntity = some_entity h in
+      let place = placed_from_get living index indexed h e at in
+      let there = indexed.each_place h place.0 place.1 in
+      let born = same_Some _ _ (sym (ap (option_map (λ (e : Entity). e.birth))
+      (get_placed living index indexed h place.0 r place.1))
+      ∙ ap (option_map (λ (e : Entity). e.birth)) at ∙ is) in
+      let handle = there.1 r in (
+        place.0,
+        omega (arith, length-map {B = Birth × Handle} living born_of, there.0),
+        get_or-map born_of living place.0 r (birth, h) there.0 ∙ (λ j. (born j, handle j)),
+      )
+
+  pub from_map : (h : Handle) → birth_of (entities_of living) h ≡ Some birth
+      → Contains (map born_of living) (birth, h)
+  from_map h is = found h _ refl is
+
+-- ---- what the clauses say
+
+pub least_if : (o : Option Handle) (P : Handle → Type 0)
+    → ((h : Handle) → P h → IsSomeAnd o (λ l. handle_cmp l h ≢ Greater))
+    → IfSome o (λ l. (h : Handle) → P h → handle_cmp l h ≢ Greater)
+least_if None P f = tt
+least_if (Some l) P f = f
+
+pub none_if : (o : Option Handle) (P : Handle → Type 0)
+    → ((h : Handle) → P h → IsSomeAnd o (λ l. handle_cmp l h ≢ Greater))
+    → IfNone o ((h : Handle) → P h → ⊥)
+none_if None P f = f
+none_if (Some l) P f = tt

@@ -1,0 +1,46 @@
+use Rattle.std.proofs.Common.{Option, min, option_and_then, ap, sym, ◌∙◌}
+use Rattle.std.specs.FinMap as map
+use Rattle.ent_storage.specs.EntityMap.{Entity}
+use Rattle.ent_storage.proofs.Indexed.{some_entity}
+use Rattle.ent_storage.proofs.Placed.{IsEntityAt, entity_at, placed_at}
+use Rattle.ent_storage.proofs.Changed.{IsChanged, changed}
+use Rattle.ent_storage.proofs.storage.Storage.remove_at.Goals.{After-self, After-remove}
+use Rattle.ent_storage.proofs.storage.Storage.remove_at.Goals as goal
+
+-- the place is that of the handle
+at : (c : After-self) → IsEntityAt c.self.inside.living.entities c.args.self.now c.args.handle
+    c.args.place
+at c = entity_at _ _ _ _ c.self.invariant.indexed c.self.view_is c.args.handle c.args.place
+    c.requires
+
+pub remove-requires : goal.remove-requires
+remove-requires c = (at (goal.at.remove-requires c).After-self).inside
+
+-- the entity has the new components
+after : (c : After-remove) → IsChanged c.args.self.now c.args.handle
+    (λ held. map.remove held c.args.id) c.remove.new.self.entities
+    c.self.inside.index.by_handle (min c.remove.new.self.room c.self.inside.index.room)
+after c = changed c.self.inside.living.entities c.self.inside.index.by_handle
+    c.self.inside.living.room c.self.inside.index.room c.args.self.now c.self.invariant
+    c.self.view_is c.args.handle c.args.place (placed_at _ _ _ _
+    c.self.invariant.indexed c.self.view_is c.args.handle c.args.place c.requires)
+    (λ held. map.remove held c.args.id) _ _ c.remove.ensures.entities c.remove.ensures.room
+
+-- the component is that of the entity
+pub returns-clause-value : goal.returns-clause-value
+returns-clause-value c =
+    c.remove.ensures.value (some_entity c.args.handle)
+    ∙ sym (ap (λ (o : Option Entity). option_and_then (λ e. map.get e.components c.args.id) o)
+    (at (goal.at.returns-clause-value c).After-self).found)
+
+pub returns-clause-entities : goal.returns-clause-entities
+returns-clause-entities c = (after (goal.at.returns-clause-entities c).After-remove).entities
+
+pub returns-clause-spare : goal.returns-clause-spare
+returns-clause-spare c = (after (goal.at.returns-clause-spare c).After-remove).spare
+
+pub returns-clause-places : goal.returns-clause-places
+returns-clause-places c = (after (goal.at.returns-clause-places c).After-remove).places
+
+pub invariant_of-self : goal.invariant_of-self
+invariant_of-self c = (after (goal.at.invariant_of-self c).After-remove).kept

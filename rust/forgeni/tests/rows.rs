@@ -1,0 +1,185 @@
+//! Worked rows, written by hand.
+
+use forgeni::{AllocError, Entities, FreeError, Freed, Handle, Limits, RequestError, State};
+use std::collections::HashSet;
+use std::mem::size_of;
+
+fn handle(index: u32, generation: u32) -> Handle {
+    Handle::new(index, generation).expect("a handle")
+}
+
+fn small(slots: u32, generations: u32) -> Entities {
+    Entities::with_limits(Limits::new(slots, generations).expect("limits"))
+}
+
+#[test]
+fn slots_are_used_again_last_freed_first() {
+    let mut entities = Entities::new();
+    assert!(entities.is_empty());
+    let all: Vec<Handle> = (0..3)
+        .map(|_| entities.alloc().expect("a handle"))
+        .collect();
+    assert_eq!(all, [handle(0, 1), handle(1, 1), handle(2, 1)]);
+    assert_eq!(
+        entities.free(all[0]),
+        Ok(Freed {
+            next: Some(handle(0, 2))
+        })
+    );
+    assert_eq!(
+        entities.free(all[2]),
+        Ok(Freed {
+            next: Some(handle(2, 2))
+        })
+    );
+    assert_eq!(entities.free(all[2]), Err(FreeError::NotAlive));
+    assert_eq!(
+        (entities.len(), entities.total(), entities.waiting()),
+        (1, 3, 2)
+    );
+    assert_eq!(entities.alloc(), Ok(handle(2, 2)));
+    assert_eq!(entities.alloc(), Ok(handle(0, 2)));
+    assert_eq!(entities.alloc(), Ok(handle(3, 1)));
+}
+
+#[test]
+fn states() {
+    let mut entities = Entities::new();
+    let alive = entities.alloc().expect("a handle");
+    let reserved = entities.request().expect("a handle");
+    assert_eq!(entities.state(alive), State::Alive);
+    assert_eq!(entities.state(reserved), State::Reserved);
+    assert_eq!(entities.state(handle(1, 2)), State::Gone);
+    assert_eq!(
+        entities.state(handle(4_294_967_294, 2_147_483_647)),
+        State::Gone
+    );
+    assert!(entities.contains(alive));
+    assert!(!entities.contains(reserved));
+}
+
+#[test]
+fn the_last_generation_retires_its_slot() {
+    let mut entities = small(1, 1);
+    let only = entities.alloc().expect("a handle");
+    assert_eq!(entities.alloc(), Err(AllocError::Space));
+    assert_eq!(entities.free(only), Ok(Freed { next: None }));
+    assert_eq!(entities.retired(), 1);
+    assert_eq!(entities.alloc(), Err(AllocError::Space));
+    assert_eq!(entities.request(), Err(RequestError::Space));
+    assert_eq!(entities.alloc(), Err(AllocError::NeedsFlush));
+    assert_eq!(entities.flush(), Ok(vec![]));
+    assert_eq!(entities.alloc(), Err(AllocError::Space));
+}
+
+#[test]
+fn requests_live_after_a_flush() {
+    let mut entities = small(5, 9);
+    let first = entities.alloc().expect("a handle");
+    entities.free(first).expect("freed");
+    let wished: Vec<_> = (0..3).map(|_| entities.request()).collect();
+    assert_eq!(
+        wished,
+        [Ok(handle(0, 2)), Ok(handle(1, 1)), Ok(handle(2, 1))]
+    );
+    assert_eq!(
+        (entities.asked(), entities.reserved(), entities.len()),
+        (3, 3, 0)
+    );
+    assert!(entities.needs_flush());
+    assert_eq!(entities.alloc(), Err(AllocError::NeedsFlush));
+    assert_eq!(entities.free(first), Err(FreeError::NeedsFlush));
+    // The handles of new slots come first.
+    assert_eq!(
+        entities.flush(),
+        Ok(vec![handle(1, 1), handle(2, 1), handle(0, 2)])
+    );
+    assert!(!entities.needs_flush());
+    assert_eq!(
+        (entities.len(), entities.total(), entities.room()),
+        (3, 3, 2)
+    );
+}
+
+#[test]
+fn a_refused_request_shuts_the_pool_until_the_flush() {
+    let mut entities = small(1, 9);
+    assert_eq!(entities.request(), Ok(handle(0, 1)));
+    assert_eq!(entities.request(), Err(RequestError::Space));
+    assert_eq!((entities.asked(), entities.reserved()), (2, 1));
+    assert_eq!(entities.flush(), Ok(vec![handle(0, 1)]));
+    assert!(!entities.needs_flush());
+}
+
+#[test]
+fn many_come_and_go() {
+    let mut entities = Entities::new();
+    let first: Vec<Handle> = (0..3000)
+        .map(|_| entities.alloc().expect("a handle"))
+        .collect();
+    assert_eq!(first.iter().collect::<HashSet<_>>().len(), 3000);
+    for one in &first {
+        entities.free(*one).expect("freed");
+    }
+    assert!(entities.is_empty());
+    let second: Vec<Handle> = (0..3000)
+        .map(|_| entities.alloc().expect("a handle"))
+        .collect();
+    let reversed: Vec<Handle> = first.iter().rev().map(|h| handle(h.index(), 2)).collect();
+    assert_eq!(second, reversed);
+}
+
+#[test]
+fn handles() {
+    assert_eq!(size_of::<Handle>(), 8);
+    assert_eq!(size_of::<Option<Handle>>(), 8);
+    assert_eq!(handle(7, 2).to_string(), "7v2");
+    assert_eq!((handle(7, 2).index(), handle(7, 2).generation()), (7, 2));
+    assert_eq!(handle(7, 2).to_bits(), 8_589_934_599);
+    assert_eq!(Handle::from_bits(8_589_934_599), Some(handle(7, 2)));
+    assert_eq!(Handle::from_bits(7), None);
+    assert_eq!(Handle::from_bits(u64::MAX), None);
+    assert_eq!(Handle::new(0, 0), None);
+    assert_eq!(Handle::new(u32::MAX, 1), None);
+    assert_eq!(Handle::new(0, 1 << 31), None);
+    assert!(handle(0, 9) < handle(1, 1) && handle(1, 1) < handle(1, 2));
+}
+
+#[test]
+fn limits() {
+    assert_eq!(Limits::new(0, 1), None);
+    assert_eq!(Limits::new(1, 0), None);
+    assert_eq!(Limits::new(1, 1 << 31), None);
+    assert_eq!(Limits::new(u32::MAX, (1 << 31) - 1), Some(Limits::GREATEST));
+    assert_eq!(Limits::default(), Limits::GREATEST);
+}
+
+#[test]
+fn errors_say_why() {
+    assert_eq!(AllocError::Space.to_string(), "no slot is free");
+    assert_eq!(FreeError::NotAlive.to_string(), "the entity is not alive");
+    assert_eq!(RequestError::Space.to_string(), "no handle is left");
+    let boxed: Box<dyn std::error::Error> = Box::new(AllocError::NeedsFlush);
+    assert_eq!(boxed.to_string(), "a flush is needed first");
+}
+
+/// Each allocator has its own state, in whatever order they are dropped.
+#[test]
+fn dropped_in_any_order() {
+    let mut all: Vec<Entities> = (0..10).map(|_| small(100, 3)).collect();
+    for (count, entities) in all.iter_mut().enumerate() {
+        for _ in 0..count * 10 {
+            entities.alloc().expect("a handle");
+        }
+    }
+    drop(all.remove(0));
+    drop(all.swap_remove(4));
+    drop(all.pop());
+    let mut sizes: Vec<u32> = all.iter().map(Entities::len).collect();
+    sizes.sort_unstable();
+    assert_eq!(sizes, [10, 20, 30, 40, 60, 70, 90]);
+    let moved = std::mem::replace(&mut all[0], Entities::new());
+    assert!(all[0].is_empty());
+    drop(all);
+    assert_eq!(moved.len(), 10);
+}
