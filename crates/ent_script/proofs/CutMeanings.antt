@@ -19,11 +19,12 @@ use Rattle.ent_script.specs.Reading.{with_of, count_of, binding_of, removed_of, 
 use Rattle.ent_script.specs.Reading.{target_at, by_number}
 use Rattle.ent_script.specs.Reading.{is_spawn, is_spawn_many, is_insert, is_remove, is_despawn}
 use Rattle.ent_script.specs.Reading.{kind_of, of_kind, operation_of, operation_at, at_operation}
-use Rattle.ent_script.specs.Reading.{bound_name, limits_of, or_absent, numbered, script_keys, test}
-use Rattle.ent_script.specs.Reading.{new_name, component_at}
-use Rattle.ent_alloc.specs.Limits.{Limits}
+use Rattle.ent_script.specs.Reading.{bound_name, births_before, format_of, heading_of, or_absent}
+use Rattle.ent_script.specs.Reading.{numbered, script_keys, test, new_name, component_at}
 use Rattle.ent_script.specs.declared.cause.ScriptCause.{ScriptCause}
 use Rattle.ent_script.specs.declared.cause.ScriptCause.TheVariants as script_cause
+use Rattle.ent_script.specs.declared.format.Format.{Format}
+use Rattle.ent_script.specs.declared.heading.Heading.{Heading}
 use Rattle.ent_script.specs.declared.kind.Kind.{Kind}
 use Rattle.ent_script.specs.declared.kind.Kind.TheVariants as kinds
 use Rattle.ent_script.specs.declared.cause.Cause.{Cause}
@@ -200,41 +201,42 @@ only_cut l [] = refl
 only_cut l (m ∷ []) = refl
 only_cut l (m ∷ n ∷ ms) = refl
 
-target_only : (l : ℕ) (components bound : List (List ℕ)) (o : Option (List ℕ × Data))
+target_only : (l : ℕ) (components bound : List (List ℕ)) (before : Option ℕ) (o : Option (List ℕ × Data))
     → (ok_or (option_map (cut_pair l) o) cause.Target >>=
-    λ m. ok_or (as_str m.1) cause.Target >>= target_at components bound m.0)
+    λ m. ok_or (as_str m.1) cause.Target >>= target_at components bound before m.0)
     ≡
     (ok_or o cause.Target >>=
-    λ m. ok_or (as_str m.1) cause.Target >>= target_at components bound m.0)
-target_only l components bound None = refl
-target_only l components bound (Some m) = rw (as_str-cut l m.1) refl
+    λ m. ok_or (as_str m.1) cause.Target >>= target_at components bound before m.0)
+target_only l components bound before None = refl
+target_only l components bound before (Some m) = rw (as_str-cut l m.1) refl
 
-target_option : (l : ℕ) (components bound : List (List ℕ)) (o : Option (List (List ℕ × Data)))
+target_option : (l : ℕ) (components bound : List (List ℕ)) (before : Option ℕ) (o : Option (List (List ℕ × Data)))
     → (ok_or (option_and_then only (option_map (map (cut_pair l)) o)) cause.Target >>=
-    λ m. ok_or (as_str m.1) cause.Target >>= target_at components bound m.0)
+    λ m. ok_or (as_str m.1) cause.Target >>= target_at components bound before m.0)
     ≡ (ok_or (option_and_then only o) cause.Target >>=
-    λ m. ok_or (as_str m.1) cause.Target >>= target_at components bound m.0)
-target_option l components bound None = refl
-target_option l components bound (Some ms) =
+    λ m. ok_or (as_str m.1) cause.Target >>= target_at components bound before m.0)
+target_option l components bound before None = refl
+target_option l components bound before (Some ms) =
     ap
     (λ (o : Option (List ℕ × Data)). ok_or o cause.Target >>= λ m. ok_or (as_str m.1)
-    cause.Target >>= target_at components bound m.0) (only_cut l ms)
-    ∙ target_only l components bound (only ms)
+    cause.Target >>= target_at components bound before m.0) (only_cut l ms)
+    ∙ target_only l components bound before (only ms)
 
-target-cut : (l : ℕ) (components bound : List (List ℕ)) (o : Option Data) → target_of components
-    bound (option_map (cut (suc l)) o) ≡ target_of components bound o
+target-cut : (l : ℕ) (components bound : List (List ℕ)) (before : Option ℕ) (o : Option Data)
+    → target_of components bound before (option_map (cut (suc l)) o)
+    ≡ target_of components bound before o
 unfolding target_of
-target-cut l components bound None = refl
-target-cut l components bound (Some d) =
+target-cut l components bound before None = refl
+target-cut l components bound before (Some d) =
     ap
     (λ (o : Option (List (List ℕ × Data))). ok_or (option_and_then only o) cause.Target >>= λ m.
-    ok_or (as_str m.1) cause.Target >>= target_at components bound m.0) (members-cut l d)
-    ∙ target_option l components bound (members d)
+    ok_or (as_str m.1) cause.Target >>= target_at components bound before m.0) (members-cut l d)
+    ∙ target_option l components bound before (members d)
 
-of_kind-cut : (components bound : List (List ℕ)) (d : Data) (kind : Kind) → of_kind components bound
-    (cut 2 d) kind ≡ of_kind components bound d kind
+of_kind-cut : (components bound : List (List ℕ)) (before : Option ℕ) (d : Data) (kind : Kind)
+    → of_kind components bound before (cut 2 d) kind ≡ of_kind components bound before d kind
 unfolding of_kind
-of_kind-cut components bound d kinds.Spawn =
+of_kind-cut components bound before d kinds.Spawn =
     rw (
       get-cut 1 (codes "spawn") d,
       get-cut 1 (codes "as") d,
@@ -242,7 +244,7 @@ of_kind-cut components bound d kinds.Spawn =
           (get (codes "spawn") d),
       binding-cut 1 bound (get (codes "as") d),
     ) refl
-of_kind-cut components bound d kinds.SpawnMany =
+of_kind-cut components bound before d kinds.SpawnMany =
     rw (
       get-cut 1 (codes "spawn_many") d,
       get-cut 1 (codes "with") d,
@@ -251,40 +253,40 @@ of_kind-cut components bound d kinds.SpawnMany =
       with-cut 0 components (get (codes "with") d),
       binding-cut 1 bound (get (codes "as") d),
     ) refl
-of_kind-cut components bound d kinds.Insert =
+of_kind-cut components bound before d kinds.Insert =
     rw (
       get-cut 1 (codes "insert") d,
       get-cut 1 (codes "on") d,
       bundle-cut 0 components
           (get (codes "insert") d),
-      target-cut 0 components bound (get (codes "on") d),
+      target-cut 0 components bound before (get (codes "on") d),
     ) refl
-of_kind-cut components bound d kinds.Remove =
+of_kind-cut components bound before d kinds.Remove =
     rw (
       get-cut 1 (codes "remove") d,
       get-cut 1 (codes "on") d,
       removed-cut 1 components
           (get (codes "remove") d),
-      target-cut 0 components bound (get (codes "on") d),
+      target-cut 0 components bound before (get (codes "on") d),
     ) refl
-of_kind-cut components bound d kinds.Despawn =
-    rw (get-cut 1 (codes "despawn") d, target-cut 0 components bound (get (codes "despawn") d)) refl
+of_kind-cut components bound before d kinds.Despawn =
+    rw (get-cut 1 (codes "despawn") d, target-cut 0 components bound before (get (codes "despawn") d)) refl
 
-kind_then : (components bound : List (List ℕ)) (d : Data) (o : Option Kind)
-    → (ok_or o cause.Shape >>= of_kind components bound (cut 2 d)) ≡
-    (ok_or o cause.Shape >>= of_kind components bound d)
-kind_then components bound d None = refl
-kind_then components bound d (Some kind) = of_kind-cut components bound d kind
+kind_then : (components bound : List (List ℕ)) (before : Option ℕ) (d : Data) (o : Option Kind)
+    → (ok_or o cause.Shape >>= of_kind components bound before (cut 2 d)) ≡
+    (ok_or o cause.Shape >>= of_kind components bound before d)
+kind_then components bound before d None = refl
+kind_then components bound before d (Some kind) = of_kind-cut components bound before d kind
 
 -- an operation
-pub operation_of-cut : (components bound : List (List ℕ)) (d : Data) → operation_of components bound
-    (cut 2 d) ≡ operation_of components bound d
+pub operation_of-cut : (components bound : List (List ℕ)) (before : Option ℕ) (d : Data)
+    → operation_of components bound before (cut 2 d) ≡ operation_of components bound before d
 unfolding operation_of
-operation_of-cut components bound d =
+operation_of-cut components bound before d =
     ap
-    (λ (o : Option Kind). ok_or o cause.Shape >>= of_kind components bound (cut 2 d))
+    (λ (o : Option Kind). ok_or o cause.Shape >>= of_kind components bound before (cut 2 d))
     (kind_of-cut 1 d)
-    ∙ kind_then components bound d (kind_of d)
+    ∙ kind_then components bound before d (kind_of d)
 
 name_option : (l : ℕ) (o : Option Data) → option_and_then as_name (option_map (cut l) o) ≡
     option_and_then as_name o
@@ -311,17 +313,17 @@ take_cut zero ds = refl
 take_cut (suc n) [] = refl
 take_cut (suc n) (d ∷ ds) = ap (λ (xs : List Data). cut 2 d ∷ xs) (take_cut n ds)
 
-operation_at-cut : (components : List (List ℕ)) (frame system : ℕ) (all : List Data) (n : ℕ)
-    (d : Data)
-    → operation_at components frame system (map (cut 2) all) n (cut 2 d) ≡ operation_at components
-    frame system all n d
-operation_at-cut components frame system all n d =
+operation_at-cut : (format : Format) (components : List (List ℕ)) (frame system : ℕ)
+    (all : List Data) (n : ℕ) (d : Data)
+    → operation_at format components frame system (map (cut 2) all) n (cut 2 d)
+    ≡ operation_at format components frame system all n d
+operation_at-cut format components frame system all n d =
     ap
     (λ (names : List (List ℕ)). at_operation frame system n
-    (operation_of components names (cut 2 d)))
+    (operation_of components names (births_before format frame) (cut 2 d)))
     (ap (λ (ds : List Data). names_in bound_name ds) (take_cut n all) ∙ names_from [] (take n all))
     ∙ ap (at_operation frame system n) (operation_of-cut components
-    (names_in bound_name (take n all)) d)
+    (names_in bound_name (take n all)) (births_before format frame) d)
 
 numbered-cut : {A E : Type 0} (f g : ℕ → Data → Result A E) (l n : ℕ) (ds : List Data) →
     ((m : ℕ) (d : Data) → f m (cut l d) ≡ g m d)
@@ -333,15 +335,16 @@ numbered-cut {A} {E} f g l n (d ∷ ds) same =
     (same n d) (numbered-cut f g l (n + 1) ds same)
 
 -- the operations of a system
-pub operations-cut : (components : List (List ℕ)) (frame system : ℕ) (ds : List Data)
-    → numbered (operation_at components frame system (map (cut 2) ds)) 0 (map (cut 2) ds) ≡ numbered
-    (operation_at components frame system ds) 0 ds
-operations-cut components frame system ds =
-    numbered-cut (operation_at components frame system (map (cut 2) ds))
-    (operation_at components frame system ds) 2 0 ds
-    (operation_at-cut components frame system ds)
+pub operations-cut : (format : Format) (components : List (List ℕ)) (frame system : ℕ)
+    (ds : List Data)
+    → numbered (operation_at format components frame system (map (cut 2) ds)) 0 (map (cut 2) ds)
+    ≡ numbered (operation_at format components frame system ds) 0 ds
+operations-cut format components frame system ds =
+    numbered-cut (operation_at format components frame system (map (cut 2) ds))
+    (operation_at format components frame system ds) 2 0 ds
+    (operation_at-cut format components frame system ds)
 
--- ---- the limits, and the names of the components
+-- ---- the heading, and the names of the components
 
 part_cut : (l absent low high : ℕ) (o : Option Data) → or_absent absent (whole_within low high)
     (option_map (cut l) o) ≡ or_absent absent (whole_within low high) o
@@ -354,26 +357,29 @@ number_cut absent low high k d = ap
     (λ (o : Option Data). or_absent absent (whole_within low high) o) (get-cut 0 k d) ∙ part_cut 0
     absent low high (get k d)
 
-abbrev numbers : Data → Result Limits ScriptCause
-numbers d =
-    ok_or (or_absent 1 (whole_within 1 1) (get (codes "format") d)) script_cause.Format
+abbrev said : Data → Result Heading ScriptCause
+said d =
+    format_of (get (codes "format") d)
     >>=
-    λ _. ok_or (or_absent 4294967295 (whole_within 1 4294967295) (get (codes "slots") d))
+    λ format. ok_or (or_absent 4294967295 (whole_within 1 4294967295) (get (codes "slots") d))
     script_cause.Slots
     >>=
     λ slots. ok_or (or_absent 2147483647 (whole_within 1 2147483647)
     (get (codes "generations") d)) script_cause.Generations
-    >>= λ generations. Ok (record { slots = slots; generations = generations })
+    >>= λ generations. Ok (record {
+      format = format;
+      limits = record { slots = slots; generations = generations };
+    })
 
-numbers-cut : (d : Data) → numbers (cut 1 d) ≡ numbers d
-numbers-cut d =
+said-cut : (d : Data) → said (cut 1 d) ≡ said d
+said-cut d =
     rw (
-      number_cut 1 1 1 (codes "format") d,
+      number_cut 1 1 2 (codes "format") d,
       number_cut 4294967295 1 4294967295 (codes "slots") d,
       number_cut 2147483647 1 2147483647 (codes "generations") d,
     ) refl
 
-first_tests : (o : Option (List (List ℕ × Data))) (rest : Result Limits ScriptCause)
+first_tests : (o : Option (List (List ℕ × Data))) (rest : Result Heading ScriptCause)
     → (ok_or (option_map (map (cut_pair 0)) o) script_cause.Top >>=
     λ ms. test (keys_among script_keys ms) script_cause.Key >>= λ _. rest)
     ≡
@@ -383,17 +389,17 @@ first_tests None rest = refl
 first_tests (Some ms) rest = ap
     (λ (b : Bool). test b script_cause.Key >>= λ _. rest) (among_cut 0 script_keys ms)
 
-pub limits_of-cut : (d : Data) → limits_of (cut 1 d) ≡ limits_of d
-unfolding limits_of
-limits_of-cut d =
+pub heading_of-cut : (d : Data) → heading_of (cut 1 d) ≡ heading_of d
+unfolding heading_of
+heading_of-cut d =
     ap
     (λ (o : Option (List (List ℕ × Data))). ok_or o script_cause.Top >>= λ ms. test
-    (keys_among script_keys ms) script_cause.Key >>= λ _. numbers (cut 1 d))
+    (keys_among script_keys ms) script_cause.Key >>= λ _. said (cut 1 d))
     (members-cut 0 d)
-    ∙ first_tests (members d) (numbers (cut 1 d))
+    ∙ first_tests (members d) (said (cut 1 d))
     ∙ ap
-    (λ (r : Result Limits ScriptCause). ok_or (members d) script_cause.Top >>= λ ms. test
-    (keys_among script_keys ms) script_cause.Key >>= λ _. r) (numbers-cut d)
+    (λ (r : Result Heading ScriptCause). ok_or (members d) script_cause.Top >>= λ ms. test
+    (keys_among script_keys ms) script_cause.Key >>= λ _. r) (said-cut d)
 
 component_names_from : (names : List (List ℕ)) (ds : List Data) → fold
     (λ names d. with_part names (as_name d)) names (map (cut 0) ds) ≡ fold

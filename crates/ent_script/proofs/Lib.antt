@@ -6,6 +6,7 @@ pub mod Faults
 pub mod Keys
 pub mod Numbering
 pub mod Texts
+pub mod Births
 pub mod Turns
 pub mod Stepping
 pub mod Cuts

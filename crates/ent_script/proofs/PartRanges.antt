@@ -4,14 +4,16 @@ use Rattle.std.proofs.Common.{◌≡◌, ℕ, ℤ, pos, negsuc, ◌+◌, ◌<◌
 use Rattle.std.proofs.Common.{◌&&◌, cond, List, [], ◌∷◌, ◌++◌, length, length-append, take, Option}
 use Rattle.std.proofs.Common.{Some, None, option_map, option_and_then, ok_or, Result, Ok, Err}
 use Rattle.std.proofs.Common.{IfSome, is_some, unwrap_or, bytes_eq, codes, refl, arith, leb-true}
-use Rattle.std.specs.Prelude.{IfOk, nat_le}
+use Rattle.std.proofs.lemmas.Bool.{and_parts, ltb-true}
+use Rattle.std.specs.Prelude.{IfOk, nat_le, nat_lt, ◌==◌}
 use Rattle.std.specs.declared.cmp.Ordering.{Ordering}
 use Rattle.std.specs.declared.cmp.Ordering.TheVariants.{Less, Equal, Greater}
 use Rattle.std.specs.Ordering.{match_ordering}
-use Rattle.std.specs.List.{AllByRecursion, fold}
+use Rattle.std.specs.List.{AllByRecursion, fold, slice_split}
 use Rattle.std.specs.BTreeMap.{insert_entry}
 use Rattle.serde_json.specs.Data.{Data}
 use Rattle.serde_json.specs.Find.{get, as_str}
+use Rattle.ent_handle.specs.declared.birth.Birth.{Birth}
 use Rattle.ent_handle.specs.Handle.{Handle}
 use Rattle.ent_handle.specs.Text.{handle_of}
 use Rattle.ent_handle.specs.declared.text.TextFault.{TextFault}
@@ -19,17 +21,21 @@ use Rattle.ent_handle.specs.declared.component.ComponentId.{ComponentId}
 use Rattle.ent_handle.specs.Component.{component_cmp}
 use Rattle.ent_script.specs.declared.cause.Cause.{Cause}
 use Rattle.ent_script.specs.declared.cause.Cause.TheVariants as cause
+use Rattle.ent_script.specs.declared.format.Format.{Format}
+use Rattle.ent_script.specs.declared.format.Format.TheVariants as format
 use Rattle.ent_script.specs.declared.kind.Kind.{Kind}
 use Rattle.ent_script.specs.declared.kind.Kind.TheVariants as kinds
 use Rattle.ent_script.specs.declared.target.Target.{Target}
 use Rattle.ent_script.specs.declared.target.Target.TheVariants as target
 use Rattle.ent_script.specs.Json.{elements, at_most, members, whole, in_range, whole_within}
 use Rattle.ent_script.specs.Names.{as_name, number_among, with_part, names_in}
-use Rattle.ent_script.specs.Ranges.{IsBundleOf, IsBindingAt, IsTargetAt, IsOperationAt}
+use Rattle.ent_script.specs.Ranges.{IsBundleOf, IsBindingAt, IsBirthBefore, IsTargetAt}
+use Rattle.ent_script.specs.Ranges.{IsOperationAt}
 use Rattle.ent_script.specs.Reading.{◌>>=◌, numbered, component_of, item_of, items_of, read_bundle}
 use Rattle.ent_script.specs.Reading.{with_of, count_of, binding_of, removed_of, only, target_handle}
 use Rattle.ent_script.specs.Reading.{target_at, target_of, kind_of, of_kind, operation_of}
-use Rattle.ent_script.specs.Reading.{bound_name}
+use Rattle.ent_script.specs.Reading.{bound_name, birth_number, birth_of_numbers, birth_of_parts}
+use Rattle.ent_script.specs.Reading.{birth_of, births_before, target_birth}
 use Rattle.ent_script.proofs.NamesLaws.{number_within}
 
 pub then_ok : {A B E : Type 0} (Q : A → Type 0) (P : B → Type 0) (r : Result A E)
@@ -255,88 +261,121 @@ few_names i ds = omega (arith, names_from bound_name i [] ds)
 
 -- ---- targets and operations
 
-handle_in : (components most : ℕ) (text : List ℕ)
-    → IfOk (target_handle text) (IsTargetAt components most)
-handle_in components most text = handle_by components most (handle_of text)
+handle_in : (components frame most : ℕ) (text : List ℕ)
+    → IfOk (target_handle text) (IsTargetAt components frame most)
+handle_in components frame most text = handle_by (handle_of text)
   where
-    handle_by : (components most : ℕ) (r : Result Handle TextFault) → IfOk {T = Target} {E = Cause}
+    handle_by : (r : Result Handle TextFault) → IfOk {T = Target} {E = Cause}
         (elim r [ Ok h ↦ Ok (target.Handle h) | Err e ↦ Err cause.Handle ])
-        (IsTargetAt components most)
-    handle_by components most (Ok h) = tt
-    handle_by components most (Err e) = tt
+        (IsTargetAt components frame most)
+    handle_by (Ok h) = tt
+    handle_by (Err e) = tt
 
-module _ (components bound : List (List ℕ)) (most : ℕ) (few_bound : length bound ≤ most) where
-  target_at_in : (key text : List ℕ) → IfOk (target_at components bound key text)
-      (IsTargetAt (length components) most)
+-- the numbers of a birth were tested
+numbers_in : (before frame system ordinal : ℕ) → IfOk (birth_of_numbers before frame system ordinal)
+    (IsBirthBefore before)
+numbers_in before frame system ordinal = tested (nat_lt frame before && nat_lt system 256) refl
+  where
+    tested : (b : Bool) → (nat_lt frame before && nat_lt system 256) ≡ b → IfOk {T = Birth}
+        {E = Cause} (cond b (Ok (record { frame = frame; system = system; ordinal = ordinal }))
+        (Err cause.Birth)) (IsBirthBefore before)
+    tested true e = let both = and_parts _ _ e in (ltb-true _ _ both.0, ltb-true _ _ both.1)
+    tested false e = tt
+
+parts_in : (before : ℕ) (parts : List (List ℕ)) → IfOk (birth_of_parts before parts)
+    (IsBirthBefore before)
+parts_in before [] = tt
+parts_in before (frame ∷ []) = tt
+parts_in before (frame ∷ system ∷ []) = tt
+parts_in before (frame ∷ system ∷ ordinal ∷ []) =
+    then_ok (λ _. Unit {0}) (IsBirthBefore before) (birth_number frame) _ (always (birth_number frame))
+    (λ f _. then_ok (λ _. Unit {0}) (IsBirthBefore before) (birth_number system) _
+    (always (birth_number system))
+    (λ s _. then_ok (λ _. Unit {0}) (IsBirthBefore before) (birth_number ordinal) _
+    (always (birth_number ordinal)) (λ k _. numbers_in before f s k)))
+parts_in before (frame ∷ system ∷ ordinal ∷ more ∷ others) = tt
+
+birth_in : (components most : ℕ) (format : Format) (frame : ℕ) (text : List ℕ)
+    → IfOk (target_birth (births_before format frame) text) (IsTargetAt components frame most)
+unfolding birth_of
+birth_in components most format.One frame text = tt
+birth_in components most format.Two frame text =
+    then_ok (IsBirthBefore frame) (IsTargetAt components frame most) (birth_of frame text) _
+    (parts_in frame (slice_split (λ b. b == 46) text)) (λ birth before. before)
+
+module _ (components bound : List (List ℕ)) (format : Format) (frame most : ℕ) (few_bound : length bound ≤ most) where
+  target_at_in : (key text : List ℕ) → IfOk (target_at components bound (births_before format frame) key text)
+      (IsTargetAt (length components) frame most)
   unfolding target_at
   target_at_in key text =
-      either (IsTargetAt (length components) most) (bytes_eq key (codes "name")) _ _
-      (or_cause (IsTargetAt (length components) most)
+      either (IsTargetAt (length components) frame most) (bytes_eq key (codes "name")) _ _
+      (or_cause (IsTargetAt (length components) frame most)
       (option_map target.Name (number_among text bound)) cause.Name
-      (mapped (IsTargetAt (length components) most) target.Name (number_among text bound)
+      (mapped (IsTargetAt (length components) frame most) target.Name (number_among text bound)
       (below_more_names (number_among text bound) (length bound) most few_bound
       (number_within text bound))))
-      (either (IsTargetAt (length components) most) (bytes_eq key (codes "handle")) _ _
-      (handle_in (length components) most text)
-      (either (IsTargetAt (length components) most) (bytes_eq key (codes "each")) _ _
-      (or_cause (IsTargetAt (length components) most)
+      (either (IsTargetAt (length components) frame most) (bytes_eq key (codes "handle")) _ _
+      (handle_in (length components) frame most text)
+      (either (IsTargetAt (length components) frame most) (bytes_eq key (codes "each")) _ _
+      (or_cause (IsTargetAt (length components) frame most)
       (option_map target.Each (component_of components text)) cause.Component
-      (mapped (IsTargetAt (length components) most) target.Each (component_of components text)
+      (mapped (IsTargetAt (length components) frame most) target.Each (component_of components text)
       (component_in components text)))
-      tt))
+      (either (IsTargetAt (length components) frame most) (bytes_eq key (codes "birth")) _ _
+      (birth_in (length components) most format frame text) tt)))
 
-  target_in : (part : Option Data) → IfOk (target_of components bound part)
-      (IsTargetAt (length components) most)
+  target_in : (part : Option Data) → IfOk (target_of components bound (births_before format frame) part)
+      (IsTargetAt (length components) frame most)
   unfolding target_of
   target_in part =
-      then_ok (λ _. Unit {0}) (IsTargetAt (length components) most)
+      then_ok (λ _. Unit {0}) (IsTargetAt (length components) frame most)
       (ok_or (option_and_then only (option_and_then members part)) cause.Target) _
       (always (ok_or (option_and_then only (option_and_then members part)) cause.Target))
-      (λ member _. then_ok (λ _. Unit {0}) (IsTargetAt (length components) most)
+      (λ member _. then_ok (λ _. Unit {0}) (IsTargetAt (length components) frame most)
       (ok_or (as_str member.1) cause.Target) _ (always (ok_or (as_str member.1) cause.Target))
       (λ text _. target_at_in member.0 text))
 
-  of_kind_in : (d : Data) (kind : Kind) → IfOk (of_kind components bound d kind)
-      (IsOperationAt (length components) most)
+  of_kind_in : (d : Data) (kind : Kind) → IfOk (of_kind components bound (births_before format frame) d kind)
+      (IsOperationAt (length components) frame most)
   unfolding of_kind
   of_kind_in d kinds.Spawn =
-      then_ok (IsBundleOf (length components)) (IsOperationAt (length components) most)
+      then_ok (IsBundleOf (length components)) (IsOperationAt (length components) frame most)
       (read_bundle components (get (codes "spawn") d)) _
       (bundle_in components (get (codes "spawn") d))
-      (λ bundle h. then_ok (IsBindingAt most) (IsOperationAt (length components) most)
+      (λ bundle h. then_ok (IsBindingAt most) (IsOperationAt (length components) frame most)
       (binding_of bound (get (codes "as") d)) _
       (binding_in bound most few_bound (get (codes "as") d)) (λ binds b. (h, b)))
   of_kind_in d kinds.SpawnMany =
-      then_ok (λ n. n ≤ 65536) (IsOperationAt (length components) most)
+      then_ok (λ n. n ≤ 65536) (IsOperationAt (length components) frame most)
       (count_of (get (codes "spawn_many") d)) _ (count_in (get (codes "spawn_many") d))
-      (λ count k. then_ok (IsBundleOf (length components)) (IsOperationAt (length components) most)
+      (λ count k. then_ok (IsBundleOf (length components)) (IsOperationAt (length components) frame most)
       (with_of components (get (codes "with") d)) _ (with_in components (get (codes "with") d))
-      (λ bundle h. then_ok (IsBindingAt most) (IsOperationAt (length components) most)
+      (λ bundle h. then_ok (IsBindingAt most) (IsOperationAt (length components) frame most)
       (binding_of bound (get (codes "as") d)) _
       (binding_in bound most few_bound (get (codes "as") d)) (λ binds b. (k, h, b))))
   of_kind_in d kinds.Insert =
-      then_ok (IsBundleOf (length components)) (IsOperationAt (length components) most)
+      then_ok (IsBundleOf (length components)) (IsOperationAt (length components) frame most)
       (read_bundle components (get (codes "insert") d)) _
       (bundle_in components (get (codes "insert") d))
-      (λ bundle h. then_ok (IsTargetAt (length components) most) (IsOperationAt (length components)
-      most) (target_of components bound (get (codes "on") d)) _ (target_in (get (codes "on") d))
+      (λ bundle h. then_ok (IsTargetAt (length components) frame most) (IsOperationAt (length components)
+      frame most) (target_of components bound (births_before format frame) (get (codes "on") d)) _ (target_in (get (codes "on") d))
       (λ on k. (h, k)))
   of_kind_in d kinds.Remove =
-      then_ok (ComponentIn (length components)) (IsOperationAt (length components) most)
+      then_ok (ComponentIn (length components)) (IsOperationAt (length components) frame most)
       (removed_of components (get (codes "remove") d)) _
       (removed_in components (get (codes "remove") d))
-      (λ c h. then_ok (IsTargetAt (length components) most) (IsOperationAt (length components) most)
-      (target_of components bound (get (codes "on") d)) _ (target_in (get (codes "on") d))
+      (λ c h. then_ok (IsTargetAt (length components) frame most) (IsOperationAt (length components) frame most)
+      (target_of components bound (births_before format frame) (get (codes "on") d)) _ (target_in (get (codes "on") d))
       (λ on k. (h, k)))
   of_kind_in d kinds.Despawn =
-      then_ok (IsTargetAt (length components) most) (IsOperationAt (length components) most)
-      (target_of components bound (get (codes "despawn") d)) _
+      then_ok (IsTargetAt (length components) frame most) (IsOperationAt (length components) frame most)
+      (target_of components bound (births_before format frame) (get (codes "despawn") d)) _
       (target_in (get (codes "despawn") d)) (λ on k. k)
 
-  pub operation_in : (d : Data) → IfOk (operation_of components bound d)
-      (IsOperationAt (length components) most)
+  pub operation_in : (d : Data) → IfOk (operation_of components bound (births_before format frame) d)
+      (IsOperationAt (length components) frame most)
   unfolding operation_of
   operation_in d =
-      then_ok (λ _. Unit {0}) (IsOperationAt (length components) most)
+      then_ok (λ _. Unit {0}) (IsOperationAt (length components) frame most)
       (ok_or (kind_of d) cause.Shape) _ (always (ok_or (kind_of d) cause.Shape))
       (λ kind _. of_kind_in d kind)

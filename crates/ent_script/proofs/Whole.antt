@@ -6,14 +6,14 @@ use Rattle.serde_json.specs.Data.{Data}
 use Rattle.serde_json.specs.Find.{get}
 use Rattle.serde_json.specs.View.{view}
 use Rattle.serde_json.specs.declared.value.Value.{Value}
-use Rattle.ent_alloc.specs.Limits.{Limits}
 use Rattle.ent_script.specs.Cut.{cut}
 use Rattle.ent_script.specs.Json.{at_most}
 use Rattle.ent_script.specs.Reading.{◌>>=◌, numbered, frame_of, component_at, component_names}
-use Rattle.ent_script.specs.Reading.{limits_of, in_script, script_of}
+use Rattle.ent_script.specs.Reading.{heading_of, in_script, script_of}
 use Rattle.ent_script.specs.Script.{Script}
 use Rattle.ent_script.specs.Streaming.{frames_of}
 use Rattle.ent_script.specs.declared.cause.ScriptCause.TheVariants as script_cause
+use Rattle.ent_script.specs.declared.heading.Heading.{Heading}
 use Rattle.ent_script.specs.declared.operation.Operation.{Operation}
 use Rattle.ent_script.specs.declared.read_fault.ReadFault.{ReadFault}
 use Rattle.ent_script.specs.declared.read_fault.ReadFault.TheVariants as fault
@@ -53,49 +53,48 @@ pub names_meant : (part : Option Data) (vs : List Value) → Some (map view vs) 
 unfolding component_names
 names_meant part vs e = names_by (option_and_then (at_most 256) part) vs e
 
-abbrev pub all_of : Limits → Names → List (List (List Operation)) → Result Script ReadFault
-all_of limits names frames = Ok (record { limits = limits; components = names; frames = frames })
+abbrev pub all_of : Heading → Names → List (List (List Operation)) → Result Script ReadFault
+all_of heading names frames =
+    Ok (record { limits = heading.limits; components = names; frames = frames })
 
-abbrev after_these : Limits → Names → Option (List Data) → Result Script ReadFault
-after_these limits names o = ok_or o (fault.Script script_cause.Frames) >>=
-    λ ds. numbered (frame_of names) 0 ds >>= λ frames. all_of limits names frames
+abbrev after_these : Heading → Names → Option (List Data) → Result Script ReadFault
+after_these heading names o = ok_or o (fault.Script script_cause.Frames) >>=
+    λ ds. numbered (frame_of heading.format names) 0 ds >>= λ frames. all_of heading names frames
 
-after_frames : (limits : Limits) (names : Names) (o : Option (List Data))
-    → after_these limits names o ≡ ((ok_or o (fault.Script script_cause.Frames) >>=
-    λ ds. numbered (frame_of names) 0 ds) >>= λ frames. all_of limits names frames)
-after_frames limits names None = refl
-after_frames limits names (Some ds) = refl
+after_frames : (heading : Heading) (names : Names) (o : Option (List Data))
+    → after_these heading names o ≡ ((ok_or o (fault.Script script_cause.Frames) >>=
+    λ ds. numbered (frame_of heading.format names) 0 ds) >>= λ frames. all_of heading names frames)
+after_frames heading names None = refl
+after_frames heading names (Some ds) = refl
 
-pub script_is : (d : Data) (limits : Limits) (names : Names) → in_script (limits_of d) ≡ Ok limits →
-    in_script (component_names (get (codes "components") d)) ≡ Ok names
-    → script_of d ≡ (frames_of names (get (codes "frames") d) >>=
-    λ frames. all_of limits names frames)
+abbrev after_names : Data → Heading → Names → Result Script ReadFault
+after_names d heading names =
+    after_these heading names (option_and_then (at_most 1000) (get (codes "frames") d))
+
+abbrev after_heading : Data → Heading → Result Script ReadFault
+after_heading d heading =
+    in_script (component_names (get (codes "components") d)) >>= after_names d heading
+
+pub script_is : (d : Data) (heading : Heading) (names : Names)
+    → in_script (heading_of d) ≡ Ok heading
+    → in_script (component_names (get (codes "components") d)) ≡ Ok names
+    → script_of d ≡ (frames_of heading.format names (get (codes "frames") d) >>=
+    λ frames. all_of heading names frames)
 unfolding script_of
-script_is d limits names a b =
-    ap
-    (λ (r : Result Limits ReadFault). r >>= λ limits. in_script
-    (component_names (get (codes "components") d)) >>= λ names.
-    after_these limits names (option_and_then (at_most 1000) (get (codes "frames") d))) a
-    ∙ ap (λ (r : Result Names ReadFault). r >>= λ names.
-    after_these limits names (option_and_then (at_most 1000) (get (codes "frames") d))) b
-    ∙ after_frames limits names (option_and_then (at_most 1000) (get (codes "frames") d))
+script_is d heading names a b =
+    ap (λ (r : Result Heading ReadFault). r >>= after_heading d) a
+    ∙ ap (λ (r : Result Names ReadFault). r >>= after_names d heading) b
+    ∙ after_frames heading names (option_and_then (at_most 1000) (get (codes "frames") d))
 
-pub limits_refused : (d : Data) (e : ReadFault) → in_script (limits_of d) ≡ Err e → script_of d ≡
-    Err e
+pub heading_refused : (d : Data) (e : ReadFault) → in_script (heading_of d) ≡ Err e
+    → script_of d ≡ Err e
 unfolding script_of
-limits_refused d e a =
-    ap
-    (λ (r : Result Limits ReadFault). r >>= λ limits. in_script
-    (component_names (get (codes "components") d)) >>= λ names.
-    after_these limits names (option_and_then (at_most 1000) (get (codes "frames") d))) a
+heading_refused d e a = ap (λ (r : Result Heading ReadFault). r >>= after_heading d) a
 
-pub names_refused : (d : Data) (limits : Limits) (e : ReadFault) → in_script (limits_of d) ≡ Ok
-    limits → in_script (component_names (get (codes "components") d)) ≡ Err e → script_of d ≡ Err e
+pub names_refused : (d : Data) (heading : Heading) (e : ReadFault)
+    → in_script (heading_of d) ≡ Ok heading
+    → in_script (component_names (get (codes "components") d)) ≡ Err e → script_of d ≡ Err e
 unfolding script_of
-names_refused d limits e a b =
-    ap
-    (λ (r : Result Limits ReadFault). r >>= λ limits. in_script
-    (component_names (get (codes "components") d)) >>= λ names.
-    after_these limits names (option_and_then (at_most 1000) (get (codes "frames") d))) a
-    ∙ ap (λ (r : Result Names ReadFault). r >>= λ names.
-    after_these limits names (option_and_then (at_most 1000) (get (codes "frames") d))) b
+names_refused d heading e a b =
+    ap (λ (r : Result Heading ReadFault). r >>= after_heading d) a
+    ∙ ap (λ (r : Result Names ReadFault). r >>= after_names d heading) b

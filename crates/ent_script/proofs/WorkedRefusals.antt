@@ -34,10 +34,10 @@ unknown_key : script_of_text (codes "{\"components\":[],\"frames\":[],\"seed\":1
 unfolding script_on_literals
 unknown_key = refl
 
-format_two : script_of_text (codes "{\"format\":2,\"components\":[],\"frames\":[]}")
+format_three : script_of_text (codes "{\"format\":3,\"components\":[],\"frames\":[]}")
     ≡ refused_script script_cause.Format
 unfolding script_on_literals
-format_two = refl
+format_three = refl
 
 slots_zero : script_of_text (codes "{\"slots\":0,\"components\":[],\"frames\":[]}")
     ≡ refused_script script_cause.Slots
@@ -87,12 +87,12 @@ unfolding script_on_literals
 without_frames = refl
 
 -- of two tests that fail, the first refuses
-key_before_format : script_of_text (codes "{\"format\":2,\"seed\":1}")
+key_before_format : script_of_text (codes "{\"format\":3,\"seed\":1}")
     ≡ refused_script script_cause.Key
 unfolding script_on_literals
 key_before_format = refl
 
-format_before_slots : script_of_text (codes "{\"slots\":0,\"format\":2,\"generations\":0}")
+format_before_slots : script_of_text (codes "{\"slots\":0,\"format\":3,\"generations\":0}")
     ≡ refused_script script_cause.Format
 unfolding script_on_literals
 format_before_slots = refl
@@ -177,6 +177,63 @@ no_handle : script_of_text
     ≡ refused_operation 0 0 0 cause.Handle
 unfolding script_on_literals
 no_handle = refl
+
+-- a birth is a target of format 2 alone, and of an earlier frame
+birth_in_format_one : script_of_text
+    (codes
+    "{\"components\":[],\"frames\":[[[{\"despawn\":{\"birth\":\"0.0.0\"}}]]]}")
+    ≡ refused_operation 0 0 0 cause.Target
+unfolding script_on_literals
+birth_in_format_one = refl
+
+birth_of_the_frame_itself : script_of_text
+    (codes
+    "{\"format\":2,\"components\":[],\"frames\":[[[{\"despawn\":{\"birth\":\"0.0.0\"}}]]]}")
+    ≡ refused_operation 0 0 0 cause.Birth
+unfolding script_on_literals
+birth_of_the_frame_itself = refl
+
+birth_of_a_later_frame : script_of_text
+    (codes
+    "{\"format\":2,\"components\":[],\"frames\":[[],[[{\"despawn\":{\"birth\":\"1.0.0\"}}]]]}")
+    ≡ refused_operation 1 0 0 cause.Birth
+unfolding script_on_literals
+birth_of_a_later_frame = refl
+
+birth_with_a_zero : script_of_text
+    (codes
+    "{\"format\":2,\"components\":[],\"frames\":[[],[[{\"despawn\":{\"birth\":\"00.0.0\"}}]]]}")
+    ≡ refused_operation 1 0 0 cause.Birth
+unfolding script_on_literals
+birth_with_a_zero = refl
+
+birth_of_system_256 : script_of_text
+    (codes
+    "{\"format\":2,\"components\":[],\"frames\":[[],[[{\"despawn\":{\"birth\":\"0.256.0\"}}]]]}")
+    ≡ refused_operation 1 0 0 cause.Birth
+unfolding script_on_literals
+birth_of_system_256 = refl
+
+birth_past_the_ordinals : script_of_text
+    (codes
+    "{\"format\":2,\"components\":[],\"frames\":[[],[[{\"despawn\":{\"birth\":\"0.0.4294967296\"}}]]]}")
+    ≡ refused_operation 1 0 0 cause.Birth
+unfolding script_on_literals
+birth_past_the_ordinals = refl
+
+birth_of_two_numbers : script_of_text
+    (codes
+    "{\"format\":2,\"components\":[],\"frames\":[[],[[{\"despawn\":{\"birth\":\"0.0\"}}]]]}")
+    ≡ refused_operation 1 0 0 cause.Birth
+unfolding script_on_literals
+birth_of_two_numbers = refl
+
+birth_of_four_numbers : script_of_text
+    (codes
+    "{\"format\":2,\"components\":[],\"frames\":[[],[[{\"despawn\":{\"birth\":\"0.0.0.0\"}}]]]}")
+    ≡ refused_operation 1 0 0 cause.Birth
+unfolding script_on_literals
+birth_of_four_numbers = refl
 
 -- a name that only a later operation of the system binds
 bound_later : script_of_text

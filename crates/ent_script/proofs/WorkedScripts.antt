@@ -10,16 +10,17 @@ use Rattle.ent_script.specs.declared.operation.Operation.TheVariants as operatio
 use Rattle.ent_script.specs.declared.read_fault.ReadFault.{ReadFault}
 use Rattle.ent_script.specs.declared.target.Target.TheVariants as target
 use Rattle.ent_script.specs.Script.{Script}
-use Rattle.ent_script.specs.Reading.{script_of_text, script_of, limits_of, component_names}
+use Rattle.ent_script.specs.Reading.{script_of_text, script_of, heading_of, component_names}
 use Rattle.ent_script.specs.Reading.{frame_of, system_of, operation_of, of_kind, has_keys, is_spawn}
 use Rattle.ent_script.specs.Reading.{is_spawn_many, is_insert, is_remove, is_despawn, read_bundle}
 use Rattle.ent_script.specs.Reading.{count_of, binding_of, removed_of, target_of, target_at}
+use Rattle.ent_script.specs.Reading.{birth_of}
 
 -- what a row unfolds to compute the script of a text
 unfoldable pub script_on_literals : ⊤
-unfolding serde_json_on_literals is_utf8 chars script_of limits_of component_names frame_of
+unfolding serde_json_on_literals is_utf8 chars script_of heading_of component_names frame_of
     system_of operation_of of_kind has_keys is_spawn is_spawn_many is_insert is_remove is_despawn
-    read_bundle count_of binding_of removed_of target_of target_at
+    read_bundle count_of binding_of removed_of target_of target_at birth_of
 script_on_literals = tt
 
 abbrev number : ℕ → ComponentId
@@ -109,6 +110,21 @@ handle_meant : script_of_text
     ≡ one_system [] (operation.Despawn (target.Handle (record { index = 3; generation = 2 })) ∷ [])
 unfolding script_on_literals
 handle_meant = refl
+
+-- in format 2 a target may be a birth of a frame before its own
+birth_meant : script_of_text
+    (codes "{\"format\":2,\"components\":[],\"frames\":[[],[[{\"despawn\":{\"birth\":\"0.255.4294967295\"}}]]]}")
+    ≡ Ok (record {
+      limits = default_limits;
+      components = [];
+      frames = [] ∷ ((operation.Despawn (target.Birth (record {
+        frame = 0;
+        system = 255;
+        ordinal = 4294967295;
+      })) ∷ []) ∷ []) ∷ [];
+    })
+unfolding script_on_literals
+birth_meant = refl
 
 most_at_once : script_of_text (codes "{\"components\":[],\"frames\":[[[{\"spawn_many\":65536}]]]}")
     ≡ one_system [] (operation.SpawnMany 65536 [] None ∷ [])

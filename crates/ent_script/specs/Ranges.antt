@@ -2,12 +2,18 @@
 use Rattle.std.specs.Prelude.{ℕ, ◌+◌, ◌<◌, ◌≤◌, ℤ, List, [], ◌∷◌, length, Option, Some, None}
 use Rattle.std.specs.List.{AllByRecursion}
 use Rattle.ent_alloc.specs.Limits.{AreLimits}
+use Rattle.ent_handle.specs.declared.birth.Birth.{Birth}
 use Rattle.ent_handle.specs.declared.component.ComponentId.{ComponentId}
 use Rattle.ent_script.specs.Script.{Script}
 use Rattle.ent_script.specs.declared.operation.Operation.{Operation}
 use Rattle.ent_script.specs.declared.operation.Operation.TheVariants as operation
 use Rattle.ent_script.specs.declared.target.Target.{Target}
 use Rattle.ent_script.specs.declared.target.Target.TheVariants as target
+
+-- each of them with its number, if the first one has this number
+abbrev pub AllFrom : {A : Type 0} → (ℕ → A → Type 0) → ℕ → List A → Type 0
+AllFrom P n [] = Unit {0}
+AllFrom P n (x ∷ xs) = P n x × AllFrom P (n + 1) xs
 
 -- each component is one of so many
 abbrev pub IsBundleOf : ℕ → List (ComponentId × ℤ) → Type 0
@@ -20,39 +26,41 @@ abbrev pub IsBindingAt : ℕ → Option ℕ → Type 0
 IsBindingAt n None = Unit {0}
 IsBindingAt n (Some name) = name ≤ n
 
-abbrev pub IsTargetAt : ℕ → ℕ → Target → Type 0
-IsTargetAt components n (target.Name name) = name < n
-IsTargetAt components n (target.Handle h) = Unit {0}
-IsTargetAt components n (target.Each c) = c.0 < components
+-- a birth of a frame before this one, and of a system that a frame may have
+abbrev pub IsBirthBefore : ℕ → Birth → Type 0
+IsBirthBefore frame birth = (birth.frame < frame) × (birth.system < 256)
+
+-- in operation n of a system of this frame
+abbrev pub IsTargetAt : ℕ → ℕ → ℕ → Target → Type 0
+IsTargetAt components frame n (target.Name name) = name < n
+IsTargetAt components frame n (target.Handle h) = Unit {0}
+IsTargetAt components frame n (target.Each c) = c.0 < components
+IsTargetAt components frame n (target.Birth birth) = IsBirthBefore frame birth
 
 -- operation n of its system
-abbrev pub IsOperationAt : ℕ → ℕ → Operation → Type 0
-IsOperationAt components n (operation.Spawn bundle binds) =
+abbrev pub IsOperationAt : ℕ → ℕ → ℕ → Operation → Type 0
+IsOperationAt components frame n (operation.Spawn bundle binds) =
     IsBundleOf components bundle × IsBindingAt n binds
-IsOperationAt components n (operation.SpawnMany count bundle binds) =
+IsOperationAt components frame n (operation.SpawnMany count bundle binds) =
     (count ≤ 65536) × IsBundleOf components bundle × IsBindingAt n binds
-IsOperationAt components n (operation.Insert bundle on) =
-    IsBundleOf components bundle × IsTargetAt components n on
-IsOperationAt components n (operation.Remove c on) =
-    (c.0 < components) × IsTargetAt components n on
-IsOperationAt components n (operation.Despawn on) = IsTargetAt components n on
+IsOperationAt components frame n (operation.Insert bundle on) =
+    IsBundleOf components bundle × IsTargetAt components frame n on
+IsOperationAt components frame n (operation.Remove c on) =
+    (c.0 < components) × IsTargetAt components frame n on
+IsOperationAt components frame n (operation.Despawn on) = IsTargetAt components frame n on
 
--- those from number n on
-abbrev pub AreOperationsFrom : ℕ → ℕ → List Operation → Type 0
-AreOperationsFrom components n [] = Unit {0}
-AreOperationsFrom components n (op ∷ ops) =
-    IsOperationAt components n op × AreOperationsFrom components (n + 1) ops
+-- a system of this frame
+abbrev pub IsSystemOf : ℕ → ℕ → List Operation → Type 0
+IsSystemOf components frame operations =
+    (length operations ≤ 10000) × AllFrom (IsOperationAt components frame) 0 operations
 
-abbrev pub IsSystemOf : ℕ → List Operation → Type 0
-IsSystemOf components operations =
-    (length operations ≤ 10000) × AreOperationsFrom components 0 operations
-
-abbrev pub IsFrameOf : ℕ → List (List Operation) → Type 0
-IsFrameOf components systems =
-    (length systems ≤ 256) × AllByRecursion (IsSystemOf components) systems
+-- the frame with this number
+abbrev pub IsFrameOf : ℕ → ℕ → List (List Operation) → Type 0
+IsFrameOf components frame systems =
+    (length systems ≤ 256) × AllByRecursion (IsSystemOf components frame) systems
 
 pub record IsScript (s : Script) : Type 0 where
   pub limits : AreLimits s.limits
   pub components : length s.components ≤ 256
   pub count : length s.frames ≤ 1000
-  pub frames : AllByRecursion (IsFrameOf (length s.components)) s.frames
+  pub frames : AllFrom (IsFrameOf (length s.components)) 0 s.frames

@@ -1,18 +1,18 @@
 -- What a JSON value means as a script, or the first test that it fails.
 use Rattle.std.specs.Prelude.{◌≡◌, ℕ, ℤ, ◌+◌, Bool, false, ◌&&◌, List, [], ◌∷◌, length, take, codes}
-use Rattle.std.specs.Prelude.{if◌then◌else◌, Option, Some, None, option_map, option_and_then}
+use Rattle.std.specs.Prelude.{◌==◌, nat_lt, if◌then◌else◌, Option, Some, None, option_map, option_and_then}
 use Rattle.std.specs.Prelude.{is_some, unwrap_or, ok_or, Result, Ok, Err, ⊤}
 use Rattle.std.specs.Global.{Vec}
-use Rattle.std.specs.List.{fold, list_all}
+use Rattle.std.specs.List.{fold, list_all, slice_split}
 use Rattle.std.specs.Str.{bytes_eq, is_utf8}
 use Rattle.std.specs.BTreeMap.{insert_entry}
 use Rattle.serde_json.specs.Data.{Data}
 use Rattle.serde_json.specs.Find.{get, as_str}
 use Rattle.serde_json.specs.Read.{read}
-use Rattle.ent_alloc.specs.Limits.{Limits}
+use Rattle.ent_handle.specs.declared.birth.Birth.{Birth}
 use Rattle.ent_handle.specs.declared.component.ComponentId.{ComponentId}
 use Rattle.ent_handle.specs.Component.{component_cmp}
-use Rattle.ent_handle.specs.Text.{handle_of}
+use Rattle.ent_handle.specs.Text.{handle_of, number_of}
 use Rattle.ent_script.specs.Json.{at_most, members, keys_among, whole, whole_within}
 use Rattle.ent_script.specs.Names.{as_name, number_among, names_in}
 use Rattle.ent_script.specs.Script.{Script}
@@ -20,6 +20,9 @@ use Rattle.ent_script.specs.declared.cause.Cause.{Cause}
 use Rattle.ent_script.specs.declared.cause.Cause.TheVariants as cause
 use Rattle.ent_script.specs.declared.cause.ScriptCause.{ScriptCause}
 use Rattle.ent_script.specs.declared.cause.ScriptCause.TheVariants as script_cause
+use Rattle.ent_script.specs.declared.format.Format.{Format}
+use Rattle.ent_script.specs.declared.format.Format.TheVariants as format
+use Rattle.ent_script.specs.declared.heading.Heading.{Heading}
 use Rattle.ent_script.specs.declared.kind.Kind.{Kind}
 use Rattle.ent_script.specs.declared.kind.Kind.TheVariants as kinds
 use Rattle.ent_script.specs.declared.operation.Operation.{Operation}
@@ -118,21 +121,59 @@ abbrev pub target_handle : List ℕ → Result Target Cause
 target_handle text =
     elim (handle_of text) [ Ok h ↦ Ok (target.Handle h) | Err e ↦ Err cause.Handle ]
 
+-- the number below 2^32 that a decimal writes
+abbrev pub birth_number : List ℕ → Result ℕ Cause
+birth_number decimal = elim (number_of decimal) [ Ok n ↦ Ok n | Err e ↦ Err cause.Birth ]
+
+-- these numbers are those of a birth in a frame before this one
+abbrev pub birth_of_numbers : ℕ → ℕ → ℕ → ℕ → Result Birth Cause
+birth_of_numbers before frame system ordinal =
+    if nat_lt frame before && nat_lt system 256
+    then Ok (record { frame = frame; system = system; ordinal = ordinal })
+    else Err cause.Birth
+
+abbrev pub birth_of_parts : ℕ → List (List ℕ) → Result Birth Cause
+birth_of_parts before (frame ∷ system ∷ ordinal ∷ []) = do
+  f ← birth_number frame
+  s ← birth_number system
+  k ← birth_number ordinal
+  birth_of_numbers before f s k
+birth_of_parts before _ = Err cause.Birth
+
+-- the birth in a frame before this one that a text writes: three decimals with dots between them
+unfoldable pub birth_of : ℕ → List ℕ → Result Birth Cause
+birth_of before text = birth_of_parts before (slice_split (λ b. b == 46) text)
+
+-- the frame before which the births are that an operation of this frame may name, if it may
+abbrev pub births_before : Format → ℕ → Option ℕ
+births_before format.One frame = None
+births_before format.Two frame = Some frame
+
+-- a target's birth; in format 1 a target has no such key
+abbrev pub target_birth : Option ℕ → List ℕ → Result Target Cause
+target_birth None text = Err cause.Target
+target_birth (Some before) text = do
+  birth ← birth_of before text
+  Ok (target.Birth birth)
+
 -- the target of a key and the string under it
-unfoldable pub target_at : List (List ℕ) → List (List ℕ) → List ℕ → List ℕ → Result Target Cause
-target_at components bound key text =
+unfoldable pub target_at : List (List ℕ) → List (List ℕ) → Option ℕ → List ℕ → List ℕ
+    → Result Target Cause
+target_at components bound before key text =
     if bytes_eq key (codes "name")
     then ok_or (option_map target.Name (number_among text bound)) cause.Name
     else (if bytes_eq key (codes "handle") then target_handle text
     else (if bytes_eq key (codes "each")
     then ok_or (option_map target.Each (component_of components text)) cause.Component
-    else Err cause.Target))
+    else (if bytes_eq key (codes "birth") then target_birth before text
+    else Err cause.Target)))
 
-unfoldable pub target_of : List (List ℕ) → List (List ℕ) → Option Data → Result Target Cause
-target_of components bound part = do
+unfoldable pub target_of : List (List ℕ) → List (List ℕ) → Option ℕ → Option Data
+    → Result Target Cause
+target_of components bound before part = do
   member ← ok_or (option_and_then only (option_and_then members part)) cause.Target
   text ← ok_or (as_str member.1) cause.Target
-  target_at components bound member.0 text
+  target_at components bound before member.0 text
 
 -- ---- operations
 
@@ -167,33 +208,36 @@ kind_of d =
     else (if is_despawn d then Some kinds.Despawn
     else None))))
 
-unfoldable pub of_kind : List (List ℕ) → List (List ℕ) → Data → Kind → Result Operation Cause
-of_kind components bound d kinds.Spawn = do
+unfoldable pub of_kind : List (List ℕ) → List (List ℕ) → Option ℕ → Data → Kind
+    → Result Operation Cause
+of_kind components bound before d kinds.Spawn = do
   bundle ← read_bundle components (get (codes "spawn") d)
   binds ← binding_of bound (get (codes "as") d)
   Ok (operation.Spawn bundle binds)
-of_kind components bound d kinds.SpawnMany = do
+of_kind components bound before d kinds.SpawnMany = do
   count ← count_of (get (codes "spawn_many") d)
   bundle ← with_of components (get (codes "with") d)
   binds ← binding_of bound (get (codes "as") d)
   Ok (operation.SpawnMany count bundle binds)
-of_kind components bound d kinds.Insert = do
+of_kind components bound before d kinds.Insert = do
   bundle ← read_bundle components (get (codes "insert") d)
-  on ← target_of components bound (get (codes "on") d)
+  on ← target_of components bound before (get (codes "on") d)
   Ok (operation.Insert bundle on)
-of_kind components bound d kinds.Remove = do
+of_kind components bound before d kinds.Remove = do
   component ← removed_of components (get (codes "remove") d)
-  on ← target_of components bound (get (codes "on") d)
+  on ← target_of components bound before (get (codes "on") d)
   Ok (operation.Remove component on)
-of_kind components bound d kinds.Despawn = do
-  on ← target_of components bound (get (codes "despawn") d)
+of_kind components bound before d kinds.Despawn = do
+  on ← target_of components bound before (get (codes "despawn") d)
   Ok (operation.Despawn on)
 
--- the operation that a value means, in a system whose earlier operations bind these names
-unfoldable pub operation_of : List (List ℕ) → List (List ℕ) → Data → Result Operation Cause
-operation_of components bound d = do
+-- the operation that a value means, in a system whose earlier operations bind these names; a birth
+-- that it names is of a frame before the one that is said, if one is
+unfoldable pub operation_of : List (List ℕ) → List (List ℕ) → Option ℕ → Data
+    → Result Operation Cause
+operation_of components bound before d = do
   kind ← ok_or (kind_of d) cause.Shape
-  of_kind components bound d kind
+  of_kind components bound before d kind
 
 -- the name that an operation binds
 abbrev pub bound_name : Data → Option (List ℕ)
@@ -206,20 +250,23 @@ at_operation frame system number (Ok x) = Ok x
 at_operation frame system number (Err c) = Err (fault.Operation frame system number c)
 
 -- the operation with this number, after those before it
-abbrev pub operation_at : List (List ℕ) → ℕ → ℕ → List Data → ℕ → Data → Result Operation ReadFault
-operation_at components frame system ds number d =
+abbrev pub operation_at : Format → List (List ℕ) → ℕ → ℕ → List Data → ℕ → Data
+    → Result Operation ReadFault
+operation_at format components frame system ds number d =
     at_operation frame system number
-    (operation_of components (names_in bound_name (take number ds)) d)
+    (operation_of components (names_in bound_name (take number ds)) (births_before format frame) d)
 
-unfoldable pub system_of : List (List ℕ) → ℕ → ℕ → Data → Result (List Operation) ReadFault
-system_of components frame number d = do
+unfoldable pub system_of : Format → List (List ℕ) → ℕ → ℕ → Data
+    → Result (List Operation) ReadFault
+system_of format components frame number d = do
   ds ← ok_or (at_most 10000 d) (fault.System frame number)
-  numbered (operation_at components frame number ds) 0 ds
+  numbered (operation_at format components frame number ds) 0 ds
 
-unfoldable pub frame_of : List (List ℕ) → ℕ → Data → Result (List (List Operation)) ReadFault
-frame_of components number d = do
+unfoldable pub frame_of : Format → List (List ℕ) → ℕ → Data
+    → Result (List (List Operation)) ReadFault
+frame_of format components number d = do
   ds ← ok_or (at_most 256 d) (fault.Frame number)
-  numbered (system_of components number) 0 ds
+  numbered (system_of format components number) 0 ds
 
 -- the name that a value is, if it is none of these
 abbrev pub new_name : List (List ℕ) → Data → Option (List ℕ)
@@ -242,18 +289,30 @@ script_keys =
     codes "format" ∷ codes "slots" ∷ codes "generations" ∷ codes "components"
     ∷ codes "frames" ∷ []
 
--- the limits, and the tests of all that stands before them
-unfoldable pub limits_of : Data → Result Limits ScriptCause
-limits_of d = do
+-- the format with this number
+abbrev pub numbered_format : ℕ → Format
+numbered_format number = if number == 1 then format.One else format.Two
+
+-- a script that says no format is of format 1
+abbrev pub format_of : Option Data → Result Format ScriptCause
+format_of part =
+    ok_or (option_map numbered_format (or_absent 1 (whole_within 1 2) part)) script_cause.Format
+
+-- the heading, after the tests of all that stands before it
+unfoldable pub heading_of : Data → Result Heading ScriptCause
+heading_of d = do
   ms ← ok_or (members d) script_cause.Top
   _ ← test (keys_among script_keys ms) script_cause.Key
-  _ ← ok_or (or_absent 1 (whole_within 1 1) (get (codes "format") d)) script_cause.Format
+  format ← format_of (get (codes "format") d)
   slots ← ok_or (or_absent 4294967295 (whole_within 1 4294967295) (get (codes "slots") d))
       script_cause.Slots
   generations ← ok_or
       (or_absent 2147483647 (whole_within 1 2147483647) (get (codes "generations") d))
       script_cause.Generations
-  Ok (record { slots = slots; generations = generations })
+  Ok (record {
+    format = format;
+    limits = record { slots = slots; generations = generations };
+  })
 
 abbrev pub in_script : {A : Type 0} → Result A ScriptCause → Result A ReadFault
 in_script (Ok x) = Ok x
@@ -262,12 +321,12 @@ in_script (Err c) = Err (fault.Script c)
 -- the script that a value means, or the first test that it fails
 unfoldable pub script_of : Data → Result Script ReadFault
 script_of d = do
-  limits ← in_script (limits_of d)
+  heading ← in_script (heading_of d)
   components ← in_script (component_names (get (codes "components") d))
   ds ← ok_or (option_and_then (at_most 1000) (get (codes "frames") d))
       (fault.Script script_cause.Frames)
-  frames ← numbered (frame_of components) 0 ds
-  Ok (record { limits = limits; components = components; frames = frames })
+  frames ← numbered (frame_of heading.format components) 0 ds
+  Ok (record { limits = heading.limits; components = components; frames = frames })
 
 -- the value that bytes are read as
 abbrev pub json_of : List ℕ → Option Data

@@ -26,6 +26,7 @@ operation_cause_text cause.Count = codes "count"
 operation_cause_text cause.Name = codes "name"
 operation_cause_text cause.Target = codes "target"
 operation_cause_text cause.Handle = codes "handle"
+operation_cause_text cause.Birth = codes "birth"
 
 -- a space, and the decimal of a number
 abbrev pub spaced_number : ℕ → List ℕ

@@ -15,6 +15,7 @@ use Rattle.ent_script.specs.Cut.{cut}
 use Rattle.ent_script.specs.Json.{list_of, at_most}
 use Rattle.ent_script.specs.Reading.{◌>>=◌, numbered, frame_of}
 use Rattle.ent_script.specs.declared.cause.ScriptCause.TheVariants as script_cause
+use Rattle.ent_script.specs.declared.format.Format.{Format}
 use Rattle.ent_script.specs.declared.operation.Operation.{Operation}
 use Rattle.ent_script.specs.declared.read_fault.ReadFault.{ReadFault}
 use Rattle.ent_script.specs.declared.read_fault.ReadFault.TheVariants as fault
@@ -63,10 +64,11 @@ StreamsList (Err fault.Memory) left read rest = Unit {0}
 StreamsList (Err e) left read rest = (read ≡ Err e) × (left ≡ rest)
 
 -- The frames of a script, from what stands under its key.
-abbrev pub frames_of : List (List ℕ) → Option Data → Result (List (List (List Operation))) ReadFault
-frames_of components part = do
+abbrev pub frames_of : Format → List (List ℕ) → Option Data
+    → Result (List (List (List Operation))) ReadFault
+frames_of format components part = do
   ds ← ok_or (option_and_then (at_most 1000) part) (fault.Script script_cause.Frames)
-  numbered (frame_of components) 0 ds
+  numbered (frame_of format components) 0 ds
 
 -- Whether the first token begins an object.
 abbrev pub begins_object : List Token → Bool

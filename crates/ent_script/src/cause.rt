@@ -8,7 +8,7 @@ pub enum ScriptCause {
     Top,
     /// A key is none of the five.
     Key,
-    /// `format` is there and is not 1.
+    /// `format` is there and is neither 1 nor 2.
     Format,
     /// `slots` is there and is no whole number from 1 to 4,294,967,295.
     Slots,
@@ -52,10 +52,13 @@ pub enum Cause {
     Count,
     /// An `as` is no name, or no earlier operation of the system has the `as` of a target.
     Name,
-    /// A target is no object of one key and a string, or the key is none of the three.
+    /// A target is no object of one key and a string, or the key is none of those that the format
+    /// has: three, and `birth` in format 2.
     Target,
     /// The handle of a target is not the text of one.
     Handle,
+    /// The birth of a target is not the text of one in an earlier frame.
+    Birth,
 }
 
 impl Cause {
@@ -72,6 +75,7 @@ impl Cause {
             Cause::Name => "name",
             Cause::Target => "target",
             Cause::Handle => "handle",
+            Cause::Birth => "birth",
         }
     }
 }

@@ -7,12 +7,14 @@ ghost use Rattle.serde_json.specs.View.{view};
 ghost use Rattle.ent_script.specs.Names.{with_part};
 ghost use Rattle.ent_script.specs.Reading.{of_kind, operation_of, bound_name, at_operation};
 ghost use Rattle.ent_script.specs.Reading.{operation_at, system_of, frame_of, numbered};
+ghost use Rattle.ent_script.specs.Reading.{births_before};
 ghost use Rattle.ent_script.specs.Reading.{ReadsPart, ReadsAs};
 ghost use Rattle.ent_script.specs.Streaming.{Streams, StreamsList, frames_of};
 
 use crate::at::At;
 use crate::cause::{Cause, ScriptCause};
 use crate::elements::name;
+use crate::format::Format;
 use crate::frame::Frame;
 use crate::kind::{Kind, kind_of};
 use crate::names::Names;
@@ -32,11 +34,12 @@ fn operation_of_kind(
     alloc: Global,
     components: &Names<'_>,
     bound: &Names<'_>,
+    before: Option<usize>,
     value: &Value,
     kind: Kind,
 ) -> Result<Operation, PartFault>
     requires { length components.now ≤ 256 }
-    ensures { ReadsPart result (of_kind components.now bound.now (view value.now) kind) }
+    ensures { ReadsPart result (of_kind components.now bound.now before (view value.now) kind) }
 {
     match kind {
         Kind::Spawn => {
@@ -56,34 +59,36 @@ fn operation_of_kind(
         }
         Kind::Insert => {
             let bundle = bundle(alloc, components, value.get("insert"))?;
-            let target = target(components, bound, value.get("on"))?;
+            let target = target(components, bound, before, value.get("on"))?;
             Ok(Operation::Insert { bundle, target })
         }
         Kind::Remove => {
             let component = removed(components, value.get("remove"))?;
-            let target = target(components, bound, value.get("on"))?;
+            let target = target(components, bound, before, value.get("on"))?;
             Ok(Operation::Remove { component, target })
         }
         Kind::Despawn => {
-            let target = target(components, bound, value.get("despawn"))?;
+            let target = target(components, bound, before, value.get("despawn"))?;
             Ok(Operation::Despawn { target })
         }
     }
 }
 
-/// An operation of a system whose earlier operations bind these names.
+/// An operation of a system whose earlier operations bind these names. A birth that it names is of
+/// a frame before the one that is said.
 #[tactic(auto, unfolding(crate::specs::Reading::operation_of))]
 fn operation(
     alloc: Global,
     components: &Names<'_>,
     bound: &Names<'_>,
+    before: Option<usize>,
     value: &Value,
 ) -> Result<Operation, PartFault>
     requires { length components.now ≤ 256 }
-    ensures { ReadsPart result (operation_of components.now bound.now (view value.now)) }
+    ensures { ReadsPart result (operation_of components.now bound.now before (view value.now)) }
 {
     let kind = kind_of(value).ok_or(Cause::Shape)?;
-    operation_of_kind(alloc, components, bound, value, kind)
+    operation_of_kind(alloc, components, bound, before, value, kind)
 }
 
 /// Adds the name that an operation binds, if it binds one.
@@ -102,6 +107,7 @@ fn bind<'a>(bound: &mut Names<'a>, value: &'a Value) -> Result<(), Memory>
 /// The operation with this number in its system.
 fn operation_at(
     alloc: Global,
+    format: Format,
     components: &Names<'_>,
     bound: &Names<'_>,
     at: At,
@@ -109,9 +115,11 @@ fn operation_at(
 ) -> Result<Operation, ReadFault>
     requires { length components.now ≤ 256 }
     ensures { ReadsAs result (at_operation at.frame at.system at.operation
-        (operation_of components.now bound.now (view value.now))) }
+        (operation_of components.now bound.now (births_before format at.frame)
+        (view value.now))) }
 {
-    match operation(alloc, components, bound, value) {
+    let before = format.births_before(at.frame);
+    match operation(alloc, components, bound, before, value) {
         Ok(operation) => Ok(operation),
         Err(PartFault::Memory) => Err(ReadFault::Memory),
         Err(PartFault::Refused(cause)) => Err(ReadFault::Operation {
@@ -126,6 +134,7 @@ fn operation_at(
 /// The operations of a system, of which each may use the names that those before it bind.
 fn operations(
     alloc: Global,
+    format: Format,
     components: &Names<'_>,
     frame: usize,
     system: usize,
@@ -133,7 +142,8 @@ fn operations(
 ) -> Result<System, ReadFault>
     requires { length components.now ≤ 256 }
     ensures { ReadsAs result (numbered
-        (operation_at components.now frame system (map view values.now)) 0 (map view values.now)) }
+        (operation_at format components.now frame system (map view values.now)) 0
+        (map view values.now)) }
 {
     let mut bound = Names::new(alloc);
     let mut operations = Vec::with_capacity(alloc, values.len())?;
@@ -143,7 +153,7 @@ fn operations(
             system,
             operation: number,
         };
-        let operation = operation_at(alloc, components, &bound, at, value)?;
+        let operation = operation_at(alloc, format, components, &bound, at, value)?;
         operations.push(operation)?;
         bind(&mut bound, value)?;
     }
@@ -154,6 +164,7 @@ fn operations(
 #[tactic(auto, unfolding(crate::specs::Reading::system_of))]
 fn system(
     alloc: Global,
+    format: Format,
     components: &Names<'_>,
     frame: usize,
     number: usize,
@@ -163,7 +174,7 @@ fn system(
     requires { length components.now ≤ 256 }
     ensures value { (d : Data) (rest : List SpecToken)
         → converted of_json (value depth reader.old) ≡ Some (d, rest)
-        → Streams result reader.new (system_of components.now frame number d) rest }
+        → Streams result reader.new (system_of format components.now frame number d) rest }
     ensures shorter { OnOk result (length reader.new < length reader.old) }
     ensures no_longer { length reader.new ≤ length reader.old }
 {
@@ -173,12 +184,13 @@ fn system(
             system: number,
         });
     };
-    operations(alloc, components, frame, number, &values)
+    operations(alloc, format, components, frame, number, &values)
 }
 
 /// The systems of a frame, of which the bracket was taken.
 fn systems(
     alloc: Global,
+    format: Format,
     components: &Names<'_>,
     frame: usize,
     reader: &mut Reader<'_>,
@@ -187,7 +199,7 @@ fn systems(
     requires { length components.now ≤ 256 }
     ensures value { (n : ℕ) (ds : Items) (rest : List SpecToken)
         → converted of_items (items (value depth) n reader.old) ≡ Some (ds, rest)
-        → Streams result reader.new (frame_of components.now frame (array ds)) rest }
+        → Streams result reader.new (frame_of format components.now frame (array ds)) rest }
     ensures shorter { OnOk result (length reader.new ≤ length reader.old) }
     ensures no_longer { length reader.new ≤ length reader.old }
 {
@@ -198,7 +210,7 @@ fn systems(
         if number == 256 {
             return Err(fault_of_array(reader, depth, 0, limit, limit));
         }
-        match system(alloc, components, frame, number, reader, depth) {
+        match system(alloc, format, components, frame, number, reader, depth) {
             Ok(system) => systems.push(system)?,
             Err(fault) => {
                 return Err(fault_of_array(reader, depth, 255 - number, fault, limit));
@@ -213,6 +225,7 @@ fn systems(
 #[tactic(auto, unfolding(crate::specs::Reading::frame_of))]
 fn frame(
     alloc: Global,
+    format: Format,
     components: &Names<'_>,
     number: usize,
     reader: &mut Reader<'_>,
@@ -221,19 +234,20 @@ fn frame(
     requires { length components.now ≤ 256 }
     ensures value { (d : Data) (rest : List SpecToken)
         → converted of_json (value depth reader.old) ≡ Some (d, rest)
-        → Streams result reader.new (frame_of components.now number d) rest }
+        → Streams result reader.new (frame_of format components.now number d) rest }
     ensures shorter { OnOk result (length reader.new < length reader.old) }
     ensures no_longer { length reader.new ≤ length reader.old }
 {
     if !begins_array(reader, depth)? {
         return Err(ReadFault::Frame { frame: number });
     }
-    systems(alloc, components, number, reader, depth - 1)
+    systems(alloc, format, components, number, reader, depth - 1)
 }
 
 /// The frames of a script with these components, of which the bracket was taken.
 fn frames_inside(
     alloc: Global,
+    format: Format,
     components: &Names<'_>,
     reader: &mut Reader<'_>,
     depth: usize,
@@ -241,7 +255,7 @@ fn frames_inside(
     requires { length components.now ≤ 256 }
     ensures value { (n : ℕ) (ds : Items) (rest : List SpecToken)
         → converted of_items (items (value depth) n reader.old) ≡ Some (ds, rest)
-        → StreamsList result reader.new (frames_of components.now (Some (array ds))) rest }
+        → StreamsList result reader.new (frames_of format components.now (Some (array ds))) rest }
     ensures shorter { OnOk result (length reader.new ≤ length reader.old) }
     ensures no_longer { length reader.new ≤ length reader.old }
 {
@@ -252,7 +266,7 @@ fn frames_inside(
         if number == 1_000 {
             return Err(fault_of_array(reader, depth, 0, limit, limit));
         }
-        match frame(alloc, components, number, reader, depth) {
+        match frame(alloc, format, components, number, reader, depth) {
             Ok(frame) => frames.push(frame)?,
             Err(fault) => {
                 return Err(fault_of_array(reader, depth, 999 - number, fault, limit));
@@ -266,6 +280,7 @@ fn frames_inside(
 /// The frames of a script with these components.
 pub(crate) fn frames(
     alloc: Global,
+    format: Format,
     components: &Names<'_>,
     reader: &mut Reader<'_>,
     depth: usize,
@@ -273,12 +288,12 @@ pub(crate) fn frames(
     requires { length components.now ≤ 256 }
     ensures value { (d : Data) (rest : List SpecToken)
         → converted of_json (value depth reader.old) ≡ Some (d, rest)
-        → StreamsList result reader.new (frames_of components.now (Some d)) rest }
+        → StreamsList result reader.new (frames_of format components.now (Some d)) rest }
     ensures shorter { OnOk result (length reader.new < length reader.old) }
     ensures no_longer { length reader.new ≤ length reader.old }
 {
     if !begins_array(reader, depth)? {
         return Err(ReadFault::Script(ScriptCause::Frames));
     }
-    frames_inside(alloc, components, reader, depth - 1)
+    frames_inside(alloc, format, components, reader, depth - 1)
 }

@@ -2,12 +2,15 @@
 #![tactic(auto)]
 
 mod at;
+mod birth;
 mod bundle;
 mod cause;
 mod cutting;
 mod elements;
+mod format;
 mod frame;
 mod frames;
+mod heading;
 mod kind;
 mod names;
 mod number;

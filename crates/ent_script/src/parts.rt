@@ -2,9 +2,11 @@ ghost use Rattle.std.specs.Prelude.{◌≡◌, ℕ, ◌≤◌, List, length, map
 ghost use Rattle.serde_json.specs.Data.{Data};
 ghost use Rattle.serde_json.specs.View.{view};
 ghost use Rattle.ent_script.specs.Reading.{component_of, item_of, bundle_by, read_bundle, with_of};
-ghost use Rattle.ent_script.specs.Reading.{removed_of, target_at, target_of, count_of};
+ghost use Rattle.ent_script.specs.Reading.{removed_of, target_birth, target_at, target_of};
+ghost use Rattle.ent_script.specs.Reading.{count_of};
 ghost use Rattle.ent_script.specs.Reading.{binding_of, only, ReadsPart};
 
+use crate::birth::birth;
 use crate::bundle::Bundle;
 use crate::cause::Cause;
 use crate::elements::{members, name, whole_within};
@@ -56,15 +58,24 @@ pub(crate) fn removed(components: &Names<'_>, part: Option<&Value>) -> Result<Co
     component(components, name).ok_or(Cause::Component)
 }
 
+/// A birth of a frame before this one. Without a frame no target has a birth.
+fn target_birth(before: Option<usize>, text: &str) -> Result<Target, Cause>
+    ensures { result ≡ target_birth before text.now }
+{
+    let before = before.ok_or(Cause::Target)?;
+    Ok(Target::Birth(birth(before, text)?))
+}
+
 #[tactic(auto, unfolding(crate::specs::Reading::target_at))]
 fn target_at(
     components: &Names<'_>,
     bound: &Names<'_>,
+    before: Option<usize>,
     key: &str,
     text: &str,
 ) -> Result<Target, Cause>
     requires { length components.now ≤ 256 }
-    ensures { result ≡ target_at components.now bound.now key.now text.now }
+    ensures { result ≡ target_at components.now bound.now before key.now text.now }
 {
     if key == "name" {
         let number = bound.find(text).ok_or(Cause::Name)?;
@@ -75,6 +86,8 @@ fn target_at(
     } else if key == "each" {
         let id = component(components, text).ok_or(Cause::Component)?;
         Ok(Target::Each(id))
+    } else if key == "birth" {
+        target_birth(before, text)
     } else {
         Err(Cause::Target)
     }
@@ -92,21 +105,22 @@ fn only(members: &Map<String, Value>) -> Option<(&str, &Value)>
     Some((key.as_str(), value))
 }
 
-/// Which entities an operation is for.
+/// Which entities an operation is for. A birth is of a frame before the one that is said.
 #[tactic(auto, unfolding(crate::specs::Reading::target_of))]
 pub(crate) fn target(
     components: &Names<'_>,
     bound: &Names<'_>,
+    before: Option<usize>,
     part: Option<&Value>,
 ) -> Result<Target, Cause>
     requires { length components.now ≤ 256 }
-    ensures { result ≡ target_of components.now bound.now
+    ensures { result ≡ target_of components.now bound.now before
         (option_map (λ v. view v.now) part.entry) }
 {
     let found = members(part.ok_or(Cause::Target)?).ok_or(Cause::Target)?;
     let (key, value) = only(found).ok_or(Cause::Target)?;
     let text = value.as_str().ok_or(Cause::Target)?;
-    target_at(components, bound, key, text)
+    target_at(components, bound, before, key, text)
 }
 
 /// The component and the value of a bundle's member.

@@ -15,15 +15,17 @@ ghost use Rattle.serde_json.specs.View.{view};
 ghost use Rattle.ent_script.specs.Json.{whole_within as whole_of};
 ghost use Rattle.ent_script.specs.Ranges.{IsScript};
 ghost use Rattle.ent_script.specs.Reading.{or_absent, new_name, component_at};
-ghost use Rattle.ent_script.specs.Reading.{limits_of, numbered, in_script, script_of};
+ghost use Rattle.ent_script.specs.Reading.{format_of, heading_of, numbered, in_script, script_of};
 ghost use Rattle.ent_script.specs.Reading.{script_of_text};
 ghost use Rattle.ent_script.specs.Reading.{ReadsAs, ReadsList};
 
 use crate::cause::ScriptCause;
 use crate::cutting::read_cut;
 use crate::elements::{are_keys_among, members, name, whole_within};
+use crate::format::Format;
 use crate::frame::Frame;
 use crate::frames::frames;
+use crate::heading::Heading;
 use crate::names::Names;
 use crate::passing::pass_value;
 use crate::read_fault::ReadFault;
@@ -45,23 +47,36 @@ fn number_or(part: Option<&Value>, absent: u32, low: u32, high: u32) -> Option<u
     }
 }
 
-/// The limits, after the tests of all that stands before them.
-#[tactic(auto, unfolding(crate::specs::Reading::limits_of))]
-fn limits(value: &Value) -> Result<Limits, ScriptCause>
-    ensures { result ≡ limits_of (view value.now) }
+/// The format that a part says. One that is absent is 1.
+fn format(part: Option<&Value>) -> Result<Format, ScriptCause>
+    ensures { result ≡ format_of (option_map (λ v. view v.now) part.entry) }
+{
+    let number = number_or(part, 1, 1, 2).ok_or(ScriptCause::Format)?;
+    if number == 1 {
+        Ok(Format::One)
+    } else {
+        Ok(Format::Two)
+    }
+}
+
+/// The heading, after the tests of all that stands before it.
+#[tactic(auto, unfolding(crate::specs::Reading::heading_of))]
+fn heading(value: &Value) -> Result<Heading, ScriptCause>
+    ensures { result ≡ heading_of (view value.now) }
 {
     let found = members(value).ok_or(ScriptCause::Top)?;
     let keys = ["format", "slots", "generations", "components", "frames"];
     if !are_keys_among(found, &keys) {
         return Err(ScriptCause::Key);
     }
-    number_or(value.get("format"), 1, 1, 1).ok_or(ScriptCause::Format)?;
+    let format = format(value.get("format"))?;
     let slots = number_or(value.get("slots"), u32::MAX, 1, u32::MAX).ok_or(ScriptCause::Slots)?;
     let most = (1 << 31) - 1;
     let generations = number_or(value.get("generations"), most, 1, most).ok_or(
         ScriptCause::Generations,
     )?;
-    Limits::new(slots, generations).ok_or(ScriptCause::Slots)
+    let limits = Limits::new(slots, generations).ok_or(ScriptCause::Slots)?;
+    Ok(Heading { format, limits })
 }
 
 /// The name that a value is, if it is none of these.
@@ -106,13 +121,13 @@ fn owned(alloc: Global, names: &[&str]) -> Result<Vec<String>, ReadFault>
 /// How deep arrays and objects nest at most.
 const DEPTH: usize = 127;
 
-/// The limits that a text means, if it is JSON.
-fn limits_in(alloc: Global, text: &str, scratch: &mut Scratch) -> Result<Limits, ReadFault>
-    ensures { (d : Data) → read text.now ≡ Some d → ReadsAs result (in_script (limits_of d)) }
+/// The heading that a text means, if it is JSON.
+fn heading_in(alloc: Global, text: &str, scratch: &mut Scratch) -> Result<Heading, ReadFault>
+    ensures { (d : Data) → read text.now ≡ Some d → ReadsAs result (in_script (heading_of d)) }
 {
     let mut reader = Reader::new(text, scratch)?;
     let value = read_cut(alloc, &mut reader, DEPTH, 1)?;
-    Ok(limits(&value)?)
+    Ok(heading(&value)?)
 }
 
 /// Takes the brace that begins an object, if one is next.
@@ -176,6 +191,7 @@ fn ran_out(read: &Result<Vec<Frame>, ReadFault>) -> bool
 /// counts.
 fn frames_inside(
     alloc: Global,
+    format: Format,
     components: &Names<'_>,
     reader: &mut Reader<'_>,
     depth: usize,
@@ -184,13 +200,13 @@ fn frames_inside(
     ensures { (n : ℕ) (ms : Members) (rest : List SpecToken)
         → converted (λ ms. of_members ms no_members) (members (value depth) n reader.old)
         ≡ Some (ms, rest)
-        → ReadsList result (frames_of components.now (get_member (codes "frames") ms)) }
+        → ReadsList result (frames_of format components.now (get_member (codes "frames") ms)) }
 {
     let mut found = Err(ReadFault::Script(ScriptCause::Frames));
     'members: while let Some(key) = reader.next_key()? {
         if key == "frames" {
             found = Err(ReadFault::Script(ScriptCause::Frames));
-            found = frames(alloc, components, reader, depth);
+            found = frames(alloc, format, components, reader, depth);
             if ran_out(&found) {
                 return Err(ReadFault::Memory);
             }
@@ -204,19 +220,20 @@ fn frames_inside(
 /// The frames of a text with these components, if it is JSON.
 fn frames_in(
     alloc: Global,
+    format: Format,
     components: &Names<'_>,
     text: &str,
     scratch: &mut Scratch,
 ) -> Result<Vec<Frame>, ReadFault>
     requires { length components.now ≤ 256 }
     ensures { (d : Data) → read text.now ≡ Some d
-        → ReadsList result (frames_of components.now (get (codes "frames") d)) }
+        → ReadsList result (frames_of format components.now (get (codes "frames") d)) }
 {
     let mut reader = Reader::new(text, scratch)?;
     if !opens(&mut reader) {
         return Err(ReadFault::Script(ScriptCause::Frames));
     }
-    frames_inside(alloc, components, &mut reader, DEPTH - 1)
+    frames_inside(alloc, format, components, &mut reader, DEPTH - 1)
 }
 
 /// The script that a text means, if it is JSON.
@@ -224,12 +241,12 @@ fn frames_in(
 fn script_in(alloc: Global, text: &str, scratch: &mut Scratch) -> Result<Script, ReadFault>
     ensures { (d : Data) → read text.now ≡ Some d → ReadsAs result (script_of d) }
 {
-    let limits = limits_in(alloc, text, scratch)?;
+    let heading = heading_in(alloc, text, scratch)?;
     let values = components_in(alloc, text, scratch)?.ok_or(ScriptCause::Components)?;
     let components = different_names(alloc, &values)?;
-    let frames = frames_in(alloc, &components, text, scratch)?;
+    let frames = frames_in(alloc, heading.format, &components, text, scratch)?;
     let names = owned(alloc, components.as_slice())?;
-    Ok(Script::new(limits, names, frames))
+    Ok(Script::new(heading.limits, names, frames))
 }
 
 /// Whether `serde_json` reads a value from the text.

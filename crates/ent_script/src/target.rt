@@ -1,4 +1,4 @@
-use ent_handle::{ComponentId, Handle};
+use ent_handle::{Birth, ComponentId, Handle};
 
 /// Which entities an operation is for.
 #[derive(Clone, Copy, Debug, PartialEq, Eq, Hash)]
@@ -10,4 +10,6 @@ pub enum Target {
     Handle(Handle),
     /// Each entity that has the component.
     Each(ComponentId),
+    /// The entity of this birth, if there is one as the frame begins.
+    Birth(Birth),
 }

@@ -1,6 +1,7 @@
 pub mod Running
 pub mod OneReport
 pub mod GivenOnce
+pub mod FewSystems
 pub mod NoRefusal
 pub mod Requested
 pub mod Enough

@@ -7,7 +7,7 @@ use Rattle.ent_script.specs.declared.operation.Operation.{Operation}
 use Rattle.ent_script.specs.declared.operation.Operation.TheVariants as operation
 use Rattle.ent_script.specs.declared.target.Target.TheVariants as target
 use Rattle.ent_script_run.specs.ScriptAlone.{text_alone}
-use Rattle.ent_script_run.proofs.SmallWorlds.{number, item, limits}
+use Rattle.ent_script_run.proofs.SmallWorlds.{birth, number, item, limits}
 
 -- a script whose components are hp and mp
 abbrev of_frames : List (List (List Operation)) → Script
@@ -55,6 +55,21 @@ taken_out_twice : text_alone (of_frames (((operation.Spawn (item 0 1 ∷ []) Non
     ≡ codes "frame 0 born 1 faults 0\nframe 1 born 0 faults 1\nfault 1 0 not alive\nalive 0\n"
 unfolding digits
 taken_out_twice = refl
+
+-- Births as targets. The first system of the second frame means an entity by its birth and takes it
+-- out, and then one that never was, which is no command. For the other system the birth is still in
+-- the view, so its command is a fault. In the third frame it is not.
+births_as_targets : text_alone (of_frames (((operation.SpawnMany 2 (item 0 1 ∷ []) None ∷ [])
+    ∷ (operation.Spawn (item 0 3 ∷ []) None ∷ []) ∷ [])
+    ∷ ((operation.Despawn (target.Birth (birth 0 0 1))
+    ∷ operation.Insert (item 0 9 ∷ []) (target.Birth (birth 0 1 0))
+    ∷ operation.Remove (number 0) (target.Birth (birth 0 0 7)) ∷ [])
+    ∷ (operation.Insert (item 0 4 ∷ []) (target.Birth (birth 0 0 1)) ∷ []) ∷ [])
+    ∷ ((operation.Insert (item 0 2 ∷ []) (target.Birth (birth 0 0 1)) ∷ []) ∷ []) ∷ []))
+    ≡ codes "frame 0 born 3 faults 0\nframe 1 born 0 faults 1\nfault 1 0 not alive\n"
+    ++ codes "frame 2 born 0 faults 0\n0.0.0 hp=1\n0.1.0 hp=9\nalive 2\n"
+unfolding digits
+births_as_targets = refl
 
 -- a spawn of nobody binds its name to nothing
 nobody_meant : text_alone (of_frames (((operation.Spawn [] (Some 0)

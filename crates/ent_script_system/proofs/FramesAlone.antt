@@ -1,11 +1,9 @@
 -- A frame of scripted systems does to births alone what it does to the world, on every number of
 -- workers, if no request was refused and the systems name no handles.
-use Rattle.std.proofs.Common.{◌≡◌, refl, sym, ap, ◌∙◌, subst, ℕ, zero, suc, ◌+◌, ◌^◌, ◌<◌, ◌≤◌}
-use Rattle.std.proofs.Common.{true, List, [], ◌∷◌, ◌++◌, map, length, All, slice_get, flat_map}
-use Rattle.std.proofs.Common.{Option, Some, None, is_some, option_map, unwrap_or, arith}
+use Rattle.std.proofs.Common.{◌≡◌, refl, sym, ap, ◌∙◌, subst, ℕ, suc, ◌+◌, ◌^◌, ◌<◌, ◌≤◌}
+use Rattle.std.proofs.Common.{true, List, [], ◌∷◌, map, length, All, slice_get, flat_map}
+use Rattle.std.proofs.Common.{Option, Some, None, is_some, option_map, unwrap_or, cond, arith}
 use Rattle.std.proofs.Common.{IsSomeAnd}
-use Rattle.std.specs.List.{AllZip}
-use Rattle.std.specs.List.Sorted.{IsPermutation}
 use Rattle.std.specs.FinMap as finite
 use Rattle.std.specs.FinMap.{find}
 use Rattle.std.proofs.Math.Nat.{min-eq_left}
@@ -14,9 +12,10 @@ use Rattle.std.proofs.lemmas.List.Elements.{All-nil, All-cons, All-head, All-tai
 use Rattle.std.proofs.lemmas.List.Elements.{All-contains_itself}
 use Rattle.std.proofs.lemmas.List.Sorted.{IsPermutation-sym, IsPermutation-trans}
 use Rattle.std.proofs.lemmas.List.Sorted.{length_permutation}
-use Rattle.std.proofs.lemmas.Option.{none-some}
+use Rattle.std.proofs.lemmas.Option.{none-some, same_Some}
 use Rattle.ent_handle.specs.declared.birth.Birth.{Birth}
 use Rattle.ent_handle.specs.declared.component.ComponentId.{ComponentId}
+use Rattle.ent_handle.specs.Birth.{birth_cmp}
 use Rattle.ent_handle.specs.Component.{component_cmp}
 use Rattle.ent_handle.specs.Handle.{Handle}
 use Rattle.ent_alloc.specs.Sequential.{born}
@@ -24,11 +23,11 @@ use Rattle.ent_alloc.specs.History.{Call, after_history, given_in}
 use Rattle.ent_alloc.proofs.Histories.{given_in-taken}
 use Rattle.ent_storage.specs.BirthOrder.{ListsWith}
 use Rattle.ent_storage.specs.EntityMap.{Entity, EntityMap, birth_of}
-use Rattle.ent_queue.specs.Command.{Command}
-use Rattle.ent_world.specs.BirthsAlone.{BirthMap, births_in}
+use Rattle.ent_queue.specs.Command.{Bundle, Command}
+use Rattle.ent_world.specs.BirthsAlone.{BirthMap}
 use Rattle.ent_world.specs.Effects.{applied}
-use Rattle.ent_world.specs.Named.{AreNamed, AreNames, AreNamedBy, AreNamedAfter, AreBelow}
-use Rattle.ent_world.specs.Named.{AreListed, IsThere, IsNamedBy}
+use Rattle.ent_world.specs.Named.{AreNamed, AreNames, AreNamedBy, AreBelow}
+use Rattle.ent_world.specs.Named.{AreListed, IsThere}
 use Rattle.ent_world.specs.Sync.{sync, after_births, handles_listed}
 use Rattle.ent_world.specs.World.{World, IsWorld}
 use Rattle.ent_world.proofs.GivenOnce.{IsFlushed, flushed-kept}
@@ -37,16 +36,16 @@ use Rattle.ent_world.proofs.NamedFrames.{frame-named, queues_births, sync-below}
 use Rattle.ent_world.proofs.NamedLists.{listed-named}
 use Rattle.ent_world.proofs.Worlds.{after_births-world, after_history-world}
 use Rattle.ent_runner.specs.Frame.{IsFrame, queue_at, reserved_by, view_of}
-use Rattle.ent_runner.proofs.ListedBirths.{IsListed, listed-few, listed-enters, listed-new}
+use Rattle.ent_runner.proofs.ListedBirths.{listed-few, listed-enters, listed-new}
 use Rattle.ent_runner.proofs.ListedBirths.{unlisted-stays}
 use Rattle.ent_runner.proofs.ListedOnce.{Lists, listed-IsPermutation, listed-born}
 use Rattle.ent_runner.proofs.Lists.{map_map_is}
 use Rattle.ent_script.specs.declared.operation.Operation.{Operation}
 use Rattle.ent_script.specs.declared.target.Target.TheVariants as target
-use Rattle.ent_script_system.specs.Issuing.{MayIssue}
+use Rattle.ent_script_system.specs.Issuing.{IsOfBirth, MayIssue}
 use Rattle.ent_script_system.specs.IssuedAlone.{births_meant, queues_alone, NamesNoHandle}
 use Rattle.ent_script_system.specs.IssuedAlone.{IsGranted, AreGranted}
-use Rattle.ent_script_system.specs.FrameAlone.{IsFrameAlone, queues_by_births, world_after}
+use Rattle.ent_script_system.specs.FrameAlone.{IsFrameAlone, queues_by_births}
 use Rattle.ent_script_system.proofs.QueuesAlone.{AreInOrder, queue-alone}
 
 -- no queue lists more handles than all queues together
@@ -65,6 +64,16 @@ phase-kept phase = record {
   components = λ change h w there before. before;
   despawn = λ h w there before. before;
 }
+
+-- an entity that has a birth is there
+entity_at : (m : EntityMap) (h : Handle) (birth : Birth) → birth_of m h ≡ Some birth
+    → (e : Entity) × (finite.get m h ≡ Some e) × (e.birth ≡ birth)
+entity_at m h birth is = by (finite.get m h) refl is
+  where
+    by : (o : Option Entity) → finite.get m h ≡ o → option_map (λ e. e.birth) o ≡ Some birth
+        → (e : Entity) × (finite.get m h ≡ Some e) × (e.birth ≡ birth)
+    by None at none = absurd (none-some birth none)
+    by (Some e) at some = (e, at, same_Some _ _ some)
 
 module _ (systems : List (List Operation)) (workers : ℕ) (w : World)
     (queues : List (List Command)) (history : List Call) (view : BirthMap)
@@ -153,6 +162,25 @@ module _ (systems : List (List Operation)) (workers : ℕ) (w : World)
       there_of P None none = absurd none
       there_of P (Some e) is = refl
 
+  -- the entity of a birth
+  birth_named : (birth : Birth) (hs : List Handle) → IsOfBirth (view_of w) birth hs
+      → All (IsThere all_born) hs
+      × (births_meant view (λ n. []) (target.Birth birth) ≡ map name hs)
+  birth_named birth [] none = (All-nil (IsThere all_born), nobody (find birth_cmp birth view) refl)
+    where
+      nobody : (o : Option Bundle) → find birth_cmp birth view ≡ o
+          → cond (is_some o) (birth ∷ []) [] ≡ []
+      nobody None e = refl
+      nobody (Some items) e = let one = named.only birth items e in absurd (none one.0 one.1)
+  birth_named birth (h ∷ []) (own, least) =
+      let e = entity_at w.entities h birth own in
+      let same : name h ≡ birth = old_names h e.0 e.1 ∙ e.2 in
+      let there = ap (λ b. find birth_cmp b view) (sym e.2) ∙ named.there h e.0 e.1 in (
+        All-cons (IsThere all_born) h [] (old_there h (ap is_some e.1)) (All-nil (IsThere all_born)),
+        ap (λ o. cond (is_some o) (birth ∷ []) []) there ∙ ap (λ b. b ∷ []) (sym same),
+      )
+  birth_named birth (h ∷ k ∷ hs) none = absurd none
+
   -- each system's queue, from a system on
   all_named : (system : ℕ) (qs : List (List Command)) (ss : List (List Operation))
       → length qs ≡ length ss → All NamesNoHandle ss → All (All IsGranted) qs
@@ -166,7 +194,7 @@ module _ (systems : List (List Operation)) (workers : ℕ) (w : World)
   all_named system (q ∷ qs) [] same free granted may at = absurd (omega arith)
   all_named system (q ∷ qs) (ops ∷ ss) same free granted may at =
       let here : system + 0 ≡ system = omega arith in (
-        queue-alone name all_born w.phase system (view_of w) view each_named ops q
+        queue-alone name all_born w.phase system (view_of w) view each_named birth_named ops q
             (in_order system 0 (handles_listed q) (λ j h is.
             let one = at 0 j h is in
             let own : j ≡ 0 + j = omega arith in (

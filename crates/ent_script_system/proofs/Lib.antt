@@ -6,5 +6,6 @@ mod WorkedSystems
 pub mod Running
 mod Served
 pub mod Targeted
+pub mod Rolls
 pub mod QueuesAlone
 pub mod FramesAlone

@@ -6,6 +6,9 @@ use Rattle.std.proofs.Common.{ℤ, List, [], ◌∷◌, ◌++◌, length, map, g
 use Rattle.std.proofs.Common.{true}
 use Rattle.std.specs.Prelude.{◌==◌, if◌then◌else◌, nat_lt, slice_get}
 use Rattle.std.specs.List.{All, AllPairs, flat_map, range_with_len}
+use Rattle.std.specs.Ordering.{ordering_reverse}
+use Rattle.std.specs.declared.cmp.Ordering.{Ordering}
+use Rattle.std.specs.declared.cmp.Ordering.TheVariants.{Less, Equal, Greater}
 use Rattle.std.specs.List.Sorted.{IsPermutation}
 use Rattle.std.proofs.lemmas.Bool.{cond-true, cond-false, lt-ltb, le-ltb}
 use Rattle.std.proofs.lemmas.List.{ext_get_or}
@@ -13,7 +16,9 @@ use Rattle.std.proofs.lemmas.List.Elements.{All-nil, All-cons, All-head, All-tai
 use Rattle.std.proofs.lemmas.List.FromFn.{length-range_with_len, get_or-range_with_len}
 use Rattle.std.proofs.lemmas.List.Sorted.{All-permutation, IsPermutation-sym}
 use Rattle.ent_handle.specs.declared.component.ComponentId.{ComponentId}
-use Rattle.ent_handle.specs.Handle.{Handle}
+use Rattle.ent_handle.specs.declared.birth.Birth.{Birth}
+use Rattle.ent_handle.specs.Handle.{Handle, handle_cmp, handle_cmp_total}
+use Rattle.ent_handle.specs.Handle.{handle_cmp-IsAntisymmetric}
 use Rattle.ent_alloc.specs.declared.space.Space.{Space as OutOfSpace}
 use Rattle.ent_alloc.specs.Limits.{credit}
 use Rattle.ent_alloc.specs.Sequential.{Allocator, reply_to}
@@ -32,7 +37,8 @@ use Rattle.ent_script.specs.declared.operation.Operation.{Operation}
 use Rattle.ent_script.specs.declared.operation.Operation.TheVariants as operation
 use Rattle.ent_script.specs.declared.target.Target.{Target}
 use Rattle.ent_script.specs.declared.target.Target.TheVariants as target
-use Rattle.ent_script_system.specs.Issuing.{Bindings, unbound, names_after, IsTargeted, OnEach}
+use Rattle.ent_script_system.specs.Issuing.{Bindings, unbound, names_after, IsOfBirth, IsTargeted}
+use Rattle.ent_script_system.specs.Issuing.{OnEach}
 use Rattle.ent_script_system.specs.Issuing.{IsSpawn, IsSpawnMany, Issues, IssuesAll, MayIssue}
 use Rattle.ent_script_system.proofs.RisingLists.{one_rising}
 use Rattle.ent_script_system.proofs.Served.{calls_of, IsServed, state_after, left_after}
@@ -99,12 +105,30 @@ module _ (s : Allocator) (left : ℕ) (bundle : List (ComponentId × ℤ)) where
       ∙ ap (requested s left (many_spawned bundle)) is
   many_is count _ is served = absurd is
 
+-- an entity's birth tells its handle
+same_of_birth : (view : View) (birth : Birth) (hs ks : List Handle) → IsOfBirth view birth hs
+    → IsOfBirth view birth ks → hs ≡ ks
+same_of_birth view birth [] [] a b = refl
+same_of_birth view birth [] (k ∷ []) a b = absurd (a k b.0)
+same_of_birth view birth [] (k ∷ l ∷ ks) a b = absurd b
+same_of_birth view birth (h ∷ []) [] a b = absurd (b h a.0)
+same_of_birth view birth (h ∷ []) (k ∷ []) a b =
+    ap (λ x. x ∷ []) (same_if (handle_cmp h k) refl)
+  where
+    same_if : (r : Ordering) → handle_cmp h k ≡ r → h ≡ k
+    same_if Less e = absurd (b.1 h a.0 (handle_cmp_total.antisymm k h ∙ ap ordering_reverse e))
+    same_if Equal e = handle_cmp-IsAntisymmetric h k e
+    same_if Greater e = absurd (a.1 k b.0 e)
+same_of_birth view birth (h ∷ []) (k ∷ l ∷ ks) a b = absurd b
+same_of_birth view birth (h ∷ g ∷ hs) ks a b = absurd a
+
 -- a target means one list of handles
 same_targets : (view : View) (names : Bindings) (on : Target) (hs ks : List Handle)
     → IsTargeted view names on hs → IsTargeted view names on ks → hs ≡ ks
 same_targets view names (target.Name n) hs ks a b = a ∙ sym b
 same_targets view names (target.Handle h) hs ks a b = a ∙ sym b
 same_targets view names (target.Each id) hs ks a b = one_list_with id view.entities hs ks a b
+same_targets view names (target.Birth birth) hs ks a b = same_of_birth view birth hs ks a b
 
 same_on_each : (view : View) (names : Bindings) (on : Target) (command : Handle → Command)
     (cs ds : List Command) → OnEach view names on command cs → OnEach view names on command ds → cs

@@ -22,7 +22,7 @@ use Rattle.ent_script.specs.declared.operation.Operation.TheVariants as operatio
 use Rattle.ent_script.specs.declared.target.Target.{Target}
 use Rattle.ent_script.specs.declared.target.Target.TheVariants as target
 use Rattle.ent_script_system.specs.Issuing.{Bindings, names_after, IsTargeted, IsSpawn, IsSpawnMany}
-use Rattle.ent_script_system.specs.Issuing.{IssuesAll}
+use Rattle.ent_script_system.specs.Issuing.{IsOfBirth, IssuesAll}
 use Rattle.ent_script_system.specs.IssuedAlone.{BirthBindings, births_from, with_binding}
 use Rattle.ent_script_system.specs.IssuedAlone.{births_meant, issued_alone, IsNoHandle}
 use Rattle.ent_script_system.specs.IssuedAlone.{NeedsNoHandle, IsGranted}
@@ -181,7 +181,10 @@ module _ (name : Handle → Birth) (m : EntityMap) where
     module _ (view : View) (births : BirthMap)
         (each : (id : ComponentId) (hs : List Handle) → ListsWith id view.entities hs
         → All (IsThere m) hs
-        × (births_meant births (λ n. []) (target.Each id) ≡ map name hs)) where
+        × (births_meant births (λ n. []) (target.Each id) ≡ map name hs))
+        (of_birth : (birth : Birth) (hs : List Handle) → IsOfBirth view birth hs
+        → All (IsThere m) hs
+        × (births_meant births (λ n. []) (target.Birth birth) ≡ map name hs)) where
       -- the births that a target means are those of the handles that it means
       meant : (names : Bindings) (bound : BirthBindings) → StandFor names bound → (on : Target)
           → IsNoHandle on → (hs : List Handle) → IsTargeted view names on hs
@@ -192,6 +195,7 @@ module _ (name : Handle → Birth) (m : EntityMap) where
       )
       meant names bound stand (target.Handle h) free hs are = absurd free
       meant names bound stand (target.Each id) free hs are = each id hs are
+      meant names bound stand (target.Birth birth) free hs are = of_birth birth hs are
 
       -- the commands for a target, and those after them
       on_target : (names : Bindings) (bound : BirthBindings) → StandFor names bound

@@ -1,6 +1,6 @@
 -- A system whose first operations have run.
 use Rattle.std.proofs.Common.{◌≡◌, refl, ap, sym, subst, ◌∙◌, ℕ, ◌+◌, ◌<◌, List, [], ◌∷◌, ◌++◌}
-use Rattle.std.proofs.Common.{length, get_or, drop, inr}
+use Rattle.std.proofs.Common.{length, get_or, drop, inl, inr}
 use Rattle.std.proofs.Common.{append_assoc, append-nil}
 use Rattle.std.proofs.lemmas.List.{drop_more}
 use Rattle.ent_handle.specs.Handle.{Handle}
@@ -9,7 +9,8 @@ use Rattle.ent_queue.specs.Commands.{Issued, queue_of}
 use Rattle.ent_world.specs.OpenWorld.{View}
 use Rattle.ent_script.specs.declared.operation.Operation.{Operation}
 use Rattle.ent_script_system.specs.Issuing.{Bindings, unbound, IssuesAll, MayIssue, StopsAmong}
-use Rattle.ent_script_system.specs.Parts.{names_of, HasIssued}
+use Rattle.ent_script_system.specs.Issuing.{MayStop}
+use Rattle.ent_script_system.specs.Parts.{names_of, HasIssued, HasStopped}
 
 -- The first i operations have issued what was added; whatever the others may issue, all may issue
 -- both.
@@ -62,6 +63,19 @@ has_gone_on view ops i op start before after lists lists_after within is run ste
           (subst (λ (os : List Operation). StopsAmong view (names_of lists) os (step.issued
           ++ cs)) (sym from) (inr (step.issued, cs, refl, step.may, names))));
     }
+
+pub has_stopped : (view : View) (ops : List Operation) (i : ℕ) (op : Operation)
+    (start : List Command) (before after : Issued) (lists : List (List Handle)) → i < length ops
+    → op ≡ get_or ops i op → HasRun view ops i (names_of lists) start (queue_of before)
+    → start ≡ [] → HasStopped view op before after lists → MayStop ops view (queue_of after)
+has_stopped view ops i op start before after lists within is run empty stopped =
+    let from : drop i ops ≡ op ∷ drop (i + 1) ops = drop_more ops i op within
+    ∙ ap (λ (o : Operation). o ∷ drop (i + 1) ops) (sym is) in
+    subst (λ (q : List Command). StopsAmong view unbound ops q)
+    (sym (stopped.queue ∙ ap (λ (q : List Command). q ++ stopped.issued)
+    (run.queue ∙ ap (λ (q : List Command). q ++ run.added) empty)))
+    (run.stop stopped.issued (subst (λ (os : List Operation). StopsAmong view (names_of lists) os
+    stopped.issued) (sym from) (inl stopped.may)))
 
 pub has_ended : (view : View) (ops : List Operation) (i : ℕ) (names : Bindings)
     (start now : List Command) → drop i ops ≡ [] → HasRun view ops i names start now → start ≡ []

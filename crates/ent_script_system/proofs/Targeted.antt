@@ -1,6 +1,8 @@
 -- Commands for the handles of a target.
-use Rattle.std.proofs.Common.{◌≡◌, refl, sym, subst, inr, List, ◌++◌, map, Result, Ok, Err, OnOk}
+use Rattle.std.proofs.Common.{◌≡◌, refl, sym, subst, inr, List, [], ◌∷◌, ◌++◌, map, Result, Ok, Err}
+use Rattle.std.proofs.Common.{OnOk, Option, Some, IfSome}
 use Rattle.std.specs.Prelude.{OnErr}
+use Rattle.ent_handle.specs.declared.birth.Birth.{Birth}
 use Rattle.ent_handle.specs.Handle.{Handle}
 use Rattle.ent_handle.specs.declared.memory.Memory.{Memory}
 use Rattle.ent_queue.specs.Command.{Command}
@@ -8,9 +10,18 @@ use Rattle.ent_queue.specs.Commands.{Issued, queue_of}
 use Rattle.ent_world.specs.OpenWorld.{View}
 use Rattle.ent_script.specs.declared.operation.Operation.{Operation}
 use Rattle.ent_script.specs.declared.target.Target.{Target}
-use Rattle.ent_script_system.specs.Issuing.{Bindings, IsTargeted, StopsOnEach, Stops}
+use Rattle.ent_script.specs.declared.target.Target.TheVariants as target
+use Rattle.ent_script_system.specs.Issuing.{Bindings, IsOfBirth, IsTargeted, StopsOnEach, Stops}
 use Rattle.ent_script_system.specs.Parts.{names_of, HasIssuedOn, HasStoppedAmong, HasStoppedOn}
 use Rattle.ent_script_system.specs.Parts.{HasStopped}
+
+-- the entity that was found is what its birth means
+pub found_targeted : (view : View) (names : Bindings) (on : Target) (birth : Birth)
+    (o : Option Handle) (h : Handle) → on ≡ target.Birth birth → o ≡ Some h
+    → IfSome o (λ k. IsOfBirth view birth (k ∷ [])) → IsTargeted view names on (h ∷ [])
+found_targeted view names on birth o h is some found =
+    subst (λ t. IsTargeted view names t (h ∷ [])) (sym is)
+    (subst (λ x. IfSome x (λ k. IsOfBirth view birth (k ∷ []))) some found)
 
 pub issued_on : (view : View) (names : Bindings) (on : Target) (command : Handle → Command)
     (before after : Issued) (hs : List Handle) (result : Result (Unit {0}) Memory)

@@ -1,13 +1,15 @@
 -- Worked examples of what a system may issue.
-use Rattle.std.proofs.Common.{refl, [], ◌∷◌, Some, pos, List, ℤ, inl, inr}
+use Rattle.std.proofs.Common.{◌≢◌, refl, [], ◌∷◌, Some, pos, List, ℤ, inl, inr}
+use Rattle.ent_handle.specs.declared.birth.Birth.{Birth}
 use Rattle.ent_handle.specs.Handle.{Handle}
 use Rattle.ent_handle.specs.declared.component.ComponentId.{ComponentId}
+use Rattle.ent_storage.specs.EntityMap.{birth_of}
 use Rattle.ent_shared.specs.declared.refused.Refused.{Refused as Refusal}
 use Rattle.ent_queue.specs.Command.{Spawn, SpawnMany, Remove, Despawn, Refused}
 use Rattle.ent_world.specs.OpenWorld.{View}
 use Rattle.ent_script.specs.declared.operation.Operation.TheVariants as operation
 use Rattle.ent_script.specs.declared.target.Target.TheVariants as target
-use Rattle.ent_script_system.specs.Issuing.{MayIssue, MayStop}
+use Rattle.ent_script_system.specs.Issuing.{IsOfBirth, MayIssue, MayStop}
 
 hp : ComponentId
 hp = record { 0 = 0 }
@@ -62,6 +64,23 @@ module _ (view : View) (h k : Handle) (why : Refusal) where
         (Despawn k ∷ [], [], refl, (k ∷ [], refl, refl), refl),
       ),
     ),
+  )
+
+  -- a birth that nobody has issues no command
+  birth_of_nobody : (birth : Birth) → ((g : Handle) → birth_of view.entities g ≢ Some birth)
+      → MayIssue (operation.Despawn (target.Birth birth) ∷ []) view []
+  birth_of_nobody birth none = ([], [], refl, ([], none, refl), refl)
+
+  -- the entity of a birth in the view gets a command from each operation, also after it was despawned
+  birth_twice : (birth : Birth) → IsOfBirth view birth (h ∷ [])
+      → MayIssue (operation.Despawn (target.Birth birth) ∷ operation.Remove hp (target.Birth birth)
+      ∷ []) view (Despawn h ∷ Remove h hp ∷ [])
+  birth_twice birth is = (
+    Despawn h ∷ [],
+    Remove h hp ∷ [],
+    refl,
+    (h ∷ [], is, refl),
+    (Remove h hp ∷ [], [], refl, (h ∷ [], is, refl), refl),
   )
 
   -- memory was refused to the second operation: the first has issued its command

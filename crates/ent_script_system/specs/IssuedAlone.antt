@@ -6,6 +6,7 @@ use Rattle.std.specs.Prelude.{Option, None, Some, is_some, map, filter}
 use Rattle.std.specs.FinMap.{find}
 use Rattle.std.specs.List.{All, range_with_len}
 use Rattle.ent_handle.specs.declared.birth.Birth.{Birth}
+use Rattle.ent_handle.specs.Birth.{birth_cmp}
 use Rattle.ent_handle.specs.Component.{component_cmp}
 use Rattle.ent_queue.specs.Command.{Command}
 use Rattle.ent_queue.specs.Command as queued
@@ -39,6 +40,8 @@ births_meant view names (target.Handle h) = []
 births_meant view names (target.Each id) =
     map (λ entity. entity.0)
     (filter (λ entity. is_some (find component_cmp id entity.1)) view)
+births_meant view names (target.Birth birth) =
+    if is_some (find birth_cmp birth view) then birth ∷ [] else []
 
 -- what the operations of a system issue, if its next spawn has this birth
 abbrev pub issued_alone : BirthMap → BirthBindings → Birth → List Operation → List BirthCommand
@@ -73,6 +76,7 @@ abbrev pub IsNoHandle : Target → Type 0
 IsNoHandle (target.Name n) = Unit {0}
 IsNoHandle (target.Handle h) = ⊥
 IsNoHandle (target.Each id) = Unit {0}
+IsNoHandle (target.Birth birth) = Unit {0}
 
 -- no entity is named by its handle in the operation
 abbrev pub NeedsNoHandle : Operation → Type 0

@@ -1,9 +1,12 @@
 -- What a system of a script may issue.
 use Rattle.std.specs.Prelude.{◌≡◌, ℕ, ℤ, List, [], ◌∷◌, ◌++◌, length, map, Some, ◌==◌, ◌⊎◌}
-use Rattle.std.specs.Prelude.{if◌then◌else◌}
+use Rattle.std.specs.Prelude.{if◌then◌else◌, ◌≢◌}
+use Rattle.std.specs.declared.cmp.Ordering.TheVariants.{Greater}
+use Rattle.ent_handle.specs.declared.birth.Birth.{Birth}
 use Rattle.ent_handle.specs.declared.component.ComponentId.{ComponentId}
-use Rattle.ent_handle.specs.Handle.{Handle}
+use Rattle.ent_handle.specs.Handle.{Handle, handle_cmp}
 use Rattle.ent_storage.specs.BirthOrder.{ListsWith}
+use Rattle.ent_storage.specs.EntityMap.{birth_of}
 use Rattle.ent_queue.specs.Command.{Command, Spawn, SpawnMany, Insert, Remove, Despawn, Refused}
 use Rattle.ent_world.specs.OpenWorld.{View}
 use Rattle.ent_script.specs.declared.operation.Operation.{Operation}
@@ -29,11 +32,22 @@ names_after names (operation.SpawnMany count bundle (Some n)) (SpawnMany hs item
     bound n hs names
 names_after names _ _ = names
 
+-- The list has the handle of the entity with that birth: the least if there are several, and none if
+-- there is no such entity.
+abbrev pub IsOfBirth : View → Birth → List Handle → Type 0
+IsOfBirth view birth [] = (h : Handle) → birth_of view.entities h ≢ Some birth
+IsOfBirth view birth (h ∷ []) =
+    (birth_of view.entities h ≡ Some birth)
+    × ((other : Handle) → birth_of view.entities other ≡ Some birth
+    → handle_cmp h other ≢ Greater)
+IsOfBirth view birth (h ∷ k ∷ hs) = ⊥
+
 -- The target means these handles, in this order.
 abbrev pub IsTargeted : View → Bindings → Target → List Handle → Type 0
 IsTargeted view names (target.Name n) hs = hs ≡ names n
 IsTargeted view names (target.Handle h) hs = hs ≡ h ∷ []
 IsTargeted view names (target.Each id) hs = ListsWith id view.entities hs
+IsTargeted view names (target.Birth birth) hs = IsOfBirth view birth hs
 
 -- one command for each handle of a target
 abbrev pub OnEach : View → Bindings → Target → (Handle → Command) → List Command → Type 0
@@ -81,11 +95,12 @@ pub record IsCutShort (view : View) (names : Bindings) (on : Target) (command : 
   pub target : IsTargeted view names on (done ++ missing ∷ others)
   pub commands : issued ≡ map command done
 
--- the list of an `each` takes memory before the first command
+-- the list of an `each` takes memory before the first command, and so may the look-up of a birth
 abbrev pub IsUnlisted : Target → List Command → Type 0
 IsUnlisted (target.Name n) issued = ⊥
 IsUnlisted (target.Handle h) issued = ⊥
 IsUnlisted (target.Each id) issued = issued ≡ []
+IsUnlisted (target.Birth birth) issued = issued ≡ []
 
 abbrev pub StopsOnEach : View → Bindings → Target → (Handle → Command) → List Command → Type 0
 StopsOnEach view names on command issued =

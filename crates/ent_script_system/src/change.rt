@@ -3,9 +3,11 @@ ghost use Rattle.ent_queue.specs.Commands.{IsReady, Extends, queue_of};
 ghost use Rattle.ent_script_system.specs.Issuing.{OnEach};
 ghost use Rattle.ent_script_system.specs.Parts.{names_of, command_on, HasIssuedOn};
 ghost use Rattle.ent_script_system.specs.Parts.{HasStoppedAmong, HasStoppedOn};
+ghost use Rattle.ent_script_system.specs.Rolls.{IsRollOf};
 
 use crate::bindings::Bindings;
 use crate::bundle::copied_bundle;
+use crate::roll::Roll;
 use ent_handle::{ComponentId, Handle, Memory};
 use ent_queue::Commands;
 use ent_script::{Bundle, Target};
@@ -32,9 +34,12 @@ impl Change<'_> {
         view: &View<'_>,
         target: Target,
         names: &Bindings,
+        roll: &mut Roll,
         commands: &mut Commands<'_>,
     ) -> Result<(), Memory>
-        requires { IsReady commands.old }
+        requires ready { IsReady commands.old }
+        requires roll { IsRollOf view.now roll.old }
+        ensures roll { IsRollOf view.now roll.new }
         ensures extends { Extends commands.old commands.new }
         ensures issued { OnOk result (HasIssuedOn view.now (names_of names.now) target
             (command_on self.entry) commands.old commands.new) }
@@ -45,6 +50,10 @@ impl Change<'_> {
             Target::Name(name) => self.on_each(alloc, names.get(name), commands),
             Target::Handle(handle) => self.on_each(alloc, &[handle], commands),
             Target::Each(id) => self.on_each(alloc, &view.with(id)?, commands),
+            Target::Birth(birth) => match roll.find(view, birth)? {
+                Some(handle) => self.on_each(alloc, &[handle], commands),
+                None => Ok(()),
+            },
         }
     }
 

@@ -4,6 +4,7 @@
 mod bindings;
 mod bundle;
 mod change;
+mod roll;
 mod script_system;
 mod spawning;
 

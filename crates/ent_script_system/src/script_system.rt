@@ -2,9 +2,11 @@ ghost use Rattle.std.specs.Prelude.{◌≡◌, [], OnOk, OnErr};
 ghost use Rattle.ent_queue.specs.Commands.{IsReady, Extends, queue_of};
 ghost use Rattle.ent_script_system.specs.Issuing.{MayIssue, MayStop};
 ghost use Rattle.ent_script_system.specs.Parts.{HasIssued, HasStopped};
+ghost use Rattle.ent_script_system.specs.Rolls.{IsRollOf};
 
 use crate::bindings::Bindings;
 use crate::change::Change;
+use crate::roll::Roll;
 use crate::spawning::{spawn, spawn_many};
 use ent_handle::Memory;
 use ent_queue::Commands;
@@ -55,8 +57,9 @@ impl System for ScriptSystem<'_> {
         commands: &mut Commands<'_>,
     ) -> Result<(), Memory> {
         let mut names = Bindings::new(alloc);
+        let mut roll = Roll::new(alloc);
         for operation in self.system.operations() {
-            issue(alloc, view, operation, &mut names, commands)?;
+            issue(alloc, view, operation, &mut names, &mut roll, commands)?;
         }
         Ok(())
     }
@@ -68,9 +71,12 @@ fn issue(
     view: &View<'_>,
     operation: &Operation,
     names: &mut Bindings,
+    roll: &mut Roll,
     commands: &mut Commands<'_>,
 ) -> Result<(), Memory>
-    requires { IsReady commands.old }
+    requires ready { IsReady commands.old }
+    requires roll { IsRollOf view.now roll.old }
+    ensures roll { IsRollOf view.now roll.new }
     ensures extends { Extends commands.old commands.new }
     ensures issued { OnOk result (HasIssued view.now operation.now
         commands.old commands.new names.old names.new) }
@@ -85,13 +91,13 @@ fn issue(
             binds,
         } => spawn_many(alloc, *count, bundle, *binds, names, commands),
         Operation::Insert { bundle, target } => {
-            Change::Insert(bundle).on_target(alloc, view, *target, names, commands)
+            Change::Insert(bundle).on_target(alloc, view, *target, names, roll, commands)
         }
         Operation::Remove { component, target } => {
-            Change::Remove(*component).on_target(alloc, view, *target, names, commands)
+            Change::Remove(*component).on_target(alloc, view, *target, names, roll, commands)
         }
         Operation::Despawn { target } => {
-            Change::Despawn.on_target(alloc, view, *target, names, commands)
+            Change::Despawn.on_target(alloc, view, *target, names, roll, commands)
         }
     }
 }

@@ -1,6 +1,10 @@
 //! Worked scripts.
 use crate::story::{births, story};
+use ent_handle::Memory;
+use std::alloc::Global;
+use std::process::Abort;
 use std::test::Fail;
+use std::thread::Threads;
 
 /// What a system has spawned it may name.
 #[test]
@@ -143,4 +147,83 @@ fn names_last_for_one_system(rt: HostRuntime) -> Result<(), Fail> {
         0.0.0 0v1 0=3\n"
     );
     Ok(())
+}
+
+/// A birth means who has it in the view. A birth of nobody gets no command, and one that an earlier
+/// operation has taken out still gets one.
+#[test]
+fn births_of_the_view(rt: HostRuntime) -> Result<(), Fail> {
+    let told = story(
+        &rt,
+        rt.alloc(),
+        b"{\"format\":2,\"components\":[\"hp\"],\"frames\":[[[{\"spawn_many\":2}],[{\"spawn\":{}}]],\
+        [[{\"despawn\":{\"birth\":\"0.0.1\"}},{\"insert\":{\"hp\":9},\"on\":{\"birth\":\"0.1.0\"}},\
+        {\"remove\":\"hp\",\"on\":{\"birth\":\"0.0.7\"}},{\"despawn\":{\"birth\":\"0.0.1\"}}]]]}",
+    )?;
+    assert_eq!(rt;
+        told.as_str(),
+        "queue | spawn many 0v1 1v1\n\
+        queue | spawn 2v1\n\
+        queue | despawn 1v1 | insert 2v1 0=9 | despawn 1v1\n\
+        fault 0 2 not alive 1v1\n\
+        0.0.0 0v1\n\
+        0.1.0 2v1 0=9\n"
+    );
+    Ok(())
+}
+
+// A script whose second frame gives each of forty entities a value by its birth, and ten of nobody.
+fn script_of_births(alloc: Global) -> Result<String, Memory> {
+    let mut script = String::new(alloc);
+    write!(
+        script,
+        "{{\"format\":2,\"components\":[\"hp\"],\"frames\":[[[{{\"spawn_many\":40}}]],[["
+    )?;
+    for ordinal in 0..50u32 {
+        let comma = if ordinal == 0 { "" } else { "," };
+        write!(
+            script,
+            "{comma}{{\"insert\":{{\"hp\":{ordinal}}},\"on\":{{\"birth\":\"0.0.{ordinal}\"}}}}"
+        )?;
+    }
+    write!(script, "]]]}}")?;
+    Ok(script)
+}
+
+// Each of the forty with its value.
+fn each_with_its_value(alloc: Global) -> Result<String, Memory> {
+    let mut wanted = String::new(alloc);
+    for ordinal in 0..40u32 {
+        writeln!(wanted, "0.0.{ordinal} 0={ordinal}")?;
+    }
+    Ok(wanted)
+}
+
+/// So many births are looked up that the entities are listed.
+#[test]
+fn many_births(rt: HostRuntime) -> Result<(), Fail> {
+    let script = script_of_births(rt.alloc())?;
+    let told = births(&rt, rt.alloc(), script.as_bytes(), 1)?;
+    assert_eq!(rt; told.as_str(), each_with_its_value(rt.alloc())?.as_str());
+    Ok(())
+}
+
+/// Passes whichever single allocation is refused, that of the list of all entities too.
+#[test]
+fn refused_memory_of_births(rt: HostRuntime) -> Result<(), Fail> {
+    let told = match told_of_births(&rt, rt.alloc()) {
+        Ok(told) => told,
+        Err(_) => told_of_births(&rt, rt.alloc())?,
+    };
+    assert!(rt; told);
+    Ok(())
+}
+
+fn told_of_births<R>(rt: &R, alloc: Global) -> Result<bool, Memory>
+where
+    R: Threads + Sync + Abort,
+{
+    let script = script_of_births(alloc)?;
+    let told = births(rt, alloc, script.as_bytes(), 1)?;
+    Ok(told.as_str() == each_with_its_value(alloc)?.as_str())
 }

@@ -1,4 +1,4 @@
-use ent_handle::{ComponentId, Handle};
+use ent_handle::{Birth, ComponentId, Handle};
 use ent_script::{Bundle, Operation, Script, Target, read_script};
 use std::alloc::Global;
 use std::test::Fail;
@@ -131,5 +131,31 @@ fn limits_that_are_absent(rt: HostRuntime) -> Result<(), Fail> {
     assert!(rt; script.limits().generations() == 2_147_483_647);
     assert!(rt; script.components().is_empty());
     assert!(rt; script.frames().is_empty());
+    Ok(())
+}
+
+const BIRTHS: &[u8] = b"{\"format\":2,\"components\":[],\"frames\":[[],[],[[\
+    {\"despawn\":{\"birth\":\"0.0.0\"}},{\"despawn\":{\"birth\":\"1.255.4294967295\"}}]]]}";
+
+#[test]
+fn births_of_targets(rt: HostRuntime) -> Result<(), Fail> {
+    let script = read_script(rt.alloc(), BIRTHS)?;
+    let frame = script.frames().last().ok_or("frame")?;
+    let system = frame.systems().first().ok_or("system")?;
+    let [first, second] = system.operations() else {
+        return Err(Fail::new("operations"));
+    };
+    let least = Birth {
+        frame: 0,
+        system: 0,
+        ordinal: 0,
+    };
+    assert!(rt; is_despawn(first, Target::Birth(least)));
+    let greatest = Birth {
+        frame: 1,
+        system: 255,
+        ordinal: 4_294_967_295,
+    };
+    assert!(rt; is_despawn(second, Target::Birth(greatest)));
     Ok(())
 }

@@ -3,14 +3,14 @@ use std::alloc::Global;
 use std::test::Fail;
 
 // Texts outside the frames, and the line of each.
-const TOPS: [(&[u8], &[u8]); 33] = [
+const TOPS: [(&[u8], &[u8]); 35] = [
     (b"", b"refused json\n"),
     (b"{\"components\":[\"hp\"],\"frames\":[", b"refused json\n"),
     (b"[]", b"refused script top\n"),
     (b"null", b"refused script top\n"),
-    (b"{\"format\":2,\"Frames\":[]}", b"refused script key\n"),
+    (b"{\"format\":3,\"Frames\":[]}", b"refused script key\n"),
     (
-        b"{\"format\":2,\"slots\":0,\"components\":[],\"frames\":[]}",
+        b"{\"format\":3,\"slots\":0,\"components\":[],\"frames\":[]}",
         b"refused script format\n",
     ),
     (
@@ -29,6 +29,11 @@ const TOPS: [(&[u8], &[u8]); 33] = [
         b"{\"format\":0,\"components\":[],\"frames\":[]}",
         b"refused script format\n",
     ),
+    (
+        b"{\"format\":2.0,\"components\":[],\"frames\":[]}",
+        b"refused script format\n",
+    ),
+    (b"{\"format\":2,\"components\":[],\"frames\":[]}", b"read\n"),
     (
         b"{\"slots\":0,\"generations\":0,\"components\":[],\"frames\":[]}",
         b"refused script slots\n",
@@ -298,6 +303,66 @@ const OPERATIONS: [(&[u8], &[u8]); 49] = [
         b"refused operation 1 2 0 name\n",
     ),
 ];
+
+// The births of a target in frame 1 of a script of format 2, and the line of that script.
+const BIRTHS: [(&[u8], &[u8]); 13] = [
+    (b"0.0.0", b"read\n"),
+    (b"0.255.4294967295", b"read\n"),
+    (b"00.0.0", b"refused operation 1 0 0 birth\n"),
+    (b"0.00.0", b"refused operation 1 0 0 birth\n"),
+    (b"0.0.01", b"refused operation 1 0 0 birth\n"),
+    (b"0.256.0", b"refused operation 1 0 0 birth\n"),
+    (b"0.0.4294967296", b"refused operation 1 0 0 birth\n"),
+    (b"1.0.0", b"refused operation 1 0 0 birth\n"),
+    (b"0.0", b"refused operation 1 0 0 birth\n"),
+    (b"0.0.0.0", b"refused operation 1 0 0 birth\n"),
+    (b"0..0", b"refused operation 1 0 0 birth\n"),
+    (b"+0.0.0", b"refused operation 1 0 0 birth\n"),
+    (b"", b"refused operation 1 0 0 birth\n"),
+];
+
+#[test]
+fn births(rt: HostRuntime) -> Result<(), Fail> {
+    for (birth, line) in BIRTHS {
+        let front = b"{\"format\":2,\"components\":[],\"frames\":[[],[[{\"despawn\":{\"birth\":\"";
+        let text = repeated(rt.alloc(), front, birth, 1, b"\"}}]]]}")?;
+        assert!(rt; has_line(rt.alloc(), &text, line)?, "at {birth:?}");
+    }
+    Ok(())
+}
+
+// A birth of the frame itself, in each format; a birth that is no text; and a birth of a frame
+// far before its own.
+const FORMATS: [(&[u8], &[u8]); 5] = [
+    (
+        b"{\"format\":2,\"components\":[],\"frames\":[[[{\"despawn\":{\"birth\":\"0.0.0\"}}]]]}",
+        b"refused operation 0 0 0 birth\n",
+    ),
+    (
+        b"{\"format\":1,\"components\":[],\"frames\":[[[{\"despawn\":{\"birth\":\"0.0.0\"}}]]]}",
+        b"refused operation 0 0 0 target\n",
+    ),
+    (
+        b"{\"format\":3,\"components\":[],\"frames\":[[[{\"despawn\":{\"birth\":\"0.0.0\"}}]]]}",
+        b"refused script format\n",
+    ),
+    (
+        b"{\"format\":2,\"components\":[],\"frames\":[[],[[{\"despawn\":{\"birth\":0}}]]]}",
+        b"refused operation 1 0 0 target\n",
+    ),
+    (
+        b"{\"format\":2,\"components\":[],\"frames\":[[],[],[[{\"despawn\":{\"birth\":\"1.0.0\"}}]]]}",
+        b"read\n",
+    ),
+];
+
+#[test]
+fn formats(rt: HostRuntime) -> Result<(), Fail> {
+    for (text, line) in FORMATS {
+        assert!(rt; has_line(rt.alloc(), text, line)?, "at {text:?}");
+    }
+    Ok(())
+}
 
 fn with_operations(alloc: Global, operations: &[u8]) -> Result<Vec<u8>, Fail> {
     let front = b"{\"components\":[\"hp\",\"mp\"],\"frames\":[[[";

@@ -1,7 +1,9 @@
-ghost use Rattle.std.specs.Prelude.{◌≡◌, IfOk};
+ghost use Rattle.std.specs.Prelude.{◌≡◌, ◌≢◌, IfOk, IfSome, IfNone, Some};
 ghost use Rattle.std.specs.FinMap as map;
+ghost use Rattle.std.specs.declared.cmp.Ordering.TheVariants.{Greater};
+ghost use Rattle.ent_handle.specs.Handle.{Handle as HandleValue, handle_cmp};
 ghost use Rattle.ent_storage.specs.EntityMap.{birth_of, value_of};
-ghost use Rattle.ent_storage.specs.BirthOrder.{ListsWith};
+ghost use Rattle.ent_storage.specs.BirthOrder.{ListsAll, ListsWith};
 
 use ent_handle::{Birth, ComponentId, Handle, Memory};
 use ent_storage::Storage;
@@ -61,6 +63,33 @@ impl<'a> View<'a> {
         ensures { IfOk result (λ handles. ListsWith id self.now.entities handles.items) }
     {
         self.storage.with(id)
+    }
+
+    /// The handles of all entities, by birth and then by handle. The time is that of a sort.
+    ///
+    /// # Errors
+    ///
+    /// `Memory`: there is no memory for the list.
+    pub fn by_birth(&self) -> Result<Vec<Handle>, Memory>
+        ensures { IfOk result (λ handles. ListsAll self.now.entities handles.items) }
+    {
+        self.storage.by_birth()
+    }
+
+    /// The handle of the entity with that birth, if there is one. If several entities have the
+    /// birth, it is the least of their handles.
+    ///
+    /// It takes no memory. The time is that of a look at each entity.
+    pub fn of_birth(&self, birth: Birth) -> Option<Handle>
+        ensures found { IfSome result (λ handle.
+            birth_of self.now.entities handle ≡ Some birth) }
+        ensures least { IfSome result (λ handle. (other : HandleValue)
+            → birth_of self.now.entities other ≡ Some birth
+            → handle_cmp handle other ≢ Greater) }
+        ensures none { IfNone result ((handle : HandleValue)
+            → birth_of self.now.entities handle ≢ Some birth) }
+    {
+        self.storage.of_birth(birth)
     }
 
     /// How often the world was flushed before it was opened.

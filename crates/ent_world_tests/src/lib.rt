@@ -16,4 +16,6 @@ mod shown;
 #[cfg(test)]
 mod turns;
 #[cfg(test)]
+mod views;
+#[cfg(test)]
 mod worked_syncs;

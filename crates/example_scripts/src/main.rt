@@ -10,7 +10,7 @@ mod refusals;
 use anyhow::Result;
 use std::env;
 
-const EXAMPLES: [&str; 7] = [
+const EXAMPLES: [&str; 8] = [
     "reuse",
     "refused_bulk",
     "stale_handles",
@@ -18,6 +18,7 @@ const EXAMPLES: [&str; 7] = [
     "names",
     "each",
     "spawners",
+    "births",
 ];
 
 fn main(rt: HostRuntime) -> Result<()> {

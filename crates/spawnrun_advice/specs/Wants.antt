@@ -34,7 +34,7 @@ parts_wants script_cause.Top =
     codes "a script must be an object with the keys 'components' and 'frames'"
 parts_wants script_cause.Key =
     codes "a key of a script must be 'format', 'slots', 'generations', 'components' or 'frames'"
-parts_wants script_cause.Format = codes "'format' must be the number 1, or absent"
+parts_wants script_cause.Format = codes "'format' must be the number 1 or 2, or absent"
 parts_wants script_cause.Slots =
     codes "'slots' must be a whole number from 1 to 4294967295, or absent"
 parts_wants script_cause.Generations =
@@ -59,8 +59,12 @@ operation_wants cause.Name =
     codes "an 'as' must be a name of 1 to 32 characters from a to z, 0 to 9 and _, and the "
     ++ codes "'name' of a target must be the 'as' of an earlier operation of its system"
 operation_wants cause.Target =
-    codes "a target must be an object with one key, 'name', 'each' or 'handle', and a string"
+    codes "a target must be an object with one key, 'name', 'each', 'handle' or, in format 2, "
+    ++ codes "'birth', and a string"
 operation_wants cause.Handle = handle_wants
+operation_wants cause.Birth =
+    codes "a birth must be the number of an earlier frame, of a system up to 255 and of a "
+    ++ codes "spawned entity up to 4294967295, with dots between, as 0.1.2, without leading zeros"
 
 -- what the test of a script wants that it fails; want of memory fails none
 abbrev pub script_wants : ReadFault → List ℕ

@@ -216,6 +216,7 @@ fn operation_part<'a>(script: &'a Value, operation: &'a Value, cause: Cause) -> 
         Cause::Name => Part::of(operation.get("as").or(target_at(operation, "name"))),
         Cause::Target => Part::of(target_of(operation)),
         Cause::Handle => Part::of(target_at(operation, "handle")),
+        Cause::Birth => Part::of(target_at(operation, "birth")),
     }
 }
 

@@ -61,7 +61,7 @@ fn parts_wants(cause: ScriptCause) -> &'static str
             "a key of a script must be 'format', 'slots', 'generations', 'components' or \
              'frames'"
         }
-        ScriptCause::Format => "'format' must be the number 1, or absent",
+        ScriptCause::Format => "'format' must be the number 1 or 2, or absent",
         ScriptCause::Slots => "'slots' must be a whole number from 1 to 4294967295, or absent",
         ScriptCause::Generations => {
             "'generations' must be a whole number from 1 to 2147483647, or absent"
@@ -95,11 +95,16 @@ fn operation_wants(cause: Cause) -> &'static str
              'name' of a target must be the 'as' of an earlier operation of its system"
         }
         Cause::Target => {
-            "a target must be an object with one key, 'name', 'each' or 'handle', and a string"
+            "a target must be an object with one key, 'name', 'each', 'handle' or, in format 2, \
+             'birth', and a string"
         }
         Cause::Handle => {
             "a handle must be an index up to 4294967294, the letter v and a generation from 1 \
              to 2147483647, as 0v1, without leading zeros"
+        }
+        Cause::Birth => {
+            "a birth must be the number of an earlier frame, of a system up to 255 and of a \
+             spawned entity up to 4294967295, with dots between, as 0.1.2, without leading zeros"
         }
     }
 }

@@ -9,7 +9,7 @@ use std::test::Fail;
 use std::thread::Threads;
 
 // Texts that are no script, what the test wants that each fails, and what it found.
-const NO_SCRIPTS: [(&str, &str, &str); 25] = [
+const NO_SCRIPTS: [(&str, &str, &str); 26] = [
     (
         r#"{"components":[],"frames":["#,
         "the input must be a JSON text in UTF-8, its lists and objects at most 127 deep, its \
@@ -38,9 +38,9 @@ const NO_SCRIPTS: [(&str, &str, &str); 25] = [
         r#""frame""#,
     ),
     (
-        r#"{"format":2,"components":[],"frames":[]}"#,
-        "'format' must be the number 1, or absent",
-        "2",
+        r#"{"format":3,"components":[],"frames":[]}"#,
+        "'format' must be the number 1 or 2, or absent",
+        "3",
     ),
     (
         r#"{"slots":-0,"components":[],"frames":[]}"#,
@@ -137,7 +137,8 @@ const NO_SCRIPTS: [(&str, &str, &str); 25] = [
     ),
     (
         r#"{"components":["hp"],"frames":[[[{"insert":{},"on":"0v1"}]]]}"#,
-        "a target must be an object with one key, 'name', 'each' or 'handle', and a string",
+        "a target must be an object with one key, 'name', 'each', 'handle' or, in format 2, \
+         'birth', and a string",
         r#""0v1" at frame 0, system 0, operation 0 (counted from 0)"#,
     ),
     (
@@ -145,6 +146,12 @@ const NO_SCRIPTS: [(&str, &str, &str); 25] = [
         "a handle must be an index up to 4294967294, the letter v and a generation from 1 to \
          2147483647, as 0v1, without leading zeros",
         r#""0v0" at frame 0, system 0, operation 0 (counted from 0)"#,
+    ),
+    (
+        r#"{"format":2,"components":[],"frames":[[],[[{"despawn":{"birth":"1.0.0"}}]]]}"#,
+        "a birth must be the number of an earlier frame, of a system up to 255 and of a spawned \
+         entity up to 4294967295, with dots between, as 0.1.2, without leading zeros",
+        r#""1.0.0" at frame 1, system 0, operation 0 (counted from 0)"#,
     ),
 ];
 

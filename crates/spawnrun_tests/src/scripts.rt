@@ -93,8 +93,22 @@ fn worked_scripts(rt: HostRuntime) {
     }
 }
 
+// Births as targets: one that is taken out, one that never was, and one that is gone.
+const BIRTHS: &str =
+    r#"{"format":2,"components":["hp"],"frames":[[[{"spawn_many":2,"with":{"hp":1}}],[{"spawn":{"hp":3}}]],[[{"despawn":{"birth":"0.0.1"}},{"insert":{"hp":9},"on":{"birth":"0.1.0"}},{"remove":"hp","on":{"birth":"0.0.7"}}],[{"insert":{"hp":4},"on":{"birth":"0.0.1"}}]],[[{"insert":{"hp":2},"on":{"birth":"0.0.1"}}]]]}"#;
+
+#[test]
+fn births_are_targets(rt: HostRuntime) {
+    let script = BIRTHS.as_bytes();
+    let births =
+        "frame 0 born 3 faults 0\nframe 1 born 0 faults 1\nfault 1 0 not alive\nframe 2 born 0 faults 0\n0.0.0 hp=1\n0.1.0 hp=9\nalive 2\n";
+    runs(&rt, 1, Show::Births, script, Status::Done, births);
+    runs(&rt, 2, Show::Births, script, Status::Done, births);
+    runs(&rt, 8, Show::Births, script, Status::Done, births);
+}
+
 // Texts that are no script, and the line that refuses each.
-const REFUSED: [(&str, &str); 5] = [
+const REFUSED: [(&str, &str); 8] = [
     (r#"{"components":["hp"],"frames":["#, "refused json\n"),
     ("[]", "refused script top\n"),
     (
@@ -108,6 +122,19 @@ const REFUSED: [(&str, &str); 5] = [
     (
         r#"{"components":[],"frames":[[[{"spawn_many":1.0}]]]}"#,
         "refused operation 0 0 0 count\n",
+    ),
+    // A birth is a target of format 2, and of an earlier frame.
+    (
+        r#"{"format":2,"components":[],"frames":[[[{"despawn":{"birth":"0.0.0"}}]]]}"#,
+        "refused operation 0 0 0 birth\n",
+    ),
+    (
+        r#"{"format":1,"components":[],"frames":[[[{"despawn":{"birth":"0.0.0"}}]]]}"#,
+        "refused operation 0 0 0 target\n",
+    ),
+    (
+        r#"{"format":3,"components":[],"frames":[[[{"despawn":{"birth":"0.0.0"}}]]]}"#,
+        "refused script format\n",
     ),
 ];
 

@@ -13,12 +13,14 @@ import sys
 SEED = 20241122
 COMPONENTS = ["hp", "mp", "speed", "age"]
 MOST = 65_536  # handles that one operation may ask for
+NAMED = 10_000  # births that a system of the shape `births` names
 
 
 class World:
     """The living entities: their components by birth, in the order of births."""
 
-    def __init__(self):
+    def __init__(self, least):
+        self.least = least  # commands, or entities of the shape `births`
         self.entities = {}
 
     def having(self, component):
@@ -101,6 +103,11 @@ class System:
     def despawn(self, target):
         self.on_each({"despawn": target}, target, lambda entities, birth: entities.pop(birth))
 
+    def insert_at(self, bundle, birth):
+        self.operations.append({"insert": bundle, "on": {"birth": ".".join(map(str, birth))}})
+        if birth in self.world.entities:
+            self.issue_one(self.setting(bundle), [birth])
+
 
 def mixed(system, choice):
     """Entities come and go, by names and by `each`. A few hundred are alive. One command in a hundred is a fault."""
@@ -152,8 +159,25 @@ def crowd(system, choice):
         system.despawn({"each": "mp"})
 
 
-# Of each shape what a system does, and how many systems a frame has.
-SHAPES = {"mixed": (mixed, 4), "names": (names, 4), "each": (each, 4), "crowd": (crowd, 8)}
+def births(system, choice):
+    """So many entities come at once, and then a system names ten thousand births, a fifth of them nobody's."""
+    least = system.world.least
+    if system.frame == 0:
+        for first in range(0, least, MOST):
+            system.spawn_many(min(MOST, least - first), {"hp": 1})
+    else:
+        for value in range(NAMED):
+            system.insert_at({"mp": value}, (0, 0, choice.randrange(least * 5 // 4)))
+
+
+# Of each shape what a system does, how many systems a frame has, and how many frames there are at least.
+SHAPES = {
+    "mixed": (mixed, 4, 1),
+    "names": (names, 4, 1),
+    "each": (each, 4, 1),
+    "crowd": (crowd, 8, 1),
+    "births": (births, 1, 2),
+}
 
 
 def frames(shape, least):
@@ -161,10 +185,10 @@ def frames(shape, least):
 
     Each as the operations of its systems, the lines that it must print, and the number of its commands.
     """
-    write, count = SHAPES[shape]
-    world, choice = World(), random.Random(SEED)
+    write, count, fewest = SHAPES[shape]
+    world, choice = World(least), random.Random(SEED)
     frame = commands = 0
-    while commands < least:
+    while frame < fewest or commands < least:
         systems = [System(world, frame, number) for number in range(count)]
         for system in systems:
             write(system, choice)
@@ -176,12 +200,12 @@ def frames(shape, least):
 
 def main():
     parser = argparse.ArgumentParser(description=__doc__)
-    parser.add_argument("commands", type=int, help="at least so many")
+    parser.add_argument("commands", type=int, help="at least so many; of the shape births, so many entities")
     parser.add_argument("shape", nargs="?", choices=SHAPES, default="mixed")
     parser.add_argument("--report", default=os.devnull, help="the file for what must come of it")
     wanted = parser.parse_args()
     total = 0
-    sys.stdout.write(f'{{"components":{json.dumps(COMPONENTS)},"frames":[')
+    sys.stdout.write(f'{{"format":2,"components":{json.dumps(COMPONENTS)},"frames":[')
     with open(wanted.report, "w", encoding="ascii") as report:
         for systems, lines, issued in frames(wanted.shape, wanted.commands):
             if systems is not None:

@@ -19,7 +19,7 @@ returns-then-not-branch-clause-value c d rest e =
           (λ (o : Option Items). ok_or (option_and_then
           (λ ds. cond (nat_le (length ds) 256) (Some ds) None) (option_map list_of o))
           (fault.Frame c.args.number)
-          >>= λ ds. numbered (system_of c.args.components.now c.args.number) 0 ds) is.0,
+          >>= λ ds. numbered (system_of c.args.format c.args.components.now c.args.number) 0 ds) is.0,
       is.1,
     )
 
@@ -31,5 +31,5 @@ returns-clause-value c d rest e =
     (c.in_ok-begins_array.ensures.value d rest e) in
     subst
     (λ (x : Data). Streams c.systems.result c.systems.new.reader
-    (frame_of c.args.components.now c.args.number x) rest)
+    (frame_of c.args.format c.args.components.now c.args.number x) rest)
     (sym is.1) (c.systems.ensures.value _ is.0 rest is.2)

@@ -19,7 +19,7 @@ returns-then-not-branch-clause-value c d rest e =
           (λ (o : Option Items). ok_or (option_and_then
           (λ ds. cond (nat_le (length ds) 1000) (Some ds) None) (option_map list_of o))
           (fault.Script script_cause.Frames)
-          >>= λ ds. numbered (frame_of c.args.components.now) 0 ds) is.0,
+          >>= λ ds. numbered (frame_of c.args.format c.args.components.now) 0 ds) is.0,
       is.1,
     )
 
@@ -31,5 +31,5 @@ returns-clause-value c d rest e =
     (c.in_ok-begins_array.ensures.value d rest e) in
     subst
     (λ (x : Data). StreamsList c.frames_inside.result c.frames_inside.new.reader
-    (frames_of c.args.components.now (Some x)) rest)
+    (frames_of c.args.format c.args.components.now (Some x)) rest)
     (sym is.1) (c.frames_inside.ensures.value _ is.0 rest is.2)

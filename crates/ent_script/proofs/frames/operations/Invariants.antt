@@ -9,8 +9,8 @@ abbrev pub invariant-loop-number : goal.invariant-loop-number
 invariant-loop-number l = record {
   bound : l.bound ≡ names_in bound_name (until l.values l.number);
   rest : onto l.operations.items
-      (numbered (operation_at l.components l.frame l.system (map view l.values)) l.number
+      (numbered (operation_at l.format l.components l.frame l.system (map view l.values)) l.number
       (from l.values l.number))
-      ≡ numbered (operation_at l.components l.frame l.system (map view l.values)) 0
+      ≡ numbered (operation_at l.format l.components l.frame l.system (map view l.values)) 0
       (map view l.values);
 }

@@ -40,7 +40,7 @@ returns-in_default-clause-value c d rest e =
     (c.in_ok-values.ensures.value d rest e) in (
       ap (λ (o : Option (List Data)). ok_or o (fault.System c.args.frame c.args.number)
           >>=
-          λ ds. numbered (operation_at c.args.components.now c.args.frame c.args.number ds) 0
+          λ ds. numbered (operation_at c.args.format c.args.components.now c.args.frame c.args.number ds) 0
           ds)
           (none_cut 2 (at_most 10000 d) read.0),
       read.1,
@@ -50,15 +50,15 @@ pub returns-clause-value : goal.returns-clause-value
 unfolding system_of
 returns-clause-value c d rest e =
     let vs = c.in-Some.values.items in
-    let f = operation_at c.args.components.now c.args.frame c.args.number in
+    let f = operation_at c.args.format c.args.components.now c.args.frame c.args.number in
     let read = subst (λ (o : Option (Vec Value)). ReadsElements 2 10000 (Ok o)
     c.read_elements.new.reader d rest) c.in-Some.is
     (c.in_ok-values.ensures.value d rest e) in
     let found = some_cut 2 vs (at_most 10000 d) read.0 in
-    let means : numbered (f (map view vs)) 0 (map view vs) ≡ system_of c.args.components.now
+    let means : numbered (f (map view vs)) 0 (map view vs) ≡ system_of c.args.format c.args.components.now
     c.args.frame c.args.number d =
     ap (λ (xs : List Data). numbered (f xs) 0 xs) found.2
-    ∙ operations-cut c.args.components.now c.args.frame c.args.number found.0
+    ∙ operations-cut c.args.format c.args.components.now c.args.frame c.args.number found.0
     ∙ sym
     (ap
     (λ (o : Option (List Data)). ok_or o (fault.System c.args.frame c.args.number) >>= λ ds.

@@ -19,7 +19,7 @@ returns-then-not-opens c d e =
     (λ ts. converted of_json (value 127 ts)) c.in_ok-reader.ensures.ok ∙ whole_text
     c.args.text.now d e in
     let other : begins_object reader ≡ false = grind arith in
-    (ap (λ (o : Option Data). frames_of c.args.components.now o)
+    (ap (λ (o : Option Data). frames_of c.args.format c.args.components.now o)
     (no_object 127 reader [] d (codes "frames") other whole))
 
 pub returns : goal.returns
@@ -34,5 +34,5 @@ returns c d e =
     let opened = opened_object 127 ts [] d whole in
     subst
     (λ (x : Data). ReadsList c.frames_inside.result
-    (frames_of c.args.components.now (get (codes "frames") x))) (sym opened.1.1)
+    (frames_of c.args.format c.args.components.now (get (codes "frames") x))) (sym opened.1.1)
     (c.frames_inside.ensures (length ts) opened.1.0 [] opened.1.2)

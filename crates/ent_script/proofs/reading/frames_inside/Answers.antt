@@ -32,7 +32,7 @@ members-preserved-else-ran_out c n ms rest e =
     let at = l.invariant n ms rest e in
     let next = next_member p at.0 k l.reader s rest at.1 ms named at.2 in
     let read = streamed_list c.frames-found.result c.frames-found.new.reader
-    (frames_of c.args.components.now (Some next.0)) next.1
+    (frames_of c.args.format c.args.components.now (Some next.0)) next.1
     (sym c.ran_out.ensures ∙ c.if-ran_out.false) (c.frames-found.ensures.value next.0 next.1 next.2)
     in (
       at.0 - 1,
@@ -41,7 +41,7 @@ members-preserved-else-ran_out c n ms rest e =
           (λ ts. converted (λ ms. of_members ms (put k next.0 at.1)) (members p (at.0 - 1) ts))
           read.1 ∙ next.3,
       subst
-          (λ (o : Option Data). ReadsList c.frames-found.result (frames_of c.args.components.now o))
+          (λ (o : Option Data). ReadsList c.frames-found.result (frames_of c.args.format c.args.components.now o))
           (sym (found_here (codes "frames") k next.0 at.1 same)) read.0,
     )
 
@@ -63,7 +63,7 @@ members-preserved c n ms rest e =
           (λ ts. converted (λ ms. of_members ms (put k next.0 at.1)) (members p (at.0 - 1) ts)) same
           ∙ next.3,
       subst
-          (λ (o : Option Data). ReadsList l.found (frames_of c.args.components.now o))
+          (λ (o : Option Data). ReadsList l.found (frames_of c.args.format c.args.components.now o))
           (sym (found_before (codes "frames") k next.0 at.1 other)) at.3,
     )
 
@@ -86,5 +86,5 @@ returns c n ms rest e =
     let at = l.invariant n ms rest e in
     let last = last_member p at.0 l.reader c.next_key.new.self rest at.1 ms over at.2 in
     subst
-    (λ (x : Members). ReadsList l.found (frames_of c.args.components.now
+    (λ (x : Members). ReadsList l.found (frames_of c.args.format c.args.components.now
     (get_member (codes "frames") x))) (sym last.0) at.3

@@ -14,7 +14,7 @@ invariant-members l = (n : ℕ) (ms : Members) (rest : List Token)
     ≡ Some (ms, rest)
     → (m : ℕ) × (old : Members)
     × (converted (λ ms. of_members ms old) (members (value l.depth) m l.reader) ≡ Some (ms, rest))
-    × ReadsList l.found (frames_of l.components (get_member (codes "frames") old))
+    × ReadsList l.found (frames_of l.format l.components (get_member (codes "frames") old))
 
 abbrev pub decreases-members : goal.decreases-members
 decreases-members l = length l.reader

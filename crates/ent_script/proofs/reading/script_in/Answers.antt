@@ -37,7 +37,7 @@ meant d vs lent same seen =
 
 pub returns-in_err-values : goal.returns-in_err-values
 returns-in_err-values c d e =
-    let limits = c.in_ok-limits.ensures d e in
+    let said = c.in_ok-heading.ensures d e in
     let none : None ≡ option_map (map (cut 0)) (option_and_then (at_most 256) (Part d)) =
     sym
     (ap
@@ -46,11 +46,11 @@ returns-in_err-values c d e =
     c.in_ok-components_in.ensures.found d e in
     let is : c.from_residual-in_err-values.result ≡ Err (Script Components) = search rules in
     subst (λ (r : Result Whole ReadFault). ReadsAs r (script_of d)) (sym is)
-    (names_refused d c.in_ok-limits.limits (Script Components) limits (no_names (Part d) none))
+    (names_refused d c.in_ok-heading.heading (Script Components) said (no_names (Part d) none))
 
 pub returns-in_err-components : goal.returns-in_err-components
 returns-in_err-components c d e =
-    let limits = c.in_ok-limits.ensures d e in
+    let said = c.in_ok-heading.ensures d e in
     let vs = c.in_ok-values.values.items in
     let seen : Some (map view vs) ≡ option_map (map (cut 0))
     (option_and_then (at_most 256) (Part d)) =
@@ -65,11 +65,11 @@ returns-in_err-components c d e =
     returned fault c.from_residual-in_err-components.result (script_of d) is
     (passes_on fault (in_script (numbered (component_at (map view c.deref.result.now)) 0
     (map view c.deref.result.now))) (script_of d) c.in_err-components.ensures.names
-    (λ means. names_refused d c.in_ok-limits.limits fault limits (sym same ∙ means)))
+    (λ means. names_refused d c.in_ok-heading.heading fault said (sym same ∙ means)))
 
 pub returns-in_err-frames : goal.returns-in_err-frames
 returns-in_err-frames c d e =
-    let limits = c.in_ok-limits.ensures d e in
+    let said = c.in_ok-heading.ensures d e in
     let names = c.in_ok-components.components in
     let vs = c.in_ok-values.values.items in
     let seen : Some (map view vs) ≡ option_map (map (cut 0))
@@ -83,17 +83,17 @@ returns-in_err-frames c d e =
     let fault = c.in_err-frames.field-0.0 in
     let is : c.from_residual-in_err-frames.result ≡ Err fault = search rules in
     returned fault c.from_residual-in_err-frames.result (script_of d) is
-    (passes_from_list fault (frames_of names (get (codes "frames") d)) (script_of d)
+    (passes_from_list fault (frames_of c.in_ok-heading.heading.format names (get (codes "frames") d)) (script_of d)
     (c.in_err-frames.ensures d e)
-    (λ means. script_is d c.in_ok-limits.limits names limits
+    (λ means. script_is d c.in_ok-heading.heading names said
     (sym same ∙ c.in_ok-components.ensures.names)
     ∙ ap
     (λ (r : Result (List (List (List Operation))) ReadFault). r >>= λ frames. all_of
-    c.in_ok-limits.limits names frames) means))
+    c.in_ok-heading.heading names frames) means))
 
 pub returns : goal.returns
 returns c d e =
-    let limits = c.in_ok-limits.ensures d e in
+    let said = c.in_ok-heading.ensures d e in
     let names = c.in_ok-components.components in
     let vs = c.in_ok-values.values.items in
     let seen : Some (map view vs) ≡ option_map (map (cut 0))
@@ -104,10 +104,10 @@ returns c d e =
     (λ (vs : Vec Value). map view vs.items)) c.in_ok-values.ensures.ok_part) ∙
     c.in_ok-components_in.ensures.found d e in
     let same = meant d vs c.deref.result.now c.deref.ensures.value seen in
-    script_is d c.in_ok-limits.limits names limits (sym same ∙ c.in_ok-components.ensures.names)
+    script_is d c.in_ok-heading.heading names said (sym same ∙ c.in_ok-components.ensures.names)
     ∙ ap
     (λ (r : Result (List (List (List Operation))) ReadFault). r >>= λ frames. all_of
-    c.in_ok-limits.limits names frames) (c.in_ok-frames.ensures d e)
-    ∙ ap (λ (cs : List (List ℕ)). all_of c.in_ok-limits.limits cs c.in_ok-frames.frames.items)
+    c.in_ok-heading.heading names frames) (c.in_ok-frames.ensures d e)
+    ∙ ap (λ (cs : List (List ℕ)). all_of c.in_ok-heading.heading cs c.in_ok-frames.frames.items)
     (sym (c.in_ok-names.ensures.ok ∙ c.as_slice.ensures))
     ∙ ap (λ (s : Whole). done s) (sym c.new.ensures)

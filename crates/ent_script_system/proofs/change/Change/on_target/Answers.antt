@@ -4,7 +4,7 @@ use Rattle.ent_storage.specs.BirthOrder.{ListsWith}
 use Rattle.ent_script.specs.declared.target.Target.{Target}
 use Rattle.ent_script_system.specs.Issuing.{IsTargeted}
 use Rattle.ent_script_system.specs.Parts.{names_of}
-use Rattle.ent_script_system.proofs.Targeted.{issued_on, stopped_on}
+use Rattle.ent_script_system.proofs.Targeted.{found_targeted, issued_on, stopped_on}
 use Rattle.ent_script_system.proofs.change.Change.on_target.Goals.{After-deref}
 use Rattle.ent_script_system.proofs.change.Change.on_target.Goals as goal
 
@@ -36,3 +36,17 @@ returns-in_ok-with-in-Each-clause-stopped c =
     stopped_on _ _ _ _ _ _ _ _
     (listed (goal.at.returns-in_ok-with-in-Each-clause-stopped c).After-deref)
     c.on_each-in-Each.ensures.stopped
+
+pub returns-in-Some-clause-issued : goal.returns-in-Some-clause-issued
+returns-in-Some-clause-issued c =
+    issued_on _ _ _ _ _ _ (c.in-Some.handle ∷ []) _
+    (found_targeted c.args.view.now (names_of c.args.names.now) c.args.target c.in-Birth.birth _ _
+    c.in-Birth.is c.in-Some.is c.in_ok-handle-in-Birth.ensures.found)
+    c.on_each-in-Some.ensures.ok
+
+pub returns-in-Some-clause-stopped : goal.returns-in-Some-clause-stopped
+returns-in-Some-clause-stopped c =
+    stopped_on _ _ _ _ _ _ (c.in-Some.handle ∷ []) _
+    (found_targeted c.args.view.now (names_of c.args.names.now) c.args.target c.in-Birth.birth _ _
+    c.in-Birth.is c.in-Some.is c.in_ok-handle-in-Birth.ensures.found)
+    c.on_each-in-Some.ensures.stopped

@@ -1,0 +1,106 @@
+-- The texts of births, cut at their dots.
+use Rattle.std.proofs.Common.{◌≡◌, ◌≢◌, ℕ, Bool, true, false, eqb, List, [], ◌∷◌}
+use Rattle.std.proofs.Common.{Option, Some, None, IfNone}
+use Rattle.std.proofs.Common.{◌++◌, Result, Ok, Err, All, refl, sym, ap, ◌∙◌, inl, inr, arith}
+use Rattle.std.specs.List.{join_with_byte, slice_split}
+use Rattle.std.proofs.lemmas.Bool.{cases_Bool, ne_eqb}
+use Rattle.std.proofs.lemmas.Bool.{cond-false}
+use Rattle.std.proofs.lemmas.List.{get_or_default}
+use Rattle.std.proofs.lemmas.List.Splits.{slice_split_none, slice_split_at}
+use Rattle.std.proofs.lemmas.List.Splits.{join_with_byte-slice_split}
+use Rattle.std.proofs.lemmas.Str.Parse.{not_in_digits}
+use Rattle.ent_handle.specs.declared.text.TextFault.{TextFault}
+use Rattle.ent_handle.specs.Text.{is_decimal, number_of}
+use Rattle.ent_handle.proofs.Decimals.{digit_texts, plain_from_decimal}
+use Rattle.ent_script.specs.Reading.{◌>>=◌, birth_number, birth_of_numbers, birth_of_parts, birth_of}
+use Rattle.ent_script.specs.declared.cause.Cause.{Cause}
+use Rattle.ent_script.specs.declared.cause.Cause.TheVariants as cause
+
+abbrev is_dot : ℕ → Bool
+is_dot b = eqb b 46
+
+-- the dot is not among the bytes
+abbrev pub IsWithoutDot : List ℕ → Type 0
+IsWithoutDot bytes = All (λ b. b ≢ 46) bytes
+
+fails : (bytes : List ℕ) → IsWithoutDot bytes → All (λ b. is_dot b ≡ false) bytes
+fails bytes h k d lt = ne_eqb _ 46 (h k d lt)
+
+decimal_without_dot : (ds : List ℕ) → is_decimal ds ≡ true → IsWithoutDot ds
+decimal_without_dot ds is k d lt e =
+    not_in_digits digit_texts ds 46 (plain_from_decimal ds is).digits (λ range. omega arith) k lt
+    (get_or_default ds k 0 d lt ∙ e)
+
+-- what is no decimal has no number
+number_refused : (ds : List ℕ) → is_decimal ds ≡ false → birth_number ds ≡ Err cause.Birth
+number_refused ds lacks =
+    ap (λ (r : Result ℕ TextFault). elim r [ Ok n ↦ Ok n | Err e ↦ Err cause.Birth ])
+    (cond-false _ _ _ lacks)
+
+-- whatever comes after a number, it is refused as the number is
+after_number : {A : Type 0} (ds : List ℕ) (f : ℕ → Result A Cause)
+    → ((n : ℕ) → f n ≡ Err cause.Birth) → (birth_number ds >>= f) ≡ Err cause.Birth
+after_number {A} ds f all = by (number_of ds)
+  where
+    by : (r : Result ℕ TextFault)
+        → ((elim r [ Ok n ↦ Ok n | Err e ↦ Err cause.Birth ]) >>= f) ≡ Err cause.Birth
+    by (Ok n) = all n
+    by (Err e) = refl
+
+pub ordinal_refused : (before : ℕ) (frame system ordinal : List ℕ)
+    → birth_number ordinal ≡ Err cause.Birth
+    → birth_of_parts before (frame ∷ system ∷ ordinal ∷ []) ≡ Err cause.Birth
+ordinal_refused before frame system ordinal lacks =
+    after_number frame _ (λ f. after_number system _
+    (λ s. ap (λ (r : Result ℕ Cause). r >>= birth_of_numbers before f s) lacks))
+
+-- no dot: no birth
+pub birth_of_whole : (before : ℕ) (text : List ℕ) → IsWithoutDot text
+    → birth_of before text ≡ Err cause.Birth
+unfolding birth_of
+birth_of_whole before text h =
+    ap (birth_of_parts before) (slice_split_none is_dot text (fails text h))
+
+-- one dot: no birth
+pub birth_of_halves : (before : ℕ) (text frame others : List ℕ) → text ≡ frame ++ 46 ∷ others
+    → IsWithoutDot frame → IsWithoutDot others → birth_of before text ≡ Err cause.Birth
+unfolding birth_of
+birth_of_halves before text frame others e f h =
+    ap (birth_of_parts before) (ap (slice_split is_dot) e
+    ∙ slice_split_at is_dot frame 46 others (fails frame f) refl
+    ∙ ap (λ (parts : List (List ℕ)). frame ∷ parts) (slice_split_none is_dot others
+    (fails others h)))
+
+one_part : (before : ℕ) (frame system ordinal : List ℕ) (parts : List (List ℕ))
+    → slice_split is_dot ordinal ≡ parts → is_decimal ordinal ≡ false
+    → birth_of_parts before (frame ∷ system ∷ parts) ≡ Err cause.Birth
+one_part before frame system ordinal [] e lacks = refl
+one_part before frame system ordinal (part ∷ []) e lacks =
+    ordinal_refused before frame system part (number_refused part
+    (ap is_decimal (sym (ap (join_with_byte 46) e) ∙ join_with_byte-slice_split 46 ordinal)
+    ∙ lacks))
+one_part before frame system ordinal (part ∷ more ∷ others) e lacks = refl
+
+-- the parts round the first two dots are the numbers, or there is no birth
+pub birth_of_split : (before : ℕ) (text frame others system ordinal : List ℕ)
+    → text ≡ frame ++ 46 ∷ others → others ≡ system ++ 46 ∷ ordinal
+    → IsWithoutDot frame → IsWithoutDot system
+    → birth_of before text ≡ birth_of_parts before (frame ∷ system ∷ ordinal ∷ [])
+unfolding birth_of
+birth_of_split before text frame others system ordinal e e' f s =
+    ap (birth_of_parts before) (ap (slice_split is_dot) e
+    ∙ slice_split_at is_dot frame 46 others (fails frame f) refl
+    ∙ ap (λ (o : List ℕ). frame ∷ slice_split is_dot o) e'
+    ∙ ap (λ (parts : List (List ℕ)). frame ∷ parts)
+    (slice_split_at is_dot system 46 ordinal (fails system s) refl))
+    ∙ elim (cases_Bool (is_decimal ordinal)) [
+      | inl is ↦ ap (λ (parts : List (List ℕ)). birth_of_parts before (frame ∷ system ∷ parts))
+          (slice_split_none is_dot ordinal (fails ordinal (decimal_without_dot ordinal is)))
+      | inr lacks ↦ one_part before frame system ordinal (slice_split is_dot ordinal) refl lacks
+          ∙ sym (ordinal_refused before frame system ordinal (number_refused ordinal lacks))
+    ]
+
+-- what holds anyway holds where there is nothing
+pub in_any_case : {A : Type 0} (o : Option A) (P : Type 0) → P → IfNone o P
+in_any_case None P holds = holds
+in_any_case (Some x) P holds = tt
