@@ -4,11 +4,11 @@ use Rattle.std.proofs.Common.{[], ◌∷◌, ◌++◌, length, get_or, set, refl
 use Rattle.std.proofs.Common.{inr, suc, zero, replicate, Option, None, Some}
 use Rattle.std.specs.Ordering.{eq_by_cmp}
 use Rattle.std.specs.FinMap as maps
-use Rattle.std.proofs.lemmas.Bool.{cases_order, eq-eqb, ne_eqb, lt-leb, le-leb}
+use Rattle.std.proofs.lemmas.Bool.{le-leb}
 use Rattle.std.specs.FinMap.{find}
 use Rattle.std.specs.Option.{is_some}
 use Rattle.ent_handle.specs.Handle.{Handle, handle_cmp, handle_cmp_total}
-use Rattle.ent_alloc.proofs.ListLaws.{eqb_sym}
+use Rattle.ent_alloc.proofs.ListLaws.{eqb_sym, tests_of}
 use Rattle.ent_alloc.specs.declared.slot_record.SlotRecord.{SlotRecord}
 use Rattle.ent_alloc.specs.Slots.{record_at, no_slot, row_of, rows_from, with_row, new_record}
 use Rattle.ent_alloc.proofs.Occupants.{ties, read-set}
@@ -60,45 +60,37 @@ row_head : (index : ℕ) (r : SlotRecord) (records : List SlotRecord) (q : Handl
     (row_of r.occupancy) (row_from (index + 1) records q)) (row_from (index + 1) records q)
     ≡ row_from index (r ∷ records) q
 row_head index r records q =
-    elim (cases_order q.index index) [
-      | inl e ↦
-          let E : eqb q.index index ≡ true = eq-eqb q.index index e in
-          let L : leb (index + 1) q.index ≡ false = lt-leb (index + 1) q.index (omega arith) in
-          let M : leb index q.index ≡ true = le-leb index q.index (omega arith) in
-          let zero_off : q.index - index ≡ 0 = omega arith in
+    elim (tests_of q.index index) [
+      | inl t ↦
           let gone : row_from (index + 1) records q ≡ None = λ i.
-          cond (L i) (row_in (get_or records (q.index - (index + 1)) no_slot) q.generation) None
+          cond (t.later i) (row_in (get_or records (q.index - (index + 1)) no_slot) q.generation)
+          None
           in
-          (λ i. cond (E i && eqb q.generation r.generation) (cond (is_some (row_of r.occupancy))
-          (row_of r.occupancy) (gone i)) (gone i))
+          (λ i. cond (t.same i && eqb q.generation r.generation)
+          (cond (is_some (row_of r.occupancy)) (row_of r.occupancy) (gone i)) (gone i))
           ∙ row_split (eqb q.generation r.generation) (row_of r.occupancy)
           ∙ (λ i. cond (eqb_sym q.generation r.generation i) (row_of r.occupancy) None)
-          ∙ sym (λ i. cond (M i) (row_in (get_or (r ∷ records) (zero_off i) no_slot) q.generation)
+          ∙ sym (λ i. cond (t.from i) (row_in (get_or (r ∷ records) (t.off i) no_slot) q.generation)
           None)
-      | inr (inl l) ↦
-          let E : eqb q.index index ≡ false = ne_eqb q.index index (λ e. absurd (omega arith)) in
-          let L : leb (index + 1) q.index ≡ false = lt-leb (index + 1) q.index (omega arith) in
-          let M : leb index q.index ≡ false = lt-leb index q.index (omega arith) in
+      | inr (inl t) ↦
           let gone : row_from (index + 1) records q ≡ None = λ i.
-          cond (L i) (row_in (get_or records (q.index - (index + 1)) no_slot) q.generation) None
+          cond (t.later i) (row_in (get_or records (q.index - (index + 1)) no_slot) q.generation)
+          None
           in
-          (λ i. cond (E i && eqb q.generation r.generation) (cond (is_some (row_of r.occupancy))
-          (row_of r.occupancy) (row_from (index + 1) records q))
-          (row_from (index + 1) records q))
+          (λ i. cond (t.same i && eqb q.generation r.generation)
+          (cond (is_some (row_of r.occupancy)) (row_of r.occupancy)
+          (row_from (index + 1) records q)) (row_from (index + 1) records q))
           ∙ gone
-          ∙ sym (λ i. cond (M i) (row_in (get_or (r ∷ records) (q.index - index) no_slot)
+          ∙ sym (λ i. cond (t.from i) (row_in (get_or (r ∷ records) (q.index - index) no_slot)
           q.generation) None)
-      | inr (inr g) ↦
-          let E : eqb q.index index ≡ false = ne_eqb q.index index (λ e. absurd (omega arith)) in
-          let L : leb (index + 1) q.index ≡ true = le-leb (index + 1) q.index (omega arith) in
-          let M : leb index q.index ≡ true = le-leb index q.index (omega arith) in
-          let off : q.index - index ≡ suc (q.index - (index + 1)) = omega arith in
-          (λ i. cond (E i && eqb q.generation r.generation) (cond (is_some (row_of r.occupancy))
-          (row_of r.occupancy) (row_from (index + 1) records q))
-          (row_from (index + 1) records q))
-          ∙ (λ i. cond (L i) (row_in (get_or records (q.index - (index + 1)) no_slot) q.generation)
+      | inr (inr t) ↦
+          (λ i. cond (t.same i && eqb q.generation r.generation)
+          (cond (is_some (row_of r.occupancy)) (row_of r.occupancy)
+          (row_from (index + 1) records q)) (row_from (index + 1) records q))
+          ∙ (λ i. cond (t.later i) (row_in (get_or records (q.index - (index + 1)) no_slot)
+          q.generation) None)
+          ∙ sym (λ i. cond (t.from i) (row_in (get_or (r ∷ records) (t.off i) no_slot) q.generation)
           None)
-          ∙ sym (λ i. cond (M i) (row_in (get_or (r ∷ records) (off i) no_slot) q.generation) None)
     ]
 
 find-rows_from : (index : ℕ) (records : List SlotRecord) (q : Handle)

@@ -227,6 +227,18 @@ module _ (limits : Limits) (records : List SlotRecord) (pending : List ℕ) (liv
         past
         ∙ get_or-replicate count (index - length records) new_record no_slot below
 
+    -- what is so of the generation of each old slot, and of the first one, is so of each slot's
+    generation_in : (P : ℕ → Type 0)
+        → ((index : ℕ) → index < length records → P (record_at records index).generation) → P 1
+        → (index : ℕ) → index < length grown → P (record_at grown index).generation
+    generation_in P each first index within =
+        elim (cases_lt index (length records)) [
+          | inl made ↦ subst (λ (r : SlotRecord). P r.generation) (sym (old_stays index made))
+              (each index made)
+          | inr past ↦ subst (λ (r : SlotRecord). P r.generation) (sym (new_is index past within))
+              first
+        ]
+
     waits_in_old : (index position : ℕ) → index < length grown → (record_at grown index).occupancy
         ≡ Pending position → index < length records
     waits_in_old index position within is =
@@ -255,26 +267,8 @@ module _ (limits : Limits) (records : List SlotRecord) (pending : List ℕ) (liv
           few = omega arith;
           counted = omega arith;
           each_once = omega arith;
-          least = λ index within.
-              elim (cases_lt index (length records)) [
-                | inl made ↦ (let h = linked.least index made in
-                    omega (arith, ap (λ (r : SlotRecord). r.generation) (old_stays index made)))
-                | inr past ↦ omega (
-                  arith,
-                  ap (λ (r : SlotRecord). r.generation)
-                      (new_is index past within),
-                )
-              ];
-          greatest = λ index within.
-              elim (cases_lt index (length records)) [
-                | inl made ↦ (let h = linked.greatest index made in
-                    omega (arith, ap (λ (r : SlotRecord). r.generation) (old_stays index made)))
-                | inr past ↦ omega (
-                  arith,
-                  ap (λ (r : SlotRecord). r.generation)
-                      (new_is index past within),
-                )
-              ];
+          least = generation_in (λ g. 1 ≤ g) linked.least (omega arith);
+          greatest = generation_in (λ g. g ≤ limits.generations) linked.greatest some;
           made = λ position below. let h = linked.made position below in omega arith;
           forward = λ position below. ap (λ (r : SlotRecord). r.occupancy)
               (old_stays (get_or pending position 0) (linked.made position below))

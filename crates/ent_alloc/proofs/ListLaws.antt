@@ -3,10 +3,10 @@
 use Rattle.std.proofs.Common.{◌≡◌, refl, sym, ap, ◌∙◌, ℕ, zero, suc, ◌+◌, ◌-◌, ◌<◌, Bool, true}
 use Rattle.std.proofs.Common.{false, eqb, List, [], ◌∷◌, ◌++◌, length, get_or, take, drop, filter}
 use Rattle.std.proofs.Common.{All, AllPairs, Contains, arith, cond, ◌==◌, ◌≢◌, swap, IsPermutation}
-use Rattle.std.proofs.Common.{eq-eqb, ne_eqb, inl, inr, subst₂, map}
+use Rattle.std.proofs.Common.{eq-eqb, ne_eqb, inl, inr, subst₂, map, leb, ◌⊎◌}
 use Rattle.std.proofs.lemmas.List.{get_or-take, get_or-drop, get_or_append_left, length-append}
 use Rattle.std.proofs.lemmas.List.{length-take, length-drop, get_or_default}
-use Rattle.std.proofs.lemmas.Bool.{cases_lt, cases_eq}
+use Rattle.std.proofs.lemmas.Bool.{cases_lt, cases_eq, cases_order, lt-leb, le-leb}
 use Rattle.std.proofs.lemmas.Bool.Decides.{nat_tests}
 use Rattle.std.proofs.lemmas.List.Edits.{Swapped, length-swap, swapped_from_swap}
 use Rattle.std.proofs.lemmas.List.Sorted.{IsPermutation-keeps}
@@ -16,6 +16,46 @@ use Rattle.std.proofs.lemmas.List.Kept.{AllPairs-cons}
 -- either order of a test of equality
 pub eqb_sym : (a b : ℕ) → eqb a b ≡ eqb b a
 eqb_sym a b = grind (arith, nat_tests)
+
+-- what the tests of a number say that is an index, comes before it, or after it
+pub record IsAt (n index : ℕ) : Type 0 where
+  pub same : eqb n index ≡ true
+  pub later : leb (index + 1) n ≡ false
+  pub from : leb index n ≡ true
+  pub off : n - index ≡ 0
+
+pub record IsBefore (n index : ℕ) : Type 0 where
+  pub same : eqb n index ≡ false
+  pub later : leb (index + 1) n ≡ false
+  pub from : leb index n ≡ false
+
+pub record IsAfter (n index : ℕ) : Type 0 where
+  pub same : eqb n index ≡ false
+  pub later : leb (index + 1) n ≡ true
+  pub from : leb index n ≡ true
+  pub off : n - index ≡ suc (n - (index + 1))
+
+pub tests_of : (n index : ℕ) → IsAt n index ⊎ (IsBefore n index ⊎ IsAfter n index)
+tests_of n index =
+    elim (cases_order n index) [
+      | inl e ↦ inl (record {
+        same = eq-eqb n index e;
+        later = lt-leb (index + 1) n (omega arith);
+        from = le-leb index n (omega arith);
+        off = omega arith;
+      })
+      | inr (inl l) ↦ inr (inl (record {
+        same = ne_eqb n index (λ e. absurd (omega arith));
+        later = lt-leb (index + 1) n (omega arith);
+        from = lt-leb index n (omega arith);
+      }))
+      | inr (inr g) ↦ inr (inr (record {
+        same = ne_eqb n index (λ e. absurd (omega arith));
+        later = le-leb (index + 1) n (omega arith);
+        from = le-leb index n (omega arith);
+        off = omega arith;
+      }))
+    ]
 
 -- a filter that each element passes keeps the list
 pub filter_all : {X : Type 0} (p : X → Bool) (xs : List X) → All (λ x. p x ≡ true) xs → filter p xs

@@ -1,8 +1,8 @@
 -- What an `Entities` stands for: where nothing is reserved, what is left to give, and where a call
 -- begins and ends.
-use Rattle.std.proofs.Common.{◌≡◌, ℕ, ℤ, pos, negsuc, ◌-ℤ◌, ◌≤ℤ◌, ◌+◌, ◌-◌, ◌<◌, ◌≤◌, Bool}
-use Rattle.std.proofs.Common.{false, List, [], ◌∷◌, ◌++◌, length, take, drop, reverse, filter, refl}
-use Rattle.std.proofs.Common.{sym, ap, ◌∙◌, arith, inl, inr, suc, zero, subst, All, IsTrue, ◌↔◌}
+use Rattle.std.proofs.Common.{◌≡◌, ℕ, ℤ, pos, negsuc, ◌-ℤ◌, ◌≤ℤ◌, ◌+◌, ◌-◌, ◌<◌, ◌≤◌, Bool, false}
+use Rattle.std.proofs.Common.{List, [], ◌∷◌, ◌++◌, length, take, drop, reverse, filter, refl, sym}
+use Rattle.std.proofs.Common.{ap, ◌∙◌, arith, inl, inr, suc, zero, subst, All, IsTrue, ◌↔◌}
 use Rattle.std.specs.FinSet as sets
 use Rattle.std.specs.FinMap as maps
 use Rattle.std.proofs.lemmas.Int.{ints}
@@ -154,17 +154,19 @@ none_is r requests s reserved view rest =
     let given : requests.served ≡ 0 = (let least = reserved.given_least in omega arith) in
     λ i. record { asked = asked i; served = given i }
 
-pub closed_is : (r r' : Roster) (requests : Requests) (s : Allocator) → r ≡ r' → requests ≡ none
-    → allocator_of r' 0 0 ≡ s → allocator_of r requests.asked requests.served ≡ s
-closed_is r r' requests s same rest is =
-    (λ i. allocator_of (same i) (rest i).asked (rest i).served) ∙ is
+-- the vectors stand for this allocator, which reserves as it may
+pub record StandFor (r : Roster) (requests : Requests) (s : Allocator) : Type 0 where
+  pub view : allocator_of r requests.asked requests.served ≡ s
+  pub reserved : AreReserved r requests.asked requests.served
 
 pub closed : (r r' : Roster) (requests : Requests) (s : Allocator) → r ≡ r' → requests ≡ none
-    → allocator_of r' 0 0 ≡ s → IsSound s → AreReserved r requests.asked requests.served
-closed r r' requests s same rest is sound =
-    subst (λ (q : Requests). AreReserved r q.asked q.served) (sym rest)
-    (AreReserved-flushed r
-    (subst IsSound (sym (ap (λ (x : Roster). allocator_of x 0 0) same ∙ is)) sound))
+    → allocator_of r' 0 0 ≡ s → IsSound s → StandFor r requests s
+closed r r' requests s same rest is sound = record {
+  view = (λ i. allocator_of (same i) (rest i).asked (rest i).served) ∙ is;
+  reserved = subst (λ (q : Requests). AreReserved r q.asked q.served) (sym rest)
+      (AreReserved-flushed r
+      (subst IsSound (sym (ap (λ (x : Roster). allocator_of x 0 0) same ∙ is)) sound));
+}
 
 -- a test that no request was made
 pub none_asked : (b : Bool) (n : ℕ) → (IsTrue b ↔ (0 < n)) → b ≡ false → n ≡ 0

@@ -17,11 +17,11 @@ use Rattle.ent_alloc.specs.declared.requests.Requests.{Requests}
 use Rattle.ent_alloc.specs.Sequential.{Allocator, fresh, is_old, after_alloc, after_free, next}
 use Rattle.ent_alloc.specs.Sequential.{following, in_front}
 use Rattle.ent_alloc.specs.Sound.{IsSound}
-use Rattle.ent_alloc.specs.Entities.{idle, allocator_of, AreReserved}
+use Rattle.ent_alloc.specs.Entities.{idle, allocator_of}
 use Rattle.ent_alloc.proofs.FreshHandles.{fresh-next}
 use Rattle.ent_alloc.proofs.HandleSets.{contains-union_list}
 use Rattle.ent_alloc.proofs.Soundness.{after_alloc-sound, next-last, next-later}
-use Rattle.ent_alloc.proofs.Meaning.{pending_below, length-idle, IsAtRest, closed, closed_is}
+use Rattle.ent_alloc.proofs.Meaning.{pending_below, length-idle, IsAtRest, StandFor, closed}
 
 -- one handle that comes to life
 pub union_one : (live : sets.FinSet handle_cmp) (h : Handle)
@@ -110,6 +110,11 @@ alloc_fresh_is r h none room first =
       asked = 0;
     }
 
+-- a handle was given, and the vectors now stand for what the allocator is then
+pub record IsGiven (requests : Requests) (s : Allocator) (h : Handle) (new : Roster) : Type 0 where
+  pub front : slice_get s.pool 0 ≡ Some h
+  pub stands : StandFor new requests (after_alloc s h)
+
 module _ (r : Roster) (requests : Requests) (s : Allocator) (rest : IsAtRest r requests s) where
   pool_is : idle r ≡ s.pool
   pool_is = ap (λ (t : Allocator). t.pool) rest.view
@@ -117,50 +122,35 @@ module _ (r : Roster) (requests : Requests) (s : Allocator) (rest : IsAtRest r r
   pub length_pool : length s.pool ≡ length r.pending + (r.limits.slots - r.made)
   length_pool = sym (ap length pool_is) ∙ length-idle r
 
+  -- the first handle of the pool is given, and the slots are left so
+  given : (h : Handle) (left : Roster) (others : List Handle) → s.pool ≡ h ∷ others
+      → allocator_of left 0 0 ≡ after_alloc s h → (new : Roster) → new ≡ left
+      → IsGiven requests s h new
+  given h left others front is new same = record {
+    front = ap (λ (hs : List Handle). slice_get hs 0) front;
+    stands = closed new left requests (after_alloc s h) same rest.requests_is is
+        (after_alloc-sound s h others rest.sound rest.asked front);
+  }
+
   -- the slot that waits last gets its next occupant
-  module _ (h : Handle) (last : slice_get r.pending (length r.pending - 1) ≡ Some h) where
-    some_wait : 0 < length r.pending
-    some_wait = let within = slice_get_within r.pending (length r.pending - 1) h last in omega arith
-
-    pub reused_front : s.pool ≡ h ∷ (reverse (take (length r.pending - 1) r.pending)
-        ++ fresh r.made (r.limits.slots - r.made))
-    reused_front = sym pool_is ∙ alloc_old_front r h some_wait last
-
-    reused_is : allocator_of (reused_roster r h) 0 0 ≡ after_alloc s h
-    reused_is =
-        alloc_old_is r h (subst IsSound (sym rest.view) rest.sound) some_wait last
-        ∙ ap (λ t. after_alloc t h) rest.view
-
-    pub reused_view : (new : Roster) → new ≡ reused_roster r h
-        → allocator_of new requests.asked requests.served ≡ after_alloc s h
-    reused_view new is = closed_is new (reused_roster r h) requests (after_alloc s h) is
-        rest.requests_is reused_is
-
-    pub reused_reserved : (new : Roster) → new ≡ reused_roster r h → AreReserved new requests.asked
-        requests.served
-    reused_reserved new is = closed new (reused_roster r h) requests (after_alloc s h) is
-        rest.requests_is reused_is (after_alloc-sound s h _ rest.sound rest.asked reused_front)
+  pub reused_given : (h : Handle) → slice_get r.pending (length r.pending - 1) ≡ Some h
+      → (new : Roster) → new ≡ reused_roster r h → IsGiven requests s h new
+  reused_given h last =
+      let within = slice_get_within r.pending (length r.pending - 1) h last in
+      let some : 0 < length r.pending = omega arith in
+      given h (reused_roster r h) _ (sym pool_is ∙ alloc_old_front r h some last)
+      (alloc_old_is r h (subst IsSound (sym rest.view) rest.sound) some last
+      ∙ ap (λ t. after_alloc t h) rest.view)
 
   -- no slot waits, and one is made
-  module _ (h : Handle) (none_waits : length r.pending ≡ 0) (room : r.made < r.limits.slots)
-      (first : h ≡ record { index = r.made; generation = 1 }) where
-    pub made_front : s.pool ≡ h ∷ fresh (r.made + 1) (r.limits.slots - (r.made + 1))
-    made_front =
-        sym pool_is ∙ alloc_fresh_front r none_waits room
-        ∙ ap (λ (x : Handle). x ∷ fresh (r.made + 1) (r.limits.slots - (r.made + 1))) (sym first)
-
-    made_is : allocator_of (made_roster r h) 0 0 ≡ after_alloc s h
-    made_is = alloc_fresh_is r h none_waits room first ∙ ap (λ t. after_alloc t h) rest.view
-
-    pub made_view : (new : Roster) → new ≡ made_roster r h
-        → allocator_of new requests.asked requests.served ≡ after_alloc s h
-    made_view new is = closed_is new (made_roster r h) requests (after_alloc s h) is
-        rest.requests_is made_is
-
-    pub made_reserved : (new : Roster) → new ≡ made_roster r h → AreReserved new requests.asked
-        requests.served
-    made_reserved new is = closed new (made_roster r h) requests (after_alloc s h) is
-        rest.requests_is made_is (after_alloc-sound s h _ rest.sound rest.asked made_front)
+  pub made_given : (h : Handle) → length r.pending ≡ 0 → r.made < r.limits.slots
+      → h ≡ record { index = r.made; generation = 1 } → (new : Roster) → new ≡ made_roster r h
+      → IsGiven requests s h new
+  made_given h none room first =
+      given h (made_roster r h) _
+      (sym pool_is ∙ alloc_fresh_front r none room
+      ∙ ap (λ (x : Handle). x ∷ fresh (r.made + 1) (r.limits.slots - (r.made + 1))) (sym first))
+      (alloc_fresh_is r h none room first ∙ ap (λ t. after_alloc t h) rest.view)
 
 -- ---- free
 

@@ -8,14 +8,13 @@ use Rattle.std.specs.declared.cmp.Ordering.{Ordering}
 use Rattle.std.specs.declared.cmp.Ordering.TheVariants.{Less, Equal, Greater}
 use Rattle.std.specs.FinSet as sets
 use Rattle.std.proofs.lemmas.Bool.Decides.{nat_tests}
-use Rattle.std.proofs.lemmas.Bool.{cases_order, cases_eq, eq-eqb, ne_eqb, lt-leb, le-leb, cond-true}
-use Rattle.std.proofs.lemmas.Bool.{cond-false}
+use Rattle.std.proofs.lemmas.Bool.{cases_eq, eq-eqb, ne_eqb, lt-leb, le-leb, cond-true, cond-false}
 use Rattle.std.proofs.lemmas.List.{get_or-set_same, get_or-set_other}
 use Rattle.std.proofs.Math.Bool.{or-false, and-false}
 use Rattle.std.proofs.lemmas.List.Folds.{list_any-append}
 use Rattle.ent_handle.specs.Handle.{Handle, handle_cmp, handle_cmp_total}
 use Rattle.ent_handle.specs.Handle.{handle_cmp-IsAntisymmetric}
-use Rattle.ent_alloc.proofs.ListLaws.{eqb_sym}
+use Rattle.ent_alloc.proofs.ListLaws.{eqb_sym, tests_of}
 use Rattle.ent_alloc.specs.declared.slot_record.SlotRecord.{SlotRecord}
 use Rattle.ent_alloc.specs.Slots.{occupants, record_at, no_slot, is_alive, new_record}
 use Rattle.ent_alloc.specs.Sequential.{fresh}
@@ -77,31 +76,22 @@ at_head index r records q =
     let alive = is_alive r.occupancy in
     let later = has_occupant (get_or records (q.index - (index + 1)) no_slot) q.generation in
     let now = has_occupant (get_or (r ∷ records) (q.index - index) no_slot) q.generation in
-    elim (cases_order q.index index) [
-      | inl e ↦
-          let E : eqb q.index index ≡ true = eq-eqb q.index index e in
-          let L : leb (index + 1) q.index ≡ false = lt-leb (index + 1) q.index (omega arith) in
-          let M : leb index q.index ≡ true = le-leb index q.index (omega arith) in
-          let zero_off : q.index - index ≡ 0 = omega arith in
-          (λ i. (alive && (E i && eqb q.generation r.generation)) || (L i && later))
+    elim (tests_of q.index index) [
+      | inl t ↦
+          (λ i. (alive && (t.same i && eqb q.generation r.generation)) || (t.later i && later))
           ∙ here alive (eqb q.generation r.generation) (eqb r.generation q.generation) later
           (eqb_sym q.generation r.generation)
-          ∙ sym (λ i. M i && has_occupant (get_or (r ∷ records) (zero_off i) no_slot) q.generation)
-      | inr (inl l) ↦
-          let E : eqb q.index index ≡ false = ne_eqb q.index index (λ e. absurd (omega arith)) in
-          let L : leb (index + 1) q.index ≡ false = lt-leb (index + 1) q.index (omega arith) in
-          let M : leb index q.index ≡ false = lt-leb index q.index (omega arith) in
-          (λ i. (alive && (E i && eqb q.generation r.generation)) || (L i && later))
+          ∙ sym (λ i. t.from i && has_occupant (get_or (r ∷ records) (t.off i) no_slot)
+          q.generation)
+      | inr (inl t) ↦
+          (λ i. (alive && (t.same i && eqb q.generation r.generation)) || (t.later i && later))
           ∙ before alive (eqb q.generation r.generation) later now
-          ∙ sym (λ i. M i && now)
-      | inr (inr g) ↦
-          let E : eqb q.index index ≡ false = ne_eqb q.index index (λ e. absurd (omega arith)) in
-          let L : leb (index + 1) q.index ≡ true = le-leb (index + 1) q.index (omega arith) in
-          let M : leb index q.index ≡ true = le-leb index q.index (omega arith) in
-          let off : q.index - index ≡ suc (q.index - (index + 1)) = omega arith in
-          (λ i. (alive && (E i && eqb q.generation r.generation)) || (L i && later))
+          ∙ sym (λ i. t.from i && now)
+      | inr (inr t) ↦
+          (λ i. (alive && (t.same i && eqb q.generation r.generation)) || (t.later i && later))
           ∙ after alive (eqb q.generation r.generation) later later refl
-          ∙ sym (λ i. M i && has_occupant (get_or (r ∷ records) (off i) no_slot) q.generation)
+          ∙ sym (λ i. t.from i && has_occupant (get_or (r ∷ records) (t.off i) no_slot)
+          q.generation)
     ]
 
 list_any-occupants : (index : ℕ) (records : List SlotRecord) (q : Handle)

@@ -1,12 +1,12 @@
 -- The reply to a request, and to a request for one handle, by what the vectors hold.
 use Rattle.std.proofs.Common.{◌≡◌, ℕ, ℤ, ◌+◌, ◌-◌, ◌<◌, ◌≤◌, pos, ◌≤ℤ◌, ◌-ℤ◌, length, drop, Ok, Err}
-use Rattle.std.proofs.Common.{[], ◌∷◌, slice_get, Some, refl, sym, ap, ◌∙◌, arith}
+use Rattle.std.proofs.Common.{[], ◌∷◌, slice_get, Some, refl, sym, ap, ◌∙◌, arith, ◌^◌}
 use Rattle.std.proofs.lemmas.Int.{ints}
 use Rattle.ent_handle.specs.Handle.{Handle}
 use Rattle.ent_alloc.specs.Roster.{Roster}
 use Rattle.ent_alloc.specs.Sequential.{Allocator, reply_from, pool_at, top}
 use Rattle.ent_alloc.specs.Entities.{idle, allocator_of, beneath, AreReserved}
-use Rattle.ent_alloc.specs.Reserved.{reserved_handles}
+use Rattle.ent_alloc.specs.Reserved.{reserved_handles, IsInRange}
 use Rattle.ent_alloc.proofs.Listing.{reserved_handles-pending, reserved_handles-fresh}
 use Rattle.ent_alloc.proofs.Listing.{reserved_handles-none}
 use Rattle.ent_alloc.proofs.Meaning.{top_view, asked_at-is, pool_at_is, pending_below, length_left}
@@ -25,6 +25,46 @@ below_top r asked given s high reserved view passed =
     let within : high ≤ℤ pos (length r.pending) = omega (arith, ints) in
     record { within = within; distance = asked_at-is (length r.pending) high within }
 
+-- what a request for n handles owns that is served, in the numbers of the vectors
+pub record IsServed (r : Roster) (high : ℤ) (n position end index index_end : ℕ) : Type 0 where
+  pub enough : beneath r high + n ≤ length r.pending + (r.limits.slots - r.made)
+  pub position_is : position ≡ length r.pending - (beneath r high + n)
+  pub end_is : end ≡ length r.pending - beneath r high
+  pub index_is : index ≡ r.made + (beneath r high - length r.pending)
+  pub index_end_is : index_end ≡ r.made + (beneath r high + n - length r.pending)
+
+pub served : (r : Roster) (high : ℤ) (n position end index index_end : ℕ)
+    → beneath r high + n ≤ length r.pending + (r.limits.slots - r.made)
+    → position ≡ length r.pending - (beneath r high + n) → end ≡ length r.pending - beneath r high
+    → index ≡ r.made + (beneath r high - length r.pending)
+    → index_end ≡ r.made + (beneath r high + n - length r.pending)
+    → IsServed r high n position end index index_end
+served r high n position end index index_end a b d e f = record {
+  enough = a;
+  position_is = b;
+  end_is = d;
+  index_is = e;
+  index_end_is = f;
+}
+
+-- these are positions and indexes of slots
+pub served_in_range : (r : Roster) (high : ℤ) (n position end index index_end : ℕ)
+    → end < 2 ^ 63 → index_end < 2 ^ 32 → IsServed r high n position end index index_end
+    → IsInRange r position end index index_end n
+served_in_range r high n position end index index_end few last served =
+    let position_is = served.position_is in
+    let end_is = served.end_is in
+    let index_is = served.index_is in
+    let index_end_is = served.index_end_is in
+    record {
+      positions = omega arith;
+      within = omega arith;
+      few = few;
+      indexes = omega arith;
+      last = last;
+      count = omega arith;
+    }
+
 module _ (r : Roster) (asked given : ℕ) (high : ℤ) (s : Allocator)
     (reserved : AreReserved r asked given) (view : allocator_of r asked given ≡ s) where
   -- the reply in the words of what the vectors stand for
@@ -36,16 +76,14 @@ module _ (r : Roster) (asked given : ℕ) (high : ℤ) (s : Allocator)
       ∙ ap (λ (t : Allocator). reply_from t.made (pool_at t high) n) view
 
   -- what a served reply lists
-  pub several : (n position end index index_end : ℕ) → beneath r high + n ≤ length r.pending
-      + (r.limits.slots - r.made)
-      → position ≡ length r.pending - (beneath r high + n) → end ≡ length r.pending - beneath r high
-      → index ≡ r.made + (beneath r high - length r.pending) → index_end ≡ r.made
-      + (beneath r high + n - length r.pending)
+  pub several : (n position end index index_end : ℕ)
+      → IsServed r high n position end index index_end
       → Ok (reserved_handles r position end index index_end) ≡ reply_from s.made (pool_at s high) n
-  several n position end index index_end enough position_is end_is index_is index_end_is =
-      (λ i. Ok (reserved_handles r (position_is i) (end_is i) (index_is i) (index_end_is i)))
+  several n position end index index_end served =
+      (λ i. Ok (reserved_handles r (served.position_is i) (served.end_is i) (served.index_is i)
+      (served.index_end_is i)))
       ∙ reply_served r (beneath r high) n (pending_below r asked given reserved.given_least
-      reserved.sound) enough
+      reserved.sound) served.enough
       ∙ replied n
 
   -- how many are left there
@@ -72,7 +110,13 @@ module _ (r : Roster) (asked given : ℕ) (high : ℤ) (s : Allocator)
       + (beneath r high + 1 - length r.pending)) ≡ h ∷ []
       → Ok (h ∷ []) ≡ reply_from s.made (pool_at s high) 1
   listed_one h enough lists =
-      ap Ok (sym lists) ∙ several 1 _ _ _ _ enough refl refl refl refl
+      ap Ok (sym lists) ∙ several 1 _ _ _ _ (record {
+        enough = enough;
+        position_is = refl;
+        end_is = refl;
+        index_is = refl;
+        index_end_is = refl;
+      })
 
   -- above 0 it is the pending handle there
   pub one_pending : (h : Handle) (position : ℕ) → high ≡ pos (position + 1)

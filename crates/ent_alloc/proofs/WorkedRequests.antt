@@ -1,8 +1,8 @@
 -- Worked runs of the sequential allocator, computed from its definitions alone. Each run begins
 -- with an allocator that has given nothing; few slots stand for many, since only the first handles
 -- are named.
-use Rattle.std.proofs.Common.{◌≡◌, refl, ℕ, false, ℤ, pos, neg_ℤ, List, [], ◌∷◌}
-use Rattle.std.proofs.Common.{take, Result, Ok, Err, Some, None}
+use Rattle.std.proofs.Common.{◌≡◌, refl, ℕ, false, ℤ, pos, neg_ℤ, List, [], ◌∷◌, take, Result, Ok}
+use Rattle.std.proofs.Common.{Err, Some, None}
 use Rattle.std.specs.FinSet as set
 use Rattle.ent_handle.specs.Handle.{Handle, handle_cmp_total}
 use Rattle.ent_alloc.specs.declared.space.Space.{Space}
@@ -74,63 +74,47 @@ bulk_over_both = (
   ),
 )
 
--- a bulk lists old handles in the other order than single requests do
-bulk_of_four : Goes (start 5 9) (
-    allocates (0 v 1) ∷ allocates (1 v 1) ∷ allocates (2 v 1) ∷ frees (2 v 1) (2 v 2)
-    ∷ frees (0 v 1) (0 v 2)
-    ∷ takes 4 (minus 2) (Ok (2 v 2 ∷ 0 v 2 ∷ 3 v 1 ∷ 4 v 1 ∷ []))
-    ∷ flushes (3 v 1 ∷ 4 v 1 ∷ 2 v 2 ∷ 0 v 2 ∷ []) ∷ [])
+-- three slots are made, and the last and the first of them are freed
+abbrev two_freed : List Line → List Line
+two_freed lines = allocates (0 v 1) ∷ allocates (1 v 1) ∷ allocates (2 v 1)
+    ∷ frees (2 v 1) (2 v 2) ∷ frees (0 v 1) (0 v 2) ∷ lines
+
+abbrev with_two_freed : Allocator
+with_two_freed = after_free (after_free (after_alloc (after_alloc (after_alloc (start 5 9) (0 v 1))
+    (1 v 1)) (2 v 1)) (2 v 1)) (0 v 1)
+
+after_two_freed : (lines : List Line) → Goes with_two_freed lines
+    → Goes (start 5 9) (two_freed lines)
 unfolding fresh
-bulk_of_four = (
+after_two_freed lines rest = (
   refl,
   refl,
   (
     refl,
     refl,
-    (
-      refl,
-      refl,
-      (
-        refl,
-        inserted _ _,
-        refl,
-        (refl, simp living, refl, (refl, refl, (refl, tt))),
-      ),
-    ),
+    (refl, refl, (refl, inserted _ _, refl, (refl, simp living, refl, rest))),
   ),
 )
 
--- four requests one in its position
-four_singles : Goes (start 5 9) (
-    allocates (0 v 1) ∷ allocates (1 v 1) ∷ allocates (2 v 1) ∷ frees (2 v 1) (2 v 2)
-    ∷ frees (0 v 1) (0 v 2)
-    ∷ takes 1 (pos 1) (Ok (0 v 2 ∷ [])) ∷ takes 1 (pos 0) (Ok (2 v 2 ∷ []))
-    ∷ takes 1 (minus 1) (Ok (3 v 1 ∷ [])) ∷ takes 1 (minus 2) (Ok (4 v 1 ∷ []))
-    ∷ flushes (3 v 1 ∷ 4 v 1 ∷ 2 v 2 ∷ 0 v 2 ∷ []) ∷ [])
+-- a bulk lists old handles in the other order than single requests do
+abbrev one_bulk : List Line
+one_bulk = takes 4 (minus 2) (Ok (2 v 2 ∷ 0 v 2 ∷ 3 v 1 ∷ 4 v 1 ∷ []))
+    ∷ flushes (3 v 1 ∷ 4 v 1 ∷ 2 v 2 ∷ 0 v 2 ∷ []) ∷ []
+
+bulk_of_four : Goes (start 5 9) (two_freed one_bulk)
 unfolding fresh
-four_singles = (
-  refl,
-  refl,
-  (
-    refl,
-    refl,
-    (
-      refl,
-      refl,
-      (
-        refl,
-        inserted _ _,
-        refl,
-        (
-          refl,
-          simp living,
-          refl,
-          (refl, refl, (refl, refl, (refl, refl, (refl, refl, (refl, tt))))),
-        ),
-      ),
-    ),
-  ),
-)
+bulk_of_four = after_two_freed one_bulk (refl, refl, (refl, tt))
+
+-- four requests one in its position
+abbrev singles : List Line
+singles = takes 1 (pos 1) (Ok (0 v 2 ∷ [])) ∷ takes 1 (pos 0) (Ok (2 v 2 ∷ []))
+    ∷ takes 1 (minus 1) (Ok (3 v 1 ∷ [])) ∷ takes 1 (minus 2) (Ok (4 v 1 ∷ []))
+    ∷ flushes (3 v 1 ∷ 4 v 1 ∷ 2 v 2 ∷ 0 v 2 ∷ []) ∷ []
+
+four_singles : Goes (start 5 9) (two_freed singles)
+unfolding fresh
+four_singles =
+    after_two_freed singles (refl, refl, (refl, refl, (refl, refl, (refl, refl, (refl, tt)))))
 
 -- two requests: the second is for what the first has left
 one_after_two : Goes (start 5 9) (

@@ -1,5 +1,4 @@
-use Rattle.std.proofs.Common.{◌≡◌, ℕ, ◌-◌, ◌<◌, length, slice_get, Result, Ok}
-use Rattle.std.proofs.Common.{Err, refl, ap, ◌∙◌, arith, List}
+use Rattle.std.proofs.Common.{◌≡◌, ℕ, ◌-◌, ◌<◌, [], length, Result, Ok, Err, refl, ap, ◌∙◌, arith}
 use Rattle.std.specs.Result.{IsErrAnd, IsErrOf}
 use Rattle.std.proofs.lemmas.List.{nil_from_length}
 use Rattle.ent_handle.specs.Handle.{Handle}
@@ -7,9 +6,9 @@ use Rattle.ent_alloc.specs.declared.fault.AllocFault.{AllocFault}
 use Rattle.ent_alloc.specs.declared.fault.AllocFault.TheVariants.{Memory, Space}
 use Rattle.ent_alloc.specs.Roster.{Roster}
 use Rattle.ent_alloc.proofs.Meaning.{IsAtRest, at_rest, top_view}
-use Rattle.ent_alloc.proofs.MeaningOfAlloc.{made_roster, length_pool, reused_front, reused_view}
-use Rattle.ent_alloc.proofs.MeaningOfAlloc.{reused_reserved, made_front, made_view, made_reserved}
-use Rattle.ent_alloc.proofs.entities.Entities.alloc.Goals.{Else-needs_flush, Then-room-gt0}
+use Rattle.ent_alloc.proofs.MeaningOfAlloc.{IsGiven, made_roster, length_pool, reused_given}
+use Rattle.ent_alloc.proofs.MeaningOfAlloc.{made_given}
+use Rattle.ent_alloc.proofs.entities.Entities.alloc.Goals.{Else-needs_flush, Then-room-gt0, In-Some}
 use Rattle.ent_alloc.proofs.entities.Entities.alloc.Goals.{In_ok-make_one}
 use Rattle.ent_alloc.proofs.entities.Entities.alloc.Goals as goal
 
@@ -29,23 +28,32 @@ some_room c =
     c.in_default.ensures.unchanged c.room.ensures in
     omega arith
 
--- one slot is made
-record IsMade (r : Roster) (h : Handle) (new : Roster) : Type 0 where
-  none_waits : length r.pending ≡ 0
-  first : h ≡ record { index = r.made; generation = 1 }
-  new_is : new ≡ made_roster r h
+-- so some handle can be given
+none_left : (c : Then-room-gt0) → IsAtRest c.self.inside.slots c.self.inside.requests
+    c.args.self.now → c.args.self.now.pool ≡ [] → ⊥
+none_left c rest none =
+    let some = some_room c in
+    let long = length_pool c.self.inside.slots c.self.inside.requests c.args.self.now rest in
+    absurd (omega (arith, ap length none))
 
-made : (c : In_ok-make_one) → IsMade c.self.inside.slots c.in_ok-make_one.field-0
-    c.make_one.new.self
-made c =
+-- the slot that waits last gives its next handle
+reused : (c : In-Some) → IsAtRest c.self.inside.slots c.self.inside.requests c.args.self.now
+    → IsGiven c.self.inside.requests c.args.self.now c.in-Some.handle c.reuse_last.new.self
+reused c rest = reused_given c.self.inside.slots c.self.inside.requests c.args.self.now rest
+    c.in-Some.handle c.in-Some.ensures.last c.reuse_last.new.self c.in-Some.ensures.some
+
+-- no slot waits, and one is made
+made : (c : In_ok-make_one) → IsAtRest c.self.inside.slots c.self.inside.requests c.args.self.now
+    → c.self.inside.slots.made < c.self.inside.slots.limits.slots
+    → IsGiven c.self.inside.requests c.args.self.now c.in_ok-make_one.field-0 c.make_one.new.self
+made c rest room =
     let same = c.in_default.ensures.unchanged in
-    record {
-      none_waits = ap length c.in_default.ensures.none;
-      first = c.in_ok-make_one.ensures.first
-          ∙ ap (λ (x : Roster). record { index = x.made; generation = 1 }) same;
-      new_is = c.in_ok-make_one.ensures.ok
-          ∙ ap (λ (x : Roster). made_roster x c.in_ok-make_one.field-0) same;
-    }
+    let h = c.in_ok-make_one.field-0 in
+    made_given c.self.inside.slots c.self.inside.requests c.args.self.now rest h
+    (ap length c.in_default.ensures.none) room
+    (c.in_ok-make_one.ensures.first
+    ∙ ap (λ (x : Roster). record { index = x.made; generation = 1 }) same)
+    c.make_one.new.self (c.in_ok-make_one.ensures.ok ∙ ap (λ (x : Roster). made_roster x h) same)
 
 -- want of memory is no want of slots
 not_space : (result : Result Handle AllocFault) → IsErrAnd result (λ e. e ≡ Memory)
@@ -55,17 +63,46 @@ not_space (Err e) is same = cc
 
 pub invariant_of-self : goal.invariant_of-self
 invariant_of-self c =
-    reused_reserved c.self.inside.slots c.self.inside.requests c.args.self.now
-    (rest (goal.at.invariant_of-self c).Else-needs_flush) c.in-Some.handle c.in-Some.ensures.last
-    c.reuse_last.new.self c.in-Some.ensures.some
+    let at = goal.at.invariant_of-self c in
+    (reused at.In-Some (rest at.Else-needs_flush)).stands.reserved
+
+pub invariant_of-self-then-room-gt0 : goal.invariant_of-self-then-room-gt0
+invariant_of-self-then-room-gt0 c =
+    let at = goal.at.invariant_of-self-then-room-gt0 c in
+    (made at.In_ok-make_one (rest at.Else-needs_flush) (some_room at.Then-room-gt0)).stands.reserved
+
+pub returns-in-Some-clause-front : goal.returns-in-Some-clause-front
+returns-in-Some-clause-front c =
+    let at = goal.at.returns-in-Some-clause-front c in
+    (reused at.In-Some (rest at.Else-needs_flush)).front
+
+pub returns-in-Some-clause-ok : goal.returns-in-Some-clause-ok
+returns-in-Some-clause-ok c =
+    let at = goal.at.returns-in-Some-clause-ok c in
+    (reused at.In-Some (rest at.Else-needs_flush)).stands.view
+
+pub returns-in_ok-make_one-clause-front : goal.returns-in_ok-make_one-clause-front
+returns-in_ok-make_one-clause-front c =
+    let at = goal.at.returns-in_ok-make_one-clause-front c in
+    (made at.In_ok-make_one (rest at.Else-needs_flush) (some_room at.Then-room-gt0)).front
+
+pub returns-in_ok-make_one-clause-ok : goal.returns-in_ok-make_one-clause-ok
+returns-in_ok-make_one-clause-ok c =
+    let at = goal.at.returns-in_ok-make_one-clause-ok c in
+    (made at.In_ok-make_one (rest at.Else-needs_flush) (some_room at.Then-room-gt0)).stands.view
+
+pub returns-in_ok-make_one-clause-space : goal.returns-in_ok-make_one-clause-space
+returns-in_ok-make_one-clause-space c =
+    let at = goal.at.returns-in_ok-make_one-clause-space c in (
+      λ is. absurd cc,
+      λ both. absurd (none_left at.Then-room-gt0 (rest at.Else-needs_flush) both.1),
+    )
 
 pub returns-in_err-make_one-clause-space : goal.returns-in_err-make_one-clause-space
 returns-in_err-make_one-clause-space c =
-    let some = some_room (goal.at.returns-in_err-make_one-clause-space c).Then-room-gt0 in
-    let long = length_pool c.self.inside.slots c.self.inside.requests c.args.self.now
-    (rest (goal.at.returns-in_err-make_one-clause-space c).Else-needs_flush) in (
+    let at = goal.at.returns-in_err-make_one-clause-space c in (
       λ is. absurd (not_space c.from_residual.result c.from_residual.ensures.1 is),
-      λ both. absurd (omega (arith, ap length both.1)),
+      λ both. absurd (none_left at.Then-room-gt0 (rest at.Else-needs_flush) both.1),
     )
 
 pub returns-in_err-make_one-clause-memory : goal.returns-in_err-make_one-clause-memory
@@ -73,54 +110,6 @@ returns-in_err-make_one-clause-memory c =
     λ _. top_view c.self.inside.slots c.self.inside.requests.asked
     c.self.inside.requests.served c.args.self.now c.self.invariant c.self.view_is
     ∙ ap length c.in_default.ensures.none
-
-pub invariant_of-self-then-room-gt0 : goal.invariant_of-self-then-room-gt0
-invariant_of-self-then-room-gt0 c =
-    let one = made (goal.at.invariant_of-self-then-room-gt0 c).In_ok-make_one in
-    made_reserved c.self.inside.slots c.self.inside.requests c.args.self.now
-    (rest (goal.at.invariant_of-self-then-room-gt0 c).Else-needs_flush) c.in_ok-make_one.field-0
-    one.none_waits (some_room (goal.at.invariant_of-self-then-room-gt0 c).Then-room-gt0) one.first
-    c.make_one.new.self
-    one.new_is
-
-pub returns-in-Some-clause-front : goal.returns-in-Some-clause-front
-returns-in-Some-clause-front c =
-    ap (λ (hs : List Handle). slice_get hs 0)
-    (reused_front c.self.inside.slots c.self.inside.requests c.args.self.now
-    (rest (goal.at.returns-in-Some-clause-front c).Else-needs_flush) c.in-Some.handle
-    c.in-Some.ensures.last)
-
-pub returns-in-Some-clause-ok : goal.returns-in-Some-clause-ok
-returns-in-Some-clause-ok c =
-    reused_view c.self.inside.slots c.self.inside.requests c.args.self.now
-    (rest (goal.at.returns-in-Some-clause-ok c).Else-needs_flush) c.in-Some.handle
-    c.in-Some.ensures.last
-    c.reuse_last.new.self c.in-Some.ensures.some
-
-pub returns-in_ok-make_one-clause-front : goal.returns-in_ok-make_one-clause-front
-returns-in_ok-make_one-clause-front c =
-    let one = made (goal.at.returns-in_ok-make_one-clause-front c).In_ok-make_one in
-    ap (λ (hs : List Handle). slice_get hs 0)
-    (made_front c.self.inside.slots c.self.inside.requests c.args.self.now
-    (rest (goal.at.returns-in_ok-make_one-clause-front c).Else-needs_flush) c.in_ok-make_one.field-0
-    one.none_waits (some_room (goal.at.returns-in_ok-make_one-clause-front c).Then-room-gt0)
-    one.first)
-
-pub returns-in_ok-make_one-clause-ok : goal.returns-in_ok-make_one-clause-ok
-returns-in_ok-make_one-clause-ok c =
-    let one = made (goal.at.returns-in_ok-make_one-clause-ok c).In_ok-make_one in
-    made_view c.self.inside.slots c.self.inside.requests c.args.self.now
-    (rest (goal.at.returns-in_ok-make_one-clause-ok c).Else-needs_flush) c.in_ok-make_one.field-0
-    one.none_waits (some_room (goal.at.returns-in_ok-make_one-clause-ok c).Then-room-gt0) one.first
-    c.make_one.new.self
-    one.new_is
-
-pub returns-in_ok-make_one-clause-space : goal.returns-in_ok-make_one-clause-space
-returns-in_ok-make_one-clause-space c =
-    let some = some_room (goal.at.returns-in_ok-make_one-clause-space c).Then-room-gt0 in
-    let long = length_pool c.self.inside.slots c.self.inside.requests c.args.self.now
-    (rest (goal.at.returns-in_ok-make_one-clause-space c).Else-needs_flush) in
-    (λ is. absurd cc, λ both. absurd (omega (arith, ap length both.1)))
 
 pub returns-else-room-gt0-clause-space : goal.returns-else-room-gt0-clause-space
 returns-else-room-gt0-clause-space c =

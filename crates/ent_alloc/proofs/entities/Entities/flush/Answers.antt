@@ -4,14 +4,14 @@ use Rattle.std.proofs.Common.{◌++◌, List, ℕ, length, drop, sym, ap, subst,
 use Rattle.std.proofs.lemmas.List.{length-take-le}
 use Rattle.ent_handle.specs.Handle.{Handle}
 use Rattle.ent_alloc.specs.Sequential.{Allocator, made_at_flush, after_flush, born, fresh}
-use Rattle.ent_alloc.specs.Roster.{Roster}
 use Rattle.ent_alloc.specs.Sound.{IsSound}
-use Rattle.ent_alloc.specs.Entities.{idle, allocator_of}
+use Rattle.ent_alloc.specs.Entities.{idle}
 use Rattle.ent_alloc.proofs.Soundness.{after_flush-sound}
-use Rattle.ent_alloc.proofs.Meaning.{length-idle, closed, closed_is}
+use Rattle.ent_alloc.proofs.Meaning.{length-idle, closed, StandFor}
 use Rattle.ent_alloc.proofs.MeaningOfFlush.{flushed_roster, made_at_flush_is, flush_is}
 use Rattle.ent_alloc.proofs.MeaningOfFlush.{born_is_listed}
-use Rattle.ent_alloc.proofs.entities.Entities.flush.Goals.{After-fresh-fresh, In_ok-bring_to_life}
+use Rattle.ent_alloc.proofs.entities.Entities.flush.Goals.{After-fresh-fresh}
+use Rattle.ent_alloc.proofs.entities.Entities.flush.Goals.{After-none-self-inside}
 use Rattle.ent_alloc.proofs.entities.Entities.flush.Goals as goal
 
 -- what is so anyhow is so after a refusal
@@ -33,22 +33,22 @@ counted c =
       news_is = c.fresh-fresh.ensures ∙ ap (λ n. c.self.inside.requests.served - n) waits;
     }
 
--- the roster that a flush leaves, and the allocator that it stands for
-left : (r new : Roster) (given kept news : ℕ) → AreCounted (length r.pending) given kept news → new
-    ≡ flushed_roster r kept news → new ≡ flushed_roster r (length r.pending - given) (given
-    - length r.pending)
-left r new given kept news counts is =
-    is ∙ (λ i. flushed_roster r (counts.kept_is i) (counts.news_is i))
-
-flushed : (c : In_ok-bring_to_life) → allocator_of (flushed_roster c.self.inside.slots
-    (length c.self.inside.slots.pending - c.self.inside.requests.served)
-    (c.self.inside.requests.served - length c.self.inside.slots.pending)) 0 0
-    ≡ after_flush c.args.self.now
-flushed c =
+-- the roster that a flush leaves stands for the flushed allocator
+left : (c : After-none-self-inside) → AreCounted (length c.self.inside.slots.pending)
+    c.self.inside.requests.served c.kept-kept.result c.fresh-fresh.result
+    → StandFor c.bring_to_life.new.self c.none-self-inside.result (after_flush c.args.self.now)
+left c counts =
+    let r = c.self.inside.slots in
     let inv = c.self.invariant in
-    flush_is c.self.inside.slots c.self.inside.requests.asked c.self.inside.requests.served
-    inv.given_least inv.given_in inv.sound
-    ∙ ap after_flush c.self.view_is
+    closed c.bring_to_life.new.self (flushed_roster r (length r.pending
+    - c.self.inside.requests.served) (c.self.inside.requests.served - length r.pending))
+    c.none-self-inside.result (after_flush c.args.self.now)
+    (c.in_ok-bring_to_life.ensures.ok
+    ∙ (λ i. flushed_roster r (counts.kept_is i) (counts.news_is i)))
+    c.none-self-inside.ensures
+    (flush_is r c.self.inside.requests.asked c.self.inside.requests.served inv.given_least
+    inv.given_in inv.sound ∙ ap after_flush c.self.view_is)
+    (after_flush-sound c.args.self.now (subst IsSound c.self.view_is inv.sound))
 
 pub returns-in_err-bring_to_life-clause-memory : goal.returns-in_err-bring_to_life-clause-memory
 returns-in_err-bring_to_life-clause-memory c =
@@ -73,26 +73,13 @@ returns-in_err-bring_to_life-clause-memory c =
 
 pub invariant_of-self-2 : goal.invariant_of-self-2
 invariant_of-self-2 c =
-    let e = c.self.inside in
     let at = goal.at.invariant_of-self-2 c in
-    closed c.bring_to_life.new.self (flushed_roster e.slots (length e.slots.pending
-    - e.requests.served) (e.requests.served - length e.slots.pending))
-    c.none-self-inside.result (after_flush c.args.self.now)
-    (left e.slots c.bring_to_life.new.self e.requests.served c.kept-kept.result
-    c.fresh-fresh.result (counted at.After-fresh-fresh) c.in_ok-bring_to_life.ensures.ok)
-    c.none-self-inside.ensures (flushed at.In_ok-bring_to_life)
-    (after_flush-sound c.args.self.now (subst IsSound c.self.view_is c.self.invariant.sound))
+    (left at.After-none-self-inside (counted at.After-fresh-fresh)).reserved
 
 pub returns-clause-ok : goal.returns-clause-ok
 returns-clause-ok c =
-    let e = c.self.inside in
     let at = goal.at.returns-clause-ok c in
-    closed_is c.bring_to_life.new.self (flushed_roster e.slots (length e.slots.pending
-    - e.requests.served) (e.requests.served - length e.slots.pending))
-    c.none-self-inside.result (after_flush c.args.self.now)
-    (left e.slots c.bring_to_life.new.self e.requests.served c.kept-kept.result
-    c.fresh-fresh.result (counted at.After-fresh-fresh) c.in_ok-bring_to_life.ensures.ok)
-    c.none-self-inside.ensures (flushed at.In_ok-bring_to_life)
+    (left at.After-none-self-inside (counted at.After-fresh-fresh)).view
 
 pub returns-clause-born : goal.returns-clause-born
 returns-clause-born c =

@@ -4,9 +4,9 @@ use Rattle.ent_alloc.specs.Limits.{Limits}
 use Rattle.ent_alloc.specs.Sequential.{Allocator, after_free}
 use Rattle.ent_alloc.specs.Entities.{allocator_of}
 use Rattle.ent_alloc.proofs.Soundness.{after_free-sound}
-use Rattle.ent_alloc.proofs.Meaning.{IsAtRest, at_rest, closed, closed_is}
-use Rattle.ent_alloc.proofs.MeaningOfAlloc.{freed_roster, free_is, retired_roster}
-use Rattle.ent_alloc.proofs.MeaningOfAlloc.{retire_is}
+use Rattle.ent_alloc.proofs.Meaning.{IsAtRest, at_rest, closed, StandFor}
+use Rattle.ent_alloc.proofs.MeaningOfAlloc.{freed_roster, free_is, retired_roster, retire_is}
+use Rattle.ent_alloc.specs.Roster.{Roster}
 use Rattle.ent_alloc.proofs.entities.Entities.free.Goals.{Else-needs_flush, Else-not-is_alive}
 use Rattle.ent_alloc.proofs.entities.Entities.free.Goals.{Else-generation-generations}
 use Rattle.ent_alloc.proofs.entities.Entities.free.Goals as goal
@@ -41,33 +41,34 @@ lives : (c : Else-not-is_alive) → sets.contains c.args.self.now.live c.args.ha
 lives c = sym (ap (λ (s : Allocator). sets.contains s.live c.args.handle) c.self.view_is)
     ∙ sym c.is_alive.ensures ∙ c.if-not-is_alive.false
 
+-- the roster that this leaves stands for what is freed
+left : (c : Else-not-is_alive) (new after : Roster)
+    → IsAtRest c.self.inside.slots c.self.inside.requests c.args.self.now → new ≡ after
+    → allocator_of after 0 0 ≡ after_free c.args.self.now c.args.handle
+    → StandFor new c.self.inside.requests (after_free c.args.self.now c.args.handle)
+left c new after rest same is =
+    closed new after c.self.inside.requests (after_free c.args.self.now c.args.handle) same
+    rest.requests_is is
+    (after_free-sound c.args.self.now c.args.handle rest.sound rest.asked (lives c))
+
 pub invariant_of-self : goal.invariant_of-self
 invariant_of-self c =
-    let h = c.args.handle in
-    let at = (goal.at.invariant_of-self c).Else-needs_flush in
-    let rest = rest at in
+    let at = goal.at.invariant_of-self c in
     let last = sym c.generation.ensures ∙ c.if-generation-generations.true ∙ c.generations.ensures
     ∙ ap (λ (l : Limits). l.generations) c.limits.ensures in
-    closed c.retire.new.self (retired_roster c.self.inside.slots h) c.self.inside.requests
-    (after_free c.args.self.now h) c.retire.ensures rest.requests_is (retired_is at last)
-    (after_free-sound c.args.self.now h rest.sound rest.asked
-    (lives (goal.at.invariant_of-self c).Else-not-is_alive))
+    (left at.Else-not-is_alive c.retire.new.self _ (rest at.Else-needs_flush) c.retire.ensures
+    (retired_is at.Else-needs_flush last)).reserved
 
 pub invariant_of-self-2 : goal.invariant_of-self-2
 invariant_of-self-2 c =
-    let h = c.args.handle in
-    let at = (goal.at.invariant_of-self-2 c).Else-needs_flush in
-    let rest = rest at in
-    let before = not_last (goal.at.invariant_of-self-2 c).Else-generation-generations in
-    closed c.release.new.self (freed_roster c.self.inside.slots h) c.self.inside.requests
-    (after_free c.args.self.now h) c.in_ok-next.ensures.ok rest.requests_is (freed_is at before)
-    (after_free-sound c.args.self.now h rest.sound rest.asked
-    (lives (goal.at.invariant_of-self-2 c).Else-not-is_alive))
+    let at = goal.at.invariant_of-self-2 c in
+    let before = not_last at.Else-generation-generations in
+    (left at.Else-not-is_alive c.release.new.self _ (rest at.Else-needs_flush)
+    c.in_ok-next.ensures.ok (freed_is at.Else-needs_flush before)).reserved
 
 pub returns-clause-ok : goal.returns-clause-ok
 returns-clause-ok c =
-    let at = (goal.at.returns-clause-ok c).Else-needs_flush in
-    let before = not_last (goal.at.returns-clause-ok c).Else-generation-generations in
-    closed_is c.release.new.self (freed_roster c.self.inside.slots c.args.handle)
-    c.self.inside.requests (after_free c.args.self.now c.args.handle) c.in_ok-next.ensures.ok
-    (rest at).requests_is (freed_is at before)
+    let at = goal.at.returns-clause-ok c in
+    let before = not_last at.Else-generation-generations in
+    (left at.Else-not-is_alive c.release.new.self _ (rest at.Else-needs_flush)
+    c.in_ok-next.ensures.ok (freed_is at.Else-needs_flush before)).view

@@ -1,12 +1,14 @@
-use Rattle.std.proofs.Common.{◌≡◌, ◌+◌, pos, ◌-ℤ◌, nat_abs, length, ap, ◌∙◌, Ok, arith}
-use Rattle.std.proofs.Common.{to_z, of_z, w64}
+use Rattle.std.proofs.Common.{◌≡◌, ◌+◌, pos, ◌-ℤ◌, nat_abs, length, ap, ◌∙◌, Ok, arith, to_z, of_z}
+use Rattle.std.proofs.Common.{w64, ℕ}
 use Rattle.std.proofs.lemmas.Int.{ints}
 use Rattle.ent_alloc.specs.Limits.{Limits}
-use Rattle.ent_alloc.specs.Sequential.{pool_at}
+use Rattle.ent_alloc.specs.Sequential.{pool_at, reply_from}
 use Rattle.ent_alloc.specs.Entities.{beneath}
 use Rattle.ent_alloc.proofs.FreshHandles.{fresh-none}
 use Rattle.ent_alloc.proofs.MeaningOfReplies.{reply_none}
 use Rattle.ent_alloc.proofs.OneReply.{IsBelowTop, below_top, replied, several, short_of, left_is}
+use Rattle.ent_alloc.proofs.OneReply.{served, served_in_range, IsServed}
+use Rattle.ent_alloc.specs.Reserved.{reserved_handles}
 use Rattle.ent_alloc.proofs.entities.Entities.reply.Goals.{After-self, After-slots}
 use Rattle.ent_alloc.proofs.entities.Entities.reply.Goals as goal
 
@@ -18,6 +20,14 @@ lies c = below_top c.self.inside.slots c.self.inside.requests.asked c.self.insid
 -- how many slots may be made
 slots_is : (c : After-slots) → c.slots.result ≡ c.self.inside.slots.limits.slots
 slots_is c = c.slots.ensures ∙ ap (λ (l : Limits). l.slots) c.limits.ensures
+
+-- what a reply lists that owns these positions and indexes
+lists : (c : After-self) (n position end index index_end : ℕ)
+    → IsServed c.self.inside.slots c.args.span.high n position end index index_end
+    → Ok (reserved_handles c.self.inside.slots position end index index_end)
+    ≡ reply_from c.args.self.now.made (pool_at c.args.self.now c.args.span.high) n
+lists c = several c.self.inside.slots c.self.inside.requests.asked c.self.inside.requests.served
+    c.args.span.high c.args.self.now c.self.invariant c.self.view_is
 
 pub returns-then-low-high : goal.returns-then-low-high
 returns-then-low-high c =
@@ -33,25 +43,19 @@ returns-then-low-high c =
 pub new-requires-then-low-ge0 : goal.new-requires-then-low-ge0
 new-requires-then-low-ge0 c =
     let at = lies (goal.at.new-requires-then-low-ge0 c).After-self in
-    record {
-      positions = omega (arith, ints);
-      within = omega (arith, ints);
-      few = omega (arith, ints);
-      indexes = omega (arith, ints);
-      last = omega (arith, ints);
-      count = omega (arith, ints);
-    }
+    served_in_range c.self.inside.slots c.args.span.high _ _ _ _ _ (omega (arith, ints))
+    (omega (arith, ints)) (served _ _ _ _ _ _ _ (omega (arith, ints)) (omega (arith, ints))
+    (omega (arith, ints)) (omega (arith, ints)) (omega (arith, ints)))
 
 pub returns-then-low-ge0 : goal.returns-then-low-ge0
 returns-then-low-ge0 c =
-    let e = c.self.inside in
-    let at = lies (goal.at.returns-then-low-ge0 c).After-self in
+    let start = (goal.at.returns-then-low-ge0 c).After-self in
+    let at = lies start in
     λ n requested.
     ap Ok c.new-then-low-ge0.ensures
-    ∙ several e.slots e.requests.asked e.requests.served c.args.span.high c.args.self.now
-    c.self.invariant c.self.view_is n _ _ _ _
-    (omega (arith, ints)) (omega (arith, ints)) (omega (arith, ints)) (omega (arith, ints))
-    (omega (arith, ints))
+    ∙ lists start n _ _ _ _
+    (served _ _ _ _ _ _ _ (omega (arith, ints)) (omega (arith, ints)) (omega (arith, ints))
+    (omega (arith, ints)) (omega (arith, ints)))
 
 pub returns-then-index_end-from : goal.returns-then-index_end-from
 returns-then-index_end-from c =
@@ -71,51 +75,39 @@ pub new-requires-then-high-gt0 : goal.new-requires-then-high-gt0
 new-requires-then-high-gt0 c =
     let at = lies (goal.at.new-requires-then-high-gt0 c).After-self in
     let slots = slots_is (goal.at.new-requires-then-high-gt0 c).After-slots in
-    record {
-      positions = omega (arith, ints);
-      within = omega (arith, ints);
-      few = omega (arith, ints);
-      indexes = omega (arith, ints);
-      last = omega (arith, ints);
-      count = omega (arith, ints);
-    }
+    served_in_range c.self.inside.slots c.args.span.high _ _ _ _ _ (omega (arith, ints))
+    (omega (arith, ints)) (served _ _ _ _ _ _ _ (omega (arith, ints)) (omega (arith, ints))
+    (omega (arith, ints)) (omega (arith, ints)) (omega (arith, ints)))
 
 pub returns-then-high-gt0 : goal.returns-then-high-gt0
 returns-then-high-gt0 c =
-    let e = c.self.inside in
-    let at = lies (goal.at.returns-then-high-gt0 c).After-self in
+    let start = (goal.at.returns-then-high-gt0 c).After-self in
+    let at = lies start in
     let slots = slots_is (goal.at.returns-then-high-gt0 c).After-slots in
     λ n requested.
     ap Ok c.new-then-high-gt0.ensures
-    ∙ several e.slots e.requests.asked e.requests.served c.args.span.high c.args.self.now
-    c.self.invariant c.self.view_is n _ _ _ _
-    (omega (arith, ints)) (omega (arith, ints)) (omega (arith, ints)) (omega (arith, ints))
-    (omega (arith, ints))
+    ∙ lists start n _ _ _ _
+    (served _ _ _ _ _ _ _ (omega (arith, ints)) (omega (arith, ints)) (omega (arith, ints))
+    (omega (arith, ints)) (omega (arith, ints)))
 
 pub new-requires-2 : goal.new-requires-2
 new-requires-2 c =
     let at = lies (goal.at.new-requires-2 c).After-self in
     let slots = slots_is (goal.at.new-requires-2 c).After-slots in
-    record {
-      positions = omega (arith, ints);
-      within = omega (arith, ints);
-      few = omega (arith, ints);
-      indexes = omega (arith, ints);
-      last = omega (arith, ints);
-      count = omega (arith, ints);
-    }
+    served_in_range c.self.inside.slots c.args.span.high _ _ _ _ _ (omega (arith, ints))
+    (omega (arith, ints)) (served _ _ _ _ _ _ _ (omega (arith, ints)) (omega (arith, ints))
+    (omega (arith, ints)) (omega (arith, ints)) (omega (arith, ints)))
 
 pub returns : goal.returns
 returns c =
-    let e = c.self.inside in
-    let at = lies (goal.at.returns c).After-self in
+    let start = (goal.at.returns c).After-self in
+    let at = lies start in
     let slots = slots_is (goal.at.returns c).After-slots in
     λ n requested.
     ap Ok c.new-2.ensures
-    ∙ several e.slots e.requests.asked e.requests.served c.args.span.high c.args.self.now
-    c.self.invariant c.self.view_is n 0 0
+    ∙ lists start n 0 0
     (c.made-made.result + nat_abs
     (to_z w64 (of_z w64 (pos 0 -ℤ to_z w64 (of_z w64 c.args.span.high)))))
     (c.from.result + nat_abs (to_z w64 (of_z w64 (pos 0 -ℤ to_z w64 (of_z w64 c.args.span.low)))))
-    (omega (arith, ints)) (omega (arith, ints)) (omega (arith, ints)) (omega (arith, ints))
-    (omega (arith, ints))
+    (served _ _ _ _ _ _ _ (omega (arith, ints)) (omega (arith, ints)) (omega (arith, ints))
+    (omega (arith, ints)) (omega (arith, ints)))

@@ -6,7 +6,7 @@ use Rattle.std.proofs.lemmas.List.{drop-map}
 use Rattle.ent_alloc.specs.declared.slot_record.SlotRecord.{SlotRecord}
 use Rattle.ent_alloc.specs.Sequential.{fresh}
 use Rattle.ent_alloc.specs.Roster.{Roster}
-use Rattle.ent_alloc.specs.Slots.{roster_of, handle_at, new_record, reused}
+use Rattle.ent_alloc.specs.Slots.{roster_of, handle_at, new_record, reused, AreLinked}
 use Rattle.ent_alloc.proofs.Linked.{make_keeps_links, roster_of-make, reuse_keeps_links}
 use Rattle.ent_alloc.proofs.Linked.{roster_of-reuse}
 use Rattle.ent_alloc.proofs.Reused.{length-reused}
@@ -68,6 +68,28 @@ all_written c =
           ∙ sym (ap length grown_is) ∙ omega arith;
     }
 
+-- the records with the new slots are linked, and stand for the roster with their first occupants
+linked : (c : After-reuse_all) → AreLinked c.self.inside.limits (c.self.inside.records.items
+    ++ replicate c.args.fresh new_record) c.self.inside.pending.items (c.self.inside.live
+    + c.args.fresh)
+linked c = make_keeps_links c.self.inside.limits c.self.inside.records.items
+    c.self.inside.pending.items c.self.inside.live c.args.fresh c.self.invariant
+    (all_written c).room
+
+grown_roster : (c : After-reuse_all) → roster_of c.self.inside.limits (c.self.inside.records.items
+    ++ replicate c.args.fresh new_record) c.self.inside.pending.items ≡ record c.args.self.now {
+      live = sets.union c.args.self.now.live
+          (sets.from_list (fresh c.args.self.now.made c.args.fresh));
+      made = c.args.self.now.made + c.args.fresh;
+    }
+grown_roster c =
+    roster_of-make c.self.inside.limits c.self.inside.records.items c.self.inside.pending.items
+    c.self.inside.live c.args.fresh c.self.invariant (all_written c).room
+    ∙ ap (λ (r : Roster). record r {
+      live = sets.union r.live (sets.from_list (fresh r.made c.args.fresh));
+      made = r.made + c.args.fresh;
+    }) c.self.view_is
+
 pub reuse_all-requires-clause-room : goal.reuse_all-requires-clause-room
 reuse_all-requires-clause-room c =
     let slots = c.deref.result.now in
@@ -83,12 +105,11 @@ reuse_all-requires-clause-room c =
 pub invariant_of-self-2 : goal.invariant_of-self-2
 invariant_of-self-2 c =
     let e = c.self.inside in
-    let records = e.records.items in
     let pending = e.pending.items in
     let n = c.args.fresh in
     let kept = c.args.kept in
-    let all = all_written (goal.at.invariant_of-self-2 c).After-reuse_all in
-    let linked = make_keeps_links e.limits records pending e.live n c.self.invariant all.room in
+    let at = (goal.at.invariant_of-self-2 c).After-reuse_all in
+    let all = all_written at in
     let more : e.live + n + (length pending - kept) ≡ e.live + (n + (c.len.result - kept)) =
     omega arith in
     rw (
@@ -97,28 +118,21 @@ invariant_of-self-2 c =
       c.truncate.ensures.items,
       ← more,
     )
-    (reuse_keeps_links e.limits (records ++ replicate n new_record) pending (e.live + n) kept linked
-    all.within)
+    (reuse_keeps_links e.limits (e.records.items ++ replicate n new_record) pending (e.live + n)
+    kept (linked at) all.within)
 
 pub returns-clause-ok : goal.returns-clause-ok
 returns-clause-ok c =
     let e = c.self.inside in
-    let records = e.records.items in
-    let pending = e.pending.items in
     let n = c.args.fresh in
     let kept = c.args.kept in
-    let all = all_written (goal.at.returns-clause-ok c).After-reuse_all in
-    let linked = make_keeps_links e.limits records pending e.live n c.self.invariant all.room in
+    let at = (goal.at.returns-clause-ok c).After-reuse_all in
+    let all = all_written at in
     (λ i. roster_of e.limits ((with_items_is c.make_all.new.records c.reuse_all.new.records all.long
     ∙ all.written_is) i) (c.truncate.ensures.items i))
-    ∙ roster_of-reuse e.limits (records ++ replicate n new_record) pending (e.live + n) kept linked
-    all.within
-    ∙ (λ i. let r : Roster = (roster_of-make e.limits records pending e.live n c.self.invariant
-    all.room
-    ∙ ap (λ (r : Roster). record r {
-      live = sets.union r.live (sets.from_list (fresh r.made n));
-      made = r.made + n;
-    }) c.self.view_is) i in
+    ∙ roster_of-reuse e.limits (e.records.items ++ replicate n new_record) e.pending.items
+    (e.live + n) kept (linked at) all.within
+    ∙ (λ i. let r : Roster = grown_roster at i in
     record r {
       live = sets.union r.live (sets.from_list (drop kept r.pending));
       pending =
@@ -128,25 +142,20 @@ returns-clause-ok c =
 pub returns-clause-born : goal.returns-clause-born
 returns-clause-born c =
     let e = c.self.inside in
-    let records = e.records.items in
-    let pending = e.pending.items in
     let n = c.args.fresh in
     let kept = c.args.kept in
-    let all = all_written (goal.at.returns-clause-born c).After-reuse_all in
-    let made : length records ≡ c.args.self.now.made = ap (λ (r : Roster). r.made) c.self.view_is in
+    let at = (goal.at.returns-clause-born c).After-reuse_all in
+    let all = all_written at in
+    let made : length e.records.items ≡ c.args.self.now.made = ap (λ (r : Roster). r.made)
+    c.self.view_is in
     let len = c.in_ok-reserve.ensures.len in
     let first : c.reserve.new.self.len ≡ c.args.self.now.made = omega arith in
     let old : map (handle_at c.deref_mut.result.now) (take (length c.deref.result.now - kept)
     (drop kept c.deref.result.now)) ≡ drop kept c.args.self.now.pending =
-    waited c.deref_mut.result.now (records ++ replicate n new_record)
-    c.deref.result.now pending kept
+    waited c.deref_mut.result.now (e.records.items ++ replicate n new_record)
+    c.deref.result.now e.pending.items kept
     (c.deref_mut.ensures.value ∙ all.grown_is) c.deref.ensures.value
-    ∙ ap (λ (r : Roster). drop kept r.pending) (roster_of-make e.limits records pending e.live n
-    c.self.invariant all.room
-    ∙ ap (λ (r : Roster). record r {
-      live = sets.union r.live (sets.from_list (fresh r.made n));
-      made = r.made + n;
-    }) c.self.view_is) in
+    ∙ ap (λ (r : Roster). drop kept r.pending) (grown_roster at) in
     c.reuse_all.ensures.listed
     ∙ (λ i. (c.make_all.ensures.listed ∙ (λ j. c.in_ok-reserve-2.ensures.items j
     ++ fresh (first j) n)) i ++ old i)

@@ -1,21 +1,20 @@
-use Rattle.std.proofs.Common.{◌≡◌, ◌≢◌, ◌+◌, [], ◌∷◌, ◌++◌, length, set}
-use Rattle.std.proofs.Common.{true, sym, ap, ◌∙◌, arith}
+use Rattle.std.proofs.Common.{◌≡◌, ◌≢◌, ◌+◌, [], ◌∷◌, ◌++◌, length, set, true, ap, ◌∙◌, arith}
 use Rattle.std.specs.FinSet as sets
 use Rattle.std.specs.FinMap as maps
 use Rattle.ent_alloc.specs.declared.slot_record.Occupancy.TheVariants.{Pending}
 use Rattle.ent_alloc.specs.Sequential.{following}
 use Rattle.ent_alloc.specs.Roster.{Roster}
 use Rattle.ent_alloc.specs.Slots.{roster_of}
-use Rattle.ent_alloc.proofs.Occupants.{is_occupant, contains_occupants}
-use Rattle.ent_alloc.proofs.LivingOccupant.{occupant_made, occupant_generation}
+use Rattle.ent_alloc.proofs.Occupants.{is_occupant}
+use Rattle.ent_alloc.proofs.LivingOccupant.{occupant_made, occupant_generation, lives_in}
 use Rattle.ent_alloc.proofs.Released.{one_lives, release_keeps_links, roster_of-release}
 use Rattle.ent_alloc.proofs.slots.Slots.release.Goals.{After-self}
 use Rattle.ent_alloc.proofs.slots.Slots.release.Goals as goal
 
 -- the handle is that of an occupant
 lives : (c : After-self) → is_occupant c.self.inside.records.items c.args.handle ≡ true
-lives c = sym (contains_occupants c.self.inside.records.items c.args.handle)
-    ∙ ap (λ (r : Roster). sets.contains r.live c.args.handle) c.self.view_is ∙ c.requires.lives
+lives c = lives_in c.self.inside.limits c.self.inside.records.items c.self.inside.pending.items
+    c.args.handle c.self.view_is c.requires.lives
 
 -- and not of the last one of its slot
 not_last : (c : After-self) → c.args.handle.generation ≢ c.self.inside.limits.generations
