@@ -1,20 +1,23 @@
 -- What a test of a machine's answer tells, and what a refusal for want of memory has to be.
-use Rattle.std.proofs.Common.{◌≡◌, refl, sym, ap, ◌∙◌, ℕ, ◌<◌, suc, Bool, true, false}
-use Rattle.std.proofs.Common.{nat_lt, List, [], ◌∷◌, length, drop, filter, slice_get, Option, Some}
-use Rattle.std.proofs.Common.{None, Result, Ok, Err, arith, inl, inr}
+use Rattle.std.proofs.Common.{◌≡◌, refl, sym, ap, ◌∙◌, ℕ, ◌<◌, suc, Bool, true, false, nat_lt, List}
+use Rattle.std.proofs.Common.{[], ◌∷◌, length, drop, filter, slice_get, Option, Some, None, Result}
+use Rattle.std.proofs.Common.{Ok, Err, arith, inl, inr, subst}
 use Rattle.std.specs.Option.{option_map, is_some}
 use Rattle.std.specs.Result.{OnOk, OnErr, is_err}
 use Rattle.std.proofs.lemmas.Bool.Decides.{nat_tests}
+use Rattle.std.specs.FinMap as finite
 use Rattle.ent_handle.specs.Handle.{Handle}
-use Rattle.ent_alloc.specs.Sequential.{next, is_old, is_fresh}
+use Rattle.ent_alloc.specs.Sequential.{next, is_old, is_fresh, Allocator}
 use Rattle.ent_replay.specs.declared.outcome.Outcome.{Outcome}
 use Rattle.ent_replay.specs.declared.outcome.Outcome.TheVariants as outcome
 use Rattle.ent_replay.specs.declared.fault.ReplayFault.{ReplayFault}
 use Rattle.ent_replay.specs.declared.fault.ReplayFault.TheVariants as fault
 use Rattle.ent_replay.specs.Schedule.{MachineState, Returned, alloc_front, event_takes_memory}
-use Rattle.ent_replay.specs.Machine.{Makes}
+use Rattle.ent_replay.specs.Machine.{Makes, machine_state, AreConsistent}
 use Rattle.ent_replay.proofs.Conditions.{when}
 use Rattle.ent_replay.proofs.Maps.{no_test}
+use Rattle.std.specs.Ordering.{nat_cmp}
+use Rattle.ent_replay.specs.declared.stored_call.StoredCall.{StoredCall}
 
 -- The machine did what the step says, or refused for want of memory: told of the values that a
 -- contract sees.
@@ -41,6 +44,33 @@ pub refused : (on : MachineState → Returned) (inside now : MachineState) → i
     → event_takes_memory inside (on inside).0 ≡ true → Makes (on now) now result after
 refused on inside now view result is after unchanged takes =
     inr (is, unchanged ∙ view, ap (λ v. event_takes_memory v (on v).0) (sym view) ∙ takes)
+
+-- The same of an event that the allocator alone answers.
+module _ (on : MachineState → Returned) (s : Allocator) (spent : finite.FinMap nat_cmp ℕ)
+    (calls : finite.FinMap nat_cmp StoredCall) (now : MachineState)
+    (view : machine_state s spent calls ≡ now) (result : Result Outcome ReplayFault)
+    (new : Allocator) where
+  pub allocator_did : (answer : Result Outcome ReplayFault) → result ≡ answer → (next : Allocator)
+      → new ≡ next → on (machine_state s spent calls) ≡ (answer, machine_state next spent calls)
+      → Makes (on now) now result (machine_state new spent calls)
+  allocator_did answer is next is_next step =
+      done on (machine_state s spent calls) now view result answer is
+      (machine_state new spent calls) (machine_state next spent calls)
+      (ap (λ t. machine_state t spent calls) is_next) step
+
+  pub allocator_refused : result ≡ Err fault.Memory → new ≡ s
+      → event_takes_memory (machine_state s spent calls) (on (machine_state s spent calls)).0
+      ≡ true → Makes (on now) now result (machine_state new spent calls)
+  allocator_refused is unchanged takes =
+      refused on (machine_state s spent calls) now view result is (machine_state new spent calls)
+      (ap (λ t. machine_state t spent calls) unchanged) takes
+
+-- what is consistent of an allocator is so under another name
+pub consistent_as : {s t : Allocator} {spent : finite.FinMap nat_cmp ℕ}
+    {calls : finite.FinMap nat_cmp StoredCall} → t ≡ s → AreConsistent s spent calls
+    → AreConsistent t spent calls
+consistent_as {s} {t} {spent} {calls} is h =
+    subst (λ a. AreConsistent a spent calls) (sym is) h
 
 -- what a test of an answer tells
 pub some_of : {X : Type 0} (o : Option X) → true ≡ is_some o → (x : X) × (o ≡ Some x)

@@ -1,14 +1,15 @@
-use Rattle.std.proofs.Common.{◌≡◌, refl, sym, ap, subst, Result, Ok, Err}
-use Rattle.ent_alloc.specs.Sequential.{Allocator, after_alloc}
+use Rattle.std.proofs.Common.{◌≡◌, refl, ap, Result, Ok, Err, ◌<◌}
+use Rattle.ent_alloc.specs.Sequential.{after_alloc}
 use Rattle.ent_alloc.specs.declared.fault.AllocFault.{AllocFault}
 use Rattle.ent_alloc.specs.declared.fault.AllocFault.TheVariants as why
 use Rattle.ent_handle.specs.Handle.{Handle}
 use Rattle.ent_replay.specs.Schedule.{on_alloc}
-use Rattle.ent_replay.specs.Machine.{machine_state, AreConsistent}
+use Rattle.ent_replay.specs.Machine.{machine_state}
 use Rattle.ent_replay.specs.declared.outcome.Outcome.TheVariants as outcome
 use Rattle.ent_replay.specs.declared.fault.ReplayFault.TheVariants as fault
 use Rattle.ent_replay.proofs.Maps.{no_test}
-use Rattle.ent_replay.proofs.MachineAnswers.{done, refused, flushed, ok_not_err}
+use Rattle.ent_replay.proofs.MachineAnswers.{flushed, ok_not_err, faulty, allocator_did}
+use Rattle.ent_replay.proofs.MachineAnswers.{allocator_refused, consistent_as}
 use Rattle.ent_replay.proofs.ExclusiveEvents.{busy-alloc, alloc-needs_flush, alloc-space}
 use Rattle.ent_replay.proofs.ExclusiveEvents.{alloc-given, alloc-takes_memory, alloc-consistent}
 use Rattle.ent_replay.proofs.machine.Machine.alloc.Goals as goal
@@ -28,9 +29,8 @@ not_space x memory space = cc
 pub returns-then-not-is_empty : goal.returns-then-not-is_empty
 returns-then-not-is_empty c =
     let e = c.self.inside in
-    let before = machine_state e.entities e.spent e.calls in
-    done on_alloc before c.args.self.now c.self.view_is (Err fault.Busy) (Err fault.Busy) refl
-    c.args.self.now before (sym c.self.view_is)
+    faulty on_alloc (machine_state e.entities e.spent e.calls) c.args.self.now c.self.view_is
+    fault.Busy
     (busy-alloc e.entities e.spent e.calls (λ none. no_test (c.if-not-is_empty.ensures.1 none)))
 
 pub invariant_of-self : goal.invariant_of-self
@@ -40,58 +40,45 @@ invariant_of-self c =
     elim c.match-alloc.branch [
       | in-Ok w ↦
           let h = w.in-Ok.handle in
-          subst (λ s. AreConsistent s e.spent e.calls) (sym w.in-Ok.ensures.ok)
+          consistent_as w.in-Ok.ensures.ok
           (alloc-consistent e.entities e.spent e.calls none h c.self.invariant
           (λ some. ok_not_err h why.NeedsFlush (w.in-Ok.ensures.needs_flush.1 some))
           w.in-Ok.ensures.front)
-      | in-Err-NeedsFlush w ↦ subst (λ s. AreConsistent s e.spent e.calls)
-          (sym w.in-Err-NeedsFlush.ensures.err) c.self.invariant
-      | in-Err-Space w ↦ subst (λ s. AreConsistent s e.spent e.calls)
-          (sym w.in-Err-Space.ensures.err) c.self.invariant
-      | in-Err-Memory w ↦ subst (λ s. AreConsistent s e.spent e.calls)
-          (sym w.in-Err-Memory.ensures.err) c.self.invariant
+      | in-Err-NeedsFlush w ↦ consistent_as w.in-Err-NeedsFlush.ensures.err c.self.invariant
+      | in-Err-Space w ↦ consistent_as w.in-Err-Space.ensures.err c.self.invariant
+      | in-Err-Memory w ↦ consistent_as w.in-Err-Memory.ensures.err c.self.invariant
     ]
 
 pub returns : goal.returns
 returns c =
     let e = c.self.inside in
     let none = c.if-not-is_empty.ensures.0 refl in
-    let before = machine_state e.entities e.spent e.calls in
-    let after = machine_state c.alloc.new.self e.spent e.calls in
+    let did = allocator_did on_alloc e.entities e.spent e.calls c.args.self.now c.self.view_is
+    c.match-alloc.result c.alloc.new.self in
     elim c.match-alloc.branch [
       | in-Ok w ↦
           let h = w.in-Ok.handle in
-          done on_alloc before c.args.self.now c.self.view_is c.match-alloc.result
-          (Ok (outcome.Handle h)) w.result-is after (machine_state (after_alloc e.entities h)
-          e.spent e.calls)
-          (ap (λ (s : Allocator). machine_state s e.spent e.calls) w.in-Ok.ensures.ok)
+          did (Ok (outcome.Handle h)) w.result-is (after_alloc e.entities h) w.in-Ok.ensures.ok
           (alloc-given e.entities e.spent e.calls none h (λ some. ok_not_err h why.NeedsFlush
           (w.in-Ok.ensures.needs_flush.1 some)) w.in-Ok.ensures.front)
       | in-Err-NeedsFlush w ↦
           let why = w.in-Err-NeedsFlush in
-          done on_alloc before c.args.self.now c.self.view_is c.match-alloc.result
-          (Ok outcome.NeedsFlush) w.result-is after before
-          (ap (λ (s : Allocator). machine_state s e.spent e.calls) why.ensures.err)
+          did (Ok outcome.NeedsFlush) w.result-is e.entities why.ensures.err
           (alloc-needs_flush e.entities e.spent e.calls none
           (why.ensures.needs_flush.0 (ap Err why.field-0-is)))
       | in-Err-Space w ↦
           let why = w.in-Err-Space in
           let both = why.ensures.space.0 (ap Err why.field-0-is) in
-          done on_alloc before c.args.self.now c.self.view_is c.match-alloc.result
-          (Ok (outcome.Space 1 0)) w.result-is after before
-          (ap (λ (s : Allocator). machine_state s e.spent e.calls) why.ensures.err)
+          did (Ok (outcome.Space 1 0)) w.result-is e.entities why.ensures.err
           (alloc-space e.entities e.spent e.calls none both.0 both.1)
       | in-Err-Memory w ↦
           let why = w.in-Err-Memory in
-          refused on_alloc before c.args.self.now c.self.view_is c.match-alloc.result w.result-is
-          after (ap (λ (s : Allocator). machine_state s e.spent e.calls) why.ensures.err)
-          (alloc-takes_memory e.entities e.spent e.calls none c.self.invariant.sound
-          (λ some. not_needs_flush why.field-0 why.field-0-is (why.ensures.needs_flush.1 some))
+          let idle : ¬ (0 < e.entities.asked) =
+          λ some. not_needs_flush why.field-0 why.field-0-is (why.ensures.needs_flush.1 some) in
+          allocator_refused on_alloc e.entities e.spent e.calls c.args.self.now c.self.view_is
+          c.match-alloc.result c.alloc.new.self w.result-is why.ensures.err
+          (alloc-takes_memory e.entities e.spent e.calls none c.self.invariant.sound idle
           (λ empty. not_space why.field-0 why.field-0-is
-          (why.ensures.space.1 (
-            flushed (λ some. not_needs_flush why.field-0 why.field-0-is
-                (why.ensures.needs_flush.1 some)),
-            empty,
-          )))
+          (why.ensures.space.1 (flushed idle, empty)))
           (why.ensures.memory (ap Err why.field-0-is)))
     ]

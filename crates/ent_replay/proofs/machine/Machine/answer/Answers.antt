@@ -12,6 +12,7 @@ use Rattle.ent_replay.proofs.MachineAnswers.{done, faulty, refused, listed-takes
 use Rattle.ent_replay.proofs.CallEvents.{answer-not_open, answer-not_stepped, answer-answered}
 use Rattle.ent_replay.proofs.CallEvents.{answer-consistent}
 use Rattle.ent_replay.proofs.machine.Machine.answer.Goals as goal
+use Rattle.ent_replay.proofs.machine.Machine.answer.Goals.{After-reply, After-remove}
 use Rattle.ent_replay.proofs.machine.Machine.answer.Goals.{in-Ok+in-Ok-listed, in-Err}
 
 pub returns-in_default : goal.returns-in_default
@@ -45,62 +46,75 @@ reply-requires c =
           omega (arith, ints);
     }
 
+-- the reply is what the positions tell that the call passed
+told : (c : After-reply) → c.reply.result ≡ reply_from c.self.inside.entities.made
+    (pool_at c.self.inside.entities c.in-Some-span.span.high) c.in-Some.call.requested
+told c = c.reply.ensures c.in-Some.call.requested (c.self.invariant.spans c.args.caller
+    c.in-Some.call c.in-Some-span.span (sym c.get.ensures ∙ c.in-Some.is) c.in-Some-span.is).low
+
+-- and the step reports it
+reports : (c : After-reply) → on_answer (machine_state c.self.inside.entities c.self.inside.spent
+    c.self.inside.calls) c.args.caller
+    ≡ (
+      Ok (reported (reply_from c.self.inside.entities.made
+          (pool_at c.self.inside.entities c.in-Some-span.span.high) c.in-Some.call.requested)),
+      machine_state c.self.inside.entities c.self.inside.spent
+          (finite.remove c.self.inside.calls c.args.caller),
+    )
+reports c = answer-answered c.self.inside.entities c.self.inside.spent c.self.inside.calls
+    c.args.caller (omega arith) c.in-Some.call (sym c.get.ensures ∙ c.in-Some.is)
+    c.in-Some-span.span c.in-Some-span.is
+
 pub returns-in-Err-listed : goal.returns-in-Err-listed
 returns-in-Err-listed c =
     let e = c.self.inside in
     let before = machine_state e.entities e.spent e.calls in
-    let call = c.in-Some.call in
-    let span = c.in-Some-span.span in
-    let passed = c.self.invariant.spans c.args.caller call span (sym c.get.ensures ∙ c.in-Some.is)
-    c.in-Some-span.is in
-    let says = c.reply.ensures call.requested passed.low in
+    let at = (goal.at.returns-in-Err-listed c).After-reply in
     refused (λ v. on_answer v c.args.caller) before c.args.self.now c.self.view_is
     (Err fault.Memory) refl c.args.self.now (sym c.self.view_is)
-    (ap (λ p. event_takes_memory before p.0) (answer-answered e.entities e.spent e.calls
-    c.args.caller (omega arith) call (sym c.get.ensures ∙ c.in-Some.is) span c.in-Some-span.is)
-    ∙ ap (λ (r : Reply). event_takes_memory before (Ok (reported r))) (sym says ∙ c.in-Ok.is)
+    (ap (λ p. event_takes_memory before p.0) (reports at)
+    ∙ ap (λ (r : Reply). event_takes_memory before (Ok (reported r))) (sym (told at) ∙ c.in-Ok.is)
     ∙ listed-takes_memory before _ c.in-Err-listed.ensures.memory)
+
+-- nothing but the call is taken out
+unchanged : (c : After-remove) → c.match-reply.self-inside ≡ c.self.inside
+unchanged c = elim c.match-reply.branch
+    [ in-Ok+in-Ok-listed w ↦ w.self-inside-is | in-Err w ↦ w.self-inside-is ]
+
+calls_are : (c : After-remove) → c.match-reply.self-inside ≡ c.self.inside
+    → c.remove.new.self ≡ finite.remove c.self.inside.calls c.args.caller
+calls_are c same = c.remove.ensures
+    ∙ ap (λ (x : Inside). finite.remove x.calls c.args.caller) same
 
 pub invariant_of-self : goal.invariant_of-self
 invariant_of-self c =
     let e = c.self.inside in
-    let unchanged : c.match-reply.self-inside ≡ e = elim c.match-reply.branch
-    [ in-Ok+in-Ok-listed w ↦ w.self-inside-is | in-Err w ↦ w.self-inside-is ] in
-    let calls = c.remove.ensures ∙ ap (λ (x : Inside). finite.remove x.calls c.args.caller)
-    unchanged in
+    let at = (goal.at.invariant_of-self c).After-remove in
+    let same = unchanged at in
     subst (λ m. AreConsistent c.match-reply.self-inside.entities c.match-reply.self-inside.spent m)
-    (sym calls)
+    (sym (calls_are at same))
     (subst (λ (x : Inside). AreConsistent x.entities x.spent (finite.remove e.calls c.args.caller))
-    (sym unchanged)
+    (sym same)
     (answer-consistent e.entities e.spent e.calls c.args.caller (omega arith) c.in-Some.call
     (sym c.get.ensures ∙ c.in-Some.is) c.self.invariant c.in-Some-span.span c.in-Some-span.is))
 
 pub returns : goal.returns
 returns c =
     let e = c.self.inside in
-    let before = machine_state e.entities e.spent e.calls in
-    let call = c.in-Some.call in
-    let span = c.in-Some-span.span in
-    let passed = c.self.invariant.spans c.args.caller call span (sym c.get.ensures ∙ c.in-Some.is)
-    c.in-Some-span.is in
-    let says = c.reply.ensures call.requested passed.low in
-    let unchanged : c.match-reply.self-inside ≡ e = elim c.match-reply.branch
-    [ in-Ok+in-Ok-listed w ↦ w.self-inside-is | in-Err w ↦ w.self-inside-is ] in
-    let calls = c.remove.ensures ∙ ap (λ (x : Inside). finite.remove x.calls c.args.caller)
-    unchanged in
-    let told : c.match-reply.outcome
-    ≡ reported (reply_from e.entities.made (pool_at e.entities span.high) call.requested) =
+    let at = goal.at.returns c in
+    let says = told at.After-reply in
+    let same = unchanged at.After-remove in
+    let outcome_is : c.match-reply.outcome ≡ reported (reply_from e.entities.made
+    (pool_at e.entities c.in-Some-span.span.high) c.in-Some.call.requested) =
     elim c.match-reply.branch [
       | in-Ok+in-Ok-listed w ↦ w.outcome-is ∙ ap outcome.Handles w.in-Ok-listed.ensures.ok
           ∙ ap reported (sym w.in-Ok.is ∙ says)
       | in-Err w ↦ w.outcome-is ∙ ap reported (sym w.in-Err.is ∙ says)
     ] in
-    done (λ v. on_answer v c.args.caller) before c.args.self.now c.self.view_is
-    (Ok c.match-reply.outcome)
-    (Ok (reported (reply_from e.entities.made (pool_at e.entities span.high) call.requested)))
-    (ap (λ (o : Outcome). Ok o) told)
+    done (λ v. on_answer v c.args.caller) (machine_state e.entities e.spent e.calls)
+    c.args.self.now c.self.view_is (Ok c.match-reply.outcome) _
+    (ap (λ (o : Outcome). Ok o) outcome_is)
     (machine_state c.match-reply.self-inside.entities c.match-reply.self-inside.spent
     c.remove.new.self)
-    _ (λ i. machine_state (unchanged i).entities (unchanged i).spent (calls i))
-    (answer-answered e.entities e.spent e.calls c.args.caller (omega arith) call (sym c.get.ensures
-    ∙ c.in-Some.is) span c.in-Some-span.is)
+    _ (λ i. machine_state (same i).entities (same i).spent (calls_are at.After-remove same i))
+    (reports at.After-reply)

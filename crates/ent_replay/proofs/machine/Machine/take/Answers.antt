@@ -1,5 +1,4 @@
-use Rattle.std.proofs.Common.{◌≡◌, pos, ◌-ℤ◌, sym, ap, subst, ◌∙◌, Ok, Some, arith, to_z}
-use Rattle.std.proofs.Common.{of_z, w64}
+use Rattle.std.proofs.Common.{◌≡◌, pos, ◌-ℤ◌, sym, ap, subst, ◌∙◌, Ok, Some, arith, to_z, of_z, w64}
 use Rattle.std.specs.FinMap as finite
 use Rattle.std.proofs.lemmas.Int.{ints}
 use Rattle.ent_alloc.specs.Sequential.{cursor, after_take}
@@ -11,6 +10,7 @@ use Rattle.ent_replay.specs.declared.fault.ReplayFault.TheVariants as fault
 use Rattle.ent_replay.proofs.MachineAnswers.{done, faulty, some_of, none_of}
 use Rattle.ent_replay.proofs.CallEvents.{awaited-bound, step-not_open, step-stepped, step-taken}
 use Rattle.ent_replay.proofs.CallEvents.{step-consistent}
+use Rattle.ent_replay.proofs.machine.Machine.take.Goals.{After-replace}
 use Rattle.ent_replay.proofs.machine.Machine.take.Goals as goal
 
 pub returns-in_default : goal.returns-in_default
@@ -40,14 +40,26 @@ lower-span-requires c =
     ap (unasked c.in-Some.call.requested) waits in
     omega arith
 
+-- the call keeps what its step passed
+stepped : (c : After-replace) → c.replace.new.self ≡ finite.insert c.self.inside.calls c.args.caller
+    (record {
+      requested = c.in-Some.call.requested;
+      span = Some
+          (record {
+            high = cursor c.self.inside.entities;
+            low = cursor c.self.inside.entities -ℤ pos c.in-Some.call.requested;
+          });
+    })
+stepped c = c.replace.ensures
+    ∙ ap (λ (x : Span). finite.insert c.self.inside.calls c.args.caller
+    (record { requested = c.in-Some.call.requested; span = Some x })) c.lower-span.ensures.span
+
 pub invariant_of-self : goal.invariant_of-self
 invariant_of-self c =
     let e = c.self.inside in
     let call = c.in-Some.call in
     let waits = none_of call.span c.if-is_some.ensures in
-    let calls = c.replace.ensures
-    ∙ ap (λ (x : Span). finite.insert e.calls c.args.caller
-    (record { requested = call.requested; span = Some x })) c.lower-span.ensures.span in
+    let calls = stepped (goal.at.invariant_of-self c).After-replace in
     subst (λ s. AreConsistent s e.spent c.replace.new.self) (sym c.lower-span.ensures.step)
     (subst (λ m. AreConsistent (after_take e.entities call.requested) e.spent m) (sym calls)
     (step-consistent e.entities e.spent e.calls c.args.caller (omega arith) call (sym c.get.ensures
@@ -59,9 +71,7 @@ returns c =
     let before = machine_state e.entities e.spent e.calls in
     let call = c.in-Some.call in
     let waits = none_of call.span c.if-is_some.ensures in
-    let calls = c.replace.ensures
-    ∙ ap (λ (x : Span). finite.insert e.calls c.args.caller
-    (record { requested = call.requested; span = Some x })) c.lower-span.ensures.span in
+    let calls = stepped (goal.at.returns c).After-replace in
     let word : to_z w64 (of_z w64 c.lower-span.result.low) ≡ c.lower-span.result.low =
     omega (arith, ints) in
     let low : to_z w64 (of_z w64 c.lower-span.result.low)
