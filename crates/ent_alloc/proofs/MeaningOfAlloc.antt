@@ -165,38 +165,36 @@ freed_roster r h = record r {
 abbrev pub retired_roster : Roster → Handle → Roster
 retired_roster r h = record r { live = sets.remove r.live h; rows = maps.remove r.rows h }
 
+-- what is pending then tells what stands in front of the pool
+ended_is : (r : Roster) (h : Handle) (pending : List Handle)
+    → reverse pending ++ fresh r.made (r.limits.slots - r.made) ≡ in_front (next r.limits h)
+    (idle r)
+    → allocator_of (record r {
+      live = sets.remove r.live h;
+      rows = maps.remove r.rows h;
+      pending = pending;
+    }) 0 0 ≡ after_free (allocator_of r 0 0) h
+ended_is r h pending front = λ i. record {
+  limits = r.limits;
+  live = sets.remove r.live h;
+  rows = maps.remove r.rows h;
+  pool = front i;
+  taken = [];
+  aside = [];
+  made = r.made;
+  asked = 0;
+}
+
 pub free_is : (r : Roster) (h : Handle) → h.generation ≢ r.limits.generations
     → allocator_of (freed_roster r h) 0 0 ≡ after_free (allocator_of r 0 0) h
 free_is r h before =
-    let front : reverse (r.pending ++ following h ∷ [])
-    ++ fresh r.made (r.limits.slots - r.made) ≡ in_front (next r.limits h) (idle r) =
-    ap (λ hs. hs ++ fresh r.made (r.limits.slots - r.made))
+    ended_is r h (r.pending ++ following h ∷ [])
+    (ap (λ hs. hs ++ fresh r.made (r.limits.slots - r.made))
     (reverse-append r.pending (following h ∷ []))
-    ∙ ap (λ o. in_front o (idle r)) (sym (next-later r.limits h before)) in
-    λ i. record {
-      limits = r.limits;
-      live = sets.remove r.live h;
-      rows = maps.remove r.rows h;
-      pool = front i;
-      taken = [];
-      aside = [];
-      made = r.made;
-      asked = 0;
-    }
+    ∙ ap (λ o. in_front o (idle r)) (sym (next-later r.limits h before)))
 
 -- the last occupant of a slot leaves the pool as it is
 pub retire_is : (r : Roster) (h : Handle) → h.generation ≡ r.limits.generations
     → allocator_of (retired_roster r h) 0 0 ≡ after_free (allocator_of r 0 0) h
 retire_is r h last =
-    let front : idle r ≡ in_front (next r.limits h) (idle r) =
-    ap (λ o. in_front o (idle r)) (sym (next-last r.limits h last)) in
-    λ i. record {
-      limits = r.limits;
-      live = sets.remove r.live h;
-      rows = maps.remove r.rows h;
-      pool = front i;
-      taken = [];
-      aside = [];
-      made = r.made;
-      asked = 0;
-    }
+    ended_is r h r.pending (ap (λ o. in_front o (idle r)) (sym (next-last r.limits h last)))
