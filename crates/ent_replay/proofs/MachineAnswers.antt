@@ -97,6 +97,14 @@ flushed none = omega arith
 pub ok_not_err : {T E : Type 0} (x : T) (e : E) → Ok x ≡ Err e → ⊥
 ok_not_err x e is = cc
 
+-- and one refusal is no other
+abbrev refusal : (T : Type 0) {E : Type 0} → E → Result T E
+refusal T x = Err x
+
+pub not_other : {T E : Type 0} (x why other : E) → x ≡ why → ¬ (why ≡ other)
+    → refusal T x ≡ refusal T other → ⊥
+not_other x why other is differ same = let also : x ≡ other = cc in differ (sym is ∙ also)
+
 pub front : {X : Type 0} (xs : List X) (x : X) → slice_get xs 0 ≡ Some x → xs ≡ x ∷ drop 1 xs
 front [] x is = absurd cc
 front (y ∷ ys) x is = let same : y ≡ x = cc in ap (λ z. z ∷ ys) same

@@ -1,30 +1,18 @@
-use Rattle.std.proofs.Common.{◌≡◌, refl, ap, Result, Ok, Err, ◌<◌}
+use Rattle.std.proofs.Common.{refl, ap, Ok, Err, ◌<◌}
 use Rattle.ent_alloc.specs.Sequential.{after_alloc}
-use Rattle.ent_alloc.specs.declared.fault.AllocFault.{AllocFault}
 use Rattle.ent_alloc.specs.declared.fault.AllocFault.TheVariants as why
-use Rattle.ent_handle.specs.Handle.{Handle}
 use Rattle.ent_replay.specs.Schedule.{on_alloc}
 use Rattle.ent_replay.specs.Machine.{machine_state}
 use Rattle.ent_replay.specs.declared.outcome.Outcome.TheVariants as outcome
 use Rattle.ent_replay.specs.declared.fault.ReplayFault.TheVariants as fault
 use Rattle.ent_replay.proofs.Maps.{no_test}
 use Rattle.ent_replay.proofs.MachineAnswers.{flushed, ok_not_err, faulty, allocator_did}
-use Rattle.ent_replay.proofs.MachineAnswers.{allocator_refused, consistent_as}
+use Rattle.ent_replay.proofs.MachineAnswers.{allocator_refused, consistent_as, not_other}
 use Rattle.ent_replay.proofs.ExclusiveEvents.{busy-alloc, alloc-needs_flush, alloc-space}
 use Rattle.ent_replay.proofs.ExclusiveEvents.{alloc-given, alloc-takes_memory, alloc-consistent}
 use Rattle.ent_replay.proofs.machine.Machine.alloc.Goals as goal
 use Rattle.ent_replay.proofs.machine.Machine.alloc.Goals.{in-Ok, in-Err-NeedsFlush, in-Err-Space}
 use Rattle.ent_replay.proofs.machine.Machine.alloc.Goals.{in-Err-Memory}
-
--- want of memory is none of the other refusals
-abbrev failed : AllocFault → Result Handle AllocFault
-failed x = Err x
-
-not_needs_flush : (x : AllocFault) → x ≡ why.Memory → failed x ≡ failed why.NeedsFlush → ⊥
-not_needs_flush x memory flush = cc
-
-not_space : (x : AllocFault) → x ≡ why.Memory → failed x ≡ failed why.Space → ⊥
-not_space x memory space = cc
 
 pub returns-then-not-is_empty : goal.returns-then-not-is_empty
 returns-then-not-is_empty c =
@@ -72,13 +60,14 @@ returns c =
           did (Ok (outcome.Space 1 0)) w.result-is e.entities why.ensures.err
           (alloc-space e.entities e.spent e.calls none both.0 both.1)
       | in-Err-Memory w ↦
-          let why = w.in-Err-Memory in
+          let m = w.in-Err-Memory in
           let idle : ¬ (0 < e.entities.asked) =
-          λ some. not_needs_flush why.field-0 why.field-0-is (why.ensures.needs_flush.1 some) in
+          λ some. not_other m.field-0 why.Memory why.NeedsFlush m.field-0-is (λ e. cc)
+          (m.ensures.needs_flush.1 some) in
           allocator_refused on_alloc e.entities e.spent e.calls c.args.self.now c.self.view_is
-          c.match-alloc.result c.alloc.new.self w.result-is why.ensures.err
+          c.match-alloc.result c.alloc.new.self w.result-is m.ensures.err
           (alloc-takes_memory e.entities e.spent e.calls none c.self.invariant.sound idle
-          (λ empty. not_space why.field-0 why.field-0-is
-          (why.ensures.space.1 (flushed idle, empty)))
-          (why.ensures.memory (ap Err why.field-0-is)))
+          (λ empty. not_other m.field-0 why.Memory why.Space m.field-0-is (λ e. cc)
+          (m.ensures.space.1 (flushed idle, empty)))
+          (m.ensures.memory (ap Err m.field-0-is)))
     ]

@@ -1,7 +1,5 @@
-use Rattle.std.proofs.Common.{◌≡◌, refl, ap, ◌∙◌, Result, Ok, Err, ◌<◌}
+use Rattle.std.proofs.Common.{refl, ap, ◌∙◌, Ok, Err, ◌<◌}
 use Rattle.ent_alloc.specs.Sequential.{after_free, next}
-use Rattle.ent_alloc.specs.declared.fault.Freed.{Freed}
-use Rattle.ent_alloc.specs.declared.fault.FreeFault.{FreeFault}
 use Rattle.ent_alloc.specs.declared.fault.FreeFault.TheVariants as why
 use Rattle.ent_replay.specs.Schedule.{on_free}
 use Rattle.ent_replay.specs.Machine.{machine_state}
@@ -9,22 +7,12 @@ use Rattle.ent_replay.specs.declared.outcome.Outcome.TheVariants as outcome
 use Rattle.ent_replay.specs.declared.fault.ReplayFault.TheVariants as fault
 use Rattle.ent_replay.proofs.Maps.{no_test}
 use Rattle.ent_replay.proofs.MachineAnswers.{flushed, ok_not_err, faulty, allocator_did}
-use Rattle.ent_replay.proofs.MachineAnswers.{allocator_refused, consistent_as}
+use Rattle.ent_replay.proofs.MachineAnswers.{allocator_refused, consistent_as, not_other}
 use Rattle.ent_replay.proofs.ExclusiveEvents.{busy-free, free-needs_flush, free-not_alive}
 use Rattle.ent_replay.proofs.ExclusiveEvents.{free-freed, free-takes_memory, free-consistent}
 use Rattle.ent_replay.proofs.machine.Machine.free.Goals as goal
 use Rattle.ent_replay.proofs.machine.Machine.free.Goals.{in-Ok, in-Err-NeedsFlush, in-Err-NotAlive}
 use Rattle.ent_replay.proofs.machine.Machine.free.Goals.{in-Err-Memory}
-
--- want of memory is none of the other refusals
-abbrev failed : FreeFault → Result Freed FreeFault
-failed x = Err x
-
-not_needs_flush : (x : FreeFault) → x ≡ why.Memory → failed x ≡ failed why.NeedsFlush → ⊥
-not_needs_flush x memory flush = cc
-
-not_gone : (x : FreeFault) → x ≡ why.Memory → failed x ≡ failed why.NotAlive → ⊥
-not_gone x memory gone = cc
 
 pub returns-then-not-is_empty : goal.returns-then-not-is_empty
 returns-then-not-is_empty c =
@@ -75,13 +63,14 @@ returns c =
           did (Ok outcome.NotAlive) w.result-is e.entities why.ensures.err
           (free-not_alive e.entities e.spent e.calls none h both.0 both.1)
       | in-Err-Memory w ↦
-          let why = w.in-Err-Memory in
+          let m = w.in-Err-Memory in
           let idle : ¬ (0 < e.entities.asked) =
-          λ some. not_needs_flush why.field-0 why.field-0-is (why.ensures.needs_flush.1 some) in
+          λ some. not_other m.field-0 why.Memory why.NeedsFlush m.field-0-is (λ e. cc)
+          (m.ensures.needs_flush.1 some) in
           allocator_refused (λ v. on_free v h) e.entities e.spent e.calls c.args.self.now
-          c.self.view_is c.match-free.result c.free.new.self w.result-is why.ensures.err
+          c.self.view_is c.match-free.result c.free.new.self w.result-is m.ensures.err
           (free-takes_memory e.entities e.spent e.calls none h idle
-          (λ gone. not_gone why.field-0 why.field-0-is
-          (why.ensures.not_alive.1 (flushed idle, gone)))
-          (why.ensures.memory (ap Err why.field-0-is)))
+          (λ gone. not_other m.field-0 why.Memory why.NotAlive m.field-0-is (λ e. cc)
+          (m.ensures.not_alive.1 (flushed idle, gone)))
+          (m.ensures.memory (ap Err m.field-0-is)))
     ]
