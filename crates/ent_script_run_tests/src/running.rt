@@ -1,27 +1,23 @@
 //! A script's bytes, read and run.
 ghost use Rattle.std.specs.Prelude.{◌<◌, ◌≤◌};
 
+use crate::pieces::{Part, text};
 use ent_script::read_script;
 use ent_script_report::Show;
 use ent_script_run::run_script;
-use std::alloc::Global;
-use std::test::Fail;
+use std::process::Abort;
 use std::thread::Threads;
 
-/// Whether this is the report of the script, by births.
-pub fn reports<R>(
-    rt: &R,
-    alloc: Global,
-    script: &String,
-    workers: usize,
-    wanted: &String,
-) -> Result<bool, Fail>
+/// Runs the script of these parts, and compares its report, by births.
+pub fn reports<R>(rt: &R, workers: usize, script: &[Part], wanted: &[Part])
 where
-    R: Threads + Sync,
+    R: Threads + Sync + Abort + AllocGlobal,
     requires some { 0 < workers }
     requires few { workers ≤ 64 }
 {
-    let script = read_script(alloc, script.as_bytes())?;
-    let report = run_script(rt, alloc, &script, workers, Show::Births)?;
-    Ok(report.as_slice() == wanted.as_bytes())
+    let alloc = rt.alloc();
+    let (script, wanted) = (text(rt, alloc, script), text(rt, alloc, wanted));
+    let script = read_script(alloc, script.as_bytes()).expect(rt, "a script");
+    let report = run_script(rt, alloc, &script, workers, Show::Births).expect(rt, "memory");
+    assert!(rt; report.as_slice() == wanted.as_bytes());
 }
