@@ -1,13 +1,22 @@
-use Rattle.std.proofs.Common.{length, [], ◌∷◌, ap, ◌∙◌, arith, length-append}
+use Rattle.std.proofs.Common.{length, [], ◌∷◌, ap, ◌∙◌, arith, length-append, ◌+◌, ◌≤◌}
 use Rattle.std.proofs.lemmas.Result.{err_from_is_err_and}
 use Rattle.ent_replay.proofs.OutcomeLemmas.{spaced_fits}
+use Rattle.ent_handle.specs.Text.{handle_text}
+use Rattle.ent_replay.specs.OutcomeText.{spaced}
+use Rattle.ent_replay.proofs.writing.append_spaced.Goals.{After-append}
 use Rattle.ent_replay.proofs.writing.append_spaced.Goals as goal
+
+-- the text so far, a space and this handle's text are no longer than the whole
+fits : (c : After-append) → length c.loop-handle.out.items
+    + (1 + length (handle_text c.handle-item.result))
+    ≤ length c.args.out.now.items + length (spaced c.args.handles.now)
+fits c = spaced_fits c.args.out.now.items c.loop-handle.out.items c.args.handles.now
+    c.loop-handle.handle-index c.handle-item.result c.loop-handle-test.true c.handle-item.is
+    c.loop-handle.invariant.told
 
 pub returns-in_err-append-clause-full : goal.returns-in_err-append-clause-full
 returns-in_err-append-clause-full c =
-    let fits = spaced_fits c.args.out.now.items c.loop-handle.out.items c.args.handles.now
-    c.loop-handle.handle-index c.handle-item.result c.loop-handle-test.true c.handle-item.is
-    c.loop-handle.invariant.told in
+    let fits = fits (goal.at.returns-in_err-append-clause-full c).After-append in
     let p = err_from_is_err_and c.from_residual.result c.from_residual.ensures.1 in
     rw p.1 (omega (
       arith,
@@ -19,9 +28,7 @@ returns-in_err-append-clause-full c =
 
 pub returns-in_err-write_text-clause-full : goal.returns-in_err-write_text-clause-full
 returns-in_err-write_text-clause-full c =
-    let fits = spaced_fits c.args.out.now.items c.loop-handle.out.items c.args.handles.now
-    c.loop-handle.handle-index c.handle-item.result c.loop-handle-test.true c.handle-item.is
-    c.loop-handle.invariant.told in
+    let fits = fits (goal.at.returns-in_err-write_text-clause-full c).After-append in
     let p = err_from_is_err_and c.from_residual-in_err-write_text.result
     c.from_residual-in_err-write_text.ensures.1 in
     rw p.1 (omega (
