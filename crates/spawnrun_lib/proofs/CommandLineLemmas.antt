@@ -17,7 +17,7 @@ use Rattle.clap.specs.declared.parser.ArgMatches.{ArgMatches}
 use Rattle.clap.specs.declared.parser.matches.ArgMatches.TheViews.{out-ArgMatches, out-SubCommand}
 use Rattle.clap.specs.declared.parser.matches.SubCommand.{SubCommand}
 use Rattle.std.specs.Box.{box_value}
-use Rattle.clap.specs.Kinds.{HasKind, IsAmong, Kinds}
+use Rattle.clap.specs.Kinds.{HasKind, IsAmong}
 use Rattle.clap.specs.Simple.{new_shape, entered, label_of, names_of, rows_at}
 use Rattle.clap.specs.Walk.{answers_to, nothing_held, stop_after, texts}
 use Rattle.clap.specs.Faults.{entered_fault, level_fault}
@@ -52,41 +52,33 @@ TextRefs = Bor (List (Bor Text))
 abbrev run_shape_of : TextRefs → Shape
 run_shape_of names = slice_index_or (built (program_of names)).subs 1 (new_shape [])
 
+-- what is so of the subcommand that the words enter doesn't depend on where the names stand
+met-moved : {Z : Type 0} (of : Option Shape → Z) (shape : Shape) → of (Some (moved_shape shape))
+    ≡ of (Some shape) → (is_replay is_run : Bool)
+    → of (cond is_replay (Some replay_shape) (cond is_run (Some (moved_shape shape)) None))
+    ≡ of (cond is_replay (Some replay_shape) (cond is_run (Some shape) None))
+met-moved of shape same true is_run = refl
+met-moved of shape same false true = same
+met-moved of shape same false false = refl
+
 entered-moved : (names : TextRefs) (stop : Option (Text × List Text))
     → entered (built (program_of (references_to (texts names.now)))) stop
     ≡ entered (built (program_of names)) stop
 entered-moved names None = refl
-entered-moved names (Some p) = go (answers_to p.0 (label_of replay_shape))
-    (answers_to p.0 (label_of run_shape))
-  where
-    met : Shape → Bool → Bool → Option (Text × List Row)
-    met shape is_replay is_run = option_map (λ s. rows_at s p.1) (cond is_replay (Some replay_shape)
-        (cond is_run (Some shape) None))
-
-    go : (is_replay is_run : Bool) → met (moved_shape (run_shape_of names)) is_replay is_run
-        ≡ met (run_shape_of names) is_replay is_run
-    go true is_run = refl
-    go false true = ap (λ rows. Some (codes "run", rows))
-        (rows_after-moved (run_shape_of names).rules [] p.1)
-    go false false = refl
+entered-moved names (Some p) =
+    met-moved (option_map (λ s. rows_at s p.1)) (run_shape_of names)
+    (ap (λ rows. Some (codes "run", rows))
+    (rows_after-moved (run_shape_of names).rules [] p.1))
+    (answers_to p.0 (label_of replay_shape)) (answers_to p.0 (label_of run_shape))
 
 entered_fault-moved : (names : TextRefs) (stop : Option (Text × List Text))
     → entered_fault (built (program_of (references_to (texts names.now)))) stop
     ≡ entered_fault (built (program_of names)) stop
 entered_fault-moved names None = refl
-entered_fault-moved names (Some p) = go (answers_to p.0 (label_of replay_shape))
-    (answers_to p.0 (label_of run_shape))
-  where
-    met : Shape → Bool → Bool → Kinds
-    met shape is_replay is_run =
-        option_map_or (λ s. level_fault s [] nothing_held p.1 false [])
-        (cond is_replay (Some replay_shape) (cond is_run (Some shape) None)) []
-
-    go : (is_replay is_run : Bool) → met (moved_shape (run_shape_of names)) is_replay is_run
-        ≡ met (run_shape_of names) is_replay is_run
-    go true is_run = refl
-    go false true = level_fault-moved (run_shape_of names) [] nothing_held p.1 false []
-    go false false = refl
+entered_fault-moved names (Some p) =
+    met-moved (λ met. option_map_or (λ s. level_fault s [] nothing_held p.1 false []) met [])
+    (run_shape_of names) (level_fault-moved (run_shape_of names) [] nothing_held p.1 false [])
+    (answers_to p.0 (label_of replay_shape)) (answers_to p.0 (label_of run_shape))
 
 fault_of-moved : (names : TextRefs) (words : List Text)
     → fault_of (program_of (references_to (texts names.now))) words ≡ fault_of (program_of names)
@@ -105,19 +97,10 @@ entered_passes-moved : (names : TextRefs) (stop : Option (Text × List Text))
     → entered_passes (built (program_of (references_to (texts names.now)))) stop
     ≡ entered_passes (built (program_of names)) stop
 entered_passes-moved names None = refl
-entered_passes-moved names (Some p) = go (answers_to p.0 (label_of replay_shape))
-    (answers_to p.0 (label_of run_shape))
-  where
-    met : Shape → Bool → Bool → Bool
-    met shape is_replay is_run =
-        option_map_or (λ s. level_passes s [] nothing_held p.1 false)
-        (cond is_replay (Some replay_shape) (cond is_run (Some shape) None)) true
-
-    go : (is_replay is_run : Bool) → met (moved_shape (run_shape_of names)) is_replay is_run
-        ≡ met (run_shape_of names) is_replay is_run
-    go true is_run = refl
-    go false true = level_passes-moved (run_shape_of names) [] nothing_held p.1 false
-    go false false = refl
+entered_passes-moved names (Some p) =
+    met-moved (λ met. option_map_or (λ s. level_passes s [] nothing_held p.1 false) met true)
+    (run_shape_of names) (level_passes-moved (run_shape_of names) [] nothing_held p.1 false)
+    (answers_to p.0 (label_of replay_shape)) (answers_to p.0 (label_of run_shape))
 
 built_takes-moved : (names : TextRefs) (words : List Text)
     → built_takes (built (program_of (references_to (texts names.now)))) nothing_held words

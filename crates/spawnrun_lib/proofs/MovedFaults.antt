@@ -29,6 +29,7 @@ use Rattle.spawnrun_lib.proofs.MovedNames.{moved_rule, moved_shape, both_arms, e
 use Rattle.spawnrun_lib.proofs.MovedNames.{value_kinds-moved, values_fault-moved, missing-moved}
 use Rattle.spawnrun_lib.proofs.MovedNames.{default-moved, found-moved, settled-moved, reacted-moved}
 use Rattle.spawnrun_lib.proofs.MovedNames.{word_met-moved, walked-moved, walk-moved, finished-moved}
+use Rattle.spawnrun_lib.proofs.MovedNames.{found_gives-moved}
 
 count_fault-moved : (a : Rule) (values : List Text) (rows : List Row) → count_fault (moved_rule a)
     values rows ≡ count_fault a values rows
@@ -60,12 +61,6 @@ use_fault-moved again a values rows = either refl
     (missing-moved a values)
     ∙ action_fault-moved (action_of a) again a (values_or_missing a values) rows)
 
-found_fault-moved : (again : Bool) (o : Option Rule) (values : List Text) (rows : List Row)
-    → option_map_or (λ a. use_fault again a values rows) (option_map moved_rule o) []
-    ≡ option_map_or (λ a. use_fault again a values rows) o []
-found_fault-moved again None values rows = refl
-found_fault-moved again (Some a) values rows = use_fault-moved again a values rows
-
 default_fault-moved : (rows : List Row) (a : Rule) → default_fault rows (moved_rule a)
     ≡ default_fault rows a
 default_fault-moved rows a = both_arms (has_row a.id rows || is_empty a.defaults) refl
@@ -92,7 +87,9 @@ module _ (c : List Rule) (again : Bool) where
       go None = refl
       go (Some p) = ap (λ o. option_map_or (λ a. use_fault again a p.1 h.rows) o [])
           (found-moved c (λ a. bytes_eq a.id p.0))
-          ∙ found_fault-moved again (arg_by_id c p.0) p.1 h.rows
+          ∙ found_gives-moved (λ a. use_fault again a p.1 h.rows)
+          (λ a. use_fault again a p.1 h.rows) [] (λ a. use_fault-moved again a p.1 h.rows)
+          (arg_by_id c p.0)
 
   react_fault-moved : (a : Rule) (values : List Text) (h : Held)
       → react_fault n again (moved_rule a) values h ≡ react_fault c again a values h
@@ -181,13 +178,9 @@ module _ (s : Shape) where
   step_fault-moved position h value =
       ap (λ o. option_map_or (λ a. positional_fault t.rules s.args_override_self a h) o
       (stray_fault s)) (found-moved s.rules _)
-      ∙ go (arg_by_index s.rules position)
-    where
-      go : (o : Option Rule) → option_map_or (λ a. positional_fault t.rules s.args_override_self a
-          h) (option_map moved_rule o) (stray_fault s)
-          ≡ option_map_or (λ a. positional_fault s.rules s.args_override_self a h) o (stray_fault s)
-      go None = refl
-      go (Some a) = positional_fault-moved s.rules s.args_override_self a h
+      ∙ found_gives-moved (λ a. positional_fault t.rules s.args_override_self a h)
+      (λ a. positional_fault s.rules s.args_override_self a h) (stray_fault s)
+      (λ a. positional_fault-moved s.rules s.args_override_self a h) (arg_by_index s.rules position)
 
   turn_fault-moved : (names : Names) (w : Walk) (word : Text) → turn_fault t names w word
       ≡ turn_fault s names w word

@@ -28,6 +28,7 @@ use Rattle.clap.specs.declared.builder.value_parser.ValueParser.TheVariants as v
 use Rattle.clap.specs.declared.error.ErrorKind.TheVariants.{InvalidValue}
 use Rattle.clap.proofs.WalkLemmas.{find-map}
 use Rattle.spawnrun_lib.specs.CommandLine.{references_to}
+use Rattle.std.specs.Option.{option_map_or}
 
 abbrev pub moved : ValueParser → ValueParser
 moved (vp.Names names) = vp.Names (references_to (texts names.now))
@@ -48,6 +49,13 @@ pub either : {first second before after : Kinds} → first ≡ before → second
     → or_else first second ≡ or_else before after
 either {first} {second} {before} {after} same also = ap (λ kinds. or_else kinds second) same
     ∙ ap (or_else before) also
+
+-- what is so of each rule is so of the one that is found
+pub found_gives-moved : {Z : Type 0} (after before : Rule → Z) (none : Z)
+    → ((a : Rule) → after (moved_rule a) ≡ before a) → (o : Option Rule)
+    → option_map_or after (option_map moved_rule o) none ≡ option_map_or before o none
+found_gives-moved after before none same None = refl
+found_gives-moved after before none same (Some a) = same a
 
 reading-moved : (p : Option ValueParser) → reading_of (parser_of_value (option_map moved p))
     ≡ reading_of (parser_of_value p)

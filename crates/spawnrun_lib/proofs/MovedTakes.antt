@@ -29,6 +29,7 @@ use Rattle.spawnrun_lib.proofs.MovedNames.{moved, moved_rule, moved_shape, both_
 use Rattle.spawnrun_lib.proofs.MovedNames.{any_name-moved, missing-moved, found-moved}
 use Rattle.spawnrun_lib.proofs.MovedNames.{settled-moved, reacted-moved, word_met-moved}
 use Rattle.spawnrun_lib.proofs.MovedNames.{walked-moved, walk-moved, finished-moved}
+use Rattle.spawnrun_lib.proofs.MovedNames.{found_gives-moved}
 
 both_hold : {first second before after : Bool} → first ≡ before → second ≡ after → (first && second)
     ≡ (before && after)
@@ -86,12 +87,6 @@ use_passes-moved again a values rows = both_hold refl (both_hold refl
     (missing-moved a values)
     ∙ action_passes-moved (action_of a) again a (values_or_missing a values) rows))
 
-found_passes-moved : (again : Bool) (o : Option Rule) (values : List Text) (rows : List Row)
-    → option_map_or (λ a. use_passes again a values rows) (option_map moved_rule o) true
-    ≡ option_map_or (λ a. use_passes again a values rows) o true
-found_passes-moved again None values rows = refl
-found_passes-moved again (Some a) values rows = use_passes-moved again a values rows
-
 default_passes-moved : (a : Rule) → default_passes (moved_rule a) ≡ default_passes a
 default_passes-moved a =
     ap (λ passes. is_empty a.defaults || (not (is_request (action_of a)) && passes))
@@ -120,7 +115,9 @@ module _ (c : List Rule) (again : Bool) where
       go None = refl
       go (Some p) = ap (λ o. option_map_or (λ a. use_passes again a p.1 h.rows) o true)
           (found-moved c (λ a. bytes_eq a.id p.0))
-          ∙ found_passes-moved again (arg_by_id c p.0) p.1 h.rows
+          ∙ found_gives-moved (λ a. use_passes again a p.1 h.rows)
+          (λ a. use_passes again a p.1 h.rows) true (λ a. use_passes-moved again a p.1 h.rows)
+          (arg_by_id c p.0)
 
   react_passes-moved : (a : Rule) (values : List Text) (h : Held)
       → react_passes q again (moved_rule a) values h ≡ react_passes c again a values h
@@ -209,13 +206,10 @@ module _ (s : Shape) where
   step_passes-moved position h value =
       ap (λ o. option_map_or (λ a. positional_passes u.rules s.args_override_self a h) o false)
       (found-moved s.rules _)
-      ∙ go (arg_by_index s.rules position)
-    where
-      go : (o : Option Rule) → option_map_or (λ a. positional_passes u.rules s.args_override_self a
-          h) (option_map moved_rule o) false
-          ≡ option_map_or (λ a. positional_passes s.rules s.args_override_self a h) o false
-      go None = refl
-      go (Some a) = positional_passes-moved s.rules s.args_override_self a h
+      ∙ found_gives-moved (λ a. positional_passes u.rules s.args_override_self a h)
+      (λ a. positional_passes s.rules s.args_override_self a h) false
+      (λ a. positional_passes-moved s.rules s.args_override_self a h)
+      (arg_by_index s.rules position)
 
   turn_passes-moved : (names : Names) (w : Walk) (word : Text) → turn_passes u names w word
       ≡ turn_passes s names w word

@@ -373,10 +373,22 @@ module _ (c : List Rule) where
 
     -- ---- defaults
 
+    -- an option that wasn't used gets the row of its default, and a request none
+    default_row-added : (a : Rule) (plain_option : IsOption a) (rows : List Row)
+        → has_row a.id rows ≡ false → default_rows a.id (reading_by a) a.defaults rows ≡ rows
+        ++ new_row a plain_option.default.0 DefaultValue ∷ []
+    default_row-added a plain_option rows is =
+        ap (λ texts. default_rows a.id (reading_by a) texts rows) plain_option.default.1
+        ∙ with_values-absent a plain_option.default.0 DefaultValue rows is
+
+    request-adds_none : (a : Rule) → IsRequest a → (rows : List Row)
+        → default_rows a.id (reading_by a) a.defaults rows ≡ rows
+    request-adds_none a request rows =
+        ap (λ texts. default_rows a.id (reading_by a) texts rows) request.default
+
     default-good : (a : Rule) → Fits a → (rows : List Row) → Good rows → Good (with_default rows a)
     default-good a (inr request) rows good =
-        let none : default_rows a.id (reading_by a) a.defaults rows
-        ≡ rows = ap (λ texts. default_rows a.id (reading_by a) texts rows) request.default in
+        let none = request-adds_none a request rows in
         elim (has_row a.id rows) as
         (λ b. Good (cond b rows (default_rows a.id (reading_by a) a.defaults rows)))
         [ true ↦ good | false ↦ subst Good (sym none) good ]
@@ -387,10 +399,7 @@ module _ (c : List Rule) where
         go true is = good
         go false is =
             let text = plain_option.default.0 in
-            let added : default_rows a.id (reading_by a) a.defaults rows ≡ rows
-            ++ new_row a text DefaultValue ∷ [] =
-            ap (λ texts. default_rows a.id (reading_by a) texts rows) plain_option.default.1
-            ∙ with_values-absent a text DefaultValue rows is in
+            let added = default_row-added a plain_option rows is in
             subst Good (sym added) (Good-append rows (new_row a text DefaultValue ∷ []) good
             (new_row-good a plain_option text DefaultValue plain_option.default.2, tt))
 
@@ -431,17 +440,13 @@ module _ (c : List Rule) where
         go true is = is
         go false is =
             let text = plain_option.default.0 in
-            let added : default_rows a.id (reading_by a) a.defaults rows ≡ rows
-            ++ new_row a text DefaultValue ∷ [] =
-            ap (λ texts. default_rows a.id (reading_by a) texts rows) plain_option.default.1
-            ∙ with_values-absent a text DefaultValue rows is in
+            let added = default_row-added a plain_option rows is in
             ap (has_row a.id) added ∙ has_row-last a text DefaultValue rows
 
     default-keeps : (a : Rule) → Fits a → (id : Text) (rows : List Row) → has_row id rows ≡ true
         → has_row id (with_default rows a) ≡ true
     default-keeps a (inr request) id rows e =
-        let none : default_rows a.id (reading_by a) a.defaults rows
-        ≡ rows = ap (λ texts. default_rows a.id (reading_by a) texts rows) request.default in
+        let none = request-adds_none a request rows in
         elim (has_row a.id rows) as
         (λ b. has_row id (cond b rows (default_rows a.id (reading_by a) a.defaults rows))
         ≡ true) [ true ↦ e | false ↦ ap (has_row id) none ∙ e ]
@@ -451,12 +456,8 @@ module _ (c : List Rule) where
             → has_row id (cond has rows (default_rows a.id (reading_by a) a.defaults rows)) ≡ true
         go true is = e
         go false is =
-            let text = plain_option.default.0 in
-            let added : default_rows a.id (reading_by a) a.defaults rows ≡ rows
-            ++ new_row a text DefaultValue ∷ [] =
-            ap (λ texts. default_rows a.id (reading_by a) texts rows) plain_option.default.1
-            ∙ with_values-absent a text DefaultValue rows is in
-            ap (has_row id) added ∙ has_row-append id rows _ e
+            ap (has_row id) (default_row-added a plain_option rows is)
+            ∙ has_row-append id rows _ e
 
     defaults-keep : (xs : List Rule) → AllByRecursion Fits xs → (id : Text) (rows : List Row)
         → has_row id rows ≡ true → has_row id (fold with_default rows xs) ≡ true

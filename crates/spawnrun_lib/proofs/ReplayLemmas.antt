@@ -4,10 +4,11 @@ use Rattle.std.proofs.Common.{refl, IfSome, IfOk, OnOk, OnErr}
 use Rattle.std.specs.Prelude.{Result, Ok, Err}
 use Rattle.spawnrun_lib.specs.Device.{Writes}
 use Rattle.spawnrun_lib.specs.declared.status.Status.{Status}
-use Rattle.spawnrun_lib.specs.declared.status.Status.TheVariants.{Memory}
+use Rattle.spawnrun_lib.specs.declared.status.Status.TheVariants.{Memory, Refused}
 use Rattle.std.specs.Global.{Vec}
 use Rattle.std.specs.Io.KnownBytes.{Appends}
 use Rattle.ent_handle.specs.declared.Memory.{Memory as NoMemory}
+use Rattle.spawnrun_lib.specs.Replay.{input_limit, size_line}
 
 -- a text that was written whole stands so to the input
 pub written : (Kept : Type 0) (P : List ℕ → List ℕ → Type 0) (Q : List ℕ → Type 0)
@@ -50,6 +51,18 @@ is_longer None limit bytes longer is = cc
 is_longer (Some all) limit bytes longer is =
     let same : all ≡ bytes = cc in
     subst (λ known. limit < length known) same longer
+
+-- an input that is too long is refused by the line that says so
+pub refused_by_size : (Kept : Type 0) (P : List ℕ → List ℕ → Type 0) (told : Option (List ℕ))
+    (result : Status) (text : Result (Vec ℕ) NoMemory) (old new : Option (List ℕ))
+    → ((bytes : List ℕ) → input_limit < length bytes → P bytes size_line)
+    → IfSome told (λ all. input_limit < length all) → IfOk text (λ bytes. bytes.items ≡ size_line)
+    → IfOk text (λ bytes. result ≡ Refused → Appends old new bytes.items)
+    → OnErr text ((result ≡ Memory) × Kept)
+    → result ≡ Refused → Writes P told old new
+refused_by_size Kept P told result text old new too_long longer =
+    reported Kept P told Refused result text size_line old new (λ e. cc)
+    (λ bytes is. too_long bytes (is_longer told input_limit bytes longer is))
 
 -- what was said of an input is said of what the source tells
 pub advised : (P : List ℕ → List ℕ → Type 0) (told : Option (List ℕ)) (text : List ℕ)

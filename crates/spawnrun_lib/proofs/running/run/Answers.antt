@@ -1,23 +1,40 @@
-use Rattle.std.proofs.Common.{◌≡◌, ◌≤◌, ◌∙◌, ap, subst, sym, arith, length}
+use Rattle.std.proofs.Common.{◌≡◌, ◌≤◌, ◌∙◌, ap, subst, sym, arith, length, IfSome, ◌<◌}
 use Rattle.std.specs.Prelude.{Ok, Err}
 use Rattle.ent_script.specs.Reading.{ReadsAs, script_of_text}
 use Rattle.spawnrun_lib.specs.declared.status.Status.TheVariants.{Done, Refused}
 use Rattle.spawnrun_lib.specs.declared.input.InputFault.{InputFault}
 use Rattle.spawnrun_advice.specs.Found.{TellsOfScript}
 use Rattle.spawnrun_lib.specs.Advice.{AdvisesOnScript, script_long, script_none}
-use Rattle.spawnrun_lib.specs.Replay.{input_limit, size_line}
+use Rattle.spawnrun_lib.specs.Replay.{input_limit}
 use Rattle.spawnrun_lib.specs.Running.{RunEnds, IsScriptReport, runs, is_too_long, means_none}
-use Rattle.spawnrun_lib.proofs.ReplayLemmas.{advised, had_memory, is_longer, reported, told_is}
-use Rattle.spawnrun_lib.proofs.ReplayLemmas.{written}
+use Rattle.spawnrun_lib.proofs.ReplayLemmas.{advised, had_memory, is_longer, told_is, written}
+use Rattle.spawnrun_lib.proofs.ReplayLemmas.{refused_by_size}
 use Rattle.spawnrun_lib.proofs.RunningLemmas.{IsRefusal, fault_read, made, refusal}
+use Rattle.spawnrun_lib.proofs.running.run.Given as given
+use Rattle.spawnrun_lib.proofs.running.run.Goals.{In-Ok, In-Err, In-Err-TooLong}
 use Rattle.spawnrun_lib.proofs.running.run.Goals as goal
+
+-- what was read is within the limit
+fits : (g : given.Over) (c : goal.In-Ok g) → length c.in-Ok.bytes.items ≤ input_limit
+fits g c = omega (arith, c.in-Ok.bytes.ok.0, c.in-Ok.ensures.within)
+
+-- the fault is that of the script
+fault_met : (g : given.Over) (c : goal.In-Err g)
+    → ReadsAs (Err c.in-Err.fault) (script_of_text c.in-Ok.bytes.items)
+fault_met g c = subst (λ known. ReadsAs (Err c.in-Err.fault) (script_of_text known))
+    c.deref.ensures.value c.in-Err.ensures.exact
+
+-- and an input of more than that is too long
+too_long : (g : given.Over) (c : goal.In-Err-TooLong g)
+    → IfSome (g.I.Source.remaining c.args.input.now) (λ all. input_limit < length all)
+too_long g c = c.in-Err-TooLong.ensures.too_long
+    (ap (λ (fault : InputFault). Err fault) c.in-Err-TooLong.field-0-is)
 
 pub returns-in-Ok-read_script-clause-done : goal.returns-in-Ok-read_script-clause-done
 returns-in-Ok-read_script-clause-done g c =
     let input = g.I.Source.remaining c.args.input.now in
     let script = c.in-Ok-read_script.script in
-    let fits : length c.in-Ok.bytes.items ≤ input_limit =
-    omega (arith, c.in-Ok.bytes.ok.0, c.in-Ok.ensures.within) in
+    let fits = fits g (goal.at.returns-in-Ok-read_script-clause-done g c).In-Ok in
     let means : script_of_text c.in-Ok.bytes.items ≡ Ok script = ap script_of_text
     (sym c.deref.ensures.value) ∙ c.in-Ok-read_script.ensures.exact in
     written _ (λ bytes text. RunEnds c.args.workers c.args.show bytes Done text)
@@ -38,11 +55,8 @@ pub returns-in-Err-clause-refused : goal.returns-in-Err-clause-refused
 returns-in-Err-clause-refused g c =
     let input = g.I.Source.remaining c.args.input.now in
     let fault = c.in-Err.fault in
-    let fits : length c.in-Ok.bytes.items ≤ input_limit =
-    omega (arith, c.in-Ok.bytes.ok.0, c.in-Ok.ensures.within) in
-    let read : ReadsAs (Err fault) (script_of_text c.in-Ok.bytes.items) =
-    subst (λ known. ReadsAs (Err fault) (script_of_text known)) c.deref.ensures.value
-    c.in-Err.ensures.exact in
+    let fits = fits g (goal.at.returns-in-Err-clause-refused g c).In-Ok in
+    let read = fault_met g (goal.at.returns-in-Err-clause-refused g c).In-Err in
     written _ (λ bytes text. RunEnds c.args.workers c.args.show bytes Refused text)
     (IsRefusal fault) input Refused c.refuse.result c.refusal_line-line.result
     _ _ (λ e. cc)
@@ -59,11 +73,8 @@ pub returns-in-Err-clause-advised : goal.returns-in-Err-clause-advised
 returns-in-Err-clause-advised g c = λ refused same.
     let input = g.I.Source.remaining c.args.input.now in
     let fault = c.in-Err.fault in
-    let fits : length c.in-Ok.bytes.items ≤ input_limit =
-    omega (arith, c.in-Ok.bytes.ok.0, c.in-Ok.ensures.within) in
-    let read : ReadsAs (Err fault) (script_of_text c.in-Ok.bytes.items) =
-    subst (λ known. ReadsAs (Err fault) (script_of_text known)) c.deref.ensures.value
-    c.in-Err.ensures.exact in
+    let fits = fits g (goal.at.returns-in-Err-clause-advised g c).In-Ok in
+    let read = fault_met g (goal.at.returns-in-Err-clause-advised g c).In-Err in
     let other = had_memory _ _ Refused c.refuse.result c.refusal_line-line.result (λ e. cc)
     c.refusal_line-line.ensures.refused c.refuse.ensures.memory refused in
     let tells : TellsOfScript fault c.as_str.result.now =
@@ -76,20 +87,16 @@ returns-in-Err-clause-advised g c = λ refused same.
 
 pub returns-in-Err-TooLong-clause-refused : goal.returns-in-Err-TooLong-clause-refused
 returns-in-Err-TooLong-clause-refused g c =
-    reported _ (λ bytes text. RunEnds c.args.workers c.args.show bytes Refused text)
-    (g.I.Source.remaining c.args.input.now) Refused c.refuse-in-Err-TooLong.result
-    c.size_line.result
-    size_line _ _ (λ e. cc)
-    (λ bytes told.
-    is_too_long (is_longer _ input_limit bytes (c.in-Err-TooLong.ensures.too_long
-    (ap (λ (fault : InputFault). Err fault) c.in-Err-TooLong.field-0-is)) told))
+    refused_by_size _ (λ bytes text. RunEnds c.args.workers c.args.show bytes Refused text)
+    (g.I.Source.remaining c.args.input.now) c.refuse-in-Err-TooLong.result c.size_line.result _ _
+    (λ bytes long. is_too_long long)
+    (too_long g (goal.at.returns-in-Err-TooLong-clause-refused g c).In-Err-TooLong)
     c.size_line.ensures c.refuse-in-Err-TooLong.ensures.written
     c.refuse-in-Err-TooLong.ensures.memory
 
 pub returns-in-Err-TooLong-clause-advised : goal.returns-in-Err-TooLong-clause-advised
 returns-in-Err-TooLong-clause-advised g c = λ refused same.
     advised AdvisesOnScript (g.I.Source.remaining c.args.input.now) _ _ _
-    (λ bytes told.
-    script_long (is_longer _ input_limit bytes (c.in-Err-TooLong.ensures.too_long
-    (ap (λ (fault : InputFault). Err fault) c.in-Err-TooLong.field-0-is)) told))
+    (λ bytes told. script_long (is_longer _ input_limit bytes
+    (too_long g (goal.at.returns-in-Err-TooLong-clause-advised g c).In-Err-TooLong) told))
     (rw c.size_wants.ensures at c.refuse-in-Err-TooLong.ensures.advised refused same)
