@@ -212,6 +212,31 @@ module _ (name : Handle → Birth) (m : EntityMap) where
           (subst (λ bs. AllZip (IsNamedBy name m) (map command hs) (map by_birth bs)) (sym is.1)
           (named_each command by_birth same hs is.0)) after
 
+      -- the same of a queue that begins with them
+      changed : (names : Bindings) (bound : BirthBindings) → StandFor names bound
+          → (on : Target) → IsNoHandle on → (hs : List Handle) → IsTargeted view names on hs
+          → (command : Handle → Command) (by_birth : Birth → BirthCommand)
+          → ((h : Handle) → IsThere m h → IsNamedBy name m (command h) (by_birth (name h)))
+          → (queue first rest : List Command) → queue ≡ first ++ rest → first ≡ map command hs
+          → (later : List BirthCommand) → AllZip (IsNamedBy name m) rest later
+          → AllZip (IsNamedBy name m) queue
+          (map by_birth (births_meant births bound on) ++ later)
+      changed names bound stand on free hs are command by_birth same queue first rest is first_is
+          later after =
+          subst (λ q. AllZip (IsNamedBy name m) q
+          (map by_birth (births_meant births bound on) ++ later))
+          (sym (is ∙ ap (λ f. f ++ rest) first_is))
+          (on_target names bound stand on free hs are command by_birth same rest later after)
+
+      -- after commands that list nobody, the handles are listed from the same ordinal on
+      order_after : (k : ℕ) (command : Handle → Command)
+          → ((h : Handle) → listed_by (command h) ≡ []) → (hs : List Handle)
+          → (queue first rest : List Command) → queue ≡ first ++ rest → first ≡ map command hs
+          → AreInOrder k (handles_listed queue) → AreInOrder k (handles_listed rest)
+      order_after k command none hs queue first rest is first_is order =
+          subst (AreInOrder k) (ap handles_listed (is ∙ ap (λ f. f ++ rest) first_is)
+          ∙ none_listed command none hs rest) order
+
       issued-named : (ops : List Operation) (k : ℕ) (names : Bindings) (bound : BirthBindings)
           (queue : List Command) → StandFor names bound → AreInOrder k (handles_listed queue)
           → All IsGranted queue → All NeedsNoHandle ops → IssuesAll view names ops queue
@@ -267,46 +292,31 @@ module _ (name : Handle → Birth) (m : EntityMap) where
           free (first, rest, is, (hs, are, first_is), others) =
           let op : Operation = operation.Insert bundle on in
           let command : Handle → Command = λ h. Insert h bundle in
-          let whole : queue ≡ map command hs ++ rest = is ∙ ap (λ f. f ++ rest) first_is in
-          let after = issued-named ops k names bound rest stand
-          (subst (AreInOrder k) (ap handles_listed whole ∙ none_listed command (λ h. refl) hs rest)
-          order)
+          changed names bound stand on (All-head NeedsNoHandle op ops free) hs are command
+          (λ b. alone.Insert b bundle) (λ h there. (there, refl)) queue first rest is first_is
+          (issued_alone births bound (birth_at k) ops) (issued-named ops k names bound rest stand
+          (order_after k command (λ h. refl) hs queue first rest is first_is order)
           (All-right IsGranted first rest (subst (All IsGranted) is granted))
-          (All-tail NeedsNoHandle op ops free) others in
-          subst (λ q. AllZip (IsNamedBy name m) q (issued_alone births bound (birth_at k)
-          (op ∷ ops))) (sym whole)
-          (on_target names bound stand on (All-head NeedsNoHandle op ops free) hs are command
-          (λ b. alone.Insert b bundle) (λ h there. (there, refl)) rest
-          (issued_alone births bound (birth_at k) ops) after)
-      issued-named (operation.Remove id on ∷ ops) k names bound queue stand order granted free
-          (first, rest, is, (hs, are, first_is), others) =
+          (All-tail NeedsNoHandle op ops free) others)
+      issued-named (operation.Remove id on ∷ ops) k names bound queue stand order granted
+          free (first, rest, is, (hs, are, first_is), others) =
           let op : Operation = operation.Remove id on in
           let command : Handle → Command = λ h. Remove h id in
-          let whole : queue ≡ map command hs ++ rest = is ∙ ap (λ f. f ++ rest) first_is in
-          let after = issued-named ops k names bound rest stand
-          (subst (AreInOrder k) (ap handles_listed whole ∙ none_listed command (λ h. refl) hs rest)
-          order)
+          changed names bound stand on (All-head NeedsNoHandle op ops free) hs are command
+          (λ b. alone.Remove b id) (λ h there. (there, refl)) queue first rest is first_is
+          (issued_alone births bound (birth_at k) ops) (issued-named ops k names bound rest stand
+          (order_after k command (λ h. refl) hs queue first rest is first_is order)
           (All-right IsGranted first rest (subst (All IsGranted) is granted))
-          (All-tail NeedsNoHandle op ops free) others in
-          subst (λ q. AllZip (IsNamedBy name m) q (issued_alone births bound (birth_at k)
-          (op ∷ ops))) (sym whole)
-          (on_target names bound stand on (All-head NeedsNoHandle op ops free) hs are command
-          (λ b. alone.Remove b id) (λ h there. (there, refl)) rest
-          (issued_alone births bound (birth_at k) ops) after)
-      issued-named (operation.Despawn on ∷ ops) k names bound queue stand order granted free
-          (first, rest, is, (hs, are, first_is), others) =
+          (All-tail NeedsNoHandle op ops free) others)
+      issued-named (operation.Despawn on ∷ ops) k names bound queue stand order granted
+          free (first, rest, is, (hs, are, first_is), others) =
           let op : Operation = operation.Despawn on in
-          let whole : queue ≡ map Despawn hs ++ rest = is ∙ ap (λ f. f ++ rest) first_is in
-          let after = issued-named ops k names bound rest stand
-          (subst (AreInOrder k) (ap handles_listed whole ∙ none_listed Despawn (λ h. refl) hs rest)
-          order)
+          changed names bound stand on (All-head NeedsNoHandle op ops free) hs are Despawn
+          alone.Despawn (λ h there. (there, refl)) queue first rest is first_is
+          (issued_alone births bound (birth_at k) ops) (issued-named ops k names bound rest stand
+          (order_after k Despawn (λ h. refl) hs queue first rest is first_is order)
           (All-right IsGranted first rest (subst (All IsGranted) is granted))
-          (All-tail NeedsNoHandle op ops free) others in
-          subst (λ q. AllZip (IsNamedBy name m) q (issued_alone births bound (birth_at k)
-          (op ∷ ops))) (sym whole)
-          (on_target names bound stand on (All-head NeedsNoHandle op ops free) hs are Despawn
-          alone.Despawn (λ h there. (there, refl)) rest
-          (issued_alone births bound (birth_at k) ops) after)
+          (All-tail NeedsNoHandle op ops free) others)
 
       -- With no names bound at first, the queue by names is what the operations issue by births.
       pub queue-alone : (ops : List Operation) (queue : List Command)
