@@ -3,6 +3,7 @@ use Rattle.std.proofs.Common.{codes, map, Result, Ok, Err, sym, subst, ap, rules
 use Rattle.std.specs.Global.{Vec}
 use Rattle.serde_json.specs.Data.{Data}
 use Rattle.serde_json.specs.Find.{get}
+use Rattle.serde_json.specs.Read.{read}
 use Rattle.serde_json.specs.View.{view}
 use Rattle.serde_json.specs.declared.value.Value.{Value}
 use Rattle.ent_script.specs.Cut.{cut}
@@ -17,6 +18,7 @@ use Rattle.ent_script.specs.declared.read_fault.ReadFault.{ReadFault}
 use Rattle.ent_script.specs.declared.read_fault.ReadFault.TheVariants.{Script}
 use Rattle.ent_script.proofs.Faults.{passes_on, passes_from_list, returned}
 use Rattle.ent_script.proofs.Whole.{no_names, names_meant, names_refused, script_is, all_of}
+use Rattle.ent_script.proofs.reading.script_in.Goals.{After-deref}
 use Rattle.ent_script.proofs.reading.script_in.Goals as goal
 
 abbrev done : Whole → Result Whole ReadFault
@@ -35,6 +37,15 @@ meant d vs lent same seen =
     (λ (xs : List Value). in_script (numbered (component_at (map view xs)) 0 (map view xs)))
     same ∙ names_meant (Part d) vs seen
 
+-- the names are those that the text means
+same_names : (c : After-deref) (d : Data) → read c.args.text.now ≡ Some d
+    → in_script (numbered (component_at (map view c.deref.result.now)) 0
+    (map view c.deref.result.now)) ≡ in_script (component_names (Part d))
+same_names c d e =
+    meant d c.in_ok-values.values.items c.deref.result.now c.deref.ensures.value
+    (sym (ap (option_map (λ (vs : Vec Value). map view vs.items)) c.in_ok-values.ensures.ok_part)
+    ∙ c.in_ok-components_in.ensures.found d e)
+
 pub returns-in_err-values : goal.returns-in_err-values
 returns-in_err-values c d e =
     let said = c.in_ok-heading.ensures d e in
@@ -51,15 +62,7 @@ returns-in_err-values c d e =
 pub returns-in_err-components : goal.returns-in_err-components
 returns-in_err-components c d e =
     let said = c.in_ok-heading.ensures d e in
-    let vs = c.in_ok-values.values.items in
-    let seen : Some (map view vs) ≡ option_map (map (cut 0))
-    (option_and_then (at_most 256) (Part d)) =
-    sym
-    (ap
-    (option_map
-    (λ (vs : Vec Value). map view vs.items)) c.in_ok-values.ensures.ok_part) ∙
-    c.in_ok-components_in.ensures.found d e in
-    let same = meant d vs c.deref.result.now c.deref.ensures.value seen in
+    let same = same_names (goal.at.returns-in_err-components c).After-deref d e in
     let fault = c.in_err-components.field-0.0 in
     let is : c.from_residual-in_err-components.result ≡ Err fault = search rules in
     returned fault c.from_residual-in_err-components.result (script_of d) is
@@ -71,15 +74,7 @@ pub returns-in_err-frames : goal.returns-in_err-frames
 returns-in_err-frames c d e =
     let said = c.in_ok-heading.ensures d e in
     let names = c.in_ok-components.components in
-    let vs = c.in_ok-values.values.items in
-    let seen : Some (map view vs) ≡ option_map (map (cut 0))
-    (option_and_then (at_most 256) (Part d)) =
-    sym
-    (ap
-    (option_map
-    (λ (vs : Vec Value). map view vs.items)) c.in_ok-values.ensures.ok_part) ∙
-    c.in_ok-components_in.ensures.found d e in
-    let same = meant d vs c.deref.result.now c.deref.ensures.value seen in
+    let same = same_names (goal.at.returns-in_err-frames c).After-deref d e in
     let fault = c.in_err-frames.field-0.0 in
     let is : c.from_residual-in_err-frames.result ≡ Err fault = search rules in
     returned fault c.from_residual-in_err-frames.result (script_of d) is
@@ -95,15 +90,7 @@ pub returns : goal.returns
 returns c d e =
     let said = c.in_ok-heading.ensures d e in
     let names = c.in_ok-components.components in
-    let vs = c.in_ok-values.values.items in
-    let seen : Some (map view vs) ≡ option_map (map (cut 0))
-    (option_and_then (at_most 256) (Part d)) =
-    sym
-    (ap
-    (option_map
-    (λ (vs : Vec Value). map view vs.items)) c.in_ok-values.ensures.ok_part) ∙
-    c.in_ok-components_in.ensures.found d e in
-    let same = meant d vs c.deref.result.now c.deref.ensures.value seen in
+    let same = same_names (goal.at.returns c).After-deref d e in
     script_is d c.in_ok-heading.heading names said (sym same ∙ c.in_ok-components.ensures.names)
     ∙ ap
     (λ (r : Result (List (List (List Operation))) ReadFault). r >>= λ frames. all_of
