@@ -1,7 +1,7 @@
 -- What a JSON value means as a script, or the first test that it fails.
 use Rattle.std.specs.Prelude.{◌≡◌, ℕ, ℤ, ◌+◌, Bool, false, ◌&&◌, List, [], ◌∷◌, length, take, codes}
-use Rattle.std.specs.Prelude.{◌==◌, nat_lt, if◌then◌else◌, Option, Some, None, option_map, option_and_then}
-use Rattle.std.specs.Prelude.{is_some, unwrap_or, ok_or, Result, Ok, Err, ⊤}
+use Rattle.std.specs.Prelude.{◌==◌, nat_lt, if◌then◌else◌, Option, Some, None, option_map}
+use Rattle.std.specs.Prelude.{option_and_then, is_some, unwrap_or, ok_or, Result, Ok, Err, ⊤}
 use Rattle.std.specs.Global.{Vec}
 use Rattle.std.specs.List.{fold, list_all, slice_split}
 use Rattle.std.specs.Str.{bytes_eq, is_utf8}
