@@ -55,26 +55,34 @@ const SCHEDULES: [(u32, &[u8], &[u8]); 6] = [
     // It begins with the events of a call that was never begun.
     (
         9,
-        b"answer 1\nstep 1\nbegin 1024 1\nbegin 1 1\nanswer 1\nbegin 1 1\nstep 1\nstep 1\nanswer 1\nanswer 1\n",
-        b"not open\nnot open\ncaller\nopen\nnot stepped\nalready open\ncursor -1\nalready stepped\n0v1\nnot open\n",
+        b"answer 1\nstep 1\nbegin 1024 1\nbegin 1 1\nanswer 1\nbegin 1 1\nstep 1\nstep 1\n\
+        answer 1\nanswer 1\n",
+        b"not open\nnot open\ncaller\nopen\nnot stepped\nalready open\ncursor -1\n\
+        already stepped\n0v1\nnot open\n",
     ),
     // Exclusive events while a call is open, and while a flush is needed.
     (
         9,
-        b"begin 0 2\nalloc\nfree 0v1\nflush\nstep 0\nanswer 0\nalloc\nfree 0v1\nflush\nfree 0v1\nfree 0v1\n",
-        b"open\nbusy\nbusy\nbusy\ncursor -2\n0v1 1v1\nneeds flush\nneeds flush\nborn 0v1 1v1\nfreed 0v1 next 0v2\nnot alive\n",
+        b"begin 0 2\nalloc\nfree 0v1\nflush\nstep 0\nanswer 0\nalloc\nfree 0v1\nflush\n\
+        free 0v1\nfree 0v1\n",
+        b"open\nbusy\nbusy\nbusy\ncursor -2\n0v1 1v1\nneeds flush\nneeds flush\nborn 0v1 1v1\n\
+        freed 0v1 next 0v2\nnot alive\n",
     ),
     // Too few slots, for a call, for the same caller's next one and for `alloc`.
     (
         9,
-        b"begin 7 4\nstep 7\nanswer 7\nbegin 7 1\nstep 7\nanswer 7\nflush\nalloc\nalloc\nalloc\nalloc\n",
-        b"open\ncursor -4\nspace wanted 4 left 3\nopen\ncursor -5\nspace wanted 1 left 0\nborn\n0v1\n1v1\n2v1\nspace wanted 1 left 0\n",
+        b"begin 7 4\nstep 7\nanswer 7\nbegin 7 1\nstep 7\nanswer 7\nflush\nalloc\nalloc\n\
+        alloc\nalloc\n",
+        b"open\ncursor -4\nspace wanted 4 left 3\nopen\ncursor -5\nspace wanted 1 left 0\n\
+        born\n0v1\n1v1\n2v1\nspace wanted 1 left 0\n",
     ),
     // With one generation each slot is given once.
     (
         1,
-        b"alloc\nfree 0v1\nalloc\nfree 0v1\nfree 1v1\nbegin 1 1\nstep 1\nanswer 1\nflush\nfree 2v1\nalloc\n",
-        b"0v1\nfreed 0v1 retired\n1v1\nnot alive\nfreed 1v1 retired\nopen\ncursor -1\n2v1\nborn 2v1\nfreed 2v1 retired\nspace wanted 1 left 0\n",
+        b"alloc\nfree 0v1\nalloc\nfree 0v1\nfree 1v1\nbegin 1 1\nstep 1\nanswer 1\nflush\n\
+        free 2v1\nalloc\n",
+        b"0v1\nfreed 0v1 retired\n1v1\nnot alive\nfreed 1v1 retired\nopen\ncursor -1\n2v1\n\
+        born 2v1\nfreed 2v1 retired\nspace wanted 1 left 0\n",
     ),
     // The first caller and the last one; their answers come in another order than their steps.
     (
