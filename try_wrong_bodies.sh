@@ -1,9 +1,9 @@
 #!/bin/sh
-# Tries the wrong bodies of crates/*/wrong_bodies: the prover has to refuse each, as it refuses those of crates/*/must-fail. They are
-# apart from the gate because it has to end within 45 minutes, and what stays in it says most about the contracts. One takes 10 to 35
-# processor seconds, by crate, and before its first a crate is checked, and the crates below it are built if they aren't yet. The arguments
-# are crates, as in `./try_wrong_bodies.sh ent_storage`; without one, all crates that have such a folder are tried. It works on a
-# temporary copy of the repository, and ends with 0 exactly if all were refused. It needs `rt` on the path.
+# Tries the wrong bodies of crates/*/wrong_bodies: the prover has to refuse each, as it refuses those of crates/*/must-fail. They stand apart
+# from the gate so that it ends sooner; what stays in it says most about the contracts. docs/ARCHITECTURE.md has what one takes, by crate.
+# Before its first one a crate is checked, and the crates below it are built if they aren't yet. The arguments are crates, as in
+# `./try_wrong_bodies.sh ent_storage`; without one, all crates that have such a folder are tried. It works on a temporary copy of the
+# repository, and ends with 0 exactly if all were refused. It needs `rt` on the path.
 set -eu
 top=$(cd "$(dirname "$0")" && pwd)
 copy=$(mktemp -d)
