@@ -37,10 +37,27 @@ impl<'a> Commands<'a> {
         ensures shared { shared_of result ≡ shared.now }
         ensures queue { queue_of result ≡ [] }
     {
+        Commands::resume(alloc, shared, reserver, CommandQueue::new(alloc))
+    }
+
+    /// Goes on with a queue that was begun before: what it has stays in front. The reserver may be
+    /// another one than before, of those that came with the allocator.
+    pub fn resume(
+        alloc: Global,
+        shared: &'a Shared,
+        reserver: &'a mut Reserver,
+        queue: CommandQueue,
+    ) -> Self
+        requires { IsOf shared.now reserver.old }
+        ensures same { result.reserver.ghost_name ≡ reserver.entry.ghost_name }
+        ensures reserver { reserver_of result ≡ reserver.old }
+        ensures shared { shared_of result ≡ shared.now }
+        ensures queue { queue_of result ≡ queue }
+    {
         Commands {
             reserver,
             shared,
-            queue: CommandQueue::new(alloc),
+            queue,
             alloc,
         }
     }
