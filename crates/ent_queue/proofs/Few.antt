@@ -9,7 +9,7 @@ use Rattle.std.specs.FinMap.{is_sorted}
 use Rattle.ent_handle.specs.Component.{component_cmp}
 use Rattle.ent_handle.specs.declared.component.ComponentId.{ComponentId}
 use Rattle.ent_queue.specs.Command.{Bundle, IsItem, IsBundle}
-use Rattle.ent_queue.proofs.Rising.{first, second, less}
+use Rattle.ent_sorted.proofs.Rising.{first, second, less}
 
 below : (m n : ℕ) → T (is_lt (nat_cmp m n)) → m < n
 below m n h = ranked m n Less (sym (less (nat_cmp m n) h))

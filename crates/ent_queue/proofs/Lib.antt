@@ -3,7 +3,7 @@ pub mod Parts
 pub mod Chunks
 pub mod Few
 pub mod Results
-pub mod Rising
+pub mod Bundles
 pub mod Putting
 pub mod Queues
 pub mod Fronts

@@ -1,13 +1,12 @@
-ghost use Rattle.std.specs.Prelude.{◌≡◌, ◌^◌, ◌<◌, ◌≤◌, [], length, reverse, None};
-ghost use Rattle.std.specs.Prelude.{OnOk, OnErr, IfOk, IfErr};
-ghost use Rattle.std.specs.List.{AllWithin, HoldsAt};
+ghost use Rattle.std.specs.Prelude.{◌≡◌, ◌<◌, ◌≤◌, [], length, reverse, None};
+ghost use Rattle.std.specs.Prelude.{OnOk, OnErr, IfOk};
 ghost use Rattle.std.specs.FinMap.{put, find};
 ghost use Rattle.ent_handle.specs.Component.{component_cmp};
 ghost use Rattle.ent_handle.specs.declared.component.ComponentId.{ComponentId as Id};
 ghost use Rattle.ent_queue.specs.Command.{IsBundle, bundle_of};
-ghost use Rattle.ent_queue.specs.Search.{AreRising, IsIndexOf, IsItemGap};
 
 use ent_handle::{ComponentId, Memory};
+use ent_sorted::search;
 use smallvec::SmallVec;
 use std::alloc::Global;
 use std::marker::Model;
@@ -78,7 +77,7 @@ impl Bundle {
             ((4 ≤ length self.old) × (find component_cmp id self.old ≡ None)) }
         ensures err { OnErr result (self.new ≡ self.old) }
     {
-        match index_of(self.items.as_slice(), id.0) {
+        match search(self.items.as_slice(), id) {
             Ok(index) => self.items[index].1 = value,
             Err(index) => self.items.insert(index, (id, value))?,
         }
@@ -92,30 +91,4 @@ impl Bundle {
     {
         self.items.as_slice()
     }
-}
-
-/// Where the component of this number stands, or else where it goes.
-fn index_of(items: &[(ComponentId, i64)], number: u8) -> Result<usize, usize>
-    requires { AreRising items.now }
-    ensures number { number < 2 ^ 8 }
-    ensures found { IfOk result (IsIndexOf items.now number) }
-    ensures absent { IfErr result (IsItemGap items.now number) }
-{
-    let index = first_from(items, number);
-    if index < items.len() && items[index].0.0 == number {
-        Ok(index)
-    } else {
-        Err(index)
-    }
-}
-
-/// How many of the components have a lower number.
-fn first_from(items: &[(ComponentId, i64)], number: u8) -> usize
-    requires { AreRising items.now }
-    ensures within { result ≤ length items.now }
-    ensures lower { AllWithin (λ item. item.0.0 < number) items.now 0 result }
-    ensures here { result < length items.now
-        → HoldsAt (λ item. number ≤ item.0.0) items.now result }
-{
-    items.partition_point(|item| item.0.0 < number)
 }

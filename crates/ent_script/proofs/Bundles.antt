@@ -1,19 +1,19 @@
 -- Reading the members of a bundle one after another.
 use Rattle.std.proofs.Common.{◌≡◌, ℕ, ℤ, List, [], ◌∷◌, Result, Ok, Err, refl, ap, ◌∙◌}
 use Rattle.std.specs.List.{fold}
-use Rattle.std.specs.BTreeMap.{insert_entry}
+use Rattle.std.specs.FinMap.{put}
 use Rattle.serde_json.specs.Data.{Data}
 use Rattle.ent_handle.specs.declared.component.ComponentId.{ComponentId}
 use Rattle.ent_handle.specs.Component.{component_cmp}
 use Rattle.ent_script.specs.declared.cause.Cause.{Cause}
 use Rattle.ent_script.specs.Reading.{◌>>=◌, item_of, items_of, by_number}
 
-abbrev Bundle : Type 0
+abbrev pub Bundle : Type 0
 Bundle = List (ComponentId × ℤ)
 
 -- the bundle so far, with what is read after it
 abbrev pub onto : Bundle → Result Bundle Cause → Result Bundle Cause
-onto bundle (Ok items) = Ok (fold (λ b item. insert_entry component_cmp b item.0 item.1) bundle
+onto bundle (Ok items) = Ok (fold (λ b item. put component_cmp item.0 item.1 b) bundle
     items)
 onto bundle (Err c) = Err c
 
@@ -24,7 +24,7 @@ onto_none (Err c) = refl
 
 onto_item : (bundle : Bundle) (item : ComponentId × ℤ) (read : Result Bundle Cause)
     → onto bundle (read >>= λ items. Ok (item ∷ items))
-    ≡ onto (insert_entry component_cmp bundle item.0 item.1) read
+    ≡ onto (put component_cmp item.0 item.1 bundle) read
 onto_item bundle item (Ok items) = refl
 onto_item bundle item (Err c) = refl
 
@@ -32,7 +32,7 @@ pub goes_on : (components : List (List ℕ)) (bundle : Bundle) (m : List ℕ × 
     (ms : List (List ℕ × Data)) (item : ComponentId × ℤ)
     → item_of components m ≡ Ok item
     → onto bundle (items_of components (m ∷ ms))
-    ≡ onto (insert_entry component_cmp bundle item.0 item.1) (items_of components ms)
+    ≡ onto (put component_cmp item.0 item.1 bundle) (items_of components ms)
 goes_on components bundle m ms item e =
     ap (λ (r : Result (ComponentId × ℤ) Cause).
     onto bundle (r >>= λ i. items_of components ms >>= λ is. Ok (i ∷ is))) e

@@ -1,7 +1,6 @@
 pub mod Values
 pub mod NamesLaws
 pub mod Bundles
-pub mod Rising
 pub mod Faults
 pub mod Keys
 pub mod Numbering

@@ -8,9 +8,9 @@ use Rattle.std.proofs.lemmas.Bool.{and_parts, ltb-true}
 use Rattle.std.specs.Prelude.{IfOk, nat_le, nat_lt, ◌==◌}
 use Rattle.std.specs.declared.cmp.Ordering.{Ordering}
 use Rattle.std.specs.declared.cmp.Ordering.TheVariants.{Less, Equal, Greater}
-use Rattle.std.specs.Ordering.{match_ordering}
 use Rattle.std.specs.List.{AllByRecursion, fold, slice_split}
-use Rattle.std.specs.BTreeMap.{insert_entry}
+use Rattle.std.specs.FinMap.{put}
+use Rattle.std.specs.FinMap.Entries.{by_order}
 use Rattle.serde_json.specs.Data.{Data}
 use Rattle.serde_json.specs.Find.{get, as_str}
 use Rattle.ent_handle.specs.declared.birth.Birth.{Birth}
@@ -156,27 +156,27 @@ items_in components (m ∷ ms) =
     (λ item h. then_ok (IsBundleOf (length components)) (IsBundleOf (length components))
     (items_of components ms) _ (items_in components ms) (λ items k. (h, k)))
 
-by_order : {X : Type 0} (P : X → Type 0) (o : Ordering) (xs ys zs : List X) → AllByRecursion P xs
+ordered : {X : Type 0} (P : X → Type 0) (o : Ordering) (xs ys zs : List X) → AllByRecursion P xs
     → AllByRecursion P ys → AllByRecursion P zs
-    → AllByRecursion P (match_ordering o xs ys zs)
-by_order P Less xs ys zs a b c = a
-by_order P Equal xs ys zs a b c = b
-by_order P Greater xs ys zs a b c = c
+    → AllByRecursion P (by_order o xs ys zs)
+ordered P Less xs ys zs a b c = a
+ordered P Equal xs ys zs a b c = b
+ordered P Greater xs ys zs a b c = c
 
 insert_in : (n : ℕ) (bundle : List (ComponentId × ℤ)) (id : ComponentId) (value : ℤ) → id.0 < n
     → IsBundleOf n bundle
-    → IsBundleOf n (insert_entry component_cmp bundle id value)
+    → IsBundleOf n (put component_cmp id value bundle)
 insert_in n [] id value h all = (h, tt)
 insert_in n (e ∷ es) id value h all =
-    by_order (ItemIn n) (component_cmp id e.0) ((id, value) ∷ e ∷ es) ((e.0, value) ∷ es)
-    (e ∷ insert_entry component_cmp es id value)
+    ordered (ItemIn n) (component_cmp id e.0) ((id, value) ∷ e ∷ es) ((e.0, value) ∷ es)
+    (e ∷ put component_cmp id value es)
     (h, all) (all.0, all.1) (all.0, insert_in n es id value h all.1)
 
 fold_in : (n : ℕ) (bundle items : List (ComponentId × ℤ)) → IsBundleOf n bundle → IsBundleOf n items
-    → IsBundleOf n (fold (λ b item. insert_entry component_cmp b item.0 item.1) bundle items)
+    → IsBundleOf n (fold (λ b item. put component_cmp item.0 item.1 b) bundle items)
 fold_in n bundle [] h all = h
 fold_in n bundle (item ∷ items) h all =
-    fold_in n (insert_entry component_cmp bundle item.0 item.1) items
+    fold_in n (put component_cmp item.0 item.1 bundle) items
     (insert_in n bundle item.0 item.1 all.0 h) all.1
 
 bundle_in : (components : List (List ℕ)) (part : Option Data) → IfOk (read_bundle components part)

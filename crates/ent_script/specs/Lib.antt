@@ -8,4 +8,3 @@ pub mod Ranges
 pub mod Passing
 pub mod Cut
 pub mod Streaming
-pub mod Rising

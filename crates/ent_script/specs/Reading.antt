@@ -5,7 +5,7 @@ use Rattle.std.specs.Prelude.{option_and_then, is_some, unwrap_or, ok_or, Result
 use Rattle.std.specs.Global.{Vec}
 use Rattle.std.specs.List.{fold, list_all, slice_split}
 use Rattle.std.specs.Str.{bytes_eq, is_utf8}
-use Rattle.std.specs.BTreeMap.{insert_entry}
+use Rattle.std.specs.FinMap.{put}
 use Rattle.serde_json.specs.Data.{Data}
 use Rattle.serde_json.specs.Find.{get, as_str}
 use Rattle.serde_json.specs.Read.{read}
@@ -80,7 +80,7 @@ items_of components (m ∷ ms) = do
 
 -- by the numbers of the components
 abbrev pub by_number : List (ComponentId × ℤ) → List (ComponentId × ℤ)
-by_number items = fold (λ bundle item. insert_entry component_cmp bundle item.0 item.1) [] items
+by_number items = fold (λ bundle item. put component_cmp item.0 item.1 bundle) [] items
 
 -- the bundle of an object's members
 abbrev pub bundle_by : List (List ℕ) → List (List ℕ × Data) → Result (List (ComponentId × ℤ)) Cause

@@ -1,11 +1,9 @@
-ghost use Rattle.std.specs.Prelude.{◌≡◌, ◌<◌, ◌≤◌, T, [], length, OnOk, OnErr, IfOk, IfErr};
-ghost use Rattle.std.specs.BTreeMap.{insert_entry};
-ghost use Rattle.std.specs.FinMap.{is_sorted};
-ghost use Rattle.std.specs.List.{AllWithin, HoldsAt};
+ghost use Rattle.std.specs.Prelude.{◌≡◌, T, [], OnOk, OnErr, IfOk};
+ghost use Rattle.std.specs.FinMap.{put, is_sorted};
 ghost use Rattle.ent_handle.specs.Component.{component_cmp};
-ghost use Rattle.ent_script.specs.Rising.{AreRising, IsIndexOf, IsItemGap};
 
 use ent_handle::{ComponentId, Memory};
+use ent_sorted::search;
 use std::alloc::Global;
 use std::marker::Model;
 
@@ -55,10 +53,10 @@ impl Bundle {
     ///
     /// `Memory`: nothing has changed.
     pub(crate) fn put(&mut self, id: ComponentId, value: i64) -> Result<(), Memory>
-        ensures ok { OnOk result (self.new ≡ insert_entry component_cmp self.old id value) }
+        ensures ok { OnOk result (self.new ≡ put component_cmp id value self.old) }
         ensures err { OnErr result (self.new ≡ self.old) }
     {
-        match index_of(self.items.as_slice(), id.0) {
+        match search(self.items.as_slice(), id) {
             Ok(index) => self.items[index].1 = value,
             Err(index) => self.items.insert(index, (id, value))?,
         }
@@ -72,29 +70,4 @@ impl Bundle {
     {
         self.items.as_slice()
     }
-}
-
-/// Where the component of this number stands, or else where it goes.
-fn index_of(items: &[(ComponentId, i64)], number: u8) -> Result<usize, usize>
-    requires { AreRising items.now }
-    ensures found { IfOk result (IsIndexOf items.now number) }
-    ensures absent { IfErr result (IsItemGap items.now number) }
-{
-    let index = first_from(items, number);
-    if index < items.len() && items[index].0.0 == number {
-        Ok(index)
-    } else {
-        Err(index)
-    }
-}
-
-/// How many of the components have a lower number.
-fn first_from(items: &[(ComponentId, i64)], number: u8) -> usize
-    requires { AreRising items.now }
-    ensures within { result ≤ length items.now }
-    ensures lower { AllWithin (λ item. item.0.0 < number) items.now 0 result }
-    ensures here { result < length items.now
-        → HoldsAt (λ item. number ≤ item.0.0) items.now result }
-{
-    items.partition_point(|item| item.0.0 < number)
 }

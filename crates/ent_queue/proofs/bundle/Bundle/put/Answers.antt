@@ -1,17 +1,17 @@
 use Rattle.std.proofs.Common.{◌≡◌, ◌+◌, ◌≤◌, ap, sym, subst, ◌∙◌, arith, length, get_or, set, pos}
-use Rattle.std.proofs.Common.{inl, inr, None}
-use Rattle.std.specs.List.{refill, insert}
+use Rattle.std.proofs.Common.{inl, inr, None, T, refl, rules}
+use Rattle.std.specs.List.{refill}
 use Rattle.std.specs.Int.{w64, cast_signed, cast_unsigned}
 use Rattle.std.proofs.Math.ListN.{length-set}
 use Rattle.std.proofs.lemmas.Int.{to_z-of_z}
-use Rattle.std.specs.FinMap.{put, find}
-use Rattle.ent_handle.specs.Component.{component_cmp}
-use Rattle.ent_queue.specs.Command.{IsBundle}
-use Rattle.ent_queue.specs.Search.{AreRising, IsIndexOf, IsItemGap}
+use Rattle.std.specs.FinMap.{put, find, is_sorted}
+use Rattle.ent_handle.specs.Component.{component_cmp, component_cmp_total as total}
+use Rattle.ent_queue.specs.Command.{Bundle, IsBundle}
+use Rattle.ent_sorted.specs.Position.{IsAt, IsGapFor}
+use Rattle.ent_sorted.proofs.Putting.{find_in_gap, written, inserted}
 use Rattle.std.proofs.lemmas.Bool.{cases_lt, false≢true}
 use Rattle.ent_queue.proofs.Results.{OnErr-always}
-use Rattle.ent_queue.proofs.Rising.{are_rising, put_between, put_over, find_between, bundle_put}
-use Rattle.ent_queue.proofs.Rising.{refill_whole}
+use Rattle.ent_queue.proofs.Bundles.{bundle_put, refill_whole}
 use Rattle.ent_queue.proofs.bundle.Bundle.put.Goals as goal
 
 -- what is written over
@@ -25,25 +25,19 @@ over : (c : goal.After-self-1) → refill (length c.self.inside.items.items) c.s
 over c =
     let es = c.self.inside.items.items in
     let index = c.in-Ok.index in
-    let at = subst (λ xs. IsIndexOf xs c.args.id.0 index) c.as_slice.ensures c.in-Ok.ensures.found
-    in
-    let written = set es index ((get_or es index (record { 0 = 0 }, pos 0)).0, c.args.value) in
+    let at = subst (λ (b : Bundle). IsAt component_cmp b c.args.id index) c.as_slice.ensures
+    c.in-Ok.ensures.found in
+    let value = cast_signed w64 (cast_unsigned w64 c.args.value) in
+    let item = get_or es index (record { 0 = 0 }, pos 0) in
     ap (λ xs. refill (length es) es
-    (set xs index (
-      (get_or xs index (record { 0 = 0 }, pos 0)).0,
-      cast_signed w64
-          (cast_unsigned w64 c.args.value),
-    ))) c.deref_mut.ensures.value
-    ∙ ap (λ z. refill (length es) es
-    (set es index ((get_or es index (record { 0 = 0 }, pos 0)).0, z)))
-    (to_z-of_z w64 c.args.value c.ranges.value)
-    ∙ refill_whole es written (length-set es index _)
-    ∙ sym (put_over c.args.id c.args.value es index at.within at.lower at.here
-    (record { 0 = 0 }, pos 0))
+    (set xs index ((get_or xs index (record { 0 = 0 }, pos 0)).0, value))) c.deref_mut.ensures.value
+    ∙ refill_whole es (set es index (item.0, value)) (length-set es index _)
+    ∙ written total es c.args.id c.args.value index (record { 0 = 0 }, pos 0) item value
+    c.self.invariant.0.rising at refl (to_z-of_z w64 c.args.value c.ranges.value)
 
 pub invariant_of-self : goal.invariant_of-self
 invariant_of-self c = (
-  subst IsBundle (sym (over c)) (bundle_put c.args.id c.args.value c.in-Ok.ensures.number
+  subst IsBundle (sym (over c)) (bundle_put c.args.id c.args.value (search rules)
       c.ranges.value c.self.inside.items.items c.self.invariant.0),
   c.self.invariant.1,
 )
@@ -56,15 +50,15 @@ added : (c : goal.In_ok-insert-in-Err) → c.insert.new.self.items ≡ put compo
     c.args.value c.self.inside.items.items
 added c =
     let es = c.self.inside.items.items in
-    let at = subst (λ xs. IsItemGap xs c.args.id.0 c.in-Err.index) c.as_slice.ensures
-    c.in-Err.ensures.absent in
-    c.in_ok-insert-in-Err.ensures.ok ∙ ap (λ z. insert es c.in-Err.index (c.args.id, z))
+    let gap = subst (λ (b : Bundle). IsGapFor component_cmp b c.args.id c.in-Err.index)
+    c.as_slice.ensures c.in-Err.ensures.absent in
+    c.in_ok-insert-in-Err.ensures.ok
+    ∙ inserted total es c.args.id c.args.value c.in-Err.index _ gap
     (to_z-of_z w64 c.args.value c.ranges.value)
-    ∙ sym (put_between c.args.id c.args.value es c.in-Err.index at.within at.lower at.greater)
 
 pub invariant_of-self-in-Continue-1 : goal.invariant_of-self-in-Continue-1
 invariant_of-self-in-Continue-1 c = (
-  subst IsBundle (sym (added c)) (bundle_put c.args.id c.args.value c.in-Err.ensures.number
+  subst IsBundle (sym (added c)) (bundle_put c.args.id c.args.value (search rules)
       c.ranges.value c.self.inside.items.items c.self.invariant.0),
   omega
       (arith, c.insert.ensures.capacity, c.self.invariant.1),
@@ -77,10 +71,9 @@ returns-in_ok-insert-in-Err-clause-ok c = added c ∙ ap (put component_cmp c.ar
 pub returns-in_err-insert-in-Err-clause-memory : goal.returns-in_err-insert-in-Err-clause-memory
 returns-in_err-insert-in-Err-clause-memory c =
     let es = c.self.inside.items.items in
-    let at = subst (λ xs. IsItemGap xs c.args.id.0 c.in-Err.index) c.as_slice.ensures
-    c.in-Err.ensures.absent in
-    let none = find_between c.args.id c.args.value es c.in-Err.index c.self.invariant.0.rising
-    at.within at.lower at.greater in
+    let gap = subst (λ (b : Bundle). IsGapFor component_cmp b c.args.id c.in-Err.index)
+    c.as_slice.ensures c.in-Err.ensures.absent in
+    let none = find_in_gap total es c.args.id c.in-Err.index gap in
     let full : 4 ≤ length es =
     elim (cases_lt c.self.inside.items.capacity (length es + 1)) [
       | inl below ↦ omega (arith, below, c.self.invariant.1)
@@ -90,6 +83,6 @@ returns-in_err-insert-in-Err-clause-memory c =
     (subst (λ xs. (4 ≤ length xs) × (find component_cmp c.args.id xs ≡ None)) c.self.view_is
     (full, none))
 
-pub index_of-requires : goal.index_of-requires
-index_of-requires c = subst AreRising (sym c.as_slice.ensures) (are_rising c.self.inside.items.items
-    c.self.invariant.0.rising)
+pub search-requires : goal.search-requires
+search-requires c = subst (λ (b : Bundle). T (is_sorted component_cmp b)) (sym c.as_slice.ensures)
+    c.self.invariant.0.rising

@@ -1,0 +1,49 @@
+-- A bundle stays one when a component is put.
+use Rattle.std.proofs.Common.{◌≡◌, sym, ap, ◌∙◌, ◌^◌, ◌<◌, ℤ, [], ◌∷◌, length, take, drop, ◌++◌}
+use Rattle.std.proofs.Common.{Ordering}
+use Rattle.std.specs.List.{All, refill}
+use Rattle.std.proofs.lemmas.List.Elements.{All-nil, All-head, All-tail, All-cons}
+use Rattle.std.proofs.Math.Seq.{take-append_seam}
+use Rattle.std.specs.declared.cmp.Ordering.TheVariants.{Less, Equal, Greater}
+use Rattle.std.specs.Int.{w64}
+use Rattle.std.specs.Int.RustNames.{FitsSigned}
+use Rattle.std.specs.FinMap.{put}
+use Rattle.std.specs.FinMap.Entries.{by_order, is_sorted-put}
+use Rattle.ent_handle.specs.declared.component.ComponentId.{ComponentId}
+use Rattle.ent_handle.specs.Component.{component_cmp, component_cmp_total}
+use Rattle.ent_queue.specs.Command.{Bundle, IsItem, IsBundle}
+
+module _ (id : ComponentId) (value : ℤ) where
+  abbrev putting : ComponentId × ℤ → Bundle → Ordering → Bundle
+  putting item items r =
+      by_order r ((id, value) ∷ item ∷ items) ((item.0, value) ∷ items) (item
+      ∷ put component_cmp id value items)
+
+  all_put : id.0 < 2 ^ 8 → FitsSigned w64 value → (items : Bundle) → All IsItem items
+      → All IsItem (put component_cmp id value items)
+  all_put small fits [] all = All-cons IsItem (id, value) [] (record { id = small; value = fits })
+      (All-nil IsItem)
+  all_put small fits (item ∷ items) all =
+      let first = All-head IsItem item items all in
+      let others = All-tail IsItem item items all in
+      elim (component_cmp id item.0) as (λ r. All IsItem (putting item items r)) [
+        | Less ↦ All-cons IsItem (id, value) (item ∷ items) (record { id = small; value = fits })
+            all
+        | Equal ↦ All-cons IsItem (item.0, value) items (record { id = first.id; value = fits })
+            others
+        | Greater ↦ All-cons IsItem item (put component_cmp id value items) first
+            (all_put small fits items others)
+      ]
+
+  -- a bundle stays one
+  pub bundle_put : id.0 < 2 ^ 8 → FitsSigned w64 value → (items : Bundle) → IsBundle items
+      → IsBundle (put component_cmp id value items)
+  bundle_put small fits items is = record {
+    rising = is_sorted-put component_cmp component_cmp_total id value items is.rising;
+    each = all_put small fits items is.each;
+  }
+
+-- what is written back where a slice of all was lent
+pub refill_whole : (xs ws : Bundle) → length ws ≡ length xs → refill (length xs) xs ws ≡ ws
+refill_whole xs ws e = ap (λ n. take n (ws ++ drop (length ws) xs)) (sym e)
+    ∙ take-append_seam ws (drop (length ws) xs)
