@@ -10,6 +10,8 @@ pub mod Turns
 pub mod Stepping
 pub mod Cuts
 pub mod Finding
+pub mod Openings
+pub mod PassedOver
 pub mod CutMeanings
 pub mod Listing
 pub mod Puts

@@ -3,10 +3,10 @@ use Rattle.std.proofs.Common.{◌≡◌, ℕ, ◌-◌, ◌<◌, List, Some, None
 use Rattle.json.specs.Token.{Token}
 use Rattle.json.specs.Json as json
 use Rattle.json.specs.Json.{Parse, parse_map, after_end_array, read_key, items, members}
-use Rattle.json.proofs.Grammar.{left_some, left-parse_map}
+use Rattle.json.proofs.Grammar.{left_some, left_none, left-parse_map}
 use Rattle.serde_json.specs.Data.{Data, Members, item, put}
 use Rattle.serde_json.specs.Read.{of_json, of_items, of_members, converted}
-use Rattle.ent_script.proofs.Turns.{item_read, member_read}
+use Rattle.ent_script.proofs.Turns.{item_read, item_refused, member_read, member_refused}
 use Rattle.ent_script.specs.Passing.{left}
 
 pub item_passed : (p : Parse json.Json) (n : ℕ) (ts r : List Token) → 0 < n → after_end_array ts ≡
@@ -24,3 +24,12 @@ pub member_passed : (p : Parse json.Json) (n : ℕ) (k : List ℕ) (ts s r : Lis
 member_passed p n k ts s r old some key e =
     let d = left_some (converted of_json (p s)) r e in
     (d.0, ap left (member_read p old n k ts s r d.0 some key d.1))
+
+pub item_stuck : (p : Parse json.Json) (n : ℕ) (ts : List Token) → after_end_array ts ≡ None
+    → left (converted of_json (p ts)) ≡ None → left (converted of_items (items p n ts)) ≡ None
+item_stuck p n ts going e = ap left (item_refused p n ts going (left_none _ e))
+
+pub member_stuck : (p : Parse json.Json) (n : ℕ) (k : List ℕ) (ts s : List Token) (old : Members)
+    → read_key ts ≡ Some (Some k, s) → left (converted of_json (p s)) ≡ None
+    → left (converted (λ ms. of_members ms old) (members p n ts)) ≡ None
+member_stuck p n k ts s old key e = ap left (member_refused p old n k ts s key (left_none _ e))

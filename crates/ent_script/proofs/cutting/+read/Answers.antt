@@ -3,7 +3,7 @@ use Rattle.std.proofs.Common.{ap₂, ◌∙◌, arith, rules, suc}
 use Rattle.json.specs.Token.{Token}
 use Rattle.json.specs.Json.{parse_map, read_key, members, value}
 use Rattle.json.specs.Reads.{token_of}
-use Rattle.json.proofs.Grammar.{left_some, value_is, value-begin_object, read_key-shorter}
+use Rattle.json.proofs.Grammar.{value_is, value-begin_object, read_key-shorter}
 use Rattle.serde_json.specs.Data.{null, boolean, number, string, array, object, no_members, put}
 use Rattle.serde_json.specs.Read.{of_json, converted}
 use Rattle.serde_json.specs.View.{view, number_view, members_view, items_view}
@@ -12,6 +12,7 @@ use Rattle.ent_script.proofs.Turns.{converted-object, member_read, member_refuse
 use Rattle.ent_script.proofs.Turns.{key_refused, members_over}
 use Rattle.ent_script.proofs.Cuts.{view-Array, view-Object, members_view-insert_entry}
 use Rattle.ent_script.proofs.Cuts.{cut_members-put, opened_array, opened_object}
+use Rattle.ent_script.proofs.Openings.{passed_nested}
 use Rattle.ent_script.specs.Cut.{cut, cut_members}
 use Rattle.ent_script.proofs.cutting.+read.Goals as goal
 
@@ -201,20 +202,13 @@ pub read_cut-returns-then-levels-eq0-clause-ok : goal.read_cut-returns-then-leve
 read_cut-returns-then-levels-eq0-clause-ok t c =
     let ts = c.next.new.self in
     let r = c.pass_rest-then-levels-eq0.new.reader in
-    let first : c.args.reader.now ≡ token_of c.in_ok-token.token ∷ ts = grind arith in
-    let is : c.args.reader.now ≡ Token.begin_object ∷ ts = first ∙ ap (λ k. token_of k ∷ ts)
-    c.in-BeginObject.is in
-    let passed = c.in_ok-pass_rest-in-BeginObject.ensures.value in
-    let d = left_some (converted of_json (value c.args.depth (token_of c.in_ok-token.token ∷ ts))) r
-    passed in
-    let read : converted of_json (value c.args.depth (Token.begin_object ∷ ts)) ≡ Some (d.0, r) =
-    ap
-    (λ k. converted of_json (value c.args.depth (token_of k ∷ ts))) (sym c.in-BeginObject.is) ∙
-    d.1 in
-    let ms = opened_object c.args.depth ts r d.0 read in
+    let d = passed_nested c.args.depth (token_of c.in_ok-token.token) Token.begin_object
+    c.args.reader.now ts r (grind arith) (ap token_of c.in-BeginObject.is)
+    c.in_ok-pass_rest-in-BeginObject.ensures.value in
+    let ms = opened_object c.args.depth ts r d.0 d.2 in
     let none : c.args.levels ≡ 0 = omega arith in (
       d.0,
-      ap (λ x. converted of_json (value c.args.depth x)) is ∙ read,
+      d.1,
       view-Object c.new-then-levels-eq0.result ∙ ap
           (λ es. object (members_view es)) c.new-then-levels-eq0.ensures.empty
           ∙ sym (ap₂ cut none ms.1.1),
@@ -225,19 +219,12 @@ pub read_cut-returns-in_ok-pass_rest-in-BeginArray-clause-ok :
 read_cut-returns-in_ok-pass_rest-in-BeginArray-clause-ok t c =
     let ts = c.next.new.self in
     let r = c.pass_rest.new.reader in
-    let first : c.args.reader.now ≡ token_of c.in_ok-token.token ∷ ts = grind arith in
-    let is : c.args.reader.now ≡ Token.begin_array ∷ ts = first ∙ ap (λ k. token_of k ∷ ts)
-    c.in-BeginArray.is in
-    let passed = c.in_ok-pass_rest-in-BeginArray.ensures.value in
-    let d = left_some (converted of_json (value c.args.depth (token_of c.in_ok-token.token ∷ ts))) r
-    passed in
-    let read : converted of_json (value c.args.depth (Token.begin_array ∷ ts)) ≡ Some (d.0, r) =
-    ap
-    (λ k. converted of_json (value c.args.depth (token_of k ∷ ts))) (sym c.in-BeginArray.is) ∙
-    d.1 in
-    let ds = opened_array c.args.depth ts r d.0 read in (
+    let d = passed_nested c.args.depth (token_of c.in_ok-token.token) Token.begin_array
+    c.args.reader.now ts r (grind arith) (ap token_of c.in-BeginArray.is)
+    c.in_ok-pass_rest-in-BeginArray.ensures.value in
+    let ds = opened_array c.args.depth ts r d.0 d.2 in (
       d.0,
-      ap (λ x. converted of_json (value c.args.depth x)) is ∙ read,
+      d.1,
       view-Array c.new.result ∙ ap (λ vs. array (items_view vs)) c.new.ensures.items
           ∙ sym (ap (cut c.args.levels) ds.1.1),
     )

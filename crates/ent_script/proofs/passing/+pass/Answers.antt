@@ -1,14 +1,14 @@
 use Rattle.std.proofs.Common.{◌≡◌, ◌-◌, ◌<◌, [], ◌∷◌, length, Some, None, refl, ap, ap₂, ◌∙◌, arith}
 use Rattle.json.specs.Json.{after_end_array, read_key, items, members, value}
 use Rattle.json.specs.Reads.{token_of}
-use Rattle.json.proofs.Grammar.{left_none, left-parse_map, value_is, value-begin_array}
+use Rattle.json.proofs.Grammar.{left-parse_map, value_is, value-begin_array}
 use Rattle.json.proofs.Grammar.{value-begin_object, read_key-shorter}
 use Rattle.serde_json.specs.Data.{array, object, no_members}
 use Rattle.serde_json.specs.Read.{of_json, of_items, of_members, converted}
-use Rattle.ent_script.proofs.Turns.{converted-array, converted-object, item_refused, items_over}
-use Rattle.ent_script.proofs.Turns.{member_refused, key_refused, members_over}
+use Rattle.ent_script.proofs.Turns.{converted-array, converted-object, items_over}
+use Rattle.ent_script.proofs.Turns.{key_refused, members_over}
 use Rattle.ent_script.specs.Passing.{left, after_value}
-use Rattle.ent_script.proofs.Stepping.{item_passed, member_passed}
+use Rattle.ent_script.proofs.Stepping.{item_passed, item_stuck, member_passed, member_stuck}
 use Rattle.ent_script.proofs.passing.+pass.Goals as goal
 
 pub pass_items-loop-reader-preserved : goal.pass_items-loop-reader-preserved
@@ -30,13 +30,11 @@ pass_items-loop-reader-preserved t c =
 pub pass_items-returns-in_err-pass_value-clause-value :
     goal.pass_items-returns-in_err-pass_value-clause-value
 pass_items-returns-in_err-pass_value-clause-value t c =
-    let p = value c.args.depth in
     let l = c.loop-reader in
-    let n = l.invariant.0 in
     let going : (after_end_array l.reader ≡ None) × (c.take_end_array.new.self ≡ l.reader) = grind
     arith in
-    let none = l.invariant.2 ∙ ap left (item_refused p n l.reader going.0
-    (left_none _ (rw (← going.1) c.in_err-pass_value.ensures.value))) in
+    let none = l.invariant.2 ∙ item_stuck (value c.args.depth) l.invariant.0 l.reader going.0
+    (rw (← going.1) c.in_err-pass_value.ensures.value) in
     grind (arith, none)
 
 pub pass_items-returns-clause-value : goal.pass_items-returns-clause-value
@@ -86,14 +84,12 @@ pass_members-loop-reader-preserved t c =
 pub pass_members-returns-in_err-pass_value-clause-value :
     goal.pass_members-returns-in_err-pass_value-clause-value
 pass_members-returns-in_err-pass_value-clause-value t c =
-    let p = value c.args.depth in
     let l = c.loop-reader in
-    let n = l.invariant.0 in
-    let k = c.in-Some.field-0.now in
-    let s = c.next_key.new.self in
-    let key : read_key l.reader ≡ Some (Some k, s) = grind arith in
-    let none = l.invariant.2.1 ∙ ap left (member_refused p l.invariant.2.0 n k l.reader s key
-    (left_none _ c.in_err-pass_value.ensures.value)) in
+    let key : read_key l.reader ≡ Some (Some c.in-Some.field-0.now, c.next_key.new.self) = grind
+    arith in
+    let none = l.invariant.2.1 ∙ member_stuck (value c.args.depth) l.invariant.0
+    c.in-Some.field-0.now l.reader c.next_key.new.self l.invariant.2.0 key
+    c.in_err-pass_value.ensures.value in
     grind (arith, none)
 
 pub pass_members-returns-clause-value : goal.pass_members-returns-clause-value

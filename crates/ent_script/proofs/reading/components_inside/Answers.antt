@@ -6,13 +6,14 @@ use Rattle.std.specs.Global.{Vec}
 use Rattle.json.specs.Json.{read_key, members, value}
 use Rattle.serde_json.specs.Data.{Data, no_members, put}
 use Rattle.serde_json.specs.Find.{get_member}
-use Rattle.serde_json.specs.Read.{of_json, of_members, converted}
+use Rattle.serde_json.specs.Read.{of_members, converted}
 use Rattle.serde_json.specs.declared.value.Value.{Value}
 use Rattle.ent_script.specs.Cut.{cut}
 use Rattle.ent_script.specs.Json.{at_most}
 use Rattle.ent_script.specs.Streaming.{FindsElements}
 use Rattle.ent_script.specs.declared.read_fault.ReadFault.{ReadFault}
-use Rattle.ent_script.proofs.Finding.{next_member, last_member, no_key, passed, not_passed}
+use Rattle.ent_script.proofs.Finding.{next_member, last_member, no_key}
+use Rattle.ent_script.proofs.PassedOver.{member_over, member_not_over}
 use Rattle.ent_script.proofs.Puts.{found_here, found_before}
 use Rattle.ent_script.proofs.reading.components_inside.Goals as goal
 
@@ -69,21 +70,16 @@ members-preserved-then-eq c = record {
 pub members-preserved : goal.members-preserved
 members-preserved c = record {
   found = λ n ms rest e.
-      let p = value c.args.depth in
       let l = c.members in
       let k = c.in-Some.key.now in
-      let s = c.next_key.new.self in
-      let named : read_key l.reader ≡ Some (Some k, s) = grind arith in
-      let other : bytes_eq k (codes "components") ≡ false = sym c.if-eq.ensures in
       let at = l.invariant.found n ms rest e in
-      let next = next_member p at.0 k l.reader s rest at.1 ms named at.2 in
-      let same = passed (converted of_json (p s)) c.pass_value.new.reader next.1 next.0
-      c.in_ok-pass_value.ensures.value next.2 in (
+      let other : bytes_eq k (codes "components") ≡ false = sym c.if-eq.ensures in
+      let named : read_key l.reader ≡ Some (Some k, c.next_key.new.self) = grind arith in
+      let next = member_over (value c.args.depth) at.0 k l.reader c.next_key.new.self rest at.1 ms
+      named at.2 c.pass_value.new.reader c.in_ok-pass_value.ensures.value in (
         at.0 - 1,
         put k next.0 at.1,
-        ap
-            (λ ts. converted (λ ms. of_members ms (put k next.0 at.1)) (members p (at.0 - 1) ts))
-            same ∙ next.3,
+        next.1,
         at.3 ∙ sym (ap Seen (found_before (codes "components") k next.0 at.1 other)),
       );
   few = c.members.invariant.few;
@@ -91,14 +87,12 @@ members-preserved c = record {
 
 pub returns-in_err-pass_value-clause-found : goal.returns-in_err-pass_value-clause-found
 returns-in_err-pass_value-clause-found c n ms rest e =
-    let p = value c.args.depth in
     let l = c.members in
-    let k = c.in-Some.key.now in
-    let s = c.next_key.new.self in
-    let named : read_key l.reader ≡ Some (Some k, s) = grind arith in
     let at = l.invariant.found n ms rest e in
-    let next = next_member p at.0 k l.reader s rest at.1 ms named at.2 in
-    not_passed (converted of_json (p s)) next.1 next.0 c.in_err-pass_value.ensures.value next.2
+    let named : read_key l.reader ≡ Some (Some c.in-Some.key.now, c.next_key.new.self) = grind arith
+    in
+    member_not_over (value c.args.depth) at.0 c.in-Some.key.now l.reader c.next_key.new.self rest
+    at.1 ms named at.2 c.in_err-pass_value.ensures.value
 
 pub returns-clause-found : goal.returns-clause-found
 returns-clause-found c n ms rest e =

@@ -3,10 +3,11 @@ use Rattle.std.proofs.Common.{false, bytes_eq, arith}
 use Rattle.json.specs.Json.{read_key, members, value}
 use Rattle.serde_json.specs.Data.{Data, Members, no_members, put}
 use Rattle.serde_json.specs.Find.{get_member}
-use Rattle.serde_json.specs.Read.{of_json, of_members, converted}
+use Rattle.serde_json.specs.Read.{of_members, converted}
 use Rattle.ent_script.specs.Reading.{ReadsList}
 use Rattle.ent_script.specs.Streaming.{frames_of}
-use Rattle.ent_script.proofs.Finding.{next_member, last_member, no_key, passed, not_passed}
+use Rattle.ent_script.proofs.Finding.{next_member, last_member, no_key}
+use Rattle.ent_script.proofs.PassedOver.{member_over, member_not_over}
 use Rattle.ent_script.proofs.Listing.{streamed_list}
 use Rattle.ent_script.proofs.Puts.{found_here, found_before}
 use Rattle.ent_script.proofs.reading.frames_inside.Goals as goal
@@ -47,21 +48,16 @@ members-preserved-else-ran_out c n ms rest e =
 
 pub members-preserved : goal.members-preserved
 members-preserved c n ms rest e =
-    let p = value c.args.depth in
     let l = c.members in
     let k = c.in-Some.key.now in
-    let s = c.next_key.new.self in
-    let named : read_key l.reader ≡ Some (Some k, s) = grind arith in
-    let other : bytes_eq k (codes "frames") ≡ false = sym c.if-eq.ensures in
     let at = l.invariant n ms rest e in
-    let next = next_member p at.0 k l.reader s rest at.1 ms named at.2 in
-    let same = passed (converted of_json (p s)) c.pass_value.new.reader next.1 next.0
-    c.in_ok-pass_value.ensures.value next.2 in (
+    let other : bytes_eq k (codes "frames") ≡ false = sym c.if-eq.ensures in
+    let named : read_key l.reader ≡ Some (Some k, c.next_key.new.self) = grind arith in
+    let next = member_over (value c.args.depth) at.0 k l.reader c.next_key.new.self rest at.1 ms
+    named at.2 c.pass_value.new.reader c.in_ok-pass_value.ensures.value in (
       at.0 - 1,
       put k next.0 at.1,
-      ap
-          (λ ts. converted (λ ms. of_members ms (put k next.0 at.1)) (members p (at.0 - 1) ts)) same
-          ∙ next.3,
+      next.1,
       subst
           (λ (o : Option Data). ReadsList l.found (frames_of c.args.format c.args.components.now o))
           (sym (found_before (codes "frames") k next.0 at.1 other)) at.3,
@@ -69,14 +65,12 @@ members-preserved c n ms rest e =
 
 pub returns-in_err-pass_value : goal.returns-in_err-pass_value
 returns-in_err-pass_value c n ms rest e =
-    let p = value c.args.depth in
     let l = c.members in
-    let k = c.in-Some.key.now in
-    let s = c.next_key.new.self in
-    let named : read_key l.reader ≡ Some (Some k, s) = grind arith in
     let at = l.invariant n ms rest e in
-    let next = next_member p at.0 k l.reader s rest at.1 ms named at.2 in
-    not_passed (converted of_json (p s)) next.1 next.0 c.in_err-pass_value.ensures.value next.2
+    let named : read_key l.reader ≡ Some (Some c.in-Some.key.now, c.next_key.new.self) = grind arith
+    in
+    member_not_over (value c.args.depth) at.0 c.in-Some.key.now l.reader c.next_key.new.self rest
+    at.1 ms named at.2 c.in_err-pass_value.ensures.value
 
 pub returns : goal.returns
 returns c n ms rest e =

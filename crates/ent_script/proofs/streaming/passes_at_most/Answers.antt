@@ -1,13 +1,14 @@
 use Rattle.std.proofs.Common.{◌≡◌, ℕ, ◌+◌, ◌-◌, ◌<◌, List, length, Bool, true, false, Some, None}
-use Rattle.std.proofs.Common.{ap, ◌∙◌, refl, arith}
+use Rattle.std.proofs.Common.{ap, refl, arith}
 use Rattle.std.specs.Prelude.{Ok}
 use Rattle.json.specs.Token.{Token}
-use Rattle.json.specs.Json.{after_end_array, items, value}
+use Rattle.json.specs.Json.{after_end_array, value}
 use Rattle.serde_json.specs.Data.{Items}
-use Rattle.serde_json.specs.Read.{of_json, of_items, converted}
+use Rattle.serde_json.specs.Read.{of_json, converted}
 use Rattle.ent_script.specs.Json.{list_of}
 use Rattle.ent_script.specs.Streaming.{PassesAtMost}
-use Rattle.ent_script.proofs.Finding.{next_item, last_item, passed, not_passed}
+use Rattle.ent_script.proofs.Finding.{next_item, last_item, not_passed}
+use Rattle.ent_script.proofs.PassedOver.{item_over}
 use Rattle.ent_script.proofs.streaming.passes_at_most.Goals as goal
 
 few : (fits : Bool) (all room most later : ℕ) → room ≡ 0 → 0 < later →
@@ -36,17 +37,14 @@ loop-reader-preserved-then-room-eq0 c =
     record {
       counted = λ n ds rest e.
           let at = l.invariant.counted n ds rest e in
-          let next = next_item p at.0 l.reader rest at.1 going.0 at.2 in
-          let same = passed (converted of_json (p l.reader)) left next.1 next.0
-          (rw (← going.1) c.in_ok-pass_value.ensures.value) next.4 in
-          let more : length (list_of at.1) ≡ length (list_of next.2) + 1 = ap
-          (λ x. length (list_of x)) next.3 ∙ omega arith in (
+          let next = item_over p at.0 l.reader left rest at.1 going.0
+          (rw (← going.1) c.in_ok-pass_value.ensures.value) at.2 in (
             at.0 - 1,
+            next.0,
             next.2,
-            ap (λ x. converted of_items (items p (at.0 - 1) x)) same ∙ next.5,
             λ t. absurd (cc t),
             λ t. few l.fits (length (list_of ds)) l.room c.args.most (length (list_of at.1))
-                (omega arith) (omega (arith, more)) at.3 at.4,
+                (omega arith) (omega (arith, next.1)) at.3 at.4,
           );
       shorter = omega (arith, less, l.invariant.shorter);
     }
@@ -62,15 +60,12 @@ loop-reader-preserved c =
     record {
       counted = λ n ds rest e.
           let at = l.invariant.counted n ds rest e in
-          let next = next_item p at.0 l.reader rest at.1 going.0 at.2 in
-          let same = passed (converted of_json (p l.reader)) left next.1 next.0
-          (rw (← going.1) c.in_ok-pass_value.ensures.value) next.4 in
-          let more : length (list_of at.1) ≡ length (list_of next.2) + 1 = ap
-          (λ x. length (list_of x)) next.3 ∙ omega arith in (
+          let next = item_over p at.0 l.reader left rest at.1 going.0
+          (rw (← going.1) c.in_ok-pass_value.ensures.value) at.2 in (
             at.0 - 1,
+            next.0,
             next.2,
-            ap (λ x. converted of_items (items p (at.0 - 1) x)) same ∙ next.5,
-            λ t. omega (arith, at.3 t, more),
+            λ t. omega (arith, at.3 t, next.1),
             at.4,
           );
       shorter = omega (arith, less, l.invariant.shorter);

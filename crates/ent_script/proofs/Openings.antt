@@ -1,0 +1,54 @@
+-- What stands behind the bracket that a reader took, and behind a value that it passed over.
+use Rattle.std.proofs.Common.{◌≡◌, ◌-◌, ℕ, [], ◌∷◌, List, length, Some, None, Bool, true}
+use Rattle.std.proofs.Common.{false, sym, subst, ap, ◌∙◌}
+use Rattle.std.specs.Prelude.{Ok}
+use Rattle.json.specs.Lex.{tokens}
+use Rattle.json.specs.Token.{Token}
+use Rattle.json.specs.Json.{items, members, value}
+use Rattle.json.proofs.Grammar.{left_some}
+use Rattle.serde_json.specs.Data.{Data, Items, Members, array, object, no_members}
+use Rattle.serde_json.specs.Find.{as_array, get}
+use Rattle.serde_json.specs.Read.{of_json, of_items, of_members, converted, read}
+use Rattle.ent_script.specs.Passing.{left}
+use Rattle.ent_script.specs.Streaming.{BeginsArray, begins_object}
+use Rattle.ent_script.proofs.Cuts.{opened_object}
+use Rattle.ent_script.proofs.Finding.{whole_text, no_object}
+
+-- whether the value was an array
+module _ (depth : ℕ) (b : Bool) (ts : List Token) (d : Data) (rest : List Token)
+    (begins : BeginsArray depth (Ok b) ts d rest) where
+  pub array_begun : b ≡ true → (ds : Items) × (d ≡ array ds)
+      × (converted of_items (items (value (depth - 1)) (length ts) ts) ≡ Some (ds, rest))
+  array_begun is = subst (λ (x : Bool). BeginsArray depth (Ok x) ts d rest) is begins
+
+  pub no_array_begun : b ≡ false → (as_array d ≡ None) × (ts ≡ rest)
+  no_array_begun is = subst (λ (x : Bool). BeginsArray depth (Ok x) ts d rest) is begins
+
+-- whether the text is an object
+module _ (text : List ℕ) (d : Data) (read_as : read text ≡ Some d) (all : List Token)
+    (of_text : all ≡ tokens text) where
+  whole : converted of_json (value 127 all) ≡ Some (d, [])
+  whole = ap (λ ts. converted of_json (value 127 ts)) of_text ∙ whole_text text d read_as
+
+  pub text_object : (ts : List Token) → all ≡ Token.begin_object ∷ ts
+      → (ms : Members) × (d ≡ object ms)
+      × (converted (λ ms. of_members ms no_members) (members (value 126) (length ts) ts) ≡ Some
+      (ms, []))
+  text_object ts begins =
+      (opened_object 127 ts [] d
+      (ap (λ x. converted of_json (value 127 x)) (sym begins) ∙ whole)).1
+
+  pub text_no_object : (k : List ℕ) → begins_object all ≡ false → get k d ≡ None
+  text_no_object k other = no_object 127 all [] d k other whole
+
+-- a value that was passed over, of which the first token was taken before
+pub passed_nested : (depth : ℕ) (t u : Token) (all ts r : List Token) → all ≡ t ∷ ts → t ≡ u
+    → left (converted of_json (value depth (t ∷ ts))) ≡ Some r
+    → (d : Data) × (converted of_json (value depth all) ≡ Some (d, r))
+    × (converted of_json (value depth (u ∷ ts)) ≡ Some (d, r))
+passed_nested depth t u all ts r first is over =
+    let d = left_some (converted of_json (value depth (t ∷ ts))) r over in (
+      d.0,
+      ap (λ x. converted of_json (value depth x)) first ∙ d.1,
+      ap (λ k. converted of_json (value depth (k ∷ ts))) (sym is) ∙ d.1,
+    )
