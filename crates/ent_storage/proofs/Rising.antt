@@ -1,7 +1,7 @@
 -- Lists of pairs whose keys strictly rise: what a search finds, and what an edit at its position
 -- leaves.
 use Rattle.std.proofs.Common.{◌≡◌, ℕ, zero, suc, ◌+◌, ◌-◌, ◌<◌, ◌≤◌, ◌⊎◌, inl, inr, Bool, true}
-use Rattle.std.proofs.Common.{false, cond, ◌&&◌, T, List, [], ◌∷◌, length, get_or, set, Some, None}
+use Rattle.std.proofs.Common.{false, cond, ◌&&◌, T, List, [], ◌∷◌, ◌++◌, length, get_or, set, Some, None}
 use Rattle.std.proofs.Common.{Result, Ok, Err, IfOk, IfErr, Ordering, refl, sym, ap, subst, ◌∙◌}
 use Rattle.std.proofs.Common.{arith}
 use Rattle.std.specs.declared.cmp.Ordering.TheVariants.{Less, Equal, Greater}
@@ -37,6 +37,11 @@ equal Greater h = absurd h
 pub turn : {K : Type 0} {R : K → K → Ordering} (o : IsTotalOrder R) (a b : K) (r : Ordering) → R a b
     ≡ r → R b a ≡ ordering_reverse r
 turn o a b r e = o.antisymm b a ∙ ap ordering_reverse e
+
+-- an insertion at the end
+pub insert_end : {A : Type 0} (xs : List A) (x : A) → insert xs (length xs) x ≡ xs ++ x ∷ []
+insert_end [] x = refl
+insert_end (y ∷ xs) x = ap (λ zs. y ∷ zs) (insert_end xs x)
 
 module _ {K X : Type 0} {R : K → K → Ordering} (o : IsTotalOrder R) where
   below_at : (x : K) (es : List (K × X)) (i : ℕ) (d : K × X) → T (below_all R x es) → i < length es

@@ -1,9 +1,10 @@
 ghost use Rattle.std.specs.Prelude.{◌≡◌, ◌<◌, ◌≤◌, T, OnOk, OnErr, IsOk, Some, IsSome, length};
 ghost use Rattle.std.specs.Prelude.{vec_len, vec_capacity, ◌+◌, IfSome, IsTrue};
+ghost use Rattle.std.specs.Prelude.{IfOk, IfErr, is_none};
 ghost use Rattle.std.specs.FinMap as map;
 ghost use Rattle.ent_handle.specs.Handle.{handle_cmp};
-ghost use Rattle.ent_storage.specs.Indexed.{counted, HasAll, Keeps, IsFree};
-ghost use Rattle.ent_storage.specs.Position.{IsGapFor};
+ghost use Rattle.ent_storage.specs.Indexed.{counted, Keeps, IsFree};
+ghost use Rattle.ent_storage.specs.Position.{IsAt, IsGapFor};
 
 use super::living::{Living, has_handle_at};
 use super::slot::search_slot;
@@ -55,30 +56,30 @@ impl Index {
     pub fn place(&self, living: &Living, handle: Handle) -> Option<usize>
         ensures { result ≡ map.get (counted living.now.entities self.now.by_handle) handle }
     {
-        let Ok(position) = search_slot(&self.pairs, handle) else {
-            return None;
-        };
-        let place = self.pairs[position].1;
-        if has_handle_at(living, handle, place) {
-            Some(place)
-        } else {
-            None
-        }
+        let found = search_slot(&self.pairs, handle);
+        place_found(&self.pairs, living, handle, found)
     }
 
-    /// Writes down the place of an entity that the living don't have yet. It takes no memory.
-    pub fn put(&mut self, living: &Living, handle: Handle, place: usize)
+    /// Writes down the place of an entity, and returns whether it did: not if the living have the
+    /// entity already. It takes no memory.
+    ///
+    /// The handle is looked for once, and once more only if pairs had to be dropped.
+    pub fn put(&mut self, living: &Living, handle: Handle, place: usize) -> bool
         requires room { length living.now.entities < self.old.room }
-        ensures placed { map.get self.new.by_handle handle ≡ Some place }
-        ensures kept { Keeps handle (counted living.now.entities self.old.by_handle)
-            self.new.by_handle }
+        ensures new { result
+            ≡ is_none (map.get (counted living.now.entities self.old.by_handle) handle) }
+        ensures placed { IsTrue result → map.get self.new.by_handle handle ≡ Some place }
+        ensures kept { IsTrue result
+            → Keeps handle (counted living.now.entities self.old.by_handle) self.new.by_handle }
+        ensures refused { ¬ (IsTrue result) → self.new ≡ self.old }
         ensures room { self.new.room ≡ self.old.room }
     {
-        make_room(&mut self.pairs, living);
-        match search_slot(&self.pairs, handle) {
-            Ok(position) => self.pairs[position] = (handle, place),
-            Err(position) => put_in_gap(&mut self.pairs, living, position, (handle, place)),
+        let found = search_slot(&self.pairs, handle);
+        if place_found(&self.pairs, living, handle, found).is_some() {
+            return false;
         }
+        put_found(&mut self.pairs, living, found, (handle, place));
+        true
     }
 
     /// Changes the place of an entity that is there.
@@ -111,18 +112,26 @@ impl Index {
     }
 }
 
-/// Makes room for one pair more. It takes no memory: if there is no room, some pairs don't count.
-fn make_room(pairs: &mut Vec<(Handle, usize)>, living: &Living)
-    requires sorted { T (map.is_sorted handle_cmp pairs.old.items) }
-    requires room { length living.now.entities < vec_capacity pairs.old }
-    ensures sorted { T (map.is_sorted handle_cmp pairs.new.items) }
-    ensures kept { HasAll (counted living.now.entities (map.from_sorted pairs.old.items))
-        (counted living.now.entities (map.from_sorted pairs.new.items)) }
-    ensures room { vec_len pairs.new < vec_capacity pairs.new }
-    ensures capacity { vec_capacity pairs.new ≡ vec_capacity pairs.old }
+/// The place in the pair that was found, if one was, and it counts.
+fn place_found(
+    pairs: &[(Handle, usize)],
+    living: &Living,
+    handle: Handle,
+    found: Result<usize, usize>,
+) -> Option<usize>
+    requires sorted { T (map.is_sorted handle_cmp pairs.now) }
+    requires found { IfOk found (IsAt handle_cmp pairs.now handle) }
+    requires absent { IfErr found (IsGapFor handle_cmp pairs.now handle) }
+    ensures { result ≡ map.get (counted living.now.entities (map.from_sorted pairs.now)) handle }
 {
-    if pairs.len() == pairs.capacity() {
-        sweep(pairs, living);
+    let Ok(position) = found else {
+        return None;
+    };
+    let place = pairs[position].1;
+    if has_handle_at(living, handle, place) {
+        Some(place)
+    } else {
+        None
     }
 }
 
@@ -136,6 +145,58 @@ fn sweep(pairs: &mut Vec<(Handle, usize)>, living: &Living)
     ensures capacity { vec_capacity pairs.new ≡ vec_capacity pairs.old }
 {
     pairs.retain(|pair| has_handle_at(living, pair.0, pair.1));
+}
+
+/// Puts a pair where its handle was found, or into the gap for it. If there is no room for one pair
+/// more, some pairs don't count. Then it drops those, and looks for the handle again.
+fn put_found(
+    pairs: &mut Vec<(Handle, usize)>,
+    living: &Living,
+    found: Result<usize, usize>,
+    pair: (Handle, usize),
+)
+    requires sorted { T (map.is_sorted handle_cmp pairs.old.items) }
+    requires found { IfOk found (IsAt handle_cmp pairs.old.items pair.0) }
+    requires absent { IfErr found (IsGapFor handle_cmp pairs.old.items pair.0) }
+    requires room { length living.now.entities < vec_capacity pairs.old }
+    ensures sorted { T (map.is_sorted handle_cmp pairs.new.items) }
+    ensures placed { map.get (map.from_sorted {R = handle_cmp} pairs.new.items) pair.0
+        ≡ Some pair.1 }
+    ensures kept { Keeps pair.0 (counted living.now.entities (map.from_sorted pairs.old.items))
+        (map.from_sorted pairs.new.items) }
+    ensures capacity { vec_capacity pairs.new ≡ vec_capacity pairs.old }
+{
+    if pairs.len() < pairs.capacity() {
+        put_at(pairs, living, found, pair);
+    } else {
+        sweep(pairs, living);
+        let swept = search_slot(pairs, pair.0);
+        put_at(pairs, living, swept, pair);
+    }
+}
+
+/// Puts a pair where its handle was found, or into the gap for it.
+fn put_at(
+    pairs: &mut Vec<(Handle, usize)>,
+    living: &Living,
+    found: Result<usize, usize>,
+    pair: (Handle, usize),
+)
+    requires sorted { T (map.is_sorted handle_cmp pairs.old.items) }
+    requires found { IfOk found (IsAt handle_cmp pairs.old.items pair.0) }
+    requires absent { IfErr found (IsGapFor handle_cmp pairs.old.items pair.0) }
+    requires room { vec_len pairs.old < vec_capacity pairs.old }
+    ensures sorted { T (map.is_sorted handle_cmp pairs.new.items) }
+    ensures placed { map.get (map.from_sorted {R = handle_cmp} pairs.new.items) pair.0
+        ≡ Some pair.1 }
+    ensures kept { Keeps pair.0 (counted living.now.entities (map.from_sorted pairs.old.items))
+        (map.from_sorted pairs.new.items) }
+    ensures capacity { vec_capacity pairs.new ≡ vec_capacity pairs.old }
+{
+    match found {
+        Ok(position) => pairs[position] = pair,
+        Err(position) => put_in_gap(pairs, living, position, pair),
+    }
 }
 
 /// Puts a pair into the gap for it: over a pair beside the gap that doesn't count, or between the
@@ -158,6 +219,7 @@ fn put_in_gap(
 {
     match taken_over(pairs, living, position, pair.0) {
         Some(other) => pairs[other] = pair,
+        None if position == pairs.len() => pairs.push_reserved(pair),
         None => {
             let _ = pairs.insert(position, pair);
         }
@@ -179,21 +241,33 @@ fn taken_over(
     ensures free { IfSome result (λ other. IsFree living.now.entities pairs.now other) }
 {
     let before = position.saturating_sub(1);
-    let free_before = is_free(pairs, living, before);
-    let free_after = is_free(pairs, living, position);
-    if free_before && pairs[before].0.index() == handle.index() {
+    if is_own(pairs, living, before, handle) {
         return Some(before);
-    }
-    if free_after && pairs[position].0.index() == handle.index() {
-        return Some(position);
     }
     if position == pairs.len() {
         return None;
     }
-    if free_before {
+    if is_own(pairs, living, position, handle) {
+        return Some(position);
+    }
+    if is_free(pairs, living, before) {
         return Some(before);
     }
-    if free_after { Some(position) } else { None }
+    if is_free(pairs, living, position) {
+        Some(position)
+    } else {
+        None
+    }
+}
+
+/// Whether a pair of the handle's slot stands there that doesn't count. The slot is compared first,
+/// so that no entity of another slot is looked at.
+fn is_own(pairs: &[(Handle, usize)], living: &Living, position: usize, handle: Handle) -> bool
+    ensures { IsTrue result → IsFree living.now.entities pairs.now position }
+{
+    position < pairs.len()
+        && pairs[position].0.index() == handle.index()
+        && is_free(pairs, living, position)
 }
 
 /// Whether a pair stands there that doesn't count.

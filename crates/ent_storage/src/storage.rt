@@ -217,13 +217,33 @@ impl Storage {
         ensures never_absent { ¬ (IsErrOf result StorageFault.Absent) }
         ensures err { OnErr result (self.new ≡ self.old) }
     {
-        if self.contains(handle) {
-            return Err(StorageFault::Present);
+        if self.spare() == 0 {
+            if self.contains(handle) {
+                return Err(StorageFault::Present);
+            }
+            self.reserve(1)?;
         }
-        self.reserve(1)?;
-        self.index.put(&self.living, handle, self.living.len());
-        self.living.push(handle, birth);
-        Ok(())
+        self.born_within(handle, birth)
+    }
+
+    /// Adds an entity without components, if there is room for it. The index is searched once.
+    fn born_within(&mut self, handle: Handle, birth: Birth) -> Result<(), StorageFault>
+        requires room { 0 < self.old.spare }
+        ensures ok { OnOk result
+            (self.new.entities ≡ map.insert self.old.entities handle (newborn birth)) }
+        ensures spare { OnOk result (self.new.spare + 1 ≡ self.old.spare) }
+        ensures places { OnOk result (self.new.places ≡ self.old.places ++ handle ∷ []) }
+        ensures present { IsErrOf result StorageFault.Present
+            ↔ IsTrue (map.contains_key self.old.entities handle) }
+        ensures only_present { IfErr result (λ fault. fault ≡ StorageFault.Present) }
+        ensures err { OnErr result (self.new ≡ self.old) }
+    {
+        if self.index.put(&self.living, handle, self.living.len()) {
+            self.living.push(handle, birth);
+            Ok(())
+        } else {
+            Err(StorageFault::Present)
+        }
     }
 
     /// Takes the entity out. It takes no memory, and `spare` is then greater by 1.

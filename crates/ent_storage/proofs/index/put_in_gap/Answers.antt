@@ -1,11 +1,11 @@
-use Rattle.std.proofs.Common.{◌≡◌, ℕ, ◌+◌, ◌<◌, List, length, arith}
-use Rattle.std.specs.List.{AllWithin}
+use Rattle.std.proofs.Common.{◌≡◌, ℕ, ◌+◌, ◌<◌, List, length, ap, sym, ◌∙◌, arith}
+use Rattle.std.specs.List.{AllWithin, insert}
 use Rattle.std.specs.declared.cmp.Ordering.TheVariants.{Less, Greater}
 use Rattle.ent_handle.specs.Handle.{Handle, handle_cmp, handle_cmp_total as total}
 use Rattle.ent_handle.specs.Handle.{handle_cmp-IsAntisymmetric as same}
 use Rattle.ent_storage.specs.Indexed.{IsFree}
 use Rattle.ent_storage.proofs.Counted.{over_sorted, over_placed, over_kept, gap_placed, gap_kept}
-use Rattle.ent_storage.proofs.Rising.{rising_insert}
+use Rattle.ent_storage.proofs.Rising.{insert_end, rising_insert}
 use Rattle.ent_storage.proofs.index.put_in_gap.Goals.{In-Some}
 use Rattle.ent_storage.proofs.index.put_in_gap.Goals as goal
 
@@ -47,21 +47,49 @@ returns-in-Some-clause-kept c =
     c.args.pair.1 c.in-Some.other at.inside at.below at.above c.args.pair
     ((free (goal.at.returns-in-Some-clause-kept c).In-Some).gone c.args.pair)
 
--- between the two
+-- at the end
+end : (c : goal.After-push_reserved) → insert c.args.pairs.now.items c.args.position c.args.pair
+    ≡ c.push_reserved.new.self.items
+end c =
+    let position : c.args.position ≡ length c.args.pairs.now.items = omega (
+      arith,
+      c.if-position-len.true,
+      c.len.ensures,
+      c.args.pairs.now.ok.0,
+    ) in
+    ap (λ i. insert c.args.pairs.now.items i c.args.pair) position
+    ∙ insert_end c.args.pairs.now.items c.args.pair ∙ sym c.push_reserved.ensures.items
+
 pub returns-in-None-clause-sorted : goal.returns-in-None-clause-sorted
 returns-in-None-clause-sorted c =
-    let ok = c.insert.ensures.succeeds c.requires.room in
-    rw (c.insert.ensures.items, ok) (rising_insert total same c.args.pairs.now.items
+    rw (sym (end c)) (rising_insert total same c.args.pairs.now.items
     c.requires.sorted c.args.pair.0 c.args.position c.args.pair.1 c.requires.gap)
 
 pub returns-in-None-clause-placed : goal.returns-in-None-clause-placed
 returns-in-None-clause-placed c =
-    let ok = c.insert.ensures.succeeds c.requires.room in
-    rw (c.insert.ensures.items, ok) (gap_placed c.args.living.now.entities c.args.pairs.now.items
+    rw (sym (end c)) (gap_placed c.args.living.now.entities c.args.pairs.now.items
     c.requires.sorted c.args.pair.0 c.args.pair.1 c.args.position c.requires.gap)
 
 pub returns-in-None-clause-kept : goal.returns-in-None-clause-kept
 returns-in-None-clause-kept c =
+    rw (sym (end c)) (gap_kept c.args.living.now.entities c.args.pairs.now.items
+    c.requires.sorted c.args.pair.0 c.args.pair.1 c.args.position c.requires.gap)
+
+-- between the two
+pub returns-in-None-2-clause-sorted : goal.returns-in-None-2-clause-sorted
+returns-in-None-2-clause-sorted c =
+    let ok = c.insert.ensures.succeeds c.requires.room in
+    rw (c.insert.ensures.items, ok) (rising_insert total same c.args.pairs.now.items
+    c.requires.sorted c.args.pair.0 c.args.position c.args.pair.1 c.requires.gap)
+
+pub returns-in-None-2-clause-placed : goal.returns-in-None-2-clause-placed
+returns-in-None-2-clause-placed c =
+    let ok = c.insert.ensures.succeeds c.requires.room in
+    rw (c.insert.ensures.items, ok) (gap_placed c.args.living.now.entities c.args.pairs.now.items
+    c.requires.sorted c.args.pair.0 c.args.pair.1 c.args.position c.requires.gap)
+
+pub returns-in-None-2-clause-kept : goal.returns-in-None-2-clause-kept
+returns-in-None-2-clause-kept c =
     let ok = c.insert.ensures.succeeds c.requires.room in
     rw (c.insert.ensures.items, ok) (gap_kept c.args.living.now.entities c.args.pairs.now.items
     c.requires.sorted c.args.pair.0 c.args.pair.1 c.args.position c.requires.gap)
