@@ -4,6 +4,10 @@ use Rattle.std.specs.Coded.{Coded, code_by, coded×, coded_ℕ}
 use Rattle.std.specs.FinMap as map
 use Rattle.ent_handle.specs.Handle.{Handle, handle_cmp, handle_code}
 
+-- how many places there are at most: each of them is kept in 32 bits
+abbrev pub most_places : ℕ
+most_places = 4294967296
+
 -- the place of each handle, and for how many handles there is room in all
 pub record Places : Type 0 where
   pub by_handle : map.FinMap handle_cmp ℕ

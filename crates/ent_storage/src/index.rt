@@ -7,6 +7,7 @@ ghost use Rattle.ent_storage.specs.Indexed.{counted, Keeps, IsFree};
 ghost use Rattle.ent_storage.specs.Position.{IsAt, IsGapFor};
 
 use super::living::{Living, has_handle_at};
+use super::places::MOST_PLACES;
 use super::slot::search_slot;
 use ent_handle::Handle;
 use std::alloc::{AllocError, Global};
@@ -21,14 +22,14 @@ use std::marker::Model;
 /// next in the order.
 #[derive(Drop)]
 pub struct Index {
-    pairs: Vec<(Handle, usize)>,
+    pairs: Vec<(Handle, u32)>,
 }
 
 impl Model for Index {
-    ghost use Rattle.std.specs.Prelude.{vec_capacity, T};
+    ghost use Rattle.std.specs.Prelude.{vec_capacity, min, T};
     ghost use Rattle.std.specs.FinMap as map;
     ghost use Rattle.ent_handle.specs.Handle.{handle_cmp};
-    ghost use Rattle.ent_storage.specs.Places.{Places, places_code};
+    ghost use Rattle.ent_storage.specs.Places.{Places, places_code, most_places};
 
     ghost Value = { Places };
 
@@ -36,7 +37,7 @@ impl Model for Index {
 
     ghost view = { λ a. record {
       by_handle = map.from_sorted a.pairs.items;
-      room = vec_capacity a.pairs;
+      room = min (vec_capacity a.pairs) most_places;
     } };
 
     ghost invariant = { λ a. T (map.is_sorted handle_cmp a.pairs.items) };
@@ -60,15 +61,16 @@ impl Index {
         place_found(&self.pairs, living, handle, found)
     }
 
-    /// Writes down the place of an entity, and returns whether it did: not if the living have the
-    /// entity already. It takes no memory.
+    /// Writes down that the entity has the next place, after all the living, and returns whether it
+    /// did: not if the living have the entity already. It takes no memory.
     ///
-    /// The handle is looked for once, and once more only if pairs had to be dropped.
-    pub fn put(&mut self, living: &Living, handle: Handle, place: usize) -> bool
+    /// The handle is looked for once, and once more only if pairs have to be dropped.
+    pub fn put(&mut self, living: &Living, handle: Handle) -> bool
         requires room { length living.now.entities < self.old.room }
         ensures new { result
             ≡ is_none (map.get (counted living.now.entities self.old.by_handle) handle) }
-        ensures placed { IsTrue result → map.get self.new.by_handle handle ≡ Some place }
+        ensures placed { IsTrue result
+            → map.get self.new.by_handle handle ≡ Some (length living.now.entities) }
         ensures kept { IsTrue result
             → Keeps handle (counted living.now.entities self.old.by_handle) self.new.by_handle }
         ensures refused { ¬ (IsTrue result) → self.new ≡ self.old }
@@ -78,18 +80,20 @@ impl Index {
         if place_found(&self.pairs, living, handle, found).is_some() {
             return false;
         }
+        let place = living.len() as u32;
         put_found(&mut self.pairs, living, found, (handle, place));
         true
     }
 
     /// Changes the place of an entity that is there.
     pub fn set_place(&mut self, handle: Handle, place: usize)
-        requires { IsSome (map.get self.old.by_handle handle) }
+        requires there { IsSome (map.get self.old.by_handle handle) }
+        requires room { place < self.old.room }
         ensures { self.new
             ≡ record self.old { by_handle = map.insert self.old.by_handle handle place } }
     {
         if let Ok(position) = search_slot(&self.pairs, handle) {
-            self.pairs[position] = (handle, place);
+            self.pairs[position] = (handle, place as u32);
         }
     }
 
@@ -97,7 +101,7 @@ impl Index {
     pub fn room(&self) -> usize
         ensures { result ≡ self.now.room }
     {
-        self.pairs.capacity()
+        self.pairs.capacity().min(MOST_PLACES)
     }
 
     /// Makes room for `count` handles in all. After an `Err` nothing is changed.
@@ -108,13 +112,17 @@ impl Index {
         ensures grows { self.old.room ≤ self.new.room }
         ensures succeeds { count ≤ self.old.room → IsOk result }
     {
-        self.pairs.reserve(count.saturating_sub(self.pairs.len()))
+        let additional = count.saturating_sub(self.pairs.len());
+        if count > MOST_PLACES {
+            return Err(AllocError);
+        }
+        self.pairs.reserve(additional)
     }
 }
 
 /// The place in the pair that was found, if one was, and it counts.
 fn place_found(
-    pairs: &[(Handle, usize)],
+    pairs: &[(Handle, u32)],
     living: &Living,
     handle: Handle,
     found: Result<usize, usize>,
@@ -127,7 +135,7 @@ fn place_found(
     let Ok(position) = found else {
         return None;
     };
-    let place = pairs[position].1;
+    let place = pairs[position].1 as usize;
     if has_handle_at(living, handle, place) {
         Some(place)
     } else {
@@ -136,7 +144,7 @@ fn place_found(
 }
 
 /// Drops the pairs that don't count. It takes no memory.
-fn sweep(pairs: &mut Vec<(Handle, usize)>, living: &Living)
+fn sweep(pairs: &mut Vec<(Handle, u32)>, living: &Living)
     requires { T (map.is_sorted handle_cmp pairs.old.items) }
     ensures sorted { T (map.is_sorted handle_cmp pairs.new.items) }
     ensures counted { map.from_sorted pairs.new.items
@@ -144,16 +152,16 @@ fn sweep(pairs: &mut Vec<(Handle, usize)>, living: &Living)
     ensures len { vec_len pairs.new ≤ length living.now.entities }
     ensures capacity { vec_capacity pairs.new ≡ vec_capacity pairs.old }
 {
-    pairs.retain(|pair| has_handle_at(living, pair.0, pair.1));
+    pairs.retain(|pair| has_handle_at(living, pair.0, pair.1 as usize));
 }
 
 /// Puts a pair where its handle was found, or into the gap for it. If there is no room for one pair
 /// more, some pairs don't count. Then it drops those, and looks for the handle again.
 fn put_found(
-    pairs: &mut Vec<(Handle, usize)>,
+    pairs: &mut Vec<(Handle, u32)>,
     living: &Living,
     found: Result<usize, usize>,
-    pair: (Handle, usize),
+    pair: (Handle, u32),
 )
     requires sorted { T (map.is_sorted handle_cmp pairs.old.items) }
     requires found { IfOk found (IsAt handle_cmp pairs.old.items pair.0) }
@@ -177,10 +185,10 @@ fn put_found(
 
 /// Puts a pair where its handle was found, or into the gap for it.
 fn put_at(
-    pairs: &mut Vec<(Handle, usize)>,
+    pairs: &mut Vec<(Handle, u32)>,
     living: &Living,
     found: Result<usize, usize>,
-    pair: (Handle, usize),
+    pair: (Handle, u32),
 )
     requires sorted { T (map.is_sorted handle_cmp pairs.old.items) }
     requires found { IfOk found (IsAt handle_cmp pairs.old.items pair.0) }
@@ -201,12 +209,7 @@ fn put_at(
 
 /// Puts a pair into the gap for it: over a pair beside the gap that doesn't count, or between the
 /// two.
-fn put_in_gap(
-    pairs: &mut Vec<(Handle, usize)>,
-    living: &Living,
-    position: usize,
-    pair: (Handle, usize),
-)
+fn put_in_gap(pairs: &mut Vec<(Handle, u32)>, living: &Living, position: usize, pair: (Handle, u32))
     requires sorted { T (map.is_sorted handle_cmp pairs.old.items) }
     requires gap { IsGapFor handle_cmp pairs.old.items pair.0 position }
     requires room { vec_len pairs.old < vec_capacity pairs.old }
@@ -232,7 +235,7 @@ fn put_in_gap(
 /// The pair of the same slot comes first, so that the slots' pairs stay at their numbers. At the
 /// end a new pair moves nothing, so it takes over no other slot's.
 fn taken_over(
-    pairs: &[(Handle, usize)],
+    pairs: &[(Handle, u32)],
     living: &Living,
     position: usize,
     handle: Handle,
@@ -262,7 +265,7 @@ fn taken_over(
 
 /// Whether a pair of the handle's slot stands there that doesn't count. The slot is compared first,
 /// so that no entity of another slot is looked at.
-fn is_own(pairs: &[(Handle, usize)], living: &Living, position: usize, handle: Handle) -> bool
+fn is_own(pairs: &[(Handle, u32)], living: &Living, position: usize, handle: Handle) -> bool
     ensures { IsTrue result → IsFree living.now.entities pairs.now position }
 {
     position < pairs.len()
@@ -271,8 +274,12 @@ fn is_own(pairs: &[(Handle, usize)], living: &Living, position: usize, handle: H
 }
 
 /// Whether a pair stands there that doesn't count.
-fn is_free(pairs: &[(Handle, usize)], living: &Living, position: usize) -> bool
+fn is_free(pairs: &[(Handle, u32)], living: &Living, position: usize) -> bool
     ensures { IsTrue result → IsFree living.now.entities pairs.now position }
 {
-    position < pairs.len() && !has_handle_at(living, pairs[position].0, pairs[position].1)
+    if position >= pairs.len() {
+        return false;
+    }
+    let (handle, place) = pairs[position];
+    !has_handle_at(living, handle, place as usize)
 }

@@ -11,6 +11,7 @@ mod index;
 mod items;
 mod living;
 mod order;
+mod places;
 mod slot;
 mod sorted;
 mod sparse_set;

@@ -10,7 +10,7 @@ use ent_handle::Handle;
 
 /// The position of the handle, or the position where it would go. It is looked for at its slot's
 /// number first, and only then by a binary search.
-pub fn search_slot(pairs: &[(Handle, usize)], handle: Handle) -> Result<usize, usize>
+pub fn search_slot(pairs: &[(Handle, u32)], handle: Handle) -> Result<usize, usize>
     requires { T (is_sorted handle_cmp pairs.now) }
     ensures found { IfOk result (IsAt handle_cmp pairs.now handle) }
     ensures absent { IfErr result (IsGapFor handle_cmp pairs.now handle) }
@@ -29,7 +29,7 @@ pub fn search_slot(pairs: &[(Handle, usize)], handle: Handle) -> Result<usize, u
 }
 
 /// Whether the handle would go to that position.
-fn is_gap(pairs: &[(Handle, usize)], position: usize, handle: Handle) -> bool
+fn is_gap(pairs: &[(Handle, u32)], position: usize, handle: Handle) -> bool
     requires { T (is_sorted handle_cmp pairs.now) }
     ensures { IsTrue result → IsGapFor handle_cmp pairs.now handle position }
 {
@@ -40,7 +40,7 @@ fn is_gap(pairs: &[(Handle, usize)], position: usize, handle: Handle) -> bool
 }
 
 /// Whether the handle comes after the pair before the position, if there is one.
-fn is_after(pairs: &[(Handle, usize)], position: usize, handle: Handle) -> bool
+fn is_after(pairs: &[(Handle, u32)], position: usize, handle: Handle) -> bool
     ensures { IsTrue result → (k : ℕ) → k + 1 ≡ position
         → HoldsAt (λ pair. handle_cmp pair.0 handle ≡ Less) pairs.now k }
 {
@@ -51,7 +51,7 @@ fn is_after(pairs: &[(Handle, usize)], position: usize, handle: Handle) -> bool
 }
 
 /// Whether the handle comes before the pair at the position, if there is one.
-fn is_before(pairs: &[(Handle, usize)], position: usize, handle: Handle) -> bool
+fn is_before(pairs: &[(Handle, u32)], position: usize, handle: Handle) -> bool
     ensures { IsTrue result → position < length pairs.now
         → HoldsAt (λ pair. handle_cmp pair.0 handle ≡ Greater) pairs.now position }
 {

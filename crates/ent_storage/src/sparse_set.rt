@@ -6,6 +6,7 @@ ghost use Rattle.std.specs.List.{HoldsAt};
 ghost use Rattle.std.specs.FinMap as map;
 ghost use Rattle.ent_storage.specs.SparseSet.{no_column, IsDense, HasRoomAt, IsMovedDown};
 
+use super::places::MOST_PLACES;
 use std::alloc::{AllocError, Global};
 use std::marker::Model;
 
@@ -17,12 +18,13 @@ use std::marker::Model;
 #[derive(Drop)]
 pub struct SparseSet {
     dense: Vec<(usize, i64)>,
-    sparse: Vec<usize>,
+    sparse: Vec<u32>,
 }
 
 impl Model for SparseSet {
-    ghost use Rattle.std.specs.Prelude.{◌-◌, vec_len, vec_capacity};
+    ghost use Rattle.std.specs.Prelude.{◌-◌, min, vec_len, vec_capacity};
     ghost use Rattle.std.specs.FinMap as map;
+    ghost use Rattle.ent_storage.specs.Places.{most_places};
     ghost use Rattle.ent_storage.specs.SparseSet.{Column, column_code, IsDense};
 
     ghost Value = { Column };
@@ -31,7 +33,7 @@ impl Model for SparseSet {
 
     ghost view = { λ a. record {
       values = map.from_entries a.dense.items;
-      spare = vec_capacity a.dense - vec_len a.dense;
+      spare = min (vec_capacity a.dense) most_places - vec_len a.dense;
       places = vec_len a.sparse;
     } };
 
@@ -66,7 +68,7 @@ impl SparseSet {
         ensures { result ≡ map.get self.now.values place }
     {
         let position = position_of(&self.dense, &self.sparse, place)?;
-        Some(self.dense[position].1)
+        Some(self.dense[position as usize].1)
     }
 
     /// Sets the value of the place. There has to be room for it if it has none.
@@ -75,9 +77,9 @@ impl SparseSet {
         ensures { self.new.values ≡ map.insert self.old.values place value }
     {
         match position_of(&self.dense, &self.sparse, place) {
-            Some(position) => self.dense[position] = (place, value),
+            Some(position) => self.dense[position as usize] = (place, value),
             None => {
-                self.sparse[place] = self.dense.len();
+                self.sparse[place] = self.dense.len() as u32;
                 self.dense.push_reserved((place, value));
             }
         }
@@ -89,6 +91,9 @@ impl SparseSet {
         ensures ok { OnOk result (HasRoomAt self.new place) }
         ensures kept { HasRoomAt self.old place → HasRoomAt self.new place }
     {
+        if self.dense.len() >= MOST_PLACES {
+            return Err(AllocError);
+        }
         self.dense.reserve(1)?;
         if place < self.sparse.len() {
             return Ok(());
@@ -103,9 +108,9 @@ impl SparseSet {
         ensures after { self.new.values ≡ map.remove self.old.values place }
     {
         let position = position_of(&self.dense, &self.sparse, place)?;
-        let (_, value) = self.dense.swap_remove(position);
-        if position < self.dense.len() {
-            self.sparse[self.dense[position].0] = position;
+        let (_, value) = self.dense.swap_remove(position as usize);
+        if (position as usize) < self.dense.len() {
+            self.sparse[self.dense[position as usize].0] = position;
         }
         Some(value)
     }
@@ -118,7 +123,7 @@ impl SparseSet {
         ensures { IsMovedDown to from self.old.values self.new.values }
     {
         if let Some(position) = position_of(&self.dense, &self.sparse, from) {
-            self.dense[position].0 = to;
+            self.dense[position as usize].0 = to;
             self.sparse[to] = position;
         }
     }
@@ -137,7 +142,7 @@ impl SparseSet {
 }
 
 /// The position of the pair that the place has in the dense vector.
-fn position_of(dense: &[(usize, i64)], sparse: &[usize], place: usize) -> Option<usize>
+fn position_of(dense: &[(usize, i64)], sparse: &[u32], place: usize) -> Option<u32>
     requires { IsDense dense.now sparse.now }
     ensures found { IfSome result
         (λ position. HoldsAt (λ pair. pair.0 ≡ place) dense.now position) }
@@ -146,7 +151,7 @@ fn position_of(dense: &[(usize, i64)], sparse: &[usize], place: usize) -> Option
         → map.get (map.from_entries {R = nat_cmp} dense.now) place ≡ None }
 {
     let position = *sparse.get(place)?;
-    let pair = dense.get(position)?;
+    let pair = dense.get(position as usize)?;
     if pair.0 == place {
         Some(position)
     } else {

@@ -196,15 +196,16 @@ impl Storage {
     /// Adds an entity without components. With `spare` above 0 it takes no memory, and `spare` is
     /// then less by 1.
     ///
-    /// The time is that of a look-up, if the handle comes after all others, or if an entity of the
-    /// same slot has lived before. Else the later handles of the index move up by one.
+    /// The time is that of one look-up, if the handle comes after all others, or if an entity of
+    /// the same slot has lived before. Else the later handles of the index move up by one.
     ///
     /// # Errors
     ///
     /// After either of them nothing is changed.
     ///
     /// - `Present`: the entity is there already. This is tested first.
-    /// - `Memory`: `spare` is 0, and there is no memory for more.
+    /// - `Memory`: `spare` is 0, and there is no memory for more, or there are 4,294,967,296 entities,
+    ///   which is the most.
     pub fn born(&mut self, handle: Handle, birth: Birth) -> Result<(), StorageFault>
         ensures ok { OnOk result
             (self.new.entities ≡ map.insert self.old.entities handle (newborn birth)) }
@@ -238,7 +239,7 @@ impl Storage {
         ensures only_present { IfErr result (λ fault. fault ≡ StorageFault.Present) }
         ensures err { OnErr result (self.new ≡ self.old) }
     {
-        if self.index.put(&self.living, handle, self.living.len()) {
+        if self.index.put(&self.living, handle) {
             self.living.push(handle, birth);
             Ok(())
         } else {

@@ -25,4 +25,4 @@ returns-in_default c =
     let gap = rw c.deref.ensures.value at c.in_default.ensures.absent in
     let none = ap (λ (p : Places). map.get p.by_handle c.args.handle) (sym c.self.view_is)
     ∙ get_in_gap total same _ c.self.invariant _ _ gap in
-    absurd (false≢true (sym (ap is_some none) ∙ c.requires))
+    absurd (false≢true (sym (ap is_some none) ∙ c.requires.there))

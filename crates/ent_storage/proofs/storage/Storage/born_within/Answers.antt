@@ -29,7 +29,6 @@ invariant_of-self c =
       components =
           map.empty;
     } in
-    let place = c.len.ensures in
     let room = ap (λ (s : Store). s.spare) c.self.view_is in
     let fits : length c.self.inside.living.entities < min c.self.inside.living.room
     c.self.inside.index.room = omega (arith, room, c.requires) in
@@ -37,7 +36,7 @@ invariant_of-self c =
     rw (c.push.ensures.entities, c.push.ensures.room, c.put.ensures.room)
     (kept_push c.self.inside.living.entities c.self.inside.index.by_handle
     (min c.self.inside.living.room c.self.inside.index.room) c.self.invariant entity
-    c.put.new.self.by_handle new fits (c.put.ensures.placed c.if-put.true ∙ ap Some place) keeps)
+    c.put.new.self.by_handle new fits (c.put.ensures.placed c.if-put.true) keeps)
 
 pub returns-then-put-clause-ok : goal.returns-then-put-clause-ok
 returns-then-put-clause-ok c =

@@ -57,9 +57,9 @@ swap_remove-requires c = (at_place c.self.inside.living.entities c.args.place c.
 pub handle-moved-requires : goal.handle-moved-requires
 handle-moved-requires c = omega arith
 
-pub set_place-requires : goal.set_place-requires
-set_place-requires c =
-    let at = goal.at.set_place-requires c in
+pub set_place-requires-clause-there : goal.set_place-requires-clause-there
+set_place-requires-clause-there c =
+    let at = goal.at.set_place-requires-clause-there c in
     let moved = moved at.After-handle-moved in
     rw moved.is
     (moved_counts c.self.inside.living.entities c.self.inside.index.by_handle c.args.handle _

@@ -1,0 +1,4 @@
+//! How many places there are.
+
+/// How many entities a storage has at most: the places are numbered in 32 bits.
+pub const MOST_PLACES: usize = 4_294_967_296;
