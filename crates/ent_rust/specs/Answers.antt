@@ -14,7 +14,7 @@ done_and_retired = 1
 abbrev pub is_empty : ℕ
 is_empty = 2
 
--- the object holds an allocator already
+-- the object holds something already
 abbrev pub is_full : ℕ
 is_full = 3
 
@@ -59,6 +59,10 @@ no_credit = 13
 -- there is room for another number of handles than are reserved
 abbrev pub no_room : ℕ
 no_room = 14
+
+-- the object holds something of another kind
+abbrev pub other_kind : ℕ
+other_kind = 15
 
 -- the code is one of these
 abbrev pub IsOneOf : List ℕ → ℕ → Type 0

@@ -6,9 +6,9 @@ use denote.RawPtr.{Ptr}
 use Rattle.std.specs.Box.Ownership.{box_owns}
 use Rattle.std.specs.Global.{Global}
 use Rattle.std_heap.specs.contracts.GlobalAllocator.TheImpl.{ghosts}
-use Rattle.ent_alloc.specs.contracts.entities.Entities.{the_row}
+use Rattle.ent_rust.specs.contracts.held.Held.{the_row}
 
--- what contracts see of an `Entities`
+-- what contracts see of a `Held`
 abbrev pub Seen : Type 0
 Seen = the_row.Denot
 

@@ -12,7 +12,7 @@ pub(crate) const DONE_AND_RETIRED: u32 = 1;
 /// The object holds nothing.
 pub(crate) const IS_EMPTY: u32 = 2;
 
-/// The object holds an allocator already.
+/// The object holds something already.
 pub(crate) const IS_FULL: u32 = 3;
 
 /// The two numbers are of no limits.
@@ -45,6 +45,9 @@ pub(crate) const NO_CREDIT: u32 = 13;
 
 /// There is room for another number of handles than are reserved.
 pub(crate) const NO_ROOM: u32 = 14;
+
+/// The object holds something of another kind.
+pub(crate) const OTHER_KIND: u32 = 15;
 
 /// A code and, where one was given, a handle.
 #[derive(Clone, Copy)]

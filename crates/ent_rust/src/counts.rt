@@ -2,10 +2,11 @@
 ghost use Rattle.std.specs.Prelude.{◌≡◌, ◌-◌, ◌↔◌, [], ◌∷◌, None, length};
 ghost use Rattle.std.specs.FinSet as set;
 ghost use Rattle.ent_alloc.specs.Sequential.{top, retired};
-ghost use Rattle.ent_rust.specs.Holds.{Holds};
-ghost use Rattle.ent_rust.specs.Answers.{done, is_empty, IsOneOf};
+ghost use Rattle.ent_rust.specs.Holds.{Holds, HoldsOther, entities_of};
+ghost use Rattle.ent_rust.specs.Answers.{done, is_empty, other_kind, IsOneOf};
 
-use crate::answer::{DONE, IS_EMPTY};
+use crate::answer::{DONE, IS_EMPTY, OTHER_KIND};
+use crate::held::Held;
 use crate::object::Object;
 use std::alloc::Global;
 
@@ -21,6 +22,24 @@ pub struct Counts {
     pub top: u32,
     pub retired: u32,
     pub reserved: u32,
+}
+
+impl Counts {
+    /// A code alone.
+    fn none(code: u32) -> Self
+        ensures { result.code ≡ code }
+    {
+        Counts {
+            asked: 0,
+            code,
+            len: 0,
+            total: 0,
+            room: 0,
+            top: 0,
+            retired: 0,
+            reserved: 0,
+        }
+    }
 }
 
 /// `Entities::asked`, `len`, `total`, `room`, `top`, `retired` and `reserved`, in one call.
@@ -41,20 +60,17 @@ pub extern "C" fn ent_rust_counts(alloc: Global, object: &mut Object) -> Counts
     ensures reserved { result.code ≡ done → Holds object.old.place.holds (λ a.
         result.reserved ≡ length a.taken) }
     ensures empty { result.code ≡ is_empty ↔ object.old.place.holds ≡ None }
+    ensures other { result.code ≡ other_kind
+        ↔ HoldsOther entities_of object.old.place.holds }
     ensures unchanged { object.new.place.holds ≡ object.old.place.holds }
-    ensures code { IsOneOf (done ∷ is_empty ∷ []) result.code }
+    ensures code { IsOneOf (done ∷ is_empty ∷ other_kind ∷ []) result.code }
 {
-    let Some(entities) = object.take(alloc) else {
-        return Counts {
-            asked: 0,
-            code: IS_EMPTY,
-            len: 0,
-            total: 0,
-            room: 0,
-            top: 0,
-            retired: 0,
-            reserved: 0,
-        };
+    let Some(held) = object.take(alloc) else {
+        return Counts::none(IS_EMPTY);
+    };
+    let Held::Entities(entities) = &*held else {
+        object.put(held);
+        return Counts::none(OTHER_KIND);
     };
     let counts = Counts {
         asked: entities.asked(),
@@ -66,6 +82,6 @@ pub extern "C" fn ent_rust_counts(alloc: Global, object: &mut Object) -> Counts
         retired: entities.retired(),
         reserved: entities.reserved(),
     };
-    object.put(entities);
+    object.put(held);
     counts
 }

@@ -4,15 +4,17 @@ ghost use Rattle.std.specs.FinSet as set;
 ghost use Rattle.ent_handle.specs.Handle.{IsHandle};
 ghost use Rattle.ent_alloc.specs.Sequential.{top, next, state_of, after_alloc, after_free};
 ghost use Rattle.ent_alloc.specs.declared.state.State.TheVariants.{Alive, Reserved, Gone};
-ghost use Rattle.ent_rust.specs.Holds.{Holds, Becomes};
-ghost use Rattle.ent_rust.specs.Answers.{done, done_and_retired, is_empty, no_handle, needs_flush};
+ghost use Rattle.ent_rust.specs.Holds.{Holds, Becomes, HoldsOther, entities_of};
+ghost use Rattle.ent_rust.specs.Answers.{done, done_and_retired, is_empty, other_kind};
+ghost use Rattle.ent_rust.specs.Answers.{no_handle, needs_flush};
 ghost use Rattle.ent_rust.specs.Answers.{no_space, not_alive, no_memory, is_alive, is_reserved};
 ghost use Rattle.ent_rust.specs.Answers.{is_gone, IsOneOf, handle};
 
 use crate::answer::{
     Answer, DONE, DONE_AND_RETIRED, IS_ALIVE, IS_EMPTY, IS_GONE, IS_RESERVED, NEEDS_FLUSH,
-    NO_HANDLE, NO_MEMORY, NO_SPACE, NOT_ALIVE,
+    NO_HANDLE, NO_MEMORY, NO_SPACE, NOT_ALIVE, OTHER_KIND,
 };
+use crate::held::Held;
 use crate::object::Object;
 use ent_alloc::{AllocFault, FreeFault, State};
 use ent_handle::Handle;
@@ -26,19 +28,25 @@ pub extern "C" fn ent_rust_alloc(alloc: Global, object: &mut Object) -> Answer
         (slice_get before.pool 0 ≡ Some (handle result.index result.generation))
         × (after ≡ after_alloc before (handle result.index result.generation))) }
     ensures empty { result.code ≡ is_empty ↔ object.old.place.holds ≡ None }
+    ensures other { result.code ≡ other_kind
+        ↔ HoldsOther entities_of object.old.place.holds }
     ensures needs_flush { result.code ≡ needs_flush
         ↔ Holds object.old.place.holds (λ a. 0 < a.asked) }
     ensures space { result.code ≡ no_space
         ↔ Holds object.old.place.holds (λ a. (a.asked ≡ 0) × (a.pool ≡ [])) }
     ensures memory { result.code ≡ no_memory → Holds object.old.place.holds (λ a. top a ≡ 0) }
     ensures refused { result.code ≢ done → object.new.place.holds ≡ object.old.place.holds }
-    ensures code { IsOneOf (done ∷ is_empty ∷ needs_flush ∷ no_space ∷ no_memory ∷ []) result.code }
+    ensures code { IsOneOf (done ∷ is_empty ∷ other_kind ∷ needs_flush ∷ no_space ∷ no_memory ∷ []) result.code }
 {
-    let Some(mut entities) = object.take(alloc) else {
+    let Some(mut held) = object.take(alloc) else {
         return Answer::alone(IS_EMPTY);
     };
+    let Held::Entities(entities) = &mut *held else {
+        object.put(held);
+        return Answer::alone(OTHER_KIND);
+    };
     let given = entities.alloc();
-    object.put(entities);
+    object.put(held);
     match given {
         Ok(handle) => Answer::with(DONE, handle),
         Err(AllocFault::NeedsFlush) => Answer::alone(NEEDS_FLUSH),
@@ -65,6 +73,8 @@ pub extern "C" fn ent_rust_free(
         (after ≡ after_free before (handle index generation))
         × (next before.limits (handle index generation) ≡ None)) }
     ensures empty { result.code ≡ is_empty ↔ object.old.place.holds ≡ None }
+    ensures other { result.code ≡ other_kind
+        ↔ HoldsOther entities_of object.old.place.holds }
     ensures no_handle { result.code ≡ no_handle
         ↔ Holds object.old.place.holds (λ _. ¬ IsHandle (handle index generation)) }
     ensures needs_flush { result.code ≡ needs_flush ↔ Holds object.old.place.holds (λ a.
@@ -78,18 +88,22 @@ pub extern "C" fn ent_rust_free(
         generation ≢ a.limits.generations) }
     ensures refused { result.code ≢ done → result.code ≢ done_and_retired
         → object.new.place.holds ≡ object.old.place.holds }
-    ensures code { IsOneOf (done ∷ done_and_retired ∷ is_empty ∷ no_handle ∷ needs_flush
+    ensures code { IsOneOf (done ∷ done_and_retired ∷ is_empty ∷ other_kind ∷ no_handle ∷ needs_flush
         ∷ not_alive ∷ no_memory ∷ []) result.code }
 {
-    let Some(mut entities) = object.take(alloc) else {
+    let Some(mut held) = object.take(alloc) else {
         return Answer::alone(IS_EMPTY);
     };
+    let Held::Entities(entities) = &mut *held else {
+        object.put(held);
+        return Answer::alone(OTHER_KIND);
+    };
     let Some(handle) = Handle::new(index, generation) else {
-        object.put(entities);
+        object.put(held);
         return Answer::alone(NO_HANDLE);
     };
     let freed = entities.free(handle);
-    object.put(entities);
+    object.put(held);
     match freed {
         Ok(freed) => match freed.next {
             Some(next) => Answer::with(DONE, next),
@@ -116,19 +130,25 @@ pub extern "C" fn ent_rust_state(
     ensures gone { result ≡ is_gone ↔ Holds object.old.place.holds (λ a.
         IsHandle (handle index generation) × (state_of a (handle index generation) ≡ Gone)) }
     ensures empty { result ≡ is_empty ↔ object.old.place.holds ≡ None }
+    ensures other { result ≡ other_kind
+        ↔ HoldsOther entities_of object.old.place.holds }
     ensures no_handle { result ≡ no_handle
         ↔ Holds object.old.place.holds (λ _. ¬ IsHandle (handle index generation)) }
     ensures unchanged { object.new.place.holds ≡ object.old.place.holds }
 {
-    let Some(entities) = object.take(alloc) else {
+    let Some(held) = object.take(alloc) else {
         return IS_EMPTY;
     };
+    let Held::Entities(entities) = &*held else {
+        object.put(held);
+        return OTHER_KIND;
+    };
     let Some(handle) = Handle::new(index, generation) else {
-        object.put(entities);
+        object.put(held);
         return NO_HANDLE;
     };
     let state = entities.state(handle);
-    object.put(entities);
+    object.put(held);
     match state {
         State::Alive => IS_ALIVE,
         State::Reserved => IS_RESERVED,

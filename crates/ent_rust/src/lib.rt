@@ -8,6 +8,7 @@
 pub mod answer;
 pub mod counts;
 pub mod giving;
+mod held;
 pub mod life;
 pub mod object;
 pub mod pair;

@@ -1,4 +1,4 @@
-//! How an object gets its allocator, and how it loses it.
+//! How an object gets its allocator, and how it loses what it holds.
 ghost use Rattle.std.specs.Prelude.{◌≡◌, ◌≢◌, ◌↔◌, [], ◌∷◌, None, IsSome};
 ghost use Rattle.ent_alloc.specs.Sequential.{opening};
 ghost use Rattle.ent_alloc.specs.Limits.{AreLimits};
@@ -6,6 +6,7 @@ ghost use Rattle.ent_rust.specs.Holds.{Holds};
 ghost use Rattle.ent_rust.specs.Answers.{done, is_full, no_limits, no_memory, IsOneOf};
 
 use crate::answer::{DONE, IS_FULL, NO_LIMITS, NO_MEMORY};
+use crate::held::Held;
 use crate::object::Object;
 use ent_alloc::{Entities, Limits};
 use std::alloc::Global;
@@ -32,14 +33,14 @@ pub extern "C" fn ent_rust_new(
     let Some(limits) = Limits::new(slots, generations) else {
         return NO_LIMITS;
     };
-    let Ok(entities) = Box::new(alloc, Entities::new(alloc, limits)) else {
+    let Ok(held) = Box::new(alloc, Held::Entities(Entities::new(alloc, limits))) else {
         return NO_MEMORY;
     };
-    object.put(entities);
+    object.put(held);
     DONE
 }
 
-/// Takes the allocator out and drops it, if there is one.
+/// Takes out what the object holds, whatever it is, and drops it.
 #[unsafe(no_mangle)]
 pub extern "C" fn ent_rust_drop(alloc: Global, object: &mut Object)
     ensures { object.new.place.holds ≡ None }

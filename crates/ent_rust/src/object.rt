@@ -1,12 +1,13 @@
 ghost use Rattle.std.specs.Prelude.{◌≡◌, Option, None, Some, IsTrue, IsSome, IfSome, IfOk, OnErr, ◌↔◌};
 
+use crate::held::Held;
 use crate::parts::Parts;
 use crate::place::Place;
-use ent_alloc::Entities;
 use std::alloc::Global;
 use std::mem::replace;
 
-/// What a Rust program holds in place of an `Entities`: room for one, that is full or empty.
+/// What a Rust program holds in place of an `Entities` and the like: room for one, that is full or
+/// empty.
 ///
 /// Its ghost `place.holds` is what it holds. An object of zeros is an empty one.
 #[derive(Drop)]
@@ -27,16 +28,16 @@ impl Object {
         }
     }
 
-    /// Whether it holds an allocator.
+    /// Whether it holds anything.
     pub(crate) fn is_full(&self) -> bool
         ensures { IsTrue result ↔ IsSome self.now.place.holds }
     {
         self.full
     }
 
-    /// Takes the allocator out, if there is one. The object is empty then.
-    pub(crate) fn take(&mut self, alloc: Global) -> Option<Box<Entities, Global>>
-        ensures some { IfSome result (λ entities. self.old.place.holds ≡ Some entities.value) }
+    /// Takes out what it holds, if it holds anything. The object is empty then.
+    pub(crate) fn take(&mut self, alloc: Global) -> Option<Box<Held, Global>>
+        ensures some { IfSome result (λ held. self.old.place.holds ≡ Some held.value) }
         ensures found { IsSome result ↔ IsSome self.old.place.holds }
         ensures emptied { self.new.place.holds ≡ None }
     {
@@ -47,13 +48,13 @@ impl Object {
         Some(held.place.into_parts().into_box())
     }
 
-    /// Puts an allocator into the object.
-    pub(crate) fn put(&mut self, entities: Box<Entities, Global>)
-        ensures { self.new.place.holds ≡ Some entities.value }
+    /// Puts this into the object.
+    pub(crate) fn put(&mut self, held: Box<Held, Global>)
+        ensures { self.new.place.holds ≡ Some held.value }
     {
         *self = Object {
             full: true,
-            place: Place::of_parts(Parts::of(entities)),
+            place: Place::of_parts(Parts::of(held)),
         };
     }
 }

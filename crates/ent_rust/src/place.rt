@@ -1,13 +1,13 @@
 ghost use Rattle.std.specs.Prelude.{◌≡◌, Option, None, Some, IsSome};
 ghost use Rattle.ent_rust.specs.Place.{Seen, seen_code, place_owns};
 
+use crate::held::Held;
 use crate::parts::Parts;
-use ent_alloc::Entities;
 use std::alloc::Global;
 use std::marker::Model;
 use std::ptr::null_mut;
 
-/// Room for an allocator's box, in a form that crosses to Rust: the pointer names no type.
+/// Room for a box, in a form that crosses to Rust: the pointer names no type.
 #[derive(Drop)]
 #[repr(C)]
 pub struct Place {
@@ -32,7 +32,7 @@ impl Place {
     }
 
     /// A place that holds what the parts own.
-    pub(crate) fn of_parts(parts: Parts<Entities, Global>) -> Self
+    pub(crate) fn of_parts(parts: Parts<Held, Global>) -> Self
         ensures { result.holds ≡ Some parts.value }
     {
         let Parts { at, alloc } = parts;
@@ -43,13 +43,13 @@ impl Place {
     }
 
     /// The parts that own what a full place held.
-    pub(crate) fn into_parts(self) -> Parts<Entities, Global>
+    pub(crate) fn into_parts(self) -> Parts<Held, Global>
         requires { IsSome self.holds }
         ensures { self.holds ≡ Some result.value }
     {
         let Place { at, alloc } = self;
         Parts {
-            at: at as *mut Entities,
+            at: at as *mut Held,
             alloc,
         }
     }

@@ -2,12 +2,13 @@
 ghost use Rattle.std.specs.Prelude.{◌≡◌, ◌≢◌, ◌^◌, ◌<◌, ◌≤◌, ◌↔◌, [], ◌∷◌, None};
 ghost use Rattle.std.specs.Prelude.{IfSome, IfNone, Ok, IsErr, length, map};
 ghost use Rattle.ent_alloc.specs.Sequential.{reply_to, after_take, born, after_flush};
-ghost use Rattle.ent_rust.specs.Holds.{Holds, Becomes};
+ghost use Rattle.ent_rust.specs.Holds.{Holds, Becomes, HoldsOther, entities_of};
 ghost use Rattle.ent_rust.specs.Answers.{done, is_empty, no_space, no_credit, no_room, no_memory};
-ghost use Rattle.ent_rust.specs.Answers.{IsOneOf, handle};
+ghost use Rattle.ent_rust.specs.Answers.{other_kind, IsOneOf, handle};
 ghost use Rattle.ent_rust.specs.Pair.{handle_of};
 
-use crate::answer::{Answer, DONE, IS_EMPTY, NO_CREDIT, NO_MEMORY, NO_ROOM, NO_SPACE};
+use crate::answer::{Answer, DONE, IS_EMPTY, NO_CREDIT, NO_MEMORY, NO_ROOM, NO_SPACE, OTHER_KIND};
+use crate::held::Held;
 use crate::object::Object;
 use crate::pair::Pair;
 use ent_alloc::Entities;
@@ -28,21 +29,27 @@ pub extern "C" fn ent_rust_request(alloc: Global, object: &mut Object) -> Answer
         → Becomes object.old.place.holds object.new.place.holds (λ before after.
         IsErr (reply_to before 1) × (after ≡ after_take before 1)) }
     ensures empty { result.code ≡ is_empty ↔ object.old.place.holds ≡ None }
+    ensures other { result.code ≡ other_kind
+        ↔ HoldsOther entities_of object.old.place.holds }
     ensures credit { result.code ≡ no_credit
         ↔ Holds object.old.place.holds (λ a. 2 ^ 50 ≤ a.asked) }
     ensures refused { result.code ≢ done → result.code ≢ no_space
         → object.new.place.holds ≡ object.old.place.holds }
-    ensures code { IsOneOf (done ∷ is_empty ∷ no_space ∷ no_credit ∷ []) result.code }
+    ensures code { IsOneOf (done ∷ is_empty ∷ other_kind ∷ no_space ∷ no_credit ∷ []) result.code }
 {
-    let Some(mut entities) = object.take(alloc) else {
+    let Some(mut held) = object.take(alloc) else {
         return Answer::alone(IS_EMPTY);
     };
+    let Held::Entities(entities) = &mut *held else {
+        object.put(held);
+        return Answer::alone(OTHER_KIND);
+    };
     if entities.asked() >= CREDIT {
-        object.put(entities);
+        object.put(held);
         return Answer::alone(NO_CREDIT);
     }
-    let given = request_one(&mut entities);
-    object.put(entities);
+    let given = request_one(entities);
+    object.put(held);
     match given {
         Some(handle) => Answer::with(DONE, handle),
         None => Answer::alone(NO_SPACE),
@@ -57,21 +64,27 @@ pub extern "C" fn ent_rust_flush(alloc: Global, object: &mut Object, list: &mut 
         → Becomes object.old.place.holds object.new.place.holds (λ before after.
         (after ≡ after_flush before) × (map handle_of list.new ≡ born before)) }
     ensures empty { result ≡ is_empty ↔ object.old.place.holds ≡ None }
+    ensures other { result ≡ other_kind
+        ↔ HoldsOther entities_of object.old.place.holds }
     ensures room { result ≡ no_room
         ↔ Holds object.old.place.holds (λ a. length list.old ≢ length a.taken) }
     ensures refused { result ≢ done → object.new.place.holds ≡ object.old.place.holds }
     ensures unlisted { result ≢ done → list.new ≡ list.old }
-    ensures code { IsOneOf (done ∷ is_empty ∷ no_room ∷ no_memory ∷ []) result }
+    ensures code { IsOneOf (done ∷ is_empty ∷ other_kind ∷ no_room ∷ no_memory ∷ []) result }
 {
-    let Some(mut entities) = object.take(alloc) else {
+    let Some(mut held) = object.take(alloc) else {
         return IS_EMPTY;
     };
+    let Held::Entities(entities) = &mut *held else {
+        object.put(held);
+        return OTHER_KIND;
+    };
     if entities.reserved() as usize != list.len() {
-        object.put(entities);
+        object.put(held);
         return NO_ROOM;
     }
-    let flushed = flush(alloc, &mut entities);
-    object.put(entities);
+    let flushed = flush(alloc, entities);
+    object.put(held);
     match flushed {
         Some(handles) => {
             write_all(list, &handles);

@@ -21,7 +21,7 @@ use Rattle.std_alloc.proofs.BoxSteps.Form.{D, B, word, box_typed}
 use Rattle.std_alloc.proofs.BoxSteps.Steps.{box_out, box_in}
 use Rattle.std_heap.specs.contracts.Global as global
 use Rattle.std_heap.specs.contracts.GlobalAllocator.TheImpl.{ghosts}
-use Rattle.ent_alloc.specs.contracts.entities.Entities as entities
+use Rattle.ent_rust.specs.contracts.held.Held as held
 use Rattle.ent_rust.specs.contracts.parts.Parts as parts
 use Rattle.ent_rust.specs.Place.{Seen}
 use Rattle.ent_rust.proofs.Boxed.{E, FromPlace}
@@ -39,7 +39,7 @@ abbrev stayed : Stays ended.signature.params ended.kept
 stayed = (stay_dropped FromPlace yes, tt)
 
 abbrev Made : RattleType
-Made = parts.the_row entities.the_row global.the_row ghosts
+Made = parts.the_row held.the_row global.the_row ghosts
 
 pub into_parts_spec : {M : Type 1} → statement M
 into_parts_spec 𝓤 𝓛 𝓜 𝓡 wired =
