@@ -1,3 +1,4 @@
 pub mod BornCount
 pub mod Boxed
 pub mod OneHandle
+pub mod Unused

@@ -64,6 +64,34 @@ no_room = 14
 abbrev pub other_kind : ℕ
 other_kind = 15
 
+-- no phase has that many callers
+abbrev pub no_count : ℕ
+no_count = 16
+
+-- no reserver is at home
+abbrev pub none_home : ℕ
+none_home = 17
+
+-- the two objects are of two phases
+abbrev pub other_phase : ℕ
+other_phase = 18
+
+-- not all reservers are at home
+abbrev pub not_all_home : ℕ
+not_all_home = 19
+
+-- a caller of the phase is not at home yet
+abbrev pub in_use : ℕ
+in_use = 20
+
+-- the list has room for more handles than one request may name
+abbrev pub too_many : ℕ
+too_many = 21
+
+-- all reservers are at home already
+abbrev pub all_home : ℕ
+all_home = 22
+
 -- the code is one of these
 abbrev pub IsOneOf : List ℕ → ℕ → Type 0
 IsOneOf [] code = ⊥

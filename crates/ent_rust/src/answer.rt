@@ -49,6 +49,27 @@ pub(crate) const NO_ROOM: u32 = 14;
 /// The object holds something of another kind.
 pub(crate) const OTHER_KIND: u32 = 15;
 
+/// No phase has that many callers.
+pub(crate) const NO_COUNT: u32 = 16;
+
+/// No reserver is at home.
+pub(crate) const NONE_HOME: u32 = 17;
+
+/// The two objects are of two phases.
+pub(crate) const OTHER_PHASE: u32 = 18;
+
+/// Not all reservers are at home.
+pub(crate) const NOT_ALL_HOME: u32 = 19;
+
+/// A caller of the phase is not at home yet.
+pub(crate) const IN_USE: u32 = 20;
+
+/// The list has room for more handles than one request may name.
+pub(crate) const TOO_MANY: u32 = 21;
+
+/// All reservers are at home already.
+pub(crate) const ALL_HOME: u32 = 22;
+
 /// A code and, where one was given, a handle.
 #[derive(Clone, Copy)]
 #[repr(C)]

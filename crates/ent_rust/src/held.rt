@@ -1,11 +1,16 @@
+use crate::caller::Caller;
+use crate::phase::Phase;
 use ent_alloc::Entities;
-use ent_shared::Shared;
 
 /// What an object holds: one of several kinds.
 #[derive(Drop)]
 pub(crate) enum Held {
     /// An allocator.
     Entities(Entities),
-    /// An allocator that is shared.
-    Shared(Shared),
+    /// An allocator that is shared, with the reservers that no caller has.
+    Phase(Phase),
+    /// A reserver, with the allocator that it reserves from.
+    Caller(Caller),
+    /// Nothing, for as long as a call makes one kind of another.
+    Nothing,
 }

@@ -6,12 +6,18 @@
 #![tactic(auto)]
 
 pub mod answer;
+mod caller;
+pub mod closing;
 pub mod counts;
 pub mod giving;
 mod held;
 pub mod life;
+pub mod meeting;
 pub mod object;
 pub mod pair;
 mod parts;
+mod phase;
 mod place;
 pub mod requests;
+pub mod reserving;
+pub mod sharing;

@@ -4,6 +4,7 @@ use crate::held::Held;
 use crate::parts::Parts;
 use crate::place::Place;
 use std::alloc::Global;
+use std::marker::Send;
 use std::mem::replace;
 
 /// What a Rust program holds in place of an `Entities` and the like: room for one, that is full or
@@ -54,7 +55,14 @@ impl Object {
     {
         *self = Object {
             full: true,
-            place: Place::of_parts(Parts::of(held)),
+            place: Place::of_parts(Parts::of(sent(held))),
         };
     }
+}
+
+/// What an object holds may be taken out on another thread.
+fn sent<T: Send>(value: T) -> T
+    ensures { result ≡ value }
+{
+    value
 }

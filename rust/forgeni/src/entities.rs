@@ -1,11 +1,15 @@
 //! The allocator.
 
-use crate::errors::{AllocError, FreeError, OutOfMemory, RequestError};
-use crate::ffi::{self, Counts, Pair, Raw};
+use crate::errors::{AllocError, FreeError, OutOfMemory, RequestError, ShareError, Unshared};
+use crate::ffi::{self, unknown, Counts, Object, Pair};
 use crate::handle::Handle;
 use crate::limits::Limits;
+use crate::sharing::{Reserver, Shared};
 use std::alloc::{handle_alloc_error, Layout};
 use std::fmt;
+
+/// How many callers an allocator may be shared among.
+const MOST_CALLERS: usize = 1024;
 
 /// What became of a handle.
 #[derive(Clone, Copy, Debug, PartialEq, Eq, Hash)]
@@ -28,14 +32,15 @@ pub struct Freed {
 
 /// Gives out the handles of entities and knows which are alive.
 ///
-/// It stays on its thread: it is neither `Send` nor `Sync`.
+/// It may go to another thread, and one thread has it at a time: it is `Send` and not `Sync`.
+/// [`share`](Self::share) is how many threads reserve from it at once.
 ///
 /// ```compile_fail
-/// fn sends<T: Send>() {}
-/// sends::<forgeni::Entities>();
+/// fn syncs<T: Sync>() {}
+/// syncs::<forgeni::Entities>();
 /// ```
 pub struct Entities {
-    raw: Raw,
+    pub(crate) object: Object,
 }
 
 impl Entities {
@@ -64,8 +69,8 @@ impl Entities {
     ///
     /// `OutOfMemory` if there is no memory for the empty allocator.
     pub fn try_with_limits(limits: Limits) -> Result<Self, OutOfMemory> {
-        match Raw::new(limits.slots(), limits.generations()) {
-            Ok(raw) => Ok(Self { raw }),
+        match Object::entities(limits.slots(), limits.generations()) {
+            Ok(object) => Ok(Self { object }),
             Err(ffi::NO_MEMORY) => Err(OutOfMemory),
             Err(code) => unknown(code),
         }
@@ -78,9 +83,9 @@ impl Entities {
     ///
     /// `NeedsFlush`, `Space` or `Memory`, and then nothing has changed.
     pub fn alloc(&mut self) -> Result<Handle, AllocError> {
-        let answer = self.raw.alloc();
+        let answer = self.object.alloc();
         match answer.code {
-            ffi::DONE => Ok(handle_of(answer.index, answer.generation)),
+            ffi::DONE => Ok(Handle::answered(answer.index, answer.generation)),
             ffi::NEEDS_FLUSH => Err(AllocError::NeedsFlush),
             ffi::NO_SPACE => Err(AllocError::Space),
             ffi::NO_MEMORY => Err(AllocError::Memory),
@@ -95,10 +100,10 @@ impl Entities {
     ///
     /// `NeedsFlush`, `NotAlive` or `Memory`, and then nothing has changed.
     pub fn free(&mut self, handle: Handle) -> Result<Freed, FreeError> {
-        let answer = self.raw.free(handle.index(), handle.generation());
+        let answer = self.object.free(handle.index(), handle.generation());
         match answer.code {
             ffi::DONE => Ok(Freed {
-                next: Some(handle_of(answer.index, answer.generation)),
+                next: Some(Handle::answered(answer.index, answer.generation)),
             }),
             ffi::DONE_AND_RETIRED => Ok(Freed { next: None }),
             ffi::NEEDS_FLUSH => Err(FreeError::NeedsFlush),
@@ -116,9 +121,9 @@ impl Entities {
     /// `Space` if no handle is left: every request is refused then until the next flush. `Credit`
     /// if 2^50 were requested since the last flush.
     pub fn request(&mut self) -> Result<Handle, RequestError> {
-        let answer = self.raw.request();
+        let answer = self.object.request();
         match answer.code {
-            ffi::DONE => Ok(handle_of(answer.index, answer.generation)),
+            ffi::DONE => Ok(Handle::answered(answer.index, answer.generation)),
             ffi::NO_SPACE => Err(RequestError::Space),
             ffi::NO_CREDIT => Err(RequestError::Credit),
             code => unknown(code),
@@ -137,18 +142,12 @@ impl Entities {
         let mut born = Vec::new();
         list.try_reserve_exact(reserved).map_err(|_| OutOfMemory)?;
         born.try_reserve_exact(reserved).map_err(|_| OutOfMemory)?;
-        list.resize(
-            reserved,
-            Pair {
-                index: 0,
-                generation: 0,
-            },
-        );
-        match self.raw.flush(&mut list) {
+        list.resize(reserved, Pair::BLANK);
+        match self.object.flush(&mut list) {
             ffi::DONE => {
                 born.extend(
                     list.iter()
-                        .map(|pair| handle_of(pair.index, pair.generation)),
+                        .map(|pair| Handle::answered(pair.index, pair.generation)),
                 );
                 Ok(born)
             }
@@ -157,10 +156,62 @@ impl Entities {
         }
     }
 
+    /// Shares the allocator among `callers` reservers, 1 to 1,024, each of which may go to a thread
+    /// of its own. [`Shared::close`] gives the allocator back, with all that they reserved.
+    ///
+    /// While it is shared nobody else can use it: it is inside the [`Shared`].
+    ///
+    /// ```
+    /// use forgeni::Entities;
+    ///
+    /// let (shared, mut reservers) = Entities::new().share(2)?;
+    /// std::thread::scope(|scope| {
+    ///     for reserver in &mut reservers {
+    ///         scope.spawn(|| reserver.reserve_many(10).expect("ten handles"));
+    ///     }
+    /// });
+    /// let mut entities = shared.close(reservers)?;
+    /// assert_eq!(entities.flush()?.len(), 20);
+    /// # Ok::<(), Box<dyn std::error::Error>>(())
+    /// ```
+    ///
+    /// ```compile_fail
+    /// let mut entities = forgeni::Entities::new();
+    /// let (shared, reservers) = entities.share(2).unwrap();
+    /// entities.alloc(); // it was moved
+    /// ```
+    ///
+    /// # Errors
+    ///
+    /// [`Unshared`] says why, and has the allocator as it was.
+    pub fn share(mut self, callers: usize) -> Result<(Shared, Vec<Reserver>), Unshared> {
+        let mut reservers = Vec::new();
+        if reservers
+            .try_reserve_exact(callers.min(MOST_CALLERS))
+            .is_err()
+        {
+            return Err(Unshared {
+                entities: self,
+                error: ShareError::Memory,
+            });
+        }
+        let error = match self.object.share(callers) {
+            Ok(phase) => return Shared::new(self.object, phase).give_all(reservers),
+            Err(ffi::NEEDS_FLUSH) => ShareError::NeedsFlush,
+            Err(ffi::NO_COUNT) => ShareError::Count,
+            Err(ffi::NO_MEMORY) => ShareError::Memory,
+            Err(code) => unknown(code),
+        };
+        Err(Unshared {
+            entities: self,
+            error,
+        })
+    }
+
     /// What became of a handle. It takes constant time.
     #[must_use]
     pub fn state(&self, handle: Handle) -> State {
-        match self.raw.state(handle.index(), handle.generation()) {
+        match self.object.state(handle.index(), handle.generation()) {
             ffi::IS_ALIVE => State::Alive,
             ffi::IS_RESERVED => State::Reserved,
             ffi::IS_GONE => State::Gone,
@@ -229,7 +280,7 @@ impl Entities {
     }
 
     fn counts(&self) -> Counts {
-        let counts = self.raw.counts();
+        let counts = self.object.counts();
         match counts.code {
             ffi::DONE => counts,
             code => unknown(code),
@@ -254,17 +305,4 @@ impl fmt::Debug for Entities {
             .field("reserved", &counts.reserved)
             .finish_non_exhaustive()
     }
-}
-
-/// The library answers a handle only with its two numbers in range.
-fn handle_of(index: u32, generation: u32) -> Handle {
-    match Handle::new(index, generation) {
-        Some(handle) => handle,
-        None => unreachable!("the library answered {index}v{generation}"),
-    }
-}
-
-/// The library's contracts rule out each other code, since the object is full.
-fn unknown(code: u32) -> ! {
-    unreachable!("the library answered the code {code}")
 }

@@ -1,5 +1,7 @@
 //! Why a call did nothing.
 
+use crate::entities::Entities;
+use crate::sharing::{Reserver, Shared};
 use std::error::Error;
 use std::fmt;
 
@@ -80,3 +82,135 @@ impl fmt::Display for OutOfMemory {
 }
 
 impl Error for OutOfMemory {}
+
+/// Why [`Entities::share`](crate::Entities::share) shared nothing.
+#[derive(Clone, Copy, Debug, PartialEq, Eq, Hash)]
+pub enum ShareError {
+    /// Handles were requested since the last flush, even if the request was refused.
+    NeedsFlush,
+    /// The number of callers isn't one from 1 to 1,024.
+    Count,
+    /// Memory ran out.
+    Memory,
+}
+
+impl fmt::Display for ShareError {
+    fn fmt(&self, out: &mut fmt::Formatter<'_>) -> fmt::Result {
+        out.write_str(match self {
+            Self::NeedsFlush => "a flush is needed first",
+            Self::Count => "an allocator is shared among 1 to 1,024 callers",
+            Self::Memory => "out of memory",
+        })
+    }
+}
+
+impl Error for ShareError {}
+
+/// What [`Entities::share`](crate::Entities::share) returns if it refuses.
+#[derive(Debug)]
+pub struct Unshared {
+    /// The allocator as it was.
+    pub entities: Entities,
+    /// Why it wasn't shared.
+    pub error: ShareError,
+}
+
+impl fmt::Display for Unshared {
+    fn fmt(&self, out: &mut fmt::Formatter<'_>) -> fmt::Result {
+        self.error.fmt(out)
+    }
+}
+
+impl Error for Unshared {}
+
+/// Why a [`Reserver`](crate::Reserver) gave no handle.
+#[derive(Clone, Copy, Debug, PartialEq, Eq, Hash)]
+pub enum Refused {
+    /// The pool had fewer handles than were requested. The request is taken from the reserver's
+    /// quota, and the pool gives no more until the next flush.
+    Space {
+        /// How many handles were requested.
+        wanted: u32,
+        /// How many the pool still had.
+        left: u32,
+    },
+    /// The request was above what is left of the reserver's quota. Nothing has changed.
+    Quota {
+        /// What is left of it.
+        left: u64,
+    },
+    /// There was no memory for the list. Nothing has changed.
+    Memory,
+}
+
+impl fmt::Display for Refused {
+    fn fmt(&self, out: &mut fmt::Formatter<'_>) -> fmt::Result {
+        match self {
+            Self::Space { wanted, left } => write!(out, "{wanted} wanted and {left} left"),
+            Self::Quota { left } => write!(out, "the quota left is {left}"),
+            Self::Memory => out.write_str("out of memory"),
+        }
+    }
+}
+
+impl Error for Refused {}
+
+/// The two are of two phases: of two calls of [`Entities::share`](crate::Entities::share). Nothing
+/// has changed.
+#[derive(Clone, Copy, Debug, PartialEq, Eq, Hash)]
+pub struct OtherPhase;
+
+impl fmt::Display for OtherPhase {
+    fn fmt(&self, out: &mut fmt::Formatter<'_>) -> fmt::Result {
+        out.write_str("the reserver is of another phase")
+    }
+}
+
+impl Error for OtherPhase {}
+
+/// Why a [`Shared`](crate::Shared) wasn't closed.
+#[derive(Clone, Copy, Debug, PartialEq, Eq, Hash)]
+pub enum CloseError {
+    /// One of the reservers is of another phase. All of them are handed back.
+    OtherPhase,
+    /// Reservers are missing. Those that came are handed back.
+    Missing {
+        /// How many.
+        count: usize,
+    },
+    /// A reserver that was not handed in still exists. Those that came are at home in the `Shared`
+    /// now: [`Shared::reserver`](crate::Shared::reserver) has them, and so has the next close.
+    InUse,
+}
+
+impl fmt::Display for CloseError {
+    fn fmt(&self, out: &mut fmt::Formatter<'_>) -> fmt::Result {
+        match self {
+            Self::OtherPhase => out.write_str("a reserver is of another phase"),
+            Self::Missing { count } => write!(out, "{count} reservers are missing"),
+            Self::InUse => out.write_str("a reserver is still in use"),
+        }
+    }
+}
+
+impl Error for CloseError {}
+
+/// What [`Shared::close`](crate::Shared::close) and
+/// [`Shared::close_lost`](crate::Shared::close_lost) return if they refuse. The phase goes on.
+#[derive(Debug)]
+pub struct Unclosed {
+    /// The allocator, which is still shared.
+    pub shared: Shared,
+    /// The reservers that are handed back.
+    pub reservers: Vec<Reserver>,
+    /// Why it wasn't closed.
+    pub error: CloseError,
+}
+
+impl fmt::Display for Unclosed {
+    fn fmt(&self, out: &mut fmt::Formatter<'_>) -> fmt::Result {
+        self.error.fmt(out)
+    }
+}
+
+impl Error for Unclosed {}

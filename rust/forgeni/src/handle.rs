@@ -40,6 +40,14 @@ impl Handle {
         }
     }
 
+    /// The handle of an answer. The library answers one only with its two numbers in range.
+    pub(crate) fn answered(index: u32, generation: u32) -> Self {
+        match Self::new(index, generation) {
+            Some(handle) => handle,
+            None => unreachable!("the library answered {index}v{generation}"),
+        }
+    }
+
     /// The index of its slot.
     #[must_use]
     pub const fn index(self) -> u32 {

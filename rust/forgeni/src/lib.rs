@@ -30,8 +30,13 @@ mod errors;
 mod ffi;
 mod handle;
 mod limits;
+mod sharing;
 
 pub use entities::{Entities, Freed, State};
-pub use errors::{AllocError, FreeError, OutOfMemory, RequestError};
+pub use errors::{
+    AllocError, CloseError, FreeError, OtherPhase, OutOfMemory, Refused, RequestError,
+};
+pub use errors::{ShareError, Unclosed, Unshared};
 pub use handle::Handle;
 pub use limits::Limits;
+pub use sharing::{Reserver, Shared};

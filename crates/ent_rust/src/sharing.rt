@@ -1,0 +1,229 @@
+//! An allocator is shared among callers, and comes back when they are at home again.
+ghost use Rattle.std.specs.Prelude.{◌≡◌, ◌≢◌, ◌<◌, ◌≤◌, ◌↔◌, ◌⊎◌, [], ◌∷◌, ◌++◌, None, IsSome};
+ghost use Rattle.std.specs.Prelude.{length};
+ghost use Rattle.ent_shared.specs.Phase.{records_of};
+ghost use Rattle.ent_shared.specs.Record.{opened_records};
+ghost use Rattle.ent_rust.specs.Holds.{Holds, HoldsPhase, PhaseBecomes, HoldsCaller, HoldsOther};
+ghost use Rattle.ent_rust.specs.Holds.{entities_of, phase_of, caller_of, AreToldApart};
+ghost use Rattle.ent_rust.specs.Answers.{done, is_empty, is_full, needs_flush, no_memory};
+ghost use Rattle.ent_rust.specs.Answers.{other_kind, no_count, none_home, other_phase, all_home};
+ghost use Rattle.ent_rust.specs.Answers.{IsOneOf};
+
+use crate::answer::{
+    ALL_HOME, DONE, IS_EMPTY, IS_FULL, NEEDS_FLUSH, NO_COUNT, NO_MEMORY, NONE_HOME, OTHER_KIND,
+    OTHER_PHASE,
+};
+use crate::held::Held;
+use crate::object::Object;
+use crate::phase::Phase;
+use std::alloc::Global;
+use std::mem::replace;
+
+/// How many callers a phase may have.
+const CALLERS: usize = 1024;
+
+/// `share`: the object becomes a phase with `count` reservers at home, and this number.
+#[unsafe(no_mangle)]
+pub extern "C" fn ent_rust_share(
+    alloc: Global,
+    object: &mut Object,
+    count: usize,
+    phase: u64,
+) -> u32
+    ensures shared { result ≡ done → Holds object.old.place.holds (λ a.
+        HoldsPhase object.new.place.holds (λ p.
+        (p.phase ≡ phase) × (p.shared.start ≡ a) × (p.shared.count ≡ count)
+        × (records_of p.home ≡ opened_records a 0 count))) }
+    ensures empty { result ≡ is_empty ↔ object.old.place.holds ≡ None }
+    ensures other { result ≡ other_kind ↔ HoldsOther entities_of object.old.place.holds }
+    ensures needs_flush { result ≡ needs_flush
+        ↔ Holds object.old.place.holds (λ a. 0 < a.asked) }
+    ensures count { result ≡ no_count ↔ Holds object.old.place.holds (λ a.
+        (a.asked ≡ 0) × ((count ≡ 0) ⊎ (1024 < count))) }
+    ensures refused { result ≢ done → object.new.place.holds ≡ object.old.place.holds }
+    ensures code { IsOneOf (done ∷ is_empty ∷ other_kind ∷ needs_flush ∷ no_count ∷ no_memory
+        ∷ []) result }
+{
+    let Some(mut held) = object.take(alloc) else {
+        return IS_EMPTY;
+    };
+    let Held::Entities(entities) = &*held else {
+        object.put(held);
+        return OTHER_KIND;
+    };
+    if entities.asked() > 0 {
+        object.put(held);
+        return NEEDS_FLUSH;
+    }
+    if count == 0 || count > CALLERS {
+        object.put(held);
+        return NO_COUNT;
+    }
+    let Held::Entities(entities) = replace(&mut *held, Held::Nothing) else {
+        unreachable!()
+    };
+    match Phase::open(alloc, entities, count, phase) {
+        Ok(phase) => {
+            *held = Held::Phase(phase);
+            object.put(held);
+            DONE
+        }
+        Err(entities) => {
+            *held = Held::Entities(entities);
+            object.put(held);
+            NO_MEMORY
+        }
+    }
+}
+
+/// The object becomes a caller of the phase, with the last of the reservers that are at home.
+#[unsafe(no_mangle)]
+pub extern "C" fn ent_rust_caller(alloc: Global, phase: &mut Object, caller: &mut Object) -> u32
+    ensures given { result ≡ done
+        → PhaseBecomes phase.old.place.holds phase.new.place.holds (λ before after.
+        HoldsCaller caller.new.place.holds (λ c.
+        (c.phase ≡ before.phase) × (c.shared ≡ before.shared)
+        × (before ≡ record after { home = after.home ++ c.reserver ∷ [] }))) }
+    ensures empty { result ≡ is_empty ↔ phase.old.place.holds ≡ None }
+    ensures other { result ≡ other_kind ↔ HoldsOther phase_of phase.old.place.holds }
+    ensures full { result ≡ is_full
+        ↔ HoldsPhase phase.old.place.holds (λ _. IsSome caller.old.place.holds) }
+    ensures none_home { result ≡ none_home ↔ HoldsPhase phase.old.place.holds (λ p.
+        (caller.old.place.holds ≡ None) × (p.home ≡ [])) }
+    ensures refused { result ≢ done → (phase.new.place.holds ≡ phase.old.place.holds)
+        × (caller.new.place.holds ≡ caller.old.place.holds) }
+    ensures code { IsOneOf (done ∷ is_empty ∷ other_kind ∷ is_full ∷ none_home ∷ no_memory ∷ [])
+        result }
+{
+    let Some(mut held) = phase.take(alloc) else {
+        return IS_EMPTY;
+    };
+    let Held::Phase(one) = &mut *held else {
+        phase.put(held);
+        return OTHER_KIND;
+    };
+    if caller.is_full() {
+        phase.put(held);
+        return IS_FULL;
+    }
+    if one.at_home() == 0 {
+        phase.put(held);
+        return NONE_HOME;
+    }
+    // The box first, so that no reserver is lost.
+    let Ok(mut made) = Box::new(alloc, Held::Nothing) else {
+        phase.put(held);
+        return NO_MEMORY;
+    };
+    let given = one.give();
+    phase.put(held);
+    match given {
+        Some(one) => {
+            *made = Held::Caller(one);
+            caller.put(made);
+            DONE
+        }
+        None => NO_MEMORY,
+    }
+}
+
+/// Takes the caller's reserver home into its phase. The caller's object is empty then.
+#[unsafe(no_mangle)]
+pub extern "C" fn ent_rust_come_home(alloc: Global, phase: &mut Object, caller: &mut Object) -> u32
+    requires told_apart { AreToldApart phase.old.place.holds caller.old.place.holds }
+    ensures home { result ≡ done
+        → PhaseBecomes phase.old.place.holds phase.new.place.holds (λ before after.
+        HoldsCaller caller.old.place.holds (λ c.
+        after ≡ record before { home = before.home ++ c.reserver ∷ [] })) }
+    ensures emptied { result ≡ done → caller.new.place.holds ≡ None }
+    ensures empty { result ≡ is_empty
+        ↔ ((phase.old.place.holds ≡ None) ⊎ (caller.old.place.holds ≡ None)) }
+    ensures other { result ≡ other_kind ↔ ((IsSome phase.old.place.holds × IsSome caller.old.place.holds)
+        × (HoldsOther phase_of phase.old.place.holds ⊎ HoldsOther caller_of caller.old.place.holds)) }
+    ensures other_phase { result ≡ other_phase ↔ HoldsPhase phase.old.place.holds (λ p.
+        HoldsCaller caller.old.place.holds (λ c. p.phase ≢ c.phase)) }
+    ensures all_home { result ≡ all_home ↔ HoldsPhase phase.old.place.holds (λ p.
+        HoldsCaller caller.old.place.holds (λ c.
+        (p.phase ≡ c.phase) × (p.shared.count ≤ length p.home))) }
+    ensures refused { result ≢ done → (phase.new.place.holds ≡ phase.old.place.holds)
+        × (caller.new.place.holds ≡ caller.old.place.holds) }
+    ensures code { IsOneOf (done ∷ is_empty ∷ other_kind ∷ other_phase ∷ all_home ∷ []) result }
+{
+    let Some(mut held) = phase.take(alloc) else {
+        return IS_EMPTY;
+    };
+    let Some(mut guest) = caller.take(alloc) else {
+        phase.put(held);
+        return IS_EMPTY;
+    };
+    let code = match (&mut *held, &*guest) {
+        (Held::Phase(one), Held::Caller(other)) if one.number() != other.phase => OTHER_PHASE,
+        (Held::Phase(one), Held::Caller(_)) if one.at_home() >= one.count() => ALL_HOME,
+        (Held::Phase(_), Held::Caller(_)) => DONE,
+        _ => OTHER_KIND,
+    };
+    if code != DONE {
+        phase.put(held);
+        caller.put(guest);
+        return code;
+    }
+    let Held::Caller(one) = replace(&mut *guest, Held::Nothing) else {
+        unreachable!()
+    };
+    let Held::Phase(home) = &mut *held else {
+        unreachable!()
+    };
+    home.take_home(one);
+    phase.put(held);
+    DONE
+}
+
+/// A code and, if the object holds a phase, its numbers.
+#[derive(Clone, Copy)]
+#[repr(C)]
+pub struct PhaseNumbers {
+    pub count: usize,
+    pub home: usize,
+    pub code: u32,
+}
+
+/// `Shared::count`, and how many of the reservers are at home.
+#[unsafe(no_mangle)]
+pub extern "C" fn ent_rust_phase_numbers(alloc: Global, object: &mut Object) -> PhaseNumbers
+    ensures count { result.code ≡ done → HoldsPhase object.old.place.holds (λ p.
+        result.count ≡ p.shared.count) }
+    ensures home { result.code ≡ done → HoldsPhase object.old.place.holds (λ p.
+        result.home ≡ length p.home) }
+    ensures empty { result.code ≡ is_empty ↔ object.old.place.holds ≡ None }
+    ensures other { result.code ≡ other_kind ↔ HoldsOther phase_of object.old.place.holds }
+    ensures unchanged { object.new.place.holds ≡ object.old.place.holds }
+    ensures code { IsOneOf (done ∷ is_empty ∷ other_kind ∷ []) result.code }
+{
+    let Some(held) = object.take(alloc) else {
+        return PhaseNumbers::none(IS_EMPTY);
+    };
+    let Held::Phase(one) = &*held else {
+        object.put(held);
+        return PhaseNumbers::none(OTHER_KIND);
+    };
+    let numbers = PhaseNumbers {
+        count: one.count(),
+        home: one.at_home(),
+        code: DONE,
+    };
+    object.put(held);
+    numbers
+}
+
+impl PhaseNumbers {
+    /// A code alone.
+    fn none(code: u32) -> Self
+        ensures { result.code ≡ code }
+    {
+        PhaseNumbers {
+            count: 0,
+            home: 0,
+            code,
+        }
+    }
+}
