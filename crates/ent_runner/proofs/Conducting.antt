@@ -199,12 +199,6 @@ module _ (shared : Shared) (claims : Claims) (team : List Worker)
       (All-weaker (HasClaimed shared claims) (λ (w : Worker). IsClaimerOf claims w.claimer)
       (λ w d. d.claimer) team each)
 
-  pub all_inside : All (λ (w : Worker). All (λ (i : SystemQueue). i.system < claims.numbers)
-      w.issued.items) team
-  all_inside = All-weaker (HasClaimed shared claims)
-      (λ (w : Worker). All (λ (i : SystemQueue). i.system < claims.numbers) w.issued.items)
-      (λ w d. d.inside) team each
-
   -- the systems that they ran are those that they claimed
   pub ran_claims : flat_map (λ (w : Worker). systems_of w.issued.items) team
       ≡ flat_map (λ (c : Claimer). c.own.claims) (map (λ (w : Worker). w.claimer) team)

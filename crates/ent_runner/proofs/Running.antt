@@ -34,14 +34,6 @@ systems_more issued next i claims more pushed same claimed = ap systems_of pushe
 
 module _ {S : Type 0} (may : S → View → List Command → Type 0) (systems : List S) (view : View)
   where
-    pub ran_nothing : (r : Record) (claims : List ℕ) (issued : List SystemQueue) → claims ≡ []
-        → issued ≡ [] → HasRun may systems view r r claims issued
-    ran_nothing r claims issued no_claims no_queues = record {
-      claims = ap systems_of no_queues ∙ sym no_claims;
-      gains = subst (λ is. Gains r (commands_issued is) r) (sym no_queues) (gains_nothing r);
-      each = subst (All (λ (i : SystemQueue). SystemMayIssue may systems view i.system i.queue))
-          (sym no_queues) (All-nil (λ (i : SystemQueue). SystemMayIssue may systems view i.system
-          i.queue));
     }
 
     -- one system more

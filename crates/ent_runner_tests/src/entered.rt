@@ -37,7 +37,7 @@ fn each_system_is_entered_once_in_each_frame(rt: HostRuntime) {
     }
 }
 
-/// Systems that spawn, of which `stops` in a row, after the first `before` ones, then answer that
+/// Systems that spawn, of which `stops` in a row, after the first `before` ones, then return that
 /// memory was refused.
 fn stopping(rt: &impl Abort, alloc: Global, before: usize, stops: usize) -> Vec<Act> {
     let mut acts = Vec::new(alloc);
@@ -61,8 +61,8 @@ where
     let counts = Counts::new(rt, alloc, acts.len());
     let systems = all_counted(rt, alloc, &counts, acts);
     let mut world = World::new(alloc, Limits::default_limits());
-    let answer = tried(rt, alloc, &mut world, &systems, workers, &counts);
-    assert!(rt; matches!(answer, Err(FrameFault::Lost)));
+    let ended = tried(rt, alloc, &mut world, &systems, workers, &counts);
+    assert!(rt; matches!(ended, Err(FrameFault::Lost)));
     counts.assert_first(rt, entered, 1);
     assert!(rt; world.is_empty());
     world.flush().expect(rt, "memory for the flush");

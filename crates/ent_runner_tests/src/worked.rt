@@ -99,8 +99,8 @@ fn a_system_without_memory_loses_the_frame(rt: HostRuntime) {
     let alloc = rt.alloc();
     let mut world = World::new(alloc, Limits::default_limits());
     let systems = [Act::Spawn(5), Act::SpawnAndStop(7)];
-    let answer = tried(&rt, alloc, &mut world, &systems, 1, &NoGate);
-    assert!(rt; matches!(answer, Err(FrameFault::Lost)));
+    let ended = tried(&rt, alloc, &mut world, &systems, 1, &NoGate);
+    assert!(rt; matches!(ended, Err(FrameFault::Lost)));
     assert!(rt; world.needs_flush());
     assert!(rt; world.is_empty());
     world.flush().expect(&rt, "memory for the flush");

@@ -1,7 +1,8 @@
--- A report by births that tells of no refusal: no request of the run was refused. A request that was
--- refused is a fault of its frame, faults are only appended, and each has its line in the text.
+-- A report by births that tells of no refusal: no request of the run was refused. A request that
+-- was refused is a fault of its frame, faults are only appended, and each has its line in the text.
 use Rattle.std.proofs.Common.{◌≡◌, refl, sym, ap, ◌∙◌, subst, inl, inr, ℕ, ◌+◌, Bool, true}
-use Rattle.std.proofs.Common.{false, cond, List, [], ◌∷◌, ◌++◌, length, All, append_assoc, append-nil}
+use Rattle.std.proofs.Common.{false, cond, List, [], ◌∷◌, ◌++◌, length, All, append_assoc}
+use Rattle.std.proofs.Common.{append-nil}
 use Rattle.std.specs.Prelude.{codes}
 use Rattle.std.specs.Fmt.{decimal}
 use Rattle.std.specs.List.{flat_map}

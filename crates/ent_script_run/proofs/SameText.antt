@@ -1,5 +1,5 @@
--- A report by births is the text of births alone, if no request of the run was refused and the script
--- names no handle: each frame is told by births alone, and so is the next one.
+-- A report by births is the text of births alone, if no request of the run was refused and the
+-- script names no handle: each frame is told by births alone, and so is the next one.
 use Rattle.std.proofs.Common.{◌≡◌, refl, ap, sym, ◌∙◌, ℕ, ◌+◌, ◌^◌, ◌<◌, List, [], ◌∷◌, length}
 use Rattle.std.proofs.Common.{All, Some, arith}
 use Rattle.std.specs.FinMap as finite

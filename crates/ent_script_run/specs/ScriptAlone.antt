@@ -1,6 +1,6 @@
--- Births alone: the text of a script if nothing is refused to it, told by births. There is no handle
--- in it, no allocator, no reservation and no worker. What the systems issue is in `IssuedAlone` of
--- `ent_script_system`, and what the commands do in `BirthsAlone` of `ent_world`.
+-- Births alone: the text of a script if nothing is refused to it, told by births. There is no
+-- handle in it, no allocator, no reservation and no worker. What the systems issue is in
+-- `IssuedAlone` of `ent_script_system`, and what the commands do in `BirthsAlone` of `ent_world`.
 use Rattle.std.specs.Prelude.{ℕ, ◌+◌, List, [], ◌∷◌, ◌++◌, length, codes}
 use Rattle.std.specs.Fmt.{decimal}
 use Rattle.std.specs.List.{flat_map}

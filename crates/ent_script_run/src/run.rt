@@ -69,9 +69,9 @@ where
 /// `ent_script` has read.
 ///
 /// With several workers, which entity gets which handle may differ from run to run. The text by
-/// births of a script that names no handle stays the same, as long as no request is refused, as of a
-/// script that spawns no more entities in all than it has slots. What a frame has done is kept as text
-/// alone, so memory grows with the world, the text and the longest frame.
+/// births of a script that names no handle stays the same, as long as no request is refused, as of
+/// a script that spawns no more entities in all than it has slots. What a frame has done is kept as
+/// text alone, so memory grows with the world, the text and the longest frame.
 ///
 /// # Errors
 ///

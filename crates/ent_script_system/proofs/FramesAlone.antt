@@ -154,7 +154,8 @@ module _ (systems : List (List Operation)) (workers : ℕ) (w : World)
         ((lists.holds h).0 has))) hs (All-contains_itself hs),
     ap (map (λ entity. entity.0)) (sym (listed-named name w.entities view named old_names
         (λ e. finite.contains_key e.components id)
-        (λ items. is_some (find component_cmp id items)) (λ e. ap is_some (finite.get-entries e.components id)) hs lists))
+        (λ items. is_some (find component_cmp id items))
+        (λ e. ap is_some (finite.get-entries e.components id)) hs lists))
         ∙ map_map_is (λ entity. entity.0) _ hs,
   )
     where
@@ -176,7 +177,8 @@ module _ (systems : List (List Operation)) (workers : ℕ) (w : World)
       let e = entity_at w.entities h birth own in
       let same : name h ≡ birth = old_names h e.0 e.1 ∙ e.2 in
       let there = ap (λ b. find birth_cmp b view) (sym e.2) ∙ named.there h e.0 e.1 in (
-        All-cons (IsThere all_born) h [] (old_there h (ap is_some e.1)) (All-nil (IsThere all_born)),
+        All-cons (IsThere all_born) h [] (old_there h (ap is_some e.1))
+            (All-nil (IsThere all_born)),
         ap (λ o. cond (is_some o) (birth ∷ []) []) there ∙ ap (λ b. b ∷ []) (sym same),
       )
   birth_named birth (h ∷ k ∷ hs) none = absurd none

@@ -1,6 +1,7 @@
 -- What a system issues by births is its queue with births in the place of handles, if no request of
 -- it was refused and it names no handle.
-use Rattle.std.proofs.Common.{◌≡◌, refl, sym, ap, ◌∙◌, subst, ℕ, ◌+◌, Bool, true, false, cond, arith}
+use Rattle.std.proofs.Common.{◌≡◌, refl, sym, ap, ◌∙◌, subst, ℕ, ◌+◌, Bool, true, false, cond}
+use Rattle.std.proofs.Common.{arith}
 use Rattle.std.proofs.Common.{ℤ, List, [], ◌∷◌, ◌++◌, map, length, All, Option, Some, None}
 use Rattle.std.specs.Prelude.{◌==◌}
 use Rattle.std.specs.List.{AllZip, range_with_len}

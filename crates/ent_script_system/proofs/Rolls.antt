@@ -117,13 +117,6 @@ module _ (view : View) (birth : Birth) where
           | inr not ↦ omega (arith, not)
         ]
 
-    -- past the end there is none
-    pub none_past : length handles ≤ index → (h : Handle) → birth_of m h ≢ Some birth
-    none_past past h is =
-        let at = listed handles lists h is in
-        let le : index ≤ at.0 = at_or_after h at.0 at.1 at.2 is in
-        absurd (omega (arith, le, at.1))
-
     module _ (h : Handle) (within : index < length handles) (here : get_or handles index h ≡ h)
       where
         -- another one with the birth is the same, or stands after it

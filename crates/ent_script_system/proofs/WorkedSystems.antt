@@ -71,7 +71,7 @@ module _ (view : View) (h k : Handle) (why : Refusal) where
       → MayIssue (operation.Despawn (target.Birth birth) ∷ []) view []
   birth_of_nobody birth none = ([], [], refl, ([], none, refl), refl)
 
-  -- the entity of a birth in the view gets a command from each operation, also after it was despawned
+  -- the entity of a birth in the view gets a command from each operation, also after its despawn
   birth_twice : (birth : Birth) → IsOfBirth view birth (h ∷ [])
       → MayIssue (operation.Despawn (target.Birth birth) ∷ operation.Remove hp (target.Birth birth)
       ∷ []) view (Despawn h ∷ Remove h hp ∷ [])

@@ -1,4 +1,4 @@
--- A frame of scripted systems as births alone tell it.
+-- For laws: a frame of scripted systems as births alone tell it.
 use Rattle.std.specs.Prelude.{◌≡◌, ◌+◌, List, length}
 use Rattle.ent_handle.specs.declared.birth.Birth.{Birth}
 use Rattle.ent_handle.specs.Handle.{Handle}

@@ -1,6 +1,6 @@
 -- Births alone: what the systems of a script issue if nothing is refused to them, told by births.
--- There is no handle in it, no allocator, no reservation and no worker. A handle that a script names
--- has no meaning here. What the commands do is in `BirthsAlone` of `ent_world`.
+-- There is no handle in it, no allocator, no reservation and no worker. A handle that a script
+-- names has no meaning here. What the commands do is in `BirthsAlone` of `ent_world`.
 use Rattle.std.specs.Prelude.{ℕ, ◌+◌, ◌==◌, if◌then◌else◌, List, [], ◌∷◌, ◌++◌}
 use Rattle.std.specs.Prelude.{Option, None, Some, is_some, map, filter}
 use Rattle.std.specs.FinMap.{find}
@@ -90,7 +90,7 @@ NeedsNoHandle (operation.Despawn on) = IsNoHandle on
 abbrev pub NamesNoHandle : List Operation → Type 0
 NamesNoHandle ops = All NeedsNoHandle ops
 
--- the command is not a request that was refused
+-- For laws: the command is not a request that was refused.
 abbrev pub IsGranted : Command → Type 0
 IsGranted (queued.Spawn h items) = Unit {0}
 IsGranted (queued.SpawnMany hs items) = Unit {0}
@@ -99,6 +99,6 @@ IsGranted (queued.Remove h id) = Unit {0}
 IsGranted (queued.Despawn h) = Unit {0}
 IsGranted (queued.Refused wanted why) = ⊥
 
--- no command of any queue is such a request
+-- For laws: no command of any queue is such a request.
 abbrev pub AreGranted : List (List Command) → Type 0
 AreGranted queues = All (All IsGranted) queues

@@ -32,8 +32,8 @@ names_after names (operation.SpawnMany count bundle (Some n)) (SpawnMany hs item
     bound n hs names
 names_after names _ _ = names
 
--- The list has the handle of the entity with that birth: the least if there are several, and none if
--- there is no such entity.
+-- The list has the handle of the entity with that birth: the least if there are several, and none
+-- if there is no such entity.
 abbrev pub IsOfBirth : View → Birth → List Handle → Type 0
 IsOfBirth view birth [] = (h : Handle) → birth_of view.entities h ≢ Some birth
 IsOfBirth view birth (h ∷ []) =

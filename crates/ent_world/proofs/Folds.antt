@@ -46,14 +46,6 @@ on_each-append system command change [] ys a = refl
 on_each-append system command change (x ∷ xs) ys a = on_each-append system command change xs ys
     (on_entity system command change x a)
 
-pub on_each-next : (system command : ℕ) (change : Handle → World → World) (hs rest : List Handle)
-    (k : ℕ) (h : Handle) (a : Applied) → drop k hs ≡ h ∷ rest
-    → on_each system command change (take (k + 1) hs) a ≡ on_entity system command change h
-    (on_each system command change (take k hs) a)
-on_each-next system command change hs rest k h a left =
-    ap (λ xs. on_each system command change xs a) (next_taken hs rest k h left)
-    ∙ on_each-append system command change (take k hs) (h ∷ []) a
-
 -- Commands.
 
 pub after_commands-append : (system command : ℕ) (xs ys : List Command) (a : Applied)
@@ -67,21 +59,6 @@ after_commands-append system command (x ∷ xs) ys a =
     ∙ ap (λ n. after_commands system n ys (after_commands system (command + 1) xs
     (after_command system command x a))) same
 
-from_start : (system : ℕ) (q ys : List Command) (k : ℕ) (a : Applied) → k < length q
-    → after_commands system 0 (take k q ++ ys) a ≡ after_commands system k ys
-    (after_commands system 0 (take k q) a)
-from_start system q ys k a lt =
-    let same : 0 + length (take k q) ≡ k = omega (arith, length-take k q) in
-    after_commands-append system 0 (take k q) ys a
-    ∙ ap (λ n. after_commands system n ys (after_commands system 0 (take k q) a)) same
-
-pub after_commands-next : (system : ℕ) (q rest : List Command) (k : ℕ) (c : Command) (a : Applied)
-    → drop k q ≡ c ∷ rest → after_commands system 0 (take (k + 1) q) a
-    ≡ after_command system k c (after_commands system 0 (take k q) a)
-after_commands-next system q rest k c a left =
-    ap (λ cs. after_commands system 0 cs a) (next_taken q rest k c left)
-    ∙ from_start system q (c ∷ []) k a (next_below q rest k c left)
-
 pub first_alone : (done : ℕ) (c : Command) (rest : List Command) → first_part done (c ∷ rest)
     ≡ first_part done (c ∷ [])
 first_alone done (Spawn h items) rest = refl
@@ -90,16 +67,6 @@ first_alone done (Insert h items) rest = refl
 first_alone done (Remove h id) rest = refl
 first_alone done (Despawn h) rest = refl
 first_alone done (Refused wanted why) rest = refl
-
--- it stopped at this command
-pub stopped_command : (system : ℕ) (q rest : List Command) (k done : ℕ) (c : Command) (a : Applied)
-    → drop k q ≡ c ∷ rest
-    → after_commands system 0 (cut_commands k done q) a
-    ≡ after_commands system k (first_part done (c ∷ [])) (after_commands system 0 (take k q) a)
-stopped_command system q rest k done c a left =
-    ap (λ cs. after_commands system 0 (take k q ++ cs) a) (ap (first_part done) left
-    ∙ first_alone done c rest)
-    ∙ from_start system q (first_part done (c ∷ [])) k a (next_below q rest k c left)
 
 -- Queues.
 
@@ -112,26 +79,3 @@ after_queues-append system (x ∷ xs) ys a =
     let same : (system + 1) + length xs ≡ system + length (x ∷ xs) = omega arith in
     after_queues-append (system + 1) xs ys (after_commands system 0 x a)
     ∙ ap (λ n. after_queues n ys (after_queues (system + 1) xs (after_commands system 0 x a))) same
-
-from_first : (qs ys : List (List Command)) (k : ℕ) (a : Applied) → k < length qs
-    → after_queues 0 (take k qs ++ ys) a ≡ after_queues k ys (after_queues 0 (take k qs) a)
-from_first qs ys k a lt =
-    let same : 0 + length (take k qs) ≡ k = omega (arith, length-take k qs) in
-    after_queues-append 0 (take k qs) ys a
-    ∙ ap (λ n. after_queues n ys (after_queues 0 (take k qs) a)) same
-
-pub after_queues-next : (qs : List (List Command)) (k : ℕ) (d : List Command) (a : Applied) → k
-    < length qs → after_queues 0 (take (k + 1) qs) a ≡ after_commands k 0 (get_or qs k d)
-    (after_queues 0 (take k qs) a)
-after_queues-next qs k d a lt = ap (λ xs. after_queues 0 xs a) (take_more qs k d lt)
-    ∙ from_first qs (get_or qs k d ∷ []) k a lt
-
--- it stopped in this queue
-pub stopped_queue : (qs : List (List Command)) (k command done : ℕ) (d : List Command) (a : Applied)
-    → k < length qs
-    → after_queues 0 (cut k command done qs) a
-    ≡ after_commands k 0 (cut_commands command done (get_or qs k d))
-    (after_queues 0 (take k qs) a)
-stopped_queue qs k command done d a lt =
-    ap (λ xs. after_queues 0 (take k qs ++ cut_queue command done xs) a) (drop_more qs k d lt)
-    ∙ from_first qs (cut_commands command done (get_or qs k d) ∷ []) k a lt

@@ -257,10 +257,6 @@ module _ (from command done : ℕ) (qs rest : List (List Command)) (k : ℕ) (q 
   abbrev queues_so_far : ℕ → Applied
   queues_so_far n = after_left from command done (take n qs) a
 
-  pub queues_left-skip : k < from → queues_so_far (k + 1) ≡ queues_so_far k
-  queues_left-skip lt = ap (λ xs. after_left_queues from command done xs a)
-      (none_after qs rest k q left from lt ∙ sym (none_before qs rest k q left from (omega arith)))
-
   no_queue_yet : k ≡ from → queues_so_far k ≡ a
   no_queue_yet is = ap (λ xs. after_left_queues from command done xs a)
       (none_before qs rest k q left from (omega (arith, is)))
@@ -359,16 +355,3 @@ module _ (from command done : ℕ) (qs rest : List (List Command)) (k : ℕ) (q 
         (λ lt. queues_cut-next stop stop_done lt
         ∙ same_step (cut_commands stop stop_done q) k 0 0 (sym number) (sym (later lt).0)
         (sym (later lt).1))
-
--- from the first command on everything is left
-all_left : (queues : List (List Command)) (a : Applied) → after_left 0 0 0 queues a
-    ≡ after_queues 0 queues a
-all_left [] a = refl
-all_left (q ∷ qs) a = ap (λ cs. after_queues (0 + 1) qs (after_commands 0 0 cs a)) (queue_whole q)
-
-pub left_from_start : (from : Stop)
-    → from ≡ record { at = record { system = 0; command = 0 }; done = 0 }
-    → (queues : List (List Command)) (a : Applied)
-    → after_left from.at.system from.at.command from.done queues a ≡ after_queues 0 queues a
-left_from_start from is queues a =
-    ap (λ (s : Stop). after_left s.at.system s.at.command s.done queues a) is ∙ all_left queues a

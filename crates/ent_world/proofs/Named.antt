@@ -478,15 +478,3 @@ sync-named name queues births w m named names are =
     queues-named name 0 queues births (applied (after_births queues w) [])
     (record { entities = m; faults = [] })
     (record { entities = named; names = names; faults = tt }) are
-
--- so there are as many of the faults
-pub faults_as_many : (name : Handle → Birth) (a : Applied) (b : AppliedAlone)
-    → AreNamedAfter name a b → length a.faults ≡ length b.faults
-faults_as_many name a b named = length_all_zip_two a.faults b.faults named.faults
-  where
-    length_all_zip_two : (xs : List Fault) (ys : List BirthFault) → AllZip IsSameFault xs ys
-        → length xs ≡ length ys
-    length_all_zip_two [] [] zipped = refl
-    length_all_zip_two [] (y ∷ ys) zipped = absurd zipped
-    length_all_zip_two (x ∷ xs) [] zipped = absurd zipped
-    length_all_zip_two (x ∷ xs) (y ∷ ys) zipped = ap suc (length_all_zip_two xs ys zipped.1)

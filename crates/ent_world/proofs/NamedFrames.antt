@@ -38,13 +38,13 @@ use Rattle.ent_world.specs.Sync.{sync}
 use Rattle.ent_world.specs.BirthsAlone.{BirthMap, BirthCommand, births_of, births_in, entered_alone}
 use Rattle.ent_world.specs.BirthsAlone.{frame_alone}
 use Rattle.ent_world.specs.Named.{AreNamed, AreNames, IsNamedBy, AreNamedBy, AreNamedAfter}
-use Rattle.ent_world.specs.Named.{AreBelow, AreListed, births_in_order}
+use Rattle.ent_world.specs.Named.{AreBelow, AreListed}
 use Rattle.ent_world.specs.Effects.{applied}
 use Rattle.ent_world.proofs.Kept.{IsKept, after_queues-keeps}
 use Rattle.ent_world.proofs.Named.{entity_there, entity_with, sync-named}
 use Rattle.ent_world.proofs.NamedBirths.{entered-named, get-entered}
 
--- ---- places in a list
+-- ---- positions in a list
 
 -- an index is one of the list's
 position_bounds : (t : Handle → Bool) (i : ℕ) (hs : List Handle) (k : ℕ)
@@ -247,86 +247,6 @@ map_alike f g (h ∷ hs) alike =
     later true b _ = refl
     later false b there = there
 
--- ---- places of handles of which no two are of one slot
-
--- who stands in the first of two lists stands not in the second
-not_both : (xs ys : List Handle) (h : Handle) → AllPairs AreApart (xs ++ ys)
-    → stands_in xs h ≡ true → stands_in ys h ≡ true → ⊥
-not_both xs ys h apart here there =
-    not_apart h (All-contains (AreApart h) ys h
-    (All-contains (λ x. All (AreApart x) ys) xs h (AllPairs-across AreApart xs ys apart)
-    (Contains-from_stands_in xs h here))
-    (Contains-from_stands_in ys h there))
-
--- the handle at each place of its own queue, counted from this system on
-place_of : (phase system : ℕ) (queues : List (List Command))
-    → AllPairs AreApart (flat_map handles_listed queues) → (n : ℕ) (q : List Command)
-    → slice_get queues n ≡ Some q → (h : Handle) (k : ℕ)
-    → ordinal_among (handles_listed q) h ≡ Some k
-    → listed_birth phase system queues h
-    ≡ Some (record { frame = phase; system = system + n; ordinal = ordinal k })
-place_of phase system [] apart n q is h k at = absurd (none-some q is)
-place_of phase system (first ∷ queues) apart zero q is h k at =
-    let same : ordinal_among (handles_listed first) h ≡ Some k =
-    ap (λ x. ordinal_among (handles_listed x) h) (same_Some first q is) ∙ at in
-    let number : system ≡ system + 0 = omega arith in
-    ap (λ p. at_ordinal phase system p (listed_birth phase (system + 1) queues h)) same
-    ∙ ap (λ s. Some (record { frame = phase; system = s; ordinal = ordinal k })) number
-place_of phase system (first ∷ queues) apart (suc n) q is h k at =
-    let listed = handles_listed first in
-    let later = flat_map handles_listed queues in
-    let rest = place_of phase (system + 1) queues (AllPairs-right AreApart listed later apart) n q
-    is h k at in
-    let there : stands_in later h ≡ true =
-    sym (listed_some phase (system + 1) queues h) ∙ ap is_some rest in
-    let number : (system + 1) + n ≡ system + suc n = omega arith in
-    ap (λ p. at_ordinal phase system p (listed_birth phase (system + 1) queues h))
-    (none (ordinal_among listed h) refl (λ here. not_both listed later h apart
-    (sym (some_position (eq_by_cmp handle_cmp h) 0 listed) ∙ here) there))
-    ∙ rest
-    ∙ ap (λ s. Some (record { frame = phase; system = s; ordinal = ordinal k })) number
-  where
-    none : (p : Option ℕ) → ordinal_among (handles_listed first) h ≡ p
-        → (is_some (ordinal_among (handles_listed first) h) ≡ true → ⊥)
-        → ordinal_among (handles_listed first) h ≡ None
-    none None is _ = is
-    none (Some k) is never = absurd (never (ap is_some is))
-
--- each queue's own
-part_apart : (queues : List (List Command)) → AllPairs AreApart (flat_map handles_listed queues)
-    → (n : ℕ) (q : List Command) → slice_get queues n ≡ Some q
-    → AllPairs AreApart (handles_listed q)
-part_apart [] apart n q is = absurd (none-some q is)
-part_apart (first ∷ queues) apart zero q is =
-    subst (λ x. AllPairs AreApart (handles_listed x)) (same_Some first q is)
-    (AllPairs-left AreApart (handles_listed first) (flat_map handles_listed queues) apart)
-part_apart (first ∷ queues) apart (suc n) q is =
-    part_apart queues (AllPairs-right AreApart (handles_listed first)
-    (flat_map handles_listed queues) apart) n q is
-
--- births by the index of each handle are births in order
-in_order : (name : Handle → Birth) (phase system i : ℕ) (hs : List Handle)
-    → AllPairs AreApart hs
-    → ((h : Handle) (k : ℕ) → position_from (eq_by_cmp handle_cmp h) i hs ≡ Some k
-    → name h ≡ record { frame = phase; system = system; ordinal = k })
-    → map name hs ≡ map (λ k. record { frame = phase; system = system; ordinal = k })
-    (range_with_len i (length hs))
-in_order name phase system i [] apart at = refl
-in_order name phase system i (h ∷ hs) apart at =
-    let first = at h i (ap (λ b. cond b (Some i) (position_from (eq_by_cmp handle_cmp h) (i + 1)
-    hs)) (itself h)) in
-    let rest = in_order name phase system (i + 1) hs (AllPairs-tail AreApart h hs apart)
-    (λ g k is. at g k (ap (λ b. cond b (Some i) (position_from (eq_by_cmp handle_cmp g) (i + 1)
-    hs)) (other g (eq_by_cmp handle_cmp g h) refl
-    (sym (some_position (eq_by_cmp handle_cmp g) (i + 1) hs) ∙ ap is_some is)) ∙ is)) in
-    λ j. first j ∷ rest j
-  where
-    other : (g : Handle) (b : Bool) → eq_by_cmp handle_cmp g h ≡ b → stands_in hs g ≡ true
-        → eq_by_cmp handle_cmp g h ≡ false
-    other g false is _ = is
-    other g true tied there = absurd (not_both (h ∷ []) hs g apart
-        (ap (λ b. b || false) tied) there)
-
 -- ---- a frame
 
 module _ (queues : List (List Command)) (w : World) (view : BirthMap) (is_world : IsWorld w)
@@ -447,27 +367,6 @@ module _ (queues : List (List Command)) (w : World) (view : BirthMap) (is_world 
     frame-named = sync-named name queues births w (entered_alone (births_in births) view)
         (subst (λ bs. AreNamed (after_births queues w).entities (entered_alone bs view)) births_are
         births-named) names are
-
-    -- The handles that a system's queue lists have its births, by rising ordinal.
-    pub births_by_place : (system : ℕ) (q : List Command) → slice_get queues system ≡ Some q
-        → map name (handles_listed q)
-        ≡ births_in_order w.phase system (length (handles_listed q))
-    births_by_place system q is =
-        let fits : length (handles_listed q) ≤ 2 ^ 32 =
-        subst (λ x. length (handles_listed x) ≤ 2 ^ 32)
-        (get_or_from_slice_get queues system q q is)
-        (listed.ordinals system q (slice_get_within queues system q is)) in
-        let number : 0 + system ≡ system = omega arith in
-        in_order name w.phase system 0 (handles_listed q) (part_apart queues apart system q is)
-        (λ h k at.
-        let place = place_of w.phase 0 queues apart system q is h k at
-        ∙ ap (λ n. Some (record { frame = w.phase; system = n; ordinal = ordinal k })) number in
-        let below = (position_bounds (eq_by_cmp handle_cmp h) 0 (handles_listed q) k at).1 in
-        let capped : ordinal k ≡ k = omega (arith, fits, below) in
-        sym (named_birth h (sym (listed_born h)
-        ∙ sym (listed_some w.phase 0 queues h) ∙ ap is_some place))
-        ∙ birth_is h (record { frame = w.phase; system = system; ordinal = ordinal k }) place
-        ∙ ap (λ n. record { frame = w.phase; system = system; ordinal = n }) capped)
 
 -- ---- the births stay below the number of the next phase
 

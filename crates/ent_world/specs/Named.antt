@@ -1,4 +1,4 @@
--- When births alone tell what a world is, and what queues do to it.
+-- For laws: when births alone tell what a world is, and what queues do to it.
 use Rattle.std.specs.Prelude.{◌≡◌, ℕ, ◌^◌, ◌<◌, ◌≤◌, true, T, List, ◌∷◌, [], Some, map, length}
 use Rattle.std.specs.List.{All, AllZip, flat_map, range_with_len}
 use Rattle.std.specs.List.Sorted.{IsPermutation}
@@ -76,9 +76,3 @@ AreBelow phase m = (h : Handle) (e : Entity) → finite.get m h ≡ Some e → e
 pub record AreListed (queues : List (List Command)) (s : Allocator) : Type 0 where
   pub listed : IsPermutation s.taken (flat_map handles_listed queues)
   pub ordinals : All (λ queue. length (handles_listed queue) ≤ 2 ^ 32) queues
-
--- That many births of a system, by their ordinals.
-abbrev pub births_in_order : ℕ → ℕ → ℕ → List Birth
-births_in_order phase system count =
-    map (λ ordinal. record { frame = phase; system = system; ordinal = ordinal })
-    (range_with_len 0 count)

@@ -5,6 +5,7 @@ ghost use Rattle.ent_world.specs.Sync.{stops, stops_in};
 
 use crate::checks::{assert_faults, assert_phase, assert_shown};
 use crate::memory::with_queues;
+use crate::stop_at::{StopAt, at};
 use crate::worked_syncs::{after_faulty_commands, with_freed_slot};
 use ent_queue::{CommandQueue, Entry};
 use ent_world::World;
@@ -46,16 +47,15 @@ fn assert_goes_on(
     alloc: Global,
     world: &mut World,
     queues: &[CommandQueue],
-    stop: (usize, usize, usize),
+    stop: StopAt,
     after: &str,
     faults: &str,
 ) {
-    let (system, command, done) = stop;
     let phase = world.phase();
     assert!(rt; !world.needs_flush());
-    let stops = stops_at(queues, system, command);
-    assert!(rt; done < stops);
-    let report = world.apply_from(queues, system, command, done);
+    let stops = stops_at(queues, stop.system, stop.command);
+    assert!(rt; stop.done < stops);
+    let report = world.apply_from(queues, stop.system, stop.command, stop.done);
     let report = report.expect(rt, "memory for what is left");
     assert!(rt; report.born.is_empty());
     assert_faults(rt, alloc, &report.faults, faults);
@@ -81,53 +81,53 @@ fn flushed(rt: &impl Abort, alloc: Global) -> (World, Vec<CommandQueue>) {
 /// Where it goes on, the world after it, and the faults. The first queue spawns 2v1 and 3v1 at
 /// once, inserts into 0v1, removes a component of 1v1, takes 1v1 out, and inserts into it. The
 /// second queue spawns 4v1, and takes out 9v1, whom there never was.
-const CASES: [((usize, usize, usize), &str, &str); 8] = [
+const CASES: [(StopAt, &str, &str); 8] = [
     // From the first command on.
     (
-        (0, 0, 0),
+        at(0, 0, 0),
         "0.0.0 0v1 0=10 1=5\n0.4294967295.0 2v1 1=1 2=2\n0.4294967295.1 3v1 1=1 2=2\n\
          0.4294967295.2 4v1 3=3\n",
         "0 4 not alive 1v1\n1 1 not alive 9v1\n",
     ),
     // The first handle of the spawn is done.
     (
-        (0, 0, 1),
+        at(0, 0, 1),
         "0.0.0 0v1 0=10 1=5\n0.4294967295.0 2v1\n0.4294967295.1 3v1 1=1 2=2\n\
          0.4294967295.2 4v1 3=3\n",
         "0 4 not alive 1v1\n1 1 not alive 9v1\n",
     ),
     // From a later command on.
     (
-        (0, 1, 0),
+        at(0, 1, 0),
         "0.0.0 0v1 0=10 1=5\n0.4294967295.0 2v1\n0.4294967295.1 3v1\n0.4294967295.2 4v1 3=3\n",
         "0 4 not alive 1v1\n1 1 not alive 9v1\n",
     ),
     (
-        (0, 2, 0),
+        at(0, 2, 0),
         "0.0.0 0v1 0=10\n0.4294967295.0 2v1\n0.4294967295.1 3v1\n0.4294967295.2 4v1 3=3\n",
         "0 4 not alive 1v1\n1 1 not alive 9v1\n",
     ),
     (
-        (0, 3, 0),
+        at(0, 3, 0),
         "0.0.0 0v1 0=10\n0.4294967295.0 2v1\n0.4294967295.1 3v1\n0.4294967295.2 4v1 3=3\n",
         "0 4 not alive 1v1\n1 1 not alive 9v1\n",
     ),
     // Nobody has taken 1v1 out.
     (
-        (0, 4, 0),
+        at(0, 4, 0),
         "0.0.0 0v1 0=10\n0.0.1 1v1 0=20 1=6\n0.4294967295.0 2v1\n0.4294967295.1 3v1\n\
          0.4294967295.2 4v1 3=3\n",
         "1 1 not alive 9v1\n",
     ),
     // From the second queue on, and from its last command on.
     (
-        (1, 0, 0),
+        at(1, 0, 0),
         "0.0.0 0v1 0=10\n0.0.1 1v1 0=20\n0.4294967295.0 2v1\n0.4294967295.1 3v1\n\
          0.4294967295.2 4v1 3=3\n",
         "1 1 not alive 9v1\n",
     ),
     (
-        (1, 1, 0),
+        at(1, 1, 0),
         "0.0.0 0v1 0=10\n0.0.1 1v1 0=20\n0.4294967295.0 2v1\n0.4294967295.1 3v1\n\
          0.4294967295.2 4v1\n",
         "1 1 not alive 9v1\n",
@@ -165,7 +165,7 @@ fn goes_on_at_a_refused_spawn(rt: HostRuntime) {
             alloc,
             &mut world,
             &queues,
-            (0, command, 0),
+            at(0, command, 0),
             after,
             faults,
         );

@@ -14,6 +14,8 @@ mod scene;
 #[cfg(test)]
 mod shown;
 #[cfg(test)]
+mod stop_at;
+#[cfg(test)]
 mod turns;
 #[cfg(test)]
 mod views;

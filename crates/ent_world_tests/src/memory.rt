@@ -6,6 +6,7 @@ use crate::checks::{
     assert_born, assert_faults, assert_len, assert_needs_flush, assert_phase, assert_shown, spawn,
 };
 use crate::scene::{Call, bundle, handle, opened, pair, queue};
+use crate::stop_at::StopAt;
 use crate::worked_syncs::after_second_and_first;
 use ent_alloc::{AllocFault, Limits};
 use ent_handle::{Handle, Memory};
@@ -33,10 +34,10 @@ enum Queues {
 
 /// The world and the faults before the command, or before that handle of it, at which memory ran
 /// out.
-fn before_stop(which: Queues, stop: (usize, usize, usize)) -> (&'static str, &'static str) {
+fn before_stop(which: Queues, stop: StopAt) -> (&'static str, &'static str) {
     match which {
         Queues::Several => before_stop_of_several(stop),
-        Queues::TwoSpawns => match stop {
+        Queues::TwoSpawns => match (stop.system, stop.command, stop.done) {
             (0, 0, 0) => ("0.0.0 1v1\n0.1.0 0v1\n", ""),
             (1, 0, 0) => ("0.0.0 1v1 0=5\n0.1.0 0v1\n", ""),
             _ => ("no stop", ""),
@@ -44,8 +45,8 @@ fn before_stop(which: Queues, stop: (usize, usize, usize)) -> (&'static str, &'s
     }
 }
 
-fn before_stop_of_several(stop: (usize, usize, usize)) -> (&'static str, &'static str) {
-    match stop {
+fn before_stop_of_several(stop: StopAt) -> (&'static str, &'static str) {
+    match (stop.system, stop.command, stop.done) {
         (0, 0, 0) => (
             "0.0.0 0v1 0=10\n0.0.0 2v1\n0.0.1 1v1 0=20\n0.0.1 3v1\n0.1.0 4v1\n",
             "",
@@ -146,7 +147,11 @@ fn apply_at_last(
                 so_far,
             },
         ) => {
-            let stop = (system, command, done);
+            let stop = StopAt {
+                system,
+                command,
+                done,
+            };
             let (after, faults) = before_stop(which, stop);
             assert_shown(rt, alloc, world, after);
             assert_faults(rt, alloc, &so_far.faults, faults);
@@ -162,13 +167,12 @@ fn gone_on(
     rt: &impl Abort,
     world: &mut World,
     queues: &[CommandQueue],
-    stop: (usize, usize, usize),
+    stop: StopAt,
 ) -> Result<SyncReport, SyncFault>
     requires flushed { world.old.allocator.asked ≡ 0 }
-    requires stop { IsStop stop.0 stop.1 stop.2 queues.now }
+    requires stop { IsStop stop.system stop.command stop.done queues.now }
 {
-    let (system, command, done) = stop;
-    let rest = world.apply_from(queues, system, command, done)?;
+    let rest = world.apply_from(queues, stop.system, stop.command, stop.done)?;
     assert!(rt; rest.born.is_empty());
     Ok(rest)
 }

@@ -150,8 +150,8 @@ fn issue(
             let _ = commands.spawn_many(n, bundle(rt, alloc, items))?;
         }
         Call::Insert(entity, items) => {
-            let answer = commands.insert(handle(rt, entity), bundle(rt, alloc, items));
-            return done(answer);
+            let inserted = commands.insert(handle(rt, entity), bundle(rt, alloc, items));
+            return done(inserted);
         }
         Call::SpawnFull => {
             let _ = commands.spawn(full_bundle(rt, alloc))?;
@@ -170,6 +170,6 @@ fn issue(
     Ok(())
 }
 
-fn done(answer: Result<(), Memory>) -> Result<(), QueueFault> {
-    answer.map_err(|_| QueueFault::Memory)
+fn done(changed: Result<(), Memory>) -> Result<(), QueueFault> {
+    changed.map_err(|_| QueueFault::Memory)
 }

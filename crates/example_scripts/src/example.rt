@@ -1,7 +1,7 @@
 //! A script that runs, and the reports beside it.
 //!
-//! `NAME.births.txt` names entities by their births, and is the report for any number of workers. `NAME.handles.txt` has
-//! the handles too, as one worker gives them out.
+//! `NAME.births.txt` names entities by their births, and is the report for any number of workers.
+//! `NAME.handles.txt` has the handles too, as one worker gives them out.
 ghost use Rattle.std.specs.Prelude.{◌<◌, ◌≤◌};
 
 use crate::printing::printed;
