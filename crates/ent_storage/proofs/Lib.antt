@@ -6,6 +6,7 @@ pub mod Counted
 pub mod Dense
 pub mod ElementsAt
 pub mod Indexed
+pub mod InUse
 pub mod Keys
 pub mod LivingLemmas
 pub mod Missing

@@ -1,6 +1,7 @@
 -- The living entities place by place, and the residents and columns that stand for them.
 use Rattle.std.specs.Prelude.{◌≡◌, ◌≢◌, ◌+◌, ◌-◌, ◌<◌, ◌≤◌, ℕ, zero, suc, ℤ, List, [], ◌∷◌, length}
-use Rattle.std.specs.Prelude.{Option, None, Some, refl}
+use Rattle.std.specs.Prelude.{Option, None, Some, refl, ◌⊎◌, Contains}
+use Rattle.std.specs.List.{All, AllPairs}
 use Rattle.std.specs.Prelude.{slice_index_or, slice_get, option_and_then, is_some, IsTrue}
 use Rattle.std.specs.Option.{option_map}
 use Rattle.std.specs.Coded.{Coded, code_by, coded×, coded_list, coded_ℕ}
@@ -74,6 +75,12 @@ pub record AreColumnsOf (count : ℕ) (columns : List Column) : Type 0 where
   pub none_beyond : (place : ℕ) (id : ComponentId) → count ≤ place
       → value_at columns place id ≡ None
   pub numbered : length columns ≤ 256
+
+-- the columns in use by their numbers, each once, and no other column has values or room
+pub record AreInUse (used : List ℕ) (columns : List Column) : Type 0 where
+  pub inside : All (λ number. number < length columns) used
+  pub once : AllPairs (λ a b. a ≢ b) used
+  pub rest : (number : ℕ) → Contains used number ⊎ (column_at columns number ≡ no_column)
 
 -- the entities after the components of the one at the place were changed
 abbrev pub change_at : List LivingEntity → ℕ → (Components → Components) → List LivingEntity

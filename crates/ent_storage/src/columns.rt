@@ -1,10 +1,11 @@
 ghost use Rattle.std.specs.Prelude.{◌≡◌, ◌≢◌, ◌<◌, ◌≤◌, ℕ, OnOk, OnErr, None, Some, length};
+ghost use Rattle.std.specs.Prelude.{IsTrue, List, Contains};
 ghost use Rattle.std.specs.List.{All};
 ghost use Rattle.std.specs.FinMap as map;
 ghost use Rattle.ent_handle.specs.declared.component.ComponentId.{ComponentId};
 ghost use Rattle.ent_storage.specs.Components.{with_items, missing};
-ghost use Rattle.ent_storage.specs.SparseSet.{HasRoomAt, IsMovedDown};
-ghost use Rattle.ent_storage.specs.Living.{column_at, value_at, components_at};
+ghost use Rattle.ent_storage.specs.SparseSet.{Column, no_column, HasRoomAt, IsMovedDown};
+ghost use Rattle.ent_storage.specs.Living.{column_at, value_at, components_at, AreInUse};
 
 use super::sparse_set::SparseSet;
 use ent_handle::ComponentId;
@@ -20,11 +21,14 @@ pub fn value(columns: &[SparseSet], place: usize, id: ComponentId) -> Option<i64
 /// Makes room for the items at the place. After an `Err` all values are as before.
 pub fn reserve_all(
     columns: &mut Vec<SparseSet>,
+    used: &mut Vec<u8>,
     alloc: Global,
     place: usize,
     items: &[(ComponentId, i64)],
 ) -> Result<(), AllocError>
-    requires { length columns.old.items ≤ 256 }
+    requires numbered { length columns.old.items ≤ 256 }
+    requires in_use { AreInUse used.old.items columns.old.items }
+    ensures in_use { AreInUse used.new.items columns.new.items }
     ensures values { (number : ℕ) → (column_at columns.new.items number).values
         ≡ (column_at columns.old.items number).values }
     ensures ok { OnOk result
@@ -33,7 +37,7 @@ pub fn reserve_all(
     ensures numbered { length columns.new.items ≤ 256 }
 {
     for item in items {
-        reserve(columns, alloc, place, item.0)?;
+        reserve(columns, used, alloc, place, item.0)?;
     }
     Ok(())
 }
@@ -41,11 +45,14 @@ pub fn reserve_all(
 /// Makes room for a value of the component at the place. It takes memory only if there is none.
 fn reserve(
     columns: &mut Vec<SparseSet>,
+    used: &mut Vec<u8>,
     alloc: Global,
     place: usize,
     id: ComponentId,
 ) -> Result<(), AllocError>
-    requires { length columns.old.items ≤ 256 }
+    requires numbered { length columns.old.items ≤ 256 }
+    requires in_use { AreInUse used.old.items columns.old.items }
+    ensures in_use { AreInUse used.new.items columns.new.items }
     ensures values { (number : ℕ) → (column_at columns.new.items number).values
         ≡ (column_at columns.old.items number).values }
     ensures ok { OnOk result (HasRoomAt (column_at columns.new.items id.0) place) }
@@ -59,7 +66,34 @@ fn reserve(
     }
     let number = id.0 as usize;
     grow(columns, alloc, number + 1)?;
+    mark(used, id.0)?;
     columns[number].reserve(place)
+}
+
+/// Writes down that the column of the number is in use.
+fn mark(used: &mut Vec<u8>, number: u8) -> Result<(), AllocError>
+    ensures in_use { (columns : List Column) → number < length columns
+        → AreInUse used.old.items columns → AreInUse used.new.items columns }
+    ensures ok { OnOk result (Contains used.new.items number) }
+{
+    if is_used(used, number) {
+        return Ok(());
+    }
+    used.push(number)?;
+    Ok(())
+}
+
+/// Whether the number is among those in use.
+fn is_used(used: &[u8], number: u8) -> bool
+    ensures there { IsTrue result → Contains used.now number }
+    ensures absent { ¬ (IsTrue result) → All (λ other. other ≢ number) used.now }
+{
+    for other in used {
+        if *other == number {
+            return true;
+        }
+    }
+    false
 }
 
 /// Adds columns without values until there are that many.
@@ -69,6 +103,7 @@ fn grow(columns: &mut Vec<SparseSet>, alloc: Global, count: usize) -> Result<(),
     ensures same { (number : ℕ) → column_at columns.new.items number
         ≡ column_at columns.old.items number }
     ensures ok { OnOk result (count ≤ length columns.new.items) }
+    ensures longer { length columns.old.items ≤ length columns.new.items }
     ensures numbered { length columns.new.items ≤ 256 }
 {
     for _ in columns.len()..count {
@@ -84,6 +119,8 @@ pub fn set_all(columns: &mut [SparseSet], place: usize, items: &[(ComponentId, i
         ≡ with_items (components_at columns.old place) items.now }
     ensures others { (other : ℕ) (id : ComponentId) → other ≢ place
         → value_at columns.new other id ≡ value_at columns.old other id }
+    ensures rest { (number : ℕ) → column_at columns.old number ≡ no_column
+        → column_at columns.new number ≡ no_column }
     ensures len { length columns.new ≡ length columns.old }
 {
     for item in items {
@@ -110,6 +147,8 @@ pub fn remove(columns: &mut [SparseSet], place: usize, id: ComponentId) -> Optio
         ≡ map.remove (components_at columns.old place) id }
     ensures others { (other : ℕ) (id : ComponentId) → other ≢ place
         → value_at columns.new other id ≡ value_at columns.old other id }
+    ensures rest { (number : ℕ) → column_at columns.old number ≡ no_column
+        → column_at columns.new number ≡ no_column }
     ensures len { length columns.new ≡ length columns.old }
 {
     let number = id.0 as usize;
@@ -120,14 +159,17 @@ pub fn remove(columns: &mut [SparseSet], place: usize, id: ComponentId) -> Optio
     }
 }
 
-/// Takes all values at the place out, and moves those at the last place there.
-pub fn swap_remove(columns: &mut [SparseSet], place: usize, last: usize)
-    requires { place ≤ last }
+/// Takes all values at the place out, and moves those at the last place there. Only the columns in
+/// use are looked at.
+pub fn swap_remove(columns: &mut [SparseSet], used: &[u8], place: usize, last: usize)
+    requires before { place ≤ last }
+    requires in_use { AreInUse used.now columns.old }
+    ensures in_use { AreInUse used.now columns.new }
     ensures moved { (number : ℕ) → IsMovedDown place last (column_at columns.old number).values
         (column_at columns.new number).values }
     ensures len { length columns.new ≡ length columns.old }
 {
-    for column in columns.iter_mut() {
-        column.swap_remove(place, last);
+    for number in used {
+        columns[*number as usize].swap_remove(place, last);
     }
 }

@@ -28,17 +28,20 @@ pub struct Resident {
 /// The living entities, place by place.
 ///
 /// The residents have the handle and the birth of each. The columns have the components: at a
-/// component's number the values of that component, by the places of the entities that have it.
+/// component's number the values of that component, by the places of the entities that have it. The
+/// columns that have ever had values are in use, and a removal looks at those alone.
 #[derive(Drop)]
 pub struct Living {
     residents: Vec<Resident>,
     columns: Vec<SparseSet>,
+    used: Vec<u8>,
     alloc: Global,
 }
 
 impl Model for Living {
     ghost use Rattle.std.specs.Prelude.{vec_capacity, length};
     ghost use Rattle.ent_storage.specs.Living.{Living, living_code, entities_from, AreColumnsOf};
+    ghost use Rattle.ent_storage.specs.Living.{AreInUse};
 
     ghost Value = { Living };
 
@@ -49,7 +52,8 @@ impl Model for Living {
       room = vec_capacity a.residents;
     } };
 
-    ghost invariant = { λ a. AreColumnsOf (length a.residents.items) a.columns.items };
+    ghost invariant = { λ a. AreColumnsOf (length a.residents.items) a.columns.items
+        × AreInUse a.used.items a.columns.items };
 }
 
 impl Living {
@@ -60,6 +64,7 @@ impl Living {
         Living {
             residents: Vec::new(alloc),
             columns: Vec::new(alloc),
+            used: Vec::new(alloc),
             alloc,
         }
     }
@@ -156,7 +161,8 @@ impl Living {
         ensures entities { IsMovedInto self.old.entities place self.new.entities }
         ensures room { self.new.room ≡ self.old.room }
     {
-        columns::swap_remove(&mut self.columns, place, self.residents.len() - 1);
+        let last = self.residents.len() - 1;
+        columns::swap_remove(&mut self.columns, &self.used, place, last);
         let _ = self.residents.swap_remove(place);
     }
 
@@ -171,7 +177,7 @@ impl Living {
         ensures growing { OnErr result
             (HoldsAt (λ entity. 0 < missing entity.components items.now) self.old.entities place) }
     {
-        columns::reserve_all(&mut self.columns, self.alloc, place, items)?;
+        columns::reserve_all(&mut self.columns, &mut self.used, self.alloc, place, items)?;
         columns::set_all(&mut self.columns, place, items);
         Ok(())
     }

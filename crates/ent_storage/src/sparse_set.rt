@@ -106,6 +106,7 @@ impl SparseSet {
     pub fn remove(&mut self, place: usize) -> Option<i64>
         ensures value { result ≡ map.get self.old.values place }
         ensures after { self.new.values ≡ map.remove self.old.values place }
+        ensures absent { result ≡ None → self.new ≡ self.old }
     {
         let position = position_of(&self.dense, &self.sparse, place)?;
         let (_, value) = self.dense.swap_remove(position as usize);

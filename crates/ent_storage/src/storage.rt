@@ -249,8 +249,8 @@ impl Storage {
 
     /// Takes the entity out. It takes no memory, and `spare` is then greater by 1.
     ///
-    /// The time is that of two look-ups, and of a look at each component number up to the highest
-    /// that was ever set. The index stays as it is, but for the entity that moves.
+    /// The time is that of two look-ups, and of a look at each component that any entity has ever
+    /// had. The index stays as it is, but for the entity that moves.
     ///
     /// # Errors
     ///
@@ -279,7 +279,7 @@ impl Storage {
     /// It takes no memory, and `spare` is then greater by 1.
     ///
     /// The time is that of a look-up, for the entity that moves, and of a look at each component
-    /// number up to the highest that was ever set.
+    /// that any entity has ever had.
     pub fn despawn_at(&mut self, place: usize, handle: Handle) -> Option<Handle>
         requires { slice_get self.old.places place ≡ Some handle }
         ensures entities { self.new.entities ≡ map.remove self.old.entities handle }

@@ -7,4 +7,5 @@ invariant-loop l = record {
   same : (number : ℕ) → column_at l.columns.items number ≡ column_at l.initial.columns.items number;
   numbered : length l.columns.items ≤ 256;
   len : length l.columns.items ≡ l.counter;
+  longer : length l.initial.columns.items ≤ length l.columns.items;
 }

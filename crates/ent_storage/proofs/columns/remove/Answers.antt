@@ -4,6 +4,7 @@ use Rattle.std.specs.FinMap as map
 use Rattle.ent_storage.specs.SparseSet.{Column, no_column}
 use Rattle.ent_storage.proofs.ColumnsLemmas.{components_remove, remove_others, column_set}
 use Rattle.ent_storage.proofs.ColumnsLemmas.{column_kept, taken_none}
+use Rattle.ent_storage.proofs.InUse.{removed_rest}
 use Rattle.ent_storage.proofs.columns.remove.Goals as goal
 
 pub returns-then-number-columns-clause-here : goal.returns-then-number-columns-clause-here
@@ -39,3 +40,9 @@ returns-else-number-columns-clause-value c =
 pub returns-else-number-columns-clause-here : goal.returns-else-number-columns-clause-here
 returns-else-number-columns-clause-here c =
     (taken_none c.args.columns.now c.args.place c.args.id (omega arith)).1
+
+pub returns-then-number-columns-clause-rest : goal.returns-then-number-columns-clause-rest
+returns-then-number-columns-clause-rest c n none =
+    removed_rest c.args.columns.now c.args.id.0 n c.index-columns-number.result c.remove.new.self
+    c.args.place (omega arith) c.index-columns-number.is
+    (λ e. c.remove.ensures.absent (c.remove.ensures.value ∙ e)) none

@@ -31,4 +31,5 @@ loop-item-preserved c = record {
       (get_or_default c.args.items.now c.loop-item.item-index (record { 0 = 0 }, pos 0) d
       (omega arith)) c.in_ok-reserve.ensures.ok) k l d;
   numbered = c.reserve.ensures.numbered;
+  in_use = c.reserve.ensures.in_use;
 }

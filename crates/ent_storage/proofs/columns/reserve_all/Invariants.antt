@@ -1,7 +1,7 @@
 use Rattle.std.proofs.Common.{◌≡◌, ◌≤◌, ◌<◌, ℕ, ℤ, length, get_or}
 use Rattle.ent_handle.specs.declared.component.ComponentId.{ComponentId}
 use Rattle.ent_storage.specs.SparseSet.{HasRoomAt}
-use Rattle.ent_storage.specs.Living.{column_at}
+use Rattle.ent_storage.specs.Living.{column_at, AreInUse}
 use Rattle.ent_storage.proofs.columns.reserve_all.Given as goal
 
 -- the values stay, and there is room for the items that were passed
@@ -12,4 +12,5 @@ invariant-loop-item l = record {
   room : (k : ℕ) (d : ComponentId × ℤ) → k < l.item-index
       → HasRoomAt (column_at l.columns.items (get_or l.items k d).0.0) l.place;
   numbered : length l.columns.items ≤ 256;
+  in_use : AreInUse l.used.items l.columns.items;
 }

@@ -4,6 +4,7 @@ use Rattle.ent_handle.specs.declared.component.ComponentId.{ComponentId}
 use Rattle.ent_storage.specs.Components.{Components, with_items}
 use Rattle.ent_storage.specs.Living.{components_at}
 use Rattle.ent_storage.proofs.ColumnsLemmas.{components_insert, insert_others, insert_room}
+use Rattle.ent_storage.proofs.InUse.{rest_kept}
 use Rattle.ent_storage.proofs.columns.set_all.Goals as goal
 
 pub loop-item-preserved : goal.loop-item-preserved
@@ -25,4 +26,6 @@ loop-item-preserved c =
           c.set.ensures.set other id far ∙ c.loop-item.invariant.others other id far;
       room = λ k d l. insert_room old new c.args.place item.0 c.set.ensures.others item.1
           c.set.ensures.set (get_or items k d).0.0 (c.loop-item.invariant.room k d l);
+      rest = λ n empty. rest_kept old new c.args.place item.0.0 n c.set.ensures.others
+          (c.loop-item.invariant.room i none below) (c.loop-item.invariant.rest n empty);
     }

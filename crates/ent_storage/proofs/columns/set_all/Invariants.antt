@@ -2,7 +2,7 @@ use Rattle.std.proofs.Common.{◌≡◌, ◌≢◌, ◌<◌, ℕ, length, drop, 
 use Rattle.ent_handle.specs.declared.component.ComponentId.{ComponentId}
 use Rattle.std.proofs.Common.{ℤ}
 use Rattle.ent_storage.specs.Components.{with_items}
-use Rattle.ent_storage.specs.SparseSet.{HasRoomAt}
+use Rattle.ent_storage.specs.SparseSet.{HasRoomAt, no_column}
 use Rattle.ent_storage.specs.Living.{column_at, value_at, components_at}
 use Rattle.ent_storage.proofs.columns.set_all.Given as goal
 
@@ -15,4 +15,6 @@ invariant-loop-item l = record {
       ≡ value_at l.initial.columns other id;
   room : (k : ℕ) (d : ComponentId × ℤ) → k < length l.items
       → HasRoomAt (column_at l.columns (get_or l.items k d).0.0) l.place;
+  rest : (number : ℕ) → column_at l.initial.columns number ≡ no_column → column_at l.columns number
+      ≡ no_column;
 }

@@ -1,13 +1,10 @@
-use Rattle.std.proofs.Common.{◌≡◌, ◌≤◌, ◌<◌, ℕ}
-use Rattle.ent_storage.specs.SparseSet.{IsMovedDown}
-use Rattle.ent_storage.specs.Living.{column_at}
+use Rattle.std.proofs.Common.{◌≡◌, ℕ, length}
+use Rattle.ent_storage.proofs.InUse.{IsPassed}
 use Rattle.ent_storage.proofs.columns.swap_remove.Given as goal
 
--- the columns that were passed are changed, and no others
-abbrev pub invariant-loop-column : goal.invariant-loop-column
-invariant-loop-column l = record {
-  moved : (number : ℕ) → number < l.column-index → IsMovedDown l.place l.last
-      (column_at l.initial.columns number).values (column_at l.columns number).values;
-  same : (number : ℕ) → l.column-index ≤ number → column_at l.columns number
-      ≡ column_at l.initial.columns number;
+-- the columns in use that were passed are changed, and no others
+abbrev pub invariant-loop-number : goal.invariant-loop-number
+invariant-loop-number l = record {
+  passed : (n : ℕ) → IsPassed l.used l.place l.last l.initial.columns l.number-index l.columns n;
+  len : length l.columns ≡ length l.initial.columns;
 }

@@ -1,4 +1,4 @@
-use Rattle.std.proofs.Common.{◌<◌, length, get_or, ap, sym, subst, ◌∙◌, arith}
+use Rattle.std.proofs.Common.{◌<◌, length, get_or, ap, sym, subst, ◌∙◌, inr, arith}
 use Rattle.std.specs.FinMap as finite
 use Rattle.ent_storage.specs.Components.{Components, with_items, missing}
 use Rattle.ent_storage.specs.SparseSet.{Values}
@@ -7,6 +7,7 @@ use Rattle.ent_storage.specs.Living.{Living, LivingEntity, change_at}
 use Rattle.ent_storage.proofs.ColumnsLemmas.{same_components}
 use Rattle.ent_storage.proofs.LivingLemmas.{read_from, inside_from, same_from, changed_from}
 use Rattle.ent_storage.proofs.LivingLemmas.{changed_within, written_back}
+use Rattle.ent_storage.proofs.InUse.{in_use_changed}
 use Rattle.ent_storage.proofs.Missing.{on_err}
 use Rattle.ent_storage.proofs.living.Living.insert.Goals as goal
 
@@ -33,15 +34,21 @@ pub invariant_of-self-2 : goal.invariant_of-self-2
 invariant_of-self-2 c =
     let set_all_len = rw c.deref_mut.ensures.value at c.set_all.ensures.len in
     let set_all_others = rw c.deref_mut.ensures.value at c.set_all.ensures.others in
+    let set_all_rest = rw c.deref_mut.ensures.value at c.set_all.ensures.rest in
     let inside = inside_from c.self.inside.residents.items c.self.inside.columns.items _
     c.args.self.now c.args.place c.self.view_is c.requires in
     let numbered = c.in_ok-reserve_all.ensures.numbered in
     rw (written_back c.set_all.new.columns c.reserve_all.new.columns.items
-    c.reserve_all.new.columns.len set_all_len c.reserve_all.new.columns.ok.0)
-    (changed_within (length c.self.inside.residents.items) c.args.place c.self.inside.columns.items
-    c.set_all.new.columns inside (omega (arith, set_all_len, numbered))
-    (λ p id far. set_all_others p id far ∙ ap (λ (m : Values). finite.get m p)
-    (c.in_ok-reserve_all.ensures.values id.0)) c.self.invariant)
+    c.reserve_all.new.columns.len set_all_len c.reserve_all.new.columns.ok.0) (
+      changed_within (length c.self.inside.residents.items) c.args.place
+          c.self.inside.columns.items c.set_all.new.columns inside
+          (omega (arith, set_all_len, numbered))
+          (λ p id far. set_all_others p id far ∙ ap (λ (m : Values). finite.get m p)
+          (c.in_ok-reserve_all.ensures.values id.0)) c.self.invariant.0,
+      in_use_changed c.reserve_all.new.used.items c.reserve_all.new.columns.items
+          c.set_all.new.columns (omega (arith, set_all_len)) (λ n none. inr (set_all_rest n none))
+          c.in_ok-reserve_all.ensures.in_use,
+    )
 
 pub returns-clause-ok : goal.returns-clause-ok
 returns-clause-ok c =

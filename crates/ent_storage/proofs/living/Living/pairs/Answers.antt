@@ -27,7 +27,7 @@ pub returns-in-Some-clause-has : goal.returns-in-Some-clause-has
 returns-in-Some-clause-has c place v at =
     let column = (rw c.deref.ensures.value at c.in-Some.ensures.lookup).3.1 no_column in
     is_value c.self.inside.residents.items c.self.inside.columns.items _ c.args.self.now place
-    c.args.id c.self.view_is c.self.invariant
+    c.args.id c.self.view_is c.self.invariant.0
     ∙ ap (λ (m : Column). finite.get m.values place) (sym column)
     ∙ c.pairs.ensures.has place v at
 
@@ -37,7 +37,7 @@ returns-in-Some-clause-all c place v is =
     c.pairs.ensures.all place v
     (ap (λ (m : Column). finite.get m.values place) column
     ∙ sym (is_value c.self.inside.residents.items c.self.inside.columns.items _ c.args.self.now
-    place c.args.id c.self.view_is c.self.invariant) ∙ is)
+    place c.args.id c.self.view_is c.self.invariant.0) ∙ is)
 
 pub returns-in-Some-clause-once : goal.returns-in-Some-clause-once
 returns-in-Some-clause-once c i j d l k e =
@@ -54,4 +54,4 @@ returns-in-None-clause-all c place v is =
     let past = (rw c.deref.ensures.value at c.in-None.ensures.lookup).3 in
     absurd (none-some v (sym (taken_none c.self.inside.columns.items place c.args.id past).0
     ∙ sym (is_value c.self.inside.residents.items c.self.inside.columns.items _ c.args.self.now
-    place c.args.id c.self.view_is c.self.invariant) ∙ is))
+    place c.args.id c.self.view_is c.self.invariant.0) ∙ is))

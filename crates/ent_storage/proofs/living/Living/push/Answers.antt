@@ -21,15 +21,17 @@ push_reserved-requires c =
 
 pub invariant_of-self : goal.invariant_of-self
 invariant_of-self c =
-    let resident : Resident = record { handle = c.args.handle; birth = c.args.birth } in
-    rw c.push_reserved.ensures.items (pushed_within c.self.inside.residents.items resident
-    c.self.inside.columns.items c.self.invariant)
+    let resident : Resident = record { handle = c.args.handle; birth = c.args.birth } in (
+      rw c.push_reserved.ensures.items (pushed_within c.self.inside.residents.items resident
+          c.self.inside.columns.items c.self.invariant.0),
+      c.self.invariant.1,
+    )
 
 pub returns-clause-entities : goal.returns-clause-entities
 returns-clause-entities c =
     let resident : Resident = record { handle = c.args.handle; birth = c.args.birth } in
     let none : (id : ComponentId) → value_at c.self.inside.columns.items
-    (0 + length c.self.inside.residents.items) id ≡ None = λ id. c.self.invariant.none_beyond
+    (0 + length c.self.inside.residents.items) id ≡ None = λ id. c.self.invariant.0.none_beyond
     (0 + length c.self.inside.residents.items) id (omega arith) in
     rw c.push_reserved.ensures.items (pushed_from 0 c.self.inside.residents.items
     c.self.inside.columns.items resident none)

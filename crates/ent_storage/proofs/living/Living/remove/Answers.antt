@@ -1,10 +1,11 @@
-use Rattle.std.proofs.Common.{length, ap, sym, ◌∙◌, arith}
+use Rattle.std.proofs.Common.{length, ap, sym, ◌∙◌, inr, arith}
 use Rattle.std.specs.FinMap as finite
 use Rattle.ent_storage.specs.declared.living.Resident.{Resident}
 use Rattle.ent_storage.specs.Living.{Living, LivingEntity, change_at}
 use Rattle.ent_storage.proofs.ColumnsLemmas.{get_components}
 use Rattle.ent_storage.proofs.LivingLemmas.{read_from, inside_from, changed_from}
 use Rattle.ent_storage.proofs.LivingLemmas.{changed_within, written_back}
+use Rattle.ent_storage.proofs.InUse.{in_use_changed}
 use Rattle.ent_storage.proofs.living.Living.remove.Goals as goal
 
 pub invariant_of-self : goal.invariant_of-self
@@ -13,11 +14,16 @@ invariant_of-self c =
     let remove_others = rw c.deref_mut.ensures.value at c.remove.ensures.others in
     let inside = inside_from c.self.inside.residents.items c.self.inside.columns.items _
     c.args.self.now c.args.place c.self.view_is c.requires in
+    let remove_rest = rw c.deref_mut.ensures.value at c.remove.ensures.rest in
     rw (written_back c.remove.new.columns c.self.inside.columns.items c.self.inside.columns.len
-    remove_len c.self.inside.columns.ok.0)
-    (changed_within (length c.self.inside.residents.items) c.args.place c.self.inside.columns.items
-    c.remove.new.columns inside (omega (arith, remove_len, c.self.invariant.numbered))
-    remove_others c.self.invariant)
+    remove_len c.self.inside.columns.ok.0) (
+      changed_within (length c.self.inside.residents.items) c.args.place
+          c.self.inside.columns.items c.remove.new.columns inside
+          (omega (arith, remove_len, c.self.invariant.0.numbered)) remove_others
+          c.self.invariant.0,
+      in_use_changed c.self.inside.used.items c.self.inside.columns.items c.remove.new.columns
+          (omega (arith, remove_len)) (λ n none. inr (remove_rest n none)) c.self.invariant.1,
+    )
 
 pub returns-clause-value : goal.returns-clause-value
 returns-clause-value c d =

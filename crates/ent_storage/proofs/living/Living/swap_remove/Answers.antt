@@ -15,8 +15,10 @@ inside c =
     )
 
 pub swap_remove-requires : goal.swap_remove-requires
-swap_remove-requires c =
-    omega (arith, inside (goal.at.swap_remove-requires c).After-self, c.len.ensures)
+swap_remove-requires c = record {
+  before = omega (arith, inside (goal.at.swap_remove-requires c).After-self, c.len-last.ensures);
+  in_use = rw (c.deref_mut.ensures.value, c.deref.ensures.value) c.self.invariant.1;
+}
 
 pub swap_remove-requires-2 : goal.swap_remove-requires-2
 swap_remove-requires-2 c = inside (goal.at.swap_remove-requires-2 c).After-self
@@ -28,19 +30,21 @@ after : (c : After-swap_remove-2) → c.args.place < vec_len c.self.inside.resid
     c.args.place (entities_from 0 c.swap_remove-2.new.self.items c.swap_remove.new.columns)
     × AreColumnsOf (length c.swap_remove-2.new.self.items) c.swap_remove.new.columns
 after c inside as_many =
-    let down = rw (c.deref_mut.ensures.value, c.len.ensures) at c.swap_remove.ensures.moved in
+    let down = rw (c.deref_mut.ensures.value, c.len-last.ensures) at c.swap_remove.ensures.moved in
     moved c.self.inside.residents.items c.swap_remove-2.new.self.items c.args.place _ _
     c.self.inside.residents.ok.0 c.swap_remove-2.new.self.ok.0 c.swap_remove-2.ensures.len
     inside c.swap_remove-2.ensures.by_index c.self.inside.columns.items
-    c.swap_remove.new.columns down as_many c.self.invariant
+    c.swap_remove.new.columns down as_many c.self.invariant.0
 
 pub invariant_of-self : goal.invariant_of-self
 invariant_of-self c =
     let inside = inside (goal.at.invariant_of-self c).After-self in
     let as_many = rw c.deref_mut.ensures.value at c.swap_remove.ensures.len in
     rw (written_back c.swap_remove.new.columns c.self.inside.columns.items c.self.inside.columns.len
-    as_many c.self.inside.columns.ok.0)
-    (after (goal.at.invariant_of-self c).After-swap_remove-2 inside as_many).1
+    as_many c.self.inside.columns.ok.0) (
+      (after (goal.at.invariant_of-self c).After-swap_remove-2 inside as_many).1,
+      rw c.deref.ensures.value at c.swap_remove.ensures.in_use,
+    )
 
 pub returns-clause-entities : goal.returns-clause-entities
 returns-clause-entities c =
