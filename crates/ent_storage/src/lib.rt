@@ -10,6 +10,7 @@ mod fault;
 mod index;
 mod items;
 mod living;
+mod looking;
 mod order;
 mod places;
 mod slot;
