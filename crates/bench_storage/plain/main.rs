@@ -1,5 +1,6 @@
 //! Times the calls of `ent_storage` that `crates/bench_storage` exports, and the same work in plain
-//! Rust. All sides take turns, and of each run the shortest time counts.
+//! Rust. All sides take turns, and of each run the shortest time counts. Each call is there once for
+//! each side, and so this is one file of more than 400 lines.
 //!
 //! Words are numbers of entities. With `memory SIDE` it prints how many bytes more that side of the
 //! whole entities makes the process hold at most, for each of 1,000,000 entities.

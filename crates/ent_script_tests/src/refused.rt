@@ -1,3 +1,5 @@
+//! Texts that are refused, in the order of the tests that they fail. They are one list, and so one
+//! file of more than 400 lines.
 use crate::line::{has_line, repeated};
 use std::alloc::Global;
 use std::test::Fail;
