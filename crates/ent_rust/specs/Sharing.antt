@@ -6,7 +6,7 @@ use Rattle.ent_handle.specs.Handle.{Handle}
 use Rattle.ent_alloc.specs.Sequential.{Allocator, after_flush}
 use Rattle.ent_alloc.specs.Sound.{IsLive}
 use Rattle.ent_shared.specs.declared.refused.Refused.{Refused}
-use Rattle.ent_shared.specs.Phase.{Shared, shared_code, Reserver, reserver_code, IsOf}
+use Rattle.ent_shared.specs.Phase.{Shared, shared_code, Reserver, reserver_code}
 use Rattle.ent_shared.specs.Order.{handles_given}
 use Rattle.ent_shared.specs.Replies.{Reserves}
 

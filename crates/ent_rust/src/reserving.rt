@@ -9,7 +9,6 @@ ghost use Rattle.ent_rust.specs.Answers.{IsOneOf, handle};
 ghost use Rattle.ent_rust.specs.Pair.{handle_of};
 
 use crate::answer::{Answer, DONE, IS_EMPTY, NO_CREDIT, NO_SPACE, OTHER_KIND, TOO_MANY};
-use crate::caller::Caller;
 use crate::held::Held;
 use crate::object::Object;
 use crate::pair::Pair;
@@ -23,6 +22,14 @@ use std::alloc::Global;
 pub struct Bulk {
     pub left: u64,
     pub code: u32,
+}
+
+impl Bulk {
+    fn with(code: u32, left: u64) -> Self
+        ensures { (result.code ≡ code) × (result.left ≡ left) }
+    {
+        Bulk { left, code }
+    }
 }
 
 /// `Shared::reserve`.
@@ -88,41 +95,23 @@ pub extern "C" fn ent_rust_reserve_many(
         result.code }
 {
     let Some(mut held) = caller.take(alloc) else {
-        return Bulk {
-            left: 0,
-            code: IS_EMPTY,
-        };
+        return Bulk::with(IS_EMPTY, 0);
     };
     let Held::Caller(one) = &mut *held else {
         caller.put(held);
-        return Bulk {
-            left: 0,
-            code: OTHER_KIND,
-        };
+        return Bulk::with(OTHER_KIND, 0);
     };
     let Ok(count) = u32::try_from(list.len()) else {
         caller.put(held);
-        return Bulk {
-            left: 0,
-            code: TOO_MANY,
-        };
+        return Bulk::with(TOO_MANY, 0);
     };
     let answer = match one.shared.reserve_many(&mut one.reserver, count) {
         Ok(handles) => {
             write_given(list, handles);
-            Bulk {
-                left: 0,
-                code: DONE,
-            }
+            Bulk::with(DONE, 0)
         }
-        Err(Refused::Space { left, .. }) => Bulk {
-            left: left.into(),
-            code: NO_SPACE,
-        },
-        Err(Refused::Quota { left }) => Bulk {
-            left,
-            code: NO_CREDIT,
-        },
+        Err(Refused::Space { left, .. }) => Bulk::with(NO_SPACE, left.into()),
+        Err(Refused::Quota { left }) => Bulk::with(NO_CREDIT, left),
     };
     caller.put(held);
     answer

@@ -1,4 +1,4 @@
-use Rattle.std.proofs.Common.{rules, ◌∙◌}
+use Rattle.std.proofs.Common.{rules}
 use Rattle.ent_rust.proofs.Unused.{nothing-reserved}
 use Rattle.ent_rust.proofs.phase.Phase.open.Goals as goal
 
