@@ -12,7 +12,7 @@ use std::time::Instant;
 
 /// How many handles a run goes through, and how often each run is timed.
 const HANDLES: u32 = 100_000;
-const RUNS: usize = 30;
+const RUNS: usize = 300;
 
 /// How many handles a bulk has.
 const BULK: u32 = 64;

@@ -22,6 +22,49 @@
 //! assert_eq!(entities.alloc()?.to_string(), "0v2");
 //! # Ok::<(), Box<dyn std::error::Error>>(())
 //! ```
+//!
+//! # Threads
+//!
+//! [`Entities::share`] lends the allocator to a [`Reserver`] for each thread. A reservation is one
+//! atomic step and takes no lock, and no two threads are given the same handle. [`Shared::close`]
+//! ends the phase, and the next [`flush`](Entities::flush) brings to life what was reserved.
+//!
+//! ```
+//! use forgeni::Entities;
+//!
+//! let (shared, mut reservers) = Entities::new().share(4)?;
+//! std::thread::scope(|scope| {
+//!     for reserver in &mut reservers {
+//!         scope.spawn(|| {
+//!             let one = reserver.reserve().expect("a handle");
+//!             let ten = reserver.reserve_many(10).expect("ten handles");
+//!             assert!(!ten.contains(&one));
+//!         });
+//!     }
+//! });
+//! let mut entities = shared.close(reservers)?;
+//! assert_eq!(entities.len(), 0);
+//! entities.flush()?;
+//! assert_eq!(entities.len(), 44);
+//! # Ok::<(), Box<dyn std::error::Error>>(())
+//! ```
+//!
+//! While the allocator is shared it is inside the [`Shared`], so nothing but reservations can
+//! happen: `alloc`, `free` and `state` don't compile.
+//!
+//! # What may go wrong
+//!
+//! | What | What happens |
+//! |---|---|
+//! | an `Entities` is used while it is shared, a `Reserver` after its phase was closed, or one `Reserver` by two threads at once | it doesn't compile |
+//! | reservers are missing at [`close`](Shared::close), or one of another phase is among them | [`Unclosed`], with all that was handed in |
+//! | two reservers of two phases [meet](Reserver::meet) | [`OtherPhase`], and nothing has changed |
+//! | a thread panics, and its reserver is dropped | `close` says what is missing; [`close_lost`](Shared::close_lost) ends the phase, and the handles of the lost reserver come to life too |
+//! | a reserver is forgotten ([`std::mem::forget`]) | it counts as in use for good: the phase goes on, and can't be closed |
+//! | the `Shared` is dropped | the others still reserve, and the allocator goes with the last of them |
+//! | memory runs out | an `Err`, and nothing has changed, but for [`new`](Entities::new) and [`with_limits`](Entities::with_limits), which end as `Box::new` does |
+//!
+//! Nothing panics, unless the library broke its contracts ("the library answered ..").
 #![deny(unsafe_code, missing_docs)]
 
 mod entities;

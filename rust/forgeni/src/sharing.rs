@@ -188,6 +188,8 @@ impl fmt::Debug for Shared {
 /// fn syncs<T: Sync>() {}
 /// syncs::<forgeni::Reserver>();
 /// ```
+// A call writes the object, so two of them in a list share no line of a processor's cache.
+#[repr(align(128))]
 pub struct Reserver {
     object: Object,
     phase: u64,
