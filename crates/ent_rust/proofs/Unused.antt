@@ -20,7 +20,8 @@ own-none (r ∷ rs) unused =
     ∙ own-none rs (All-tail IsUnused r rs unused)
 
 pub nothing-reserved : (s : Allocator) (rs : List Reserver)
-    → All (λ (r : Reserver). r.own.entries ≡ []) rs → after_history s (history_of (records_of rs)) ≡ s
+    → All (λ (r : Reserver). r.own.entries ≡ []) rs
+    → after_history s (history_of (records_of rs)) ≡ s
 nothing-reserved s rs unused =
     ap (λ (cs : List Reservation). after_history s (map as_call (by_falling_high cs)))
     (own-none rs unused)

@@ -1,5 +1,6 @@
 //! Handles come to life, go, and are asked for.
-ghost use Rattle.std.specs.Prelude.{◌≡◌, ◌≢◌, ◌<◌, ◌↔◌, [], ◌∷◌, None, Some, true, false, slice_get};
+ghost use Rattle.std.specs.Prelude.{◌≡◌, ◌≢◌, ◌<◌, ◌↔◌, [], ◌∷◌, None, Some, true, false};
+ghost use Rattle.std.specs.Prelude.{slice_get};
 ghost use Rattle.std.specs.FinSet as set;
 ghost use Rattle.ent_handle.specs.Handle.{IsHandle};
 ghost use Rattle.ent_alloc.specs.Sequential.{top, next, state_of, after_alloc, after_free};
@@ -36,7 +37,8 @@ pub extern "C" fn ent_rust_alloc(alloc: Global, object: &mut Object) -> Answer
         ↔ Holds object.old.place.holds (λ a. (a.asked ≡ 0) × (a.pool ≡ [])) }
     ensures memory { result.code ≡ no_memory → Holds object.old.place.holds (λ a. top a ≡ 0) }
     ensures refused { result.code ≢ done → object.new.place.holds ≡ object.old.place.holds }
-    ensures code { IsOneOf (done ∷ is_empty ∷ other_kind ∷ needs_flush ∷ no_space ∷ no_memory ∷ []) result.code }
+    ensures code { IsOneOf (done ∷ is_empty ∷ other_kind ∷ needs_flush ∷ no_space ∷ no_memory
+        ∷ []) result.code }
 {
     let Some(mut held) = object.take(alloc) else {
         return Answer::alone(IS_EMPTY);
@@ -88,8 +90,8 @@ pub extern "C" fn ent_rust_free(
         generation ≢ a.limits.generations) }
     ensures refused { result.code ≢ done → result.code ≢ done_and_retired
         → object.new.place.holds ≡ object.old.place.holds }
-    ensures code { IsOneOf (done ∷ done_and_retired ∷ is_empty ∷ other_kind ∷ no_handle ∷ needs_flush
-        ∷ not_alive ∷ no_memory ∷ []) result.code }
+    ensures code { IsOneOf (done ∷ done_and_retired ∷ is_empty ∷ other_kind ∷ no_handle
+        ∷ needs_flush ∷ not_alive ∷ no_memory ∷ []) result.code }
 {
     let Some(mut held) = object.take(alloc) else {
         return Answer::alone(IS_EMPTY);

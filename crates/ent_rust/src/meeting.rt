@@ -33,7 +33,8 @@ pub extern "C" fn ent_rust_meet(alloc: Global, caller: &mut Object, met: &mut Ob
         ↔ ((caller.old.place.holds ≡ None) ⊎ (met.old.place.holds ≡ None)) }
     ensures other { result ≡ other_kind ↔ (IsSome caller.old.place.holds
         × IsSome met.old.place.holds
-        × (HoldsOther caller_of caller.old.place.holds ⊎ HoldsOther caller_of met.old.place.holds)) }
+        × (HoldsOther caller_of caller.old.place.holds
+        ⊎ HoldsOther caller_of met.old.place.holds)) }
     ensures other_phase { result ≡ other_phase ↔ HoldsCaller caller.old.place.holds (λ c.
         HoldsCaller met.old.place.holds (λ other. c.phase ≢ other.phase)) }
     ensures refused { result ≢ done → caller.new.place.holds ≡ caller.old.place.holds }

@@ -1,4 +1,4 @@
-ghost use Rattle.std.specs.Prelude.{◌≡◌, Option, None, Some, IsTrue, IsSome, IfSome, IfOk, OnErr, ◌↔◌};
+ghost use Rattle.std.specs.Prelude.{◌≡◌, ◌↔◌, Option, None, Some, IsTrue, IsSome, IfSome};
 
 use crate::held::Held;
 use crate::parts::Parts;

@@ -138,8 +138,10 @@ pub extern "C" fn ent_rust_come_home(alloc: Global, phase: &mut Object, caller: 
     ensures emptied { result ≡ done → caller.new.place.holds ≡ None }
     ensures empty { result ≡ is_empty
         ↔ ((phase.old.place.holds ≡ None) ⊎ (caller.old.place.holds ≡ None)) }
-    ensures other { result ≡ other_kind ↔ ((IsSome phase.old.place.holds × IsSome caller.old.place.holds)
-        × (HoldsOther phase_of phase.old.place.holds ⊎ HoldsOther caller_of caller.old.place.holds)) }
+    ensures other { result ≡ other_kind ↔ (IsSome phase.old.place.holds
+        × IsSome caller.old.place.holds
+        × (HoldsOther phase_of phase.old.place.holds
+        ⊎ HoldsOther caller_of caller.old.place.holds)) }
     ensures other_phase { result ≡ other_phase ↔ HoldsPhase phase.old.place.holds (λ p.
         HoldsCaller caller.old.place.holds (λ c. p.phase ≢ c.phase)) }
     ensures all_home { result ≡ all_home ↔ HoldsPhase phase.old.place.holds (λ p.

@@ -1,6 +1,6 @@
 //! What a call across the library costs: the same work through the package, and over an allocator
-//! of Bevy's form in plain Rust that the compiler inlines. `cargo bench --offline` prints a table of
-//! nanoseconds a handle, each the shortest of its runs, which take turns.
+//! of Bevy's form in plain Rust that the compiler inlines. `cargo bench --offline` prints a table
+//! of nanoseconds a handle, each the shortest of its runs, which take turns.
 
 #[path = "../../../crates/bench_alloc/plain/plain.rs"]
 mod plain;

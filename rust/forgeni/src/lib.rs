@@ -54,15 +54,20 @@
 //!
 //! # What may go wrong
 //!
-//! | What | What happens |
-//! |---|---|
-//! | an `Entities` is used while it is shared, a `Reserver` after its phase was closed, or one `Reserver` by two threads at once | it doesn't compile |
-//! | reservers are missing at [`close`](Shared::close), or one of another phase is among them | [`Unclosed`], with all that was handed in |
-//! | two reservers of two phases [meet](Reserver::meet) | [`OtherPhase`], and nothing has changed |
-//! | a thread panics, and its reserver is dropped | `close` says what is missing; [`close_lost`](Shared::close_lost) ends the phase, and the handles of the lost reserver come to life too |
-//! | a reserver is forgotten ([`std::mem::forget`]) | it counts as in use for good: the phase goes on, and can't be closed |
-//! | the `Shared` is dropped | the others still reserve, and the allocator goes with the last of them |
-//! | memory runs out | an `Err`, and nothing has changed, but for [`new`](Entities::new) and [`with_limits`](Entities::with_limits), which end as `Box::new` does |
+//! - An `Entities` that is used while it is shared, a `Reserver` after its phase was closed, or one
+//!   `Reserver` by two threads at once doesn't compile.
+//! - [`close`](Shared::close) without some of the reservers, or with one of another phase, is an
+//!   [`Unclosed`], which has all that was handed in.
+//! - Reservers of two phases don't [meet](Reserver::meet): [`OtherPhase`], and nothing has changed.
+//! - A thread panics, and its reserver is dropped: `close` says what is missing, and
+//!   [`close_lost`](Shared::close_lost) ends the phase. The handles of the lost reserver come to
+//!   life too.
+//! - A reserver that is forgotten ([`std::mem::forget`]) counts as in use for good. The phase goes
+//!   on, and can't be closed.
+//! - The `Shared` is dropped: its reservers still reserve, and the allocator goes with the last of
+//!   them.
+//! - Memory runs out: an `Err`, and nothing has changed. [`new`](Entities::new) and
+//!   [`with_limits`](Entities::with_limits) end as `Box::new` does.
 //!
 //! Nothing panics, unless the library broke its contracts ("the library answered ..").
 #![deny(unsafe_code, missing_docs)]

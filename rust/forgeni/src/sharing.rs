@@ -121,8 +121,8 @@ impl Shared {
     ///
     /// # Errors
     ///
-    /// [`Unclosed`] says why. As long as a reserver that wasn't handed in exists, it is `InUse`. One
-    /// that was given to [`std::mem::forget`] exists for good.
+    /// [`Unclosed`] says why. As long as a reserver that wasn't handed in exists, it is `InUse`.
+    /// One that was given to [`std::mem::forget`] exists for good.
     pub fn close_lost(mut self, reservers: Vec<Reserver>) -> Result<Entities, Unclosed> {
         if let Err(error) = self.own(&reservers) {
             return Err(self.unclosed(reservers, error));
@@ -272,7 +272,8 @@ impl Reserver {
         }
     }
 
-    /// Which of the reservers it is: its position in the list that [`Entities::share`] gave, from 0.
+    /// Which of the reservers it is: its position in the list that [`Entities::share`] gave, from
+    /// 0.
     #[must_use]
     pub fn number(&self) -> usize {
         self.numbers().number

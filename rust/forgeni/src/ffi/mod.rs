@@ -3,9 +3,9 @@
 //! What this side owes the library, and the module keeps:
 //!
 //! - each export is declared as it is there;
-//! - an object is zeros at first, and then what the calls left there. A full one is given to one call
-//!   at a time, is never copied, nothing else writes it, and it is emptied once, when its owner is
-//!   dropped;
+//! - an object is zeros at first, and then what the calls left there. A full one is given to one
+//!   call at a time, is never copied, nothing else writes it, and it is emptied once, when its owner
+//!   is dropped;
 //! - no two phases get the same number.
 //!
 //! An object may go to another thread: the library proves it of all that one can hold (`sent` in

@@ -18,8 +18,8 @@ extern "C" {
 /// An object, full or empty. It isn't `Sync`, so each call has it alone.
 pub(crate) struct Object(UnsafeCell<Raw>);
 
-// SAFETY: the library proves that all that an object holds may go to another thread, and who has the
-// object has it alone.
+// SAFETY: the library proves that all that an object holds may go to another thread, and who has
+// the object has it alone.
 unsafe impl Send for Object {}
 
 impl Object {

@@ -87,7 +87,7 @@ impl Model {
             .collect()
     }
 
-    /// A request for `n` handles. Old ones come first, the one that waits longest before the others.
+    /// A request for `n` handles. Old ones come first, and of them the one that waits longest.
     pub fn reserve(&mut self, n: u32) -> Result<Vec<Handle>, Refused> {
         if n == 0 {
             return Ok(vec![]);
