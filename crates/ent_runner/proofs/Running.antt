@@ -34,8 +34,6 @@ systems_more issued next i claims more pushed same claimed = ap systems_of pushe
 
 module _ {S : Type 0} (may : S → View → List Command → Type 0) (systems : List S) (view : View)
   where
-    }
-
     -- one system more
     pub ran_more : (a b c : Record) (claims more : List ℕ) (issued next : List SystemQueue)
         (i : SystemQueue) → HasRun may systems view a b claims issued → Gains b i.queue c

@@ -10,7 +10,8 @@ use Rattle.std.specs.List.{AllWithin}
 use Rattle.std.specs.FinMap.{IsAntisymmetric, find, is_sorted}
 use Rattle.std.specs.FinMap.Entries.{below_all}
 use Rattle.ent_storage.proofs.Keys.{tied, apart}
-use Rattle.ent_storage.proofs.Rising.{first, second, less, equal, turn}
+use Rattle.ent_sorted.proofs.Rising.{first, second, less, turn}
+use Rattle.ent_storage.proofs.Rising.{equal}
 
 both : (a b : Bool) → T a → T b → T (a && b)
 both true b h k = k

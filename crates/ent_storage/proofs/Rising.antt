@@ -1,42 +1,23 @@
--- Lists of pairs whose keys strictly rise: what a search finds, and what an edit at its position
--- leaves.
+-- Lists of pairs whose keys strictly rise, as maps: what an edit at a position leaves.
 use Rattle.std.proofs.Common.{◌≡◌, ℕ, zero, suc, ◌+◌, ◌-◌, ◌<◌, ◌≤◌, ◌⊎◌, inl, inr, Bool, true}
-use Rattle.std.proofs.Common.{false, cond, ◌&&◌, T, List, [], ◌∷◌, ◌++◌, length, get_or, set, Some, None}
-use Rattle.std.proofs.Common.{Result, Ok, Err, IfOk, IfErr, Ordering, refl, sym, ap, subst, ◌∙◌}
-use Rattle.std.proofs.Common.{arith}
+use Rattle.std.proofs.Common.{false, cond, T, List, [], ◌∷◌, ◌++◌, length, get_or, set, Some, None}
+use Rattle.std.proofs.Common.{Ordering, refl, sym, ap, subst, ◌∙◌, arith}
 use Rattle.std.specs.declared.cmp.Ordering.TheVariants.{Less, Equal, Greater}
-use Rattle.std.specs.Ordering.{is_lt, is_eq, eq_by_cmp, ordering_reverse, ordering_index}
+use Rattle.std.specs.Ordering.{is_eq, eq_by_cmp}
 use Rattle.std.specs.Cmp.{IsTotalOrder}
-use Rattle.std.specs.List.{insert, AllWithin, HoldsAt}
-use Rattle.std.specs.List.Sorted.{IsNonDecreasingBy, IsSearchInRange, IsBinarySearchResult}
-use Rattle.std.proofs.lemmas.List.Sorted.{searchable_from_sorted}
+use Rattle.std.specs.List.{insert, HoldsAt}
 use Rattle.std.proofs.lemmas.Bool.{cases_lt}
 use Rattle.std.specs.FinMap as map
 use Rattle.std.specs.FinMap.{IsAntisymmetric, find, put, is_sorted}
-use Rattle.std.specs.FinMap.Entries.{below_all, by_order, is_sorted-put}
-use Rattle.ent_storage.specs.Position.{IsAt, IsGapFor}
-
-pub first : (a b : Bool) → T (a && b) → T a
-first true b h = tt
-first false b h = absurd h
-
-pub second : (a b : Bool) → T (a && b) → T b
-second true b h = h
-second false b h = absurd h
-
-pub less : (r : Ordering) → T (is_lt r) → r ≡ Less
-less Less h = refl
-less Equal h = absurd h
-less Greater h = absurd h
+use Rattle.std.specs.FinMap.Entries.{is_sorted-put}
+use Rattle.ent_sorted.specs.Position.{IsAt, IsGapFor}
+use Rattle.ent_sorted.proofs.Rising.{first, second, turn, below_at, rising_at}
+use Rattle.ent_sorted.proofs.Putting.{find_in_gap, inserted, written}
 
 pub equal : (r : Ordering) → T (is_eq r) → r ≡ Equal
 equal Less h = absurd h
 equal Equal h = refl
 equal Greater h = absurd h
-
-pub turn : {K : Type 0} {R : K → K → Ordering} (o : IsTotalOrder R) (a b : K) (r : Ordering) → R a b
-    ≡ r → R b a ≡ ordering_reverse r
-turn o a b r e = o.antisymm b a ∙ ap ordering_reverse e
 
 -- an insertion at the end
 pub insert_end : {A : Type 0} (xs : List A) (x : A) → insert xs (length xs) x ≡ xs ++ x ∷ []
@@ -44,34 +25,11 @@ insert_end [] x = refl
 insert_end (y ∷ xs) x = ap (λ zs. y ∷ zs) (insert_end xs x)
 
 module _ {K X : Type 0} {R : K → K → Ordering} (o : IsTotalOrder R) where
-  below_at : (x : K) (es : List (K × X)) (i : ℕ) (d : K × X) → T (below_all R x es) → i < length es
-      → R x (get_or es i d).0 ≡ Less
-  below_at x [] i d h l = absurd (omega arith)
-  below_at x (e ∷ es) zero d h l = less _ (first _ _ h)
-  below_at x (e ∷ es) (suc i) d h l = below_at x es i d (second _ _ h) (omega arith)
-
-  -- an earlier key is below a later one
-  pub rising_at : (es : List (K × X)) (i j : ℕ) (d : K × X) → T (is_sorted R es) → i < j → j
-      < length es → R (get_or es i d).0 (get_or es j d).0 ≡ Less
-  rising_at [] i j d h l k = absurd (omega arith)
-  rising_at (e ∷ es) i zero d h l k = absurd (omega arith)
-  rising_at (e ∷ es) zero (suc j) d h l k = below_at e.0 es j d (first _ _ h) (omega arith)
-  rising_at (e ∷ es) (suc i) (suc j) d h l k = rising_at es i j d (second _ _ h) (omega arith)
-      (omega arith)
-
-  -- the premise of a binary search
-  pub searchable : (es : List (K × X)) (k : K) → T (is_sorted R es)
-      → IsNonDecreasingBy (λ e. ordering_index (R e.0 k)) es
-  searchable es k h =
-      searchable_from_sorted o (λ e. e.0) es k
-      (λ i d low high.
-      ap is_lt (turn o _ _ Less (rising_at es i (i + 1) d h (omega arith) high)))
-
   above_head : (k : K) (e : K × X) (es : List (K × X)) (i : ℕ) (d : K × X)
       → T (is_sorted R (e ∷ es)) → i < length es → R (get_or es i d).0 k ≡ Equal → R k e.0 ≡ Greater
   above_head k e es i d h l t =
       o.congr k (get_or es i d).0 e.0 (turn o _ _ Equal t)
-      ∙ turn o _ _ Less (below_at e.0 es i d (first _ _ h) l)
+      ∙ turn o _ _ Less (below_at o e.0 es i d (first _ _ h) l)
 
   -- a key that ties at a position is found there
   pub find_at : (es : List (K × X)) (k : K) (i : ℕ) (d : K × X) → T (is_sorted R es) → i < length es
@@ -83,48 +41,6 @@ module _ {K X : Type 0} {R : K → K → Ordering} (o : IsTotalOrder R) where
       ap (λ r. cond (is_eq r) (Some e.1) (find R k es)) (above_head k e es i d h (omega arith) t)
       ∙ find_at es k i d (second _ _ h) (omega arith) t
 
-  -- a key between two positions is not found
-  pub find_gap : (es : List (K × X)) (k : K) (i : ℕ) → AllWithin (λ e. R e.0 k ≡ Less) es 0 i
-      → AllWithin (λ e. R e.0 k ≡ Greater) es i (length es) → find R k es ≡ None
-  find_gap [] k i below above = refl
-  find_gap (e ∷ es) k zero below above =
-      ap (λ r. cond (is_eq r) (Some e.1) (find R k es))
-      (turn o _ _ Greater (above zero e (omega arith) (omega arith)))
-      ∙ find_gap es k zero (λ j d low high. absurd (omega arith))
-      (λ j d low high. above (suc j) d (omega arith) (omega arith))
-  find_gap (e ∷ es) k (suc i) below above =
-      ap (λ r. cond (is_eq r) (Some e.1) (find R k es))
-      (turn o _ _ Less (below zero e (omega arith) (omega arith)))
-      ∙ find_gap es k i (λ j d low high. below (suc j) d (omega arith) (omega arith))
-      (λ j d low high. above (suc j) d (omega arith) (omega arith))
-
-  -- a pair whose key is between two positions is put there
-  pub put_gap : (es : List (K × X)) (k : K) (v : X) (i : ℕ) → i ≤ length es
-      → AllWithin (λ e. R e.0 k ≡ Less) es 0 i → AllWithin (λ e. R e.0 k ≡ Greater) es i (length es)
-      → put R k v es ≡ insert es i (k, v)
-  put_gap [] k v zero l below above = refl
-  put_gap [] k v (suc i) l below above = absurd (omega arith)
-  put_gap (e ∷ es) k v zero l below above =
-      ap (λ r. by_order r ((k, v) ∷ e ∷ es) ((e.0, v) ∷ es) (e ∷ put R k v es))
-      (turn o _ _ Greater (above zero e (omega arith) (omega arith)))
-  put_gap (e ∷ es) k v (suc i) l below above =
-      ap (λ r. by_order r ((k, v) ∷ e ∷ es) ((e.0, v) ∷ es) (e ∷ put R k v es))
-      (turn o _ _ Less (below zero e (omega arith) (omega arith)))
-      ∙ ap (λ fs. e ∷ fs)
-      (put_gap es k v i (omega arith) (λ j d low high. below (suc j) d (omega arith)
-      (omega arith)) (λ j d low high. above (suc j) d (omega arith) (omega arith)))
-
-  -- a pair is put over the one whose key ties
-  pub put_at : (es : List (K × X)) (k : K) (v : X) (i : ℕ) (d : K × X) → T (is_sorted R es) → i
-      < length es → R (get_or es i d).0 k ≡ Equal → put R k v es ≡ set es i ((get_or es i d).0, v)
-  put_at [] k v i d h l t = absurd (omega arith)
-  put_at (e ∷ es) k v zero d h l t =
-      ap (λ r. by_order r ((k, v) ∷ e ∷ es) ((e.0, v) ∷ es) (e ∷ put R k v es)) (turn o _ _ Equal t)
-  put_at (e ∷ es) k v (suc i) d h l t =
-      ap (λ r. by_order r ((k, v) ∷ e ∷ es) ((e.0, v) ∷ es) (e ∷ put R k v es))
-      (above_head k e es i d h (omega arith) t)
-      ∙ ap (λ fs. e ∷ fs) (put_at es k v i d (second _ _ h) (omega arith) t)
-
   -- the maps of the edited lists
   pub from_sorted-put : (es : List (K × X)) (k : K) (v : X) → T (is_sorted R es)
       → map.from_sorted {R = R} (put R k v es) ≡ map.insert (map.from_sorted es) k v
@@ -132,27 +48,6 @@ module _ {K X : Type 0} {R : K → K → Ordering} (o : IsTotalOrder R) where
       map.same_entries_map _ _ (map.entries-from_sorted R _ (is_sorted-put R o k v es h)
       ∙ sym (map.entries-insert o (map.from_sorted es) k v
       ∙ ap (put R k v) (map.entries-from_sorted R es h)))
-
-  -- a binary search by key ends at the key, or at the gap for it
-  pub searched : (es : List (K × X)) (k : K) → T (is_sorted R es) → (r : Result ℕ ℕ)
-      → IsSearchInRange r (length es) → IsBinarySearchResult (λ e. R e.0 k) es r
-      → record { found : IfOk r (IsAt R es k); absent : IfErr r (IsGapFor R es k) }
-  searched es k h (Ok i) l at = record {
-    found = record { in_range = l; has_key = at };
-    absent =
-        tt;
-  }
-  searched es k h (Err i) l parted =
-      let parts = parted (searchable es k h) in
-      record {
-        found = tt;
-        absent = record {
-          in_range = l;
-          smaller_before = parts.0;
-          greater_after =
-              parts.1;
-        };
-      }
 
 -- a key between two neighbours is between all pairs before and all after
 pub gap_from_neighbours : {K X : Type 0} {R : K → K → Ordering} (o : IsTotalOrder R)
@@ -204,24 +99,21 @@ module _ {K X : Type 0} {R : K → K → Ordering} (o : IsTotalOrder R) (same : 
   get_at d at = map.get-from_sorted R es k h ∙ find_at o es k i d h at.in_range (at.has_key d)
 
   pub get_in_gap : IsGapFor R es k i → map.get (map.from_sorted {R = R} es) k ≡ None
-  get_in_gap gap = map.get-from_sorted R es k h ∙ find_gap o es k i gap.smaller_before
-      gap.greater_after
+  get_in_gap gap = map.get-from_sorted R es k h ∙ find_in_gap o es k i gap
 
   pub rising_insert : (v : X) → IsGapFor R es k i → T (is_sorted R (insert es i (k, v)))
   rising_insert v gap =
-      subst (λ fs. T (is_sorted R fs)) (put_gap o es k v i gap.in_range gap.smaller_before
-      gap.greater_after) (is_sorted-put R o k v es h)
+      subst (λ fs. T (is_sorted R fs)) (sym (inserted o es k v i v gap refl))
+      (is_sorted-put R o k v es h)
 
   pub map_insert : (v : X) → IsGapFor R es k i → map.from_sorted {R = R} (insert es i (k, v))
       ≡ map.insert (map.from_sorted es) k v
-  map_insert v gap =
-      ap (λ fs. map.from_sorted {R = R} fs)
-      (sym (put_gap o es k v i gap.in_range gap.smaller_before gap.greater_after))
+  map_insert v gap = ap (λ fs. map.from_sorted {R = R} fs) (inserted o es k v i v gap refl)
       ∙ from_sorted-put o es k v h
 
   put_over : (v : X) → IsAt R es k i → put R k v es ≡ set es i (k, v)
   put_over v at =
-      put_at o es k v i (k, v) h at.in_range (at.has_key (k, v))
+      sym (written o es k v i (k, v) (get_or es i (k, v)) v h at refl refl)
       ∙ ap (λ x. set es i (x, v)) (same _ _ (at.has_key (k, v)))
 
   pub rising_set : (v : X) → IsAt R es k i → T (is_sorted R (set es i (k, v)))

@@ -14,7 +14,6 @@ mod looking;
 mod order;
 mod places;
 mod slot;
-mod sorted;
 mod sparse_set;
 mod storage;
 

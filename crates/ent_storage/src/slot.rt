@@ -3,10 +3,10 @@ ghost use Rattle.std.specs.declared.cmp.Ordering.TheVariants.{Less, Greater};
 ghost use Rattle.std.specs.FinMap.{is_sorted};
 ghost use Rattle.std.specs.List.{HoldsAt};
 ghost use Rattle.ent_handle.specs.Handle.{handle_cmp};
-ghost use Rattle.ent_storage.specs.Position.{IsAt, IsGapFor};
+ghost use Rattle.ent_sorted.specs.Position.{IsAt, IsGapFor};
 
-use super::sorted::search;
 use ent_handle::Handle;
+use ent_sorted::search;
 
 /// The position of the handle, or the position where it would go. It is looked for at its slot's
 /// number first, and only then by a binary search.
