@@ -44,6 +44,8 @@ impl Shared {
     }
 
     /// Memory ran out on the way, and nobody has reserved: the allocator is as it was.
+    ///
+    /// Nobody else has a part of the phase, so the close isn't refused. That much no contract says.
     fn undo(self, mut reservers: Vec<Reserver>) -> Unshared {
         let mut object = self.object;
         for reserver in &mut reservers {
