@@ -78,56 +78,57 @@ fn flushed(rt: &impl Abort, alloc: Global) -> (World, Vec<CommandQueue>) {
     (world, queues)
 }
 
-/// Where it goes on, the world after it, and the faults. The first queue spawns 2v1 and 3v1 at
+/// The system, the command and the handles done where it goes on, the world after it, and the
+/// faults. The first queue spawns 2v1 and 3v1 at
 /// once, inserts into 0v1, removes a component of 1v1, takes 1v1 out, and inserts into it. The
 /// second queue spawns 4v1, and takes out 9v1, whom there never was.
-const CASES: [(StopAt, &str, &str); 8] = [
+const CASES: [((usize, usize, usize), &str, &str); 8] = [
     // From the first command on.
     (
-        at(0, 0, 0),
+        (0, 0, 0),
         "0.0.0 0v1 0=10 1=5\n0.4294967295.0 2v1 1=1 2=2\n0.4294967295.1 3v1 1=1 2=2\n\
          0.4294967295.2 4v1 3=3\n",
         "0 4 not alive 1v1\n1 1 not alive 9v1\n",
     ),
     // The first handle of the spawn is done.
     (
-        at(0, 0, 1),
+        (0, 0, 1),
         "0.0.0 0v1 0=10 1=5\n0.4294967295.0 2v1\n0.4294967295.1 3v1 1=1 2=2\n\
          0.4294967295.2 4v1 3=3\n",
         "0 4 not alive 1v1\n1 1 not alive 9v1\n",
     ),
     // From a later command on.
     (
-        at(0, 1, 0),
+        (0, 1, 0),
         "0.0.0 0v1 0=10 1=5\n0.4294967295.0 2v1\n0.4294967295.1 3v1\n0.4294967295.2 4v1 3=3\n",
         "0 4 not alive 1v1\n1 1 not alive 9v1\n",
     ),
     (
-        at(0, 2, 0),
+        (0, 2, 0),
         "0.0.0 0v1 0=10\n0.4294967295.0 2v1\n0.4294967295.1 3v1\n0.4294967295.2 4v1 3=3\n",
         "0 4 not alive 1v1\n1 1 not alive 9v1\n",
     ),
     (
-        at(0, 3, 0),
+        (0, 3, 0),
         "0.0.0 0v1 0=10\n0.4294967295.0 2v1\n0.4294967295.1 3v1\n0.4294967295.2 4v1 3=3\n",
         "0 4 not alive 1v1\n1 1 not alive 9v1\n",
     ),
     // Nobody has taken 1v1 out.
     (
-        at(0, 4, 0),
+        (0, 4, 0),
         "0.0.0 0v1 0=10\n0.0.1 1v1 0=20 1=6\n0.4294967295.0 2v1\n0.4294967295.1 3v1\n\
          0.4294967295.2 4v1 3=3\n",
         "1 1 not alive 9v1\n",
     ),
     // From the second queue on, and from its last command on.
     (
-        at(1, 0, 0),
+        (1, 0, 0),
         "0.0.0 0v1 0=10\n0.0.1 1v1 0=20\n0.4294967295.0 2v1\n0.4294967295.1 3v1\n\
          0.4294967295.2 4v1 3=3\n",
         "1 1 not alive 9v1\n",
     ),
     (
-        at(1, 1, 0),
+        (1, 1, 0),
         "0.0.0 0v1 0=10\n0.0.1 1v1 0=20\n0.4294967295.0 2v1\n0.4294967295.1 3v1\n\
          0.4294967295.2 4v1\n",
         "1 1 not alive 9v1\n",
@@ -137,8 +138,9 @@ const CASES: [(StopAt, &str, &str); 8] = [
 #[test]
 fn goes_on_from_each_command(rt: HostRuntime) {
     let alloc = rt.alloc();
-    for (stop, after, faults) in CASES {
+    for ((system, command, done), after, faults) in CASES {
         let (mut world, queues) = flushed(&rt, alloc);
+        let stop = at(system, command, done);
         assert_goes_on(&rt, alloc, &mut world, &queues, stop, after, faults);
     }
 }

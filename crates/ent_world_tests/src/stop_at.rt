@@ -9,7 +9,7 @@ pub struct StopAt {
 }
 
 /// Before that handle of that command of that system.
-pub const fn at(system: usize, command: usize, done: usize) -> StopAt {
+pub fn at(system: usize, command: usize, done: usize) -> StopAt {
     StopAt {
         system,
         command,
