@@ -78,10 +78,10 @@ fn flushed(rt: &impl Abort, alloc: Global) -> (World, Vec<CommandQueue>) {
     (world, queues)
 }
 
-/// The system, the command and the handles done where it goes on, the world after it, and the
-/// faults. The first queue spawns 2v1 and 3v1 at
-/// once, inserts into 0v1, removes a component of 1v1, takes 1v1 out, and inserts into it. The
-/// second queue spawns 4v1, and takes out 9v1, whom there never was.
+/// Where it goes on (the system, the command, and how many of its handles are done), the world
+/// after it, and the faults. The first queue spawns 2v1 and 3v1 at once, inserts into 0v1, removes
+/// a component of 1v1, takes 1v1 out, and inserts into it. The second queue spawns 4v1, and takes
+/// out 9v1, whom there never was.
 const CASES: [((usize, usize, usize), &str, &str); 8] = [
     // From the first command on.
     (
