@@ -92,6 +92,18 @@ too_many = 21
 abbrev pub all_home : ℕ
 all_home = 22
 
+-- no entity has that handle
+abbrev pub is_absent : ℕ
+is_absent = 25
+
+-- an entity has that handle already
+abbrev pub is_present : ℕ
+is_present = 26
+
+-- there is no such value
+abbrev pub no_value : ℕ
+no_value = 27
+
 -- the code is one of these
 abbrev pub IsOneOf : List ℕ → ℕ → Type 0
 IsOneOf [] code = ⊥

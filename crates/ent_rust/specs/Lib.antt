@@ -1,5 +1,9 @@
 pub mod Answers
+pub mod Birth
 pub mod Holds
+pub mod Item
+pub mod Kinds
+pub mod Listing
 pub mod Pair
 pub mod Place
 pub mod Sharing

@@ -70,6 +70,15 @@ pub(crate) const TOO_MANY: u32 = 21;
 /// All reservers are at home already.
 pub(crate) const ALL_HOME: u32 = 22;
 
+/// No entity has that handle.
+pub(crate) const IS_ABSENT: u32 = 25;
+
+/// An entity has that handle already.
+pub(crate) const IS_PRESENT: u32 = 26;
+
+/// There is no such value.
+pub(crate) const NO_VALUE: u32 = 27;
+
 /// A code and, where one was given, a handle.
 #[derive(Clone, Copy)]
 #[repr(C)]

@@ -6,18 +6,24 @@
 #![tactic(auto)]
 
 pub mod answer;
+pub mod birth;
 mod caller;
 pub mod closing;
 pub mod counts;
 pub mod giving;
 mod held;
+pub mod item;
 pub mod life;
+pub mod listing;
 pub mod meeting;
 pub mod object;
 pub mod pair;
 mod parts;
 mod phase;
 mod place;
+pub mod reading;
 pub mod requests;
 pub mod reserving;
 pub mod sharing;
+pub mod storing;
+pub mod worlds;

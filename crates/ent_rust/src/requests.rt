@@ -109,7 +109,7 @@ fn flush(alloc: Global, entities: &mut Entities) -> Option<Vec<Handle>>
 }
 
 /// Lists the handles.
-fn write_all(list: &mut [Pair], handles: &[Handle])
+pub(crate) fn write_all(list: &mut [Pair], handles: &[Handle])
     requires { length list.old ≡ length handles.now }
     ensures { map handle_of list.new ≡ handles.now }
 {

@@ -214,3 +214,55 @@ impl fmt::Display for Unclosed {
 }
 
 impl Error for Unclosed {}
+
+/// Why [`Storage::born`](crate::Storage::born) added nothing. Nothing has changed.
+#[derive(Clone, Copy, Debug, PartialEq, Eq, Hash)]
+pub enum BornError {
+    /// An entity has that handle already.
+    Present,
+    /// Memory ran out.
+    Memory,
+}
+
+impl fmt::Display for BornError {
+    fn fmt(&self, out: &mut fmt::Formatter<'_>) -> fmt::Result {
+        out.write_str(match self {
+            Self::Present => "the entity is there already",
+            Self::Memory => "out of memory",
+        })
+    }
+}
+
+impl Error for BornError {}
+
+/// Why [`Storage::insert`](crate::Storage::insert) set nothing. Nothing has changed.
+#[derive(Clone, Copy, Debug, PartialEq, Eq, Hash)]
+pub enum InsertError {
+    /// No entity has that handle.
+    Absent,
+    /// Memory ran out.
+    Memory,
+}
+
+impl fmt::Display for InsertError {
+    fn fmt(&self, out: &mut fmt::Formatter<'_>) -> fmt::Result {
+        out.write_str(match self {
+            Self::Absent => "no such entity",
+            Self::Memory => "out of memory",
+        })
+    }
+}
+
+impl Error for InsertError {}
+
+/// No entity has that handle. Nothing has changed.
+#[derive(Clone, Copy, Debug, PartialEq, Eq, Hash)]
+pub struct Absent;
+
+impl fmt::Display for Absent {
+    fn fmt(&self, out: &mut fmt::Formatter<'_>) -> fmt::Result {
+        out.write_str("no such entity")
+    }
+}
+
+impl Error for Absent {}

@@ -72,19 +72,26 @@
 //! Nothing panics, unless the library broke its contracts ("the library answered ..").
 #![deny(unsafe_code, missing_docs)]
 
+mod component;
 mod entities;
 mod errors;
 #[allow(unsafe_code)]
 mod ffi;
 mod handle;
 mod limits;
+mod reading;
 mod sharing;
+mod storage;
+mod world;
 
+pub use component::{Birth, ComponentId};
 pub use entities::{Entities, Freed, State};
+pub use errors::{Absent, BornError, InsertError, ShareError, Unclosed, Unshared};
 pub use errors::{
     AllocError, CloseError, FreeError, OtherPhase, OutOfMemory, Refused, RequestError,
 };
-pub use errors::{ShareError, Unclosed, Unshared};
 pub use handle::Handle;
 pub use limits::Limits;
 pub use sharing::{Reserver, Shared};
+pub use storage::Storage;
+pub use world::World;

@@ -75,7 +75,9 @@ fn exports() -> BTreeMap<String, String> {
             let (parameters, result) = rest.rsplit_once(')').expect("parameters");
             let parameters = plain(&parameters.replace("alloc: Global,", ""))
                 .replace("&mut Object", "*mut Raw")
-                .replace("list: &mut [Pair]", "list: *mut Pair, len: usize");
+                .replace("list: &mut [Pair]", "list: *mut Pair, len: usize")
+                .replace("list: &mut [Item]", "list: *mut Item, len: usize")
+                .replace("items: &[Item]", "items: *const Item, len: usize");
             (name.to_owned(), plain(&format!("({parameters}) {result}")))
         })
         .collect()

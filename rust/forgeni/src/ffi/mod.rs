@@ -12,8 +12,11 @@
 //! `crates/ent_rust/src/object.rt`). A move, a start or a join of a thread orders its calls.
 
 mod entities;
+pub(crate) mod kept;
 mod object;
 mod sharing;
+mod storage;
+pub(crate) mod world;
 
 pub(crate) use entities::Counts;
 pub(crate) use object::Object;
@@ -29,10 +32,14 @@ pub(crate) const IS_ALIVE: u32 = 10;
 pub(crate) const IS_RESERVED: u32 = 11;
 pub(crate) const IS_GONE: u32 = 12;
 pub(crate) const NO_CREDIT: u32 = 13;
+pub(crate) const NO_ROOM: u32 = 14;
 pub(crate) const NO_COUNT: u32 = 16;
 pub(crate) const NONE_HOME: u32 = 17;
 pub(crate) const OTHER_PHASE: u32 = 18;
 pub(crate) const IN_USE: u32 = 20;
+pub(crate) const IS_ABSENT: u32 = 25;
+pub(crate) const IS_PRESENT: u32 = 26;
+pub(crate) const NO_VALUE: u32 = 27;
 
 /// `Answer` of `crates/ent_rust/src/answer.rt`.
 #[repr(C)]

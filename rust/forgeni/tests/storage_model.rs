@@ -1,0 +1,120 @@
+//! Random calls of a storage, compared with a map in plain Rust.
+
+mod common;
+mod worlds;
+
+use common::{handle, seeds, Numbers};
+use forgeni::{Absent, Birth, BornError, ComponentId, Handle, InsertError, Storage};
+use std::collections::BTreeMap;
+use worlds::{any_birth, any_component, any_components, Components};
+
+/// The handles and births of a storage: few, so that they meet often.
+fn any_handle(numbers: &mut Numbers) -> Handle {
+    handle(numbers.below(6) as u32, 1 + numbers.below(3) as u32)
+}
+
+fn run(seed: u64) {
+    let mut numbers = Numbers::of(seed);
+    let mut model: BTreeMap<Handle, (Birth, Components)> = BTreeMap::new();
+    let mut storage = Storage::new();
+    for step in 0..60 {
+        let place = format!("seed {seed}, step {step}");
+        let one = any_handle(&mut numbers);
+        let id = any_component(&mut numbers);
+        match numbers.below(6) {
+            0 | 1 => {
+                let birth = any_birth(&mut numbers);
+                let wanted = if model.contains_key(&one) {
+                    Err(BornError::Present)
+                } else {
+                    model.insert(one, (birth, Components::new()));
+                    Ok(())
+                };
+                assert_eq!(storage.born(one, birth), wanted, "{place}: born {one}");
+            }
+            2 => {
+                let wanted = model.remove(&one).map(|_| ()).ok_or(Absent);
+                assert_eq!(storage.despawn(one), wanted, "{place}: despawn {one}");
+            }
+            3 | 4 => {
+                let components = any_components(&mut numbers);
+                let wanted = match model.get_mut(&one) {
+                    Some((_, held)) => {
+                        held.extend(components.iter().copied());
+                        Ok(())
+                    }
+                    None => Err(InsertError::Absent),
+                };
+                assert_eq!(storage.insert(one, &components), wanted, "{place}: insert");
+            }
+            _ => {
+                let wanted = match model.get_mut(&one) {
+                    Some((_, held)) => Ok(held.remove(&id)),
+                    None => Err(Absent),
+                };
+                assert_eq!(storage.remove(one, id), wanted, "{place}: remove {id:?}");
+            }
+        }
+        let there = model.get(&one);
+        let value = there.and_then(|(_, held)| held.get(&id)).copied();
+        assert_eq!(storage.get(one, id), value, "{place}: get {one} {id:?}");
+        assert_eq!(storage.birth(one), there.map(|e| e.0), "{place}: birth");
+        assert_eq!(storage.contains(one), there.is_some(), "{place}: contains");
+        let items = there.map(|(_, held)| held.iter().map(|(k, v)| (*k, *v)).collect());
+        assert_eq!(storage.items(one), items, "{place}: items of {one}");
+        assert_eq!(storage.len(), model.len(), "{place}: len");
+        let mut order: Vec<(Birth, Handle)> = model.iter().map(|(h, e)| (e.0, *h)).collect();
+        order.sort_unstable();
+        let handles: Vec<Handle> = order.into_iter().map(|pair| pair.1).collect();
+        assert_eq!(storage.by_birth(), Ok(handles), "{place}: by_birth");
+    }
+}
+
+#[test]
+fn random_calls() {
+    seeds(5_000, run);
+}
+
+#[test]
+fn ends_of_the_ranges() {
+    let mut storage = Storage::default();
+    let last = handle(4_294_967_294, 2_147_483_647);
+    let birth = Birth {
+        frame: u64::MAX,
+        system: u32::MAX,
+        ordinal: u32::MAX,
+    };
+    assert_eq!(storage.born(last, birth), Ok(()));
+    let values = [
+        (ComponentId(255), i64::MIN),
+        (ComponentId(0), i64::MAX),
+        (ComponentId(255), -1),
+    ];
+    assert_eq!(storage.insert(last, &values), Ok(()));
+    assert_eq!(storage.birth(last), Some(birth));
+    let sorted = vec![(ComponentId(0), i64::MAX), (ComponentId(255), -1)];
+    assert_eq!(storage.items(last), Some(sorted));
+    assert_eq!(
+        storage.remove(last, ComponentId(0)),
+        Ok(Some(9_223_372_036_854_775_807))
+    );
+    assert_eq!(storage.remove(last, ComponentId(0)), Ok(None));
+    assert!(!storage.is_empty());
+}
+
+#[test]
+fn all_components_of_one_entity() {
+    let mut storage = Storage::new();
+    let one = handle(0, 1);
+    let birth = Birth {
+        frame: 0,
+        system: 0,
+        ordinal: 0,
+    };
+    assert_eq!(storage.born(one, birth), Ok(()));
+    let all: Vec<(ComponentId, i64)> = (0..=255)
+        .map(|id| (ComponentId(id), -i64::from(id)))
+        .collect();
+    assert_eq!(storage.insert(one, &all), Ok(()));
+    assert_eq!(storage.items(one), Some(all));
+}

@@ -1,0 +1,103 @@
+//! What the tests of storages and worlds need: a world as its rules say it, and random components.
+#![allow(dead_code)]
+
+use crate::common::{handle, Numbers};
+use forgeni::{Birth, ComponentId, Handle};
+use std::collections::BTreeMap;
+
+/// What an entity has.
+pub type Components = BTreeMap<ComponentId, i64>;
+
+/// One of these, if there is any.
+pub fn pick<T: Copy>(numbers: &mut Numbers, all: &[T]) -> Option<T> {
+    if all.is_empty() {
+        return None;
+    }
+    Some(all[numbers.below(all.len() as u64) as usize])
+}
+
+/// A component, of few.
+pub fn any_component(numbers: &mut Numbers) -> ComponentId {
+    ComponentId([0, 1, 2, 7, 255][numbers.below(5) as usize])
+}
+
+/// Up to six components, of numbers that often stand twice.
+pub fn any_components(numbers: &mut Numbers) -> Vec<(ComponentId, i64)> {
+    let count = numbers.below(7);
+    (0..count)
+        .map(|_| {
+            let id = any_component(numbers);
+            (id, numbers.below(2000) as i64 - 1000)
+        })
+        .collect()
+}
+
+/// A birth, of few.
+pub fn any_birth(numbers: &mut Numbers) -> Birth {
+    Birth {
+        frame: numbers.below(3),
+        system: numbers.below(2) as u32,
+        ordinal: numbers.below(2) as u32,
+    }
+}
+
+/// A world as its rules say it, with no care for speed.
+pub struct WorldModel {
+    pub slots: u32,
+    pub generations: u32,
+    pub made: u32,
+    pub live: BTreeMap<Handle, (Birth, Components)>,
+    /// What each slot that waits gives next, the one that was freed last at the end.
+    pub waiting: Vec<Handle>,
+}
+
+impl WorldModel {
+    pub fn new(slots: u32, generations: u32) -> Self {
+        WorldModel {
+            slots,
+            generations,
+            made: 0,
+            live: BTreeMap::new(),
+            waiting: vec![],
+        }
+    }
+
+    /// The handles that can be given, in their order.
+    pub fn pool(&self) -> Vec<Handle> {
+        let old = self.waiting.iter().rev().copied();
+        old.chain((self.made..self.slots).map(|index| handle(index, 1)))
+            .collect()
+    }
+
+    pub fn spawn(&mut self, birth: Birth, components: &[(ComponentId, i64)]) -> Option<Handle> {
+        let given = *self.pool().first()?;
+        if self.waiting.pop().is_none() {
+            self.made += 1;
+        }
+        let components = components.iter().copied().collect();
+        self.live.insert(given, (birth, components));
+        Some(given)
+    }
+
+    /// The handle that the slot gives next. `None` if the entity isn't alive.
+    pub fn despawn(&mut self, given: Handle) -> Option<Option<Handle>> {
+        self.live.remove(&given)?;
+        if given.generation() == self.generations {
+            return Some(None);
+        }
+        let next = handle(given.index(), given.generation() + 1);
+        self.waiting.push(next);
+        Some(Some(next))
+    }
+
+    /// The handles of all entities, by birth and then by handle.
+    pub fn by_birth(&self) -> Vec<Handle> {
+        let mut all: Vec<(Birth, Handle)> = self
+            .live
+            .iter()
+            .map(|(entity, (birth, _))| (*birth, *entity))
+            .collect();
+        all.sort_unstable();
+        all.into_iter().map(|(_, entity)| entity).collect()
+    }
+}
