@@ -118,6 +118,7 @@ def main():
     faults, count = [], 0
     pages = [pathlib.Path("README.md"), *sorted(pathlib.Path("docs").glob("*.md"))]
     pages += sorted(pathlib.Path("crates").glob("*/README.md"))
+    pages += sorted(pathlib.Path("rust").glob("*/README.md"))
     for page in pages:
         for at, mark, block in blocks_of(page):
             count += 1

@@ -1,4 +1,15 @@
 //! Entities come and go on one thread.
+//!
+//! It prints
+//!
+//! ```text
+//! 0v1 and 1v1 are alive: 2 of 3
+//! 1v1 is Gone, its slot gives Some("1v2")
+//! 1v2 is Alive
+//! 1v2 was the last of its slot: None
+//! 2v1 is of a new slot
+//! no slot is free: 2 alive, 1 retired
+//! ```
 
 use forgeni::{AllocError, Entities, Limits, State};
 use std::error::Error;
