@@ -1,44 +1,122 @@
 //! What a call across the library costs: the same work through the package, and over an allocator
-//! of Bevy's form in plain Rust that the compiler inlines. `cargo bench --offline` prints a table
-//! of nanoseconds a handle, each the shortest of its runs, which take turns.
+//! of Bevy's form in plain Rust that the compiler inlines. `benches/run.sh` prints two tables of
+//! nanoseconds a handle, each the shortest of its runs, which take turns. It also brings the crates
+//! slotmap and sharded-slab, if they are installed; `cargo bench --offline` leaves them out.
 
-#[path = "../../../crates/bench_alloc/plain/plain.rs"]
+mod peers;
+#[path = "../../../../crates/bench_alloc/plain/plain.rs"]
 mod plain;
 
-use forgeni::{Entities, Handle, State};
+use forgeni::{Entities, Handle, Reserver, State};
 use std::hint::black_box;
 use std::sync::atomic::{AtomicI64, Ordering};
+use std::thread;
 use std::time::Instant;
 
-/// How many handles a run goes through, and how often each run is timed.
-const HANDLES: u32 = 100_000;
+/// How many handles a run goes through, or each thread of it, and how often each run is timed.
+const HANDLES: u32 = 100_032;
 const RUNS: usize = 300;
+const RUNS_OF_THREADS: usize = 40;
 
 /// How many handles a bulk has.
 const BULK: u32 = 64;
 
 fn main() {
-    println!("| Work | Through the package | Plain Rust | Ratio |");
-    println!("|---|---|---|---|");
-    line("`alloc`, then `free`", alloc_free, plain_alloc_free);
-    line("`state`", state, plain_state);
-    line("`Reserver::reserve`", reserve, plain_reserve);
-    line("`Reserver::reserve_into`, 64 at once", bulk, plain_bulk);
+    println!("| Work | Through the package | Plain Rust | Ratio | slotmap | Ratio |");
+    println!("|---|---|---|---|---|---|");
+    line(
+        "`alloc`, then `free`",
+        alloc_free,
+        plain_alloc_free,
+        peers::ALLOC_FREE,
+    );
+    line("`state`", state, plain_state, peers::STATE);
+    line("`Reserver::reserve`", reserve, plain_reserve, None);
+    line(
+        "`Reserver::reserve_into`, 64 at once",
+        bulk,
+        plain_bulk,
+        None,
+    );
+    println!();
+    println!(
+        "| Threads | Singly | 64 at once | A sharded slab | Ratio, singly | Ratio, 64 at once |"
+    );
+    println!("|---|---|---|---|---|---|");
+    for threads in [1, 2, 4] {
+        line_of_threads(threads);
+    }
 }
 
 /// Each work returns the seconds that it took, and a sum, so that all is computed.
 type Work = fn() -> (f64, u64);
 
-fn line(name: &str, ours: Work, plain: Work) {
-    let (mut a, mut b) = (f64::MAX, f64::MAX);
+fn line(name: &str, ours: Work, plain: Work, peer: Option<Work>) {
+    let (mut a, mut b, mut c) = (f64::MAX, f64::MAX, f64::MAX);
     for _ in 0..RUNS {
         let ((first, ours), (second, plain)) = (ours(), plain());
         assert_eq!(ours, plain, "{name}: other handles");
         a = a.min(first);
         b = b.min(second);
+        c = c.min(peer.map_or(f64::MAX, |peer| peer().0));
     }
-    let [a, b] = [a, b].map(|seconds| seconds * 1e9 / f64::from(HANDLES));
-    println!("| {name} | {a:.1} | {b:.1} | {:.2} |", a / b);
+    let [ours, plain] = [a, b].map(|seconds| each(seconds, 1));
+    print!("| {name} | {ours:.1} | {plain:.1} | {:.2} |", a / b);
+    match peer {
+        Some(_) => println!(" {:.1} | {:.2} |", each(c, 1), a / c),
+        None => println!(" | |"),
+    }
+}
+
+/// Nanoseconds a handle, if each of the threads had its handles in that many seconds.
+fn each(seconds: f64, threads: usize) -> f64 {
+    seconds * 1e9 / (f64::from(HANDLES) * threads as f64)
+}
+
+/// Handles that live after a phase of that many threads, from the first request on.
+fn line_of_threads(threads: usize) {
+    let (mut a, mut b, mut c) = (f64::MAX, f64::MAX, f64::MAX);
+    for _ in 0..RUNS_OF_THREADS {
+        a = a.min(living(threads, reserve_all));
+        b = b.min(living(threads, reserve_in_bulks));
+        c = c.min(peers::SLAB.map_or(f64::MAX, |slab| slab(threads)));
+    }
+    let [singly, bulks] = [a, b].map(|seconds| each(seconds, threads));
+    print!("| {threads} | {singly:.1} | {bulks:.1} |");
+    match peers::SLAB {
+        Some(_) => println!(" {:.1} | {:.2} | {:.2} |", each(c, threads), a / c, b / c),
+        None => println!(" | | |"),
+    }
+}
+
+fn living(threads: usize, request: fn(&mut Reserver)) -> f64 {
+    let (took, born) = timed(|| {
+        let (shared, mut reservers) = Entities::new().share(threads).expect("shared");
+        thread::scope(|scope| {
+            for reserver in &mut reservers {
+                scope.spawn(move || request(reserver));
+            }
+        });
+        let mut entities = shared.close(reservers).expect("closed");
+        entities.flush().expect("memory").len() as u64
+    });
+    assert_eq!(born, threads as u64 * u64::from(HANDLES));
+    took
+}
+
+fn reserve_all(reserver: &mut Reserver) {
+    for _ in 0..HANDLES {
+        black_box(reserver.reserve().expect("room"));
+    }
+}
+
+fn reserve_in_bulks(reserver: &mut Reserver) {
+    let mut list = Vec::with_capacity(BULK as usize);
+    for _ in 0..HANDLES / BULK {
+        list.clear();
+        reserver.reserve_into(&mut list, BULK).expect("room");
+        black_box(&list);
+    }
 }
 
 fn timed(work: impl FnOnce() -> u64) -> (f64, u64) {
