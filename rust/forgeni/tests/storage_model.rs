@@ -5,7 +5,7 @@ mod worlds;
 
 use common::{handle, seeds, Numbers};
 use forgeni::{Absent, Birth, BornError, ComponentId, Handle, InsertError, Storage};
-use std::collections::BTreeMap;
+use std::collections::btree_map::{BTreeMap, Entry};
 use worlds::{any_birth, any_component, any_components, Components};
 
 /// The handles and births of a storage: few, so that they meet often.
@@ -24,11 +24,12 @@ fn run(seed: u64) {
         match numbers.below(6) {
             0 | 1 => {
                 let birth = any_birth(&mut numbers);
-                let wanted = if model.contains_key(&one) {
-                    Err(BornError::Present)
-                } else {
-                    model.insert(one, (birth, Components::new()));
-                    Ok(())
+                let wanted = match model.entry(one) {
+                    Entry::Occupied(_) => Err(BornError::Present),
+                    Entry::Vacant(absent) => {
+                        absent.insert((birth, Components::new()));
+                        Ok(())
+                    }
                 };
                 assert_eq!(storage.born(one, birth), wanted, "{place}: born {one}");
             }
