@@ -45,13 +45,13 @@ impl Whole {
         self.handles.push(handle).ok()
     }
 
-    /// The value of the entity that was spawned at that place of the turn.
+    /// The value of the entity that was spawned at that position in the turn.
     fn get(&self, spawn: u32) -> Option<i64> {
         let handle = self.handles.get(spawn as usize)?;
         self.storage.get(*handle, VALUE)
     }
 
-    /// Takes out the entity that was spawned at that place of the turn.
+    /// Takes out the entity that was spawned at that position in the turn.
     fn despawn(&mut self, spawn: u32) -> Option<()> {
         let handle = *self.handles.get(spawn as usize)?;
         self.storage.despawn(handle).ok()?;

@@ -14,8 +14,8 @@ use std::marker::Model;
 ///
 /// An index is 0 to 4,294,967,294, and a generation 1 to 2,147,483,647. As in Bevy, each occupant
 /// of a slot has the generation after that of the one before it, so that an earlier handle does
-/// not name a later occupant. After the last generation a slot has no more occupants, where in Bevy the
-/// first one comes again. The ranges are this project's own, and so is the order: by index, then by
+/// not name a later occupant. After the last generation a slot has no more occupants, where in Bevy
+/// the first one comes again. The ranges are this project's own, and so is the order: by index, then by
 /// generation.
 #[derive(Clone, Copy, Debug, PartialEq, Eq, Hash)]
 pub struct Handle {

@@ -94,7 +94,7 @@ impl CommandQueue {
     /// | 2, an insertion | handle, bundle |
     /// | 3, a removal | handle, component in 1 byte |
     /// | 4, a despawn | handle |
-    /// | 5, a refusal | how many handles were wanted in 4 bytes, 1 for `Space` or 2 for `Quota`, how much was left in 8 bytes |
+    /// | 5, a refusal | wanted in 4 bytes; 1 for `Space`, 2 for `Quota`; what was left in 8 bytes |
     pub fn bytes(&self) -> &[u8]
         ensures { result.now ≡ queue_bytes self.now }
     {

@@ -61,8 +61,8 @@ pub fn issue(
     }
 }
 
-fn done(answer: Result<(), Memory>) -> Result<Given, QueueFault> {
-    match answer {
+fn done(returned: Result<(), Memory>) -> Result<Given, QueueFault> {
+    match returned {
         Ok(()) => Ok(Given::Nothing),
         Err(Memory) => Err(QueueFault::Memory),
     }

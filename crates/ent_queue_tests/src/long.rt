@@ -13,8 +13,8 @@ fn an_insertion_of_all_components(rt: HostRuntime) {
     let alloc = rt.alloc();
     let (shared, mut reserver) = opened(&rt, alloc, 1);
     let mut commands = Commands::new(alloc, &shared, &mut reserver);
-    let answer = commands.insert(handle(&rt, (0, 1)), all_components(&rt, alloc));
-    answer.expect(&rt, "memory for the insertion");
+    let returned = commands.insert(handle(&rt, (0, 1)), all_components(&rt, alloc));
+    returned.expect(&rt, "memory for the insertion");
     let queue = commands.finish();
     let Some(Entry::Insert(_, bundle)) = queue.entries().next() else {
         panic!(rt; "an insertion")
@@ -34,8 +34,8 @@ fn a_long_queue(rt: HostRuntime) {
     let alloc = rt.alloc();
     let (shared, mut reserver) = opened(&rt, alloc, 1);
     let calls = despawns(&rt, alloc);
-    let mut answers = text(&rt, alloc);
-    let queue = issued(&rt, alloc, &shared, &mut reserver, &calls, &mut answers);
+    let mut results = text(&rt, alloc);
+    let queue = issued(&rt, alloc, &shared, &mut reserver, &calls, &mut results);
     assert_despawns(&rt, &queue);
 }
 

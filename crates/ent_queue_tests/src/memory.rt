@@ -44,7 +44,7 @@ const CALLS: [Call; 6] = [
 fn refused_memory_leaves_queue_and_reserver(rt: HostRuntime) {
     let alloc = rt.alloc();
     let (shared, mut reserver) = opened(&rt, alloc, 100);
-    let (mut answers, mut entries) = (text(&rt, alloc), text(&rt, alloc));
+    let (mut results, mut entries) = (text(&rt, alloc), text(&rt, alloc));
     let mut count = 0;
     for _ in 0..2 {
         count = issued_from(
@@ -54,12 +54,12 @@ fn refused_memory_leaves_queue_and_reserver(rt: HostRuntime) {
             &mut reserver,
             &CALLS,
             count,
-            &mut answers,
+            &mut results,
             &mut entries,
         );
     }
     assert_eq!(rt;
-        answers.as_str(),
+        results.as_str(),
         "0v1\ndone\ndone\ndone\n8: 1v1 2v1 3v1 4v1 5v1 6v1 7v1 8v1\n9v1\n"
     );
     assert_eq!(rt;
@@ -82,14 +82,14 @@ fn issued_from(
     reserver: &mut Reserver,
     calls: &[Call],
     count: usize,
-    answers: &mut String,
+    results: &mut String,
     entries: &mut String,
 ) -> usize
     requires { IsOf shared.now reserver.old }
     ensures { IsOf shared.now reserver.new }
 {
     assert!(rt; count <= calls.len());
-    let queue = issued(rt, alloc, shared, reserver, &calls[count..], answers);
+    let queue = issued(rt, alloc, shared, reserver, &calls[count..], results);
     write_queue(entries, &queue).expect(rt, "room for the entries");
     let made = count.saturating_add(queue.len());
     assert_cost(rt, reserver, made);

@@ -3,7 +3,7 @@ ghost use Rattle.std.specs.Prelude.{◌≡◌, All, IfOk};
 ghost use Rattle.ent_shared.specs.Phase.{IsOf};
 
 use crate::call::{Call, issue};
-use crate::shown::{text, write_answer, write_queue};
+use crate::shown::{text, write_queue, write_result};
 use ent_alloc::{Entities, Limits};
 use ent_handle::Memory;
 use ent_queue::{CommandQueue, Commands, QueueFault};
@@ -45,18 +45,18 @@ pub fn issued(
     shared: &Shared,
     reserver: &mut Reserver,
     calls: &[Call],
-    answers: &mut String,
+    results: &mut String,
 ) -> CommandQueue
     requires { IsOf shared.now reserver.old }
     ensures { IsOf shared.now reserver.new }
 {
     let mut commands = Commands::new(alloc, shared, reserver);
     for call in calls {
-        let answer = issue(rt, alloc, &mut commands, *call);
-        if let Err(QueueFault::Memory) = answer {
+        let returned = issue(rt, alloc, &mut commands, *call);
+        if let Err(QueueFault::Memory) = returned {
             break;
         }
-        write_answer(answers, &answer).expect(rt, "room for the answers");
+        write_result(results, &returned).expect(rt, "room for the results");
     }
     commands.finish()
 }
@@ -68,14 +68,14 @@ pub fn assert_issues(
     shared: &Shared,
     reserver: &mut Reserver,
     calls: &[Call],
-    answers: &str,
+    results: &str,
     entries: &str,
 )
     requires { IsOf shared.now reserver.old }
 {
-    let mut answered = text(rt, alloc);
-    let queue = issued(rt, alloc, shared, reserver, calls, &mut answered);
-    assert_eq!(rt; answered.as_str(), answers);
+    let mut returned = text(rt, alloc);
+    let queue = issued(rt, alloc, shared, reserver, calls, &mut returned);
+    assert_eq!(rt; returned.as_str(), results);
     assert_eq!(rt; queue.len(), calls.len());
     assert_entries(rt, alloc, &queue, entries);
 }

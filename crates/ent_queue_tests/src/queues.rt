@@ -39,8 +39,8 @@ fn a_queue_as_bytes(rt: HostRuntime) {
     let alloc = rt.alloc();
     let (shared, mut reserver) = opened(&rt, alloc, 5);
     let calls = [Call::Spawn(&[(0, 5)]), Call::Despawn((1, 1))];
-    let mut answers = text(&rt, alloc);
-    let queue = issued(&rt, alloc, &shared, &mut reserver, &calls, &mut answers);
+    let mut results = text(&rt, alloc);
+    let queue = issued(&rt, alloc, &shared, &mut reserver, &calls, &mut results);
     let want = b"\x00\0\0\0\0\x01\0\0\0\x01\0\x00\x05\0\0\0\0\0\0\0\
                  \x04\x01\0\0\0\x01\0\0\0";
     assert!(rt; queue.bytes() == want.as_slice());

@@ -15,11 +15,11 @@ pub fn text(rt: &impl Abort, alloc: Global) -> String {
 }
 
 /// What a call returned, as a line.
-pub fn write_answer(
+pub fn write_result(
     text: &mut String,
-    answer: &Result<Given, QueueFault>,
+    returned: &Result<Given, QueueFault>,
 ) -> Result<(), AllocError> {
-    match answer {
+    match returned {
         Ok(Given::Nothing) => writeln!(text, "done"),
         Ok(Given::One(handle)) => writeln!(text, "{handle}"),
         Ok(Given::Many(handles)) => write_many(text, handles),

@@ -12,7 +12,8 @@ use Rattle.std.proofs.lemmas.Str.Parse.{not_in_digits}
 use Rattle.ent_handle.specs.declared.text.TextFault.{TextFault}
 use Rattle.ent_handle.specs.Text.{is_decimal, number_of}
 use Rattle.ent_handle.proofs.Decimals.{digit_texts, plain_from_decimal}
-use Rattle.ent_script.specs.Reading.{◌>>=◌, birth_number, birth_of_numbers, birth_of_parts, birth_of}
+use Rattle.ent_script.specs.Reading.{◌>>=◌, birth_number, birth_of_numbers, birth_of_parts}
+use Rattle.ent_script.specs.Reading.{birth_of}
 use Rattle.ent_script.specs.declared.cause.Cause.{Cause}
 use Rattle.ent_script.specs.declared.cause.Cause.TheVariants as cause
 

@@ -201,7 +201,8 @@ only_cut l [] = refl
 only_cut l (m ∷ []) = refl
 only_cut l (m ∷ n ∷ ms) = refl
 
-target_only : (l : ℕ) (components bound : List (List ℕ)) (before : Option ℕ) (o : Option (List ℕ × Data))
+target_only : (l : ℕ) (components bound : List (List ℕ)) (before : Option ℕ)
+    (o : Option (List ℕ × Data))
     → (ok_or (option_map (cut_pair l) o) cause.Target >>=
     λ m. ok_or (as_str m.1) cause.Target >>= target_at components bound before m.0)
     ≡
@@ -210,7 +211,8 @@ target_only : (l : ℕ) (components bound : List (List ℕ)) (before : Option �
 target_only l components bound before None = refl
 target_only l components bound before (Some m) = rw (as_str-cut l m.1) refl
 
-target_option : (l : ℕ) (components bound : List (List ℕ)) (before : Option ℕ) (o : Option (List (List ℕ × Data)))
+target_option : (l : ℕ) (components bound : List (List ℕ)) (before : Option ℕ)
+    (o : Option (List (List ℕ × Data)))
     → (ok_or (option_and_then only (option_map (map (cut_pair l)) o)) cause.Target >>=
     λ m. ok_or (as_str m.1) cause.Target >>= target_at components bound before m.0)
     ≡ (ok_or (option_and_then only o) cause.Target >>=
@@ -270,7 +272,10 @@ of_kind-cut components bound before d kinds.Remove =
       target-cut 0 components bound before (get (codes "on") d),
     ) refl
 of_kind-cut components bound before d kinds.Despawn =
-    rw (get-cut 1 (codes "despawn") d, target-cut 0 components bound before (get (codes "despawn") d)) refl
+    rw (
+      get-cut 1 (codes "despawn") d,
+      target-cut 0 components bound before (get (codes "despawn") d),
+    ) refl
 
 kind_then : (components bound : List (List ℕ)) (before : Option ℕ) (d : Data) (o : Option Kind)
     → (ok_or o cause.Shape >>= of_kind components bound before (cut 2 d)) ≡

@@ -207,36 +207,3 @@ whole_by (Some (j, t ∷ ts)) d e = impossible d e
 pub whole_text : (text : List ℕ) (d : Data) → read text ≡ Some d → converted of_json
     (value 127 (tokens text)) ≡ Some (d, [])
 whole_text text d e = whole_by (value 127 (tokens text)) d e
-
-none_ended : (o : Option Data) → option_map {U = Data × List Token}
-    (λ b. (b, [])) o ≡ None → o ≡ None
-none_ended None e = refl
-none_ended (Some d) e = impossible (d, []) (sym e)
-
-read_ended : (o : Option Data) (d : Data) → option_map {U = Data × List Token}
-    (λ b. (b, [])) o ≡ Some (d, []) → o ≡ Some d
-read_ended None d e = impossible (d, []) e
-read_ended (Some x) d e = ap (λ q. Some (first_of d q)) e
-
-read_longer : (o : Option Data) (d : Data) (t : Token) (ts : List Token) {P : Type 0} → option_map
-    {U = Data × List Token} (λ b. (b, t ∷ ts)) o ≡ Some (d, []) → P
-read_longer None d t ts e = impossible (d, []) e
-read_longer (Some x) d t ts e = absurd (cc (ap (second_of []) e))
-
-pub read_by : (o : Option (json.Json × List Token)) (d : Data) → converted of_json o ≡ Some (d, [])
-    → option_and_then of_json (option_and_then (λ p. json.if_last p.0 p.1) o) ≡ Some d
-read_by None d e = impossible (d, []) e
-read_by (Some (j, [])) d e = read_ended (of_json j) d e
-read_by (Some (j, t ∷ ts)) d e = read_longer (of_json j) d t ts e
-
-pub is_read : (text : List ℕ) (d : Data) → converted of_json (value 127 (tokens text)) ≡ Some
-    (d, []) → is_some (read text) ≡ true
-is_read text d e = ap is_some (read_by (value 127 (tokens text)) d e)
-
-not_read_by : (text : List ℕ) (o : Option Data) → read text ≡ o →
-    ((d : Data) → read text ≡ Some d → ⊥) → is_some o ≡ false
-not_read_by text None e other = refl
-not_read_by text (Some d) e other = absurd (other d e)
-
-pub not_read : (text : List ℕ) → ((d : Data) → read text ≡ Some d → ⊥) → is_some (read text) ≡ false
-not_read text other = not_read_by text (read text) refl other

@@ -288,7 +288,8 @@ parts_in before [] = tt
 parts_in before (frame ∷ []) = tt
 parts_in before (frame ∷ system ∷ []) = tt
 parts_in before (frame ∷ system ∷ ordinal ∷ []) =
-    then_ok (λ _. Unit {0}) (IsBirthBefore before) (birth_number frame) _ (always (birth_number frame))
+    then_ok (λ _. Unit {0}) (IsBirthBefore before) (birth_number frame) _
+    (always (birth_number frame))
     (λ f _. then_ok (λ _. Unit {0}) (IsBirthBefore before) (birth_number system) _
     (always (birth_number system))
     (λ s _. then_ok (λ _. Unit {0}) (IsBirthBefore before) (birth_number ordinal) _
@@ -303,8 +304,10 @@ birth_in components most format.Two frame text =
     then_ok (IsBirthBefore frame) (IsTargetAt components frame most) (birth_of frame text) _
     (parts_in frame (slice_split (λ b. b == 46) text)) (λ birth before. before)
 
-module _ (components bound : List (List ℕ)) (format : Format) (frame most : ℕ) (few_bound : length bound ≤ most) where
-  target_at_in : (key text : List ℕ) → IfOk (target_at components bound (births_before format frame) key text)
+module _ (components bound : List (List ℕ)) (format : Format) (frame most : ℕ)
+    (few_bound : length bound ≤ most) where
+  target_at_in : (key text : List ℕ)
+      → IfOk (target_at components bound (births_before format frame) key text)
       (IsTargetAt (length components) frame most)
   unfolding target_at
   target_at_in key text =
@@ -324,7 +327,8 @@ module _ (components bound : List (List ℕ)) (format : Format) (frame most : �
       (either (IsTargetAt (length components) frame most) (bytes_eq key (codes "birth")) _ _
       (birth_in (length components) most format frame text) tt)))
 
-  target_in : (part : Option Data) → IfOk (target_of components bound (births_before format frame) part)
+  target_in : (part : Option Data)
+      → IfOk (target_of components bound (births_before format frame) part)
       (IsTargetAt (length components) frame most)
   unfolding target_of
   target_in part =
@@ -335,7 +339,8 @@ module _ (components bound : List (List ℕ)) (format : Format) (frame most : �
       (ok_or (as_str member.1) cause.Target) _ (always (ok_or (as_str member.1) cause.Target))
       (λ text _. target_at_in member.0 text))
 
-  of_kind_in : (d : Data) (kind : Kind) → IfOk (of_kind components bound (births_before format frame) d kind)
+  of_kind_in : (d : Data) (kind : Kind)
+      → IfOk (of_kind components bound (births_before format frame) d kind)
       (IsOperationAt (length components) frame most)
   unfolding of_kind
   of_kind_in d kinds.Spawn =
@@ -348,7 +353,8 @@ module _ (components bound : List (List ℕ)) (format : Format) (frame most : �
   of_kind_in d kinds.SpawnMany =
       then_ok (λ n. n ≤ 65536) (IsOperationAt (length components) frame most)
       (count_of (get (codes "spawn_many") d)) _ (count_in (get (codes "spawn_many") d))
-      (λ count k. then_ok (IsBundleOf (length components)) (IsOperationAt (length components) frame most)
+      (λ count k. then_ok (IsBundleOf (length components))
+      (IsOperationAt (length components) frame most)
       (with_of components (get (codes "with") d)) _ (with_in components (get (codes "with") d))
       (λ bundle h. then_ok (IsBindingAt most) (IsOperationAt (length components) frame most)
       (binding_of bound (get (codes "as") d)) _
@@ -357,22 +363,28 @@ module _ (components bound : List (List ℕ)) (format : Format) (frame most : �
       then_ok (IsBundleOf (length components)) (IsOperationAt (length components) frame most)
       (read_bundle components (get (codes "insert") d)) _
       (bundle_in components (get (codes "insert") d))
-      (λ bundle h. then_ok (IsTargetAt (length components) frame most) (IsOperationAt (length components)
-      frame most) (target_of components bound (births_before format frame) (get (codes "on") d)) _ (target_in (get (codes "on") d))
+      (λ bundle h. then_ok (IsTargetAt (length components) frame most)
+      (IsOperationAt (length components) frame most)
+      (target_of components bound (births_before format frame) (get (codes "on") d)) _
+      (target_in (get (codes "on") d))
       (λ on k. (h, k)))
   of_kind_in d kinds.Remove =
       then_ok (ComponentIn (length components)) (IsOperationAt (length components) frame most)
       (removed_of components (get (codes "remove") d)) _
       (removed_in components (get (codes "remove") d))
-      (λ c h. then_ok (IsTargetAt (length components) frame most) (IsOperationAt (length components) frame most)
-      (target_of components bound (births_before format frame) (get (codes "on") d)) _ (target_in (get (codes "on") d))
+      (λ c h. then_ok (IsTargetAt (length components) frame most)
+      (IsOperationAt (length components) frame most)
+      (target_of components bound (births_before format frame) (get (codes "on") d)) _
+      (target_in (get (codes "on") d))
       (λ on k. (h, k)))
   of_kind_in d kinds.Despawn =
-      then_ok (IsTargetAt (length components) frame most) (IsOperationAt (length components) frame most)
+      then_ok (IsTargetAt (length components) frame most)
+      (IsOperationAt (length components) frame most)
       (target_of components bound (births_before format frame) (get (codes "despawn") d)) _
       (target_in (get (codes "despawn") d)) (λ on k. k)
 
-  pub operation_in : (d : Data) → IfOk (operation_of components bound (births_before format frame) d)
+  pub operation_in : (d : Data)
+      → IfOk (operation_of components bound (births_before format frame) d)
       (IsOperationAt (length components) frame most)
   unfolding operation_of
   operation_in d =

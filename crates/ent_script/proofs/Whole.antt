@@ -86,11 +86,6 @@ script_is d heading names a b =
     ∙ ap (λ (r : Result Names ReadFault). r >>= after_names d heading) b
     ∙ after_frames heading names (option_and_then (at_most 1000) (get (codes "frames") d))
 
-pub heading_refused : (d : Data) (e : ReadFault) → in_script (heading_of d) ≡ Err e
-    → script_of d ≡ Err e
-unfolding script_of
-heading_refused d e a = ap (λ (r : Result Heading ReadFault). r >>= after_heading d) a
-
 pub names_refused : (d : Data) (heading : Heading) (e : ReadFault)
     → in_script (heading_of d) ≡ Ok heading
     → in_script (component_names (get (codes "components") d)) ≡ Err e → script_of d ≡ Err e

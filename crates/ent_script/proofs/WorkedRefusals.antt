@@ -168,7 +168,8 @@ unknown_target = refl
 
 two_targets : script_of_text
     (codes
-    "{\"components\":[\"hp\"],\"frames\":[[[{\"despawn\":{\"each\":\"hp\",\"handle\":\"0v1\"}}]]]}") ≡ refused_operation 0 0 0 cause.Target
+    "{\"components\":[\"hp\"],\"frames\":[[[{\"despawn\":{\"each\":\"hp\",\"handle\":\"0v1\"}}]]]}")
+    ≡ refused_operation 0 0 0 cause.Target
 unfolding script_on_literals
 two_targets = refl
 
@@ -238,14 +239,16 @@ birth_of_four_numbers = refl
 -- a name that only a later operation of the system binds
 bound_later : script_of_text
     (codes
-    "{\"components\":[],\"frames\":[[[{\"spawn\":{},\"as\":\"a\"},{\"despawn\":{\"name\":\"b\"}},{\"spawn\":{},\"as\":\"b\"}]]]}") ≡ refused_operation 0 0 1 cause.Name
+    "{\"components\":[],\"frames\":[[[{\"spawn\":{},\"as\":\"a\"},{\"despawn\":{\"name\":\"b\"}},{\"spawn\":{},\"as\":\"b\"}]]]}")
+    ≡ refused_operation 0 0 1 cause.Name
 unfolding script_on_literals
 bound_later = refl
 
 -- a name that another system binds
 bound_elsewhere : script_of_text
     (codes
-    "{\"components\":[],\"frames\":[[[{\"spawn\":{},\"as\":\"a\"}],[{\"despawn\":{\"name\":\"a\"}}]]]}") ≡ refused_operation 0 1 0 cause.Name
+    "{\"components\":[],\"frames\":[[[{\"spawn\":{},\"as\":\"a\"}],[{\"despawn\":{\"name\":\"a\"}}]]]}")
+    ≡ refused_operation 0 1 0 cause.Name
 unfolding script_on_literals
 bound_elsewhere = refl
 

@@ -1,5 +1,6 @@
 ghost use Rattle.std.specs.Prelude.{◌≡◌, ℕ, ◌∷◌, [], Err, IfSome, IfNone};
-ghost use Rattle.ent_script.specs.Reading.{birth_number, birth_of_numbers, birth_of_parts, birth_of};
+ghost use Rattle.ent_script.specs.Reading.{birth_number, birth_of_numbers, birth_of_parts};
+ghost use Rattle.ent_script.specs.Reading.{birth_of};
 
 use crate::cause::Cause;
 use ent_handle::{Birth, read_decimal, split_once};

@@ -119,7 +119,7 @@ module _ (systems : List (List Operation)) (workers : ℕ) (w : World)
       by None is some = cc
       by (Some e) is some = ap is_some (stays h e is)
 
-  -- a handle that a queue lists is there, with the birth of its place
+  -- a handle that a queue lists is there, with the birth of its position
   placed : (system k : ℕ) (h : Handle) → Lists queues system k h → IsThere all_born h
       × (name h ≡ record { frame = w.phase; system = system; ordinal = k })
   placed system k h at =

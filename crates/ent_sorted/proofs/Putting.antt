@@ -1,5 +1,5 @@
--- A pair that is put among others whose keys strictly rise: over the one that has its key, or in the
--- gap for it.
+-- A pair that is put among others whose keys strictly rise: over the one that has its key, or in
+-- the gap for it.
 use Rattle.std.proofs.Common.{◌≡◌, ℕ, zero, suc, ◌<◌, ◌≤◌, cond, T, List, [], ◌∷◌, length, get_or}
 use Rattle.std.proofs.Common.{set, Some, None, Ordering, refl, sym, ap, ◌∙◌, arith}
 use Rattle.std.specs.declared.cmp.Ordering.TheVariants.{Less, Equal, Greater}

@@ -282,23 +282,6 @@ moved_none place last = record {
   others = λ p n m. refl;
 }
 
--- ---- the columns that a loop has passed
-
-pub moved_all : (place last : ℕ) (old new : List Column) → length new ≡ length old
-    → ((k : ℕ) → k < length old → IsMovedDown place last (column_at old k).values
-    (column_at new k).values) → (k : ℕ) → IsMovedDown place last (column_at old k).values
-    (column_at new k).values
-moved_all place last old new len moved k = by (cases_lt k (length old))
-  where
-    by : (k < length old) ⊎ (length old ≤ k) → IsMovedDown place last (column_at old k).values
-        (column_at new k).values
-    by (inl l) = moved k l
-    by (inr l) =
-        subst (λ (c : Column). IsMovedDown place last (column_at old k).values c.values)
-        (sym (column_past new k (omega arith)))
-        (subst (λ (c : Column). IsMovedDown place last c.values no_column.values)
-        (sym (column_past old k l)) (moved_none place last))
-
 -- ---- the items at a place, one by one
 
 count_value : (n : ℕ) (o : Option ℤ) (items : List (ComponentId × ℤ)) → cond (is_some o) 1 0

@@ -1,13 +1,8 @@
 -- The columns in use, after each change.
-use Rattle.std.proofs.Common.{◌≡◌, ◌≢◌, ℕ, ◌+◌, ◌<◌, ◌≤◌, ◌⊎◌, inl, inr, List, [], ◌∷◌, ◌++◌}
+use Rattle.std.proofs.Common.{◌≡◌, ◌≢◌, ℕ, ◌<◌, ◌≤◌, ◌⊎◌, inl, inr, List, []}
 use Rattle.std.proofs.Common.{length, get_or, set, Contains, None, refl, sym, ap, subst, ◌∙◌, arith}
-use Rattle.std.proofs.lemmas.Bool.{cases_lt}
-use Rattle.std.proofs.lemmas.List.{get_or_default, get_or_append_left, length_push}
+use Rattle.std.proofs.lemmas.List.{get_or_default}
 use Rattle.std.proofs.lemmas.List.{length-set, get_or-set_other}
-use Rattle.std.proofs.lemmas.List.Quantifiers.{all_pairs_push}
-use Rattle.std.proofs.lemmas.List.Elements.{All-push}
-use Rattle.std.proofs.Math.Seq.{get_or-append_seam}
-use Rattle.std.specs.List.{All}
 use Rattle.std.specs.Cmp.{nat_cmp_total as total}
 use Rattle.std.specs.FinMap as map
 use Rattle.std.specs.FinMap.{nat_cmp-IsAntisymmetric as same}
@@ -38,29 +33,6 @@ in_use_changed used old new longer kept in_use = record {
         ⊎ (column_at new n ≡ no_column)
     by n (inl there) = inl there
     by n (inr none) = kept n none
-
--- one more column is in use
-pub in_use_pushed : (used : List ℕ) (n : ℕ) → All (λ other. other ≢ n) used
-    → (columns : List Column) → n < length columns → AreInUse used columns
-    → AreInUse (used ++ n ∷ []) columns
-in_use_pushed used n absent columns inside in_use = record {
-  inside = All-push (λ number. number < length columns) used n in_use.inside inside;
-  once = all_pairs_push (λ a b. a ≢ b) used n in_use.once absent;
-  rest = λ m. by m (in_use.rest m);
-}
-  where
-    by : (m : ℕ) → Contains used m ⊎ (column_at columns m ≡ no_column)
-        → Contains (used ++ n ∷ []) m ⊎ (column_at columns m ≡ no_column)
-    by m (inl there) = inl (
-      there.0,
-      omega (arith, length_push used n, there.1),
-      get_or_append_left used (n ∷ []) m there.0 there.1 ∙ there.2,
-    )
-    by m (inr none) = inr none
-
-pub pushed_there : (used : List ℕ) (n : ℕ) → Contains (used ++ n ∷ []) n
-pushed_there used n =
-    (length used, omega (arith, length_push used n), get_or-append_seam used n [] n)
 
 -- a column without room is not set
 pub rest_kept : (old new : List Column) (place item n : ℕ)
@@ -121,9 +93,6 @@ module _ (used : List ℕ) (place last : ℕ) (old : List Column) where
       (Passed i n × IsMovedDown place last (column_at old n).values (column_at new n).values)
       ⊎ (Ahead i n × (column_at new n ≡ column_at old n))
 
-  pub passed_none : (n : ℕ) → IsPassed 0 old n
-  passed_none n = inr (λ k d l e. omega (arith, l), refl)
-
   module _ (in_use : AreInUse used old) where
     pub passed_all : (i : ℕ) (new : List Column) → length used ≤ i
         → ((n : ℕ) → IsPassed i new n) → (n : ℕ)
@@ -153,39 +122,3 @@ module _ (used : List ℕ) (place last : ℕ) (old : List Column) where
           moved.0.2 n,
         )
         by (inr left) = inr (left.1 ∙ none)
-
-    module _ (i : ℕ) (now : List Column) (u : ℕ) (was is : Column) (inside : i < length used)
-        (at : (d : ℕ) → get_or used i d ≡ u) (within : u < length now) (read : was
-        ≡ get_or now u was)
-        (down : IsMovedDown place last was.values is.values) where
-      pub passed_more : ((n : ℕ) → IsPassed i now n) → (n : ℕ) → IsPassed (i + 1) (set now u is) n
-      passed_more passed n = by (passed n) (same_or_apart total same n u)
-        where
-          by : IsPassed i now n → (n ≡ u) ⊎ (n ≢ u) → IsPassed (i + 1) (set now u is) n
-          by (inl moved) (inl e) = absurd
-              (in_use.once moved.0.0 i n moved.0.1 inside (moved.0.2 n ∙ e ∙ sym (at n)))
-          by (inl moved) (inr far) = inl (
-            (moved.0.0, omega (arith, moved.0.1), moved.0.2),
-            subst (λ (c : Column). IsMovedDown place last (column_at old n).values c.values)
-                (sym (column_kept now u was is within read n far)) moved.1,
-          )
-          by (inr left) (inl e) = inl (
-            (i, omega arith, λ d. at d ∙ sym e),
-            subst (λ (m : ℕ). IsMovedDown place last (column_at old m).values
-                (column_at (set now u is) m).values) (sym e)
-                (subst (λ (c : Column). IsMovedDown place last (column_at old u).values c.values)
-                (sym (column_set now u was is within read))
-                (subst (λ (c : Column). IsMovedDown place last c.values is.values)
-                (read ∙ get_or_default now u was no_column within
-                ∙ ap (column_at now) (sym e) ∙ left.1 ∙ ap (column_at old) e) down)),
-          )
-          by (inr left) (inr far) = inr (
-            λ k d l e. ahead k d l e (cases_lt k i),
-            column_kept now u was is within read n far ∙ left.1,
-          )
-            where
-              ahead : (k d : ℕ) → k < i + 1 → get_or used k d ≡ n → (k < i) ⊎ (i ≤ k) → ⊥
-              ahead k d l e (inl before) = left.0 k d before e
-              ahead k d l e (inr here) =
-                  let is : k ≡ i = omega (arith, l, here) in
-                  far (sym (sym (at d) ∙ ap (λ j. get_or used j d) (sym is) ∙ e))

@@ -1,5 +1,5 @@
 -- The living entities and their index: what the map has at a handle, and after each change.
-use Rattle.std.proofs.Common.{◌≡◌, ◌≢◌, ℕ, zero, suc, ◌+◌, ◌<◌, Bool, false, cond, ◌⊎◌, inl}
+use Rattle.std.proofs.Common.{◌≡◌, ◌≢◌, ℕ, zero, suc, ◌+◌, ◌<◌, cond, ◌⊎◌, inl}
 use Rattle.std.proofs.Common.{inr, List, [], ◌∷◌, ◌++◌, map, length, get_or, set, Option, Some}
 use Rattle.std.proofs.Common.{None, is_some, refl, sym, ap, ◌∙◌, arith}
 use Rattle.std.proofs.lemmas.List.{get_or_append_left, get_or_push, get_or-set_same}
@@ -12,7 +12,7 @@ use Rattle.ent_handle.specs.Handle.{Handle, handle_cmp, handle_cmp_total as tota
 use Rattle.ent_handle.specs.Handle.{handle_cmp-IsAntisymmetric as same}
 use Rattle.ent_storage.specs.Living.{LivingEntity}
 use Rattle.ent_storage.specs.Components.{Components}
-use Rattle.ent_storage.specs.EntityMap.{Entity, EntityMap, with_components}
+use Rattle.ent_storage.specs.EntityMap.{Entity, with_components}
 use Rattle.ent_storage.specs.Indexed.{entity_of, entities_of, IsIndexed}
 use Rattle.ent_storage.proofs.Keys.{tied, apart, same_or_apart, get-insert_same, get-insert_other}
 
@@ -50,10 +50,6 @@ below_or_at i n l = elim (cases_lt i n) [ inl below ↦ inl below | inr above �
 
 pub same_number : (i j : ℕ) → (i ≡ j) ⊎ (i ≢ j)
 same_number i j = elim (cases_eq i j) [ inl e ↦ inl e | inr n ↦ inr n ]
-
-pub is_none_at : {A : Type 0} (o : Option A) → is_some o ≡ false → o ≡ None
-is_none_at None e = refl
-is_none_at (Some x) e = absurd (false≢true (sym e))
 
 pub some_entity : Handle → LivingEntity
 some_entity h = record {
@@ -94,22 +90,6 @@ module _ (living : List LivingEntity) (index : FinMap handle_cmp ℕ)
       by : (o : Option ℕ) → finite.get index q ≡ o → (i : ℕ) × (finite.get index q ≡ Some i)
       by None p = absurd (some_not_none e _ found (get_unplaced q p))
       by (Some i) p = (i, p)
-
-  -- a handle that is not in the map has none
-  pub unplaced_from_get : (q : Handle) → finite.get (entities_of living) q ≡ None
-      → finite.get index q ≡ None
-  unplaced_from_get q none = by (finite.get index q) refl
-    where
-      by : (o : Option ℕ) → finite.get index q ≡ o → finite.get index q ≡ None
-      by None p = p
-      by (Some i) p = absurd (some_not_none _ _ (get_placed q i (some_entity q) p) none)
-
-  -- nor has a handle of which a test says that it is not in the map
-  pub unplaced_from_test : (q : Handle) (held : EntityMap) (t : Bool) → entities_of living ≡ held
-      → t ≡ finite.contains_key held q → t ≡ false → finite.get index q ≡ None
-  unplaced_from_test q held t are tests is_false =
-      unplaced_from_get q (ap (λ (m : EntityMap). finite.get m q) are
-      ∙ is_none_at _ (sym tests ∙ is_false))
 
   -- no two places have the same handle
   pub distinct : (i j : ℕ) (d : LivingEntity) → i < length living → j < length living

@@ -56,10 +56,6 @@ module _ (living : List LivingEntity) (index : FinMap handle_cmp ℕ) (spare : �
       places = handles_by_place living;
       spare = spare;
     } ≡ s) (h : Handle) where
-  pub none_placed : finite.get index h ≡ None → finite.get s.entities h ≡ None
-  none_placed none = ap (λ (s : Store). finite.get s.entities h) (sym view)
-      ∙ get_unplaced living index indexed h none
-
   pub entity_placed : (i : ℕ) → finite.get index h ≡ Some i → IsEntityAt living s h i
   entity_placed i at = record {
     inside = (indexed.each_place h i at).0;

@@ -139,8 +139,8 @@ impl Storage {
     /// After either of them nothing is changed.
     ///
     /// - `Present`: the entity is there already. This is tested first.
-    /// - `Memory`: `spare` is 0, and there is no memory for more, or there are 4,294,967,296 entities,
-    ///   which is the most.
+    /// - `Memory`: `spare` is 0, and there is no memory for more, or there are 4,294,967,296
+    ///   entities, which is the most.
     pub fn born(&mut self, handle: Handle, birth: Birth) -> Result<(), StorageFault>
         ensures ok { OnOk result
             (self.new.entities ≡ map.insert self.old.entities handle (newborn birth)) }

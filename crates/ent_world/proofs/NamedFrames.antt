@@ -294,7 +294,7 @@ module _ (queues : List (List Command)) (w : World) (view : BirthMap) (is_world 
   birth_is h b is =
       ap (λ o. unwrap_or o (unlisted_birth w.phase (unlisted queues (born w.allocator)) h)) is
 
-  -- who is born has the birth of its place
+  -- who is born has the birth of its position
   placed : (h : Handle) → IsBorn h
       → (b : Birth) × ((listed_birth w.phase 0 queues h ≡ Some b) × (birth h ≡ b))
   placed h there =

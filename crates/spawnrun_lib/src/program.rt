@@ -31,7 +31,7 @@ const LINE_FAULT: u8 = 2;
 /// |---|---|---|
 /// | 0 | The task was done. | nothing |
 /// | 1 | The input was refused. One line of output names the test. | what the test wants and finds |
-/// | 2 | The words are no command line, or ask for help. No device was used. | clap's text |
+/// | 2 | The words are no command line, or ask for help. No device is used. | clap's text |
 /// | 3 | Memory ran out. Nothing was written. | `memory` |
 /// | 4 | A call of the input or the output failed. | `device` |
 ///

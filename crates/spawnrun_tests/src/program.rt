@@ -78,7 +78,8 @@ fn tasks_are_done(rt: HostRuntime) {
     let refused = Ending {
         status: 1,
         output: "refused line 1 word\n",
-        errors: "a line must be alloc, free H, flush, begin C N, step C or answer C, for a handle H, a caller C and a count N; found \"alloc_\" at line 1 (counted from 1)\n",
+        errors: "a line must be alloc, free H, flush, begin C N, step C or answer C, for a handle H, \
+                 a caller C and a count N; found \"alloc_\" at line 1 (counted from 1)\n",
     };
     ends(&rt, &["replay"], "alloc_\n", NEVER, refused);
     let failed = Ending {

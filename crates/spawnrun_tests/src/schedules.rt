@@ -119,7 +119,8 @@ const WORKED: [(u32, u32, &str, &str); 14] = [
     (
         SLOTS,
         GENERATIONS,
-        "step 5\nbegin 1 1\nbegin 1 1\nanswer 1\nstep 1\nstep 1\nanswer 1\nanswer 1\nbegin 1024 1\n",
+        "step 5\nbegin 1 1\nbegin 1 1\nanswer 1\nstep 1\nstep 1\nanswer 1\nanswer 1\n\
+         begin 1024 1\n",
         "not open\nopen\nalready open\nnot stepped\ncursor -1\nalready stepped\n0v1\nnot open\n\
          caller\n",
     ),
@@ -139,7 +140,8 @@ fn credit_schedule(alloc: Global) -> Result<String, AllocError> {
         schedule.push_str("begin 1 4294967295\nstep 1\nanswer 1\n")?;
     }
     schedule.push_str(
-        "begin 1 257\nbegin 1 256\nstep 1\nanswer 1\nbegin 1 1\nbegin 1 0\nstep 1\nanswer 1\nflush\n",
+        "begin 1 257\nbegin 1 256\nstep 1\nanswer 1\nbegin 1 1\nbegin 1 0\nstep 1\nanswer 1\n\
+         flush\n",
     )?;
     Ok(schedule)
 }

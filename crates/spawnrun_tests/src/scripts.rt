@@ -16,8 +16,8 @@ const TWO_SPAWNERS: &str =
 const TARGETS: &str =
     r#"{"components":["hp","mp"],"frames":[[[{"spawn_many":2,"with":{"hp":1},"as":"g"},{"insert":{"mp":4},"on":{"name":"g"}}]],[[{"remove":"hp","on":{"each":"hp"}}],[{"insert":{"hp":8},"on":{"each":"mp"}}]]]}"#;
 
-const TARGETS_OUTPUT: &str =
-    "frame 0 born 2 faults 0\nframe 1 born 0 faults 0\n0.0.0 0v1 hp=8 mp=4\n0.0.1 1v1 hp=8 mp=4\nalive 2\n";
+const TARGETS_OUTPUT: &str = "frame 0 born 2 faults 0\nframe 1 born 0 faults 0\n\
+     0.0.0 0v1 hp=8 mp=4\n0.0.1 1v1 hp=8 mp=4\nalive 2\n";
 
 const TARGETS_BIRTHS: &str =
     "frame 0 born 2 faults 0\nframe 1 born 0 faults 0\n0.0.0 hp=8 mp=4\n0.0.1 hp=8 mp=4\nalive 2\n";
@@ -64,18 +64,21 @@ const WORKED: [(&str, &str); 7] = [
     // A name is bound at once, and its entity can be taken out in the same frame.
     (
         r#"{"components":["hp"],"frames":[[[{"spawn":{"hp":1},"as":"a"},{"despawn":{"name":"a"}},{"remove":"hp","on":{"name":"a"}}]],[[{"spawn":{"hp":2}}]]]}"#,
-        "frame 0 born 1 faults 1\nfault 0 2 not alive 0v1\nframe 1 born 1 faults 0\n1.0.0 0v2 hp=2\nalive 1\n",
+        "frame 0 born 1 faults 1\nfault 0 2 not alive 0v1\n\
+         frame 1 born 1 faults 0\n1.0.0 0v2 hp=2\nalive 1\n",
     ),
     // A refused bulk shuts the pool until the flush.
     (
         r#"{"slots":2,"components":["hp"],"frames":[[[{"spawn_many":3},{"spawn":{}}]],[[{"spawn":{"hp":1}}]]]}"#,
-        "frame 0 born 0 faults 2\nfault 0 0 space wanted 3 left 2\nfault 0 1 space wanted 1 left 0\nframe 1 born 1 faults 0\n1.0.0 0v1 hp=1\nalive 1\n",
+        "frame 0 born 0 faults 2\nfault 0 0 space wanted 3 left 2\n\
+         fault 0 1 space wanted 1 left 0\nframe 1 born 1 faults 0\n1.0.0 0v1 hp=1\nalive 1\n",
     ),
     (TARGETS, TARGETS_OUTPUT),
     // The flush comes before the queues, and a handle past the limits is never alive.
     (
         r#"{"components":["hp"],"frames":[[[{"insert":{"hp":1},"on":{"handle":"4294967294v2147483647"}},{"despawn":{"handle":"0v1"}},{"spawn":{}}]]]}"#,
-        "frame 0 born 1 faults 2\nfault 0 0 not alive 4294967294v2147483647\nfault 0 2 not alive 0v1\nalive 0\n",
+        "frame 0 born 1 faults 2\nfault 0 0 not alive 4294967294v2147483647\n\
+         fault 0 2 not alive 0v1\nalive 0\n",
     ),
     // With one generation a slot is retired when its entity goes, and the next spawn makes one.
     (
@@ -100,8 +103,8 @@ const BIRTHS: &str =
 #[test]
 fn births_are_targets(rt: HostRuntime) {
     let script = BIRTHS.as_bytes();
-    let births =
-        "frame 0 born 3 faults 0\nframe 1 born 0 faults 1\nfault 1 0 not alive\nframe 2 born 0 faults 0\n0.0.0 hp=1\n0.1.0 hp=9\nalive 2\n";
+    let births = "frame 0 born 3 faults 0\nframe 1 born 0 faults 1\nfault 1 0 not alive\n\
+         frame 2 born 0 faults 0\n0.0.0 hp=1\n0.1.0 hp=9\nalive 2\n";
     runs(&rt, 1, Show::Births, script, Status::Done, births);
     runs(&rt, 2, Show::Births, script, Status::Done, births);
     runs(&rt, 8, Show::Births, script, Status::Done, births);

@@ -16,5 +16,5 @@ returns-in_err-system-clause-none c =
 pub returns-clause-some : goal.returns-clause-some
 returns-clause-some c before =
     birth_of_split before c.args.text.now c.in_ok-frame.frame.now c.in_ok-frame.others.now
-    c.in_ok-system.system.now c.in_ok-system.ordinal.now (search rules) (search rules) (search rules)
-    (search rules)
+    c.in_ok-system.system.now c.in_ok-system.ordinal.now
+    (search rules) (search rules) (search rules) (search rules)

@@ -13,10 +13,10 @@ use Rattle.ent_script.proofs.frames.frames_inside.Goals as goal
 pub frames-init : goal.frames-init
 frames-init c = record {
   at =
-      λ n ds rest e. subst (λ done. At (value c.args.depth) (frame_of c.args.format c.args.components.now) done 0
-      c.args.reader.now ds rest) (sym c.new-frames.ensures.items)
-      (at_start (value c.args.depth) (frame_of c.args.format c.args.components.now) n c.args.reader.now ds rest
-      e);
+      λ n ds rest e. subst (λ done. At (value c.args.depth)
+      (frame_of c.args.format c.args.components.now) done 0 c.args.reader.now ds rest) (sym c.new-frames.ensures.items)
+      (at_start (value c.args.depth) (frame_of c.args.format c.args.components.now) n
+      c.args.reader.now ds rest e);
   few = omega arith;
   shorter = omega arith;
 }
@@ -30,8 +30,8 @@ returns-then-number-eq1000-clause-value c n ds rest e =
     let limit = fault.Script script_cause.Frames in
     let full : l.number ≡ 1000 = omega arith in
     fault_streams_list c.fault_of_array.result c.fault_of_array.new.reader _ rest
-    (λ other. at_most_many p (frame_of c.args.format c.args.components.now) 1000 limit c.fault_of_array.result
-    l.frames.items l.number l.reader c.fault_of_array.new.reader ds rest
+    (λ other. at_most_many p (frame_of c.args.format c.args.components.now) 1000 limit
+    c.fault_of_array.result l.frames.items l.number l.reader c.fault_of_array.new.reader ds rest
     (l.invariant.at n ds rest e) going.0 full
     (λ m later r is. c.fault_of_array.ensures.value (λ same. cc same) m later r
     (ap (λ ts. converted of_items (items p m ts)) going.1 ∙ is)))
@@ -50,8 +50,8 @@ returns-in-Err-clause-value c n ds rest e =
     (λ other.
     let known : c.in-Err.fault ≡ fault.Memory → ⊥ = λ same. other
     (c.fault_of_array-in-Err.ensures.memory same) in
-    at_fault p (frame_of c.args.format c.args.components.now) 1000 limit c.in-Err.fault found l.frames.items
-    l.number l.reader c.frame.new.reader c.fault_of_array-in-Err.new.reader ds rest
+    at_fault p (frame_of c.args.format c.args.components.now) 1000 limit c.in-Err.fault found
+    l.frames.items l.number l.reader c.frame.new.reader c.fault_of_array-in-Err.new.reader ds rest
     (l.invariant.at n ds rest e) going.0 room known
     (λ d r is. c.in-Err.ensures.value d r (ap (λ ts. converted of_json (p ts)) going.1 ∙ is))
     (λ m later r is. subst (λ k. FaultOfArray k c.in-Err.fault limit found
@@ -70,10 +70,10 @@ frames-preserved c =
     c.in_ok-push-in-Ok.ensures.items in
     record {
       at =
-          λ n ds rest e. subst (λ done. At p (frame_of c.args.format c.args.components.now) done (l.number + 1)
-          left ds rest) (sym pushed)
-          (at_next p (frame_of c.args.format c.args.components.now) l.frames.items l.number l.reader left
-          c.in-Ok.frame ds rest
+          λ n ds rest e. subst (λ done. At p (frame_of c.args.format c.args.components.now) done
+          (l.number + 1) left ds rest) (sym pushed)
+          (at_next p (frame_of c.args.format c.args.components.now) l.frames.items l.number
+          l.reader left c.in-Ok.frame ds rest
           (l.invariant.at n ds rest e) going.0
           (λ d r is. c.in-Ok.ensures.value d r (ap (λ ts. converted of_json (p ts)) going.1 ∙ is)));
       few = omega (arith, l.invariant.few);
@@ -86,5 +86,5 @@ returns-clause-value c n ds rest e =
     let l = c.frames in
     let over : after_end_array l.reader ≡ Some c.take_end_array.new.self = grind arith in
     let limit = fault.Script script_cause.Frames in
-    at_end p (frame_of c.args.format c.args.components.now) 1000 limit l.frames.items l.number l.reader
-    c.take_end_array.new.self ds rest (l.invariant.at n ds rest e) over l.invariant.few
+    at_end p (frame_of c.args.format c.args.components.now) 1000 limit l.frames.items l.number
+    l.reader c.take_end_array.new.self ds rest (l.invariant.at n ds rest e) over l.invariant.few

@@ -16,7 +16,8 @@ loop-number-preserved c =
     let i = c.loop-number.number in
     let v = c.index-values-number.result in
     let means = ap (λ (names : List (List ℕ)). at_operation c.args.frame c.args.system i
-    (operation_of components names (births_before c.args.format c.args.frame) (view v))) (sym c.loop-number.invariant.bound)
+    (operation_of components names (births_before c.args.format c.args.frame) (view v)))
+    (sym c.loop-number.invariant.bound)
     ∙ c.in_ok-operation.ensures in
     record {
       bound = c.in_ok-bind.ensures
@@ -41,9 +42,11 @@ returns-in_err-operation c =
     let e = c.in_err-operation.field-0.0 in
     let is : c.from_residual-in_err-operation.result ≡ Err e = search rules in
     let read = at_operation c.args.frame c.args.system i
-    (operation_of components c.loop-number.bound (births_before c.args.format c.args.frame) (view v)) in
+    (operation_of components c.loop-number.bound (births_before c.args.format c.args.frame)
+    (view v)) in
     let same = ap (λ (names : List (List ℕ)). at_operation c.args.frame c.args.system i
-    (operation_of components names (births_before c.args.format c.args.frame) (view v))) (sym c.loop-number.invariant.bound) in
+    (operation_of components names (births_before c.args.format c.args.frame) (view v)))
+    (sym c.loop-number.invariant.bound) in
     returned e c.from_residual-in_err-operation.result total is
     (passes_on e read total c.in_err-operation.ensures
     (λ means. stops f vs i v c.loop-number.operations.items e total c.loop-number-test.true

@@ -40,8 +40,8 @@ returns-in_default-clause-value c d rest e =
     (c.in_ok-values.ensures.value d rest e) in (
       ap (λ (o : Option (List Data)). ok_or o (fault.System c.args.frame c.args.number)
           >>=
-          λ ds. numbered (operation_at c.args.format c.args.components.now c.args.frame c.args.number ds) 0
-          ds)
+          λ ds. numbered
+          (operation_at c.args.format c.args.components.now c.args.frame c.args.number ds) 0 ds)
           (none_cut 2 (at_most 10000 d) read.0),
       read.1,
     )
@@ -55,8 +55,8 @@ returns-clause-value c d rest e =
     c.read_elements.new.reader d rest) c.in-Some.is
     (c.in_ok-values.ensures.value d rest e) in
     let found = some_cut 2 vs (at_most 10000 d) read.0 in
-    let means : numbered (f (map view vs)) 0 (map view vs) ≡ system_of c.args.format c.args.components.now
-    c.args.frame c.args.number d =
+    let means : numbered (f (map view vs)) 0 (map view vs)
+    ≡ system_of c.args.format c.args.components.now c.args.frame c.args.number d =
     ap (λ (xs : List Data). numbered (f xs) 0 xs) found.2
     ∙ operations-cut c.args.format c.args.components.now c.args.frame c.args.number found.0
     ∙ sym

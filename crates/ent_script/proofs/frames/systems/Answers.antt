@@ -54,8 +54,8 @@ returns-in-Err-clause-value c n ds rest e =
     (λ other.
     let known : c.in-Err.fault ≡ fault.Memory → ⊥ = λ same. other
     (c.fault_of_array-in-Err.ensures.memory same) in
-    at_fault p (system_of c.args.format c.args.components.now c.args.frame) 256 limit c.in-Err.fault found
-    l.systems.items l.number l.reader c.system.new.reader c.fault_of_array-in-Err.new.reader ds
+    at_fault p (system_of c.args.format c.args.components.now c.args.frame) 256 limit
+    c.in-Err.fault found l.systems.items l.number l.reader c.system.new.reader c.fault_of_array-in-Err.new.reader ds
     rest
     (l.invariant.at n ds rest e) going.0 room known
     (λ d r is. c.in-Err.ensures.value d r (ap (λ ts. converted of_json (p ts)) going.1 ∙ is))
@@ -75,10 +75,10 @@ systems-preserved c =
     c.in_ok-push-in-Ok.ensures.items in
     record {
       at =
-          λ n ds rest e. subst (λ done. At p (system_of c.args.format c.args.components.now c.args.frame) done
-          (l.number + 1) left ds rest) (sym pushed)
-          (at_next p (system_of c.args.format c.args.components.now c.args.frame) l.systems.items l.number
-          l.reader left c.in-Ok.system ds rest
+          λ n ds rest e. subst (λ done. At p
+          (system_of c.args.format c.args.components.now c.args.frame) done (l.number + 1) left ds rest) (sym pushed)
+          (at_next p (system_of c.args.format c.args.components.now c.args.frame) l.systems.items
+          l.number l.reader left c.in-Ok.system ds rest
           (l.invariant.at n ds rest e) going.0
           (λ d r is. c.in-Ok.ensures.value d r (ap (λ ts. converted of_json (p ts)) going.1 ∙ is)));
       few = omega (arith, l.invariant.few);
@@ -92,7 +92,7 @@ returns-clause-value c n ds rest e =
     let l = c.systems in
     let over : after_end_array l.reader ≡ Some c.take_end_array.new.self = grind arith in
     let limit = fault.Frame c.args.frame in
-    let is = at_end p (system_of c.args.format c.args.components.now c.args.frame) 256 limit l.systems.items
-    l.number l.reader c.take_end_array.new.self ds rest (l.invariant.at n ds rest e) over
+    let is = at_end p (system_of c.args.format c.args.components.now c.args.frame) 256 limit
+    l.systems.items l.number l.reader c.take_end_array.new.self ds rest (l.invariant.at n ds rest e) over
     l.invariant.few in
     (is.0 ∙ ap (λ (xs : List (List Operation)). done_with xs) (sym c.new.ensures), is.1)

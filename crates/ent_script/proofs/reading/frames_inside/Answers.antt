@@ -42,7 +42,8 @@ members-preserved-else-ran_out c n ms rest e =
           (λ ts. converted (λ ms. of_members ms (put k next.0 at.1)) (members p (at.0 - 1) ts))
           read.1 ∙ next.3,
       subst
-          (λ (o : Option Data). ReadsList c.frames-found.result (frames_of c.args.format c.args.components.now o))
+          (λ (o : Option Data). ReadsList c.frames-found.result
+          (frames_of c.args.format c.args.components.now o))
           (sym (found_here (codes "frames") k next.0 at.1 same)) read.0,
     )
 

@@ -78,8 +78,8 @@ returns-in_err-frames c d e =
     let fault = c.in_err-frames.field-0.0 in
     let is : c.from_residual-in_err-frames.result ≡ Err fault = search rules in
     returned fault c.from_residual-in_err-frames.result (script_of d) is
-    (passes_from_list fault (frames_of c.in_ok-heading.heading.format names (get (codes "frames") d)) (script_of d)
-    (c.in_err-frames.ensures d e)
+    (passes_from_list fault (frames_of c.in_ok-heading.heading.format names (get (codes "frames") d))
+    (script_of d) (c.in_err-frames.ensures d e)
     (λ means. script_is d c.in_ok-heading.heading names said
     (sym same ∙ c.in_ok-components.ensures.names)
     ∙ ap

@@ -1,4 +1,5 @@
-use Rattle.std.proofs.Common.{◌<◌, length, min, Some, None, Option, is_none, is_some, is_err, true, false, ◌≡◌, refl, sym, ap, ◌∙◌, arith}
+use Rattle.std.proofs.Common.{◌≡◌, ◌<◌, length, min, Some, None, Option, is_none, is_some, is_err}
+use Rattle.std.proofs.Common.{true, false, refl, sym, ap, ◌∙◌, arith}
 use Rattle.std.proofs.lemmas.Bool.{false≢true}
 use Rattle.std.specs.FinMap as map
 use Rattle.ent_storage.specs.Living.{LivingEntity}
