@@ -189,7 +189,7 @@ impl Entities {
             ↔ (0 < self.old.allocator.asked) }
         ensures not_alive { IsErrOf result FreeFault.NotAlive
             ↔ ((self.old.allocator.asked ≡ 0)
-                × (set.contains self.old.allocator.live handle ≡ false)) }
+            × (set.contains self.old.allocator.live handle ≡ false)) }
 
         // The slot of a handle of the last generation is retired, which takes no memory.
         ensures memory { IsErrOf result FreeFault.Memory
