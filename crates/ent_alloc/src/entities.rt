@@ -1,5 +1,5 @@
 ghost use Rattle.std.specs.Prelude.{◌≡◌, ◌≢◌, ◌+◌, ◌-◌, ◌^◌, ◌<◌, ◌≤◌, ◌↔◌, ◌⊎◌};
-ghost use Rattle.std.specs.Prelude.{IsTrue, IfOk, IfSome, OnOk, OnErr, IsErrOf, Some, true, false};
+ghost use Rattle.std.specs.Prelude.{IsTrue, IfOk, OnOk, OnSome, OnErr, IsErrOf, Some, true, false};
 ghost use Rattle.std.specs.Prelude.{[], ◌++◌, length, slice_get, vec_len, vec_capacity};
 ghost use Rattle.std.specs.FinSet as set;
 ghost use Rattle.std.specs.FinMap as map;
@@ -264,8 +264,7 @@ impl Entities {
     /// no row was set since it came to life.
     pub fn row(&self, handle: Handle) -> Option<u32>
         ensures value { result ≡ map.get self.now.rows handle }
-        ensures alive { IfSome result (λ row.
-            set.contains self.now.allocator.live handle ≡ true) }
+        ensures alive { OnSome result (set.contains self.now.allocator.live handle ≡ true) }
     {
         self.slots.row(handle)
     }

@@ -124,7 +124,7 @@ impl Slots {
     /// The row that is kept with an occupant.
     pub(crate) fn row(&self, handle: Handle) -> Option<u32>
         ensures value { result ≡ maps.get self.now.rows handle }
-        ensures alive { IfSome result (λ row. set.contains self.now.live handle ≡ true) }
+        ensures alive { OnSome result (set.contains self.now.live handle ≡ true) }
     {
         match self.occupancy_of(handle) {
             Some(Occupancy::AliveWithRow { row }) => Some(row),

@@ -6,22 +6,25 @@ use Rattle.ent_alloc.proofs.entities.Entities.available.Goals as goal
 pub returns-clause-value : goal.returns-clause-value
 returns-clause-value c =
     let e = c.self.inside in
+    let s = c.args.self.now.allocator in
     let inv = c.self.invariant in
-    let made : e.slots.made ≡ c.args.self.now.allocator.made = ap (λ (s : Allocator). s.made) (allocator_is c.self.view_is)
-    in
-    let slots : e.slots.limits.slots ≡ c.args.self.now.allocator.limits.slots =
-    ap (λ (s : Allocator). s.limits.slots) (allocator_is c.self.view_is) in
-    let all : length (available c.args.self.now.allocator) ≡ length e.slots.pending
+    let view = allocator_is c.self.view_is in
+    let made : e.slots.made ≡ s.made = ap (λ (s : Allocator). s.made) view in
+    let slots : e.slots.limits.slots ≡ s.limits.slots =
+    ap (λ (s : Allocator). s.limits.slots) view in
+    let all : length (available s) ≡ length e.slots.pending
     + (e.slots.limits.slots - e.slots.made) =
-    ap (λ (s : Allocator). length (available s)) (sym (allocator_is c.self.view_is))
+    ap (λ (s : Allocator). length (available s)) (sym view)
     ∙ ap length (available_is e.slots e.requests.asked e.requests.served inv.given_least)
     ∙ length-idle e.slots in
     omega arith
 
 pub returns-clause-fits : goal.returns-clause-fits
 returns-clause-fits c =
-    let made : c.self.inside.slots.made ≡ c.args.self.now.allocator.made = ap (λ (s : Allocator). s.made)
-    (allocator_is c.self.view_is) in
-    let slots : c.self.inside.slots.limits.slots ≡ c.args.self.now.allocator.limits.slots =
-    ap (λ (s : Allocator). s.limits.slots) (allocator_is c.self.view_is) in
+    let e = c.self.inside in
+    let s = c.args.self.now.allocator in
+    let view = allocator_is c.self.view_is in
+    let made : e.slots.made ≡ s.made = ap (λ (s : Allocator). s.made) view in
+    let slots : e.slots.limits.slots ≡ s.limits.slots =
+    ap (λ (s : Allocator). s.limits.slots) view in
     omega arith

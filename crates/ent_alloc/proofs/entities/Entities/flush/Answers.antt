@@ -36,19 +36,22 @@ counted c =
 -- the roster that a flush leaves stands for the flushed allocator
 left : (c : After-none-self-inside) → AreCounted (length c.self.inside.slots.pending)
     c.self.inside.requests.served c.kept-kept.result c.fresh-fresh.result
-    → StandFor c.bring_to_life.new.self c.none-self-inside.result (after_flush c.args.self.now.allocator)
+    → StandFor c.bring_to_life.new.self c.none-self-inside.result
+    (after_flush c.args.self.now.allocator)
 left c counts =
     let r = c.self.inside.slots in
+    let s = c.args.self.now.allocator in
+    let view = allocator_is c.self.view_is in
     let inv = c.self.invariant in
     closed c.bring_to_life.new.self (flushed_roster r (length r.pending
     - c.self.inside.requests.served) (c.self.inside.requests.served - length r.pending))
-    c.none-self-inside.result (after_flush c.args.self.now.allocator)
+    c.none-self-inside.result (after_flush s)
     (c.in_ok-bring_to_life.ensures.ok
     ∙ (λ i. flushed_roster r (counts.kept_is i) (counts.news_is i)))
     c.none-self-inside.ensures
     (flush_is r c.self.inside.requests.asked c.self.inside.requests.served inv.given_least
-    inv.given_in inv.sound ∙ ap after_flush (allocator_is c.self.view_is))
-    (after_flush-sound c.args.self.now.allocator (subst IsSound (allocator_is c.self.view_is) inv.sound))
+    inv.given_in inv.sound ∙ ap after_flush view)
+    (after_flush-sound s (subst IsSound view inv.sound))
 
 pub returns-in_err-bring_to_life-clause-memory : goal.returns-in_err-bring_to_life-clause-memory
 returns-in_err-bring_to_life-clause-memory c =

@@ -12,9 +12,11 @@ use Rattle.ent_alloc.proofs.entities.Entities.free.Goals.{Else-generation-genera
 use Rattle.ent_alloc.proofs.entities.Entities.free.Goals as goal
 
 -- nothing is reserved
-rest : (c : Else-needs_flush) → IsAtRest c.self.inside.slots c.self.inside.requests c.args.self.now.allocator
-rest c = at_rest c.self.inside.slots c.self.inside.requests c.args.self.now.allocator c.needs_flush.result
-    c.self.invariant (allocator_is c.self.view_is) c.needs_flush.ensures c.if-needs_flush.false
+rest : (c : Else-needs_flush) → IsAtRest c.self.inside.slots c.self.inside.requests
+    c.args.self.now.allocator
+rest c = at_rest c.self.inside.slots c.self.inside.requests c.args.self.now.allocator
+    c.needs_flush.result c.self.invariant (allocator_is c.self.view_is) c.needs_flush.ensures
+    c.if-needs_flush.false
 
 freed_is : (c : Else-needs_flush) → c.args.handle.generation ≢
     c.self.inside.slots.limits.generations
@@ -38,7 +40,8 @@ not_last c last = c.if-generation-generations.false (c.generation.ensures ∙ la
 
 -- the handle lives
 lives : (c : Else-not-is_alive) → sets.contains c.args.self.now.allocator.live c.args.handle ≡ true
-lives c = sym (ap (λ (s : Allocator). sets.contains s.live c.args.handle) (allocator_is c.self.view_is))
+lives c =
+    sym (ap (λ (s : Allocator). sets.contains s.live c.args.handle) (allocator_is c.self.view_is))
     ∙ sym c.is_alive.ensures ∙ c.if-not-is_alive.false
 
 -- the roster that this leaves stands for what is freed
@@ -47,9 +50,9 @@ left : (c : Else-not-is_alive) (new after : Roster)
     → allocator_of after 0 0 ≡ after_free c.args.self.now.allocator c.args.handle
     → StandFor new c.self.inside.requests (after_free c.args.self.now.allocator c.args.handle)
 left c new after rest same is =
-    closed new after c.self.inside.requests (after_free c.args.self.now.allocator c.args.handle) same
-    rest.requests_is is
-    (after_free-sound c.args.self.now.allocator c.args.handle rest.sound rest.asked (lives c))
+    let s = c.args.self.now.allocator in
+    closed new after c.self.inside.requests (after_free s c.args.handle) same rest.requests_is is
+    (after_free-sound s c.args.handle rest.sound rest.asked (lives c))
 
 pub invariant_of-self : goal.invariant_of-self
 invariant_of-self c =

@@ -24,15 +24,15 @@ many : (c : After-available-available) → IsCounted c.self.inside.slots c.self.
 many c = record {
   asks = ap (λ (t : Allocator). t.asked) (allocator_is c.self.view_is);
   gives = c.available-available.ensures.value ∙ length_available c.self.inside.slots
-      c.self.inside.requests.asked c.self.inside.requests.served c.args.self.now.allocator c.self.invariant
-      (allocator_is c.self.view_is);
+      c.self.inside.requests.asked c.self.inside.requests.served c.args.self.now.allocator
+      c.self.invariant (allocator_is c.self.view_is);
 }
 
 pub new-span-requires-clause-greatest : goal.new-span-requires-clause-greatest
 new-span-requires-clause-greatest c =
     let e = c.self.inside in
-    let tops = top_view e.slots e.requests.asked e.requests.served c.args.self.now.allocator c.self.invariant
-    (allocator_is c.self.view_is) in
+    let tops = top_view e.slots e.requests.asked e.requests.served c.args.self.now.allocator
+    c.self.invariant (allocator_is c.self.view_is) in
     let all = many (goal.at.new-span-requires-clause-greatest c).After-available-available in
     omega (arith, ints)
 
@@ -42,15 +42,16 @@ invariant_of-self c =
     let r = e.slots in
     let n = c.args.n in
     let s = c.args.self.now.allocator in
+    let view = allocator_is c.self.view_is in
     let inv = c.self.invariant in
     let all = many (goal.at.invariant_of-self c).After-available-available in
     let keeps : Requests → Type 0 = λ q. AreReserved r q.asked q.served in
     elim (cases_lt c.available-available.result (e.requests.asked + n)) [
       | inl short ↦ subst keeps (sym (c.and-self-inside.ensures.refused short))
-          (refused_reserved r e.requests.asked e.requests.served n s inv (allocator_is c.self.view_is)
-          (omega arith) (omega arith))
+          (refused_reserved r e.requests.asked e.requests.served n s inv view (omega arith)
+          (omega arith))
       | inr enough ↦ subst keeps (sym (c.and-self-inside.ensures.served enough))
-          (served_reserved r e.requests.asked e.requests.served n s inv (allocator_is c.self.view_is) (omega arith)
+          (served_reserved r e.requests.asked e.requests.served n s inv view (omega arith)
           (omega arith))
     ]
 
@@ -60,27 +61,28 @@ returns-clause-step c =
     let r = e.slots in
     let n = c.args.n in
     let s = c.args.self.now.allocator in
+    let view = allocator_is c.self.view_is in
     let inv = c.self.invariant in
     let all = many (goal.at.returns-clause-step c).After-available-available in
     elim (cases_lt c.available-available.result (e.requests.asked + n)) [
       | inl short ↦ ap (λ (q : Requests). allocator_of r q.asked q.served)
           (c.and-self-inside.ensures.refused short) ∙ refused_view r e.requests.asked
-          e.requests.served n s inv (allocator_is c.self.view_is) (omega arith)
+          e.requests.served n s inv view (omega arith)
       | inr enough ↦ ap (λ (q : Requests). allocator_of r q.asked q.served)
           (c.and-self-inside.ensures.served enough) ∙ served_view r e.requests.asked
-          e.requests.served n s inv (allocator_is c.self.view_is) (omega arith)
+          e.requests.served n s inv view (omega arith)
     ]
 
 pub returns-clause-valid : goal.returns-clause-valid
 returns-clause-valid c =
     let inv = c.self.invariant in
     let s = c.args.self.now.allocator in
-    let asks : c.self.inside.requests.asked ≡ s.asked = ap (λ (t : Allocator). t.asked)
-    (allocator_is c.self.view_is) in
+    let view = allocator_is c.self.view_is in
+    let asks : c.self.inside.requests.asked ≡ s.asked = ap (λ (t : Allocator). t.asked) view in
     let small = inv.asked_in in
     let fits = c.cursor.type_inv in
     let word : to_z w64 (of_z w64 c.cursor.result) ≡ c.cursor.result = omega (arith, ints) in
-    IsSpanOf-after_take s _ c.new-span.result c.args.n (subst IsSound (allocator_is c.self.view_is) inv.sound)
-    (omega arith) (omega arith) (returns-clause-step c)
+    IsSpanOf-after_take s _ c.new-span.result c.args.n (subst IsSound view inv.sound) (omega arith)
+    (omega arith) (returns-clause-step c)
     (c.new-span.ensures.value ∙ (λ i. let high = (word ∙ c.cursor.ensures.value) i in
     record { high = high; low = high -ℤ pos c.args.n }))

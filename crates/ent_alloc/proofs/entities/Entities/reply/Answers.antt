@@ -16,7 +16,8 @@ use Rattle.ent_alloc.proofs.entities.Entities.reply.Goals as goal
 -- where the span lies
 lies : (c : After-self) → IsBelowTop c.self.inside.slots c.args.span.high
 lies c = below_top c.self.inside.slots c.self.inside.requests.asked c.self.inside.requests.served
-    c.args.self.now.allocator c.args.span.high c.self.invariant (allocator_is c.self.view_is) c.requires.passed
+    c.args.self.now.allocator c.args.span.high c.self.invariant (allocator_is c.self.view_is)
+    c.requires.passed
 
 -- how many slots may be made
 slots_is : (c : After-slots) → c.slots.result ≡ c.self.inside.slots.limits.slots
@@ -26,7 +27,8 @@ slots_is c = c.slots.ensures ∙ ap (λ (l : Limits). l.slots) c.limits.ensures
 lists : (c : After-self) (n position end index index_end : ℕ)
     → IsServed c.self.inside.slots c.args.span.high n position end index index_end
     → Ok (reserved_handles c.self.inside.slots position end index index_end)
-    ≡ reply_from c.args.self.now.allocator.made (pool_at c.args.self.now.allocator c.args.span.high) n
+    ≡ reply_from c.args.self.now.allocator.made
+    (pool_at c.args.self.now.allocator c.args.span.high) n
 lists c = several c.self.inside.slots c.self.inside.requests.asked c.self.inside.requests.served
     c.args.span.high c.args.self.now.allocator c.self.invariant (allocator_is c.self.view_is)
 

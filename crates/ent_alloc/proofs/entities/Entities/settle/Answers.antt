@@ -38,18 +38,19 @@ distance-requires-2-clause-passed c =
 pub invariant_of-self : goal.invariant_of-self
 invariant_of-self c =
     let e = c.self.inside in
+    let s = c.args.self.now.allocator in
+    let view = allocator_is c.self.view_is in
     let tops = tops (goal.at.invariant_of-self c).After-self in
     let both = asked (goal.at.invariant_of-self c).After-distance-2 tops in
-    let gives = asked_at-is (top c.args.self.now.allocator) c.args.floor c.requires.greatest in
-    let asks = asked_at-is (top c.args.self.now.allocator) c.args.cursor (omega (arith, ints)) in
-    let made : e.slots.made ≡ c.args.self.now.allocator.made = ap (λ (s : Allocator). s.made) (allocator_is c.self.view_is)
-    in
-    let slots : e.slots.limits.slots ≡ c.args.self.now.allocator.limits.slots =
-    ap (λ (s : Allocator). s.limits.slots) (allocator_is c.self.view_is) in
-    settled_reserved e.slots e.requests.asked e.requests.served c.args.self.now.allocator c.self.invariant
-    (allocator_is c.self.view_is) c.requires.flushed c.distance.result c.distance-2.result (omega (arith, ints))
+    let gives = asked_at-is (top s) c.args.floor c.requires.greatest in
+    let asks = asked_at-is (top s) c.args.cursor (omega (arith, ints)) in
+    let made : e.slots.made ≡ s.made = ap (λ (s : Allocator). s.made) view in
+    let slots : e.slots.limits.slots ≡ s.limits.slots =
+    ap (λ (s : Allocator). s.limits.slots) view in
+    settled_reserved e.slots e.requests.asked e.requests.served s c.self.invariant view
+    c.requires.flushed c.distance.result c.distance-2.result (omega (arith, ints))
     (omega (arith, ints)) (omega (arith, ints))
-    (λ within. both.gives_is ∙ ap (asked_at (top c.args.self.now.allocator))
+    (λ within. both.gives_is ∙ ap (asked_at (top s))
     (c.requires.all_given (omega (arith, ints))) ∙ sym both.asks_is)
 
 pub returns-clause-settled : goal.returns-clause-settled
@@ -57,9 +58,10 @@ returns-clause-settled c =
     let e = c.self.inside in
     let tops = tops (goal.at.returns-clause-settled c).After-self in
     let both = asked (goal.at.returns-clause-settled c).After-distance-2 tops in
-    settled_view e.slots e.requests.asked e.requests.served c.args.self.now.allocator c.self.invariant
+    let s = c.args.self.now.allocator in
+    settled_view e.slots e.requests.asked e.requests.served s c.self.invariant
     (allocator_is c.self.view_is) c.requires.flushed c.distance.result c.distance-2.result
-    ∙ (λ i. settled c.args.self.now.allocator (both.gives_is i) (both.asks_is i))
+    ∙ (λ i. settled s (both.gives_is i) (both.asks_is i))
 
 pub returns-clause-requests : goal.returns-clause-requests
 returns-clause-requests c =

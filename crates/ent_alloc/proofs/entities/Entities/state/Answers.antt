@@ -40,8 +40,9 @@ told_by c {b} test =
     let by_test = λ (dead : sets.contains r.live c.args.handle ≡ false)
     (is : c.match-occupancy_of.reserved ≡ (stands_in (drop (length r.pending - e.requests.served)
     r.pending) c.args.handle || stands_in (fresh r.made (e.requests.served - length r.pending))
-    c.args.handle)). told c.args.self.now.allocator r e.requests.asked e.requests.served c.args.handle inv
-    (allocator_is c.self.view_is) c.match-occupancy_of.reserved dead is {b = b} test in
+    c.args.handle)). told c.args.self.now.allocator r e.requests.asked e.requests.served
+    c.args.handle inv (allocator_is c.self.view_is) c.match-occupancy_of.reserved dead is
+    {b = b} test in
     elim c.match-occupancy_of.branch [
       | in-Some-Pending w ↦
           (let field = w.in-Some-Pending.field-0 in
