@@ -1,9 +1,8 @@
--- Which handles a set, a map or a list of handles has after a change.
-use Rattle.std.proofs.Common.{◌≡◌, ◌≢◌, refl, sym, ap, ◌∙◌, Bool, true, false, cond, not, ◌&&◌}
-use Rattle.std.proofs.Common.{◌||◌, true≢false, List, IsTrue, is_some, None, ◌⊎◌, inl, inr, ℕ}
+-- Which handles a set or a list of handles has after a change.
+use Rattle.std.proofs.Common.{◌≡◌, ◌≢◌, refl, sym, ap, ◌∙◌, Bool, true, false, not, ◌&&◌}
+use Rattle.std.proofs.Common.{◌||◌, true≢false, List, IsTrue, ◌⊎◌, inl, inr}
 use Rattle.std.proofs.Common.{Contains, subst, All, AllPairs}
 use Rattle.std.specs.FinSet as set
-use Rattle.std.specs.FinMap as map
 use Rattle.std.specs.Ordering.{eq_by_cmp}
 use Rattle.std.proofs.lemmas.Cmp.{eq_by_cmp_equiv}
 use Rattle.std.proofs.lemmas.Map.Views.{Contains-from_any, list_any-from_Contains, tells_apart}
@@ -89,16 +88,6 @@ in_removed s h x e =
       both.1,
     )
 
--- what is another stays
-pub removed_keeps : (s : Handles) (h x : Handle) → x ≢ h → IsTrue (set.contains s x)
-    → IsTrue (set.contains (set.remove s h) x)
-removed_keeps s h x apart e = set.contains-remove handle_cmp_total s h x
-    ∙ rw (other_handle x h apart, e)
-
--- what was removed is gone
-pub removed : (s : Handles) (h : Handle) → set.contains (set.remove s h) h ≡ false
-removed s h = set.contains-remove handle_cmp_total s h h ∙ rw (itself h)
-
 -- what a set has after all of a list
 pub contains-union_list : (s : Handles) (more : List Handle) (x : Handle)
     → set.contains (set.union s (set.from_list more)) x ≡ (set.contains s x || stands_in more x)
@@ -124,19 +113,6 @@ pub union_list_has : (s : Handles) (more : List Handle) (x : Handle) → Contain
     → IsTrue (set.contains (set.union s (set.from_list more)) x)
 union_list_has s more x has = contains-union_list s more x ∙ ap (λ b. set.contains s x || b)
     (stands_in-from_Contains more x has) ∙ or_true _
-
--- the keys of a map after one less
-pub in_removed_keys : (m : map.FinMap handle_cmp ℕ) (h x : Handle)
-    → IsTrue (map.contains_key (map.remove m h) x) → (x ≢ h) × IsTrue (map.contains_key m x)
-in_removed_keys m h x e = elim (eq_by_cmp handle_cmp x h) as (λ b. eq_by_cmp handle_cmp x h ≡ b
-    → is_some (cond b None (map.get m x)) ≡ true → (x ≢ h) × IsTrue (map.contains_key m x)) [
-      | true ↦ λ _ none. absurd (true≢false (sym none))
-      | false ↦ λ other has. (
-        λ same. true≢false (sym (ap (eq_by_cmp handle_cmp x) (sym same) ∙ itself x)
-            ∙ other),
-        has,
-      )
-    ] refl (sym (ap is_some (map.get-remove handle_cmp_total m h x)) ∙ e)
 
 -- one occupant more, of a slot that has none
 pub one_occupant_inserted : (live : set.FinSet handle_cmp) (x : Handle)

@@ -1,7 +1,6 @@
 -- A sound allocator that is flushed, by the old handles of its pool.
 use Rattle.std.proofs.Common.{◌≡◌, sym, ap, ◌∙◌, subst, ℕ, ◌+◌, ◌-◌, ◌<◌, ◌≤◌, true, List, [], ◌++◌}
-use Rattle.std.proofs.Common.{length, get_or, drop, filter, All, AllPairs, arith, ltb-true, IsTrue}
-use Rattle.std.specs.FinMap as map
+use Rattle.std.proofs.Common.{length, get_or, drop, filter, All, AllPairs, arith, ltb-true}
 use Rattle.std.proofs.lemmas.List.{nil_from_length, length-append}
 use Rattle.std.proofs.lemmas.List.Elements.{All-append, All-weaker, filter_passes, All-filter}
 use Rattle.std.proofs.lemmas.List.Kept.{AllPairs-filter}
@@ -40,7 +39,6 @@ pub record IsLaidOut (s : Allocator) (old : List Handle) : Type 0 where
   pub live_below : (h : Handle) → IsLive s h → h.index < s.made
   pub live_apart : (h : Handle) → IsLive s h → All (AreApart h) old
   pub one_occupant : (g h : Handle) → IsLive s g → IsLive s h → g.index ≡ h.index → g ≡ h
-  pub rows : (h : Handle) → IsTrue (map.contains_key s.rows h) → IsLive s h
 
 -- what holds of the first occupant of each slot that was never made
 never_made : (made slots : ℕ) (P : Handle → Type 0) → ((index : ℕ) → made ≤ index → index < slots
@@ -82,7 +80,6 @@ laid_out-sound s old h =
             (below_never_made s.made s.limits.slots x (h.live_below x alive)));
       };
       one_occupant = h.one_occupant;
-      rows = h.rows;
     }
 
 -- nothing is taken or set aside where nothing was asked for
@@ -106,5 +103,4 @@ flushed-laid_out s h flushed =
       live_apart = λ x alive. All-filter (is_old s.made) (AreApart x) (available s)
           (h.live x alive).apart;
       one_occupant = h.one_occupant;
-      rows = h.rows;
     }

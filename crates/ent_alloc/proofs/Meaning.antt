@@ -16,7 +16,7 @@ use Rattle.ent_alloc.specs.Roster.{Roster}
 use Rattle.ent_alloc.specs.Sequential.{Allocator, opening, fresh, is_old, available, top, asked_at}
 use Rattle.ent_alloc.specs.Sequential.{pool_at}
 use Rattle.ent_alloc.specs.Sound.{IsSound}
-use Rattle.ent_alloc.specs.Entities.{idle, allocator_of, beneath, AreReserved}
+use Rattle.ent_alloc.specs.Entities.{Entities, idle, allocator_of, beneath, AreReserved}
 use Rattle.ent_alloc.proofs.FreshHandles.{length-fresh}
 use Rattle.ent_alloc.proofs.LaidOut.{old_ones_below}
 
@@ -102,6 +102,10 @@ pub opening_is : (limits : Limits)
 opening_is limits =
     let all : limits.slots - 0 ≡ limits.slots = omega arith in
     λ i. record (opening limits) { pool = fresh 0 (all i) }
+
+-- the allocator of the same entities is the same
+pub allocator_is : {d e : Entities} → d ≡ e → d.allocator ≡ e.allocator
+allocator_is same = ap (λ (e : Entities). e.allocator) same
 
 -- what is left after so many
 pub length_left : (r : Roster) (asked : ℕ) → length (drop asked (idle r)) ≡ length r.pending

@@ -76,7 +76,6 @@ alloc_old_is r h sound some last =
     λ i. record {
       limits = r.limits;
       live = union_one r.live h i;
-      rows = r.rows;
       pool = sym (ap (drop 1) (alloc_old_front r h some last)) i;
       taken = [];
       aside = [];
@@ -101,7 +100,6 @@ alloc_fresh_is r h none room first =
     λ i. record {
       limits = r.limits;
       live = union_one r.live h i;
-      rows = r.rows;
       pool = (ap (λ hs. reverse hs ++ fresh (r.made + 1) (r.limits.slots - (r.made + 1)))
           (nil_from_length r.pending none) ∙ sym (ap (drop 1) (alloc_fresh_front r none room))) i;
       taken = [];
@@ -177,7 +175,6 @@ ended_is : (r : Roster) (h : Handle) (pending : List Handle)
 ended_is r h pending front = λ i. record {
   limits = r.limits;
   live = sets.remove r.live h;
-  rows = maps.remove r.rows h;
   pool = front i;
   taken = [];
   aside = [];

@@ -113,7 +113,6 @@ module _ (r : Roster) (asked given : ℕ) (within : given ≤ asked) (enough : g
       λ i. record {
         limits = r.limits;
         live = live_is i;
-        rows = r.rows;
         pool = pool_is i;
         taken = [];
         aside = [];

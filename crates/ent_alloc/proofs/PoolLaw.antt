@@ -51,10 +51,6 @@ limits-after_take s n = after_take-either (λ t. t.limits) s.limits s n refl ref
 pub live-after_take : (s : Allocator) (n : ℕ) → (after_take s n).live ≡ s.live
 live-after_take s n = after_take-either (λ t. t.live) s.live s n refl refl
 
--- the rows
-pub rows-after_take : (s : Allocator) (n : ℕ) → (after_take s n).rows ≡ s.rows
-rows-after_take s n = after_take-either (λ t. t.rows) s.rows s n refl refl
-
 -- the made slots
 pub made-after_take : (s : Allocator) (n : ℕ) → (after_take s n).made ≡ s.made
 made-after_take s n = after_take-either (λ t. t.made) s.made s n refl refl
@@ -115,10 +111,6 @@ limits-after_takes = after_takes-leave (λ t. t.limits) limits-after_take
 -- who is alive stays
 pub live-after_takes : (s : Allocator) (requests : List ℕ) → (after_takes s requests).live ≡ s.live
 live-after_takes = after_takes-leave (λ t. t.live) live-after_take
-
--- the rows stay
-pub rows-after_takes : (s : Allocator) (requests : List ℕ) → (after_takes s requests).rows ≡ s.rows
-rows-after_takes = after_takes-leave (λ t. t.rows) rows-after_take
 
 -- the made slots stay
 pub made-after_takes : (s : Allocator) (requests : List ℕ) → (after_takes s requests).made ≡ s.made

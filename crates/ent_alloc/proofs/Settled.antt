@@ -13,7 +13,7 @@ use Rattle.ent_alloc.specs.Sound.{IsSound}
 use Rattle.ent_alloc.proofs.LaidOut.{flushed-laid_out}
 use Rattle.ent_alloc.proofs.Taken.{length-available, length-pool, after_take-refused}
 use Rattle.ent_alloc.proofs.Taken.{after_take-served}
-use Rattle.ent_alloc.proofs.PoolLaw.{limits-after_takes, live-after_takes, rows-after_takes}
+use Rattle.ent_alloc.proofs.PoolLaw.{limits-after_takes, live-after_takes}
 use Rattle.ent_alloc.proofs.PoolLaw.{after_takes, after_takes-sound, available-after_takes}
 use Rattle.ent_alloc.proofs.PoolLaw.{made-after_takes, asked-after_takes, pool-after_takes}
 use Rattle.ent_alloc.proofs.PoolLaw.{taken_is, aside_is, length-taken}
@@ -121,7 +121,6 @@ module _ (s : Allocator) (h : IsSound s) (flushed : s.asked ≡ 0) where
       λ i. record {
         limits = limits-after_takes s requests i;
         live = live-after_takes s requests i;
-        rows = rows-after_takes s requests i;
         pool = pool-after_takes s requests i;
         taken = taken i;
         aside = aside i;

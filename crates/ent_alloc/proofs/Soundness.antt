@@ -1,30 +1,27 @@
 -- Every step of the sequential allocator leads from a sound state to a sound state.
 use Rattle.std.proofs.Common.{◌≡◌, refl, sym, ap, ◌∙◌, subst, ℕ, zero, suc, ◌+◌, ◌-◌, ◌<◌, ◌≤◌}
 use Rattle.std.proofs.Common.{true, false, true≢false, List, [], ◌∷◌, ◌++◌, length, get_or, take}
-use Rattle.std.proofs.Common.{drop, All, AllPairs, arith, append-nil, lt-ltb, le-ltb, is_some, ◌==◌}
+use Rattle.std.proofs.Common.{drop, All, AllPairs, arith, append-nil, lt-ltb, le-ltb, ◌==◌}
 use Rattle.std.proofs.Common.{◌≢◌}
-use Rattle.std.proofs.Common.{eq-eqb, ne_eqb, inl, inr, Bool, cond, Some, None, Option, ◌⊎◌}
+use Rattle.std.proofs.Common.{eq-eqb, ne_eqb, inl, inr, Some, None, Option}
 use Rattle.std.specs.Option.{IfSome}
 use Rattle.std.proofs.lemmas.Bool.{cases_lt, cases_eq}
 use Rattle.std.specs.FinSet as set
-use Rattle.std.specs.Ordering.{eq_by_cmp}
-use Rattle.std.specs.FinMap as map
 use Rattle.std.proofs.lemmas.List.{drop-drop, drop_all}
 use Rattle.std.proofs.lemmas.List.Elements.{All-drop, All-head, All-tail, All-nil, All-cons}
 use Rattle.std.proofs.lemmas.List.Elements.{All-weaker, All-filter}
 use Rattle.std.proofs.lemmas.List.Kept.{AllPairs-filter, AllPairs-cons}
-use Rattle.ent_handle.specs.Handle.{Handle, handle_cmp, handle_cmp_total}
+use Rattle.ent_handle.specs.Handle.{Handle, handle_cmp}
 use Rattle.ent_alloc.specs.Limits.{Limits, AreLimits}
 use Rattle.ent_alloc.specs.Sequential.{Allocator, opening, available, after_take, after_flush}
 use Rattle.ent_alloc.specs.Sequential.{after_alloc, after_free, next, following, in_front, fresh}
-use Rattle.ent_alloc.specs.Sequential.{is_old, after_set_row}
+use Rattle.ent_alloc.specs.Sequential.{is_old}
 use Rattle.ent_alloc.specs.Sound.{IsSound, IsWithin, AreApart, IsLive}
 use Rattle.ent_alloc.proofs.ListLaws.{AllPairs-left, AllPairs-across, All-left, AllPairs-drop}
 use Rattle.ent_alloc.proofs.ListLaws.{AllPairs-head, AllPairs-tail}
 use Rattle.ent_alloc.proofs.FreshHandles.{fresh-next, fresh-none, first_of_slot}
-use Rattle.ent_alloc.proofs.HandleSets.{inserted_keeps, in_removed, removed_keeps, in_removed_keys}
-use Rattle.ent_alloc.proofs.HandleSets.{union_list_keeps, one_occupant_inserted, same_handle}
-use Rattle.ent_alloc.proofs.HandleSets.{one_occupant_joined, of_inserted, of_joined}
+use Rattle.ent_alloc.proofs.HandleSets.{in_removed, one_occupant_inserted, one_occupant_joined}
+use Rattle.ent_alloc.proofs.HandleSets.{of_inserted, of_joined}
 use Rattle.ent_alloc.proofs.LaidOut.{old_ones, old_ones_below, IsLaidOut, laid_out-sound}
 use Rattle.ent_alloc.proofs.LaidOut.{flushed-laid_out, apart_by_made}
 use Rattle.ent_alloc.proofs.Taken.{aside_or_pool, length-pool, take_moves, after_take-served}
@@ -51,7 +48,6 @@ opening-sound limits ok =
       live_below = λ h alive. absurd (no_one h alive);
       live_apart = λ h alive. absurd (no_one h alive);
       one_occupant = λ g h alive _ _. absurd (no_one g alive);
-      rows = λ h kept. absurd (true≢false (sym kept ∙ ap is_some (map.get-empty handle_cmp h)));
     }
 
 -- other lists of the same handles, as far as the requests have reached
@@ -74,7 +70,6 @@ IsSound-moved s taken aside pool asked h same rest enough = record {
     apart = rw same was.apart;
   };
   one_occupant = h.one_occupant;
-  rows = h.rows;
 }
 
 -- a request, served or refused
@@ -175,8 +170,6 @@ after_free-sound s x h flushed alive =
           (was.live_apart y other.1);
       one_occupant = λ g y kept_g kept_y same. was.one_occupant g y (in_removed s.live x g kept_g).1
           (in_removed s.live x y kept_y).1 same;
-      rows = λ y kept. let other = in_removed_keys s.rows x y kept in removed_keeps s.live x y
-          other.0 (was.rows y other.1);
     }
 
 -- an old handle that comes to life
@@ -211,7 +204,6 @@ alloc_of_old s x old was = record {
       (was.live_apart y alive));
   one_occupant = one_occupant_inserted s.live x (λ y alive. All-head (AreApart y) x old
       (was.live_apart y alive)) was.one_occupant;
-  rows = λ y kept. inserted_keeps s.live x y (was.rows y kept);
 }
 
 -- where no old handle waits, the first occupant of a new slot does
@@ -247,7 +239,6 @@ alloc_of_fresh s more was some =
       live_apart = λ y alive. All-nil (AreApart y);
       one_occupant = one_occupant_inserted s.live x (λ y alive. apart_by_made s.made y x
           (was.live_below y alive) (omega arith)) was.one_occupant;
-      rows = λ y kept. inserted_keeps s.live x y (was.rows y kept);
     }
 
 -- the handle at the front of the pool comes to life
@@ -314,40 +305,8 @@ flush-laid_out s h =
           (λ x alive. All-left (AreApart x) s.taken (s.aside ++ s.pool) (h.live x alive).apart)
           (AllPairs-left AreApart s.taken (s.aside ++ s.pool) h.apart)
           h.one_occupant;
-      rows = λ x kept. union_list_keeps s.live s.taken x (h.rows x kept);
     }
 
 -- what was taken comes to life
 pub after_flush-sound : (s : Allocator) → IsSound s → IsSound (after_flush s)
 after_flush-sound s h = laid_out-sound (after_flush s) _ (flush-laid_out s h)
-
-either_row : (same : Bool) (row : ℕ) (old : Option ℕ) → is_some (cond same (Some row) old) ≡ true
-    → (same ≡ true) ⊎ (is_some old ≡ true)
-either_row true row old is = inl refl
-either_row false row old is = inr is
-
--- a row kept with a living handle
-pub after_set_row-sound : (s : Allocator) (h : Handle) (row : ℕ) → IsSound s → IsLive s h
-    → IsSound (after_set_row s h row)
-after_set_row-sound s h row sound lives = record {
-  limits = sound.limits;
-  made = sound.made;
-  order = sound.order;
-  within = sound.within;
-  apart = sound.apart;
-  pool = sound.pool;
-  aside = sound.aside;
-  live = λ x is. record {
-    within = (sound.live x is).within;
-    made = (sound.live x is).made;
-    apart =
-        (sound.live x is).apart;
-  };
-  one_occupant = sound.one_occupant;
-  rows = λ x is.
-      elim (either_row (eq_by_cmp handle_cmp x h) row (map.get s.rows x)
-      (ap is_some (sym (map.get-insert handle_cmp_total s.rows h row x)) ∙ is)) [
-        | inl same ↦ subst (IsLive s) (sym (same_handle x h same)) lives
-        | inr old ↦ sound.rows x old
-      ];
-}

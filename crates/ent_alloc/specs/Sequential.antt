@@ -7,7 +7,6 @@ use Rattle.std.specs.List.{list_any, count_by, range_with_len}
 use Rattle.std.specs.Ordering.{eq_by_cmp}
 use Rattle.std.specs.Coded.{Coded, code_by, coded×, coded_ℕ, coded_list}
 use Rattle.std.specs.FinSet as set
-use Rattle.std.specs.FinMap as map
 use Rattle.ent_handle.specs.Handle.{Handle, handle_cmp, handle_code}
 use Rattle.ent_alloc.specs.Limits.{Limits, limits_code}
 use Rattle.ent_alloc.specs.declared.space.Space.{Space}
@@ -17,11 +16,9 @@ use Rattle.ent_alloc.specs.declared.state.State.TheVariants.{Alive, Reserved, Go
 -- Where a handle stands: alive, or in a list of those that may be given. The pool is given from its
 -- front; taken is what was given and is not yet alive; aside is what a refused request has passed
 -- over. made counts the slots that were made, asked all that was requested since the last flush.
--- rows is what a caller keeps with a living handle.
 pub record Allocator : Type 0 where
   pub limits : Limits
   pub live : set.FinSet handle_cmp
-  pub rows : map.FinMap handle_cmp ℕ
   pub pool : List Handle
   pub taken : List Handle
   pub aside : List Handle
@@ -38,7 +35,6 @@ abbrev pub opening : Limits → Allocator
 opening limits = record {
   limits = limits;
   live = set.empty;
-  rows = map.empty;
   pool = fresh 0 limits.slots;
   taken = [];
   aside = [];
@@ -137,13 +133,8 @@ in_front (Some h) handles = h ∷ handles
 abbrev pub after_free : Allocator → Handle → Allocator
 after_free s h = record s {
   live = set.remove s.live h;
-  rows = map.remove s.rows h;
   pool = in_front (next s.limits h) s.pool;
 }
-
--- a row is kept with a living handle
-abbrev pub after_set_row : Allocator → Handle → ℕ → Allocator
-after_set_row s h row = record s { rows = map.insert s.rows h row }
 
 -- the allocator after `asked` handles were requested in all, of which the first `given` were served
 abbrev pub settled : Allocator → ℕ → ℕ → Allocator
@@ -187,20 +178,17 @@ retired s = count_by (is_retired s) (range_with_len 0 s.made)
 abbrev pub allocator_code : Coded Allocator
 allocator_code =
     code_by
-    (Limits × (set.FinSet handle_cmp × (map.FinMap handle_cmp ℕ
-    × (List Handle × (List Handle × (List Handle × (ℕ × ℕ)))))))
-    (coded× limits_code (coded× (set.code handle_code) (coded× (map.code handle_code coded_ℕ)
-    (coded× (coded_list handle_code) (coded× (coded_list handle_code)
-    (coded× (coded_list handle_code) (coded× coded_ℕ coded_ℕ)))))))
-    (λ s. (s.limits, (s.live, (s.rows, (s.pool, (s.taken, (s.aside, (s.made, s.asked))))))))
+    (Limits × (set.FinSet handle_cmp × (List Handle × (List Handle × (List Handle × (ℕ × ℕ))))))
+    (coded× limits_code (coded× (set.code handle_code) (coded× (coded_list handle_code)
+    (coded× (coded_list handle_code) (coded× (coded_list handle_code) (coded× coded_ℕ coded_ℕ))))))
+    (λ s. (s.limits, (s.live, (s.pool, (s.taken, (s.aside, (s.made, s.asked)))))))
     (λ p. record {
       limits = p.0;
       live = p.1.0;
-      rows = p.1.1.0;
-      pool = p.1.1.1.0;
-      taken = p.1.1.1.1.0;
-      aside = p.1.1.1.1.1.0;
-      made = p.1.1.1.1.1.1.0;
-      asked = p.1.1.1.1.1.1.1;
+      pool = p.1.1.0;
+      taken = p.1.1.1.0;
+      aside = p.1.1.1.1.0;
+      made = p.1.1.1.1.1.0;
+      asked = p.1.1.1.1.1.1;
     })
     (λ _. refl)

@@ -2,7 +2,6 @@
 use Rattle.std.specs.Prelude.{◌≡◌, ◌≢◌, ◌<◌, ◌≤◌, ◌-◌, ◌++◌, [], length, drop, IsTrue}
 use Rattle.std.specs.List.{All, AllPairs, filter}
 use Rattle.std.specs.FinSet as set
-use Rattle.std.specs.FinMap as map
 use Rattle.ent_handle.specs.Handle.{Handle}
 use Rattle.ent_alloc.specs.Limits.{Limits, AreLimits}
 use Rattle.ent_alloc.specs.Sequential.{Allocator, available, fresh, is_old}
@@ -43,4 +42,3 @@ pub record IsSound (s : Allocator) : Type 0 where
   pub live : (h : Handle) → IsLive s h → IsOccupant s h
   -- a slot has one occupant at a time
   pub one_occupant : (g h : Handle) → IsLive s g → IsLive s h → g.index ≡ h.index → g ≡ h
-  pub rows : (h : Handle) → IsTrue (map.contains_key s.rows h) → IsLive s h

@@ -1,12 +1,12 @@
 ghost use Rattle.std.specs.Prelude.{◌≡◌, ◌≢◌, ◌+◌, ◌-◌, ◌^◌, ◌<◌, ◌≤◌, ◌↔◌, ◌⊎◌};
-ghost use Rattle.std.specs.Prelude.{IsTrue, IfOk, OnOk, OnErr, IsErrOf, Some, true, false};
+ghost use Rattle.std.specs.Prelude.{IsTrue, IfOk, OnOk, OnSome, OnErr, IsErrOf, Some, true, false};
 ghost use Rattle.std.specs.Prelude.{[], ◌++◌, length, slice_get, vec_len, vec_capacity};
 ghost use Rattle.std.specs.FinSet as set;
 ghost use Rattle.std.specs.FinMap as map;
 ghost use Rattle.ent_alloc.specs.Sequential.{opening, top, cursor};
 ghost use Rattle.ent_alloc.specs.Sequential.{born, made_at_flush, next};
 ghost use Rattle.ent_alloc.specs.Sequential.{state_of, retired, after_flush};
-ghost use Rattle.ent_alloc.specs.Sequential.{after_alloc, after_free, after_set_row};
+ghost use Rattle.ent_alloc.specs.Sequential.{after_alloc, after_free};
 ghost use Rattle.ent_alloc.specs.Sound.{IsSound};
 
 use crate::fault::{AllocFault, FreeFault, Freed};
@@ -23,7 +23,8 @@ use std::marker::Model;
 ///
 /// Contracts see it as a state of the sequential allocator (`specs/Sequential`): the living
 /// handles, the pool of those that can be given, those that are reserved, and those that a refused
-/// request passed over.
+/// request passed over. Beside it they see the rows that a program keeps with living handles
+/// (`specs/Entities`).
 #[derive(Drop)]
 pub struct Entities {
     pub(crate) slots: Slots,
@@ -31,15 +32,15 @@ pub struct Entities {
 }
 
 impl Model for Entities {
-    ghost use Rattle.ent_alloc.specs.Sequential.{Allocator, allocator_code};
+    ghost use Rattle.ent_alloc.specs.Entities.{Entities, entities_code};
 
-    ghost Value = { Allocator };
+    ghost Value = { Entities };
 
-    ghost coded = { allocator_code };
+    ghost coded = { entities_code };
 
-    ghost use Rattle.ent_alloc.specs.Entities.{allocator_of, AreReserved};
+    ghost use Rattle.ent_alloc.specs.Entities.{entities_of, AreReserved};
 
-    ghost view = { λ e. allocator_of e.slots e.requests.asked e.requests.served };
+    ghost view = { λ e. entities_of e.slots e.requests.asked e.requests.served };
 
     ghost invariant = { λ e. AreReserved e.slots e.requests.asked e.requests.served };
 }
@@ -47,7 +48,8 @@ impl Model for Entities {
 impl Entities {
     /// An allocator with no entities. It takes no memory, whatever the limits are.
     pub fn new(alloc: Global, limits: Limits) -> Self
-        ensures { result ≡ opening limits }
+        ensures allocator { result.allocator ≡ opening limits }
+        ensures rows { result.rows ≡ map.empty }
     {
         Entities {
             slots: Slots::new(alloc, limits),
@@ -57,28 +59,28 @@ impl Entities {
 
     /// How many entities are alive.
     pub fn len(&self) -> u32
-        ensures { result ≡ set.len self.now.live }
+        ensures { result ≡ set.len self.now.allocator.live }
     {
         self.slots.live()
     }
 
     /// Whether no entity is alive.
     pub fn is_empty(&self) -> bool
-        ensures { IsTrue result ↔ (set.len self.now.live ≡ 0) }
+        ensures { IsTrue result ↔ (set.len self.now.allocator.live ≡ 0) }
     {
         self.len() == 0
     }
 
     /// How many slots were made: each has or had an occupant. A retired slot counts for good.
     pub fn total(&self) -> u32
-        ensures { result ≡ self.now.made }
+        ensures { result ≡ self.now.allocator.made }
     {
         self.slots.made()
     }
 
     /// How many slots can still be made.
     pub fn room(&self) -> u32
-        ensures { result ≡ self.now.limits.slots - self.now.made }
+        ensures { result ≡ self.now.allocator.limits.slots - self.now.allocator.made }
     {
         self.slots.limits().slots() - self.slots.made()
     }
@@ -86,7 +88,7 @@ impl Entities {
     /// How many old slots waited for their next occupant at the last `flush`, `alloc` or `free`.
     /// Requests don't change it.
     pub fn top(&self) -> u32
-        ensures { result ≡ top self.now }
+        ensures { result ≡ top self.now.allocator }
     {
         self.slots.waiting()
     }
@@ -94,10 +96,11 @@ impl Entities {
     /// How many slots are retired: they were made, and give no handle any more. It takes constant
     /// time.
     pub fn retired(&self) -> u32
-        ensures value { result ≡ retired self.now }
+        ensures value { result ≡ retired self.now.allocator }
 
         // Each slot that was made has a living occupant, waits for the next one, or is retired.
-        ensures rest { set.len self.now.live + top self.now + result ≡ self.now.made }
+        ensures rest { set.len self.now.allocator.live + top self.now.allocator + result
+            ≡ self.now.allocator.made }
     {
         self.total() - self.slots.live() - self.slots.waiting()
     }
@@ -105,18 +108,18 @@ impl Entities {
     /// The number that each request lowers by its count. It is `top` if nothing was requested since
     /// the last flush; below 0 it counts fresh slots.
     pub fn cursor(&self) -> i64
-        ensures value { result ≡ cursor self.now }
+        ensures value { result ≡ cursor self.now.allocator }
 
         // What is true of every state, as that no slot has two handles among the living and those
         // to be given.
-        ensures sound { IsSound self.now }
+        ensures sound { IsSound self.now.allocator }
     {
         self.slots.top() - self.asked() as i64
     }
 
     /// How many handles were requested since the last flush, at most 2^50.
     pub fn asked(&self) -> u64
-        ensures value { result ≡ self.now.asked }
+        ensures value { result ≡ self.now.allocator.asked }
         ensures within { result ≤ 2 ^ 50 }
     {
         self.requests.asked
@@ -124,14 +127,14 @@ impl Entities {
 
     /// Whether any handle was requested since the last flush.
     pub fn needs_flush(&self) -> bool
-        ensures { IsTrue result ↔ (0 < self.now.asked) }
+        ensures { IsTrue result ↔ (0 < self.now.allocator.asked) }
     {
         self.asked() > 0
     }
 
     /// How many handles the next flush brings to life.
     pub fn reserved(&self) -> u32
-        ensures { result ≡ length self.now.taken }
+        ensures { result ≡ length self.now.allocator.taken }
     {
         self.requests.served
     }
@@ -145,12 +148,14 @@ impl Entities {
     /// request was refused. `Space` if every slot has a living occupant or is retired. `Memory`
     /// only if no old slot waits.
     pub fn alloc(&mut self) -> Result<Handle, AllocFault>
-        ensures front { IfOk result (λ h. slice_get self.old.pool 0 ≡ Some h) }
-        ensures ok { IfOk result (λ h. self.new ≡ after_alloc self.old h) }
-        ensures needs_flush { IsErrOf result AllocFault.NeedsFlush ↔ (0 < self.old.asked) }
+        ensures front { IfOk result (λ h. slice_get self.old.allocator.pool 0 ≡ Some h) }
+        ensures ok { IfOk result (λ h. self.new.allocator ≡ after_alloc self.old.allocator h) }
+        ensures rows { self.new.rows ≡ self.old.rows }
+        ensures needs_flush { IsErrOf result AllocFault.NeedsFlush
+            ↔ (0 < self.old.allocator.asked) }
         ensures space { IsErrOf result AllocFault.Space
-            ↔ ((self.old.asked ≡ 0) × (self.old.pool ≡ [])) }
-        ensures memory { IsErrOf result AllocFault.Memory → top self.old ≡ 0 }
+            ↔ ((self.old.allocator.asked ≡ 0) × (self.old.allocator.pool ≡ [])) }
+        ensures memory { IsErrOf result AllocFault.Memory → top self.old.allocator ≡ 0 }
         ensures err { OnErr result (self.new ≡ self.old) }
     {
         if self.needs_flush() {
@@ -176,16 +181,19 @@ impl Entities {
     /// request was refused; then `NotAlive`; then `Memory`, which never comes if the slot is
     /// retired.
     pub fn free(&mut self, handle: Handle) -> Result<Freed, FreeFault>
-        ensures ok { OnOk result (self.new ≡ after_free self.old handle) }
-        ensures next { IfOk result (λ freed. freed.next ≡ next self.old.limits handle) }
-        ensures lived { OnOk result (set.contains self.old.live handle ≡ true) }
-        ensures needs_flush { IsErrOf result FreeFault.NeedsFlush ↔ (0 < self.old.asked) }
+        ensures ok { OnOk result (self.new.allocator ≡ after_free self.old.allocator handle) }
+        ensures row { OnOk result (self.new.rows ≡ map.remove self.old.rows handle) }
+        ensures next { IfOk result (λ freed. freed.next ≡ next self.old.allocator.limits handle) }
+        ensures lived { OnOk result (set.contains self.old.allocator.live handle ≡ true) }
+        ensures needs_flush { IsErrOf result FreeFault.NeedsFlush
+            ↔ (0 < self.old.allocator.asked) }
         ensures not_alive { IsErrOf result FreeFault.NotAlive
-            ↔ ((self.old.asked ≡ 0) × (set.contains self.old.live handle ≡ false)) }
+            ↔ ((self.old.allocator.asked ≡ 0)
+            × (set.contains self.old.allocator.live handle ≡ false)) }
 
         // The slot of a handle of the last generation is retired, which takes no memory.
         ensures memory { IsErrOf result FreeFault.Memory
-            → handle.generation ≢ self.old.limits.generations }
+            → handle.generation ≢ self.old.allocator.limits.generations }
         ensures err { OnErr result (self.new ≡ self.old) }
     {
         if self.needs_flush() {
@@ -212,15 +220,16 @@ impl Entities {
     /// before the first handle is listed. It never comes if `out` has room for `reserved` more
     /// handles and all of them are of old slots.
     pub fn flush(&mut self, out: &mut Vec<Handle>) -> Result<(), Memory>
-        ensures ok { OnOk result (self.new ≡ after_flush self.old) }
-        ensures born { OnOk result (out.new.items ≡ out.old.items ++ born self.old) }
+        ensures ok { OnOk result (self.new.allocator ≡ after_flush self.old.allocator) }
+        ensures rows { self.new.rows ≡ self.old.rows }
+        ensures born { OnOk result (out.new.items ≡ out.old.items ++ born self.old.allocator) }
         ensures err { OnErr result (self.new ≡ self.old) }
         ensures unchanged { OnErr result (out.new.items ≡ out.old.items) }
         ensures capacity { OnErr result (vec_capacity out.new ≡ vec_capacity out.old) }
 
         // Memory runs out only for new slots, or for a list that lacks room.
-        ensures memory { OnErr result ((0 < made_at_flush self.old)
-            ⊎ (vec_capacity out.old < vec_len out.old + length self.old.taken)) }
+        ensures memory { OnErr result ((0 < made_at_flush self.old.allocator)
+            ⊎ (vec_capacity out.old < vec_len out.old + length self.old.allocator.taken)) }
     {
         let waiting = self.slots.waiting();
         let kept = self.requests.kept(waiting);
@@ -232,7 +241,7 @@ impl Entities {
 
     /// What became of a handle. It takes constant time.
     pub fn state(&self, handle: Handle) -> State
-        ensures { result ≡ state_of self.now handle }
+        ensures { result ≡ state_of self.now.allocator handle }
     {
         let waiting = self.slots.waiting();
         let reserved = match self.slots.occupancy_of(handle) {
@@ -254,7 +263,8 @@ impl Entities {
     /// The row that a program keeps with a living entity. `None` if the handle isn't alive, or if
     /// no row was set since it came to life.
     pub fn row(&self, handle: Handle) -> Option<u32>
-        ensures { result ≡ map.get self.now.rows handle }
+        ensures value { result ≡ map.get self.now.rows handle }
+        ensures alive { OnSome result (set.contains self.now.allocator.live handle ≡ true) }
     {
         self.slots.row(handle)
     }
@@ -262,8 +272,9 @@ impl Entities {
     /// Keeps a row with a living entity until the entity is freed. It takes the place of the row
     /// that was set before.
     pub fn set_row(&mut self, handle: Handle, row: u32)
-        requires { set.contains self.old.live handle ≡ true }
-        ensures { self.new ≡ after_set_row self.old handle row }
+        requires { set.contains self.old.allocator.live handle ≡ true }
+        ensures row { self.new.rows ≡ map.insert self.old.rows handle row }
+        ensures allocator { self.new.allocator ≡ self.old.allocator }
     {
         self.slots.set_row(handle, row);
     }

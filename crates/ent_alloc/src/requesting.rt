@@ -24,18 +24,21 @@ impl Entities {
     /// top. The floor is from the cursor to the top, at least `-room`, and equal to the cursor if
     /// the cursor is at least `-room`.
     pub fn settle(&mut self, cursor: i64, floor: i64)
-        requires flushed { self.old.asked ≡ 0 }
-        requires least { pos (top self.old) ≤ℤ (cursor +ℤ pos (2 ^ 50)) }
-        requires greatest { floor ≤ℤ pos (top self.old) }
+        requires flushed { self.old.allocator.asked ≡ 0 }
+        requires least { pos (top self.old.allocator) ≤ℤ (cursor +ℤ pos (2 ^ 50)) }
+        requires greatest { floor ≤ℤ pos (top self.old.allocator) }
         requires ordered { cursor ≤ℤ floor }
-        requires reachable { pos 0 ≤ℤ (floor +ℤ pos (self.old.limits.slots - self.old.made)) }
-        requires all_given { pos 0 ≤ℤ (cursor +ℤ pos (self.old.limits.slots - self.old.made))
-            → floor ≡ cursor }
-        ensures settled { self.new
-            ≡ settled self.old (asked_at (top self.old) floor) (asked_at (top self.old) cursor) }
-        ensures requests { let given = asked_at (top self.old) floor in
-            let asked = asked_at (top self.old) cursor in
-            self.new ≡ after_take (after_take self.old given) (asked - given) }
+        requires reachable { let start = self.old.allocator in
+            pos 0 ≤ℤ (floor +ℤ pos (start.limits.slots - start.made)) }
+        requires all_given { let start = self.old.allocator in
+            pos 0 ≤ℤ (cursor +ℤ pos (start.limits.slots - start.made)) → floor ≡ cursor }
+        ensures settled { let start = self.old.allocator in self.new.allocator
+            ≡ settled start (asked_at (top start) floor) (asked_at (top start) cursor) }
+        ensures requests { let start = self.old.allocator in
+            let given = asked_at (top start) floor in
+            let asked = asked_at (top start) cursor in
+            self.new.allocator ≡ after_take (after_take start given) (asked - given) }
+        ensures rows { self.new.rows ≡ self.old.rows }
     {
         let waiting = self.slots.waiting();
         self.requests = Requests {
@@ -53,12 +56,14 @@ impl Entities {
     ///
     /// At most 2^50 handles may be requested between two flushes.
     pub fn lower(&mut self, n: u32) -> Span
-        requires { self.old.asked + n ≤ 2 ^ 50 }
-        ensures span { result ≡ record { high = cursor self.old; low = cursor self.old -ℤ pos n } }
-        ensures step { self.new ≡ after_take self.old n }
+        requires { self.old.allocator.asked + n ≤ 2 ^ 50 }
+        ensures span { let high = cursor self.old.allocator in
+            result ≡ record { high = high; low = high -ℤ pos n } }
+        ensures step { self.new.allocator ≡ after_take self.old.allocator n }
+        ensures rows { self.new.rows ≡ self.old.rows }
 
         // `reply` takes the span.
-        ensures valid { IsSpanOf self.new result }
+        ensures valid { IsSpanOf self.new.allocator result }
     {
         let available = self.available();
         let span = Span::new(self.cursor(), n);
@@ -77,9 +82,10 @@ impl Entities {
     ///
     /// `Space`, with how many were left, if the positions reach past the last slot.
     pub fn reply(&self, span: Span) -> Result<Reserved<'_>, Space>
-        requires { IsSpanOf self.now span }
-        ensures { (n : ℕ) → span.low ≡ span.high -ℤ pos n
-            → result ≡ reply_from self.now.made (pool_at self.now span.high) n }
+        requires { IsSpanOf self.now.allocator span }
+        ensures { let here = self.now.allocator in
+            (n : ℕ) → span.low ≡ span.high -ℤ pos n
+            → result ≡ reply_from here.made (pool_at here span.high) n }
     {
         let Span { high, low } = span;
         if low == high {
@@ -115,8 +121,9 @@ impl Entities {
     /// `Space`, with 1 wanted and 0 left, if the position is that of no slot.
     pub fn reply_one(&self, high: i64) -> Result<Handle, Space>
         requires least { neg_ℤ (pos (2 ^ 60)) ≤ℤ high }
-        requires passed { high ≤ℤ pos (top self.now) }
-        ensures { listed_alone result ≡ reply_from self.now.made (pool_at self.now high) 1 }
+        requires passed { high ≤ℤ pos (top self.now.allocator) }
+        ensures { let here = self.now.allocator in
+            listed_alone result ≡ reply_from here.made (pool_at here high) 1 }
     {
         if high > 0 {
             return Ok(self.slots.pending_at(high as usize - 1));
@@ -132,8 +139,8 @@ impl Entities {
     /// How many handles a request finds that finds the cursor at `high`.
     fn left_below(&self, high: i64) -> u32
         requires least { neg_ℤ (pos (2 ^ 61)) ≤ℤ high }
-        requires passed { high ≤ℤ pos (top self.now) }
-        ensures { result ≡ length (pool_at self.now high) }
+        requires passed { high ≤ℤ pos (top self.now.allocator) }
+        ensures { result ≡ length (pool_at self.now.allocator high) }
     {
         let before = distance(self.slots.waiting(), high);
         self.available().saturating_sub(before) as u32
@@ -141,7 +148,7 @@ impl Entities {
 
     /// How many handles there were to give after the last flush.
     pub(crate) fn available(&self) -> u64
-        ensures value { result ≡ length (available self.now) }
+        ensures value { result ≡ length (available self.now.allocator) }
         ensures fits { result < 2 ^ 32 }
     {
         u64::from(self.slots.waiting()) + u64::from(self.room())

@@ -123,7 +123,8 @@ impl Slots {
 
     /// The row that is kept with an occupant.
     pub(crate) fn row(&self, handle: Handle) -> Option<u32>
-        ensures { result ≡ maps.get self.now.rows handle }
+        ensures value { result ≡ maps.get self.now.rows handle }
+        ensures alive { OnSome result (set.contains self.now.live handle ≡ true) }
     {
         match self.occupancy_of(handle) {
             Some(Occupancy::AliveWithRow { row }) => Some(row),

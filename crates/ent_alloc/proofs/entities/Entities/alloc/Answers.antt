@@ -5,7 +5,7 @@ use Rattle.ent_handle.specs.Handle.{Handle}
 use Rattle.ent_alloc.specs.declared.fault.AllocFault.{AllocFault}
 use Rattle.ent_alloc.specs.declared.fault.AllocFault.TheVariants.{Memory, Space}
 use Rattle.ent_alloc.specs.Roster.{Roster}
-use Rattle.ent_alloc.proofs.Meaning.{IsAtRest, at_rest, top_view}
+use Rattle.ent_alloc.proofs.Meaning.{allocator_is, IsAtRest, at_rest, top_view}
 use Rattle.ent_alloc.proofs.MeaningOfAlloc.{IsGiven, made_roster, length_pool, reused_given}
 use Rattle.ent_alloc.proofs.MeaningOfAlloc.{made_given}
 use Rattle.ent_alloc.proofs.entities.Entities.alloc.Goals.{Else-needs_flush, Then-room-gt0, In-Some}
@@ -13,9 +13,11 @@ use Rattle.ent_alloc.proofs.entities.Entities.alloc.Goals.{In_ok-make_one}
 use Rattle.ent_alloc.proofs.entities.Entities.alloc.Goals as goal
 
 -- nothing is reserved
-rest : (c : Else-needs_flush) → IsAtRest c.self.inside.slots c.self.inside.requests c.args.self.now
-rest c = at_rest c.self.inside.slots c.self.inside.requests c.args.self.now c.needs_flush.result
-    c.self.invariant c.self.view_is c.needs_flush.ensures c.if-needs_flush.false
+rest : (c : Else-needs_flush) → IsAtRest c.self.inside.slots c.self.inside.requests
+    c.args.self.now.allocator
+rest c = at_rest c.self.inside.slots c.self.inside.requests c.args.self.now.allocator
+    c.needs_flush.result c.self.invariant (allocator_is c.self.view_is) c.needs_flush.ensures
+    c.if-needs_flush.false
 
 -- the room is that of the slots, since no slot waited and so nothing has changed
 room_is : (r old : Roster) (room : ℕ) → old ≡ r → room ≡ old.limits.slots - old.made → room
@@ -30,26 +32,31 @@ some_room c =
 
 -- so some handle can be given
 none_left : (c : Then-room-gt0) → IsAtRest c.self.inside.slots c.self.inside.requests
-    c.args.self.now → c.args.self.now.pool ≡ [] → ⊥
+    c.args.self.now.allocator → c.args.self.now.allocator.pool ≡ [] → ⊥
 none_left c rest none =
     let some = some_room c in
-    let long = length_pool c.self.inside.slots c.self.inside.requests c.args.self.now rest in
+    let long = length_pool c.self.inside.slots c.self.inside.requests c.args.self.now.allocator rest
+    in
     absurd (omega (arith, ap length none))
 
 -- the slot that waits last gives its next handle
-reused : (c : In-Some) → IsAtRest c.self.inside.slots c.self.inside.requests c.args.self.now
-    → IsGiven c.self.inside.requests c.args.self.now c.in-Some.handle c.reuse_last.new.self
-reused c rest = reused_given c.self.inside.slots c.self.inside.requests c.args.self.now rest
-    c.in-Some.handle c.in-Some.ensures.last c.reuse_last.new.self c.in-Some.ensures.some
+reused : (c : In-Some) → IsAtRest c.self.inside.slots c.self.inside.requests
+    c.args.self.now.allocator
+    → IsGiven c.self.inside.requests c.args.self.now.allocator c.in-Some.handle
+    c.reuse_last.new.self
+reused c rest = reused_given c.self.inside.slots c.self.inside.requests c.args.self.now.allocator
+    rest c.in-Some.handle c.in-Some.ensures.last c.reuse_last.new.self c.in-Some.ensures.some
 
 -- no slot waits, and one is made
-made : (c : In_ok-make_one) → IsAtRest c.self.inside.slots c.self.inside.requests c.args.self.now
+made : (c : In_ok-make_one) → IsAtRest c.self.inside.slots c.self.inside.requests
+    c.args.self.now.allocator
     → c.self.inside.slots.made < c.self.inside.slots.limits.slots
-    → IsGiven c.self.inside.requests c.args.self.now c.in_ok-make_one.field-0 c.make_one.new.self
+    → IsGiven c.self.inside.requests c.args.self.now.allocator c.in_ok-make_one.field-0
+    c.make_one.new.self
 made c rest room =
     let same = c.in_default.ensures.unchanged in
     let h = c.in_ok-make_one.field-0 in
-    made_given c.self.inside.slots c.self.inside.requests c.args.self.now rest h
+    made_given c.self.inside.slots c.self.inside.requests c.args.self.now.allocator rest h
     (ap length c.in_default.ensures.none) room
     (c.in_ok-make_one.ensures.first
     ∙ ap (λ (x : Roster). record { index = x.made; generation = 1 }) same)
@@ -108,7 +115,8 @@ returns-in_err-make_one-clause-space c =
 pub returns-in_err-make_one-clause-memory : goal.returns-in_err-make_one-clause-memory
 returns-in_err-make_one-clause-memory c =
     λ _. top_view c.self.inside.slots c.self.inside.requests.asked
-    c.self.inside.requests.served c.args.self.now c.self.invariant c.self.view_is
+    c.self.inside.requests.served c.args.self.now.allocator c.self.invariant
+    (allocator_is c.self.view_is)
     ∙ ap length c.in_default.ensures.none
 
 pub returns-else-room-gt0-clause-space : goal.returns-else-room-gt0-clause-space
@@ -117,5 +125,6 @@ returns-else-room-gt0-clause-space c =
     c.in_default.ensures.unchanged c.room.ensures in
     let waits = ap length c.in_default.ensures.none in
     let rest = rest (goal.at.returns-else-room-gt0-clause-space c).Else-needs_flush in
-    let long = length_pool c.self.inside.slots c.self.inside.requests c.args.self.now rest in
-    (λ _. (rest.asked, nil_from_length c.args.self.now.pool (omega arith)), λ _. refl)
+    let long = length_pool c.self.inside.slots c.self.inside.requests c.args.self.now.allocator rest
+    in
+    (λ _. (rest.asked, nil_from_length c.args.self.now.allocator.pool (omega arith)), λ _. refl)

@@ -1,27 +1,30 @@
 use Rattle.std.proofs.Common.{◌≡◌, ◌+◌, ◌-◌, length, sym, ap, ◌∙◌, arith}
 use Rattle.ent_alloc.specs.Sequential.{Allocator, available}
-use Rattle.ent_alloc.proofs.Meaning.{available_is, length-idle}
+use Rattle.ent_alloc.proofs.Meaning.{allocator_is, available_is, length-idle}
 use Rattle.ent_alloc.proofs.entities.Entities.available.Goals as goal
 
 pub returns-clause-value : goal.returns-clause-value
 returns-clause-value c =
     let e = c.self.inside in
+    let s = c.args.self.now.allocator in
     let inv = c.self.invariant in
-    let made : e.slots.made ≡ c.args.self.now.made = ap (λ (s : Allocator). s.made) c.self.view_is
-    in
-    let slots : e.slots.limits.slots ≡ c.args.self.now.limits.slots =
-    ap (λ (s : Allocator). s.limits.slots) c.self.view_is in
-    let all : length (available c.args.self.now) ≡ length e.slots.pending
+    let view = allocator_is c.self.view_is in
+    let made : e.slots.made ≡ s.made = ap (λ (s : Allocator). s.made) view in
+    let slots : e.slots.limits.slots ≡ s.limits.slots =
+    ap (λ (s : Allocator). s.limits.slots) view in
+    let all : length (available s) ≡ length e.slots.pending
     + (e.slots.limits.slots - e.slots.made) =
-    ap (λ (s : Allocator). length (available s)) (sym c.self.view_is)
+    ap (λ (s : Allocator). length (available s)) (sym view)
     ∙ ap length (available_is e.slots e.requests.asked e.requests.served inv.given_least)
     ∙ length-idle e.slots in
     omega arith
 
 pub returns-clause-fits : goal.returns-clause-fits
 returns-clause-fits c =
-    let made : c.self.inside.slots.made ≡ c.args.self.now.made = ap (λ (s : Allocator). s.made)
-    c.self.view_is in
-    let slots : c.self.inside.slots.limits.slots ≡ c.args.self.now.limits.slots =
-    ap (λ (s : Allocator). s.limits.slots) c.self.view_is in
+    let e = c.self.inside in
+    let s = c.args.self.now.allocator in
+    let view = allocator_is c.self.view_is in
+    let made : e.slots.made ≡ s.made = ap (λ (s : Allocator). s.made) view in
+    let slots : e.slots.limits.slots ≡ s.limits.slots =
+    ap (λ (s : Allocator). s.limits.slots) view in
     omega arith

@@ -7,7 +7,7 @@ use Rattle.ent_alloc.specs.Sequential.{Allocator, made_at_flush, after_flush, bo
 use Rattle.ent_alloc.specs.Sound.{IsSound}
 use Rattle.ent_alloc.specs.Entities.{idle}
 use Rattle.ent_alloc.proofs.Soundness.{after_flush-sound}
-use Rattle.ent_alloc.proofs.Meaning.{length-idle, closed, StandFor}
+use Rattle.ent_alloc.proofs.Meaning.{allocator_is, length-idle, closed, StandFor}
 use Rattle.ent_alloc.proofs.MeaningOfFlush.{flushed_roster, made_at_flush_is, flush_is}
 use Rattle.ent_alloc.proofs.MeaningOfFlush.{born_is_listed}
 use Rattle.ent_alloc.proofs.entities.Entities.flush.Goals.{After-fresh-fresh}
@@ -36,33 +36,36 @@ counted c =
 -- the roster that a flush leaves stands for the flushed allocator
 left : (c : After-none-self-inside) → AreCounted (length c.self.inside.slots.pending)
     c.self.inside.requests.served c.kept-kept.result c.fresh-fresh.result
-    → StandFor c.bring_to_life.new.self c.none-self-inside.result (after_flush c.args.self.now)
+    → StandFor c.bring_to_life.new.self c.none-self-inside.result
+    (after_flush c.args.self.now.allocator)
 left c counts =
     let r = c.self.inside.slots in
+    let s = c.args.self.now.allocator in
+    let view = allocator_is c.self.view_is in
     let inv = c.self.invariant in
     closed c.bring_to_life.new.self (flushed_roster r (length r.pending
     - c.self.inside.requests.served) (c.self.inside.requests.served - length r.pending))
-    c.none-self-inside.result (after_flush c.args.self.now)
+    c.none-self-inside.result (after_flush s)
     (c.in_ok-bring_to_life.ensures.ok
     ∙ (λ i. flushed_roster r (counts.kept_is i) (counts.news_is i)))
     c.none-self-inside.ensures
     (flush_is r c.self.inside.requests.asked c.self.inside.requests.served inv.given_least
-    inv.given_in inv.sound ∙ ap after_flush c.self.view_is)
-    (after_flush-sound c.args.self.now (subst IsSound c.self.view_is inv.sound))
+    inv.given_in inv.sound ∙ ap after_flush view)
+    (after_flush-sound s (subst IsSound view inv.sound))
 
 pub returns-in_err-bring_to_life-clause-memory : goal.returns-in_err-bring_to_life-clause-memory
 returns-in_err-bring_to_life-clause-memory c =
     let e = c.self.inside in
     let r = e.slots in
-    let s = c.args.self.now in
+    let s = c.args.self.now.allocator in
     let inv = c.self.invariant in
     let given = e.requests.served in
     let counts = counted (goal.at.returns-in_err-bring_to_life-clause-memory c).After-fresh-fresh in
     let taken : given ≡ length s.taken =
     sym (length-take-le given (idle r) (let enough = inv.given_in in omega (arith, length-idle r)))
-    ∙ ap (λ (s : Allocator). length s.taken) c.self.view_is in
+    ∙ ap (λ (s : Allocator). length s.taken) (allocator_is c.self.view_is) in
     let made : made_at_flush s ≡ given - length r.pending =
-    sym (ap made_at_flush c.self.view_is) ∙ made_at_flush_is r e.requests.asked given
+    sym (ap made_at_flush (allocator_is c.self.view_is)) ∙ made_at_flush_is r e.requests.asked given
     inv.given_least inv.given_in inv.sound in
     anyhow c.from_residual.result ((0 < made_at_flush s)
     ⊎ (vec_capacity c.args.out.now < vec_len c.args.out.now + length s.taken))
@@ -92,4 +95,4 @@ returns-clause-born c =
     ((λ i. fresh r.made (counts.news_is i) ++ drop (counts.kept_is i) r.pending)
     ∙ sym (born_is_listed r e.requests.asked e.requests.served inv.given_least inv.given_in
     inv.sound)
-    ∙ ap born c.self.view_is)
+    ∙ ap born (allocator_is c.self.view_is))

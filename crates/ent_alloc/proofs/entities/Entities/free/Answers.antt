@@ -4,7 +4,7 @@ use Rattle.ent_alloc.specs.Limits.{Limits}
 use Rattle.ent_alloc.specs.Sequential.{Allocator, after_free}
 use Rattle.ent_alloc.specs.Entities.{allocator_of}
 use Rattle.ent_alloc.proofs.Soundness.{after_free-sound}
-use Rattle.ent_alloc.proofs.Meaning.{IsAtRest, at_rest, closed, StandFor}
+use Rattle.ent_alloc.proofs.Meaning.{allocator_is, IsAtRest, at_rest, closed, StandFor}
 use Rattle.ent_alloc.proofs.MeaningOfAlloc.{freed_roster, free_is, retired_roster, retire_is}
 use Rattle.ent_alloc.specs.Roster.{Roster}
 use Rattle.ent_alloc.proofs.entities.Entities.free.Goals.{Else-needs_flush, Else-not-is_alive}
@@ -12,21 +12,23 @@ use Rattle.ent_alloc.proofs.entities.Entities.free.Goals.{Else-generation-genera
 use Rattle.ent_alloc.proofs.entities.Entities.free.Goals as goal
 
 -- nothing is reserved
-rest : (c : Else-needs_flush) → IsAtRest c.self.inside.slots c.self.inside.requests c.args.self.now
-rest c = at_rest c.self.inside.slots c.self.inside.requests c.args.self.now c.needs_flush.result
-    c.self.invariant c.self.view_is c.needs_flush.ensures c.if-needs_flush.false
+rest : (c : Else-needs_flush) → IsAtRest c.self.inside.slots c.self.inside.requests
+    c.args.self.now.allocator
+rest c = at_rest c.self.inside.slots c.self.inside.requests c.args.self.now.allocator
+    c.needs_flush.result c.self.invariant (allocator_is c.self.view_is) c.needs_flush.ensures
+    c.if-needs_flush.false
 
 freed_is : (c : Else-needs_flush) → c.args.handle.generation ≢
     c.self.inside.slots.limits.generations
     → allocator_of (freed_roster c.self.inside.slots c.args.handle) 0 0
-    ≡ after_free c.args.self.now c.args.handle
+    ≡ after_free c.args.self.now.allocator c.args.handle
 freed_is c before = free_is c.self.inside.slots c.args.handle before
     ∙ ap (λ s. after_free s c.args.handle) (rest c).view
 
 retired_is : (c : Else-needs_flush) → c.args.handle.generation
     ≡ c.self.inside.slots.limits.generations
     → allocator_of (retired_roster c.self.inside.slots c.args.handle) 0 0
-    ≡ after_free c.args.self.now c.args.handle
+    ≡ after_free c.args.self.now.allocator c.args.handle
 retired_is c last = retire_is c.self.inside.slots c.args.handle last
     ∙ ap (λ s. after_free s c.args.handle) (rest c).view
 
@@ -37,19 +39,20 @@ not_last c last = c.if-generation-generations.false (c.generation.ensures ∙ la
     ∙ sym (ap (λ (l : Limits). l.generations) c.limits.ensures) ∙ sym c.generations.ensures)
 
 -- the handle lives
-lives : (c : Else-not-is_alive) → sets.contains c.args.self.now.live c.args.handle ≡ true
-lives c = sym (ap (λ (s : Allocator). sets.contains s.live c.args.handle) c.self.view_is)
+lives : (c : Else-not-is_alive) → sets.contains c.args.self.now.allocator.live c.args.handle ≡ true
+lives c =
+    sym (ap (λ (s : Allocator). sets.contains s.live c.args.handle) (allocator_is c.self.view_is))
     ∙ sym c.is_alive.ensures ∙ c.if-not-is_alive.false
 
 -- the roster that this leaves stands for what is freed
 left : (c : Else-not-is_alive) (new after : Roster)
-    → IsAtRest c.self.inside.slots c.self.inside.requests c.args.self.now → new ≡ after
-    → allocator_of after 0 0 ≡ after_free c.args.self.now c.args.handle
-    → StandFor new c.self.inside.requests (after_free c.args.self.now c.args.handle)
+    → IsAtRest c.self.inside.slots c.self.inside.requests c.args.self.now.allocator → new ≡ after
+    → allocator_of after 0 0 ≡ after_free c.args.self.now.allocator c.args.handle
+    → StandFor new c.self.inside.requests (after_free c.args.self.now.allocator c.args.handle)
 left c new after rest same is =
-    closed new after c.self.inside.requests (after_free c.args.self.now c.args.handle) same
-    rest.requests_is is
-    (after_free-sound c.args.self.now c.args.handle rest.sound rest.asked (lives c))
+    let s = c.args.self.now.allocator in
+    closed new after c.self.inside.requests (after_free s c.args.handle) same rest.requests_is is
+    (after_free-sound s c.args.handle rest.sound rest.asked (lives c))
 
 pub invariant_of-self : goal.invariant_of-self
 invariant_of-self c =

@@ -5,6 +5,7 @@ use Rattle.ent_alloc.specs.Limits.{Limits}
 use Rattle.ent_alloc.specs.Sequential.{pool_at, reply_from}
 use Rattle.ent_alloc.specs.Entities.{beneath}
 use Rattle.ent_alloc.proofs.FreshHandles.{fresh-none}
+use Rattle.ent_alloc.proofs.Meaning.{allocator_is}
 use Rattle.ent_alloc.proofs.MeaningOfReplies.{reply_none}
 use Rattle.ent_alloc.proofs.OneReply.{IsBelowTop, below_top, replied, several, short_of, left_is}
 use Rattle.ent_alloc.proofs.OneReply.{served, served_in_range, IsServed}
@@ -15,7 +16,8 @@ use Rattle.ent_alloc.proofs.entities.Entities.reply.Goals as goal
 -- where the span lies
 lies : (c : After-self) → IsBelowTop c.self.inside.slots c.args.span.high
 lies c = below_top c.self.inside.slots c.self.inside.requests.asked c.self.inside.requests.served
-    c.args.self.now c.args.span.high c.self.invariant c.self.view_is c.requires.passed
+    c.args.self.now.allocator c.args.span.high c.self.invariant (allocator_is c.self.view_is)
+    c.requires.passed
 
 -- how many slots may be made
 slots_is : (c : After-slots) → c.slots.result ≡ c.self.inside.slots.limits.slots
@@ -25,9 +27,10 @@ slots_is c = c.slots.ensures ∙ ap (λ (l : Limits). l.slots) c.limits.ensures
 lists : (c : After-self) (n position end index index_end : ℕ)
     → IsServed c.self.inside.slots c.args.span.high n position end index index_end
     → Ok (reserved_handles c.self.inside.slots position end index index_end)
-    ≡ reply_from c.args.self.now.made (pool_at c.args.self.now c.args.span.high) n
+    ≡ reply_from c.args.self.now.allocator.made
+    (pool_at c.args.self.now.allocator c.args.span.high) n
 lists c = several c.self.inside.slots c.self.inside.requests.asked c.self.inside.requests.served
-    c.args.span.high c.args.self.now c.self.invariant c.self.view_is
+    c.args.span.high c.args.self.now.allocator c.self.invariant (allocator_is c.self.view_is)
 
 pub returns-then-low-high : goal.returns-then-low-high
 returns-then-low-high c =
@@ -37,8 +40,8 @@ returns-then-low-high c =
     let none : n ≡ 0 = (let same = c.if-low-high.true in omega (arith, ints)) in
     ap Ok (c.new.ensures ∙ fresh-none 0) ∙ reply_none e.slots
     (beneath e.slots c.args.span.high) n none
-    ∙ replied e.slots e.requests.asked e.requests.served c.args.span.high c.args.self.now
-    c.self.invariant c.self.view_is n
+    ∙ replied e.slots e.requests.asked e.requests.served c.args.span.high c.args.self.now.allocator
+    c.self.invariant (allocator_is c.self.view_is) n
 
 pub new-requires-then-low-ge0 : goal.new-requires-then-low-ge0
 new-requires-then-low-ge0 c =
@@ -64,12 +67,12 @@ returns-then-index_end-from c =
     let slots = slots_is (goal.at.returns-then-index_end-from c).After-slots in
     let word : to_z w64 (of_z w64 c.args.span.high) ≡ c.args.span.high = omega (arith, ints) in
     λ n requested.
-    short_of e.slots e.requests.asked e.requests.served c.args.span.high c.args.self.now
-    c.self.invariant c.self.view_is n _ _
+    short_of e.slots e.requests.asked e.requests.served c.args.span.high c.args.self.now.allocator
+    c.self.invariant (allocator_is c.self.view_is) n _ _
     (omega (arith, ints)) (omega (arith, ints)) (omega (arith, ints))
-    (c.left_below.ensures ∙ (λ i. length (pool_at c.args.self.now (word i)))
-    ∙ left_is e.slots e.requests.asked e.requests.served c.args.span.high c.args.self.now
-    c.self.invariant c.self.view_is)
+    (c.left_below.ensures ∙ (λ i. length (pool_at c.args.self.now.allocator (word i)))
+    ∙ left_is e.slots e.requests.asked e.requests.served c.args.span.high c.args.self.now.allocator
+    c.self.invariant (allocator_is c.self.view_is))
 
 pub new-requires-then-high-gt0 : goal.new-requires-then-high-gt0
 new-requires-then-high-gt0 c =

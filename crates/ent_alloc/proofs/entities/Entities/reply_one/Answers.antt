@@ -3,6 +3,7 @@ use Rattle.std.proofs.Common.{to_z, of_z, w64}
 use Rattle.std.proofs.lemmas.Int.{ints}
 use Rattle.ent_handle.specs.Handle.{Handle}
 use Rattle.ent_alloc.specs.Limits.{Limits}
+use Rattle.ent_alloc.proofs.Meaning.{allocator_is}
 use Rattle.ent_alloc.proofs.OneReply.{IsBelowTop, below_top, one_pending, one_fresh, one_refused}
 use Rattle.ent_alloc.proofs.entities.Entities.reply_one.Goals.{After-self, After-slots}
 use Rattle.ent_alloc.proofs.entities.Entities.reply_one.Goals as goal
@@ -10,7 +11,8 @@ use Rattle.ent_alloc.proofs.entities.Entities.reply_one.Goals as goal
 -- where the position lies
 lies : (c : After-self) → IsBelowTop c.self.inside.slots c.args.high
 lies c = below_top c.self.inside.slots c.self.inside.requests.asked c.self.inside.requests.served
-    c.args.self.now c.args.high c.self.invariant c.self.view_is c.requires.passed
+    c.args.self.now.allocator c.args.high c.self.invariant (allocator_is c.self.view_is)
+    c.requires.passed
 
 -- how many slots may be made
 slots_is : (c : After-slots) → c.slots.result ≡ c.self.inside.slots.limits.slots
@@ -20,9 +22,9 @@ pub returns-then-high-gt0 : goal.returns-then-high-gt0
 returns-then-high-gt0 c =
     let e = c.self.inside in
     let at = lies (goal.at.returns-then-high-gt0 c).After-self in
-    one_pending e.slots e.requests.asked e.requests.served c.args.high c.args.self.now
-    c.self.invariant c.self.view_is c.pending_at.result _ (omega (arith, ints)) at.within
-    c.pending_at.ensures
+    one_pending e.slots e.requests.asked e.requests.served c.args.high c.args.self.now.allocator
+    c.self.invariant (allocator_is c.self.view_is) c.pending_at.result _ (omega (arith, ints))
+    at.within c.pending_at.ensures
 
 pub returns-then-index-from : goal.returns-then-index-from
 returns-then-index-from c =
@@ -30,8 +32,9 @@ returns-then-index-from c =
     let at = lies (goal.at.returns-then-index-from c).After-self in
     let slots = slots_is (goal.at.returns-then-index-from c).After-slots in
     ap (λ (h : Handle). Ok (h ∷ [])) c.first_occupant.ensures
-    ∙ one_fresh e.slots e.requests.asked e.requests.served c.args.high c.args.self.now
-    c.self.invariant c.self.view_is _ at.within (omega (arith, ints)) (omega arith) (omega arith)
+    ∙ one_fresh e.slots e.requests.asked e.requests.served c.args.high c.args.self.now.allocator
+    c.self.invariant (allocator_is c.self.view_is) _ at.within (omega (arith, ints)) (omega arith)
+    (omega arith)
 
 pub returns-else-index-from : goal.returns-else-index-from
 returns-else-index-from c =
@@ -40,6 +43,6 @@ returns-else-index-from c =
     let slots = slots_is (goal.at.returns-else-index-from c).After-slots in
     let index : ℕ = c.from.result
     + nat_abs (to_z w64 (of_z w64 (pos 0 -ℤ to_z w64 (of_z w64 c.args.high)))) in
-    one_refused e.slots e.requests.asked e.requests.served c.args.high c.args.self.now
-    c.self.invariant c.self.view_is index at.within (omega (arith, ints)) (omega arith)
-    (omega arith)
+    one_refused e.slots e.requests.asked e.requests.served c.args.high c.args.self.now.allocator
+    c.self.invariant (allocator_is c.self.view_is) index at.within (omega (arith, ints))
+    (omega arith) (omega arith)

@@ -2,34 +2,34 @@ use Rattle.std.proofs.Common.{◌≡◌, ◌+◌, sym, ap, subst, ◌∙◌, ari
 use Rattle.std.specs.FinSet as set
 use Rattle.ent_alloc.specs.Sequential.{Allocator, top, retired}
 use Rattle.ent_alloc.specs.Sound.{IsSound}
-use Rattle.ent_alloc.proofs.Meaning.{top_view}
+use Rattle.ent_alloc.proofs.Meaning.{allocator_is, top_view}
 use Rattle.ent_alloc.proofs.Retired.{retired-rest}
 use Rattle.ent_alloc.proofs.entities.Entities.retired.Goals.{After-waiting}
 use Rattle.ent_alloc.proofs.entities.Entities.retired.Goals as goal
 
 -- the slots, counted
-counted : (c : After-waiting) → (c.live.result ≡ set.len c.args.self.now.live)
-    × (c.waiting.result ≡ top c.args.self.now) × (c.total.result ≡ c.args.self.now.made)
-    × (retired c.args.self.now + (set.len c.args.self.now.live + top c.args.self.now)
-    ≡ c.args.self.now.made)
+counted : (c : After-waiting) → let s = c.args.self.now.allocator in
+    (c.live.result ≡ set.len s.live) × (c.waiting.result ≡ top s) × (c.total.result ≡ s.made)
+    × (retired s + (set.len s.live + top s) ≡ s.made)
 counted c =
     let e = c.self.inside in
-    let s = c.args.self.now in (
-      c.live.ensures ∙ ap (λ (t : Allocator). set.len t.live) c.self.view_is,
+    let s = c.args.self.now.allocator in
+    let view = allocator_is c.self.view_is in (
+      c.live.ensures ∙ ap (λ (t : Allocator). set.len t.live) view,
       c.waiting.ensures.value
-          ∙ sym (top_view e.slots e.requests.asked e.requests.served s c.self.invariant
-          c.self.view_is),
+          ∙ sym (top_view e.slots e.requests.asked e.requests.served s c.self.invariant view),
       c.total.ensures,
-      retired-rest s (subst IsSound c.self.view_is c.self.invariant.sound),
+      retired-rest s (subst IsSound view c.self.invariant.sound),
     )
 
 pub overflow_sub-result : goal.overflow_sub-result
 overflow_sub-result c =
     let e = c.self.inside in
-    let s = c.args.self.now in
-    let live = c.live.ensures ∙ ap (λ (t : Allocator). set.len t.live) c.self.view_is in
+    let s = c.args.self.now.allocator in
+    let view = allocator_is c.self.view_is in
+    let live = c.live.ensures ∙ ap (λ (t : Allocator). set.len t.live) view in
     let made = c.total.ensures in
-    let all = retired-rest s (subst IsSound c.self.view_is c.self.invariant.sound) in
+    let all = retired-rest s (subst IsSound view c.self.invariant.sound) in
     omega arith
 
 pub overflow_sub-result-2 : goal.overflow_sub-result-2

@@ -3,23 +3,23 @@ use Rattle.std.proofs.lemmas.Int.{ints}
 use Rattle.ent_alloc.specs.Sequential.{top, asked_at, settled, Allocator}
 use Rattle.ent_alloc.specs.Sound.{IsSound}
 use Rattle.ent_alloc.proofs.Settled.{length-all, settled-requests}
-use Rattle.ent_alloc.proofs.Meaning.{asked_at-is, top_view}
+use Rattle.ent_alloc.proofs.Meaning.{allocator_is, asked_at-is, top_view}
 use Rattle.ent_alloc.proofs.MeaningOfRequests.{settled_view, settled_reserved}
 use Rattle.ent_alloc.proofs.entities.Entities.settle.Goals.{After-self, After-distance-2}
 use Rattle.ent_alloc.proofs.entities.Entities.settle.Goals as goal
 
 -- the top, by the vectors
-tops : (c : After-self) → top c.args.self.now ≡ length c.self.inside.slots.pending
+tops : (c : After-self) → top c.args.self.now.allocator ≡ length c.self.inside.slots.pending
 tops c = top_view c.self.inside.slots c.self.inside.requests.asked c.self.inside.requests.served
-    c.args.self.now c.self.invariant c.self.view_is
+    c.args.self.now.allocator c.self.invariant (allocator_is c.self.view_is)
 
 -- the two distances are how much was asked for, and how much of it given
 record AreAsked (top : ℕ) (cursor floor : ℤ) (asked given : ℕ) : Type 0 where
   asks_is : asked ≡ asked_at top cursor
   gives_is : given ≡ asked_at top floor
 
-asked : (c : After-distance-2) → top c.args.self.now ≡ length c.self.inside.slots.pending
-    → AreAsked (top c.args.self.now) c.args.cursor c.args.floor c.distance.result
+asked : (c : After-distance-2) → top c.args.self.now.allocator ≡ length c.self.inside.slots.pending
+    → AreAsked (top c.args.self.now.allocator) c.args.cursor c.args.floor c.distance.result
     c.distance-2.result
 asked c tops =
     let at : to_z w64 (of_z w64 c.args.cursor) ≡ c.args.cursor = omega (arith, ints) in
@@ -38,18 +38,19 @@ distance-requires-2-clause-passed c =
 pub invariant_of-self : goal.invariant_of-self
 invariant_of-self c =
     let e = c.self.inside in
+    let s = c.args.self.now.allocator in
+    let view = allocator_is c.self.view_is in
     let tops = tops (goal.at.invariant_of-self c).After-self in
     let both = asked (goal.at.invariant_of-self c).After-distance-2 tops in
-    let gives = asked_at-is (top c.args.self.now) c.args.floor c.requires.greatest in
-    let asks = asked_at-is (top c.args.self.now) c.args.cursor (omega (arith, ints)) in
-    let made : e.slots.made ≡ c.args.self.now.made = ap (λ (s : Allocator). s.made) c.self.view_is
-    in
-    let slots : e.slots.limits.slots ≡ c.args.self.now.limits.slots =
-    ap (λ (s : Allocator). s.limits.slots) c.self.view_is in
-    settled_reserved e.slots e.requests.asked e.requests.served c.args.self.now c.self.invariant
-    c.self.view_is c.requires.flushed c.distance.result c.distance-2.result (omega (arith, ints))
+    let gives = asked_at-is (top s) c.args.floor c.requires.greatest in
+    let asks = asked_at-is (top s) c.args.cursor (omega (arith, ints)) in
+    let made : e.slots.made ≡ s.made = ap (λ (s : Allocator). s.made) view in
+    let slots : e.slots.limits.slots ≡ s.limits.slots =
+    ap (λ (s : Allocator). s.limits.slots) view in
+    settled_reserved e.slots e.requests.asked e.requests.served s c.self.invariant view
+    c.requires.flushed c.distance.result c.distance-2.result (omega (arith, ints))
     (omega (arith, ints)) (omega (arith, ints))
-    (λ within. both.gives_is ∙ ap (asked_at (top c.args.self.now))
+    (λ within. both.gives_is ∙ ap (asked_at (top s))
     (c.requires.all_given (omega (arith, ints))) ∙ sym both.asks_is)
 
 pub returns-clause-settled : goal.returns-clause-settled
@@ -57,14 +58,15 @@ returns-clause-settled c =
     let e = c.self.inside in
     let tops = tops (goal.at.returns-clause-settled c).After-self in
     let both = asked (goal.at.returns-clause-settled c).After-distance-2 tops in
-    settled_view e.slots e.requests.asked e.requests.served c.args.self.now c.self.invariant
-    c.self.view_is c.requires.flushed c.distance.result c.distance-2.result
-    ∙ (λ i. settled c.args.self.now (both.gives_is i) (both.asks_is i))
+    let s = c.args.self.now.allocator in
+    settled_view e.slots e.requests.asked e.requests.served s c.self.invariant
+    (allocator_is c.self.view_is) c.requires.flushed c.distance.result c.distance-2.result
+    ∙ (λ i. settled s (both.gives_is i) (both.asks_is i))
 
 pub returns-clause-requests : goal.returns-clause-requests
 returns-clause-requests c =
-    let s = c.args.self.now in
-    let sound : IsSound s = subst IsSound c.self.view_is c.self.invariant.sound in
+    let s = c.args.self.now.allocator in
+    let sound : IsSound s = subst IsSound (allocator_is c.self.view_is) c.self.invariant.sound in
     let greatest = c.requires.greatest in
     let ordered = c.requires.ordered in
     let reachable = c.requires.reachable in

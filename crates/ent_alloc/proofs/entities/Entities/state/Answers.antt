@@ -9,6 +9,7 @@ use Rattle.ent_alloc.specs.Roster.{Roster}
 use Rattle.ent_alloc.specs.Slots.{is_alive, is_pending_from}
 use Rattle.ent_alloc.specs.Entities.{allocator_of, AreReserved}
 use Rattle.ent_alloc.proofs.Looked.{fresh_no}
+use Rattle.ent_alloc.proofs.Meaning.{allocator_is}
 use Rattle.ent_alloc.proofs.MeaningOfFlush.{stands_in_taken}
 use Rattle.ent_alloc.proofs.entities.Entities.state.Goals as goal
 use Rattle.ent_alloc.proofs.entities.Entities.state.Goals.{in-Some-Pending, in-Some-Retired}
@@ -31,7 +32,7 @@ told s r asked given h inv view reserved dead is test =
 
 -- the test of the code, whichever branch made it
 told_by : (c : Joined-occupancy_of) → {b : Bool} → c.match-occupancy_of.reserved ≡ b
-    → cond b Reserved Gone ≡ state_of c.args.self.now c.args.handle
+    → cond b Reserved Gone ≡ state_of c.args.self.now.allocator c.args.handle
 told_by c {b} test =
     let e = c.self.inside in
     let r = e.slots in
@@ -39,8 +40,9 @@ told_by c {b} test =
     let by_test = λ (dead : sets.contains r.live c.args.handle ≡ false)
     (is : c.match-occupancy_of.reserved ≡ (stands_in (drop (length r.pending - e.requests.served)
     r.pending) c.args.handle || stands_in (fresh r.made (e.requests.served - length r.pending))
-    c.args.handle)). told c.args.self.now r e.requests.asked e.requests.served c.args.handle inv
-    c.self.view_is c.match-occupancy_of.reserved dead is {b = b} test in
+    c.args.handle)). told c.args.self.now.allocator r e.requests.asked e.requests.served
+    c.args.handle inv (allocator_is c.self.view_is) c.match-occupancy_of.reserved dead is
+    {b = b} test in
     elim c.match-occupancy_of.branch [
       | in-Some-Pending w ↦
           (let field = w.in-Some-Pending.field-0 in
