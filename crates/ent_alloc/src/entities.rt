@@ -211,7 +211,7 @@ impl Entities {
     }
 
     /// Brings to life what is reserved, and appends it to `out`: first the fresh handles, then the
-    /// reused ones. What a refused request passed over can be given again. If nothing is reserved
+    /// old ones. What a refused request passed over can be given again. If nothing is reserved
     /// it appends nothing.
     ///
     /// # Errors

@@ -57,7 +57,7 @@ pub extern "C" fn ent_rust_request(alloc: Global, object: &mut Object) -> Answer
 }
 
 /// `Entities::flush`. The list must have room for as many handles as are reserved, no more and no
-/// less, and gets those that come to life: first the fresh ones, then the reused ones.
+/// less, and gets those that come to life: first the fresh ones, then the old ones.
 #[unsafe(no_mangle)]
 pub extern "C" fn ent_rust_flush(alloc: Global, object: &mut Object, list: &mut [Pair]) -> u32
     ensures flushed { result ≡ done
