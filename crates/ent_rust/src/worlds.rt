@@ -1,5 +1,6 @@
 //! A world on one thread: its entities come and go at once.
-ghost use Rattle.std.specs.Prelude.{◌≡◌, ◌≢◌, ◌<◌, ◌↔◌, ◌⊎◌, [], ◌∷◌, None, Some, IsSome, IsTrue, length};
+ghost use Rattle.std.specs.Prelude.{◌≡◌, ◌≢◌, ◌<◌, ◌↔◌, ◌⊎◌, [], ◌∷◌, None, Some, IsSome, IsTrue};
+ghost use Rattle.std.specs.Prelude.{length};
 ghost use Rattle.std.specs.Prelude.{slice_get, false};
 ghost use Rattle.ent_handle.specs.Handle.{IsHandle};
 ghost use Rattle.ent_alloc.specs.Limits.{AreLimits};

@@ -6,7 +6,8 @@ use lib.Dec.{T, lit<}
 use base.Logic.{SProp, ent, id⊢}
 use base.Fml.{ftrue, fsep}
 use prog.Wp.{WpFn}
-use types.Kit.{‵, raw, ◌⊛◌, ◌$◌, ◌∵◌, !, qed, move, drop, use1, join, split, fsplit, fjoin, fpack, feq_i, suffices, done}
+use types.Kit.{‵, raw, ◌⊛◌, ◌$◌, ◌∵◌, !, qed, move, drop, use1, join, split, fsplit, fjoin, fpack}
+use types.Kit.{feq_i, suffices, done}
 use types.Part.{agg}
 use types.Run.{no_more, and_then, lit, returns, enter}
 use types.ByLocal.{alloc_all, pass_all, free_all, look_at, get, sets}
@@ -39,23 +40,31 @@ stayed = (stay_dropped FromGlobal yes, tt)
 
 pub empty_spec : {M : Type 1} → statement M
 empty_spec 𝓤 𝓛 𝓜 𝓡 wired =
-    let H = 𝓛.H in let 𝓣 = tables 𝓤 H 𝓜 𝓡 𝓡.env in let c = clauses 𝓛 𝓜.mem 𝓡.returns in let fn = code.function in
+    let H = 𝓛.H in let 𝓣 = tables 𝓤 H 𝓜 𝓡 𝓡.env in let c = clauses 𝓛 𝓜.mem 𝓡.returns in
+    let fn = code.function in
     proved_at 𝓛 ended stayed c 𝓜 𝓡 (Goes-dropped 𝓛 0 FromGlobal yes (λ κs x f. refl), tt)
     #self fn (code.unfolded 𝓤 H 𝓜 𝓡 wired) (λ z are.
     let a = z.0.3.0 in
     let made : the_row.Denot = record { at = null_ptr; alloc = a; holds = None } in
     let Post = (walk_of 𝓛 ended stayed c).post z in
     let Run : List Val → SProp 𝓤 = λ ws. WpFn 𝓤 H 𝓣.C 𝓣.Λ fn ws Post in
-    qed 𝓛 ((‵ ftrue ⊛ ‵ (fsep (global.the_row.own_val a z.0.4.0) ftrue)) ∷ raw ((c z.0.0 z.0.3).requires z.1) ∷ []) ∵
+    qed 𝓛 ((‵ ftrue ⊛ ‵ (fsep (global.the_row.own_val a z.0.4.0) ftrue)) ∷ raw
+    ((c z.0.0 z.0.3).requires z.1) ∷ []) ∵
     split ! $ drop ! $ fsplit ! $ handle_tells E.al ! a z.0.4.0 (λ h ws fits.
-    suffices ! (Run (h ∷ [])) (subst (λ (us : List Val). ent 𝓤 (Run (h ∷ [])) (Run us)) (sym (λ i. ws i ++ [])) (id⊢ 𝓤 (Run (h ∷ [])))) $
+    suffices ! (Run (h ∷ []))
+    (subst (λ (us : List Val). ent 𝓤 (Run (h ∷ [])) (Run us)) (sym (λ i. ws i ++ []))
+    (id⊢ 𝓤 (Run (h ∷ [])))) $
     move ! (1 ∷ 2 ∷ []) $ drop ! $ drop ! $
     let w = both (ptr_val null_ptr) h in
-    let typed : T (has_ty (layout the_row) w) × WT w = (and_tt (has_ty (layout global.the_row) h) fits.0, (record { fits = lit< tt }, (fits.1, tt))) in
+    let typed : T (has_ty (layout the_row) w) × WT w =
+    (and_tt (has_ty (layout global.the_row) h) fits.0, (record { fits = lit< tt }, (fits.1, tt))) in
     -- [the handle]
-    nothing ! $ nothing ! $ move ! (2 ∷ 0 ∷ []) $ fjoin ! $ feq_i ! (List Val) (ptr_val null_ptr ∷ []) (ptr_val null_ptr ∷ []) refl $ fjoin ! $
+    nothing ! $ nothing ! $ move ! (2 ∷ 0 ∷ []) $ fjoin ! $
+    feq_i ! (List Val) (ptr_val null_ptr ∷ []) (ptr_val null_ptr ∷ []) refl $ fjoin ! $
     feq_i ! (List Val) (w ∷ []) (w ∷ []) refl $ fjoin ! $
-    fpack ! (Valss (RawPtr ∷ global.the_row ∷ [])) (within (shape the_type) (null_ptr, (((tt, tt), tt), tt)) (w ∷ [])) (ptr_val null_ptr ∷ [], (h ∷ [], tt)) $ fjoin ! $
+    fpack ! (Valss (RawPtr ∷ global.the_row ∷ []))
+    (within (shape the_type) (null_ptr, (((tt, tt), tt), tt)) (w ∷ []))
+    (ptr_val null_ptr ∷ [], (h ∷ [], tt)) $ fjoin ! $
     use1 𝓛 (‵ (the_row.own_val made (w ∷ []))) (id⊢ 𝓤 _) $
     enter ! 𝓣.C 𝓣.Λ fn (h ∷ []) Post $ alloc_all ! (λ l. pass_all ! refl (fits, tt) $
     sets ! (agg ! (and_then ! (lit ! tt) (and_then ! (get ! refl) (no_more !)))) refl typed $

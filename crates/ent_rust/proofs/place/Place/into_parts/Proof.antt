@@ -6,7 +6,8 @@ use mir.Val.{Val}
 use base.Logic.{SProp, ent, id⊢}
 use base.Fml.{Fml, ftrue, fsep}
 use prog.Wp.{WpFn}
-use types.Kit.{‵, raw, ◌⊛◌, ◌$◌, ◌∵◌, !, qed, move, drop, use1, join, split, fsplit, fjoin, suffices, rewrite, done}
+use types.Kit.{‵, raw, ◌⊛◌, ◌$◌, ◌∵◌, !, qed, move, drop, use1, join, split, fsplit, fjoin}
+use types.Kit.{suffices, rewrite, done}
 use types.Part.{whole, sub, agg}
 use types.Run.{stop, fld, no_more, and_then, of_opd, returns, enter}
 use types.ByLocal.{alloc_all, pass_all, free_all, look_at, get, get_in, sets}
@@ -43,29 +44,38 @@ Made = parts.the_row held.the_row global.the_row ghosts
 
 pub into_parts_spec : {M : Type 1} → statement M
 into_parts_spec 𝓤 𝓛 𝓜 𝓡 wired =
-    let H = 𝓛.H in let 𝓣 = tables 𝓤 H 𝓜 𝓡 𝓡.env in let c = clauses 𝓛 𝓜.mem 𝓡.returns in let fn = code.function in
+    let H = 𝓛.H in let 𝓣 = tables 𝓤 H 𝓜 𝓡 𝓡.env in let c = clauses 𝓛 𝓜.mem 𝓡.returns in
+    let fn = code.function in
     proved_at 𝓛 ended stayed c 𝓜 𝓡 (Goes-dropped 𝓛 0 FromPlace yes (λ κs x f. refl), tt)
     #self fn (code.unfolded 𝓤 H 𝓜 𝓡 wired) (λ z are.
     let Post = (walk_of 𝓛 ended stayed c).post z in
     let Run : List Val → SProp 𝓤 = λ ws. WpFn 𝓤 H 𝓣.C 𝓣.Λ fn ws Post in
-    let Of : Option Seen → Fml = λ holds. the_row.own_val (record z.0.3.0 { holds = holds }) z.0.4.0 in
-    qed 𝓛 ((‵ ftrue ⊛ ‵ (fsep (the_row.own_val z.0.3.0 z.0.4.0) ftrue)) ∷ raw (fact 𝓤 (IsSome z.0.3.0.holds)) ∷ []) ∵
-    move ! (1 ∷ []) $ heard ! (IsSome z.0.3.0.holds) (λ some. let found = what_is_some z.0.3.0.holds some in
+    let Of : Option Seen → Fml = λ holds. the_row.own_val
+    (record z.0.3.0 { holds = holds }) z.0.4.0 in
+    qed 𝓛 ((‵ ftrue ⊛ ‵ (fsep (the_row.own_val z.0.3.0 z.0.4.0) ftrue)) ∷ raw
+    (fact 𝓤 (IsSome z.0.3.0.holds)) ∷ []) ∵
+    move ! (1 ∷ []) $ heard ! (IsSome z.0.3.0.holds)
+    (λ some. let found = what_is_some z.0.3.0.holds some in
     let d : D E = record { ptr = z.0.3.0.at; alloc = z.0.3.0.alloc; value = found.0 } in
     let made : Made.Denot = record { at = d.ptr; alloc = d.alloc; value = d.value } in
     split ! $ drop ! $ fsplit ! $
     -- a place that is full with this value owns what the box owns
-    rewrite ! 0 (λ (holds : Option Seen). ‵ (Of holds)) found.1 refl $ use1 𝓛 (‵ ((B E).own_val d z.0.4.0)) (id⊢ 𝓤 _) $ nothing ! $
+    rewrite ! 0 (λ (holds : Option Seen). ‵ (Of holds)) found.1 refl $
+    use1 𝓛 (‵ ((B E).own_val d z.0.4.0)) (id⊢ 𝓤 _) $ nothing ! $
     move ! (1 ∷ 2 ∷ 0 ∷ []) $ box_out E ! d z.0.4.0 (λ b o h e ws fits.
     let w = word E h b o in
     box_in E ! d b o d.value e refl $ use1 𝓛 (‵ (Made.own_val made (w ∷ []))) (id⊢ 𝓤 _) $
-    suffices ! (Run (w ∷ [])) (subst (λ (us : List Val). ent 𝓤 (Run (w ∷ [])) (Run us)) (sym (λ i. ws i ++ [])) (id⊢ 𝓤 (Run (w ∷ [])))) $
+    suffices ! (Run (w ∷ []))
+    (subst (λ (us : List Val). ent 𝓤 (Run (w ∷ [])) (Run us)) (sym (λ i. ws i ++ []))
+    (id⊢ 𝓤 (Run (w ∷ [])))) $
     move ! (1 ∷ 2 ∷ []) $ drop ! $ drop ! $
-    enter ! 𝓣.C 𝓣.Λ fn (w ∷ []) Post $ alloc_all ! (λ l. pass_all ! refl (box_typed E h b o fits, tt) $
+    enter ! 𝓣.C 𝓣.Λ fn (w ∷ []) Post $
+    alloc_all ! (λ l. pass_all ! refl (box_typed E h b o fits, tt) $
     sets ! (of_opd ! (get_in ! (fld ! refl (stop !)) (sub ! 0 refl (whole !)))) refl (tt, tt) $
     sets ! (of_opd ! (get_in ! (fld ! refl (stop !)) (sub ! 1 refl (whole !)))) refl fits $
     sets ! (of_opd ! (get ! refl)) refl (tt, tt) $
-    sets ! (agg ! (and_then ! (get ! refl) (and_then ! (get ! refl) (no_more !)))) refl (box_typed E h b o fits) $
+    sets ! (agg ! (and_then ! (get ! refl) (and_then ! (get ! refl) (no_more !)))) refl
+    (box_typed E h b o fits) $
     returns ! (look_at ! 0 refl) $ free_all ! refl $
     suffices ! _ (ends_at 𝓛 ended stayed c z w made (tt, tt) (tt, tt)) $ says ! found.1 $
     nothing ! $ nothing ! $ fjoin ! $ join ! $ nothing ! $ join ! $ done !))))
