@@ -23,7 +23,7 @@ HoldsOther view (Some seen) = view seen ≡ None
 
 -- the allocator, if it is one
 abbrev pub entities_of : Seen → Option Allocator
-entities_of (Entities a) = Some a
+entities_of (Entities e) = Some e.allocator
 entities_of _ = None
 
 -- the object holds an allocator, and this is true of it

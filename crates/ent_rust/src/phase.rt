@@ -48,12 +48,13 @@ impl Phase {
         count: usize,
         phase: u64,
     ) -> Result<Self, Entities>
-        requires flushed { entities.asked ≡ 0 }
+        requires flushed { entities.allocator.asked ≡ 0 }
         requires some { 0 < count }
         requires few { count ≤ 1024 }
         ensures phase { IfOk result (λ p. p.phase ≡ phase) }
-        ensures shared { IfOk result (λ p. (p.shared.start ≡ entities) × (p.shared.count ≡ count)) }
-        ensures home { IfOk result (λ p. records_of p.home ≡ opened_records entities 0 count) }
+        ensures shared { IfOk result (λ p.
+            (p.shared.start ≡ entities.allocator) × (p.shared.count ≡ count)) }
+        ensures home { IfOk result (λ p. records_of p.home ≡ opened_records entities.allocator 0 count) }
         ensures err { IfErr result (λ refused. refused ≡ entities) }
     {
         let (shared, home) = match share(alloc, entities, count) {

@@ -96,9 +96,11 @@ pub extern "C" fn ent_rust_flush(alloc: Global, object: &mut Object, list: &mut 
 
 /// Brings to life what is reserved, and lists it. `None` if memory runs out.
 fn flush(alloc: Global, entities: &mut Entities) -> Option<Vec<Handle>>
-    ensures flushed { IfSome result (λ _. entities.new ≡ after_flush entities.old) }
-    ensures born { IfSome result (λ handles. handles.items ≡ born entities.old) }
-    ensures count { IfSome result (λ handles. length handles.items ≡ length entities.old.taken) }
+    ensures flushed { IfSome result (λ _.
+        entities.new.allocator ≡ after_flush entities.old.allocator) }
+    ensures born { IfSome result (λ handles. handles.items ≡ born entities.old.allocator) }
+    ensures count { IfSome result (λ handles.
+        length handles.items ≡ length entities.old.allocator.taken) }
     ensures refused { IfNone result (entities.new ≡ entities.old) }
 {
     let mut handles = Vec::new(alloc);
@@ -120,10 +122,10 @@ pub(crate) fn write_all(list: &mut [Pair], handles: &[Handle])
 
 /// Requests one handle.
 fn request_one(entities: &mut Entities) -> Option<Handle>
-    requires { entities.old.asked < 2 ^ 50 }
-    ensures step { entities.new ≡ after_take entities.old 1 }
-    ensures served { IfSome result (λ h. reply_to entities.old 1 ≡ Ok (h ∷ [])) }
-    ensures refused { IfNone result (IsErr (reply_to entities.old 1)) }
+    requires { entities.old.allocator.asked < 2 ^ 50 }
+    ensures step { entities.new.allocator ≡ after_take entities.old.allocator 1 }
+    ensures served { IfSome result (λ h. reply_to entities.old.allocator 1 ≡ Ok (h ∷ [])) }
+    ensures refused { IfNone result (IsErr (reply_to entities.old.allocator 1)) }
 {
     let high = entities.cursor();
     let _span = entities.lower(1);

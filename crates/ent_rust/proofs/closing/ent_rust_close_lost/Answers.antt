@@ -12,4 +12,4 @@ are a reservers given = record { given = given }
 
 pub returns-in-Ok-clause-given : goal.returns-in-Ok-clause-given
 returns-in-Ok-clause-given c =
-    search (rules, are c.close_lost.result c.in-Ok.home.items c.close_lost.ensures.given)
+    search (rules, are c.close_lost.result.allocator c.in-Ok.home.items c.close_lost.ensures.given)

@@ -3,4 +3,4 @@ use Rattle.ent_rust.proofs.BornCount.{length-born}
 use Rattle.ent_rust.proofs.requests.flush.Goals as goal
 
 pub returns-in-Ok-clause-count : goal.returns-in-Ok-clause-count
-returns-in-Ok-clause-count c = length-born c.args.entities.now _ (search rules)
+returns-in-Ok-clause-count c = length-born c.args.entities.now.allocator _ (search rules)
