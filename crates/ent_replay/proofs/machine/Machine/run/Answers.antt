@@ -37,7 +37,7 @@ returns-clause-given_once c =
     subst (λ results. AreGivenOnce (given_by_all results)) (sym all)
     (subst (λ (s : MachineState). AreGivenOnce (given_by_all (outcomes_of s c.args.events.now)))
     c.self.view_is
-    (given_once (machine_state e.entities e.spent e.calls) c.args.events.now c.self.invariant.sound
+    (given_once (machine_state e.entities.allocator e.spent e.calls) c.args.events.now c.self.invariant.sound
     c.self.invariant.once))
 
 pub loop-done-preserved : goal.loop-done-preserved
