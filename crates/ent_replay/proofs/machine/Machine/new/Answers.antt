@@ -16,5 +16,6 @@ invariant_of-result c =
 
 pub returns : goal.returns
 returns c =
-    (λ i. Ok (machine_state (c.new-entities.ensures.allocator i) (c.new.ensures i) (c.new-2.ensures i)))
+    (λ i. Ok (machine_state (c.new-entities.ensures.allocator i) (c.new.ensures i)
+    (c.new-2.ensures i)))
     ∙ ap Ok (starting_is c.args.limits)
