@@ -151,8 +151,8 @@ fn reserve_bulks(entities: &mut Entities, given: &mut [Handle])
 
 fn reserve(entities: &mut Entities, given: &mut [Handle])
     requires few { length given.old < 2 ^ 32 }
-    requires within { entities.old.asked + length given.old ≤ 2 ^ 50 }
-    ensures { entities.new.asked ≡ entities.old.asked + length given.old }
+    requires within { entities.old.allocator.asked + length given.old ≤ 2 ^ 50 }
+    ensures { entities.new.allocator.asked ≡ entities.old.allocator.asked + length given.old }
 {
     let span = entities.lower(given.len() as u32);
     if let Ok(reserved) = entities.reply(span) {

@@ -61,7 +61,7 @@ fn reserve(
     entities: &mut Entities,
     n: u32,
 ) -> Result<Result<Vec<Handle>, Space>, AllocError>
-    requires { entities.old.asked + n ≤ 2 ^ 50 }
+    requires { entities.old.allocator.asked + n ≤ 2 ^ 50 }
 {
     let span = entities.lower(n);
     match entities.reply(span) {

@@ -29,7 +29,7 @@ fn shared_at_last(
     alloc: Global,
     entities: Entities,
 ) -> Result<(Shared, Vec<Reserver>), (Entities, Memory)>
-    requires { entities.asked ≡ 0 }
+    requires { entities.allocator.asked ≡ 0 }
     ensures { IfOk result (λ made. All (IsOf made.0) made.1.items) }
 {
     match share(alloc, entities, 1) {

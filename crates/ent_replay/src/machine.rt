@@ -46,9 +46,9 @@ impl Model for Machine {
 
     ghost use Rattle.ent_replay.specs.Machine.{machine_state, AreConsistent};
 
-    ghost view = { λ m. machine_state m.entities m.spent m.calls };
+    ghost view = { λ m. machine_state m.entities.allocator m.spent m.calls };
 
-    ghost invariant = { λ m. AreConsistent m.entities m.spent m.calls };
+    ghost invariant = { λ m. AreConsistent m.entities.allocator m.spent m.calls };
 }
 
 /// Memory ran out while a list of events was applied.

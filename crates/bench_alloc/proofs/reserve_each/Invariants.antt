@@ -3,4 +3,4 @@ use Rattle.bench_alloc.proofs.reserve_each.Given as goal
 
 -- each step requests one handle
 abbrev pub invariant-loop-one : goal.invariant-loop-one
-invariant-loop-one l = l.entities.asked ≤ l.one-index
+invariant-loop-one l = l.entities.allocator.asked ≤ l.one-index

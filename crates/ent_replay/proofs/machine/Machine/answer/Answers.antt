@@ -18,17 +18,19 @@ use Rattle.ent_replay.proofs.machine.Machine.answer.Goals.{in-Ok+in-Ok-listed, i
 pub returns-in_default : goal.returns-in_default
 returns-in_default c =
     let e = c.self.inside in
-    faulty (λ v. on_answer v c.args.caller) (machine_state e.entities e.spent e.calls)
+    let s = e.entities.allocator in
+    faulty (λ v. on_answer v c.args.caller) (machine_state s e.spent e.calls)
     c.args.self.now c.self.view_is fault.NotOpen
-    (answer-not_open e.entities e.spent e.calls c.args.caller (omega arith) (sym c.get.ensures
+    (answer-not_open s e.spent e.calls c.args.caller (omega arith) (sym c.get.ensures
     ∙ c.in_default.is))
 
 pub returns-in_default-span : goal.returns-in_default-span
 returns-in_default-span c =
     let e = c.self.inside in
-    faulty (λ v. on_answer v c.args.caller) (machine_state e.entities e.spent e.calls)
+    let s = e.entities.allocator in
+    faulty (λ v. on_answer v c.args.caller) (machine_state s e.spent e.calls)
     c.args.self.now c.self.view_is fault.NotStepped
-    (answer-not_stepped e.entities e.spent e.calls c.args.caller (omega arith) c.in-Some.call
+    (answer-not_stepped s e.spent e.calls c.args.caller (omega arith) c.in-Some.call
     (sym c.get.ensures ∙ c.in-Some.is) c.in_default-span.is)
 
 pub reply-requires : goal.reply-requires
@@ -47,28 +49,30 @@ reply-requires c =
     }
 
 -- the reply is what the positions tell that the call passed
-told : (c : After-reply) → c.reply.result ≡ reply_from c.self.inside.entities.made
-    (pool_at c.self.inside.entities c.in-Some-span.span.high) c.in-Some.call.requested
+told : (c : After-reply) → c.reply.result ≡ reply_from c.self.inside.entities.allocator.made
+    (pool_at c.self.inside.entities.allocator c.in-Some-span.span.high) c.in-Some.call.requested
 told c = c.reply.ensures c.in-Some.call.requested (c.self.invariant.spans c.args.caller
     c.in-Some.call c.in-Some-span.span (sym c.get.ensures ∙ c.in-Some.is) c.in-Some-span.is).low
 
 -- and the step reports it
-reports : (c : After-reply) → on_answer (machine_state c.self.inside.entities c.self.inside.spent
-    c.self.inside.calls) c.args.caller
+reports : (c : After-reply) → on_answer (machine_state c.self.inside.entities.allocator
+    c.self.inside.spent c.self.inside.calls) c.args.caller
     ≡ (
-      Ok (reported (reply_from c.self.inside.entities.made
-          (pool_at c.self.inside.entities c.in-Some-span.span.high) c.in-Some.call.requested)),
-      machine_state c.self.inside.entities c.self.inside.spent
+      Ok (reported (reply_from c.self.inside.entities.allocator.made
+          (pool_at c.self.inside.entities.allocator c.in-Some-span.span.high)
+          c.in-Some.call.requested)),
+      machine_state c.self.inside.entities.allocator c.self.inside.spent
           (finite.remove c.self.inside.calls c.args.caller),
     )
-reports c = answer-answered c.self.inside.entities c.self.inside.spent c.self.inside.calls
+reports c = answer-answered c.self.inside.entities.allocator c.self.inside.spent c.self.inside.calls
     c.args.caller (omega arith) c.in-Some.call (sym c.get.ensures ∙ c.in-Some.is)
     c.in-Some-span.span c.in-Some-span.is
 
 pub returns-in-Err-listed : goal.returns-in-Err-listed
 returns-in-Err-listed c =
     let e = c.self.inside in
-    let before = machine_state e.entities e.spent e.calls in
+    let s = e.entities.allocator in
+    let before = machine_state s e.spent e.calls in
     let at = (goal.at.returns-in-Err-listed c).After-reply in
     refused (λ v. on_answer v c.args.caller) before c.args.self.now c.self.view_is
     (Err fault.Memory) refl c.args.self.now (sym c.self.view_is)
@@ -89,32 +93,36 @@ calls_are c same = c.remove.ensures
 pub invariant_of-self : goal.invariant_of-self
 invariant_of-self c =
     let e = c.self.inside in
+    let s = e.entities.allocator in
     let at = (goal.at.invariant_of-self c).After-remove in
     let same = unchanged at in
-    subst (λ m. AreConsistent c.match-reply.self-inside.entities c.match-reply.self-inside.spent m)
+    subst (λ m. AreConsistent c.match-reply.self-inside.entities.allocator
+    c.match-reply.self-inside.spent m)
     (sym (calls_are at same))
-    (subst (λ (x : Inside). AreConsistent x.entities x.spent (finite.remove e.calls c.args.caller))
-    (sym same)
-    (answer-consistent e.entities e.spent e.calls c.args.caller (omega arith) c.in-Some.call
+    (subst (λ (x : Inside). AreConsistent x.entities.allocator x.spent
+    (finite.remove e.calls c.args.caller)) (sym same)
+    (answer-consistent s e.spent e.calls c.args.caller (omega arith) c.in-Some.call
     (sym c.get.ensures ∙ c.in-Some.is) c.self.invariant c.in-Some-span.span c.in-Some-span.is))
 
 pub returns : goal.returns
 returns c =
     let e = c.self.inside in
+    let s = e.entities.allocator in
     let at = goal.at.returns c in
     let says = told at.After-reply in
     let same = unchanged at.After-remove in
-    let outcome_is : c.match-reply.outcome ≡ reported (reply_from e.entities.made
-    (pool_at e.entities c.in-Some-span.span.high) c.in-Some.call.requested) =
+    let outcome_is : c.match-reply.outcome ≡ reported (reply_from s.made
+    (pool_at s c.in-Some-span.span.high) c.in-Some.call.requested) =
     elim c.match-reply.branch [
       | in-Ok+in-Ok-listed w ↦ w.outcome-is ∙ ap outcome.Handles w.in-Ok-listed.ensures.ok
           ∙ ap reported (sym w.in-Ok.is ∙ says)
       | in-Err w ↦ w.outcome-is ∙ ap reported (sym w.in-Err.is ∙ says)
     ] in
-    done (λ v. on_answer v c.args.caller) (machine_state e.entities e.spent e.calls)
+    done (λ v. on_answer v c.args.caller) (machine_state s e.spent e.calls)
     c.args.self.now c.self.view_is (Ok c.match-reply.outcome) _
     (ap (λ (o : Outcome). Ok o) outcome_is)
-    (machine_state c.match-reply.self-inside.entities c.match-reply.self-inside.spent
+    (machine_state c.match-reply.self-inside.entities.allocator c.match-reply.self-inside.spent
     c.remove.new.self)
-    _ (λ i. machine_state (same i).entities (same i).spent (calls_are at.After-remove same i))
+    _ (λ i. machine_state (same i).entities.allocator (same i).spent
+    (calls_are at.After-remove same i))
     (reports at.After-reply)

@@ -17,10 +17,11 @@ use Rattle.ent_replay.proofs.machine.Machine.begin.Goals as goal
 pub returns-then-is_some : goal.returns-then-is_some
 returns-then-is_some c =
     let e = c.self.inside in
+    let s = e.entities.allocator in
     let open_call = some_of c.get.result c.if-is_some.ensures in
-    faulty (λ v. on_begin v c.args.caller c.args.n) (machine_state e.entities e.spent e.calls)
+    faulty (λ v. on_begin v c.args.caller c.args.n) (machine_state s e.spent e.calls)
     c.args.self.now c.self.view_is fault.AlreadyOpen
-    (begin-open e.entities e.spent e.calls c.args.caller (omega arith) c.args.n open_call.0
+    (begin-open s e.spent e.calls c.args.caller (omega arith) c.args.n open_call.0
     (sym c.get.ensures ∙ open_call.1))
 
 -- the caller has no open call
@@ -43,7 +44,8 @@ pub returns-then-left-from : goal.returns-then-left-from
 unfolding credit
 returns-then-left-from c =
     let e = c.self.inside in
-    let before = machine_state e.entities e.spent e.calls in
+    let s = e.entities.allocator in
+    let before = machine_state s e.spent e.calls in
     let spent = spent (goal.at.returns-then-left-from c).After-unwrap_or-spent in
     let left : credit - c.unwrap_or-spent.result ≡ left_of before c.args.caller =
     ap (λ n. credit - n) spent in
@@ -51,22 +53,23 @@ returns-then-left-from c =
     (Err (fault.Quota (credit - c.unwrap_or-spent.result)))
     (Err (fault.Quota (left_of before c.args.caller)))
     (ap (λ n. Err (fault.Quota n)) left) c.args.self.now before (sym c.self.view_is)
-    (begin-quota e.entities e.spent e.calls c.args.caller (omega arith) c.args.n
+    (begin-quota s e.spent e.calls c.args.caller (omega arith) c.args.n
     (none (goal.at.returns-then-left-from c).Else-is_some) (omega arith))
 
 pub returns-then-is_err : goal.returns-then-is_err
 unfolding credit
 returns-then-is_err c =
     let e = c.self.inside in
-    let before = machine_state e.entities e.spent e.calls in
+    let s = e.entities.allocator in
+    let before = machine_state s e.spent e.calls in
     let spent = spent (goal.at.returns-then-is_err c).After-unwrap_or-spent in
     let calls : c.insert.new.self ≡ e.calls = on_err c.insert.result c.if-is_err.ensures.value
     c.insert.ensures.err in
     refused (λ v. on_begin v c.args.caller c.args.n) before c.args.self.now c.self.view_is
     (Err fault.Memory) refl
-    (machine_state e.entities e.spent c.insert.new.self)
-    (ap (λ m. machine_state e.entities e.spent m) calls)
-    (ap (λ p. event_takes_memory before p.0) (begin-begun e.entities e.spent e.calls c.args.caller
+    (machine_state s e.spent c.insert.new.self)
+    (ap (λ m. machine_state s e.spent m) calls)
+    (ap (λ p. event_takes_memory before p.0) (begin-begun s e.spent e.calls c.args.caller
     (omega arith) c.args.n (none (goal.at.returns-then-is_err c).Else-is_some) (omega arith)))
 
 -- its requests are as before
@@ -85,23 +88,25 @@ undone c none =
 pub invariant_of-self-then-is_err-2 : goal.invariant_of-self-then-is_err-2
 invariant_of-self-then-is_err-2 c =
     let e = c.self.inside in
+    let s = e.entities.allocator in
     let at = goal.at.invariant_of-self-then-is_err-2 c in
-    subst (λ m. AreConsistent e.entities m c.remove.new.self) (sym (kept at.After-remove))
-    (subst (λ m. AreConsistent e.entities e.spent m)
+    subst (λ m. AreConsistent s m c.remove.new.self) (sym (kept at.After-remove))
+    (subst (λ m. AreConsistent s e.spent m)
     (sym (undone at.After-remove (none at.Else-is_some))) c.self.invariant)
 
 pub returns-then-is_err-2 : goal.returns-then-is_err-2
 unfolding credit
 returns-then-is_err-2 c =
     let e = c.self.inside in
-    let before = machine_state e.entities e.spent e.calls in
+    let s = e.entities.allocator in
+    let before = machine_state s e.spent e.calls in
     let at = goal.at.returns-then-is_err-2 c in
     let none = none at.Else-is_some in
     let spent = spent at.After-unwrap_or-spent in
     refused (λ v. on_begin v c.args.caller c.args.n) before c.args.self.now c.self.view_is
-    (Err fault.Memory) refl (machine_state e.entities c.insert-2.new.self c.remove.new.self)
-    (λ i. machine_state e.entities (kept at.After-remove i) (undone at.After-remove none i))
-    (ap (λ p. event_takes_memory before p.0) (begin-begun e.entities e.spent e.calls c.args.caller
+    (Err fault.Memory) refl (machine_state s c.insert-2.new.self c.remove.new.self)
+    (λ i. machine_state s (kept at.After-remove i) (undone at.After-remove none i))
+    (ap (λ p. event_takes_memory before p.0) (begin-begun s e.spent e.calls c.args.caller
     (omega arith) c.args.n none (omega arith)))
 
 -- the call is among the caller's requests
@@ -116,25 +121,27 @@ pub invariant_of-self-else-is_err-2 : goal.invariant_of-self-else-is_err-2
 unfolding credit
 invariant_of-self-else-is_err-2 c =
     let e = c.self.inside in
+    let s = e.entities.allocator in
     let at = goal.at.invariant_of-self-else-is_err-2 c in
     let spent = spent at.After-unwrap_or-spent in
     let begun = on_ok c.insert.result c.if-is_err.ensures.value c.insert.ensures.ok in
-    subst (λ m. AreConsistent e.entities m c.insert.new.self) (sym (more at.Else-is_err-2 spent))
-    (subst (λ m. AreConsistent e.entities (finite.insert e.spent c.args.caller
+    subst (λ m. AreConsistent s m c.insert.new.self) (sym (more at.Else-is_err-2 spent))
+    (subst (λ m. AreConsistent s (finite.insert e.spent c.args.caller
     (unwrap_or (finite.get e.spent c.args.caller) 0 + c.args.n)) m) (sym begun)
-    (begin-consistent e.entities e.spent e.calls c.args.caller (omega arith) c.self.invariant
+    (begin-consistent s e.spent e.calls c.args.caller (omega arith) c.self.invariant
     c.args.n (none at.Else-is_some) (omega arith) (omega arith)))
 
 pub returns : goal.returns
 unfolding credit
 returns c =
     let e = c.self.inside in
+    let s = e.entities.allocator in
     let at = goal.at.returns c in
     let spent = spent at.After-unwrap_or-spent in
     let begun = on_ok c.insert.result c.if-is_err.ensures.value c.insert.ensures.ok in
-    done (λ v. on_begin v c.args.caller c.args.n) (machine_state e.entities e.spent e.calls)
+    done (λ v. on_begin v c.args.caller c.args.n) (machine_state s e.spent e.calls)
     c.args.self.now c.self.view_is (Ok outcome.Open) (Ok outcome.Open) refl
-    (machine_state e.entities c.insert-2.new.self c.insert.new.self) _
-    (λ i. machine_state e.entities (more at.Else-is_err-2 spent i) (begun i))
-    (begin-begun e.entities e.spent e.calls c.args.caller (omega arith) c.args.n
+    (machine_state s c.insert-2.new.self c.insert.new.self) _
+    (λ i. machine_state s (more at.Else-is_err-2 spent i) (begun i))
+    (begin-begun s e.spent e.calls c.args.caller (omega arith) c.args.n
     (none at.Else-is_some) (omega arith))

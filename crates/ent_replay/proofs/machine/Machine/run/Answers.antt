@@ -34,10 +34,11 @@ returns-clause-given_once c =
     let all = all_outcomes c.args.self.now c.loop-done.outcomes.items c.args.events.now
     c.loop-done.done (omega arith) c.loop-done.invariant.1 in
     let e = c.self.inside in
+    let s = e.entities.allocator in
     subst (λ results. AreGivenOnce (given_by_all results)) (sym all)
     (subst (λ (s : MachineState). AreGivenOnce (given_by_all (outcomes_of s c.args.events.now)))
     c.self.view_is
-    (given_once (machine_state e.entities e.spent e.calls) c.args.events.now c.self.invariant.sound
+    (given_once (machine_state s e.spent e.calls) c.args.events.now c.self.invariant.sound
     c.self.invariant.once))
 
 pub loop-done-preserved : goal.loop-done-preserved
