@@ -130,17 +130,17 @@ impl Shortest {
     /// Times the work once more. Returns what it returns.
     fn time(&mut self, handles: u32, rounds: u32, work: impl Fn(u32, u32) -> u64) -> u64 {
         let (_, before) = seconds(|| work(black_box(handles), black_box(0)));
-        let (answer, whole) = seconds(|| work(black_box(handles), black_box(rounds)));
+        let (returned, whole) = seconds(|| work(black_box(handles), black_box(rounds)));
         self.before = self.before.min(before);
         self.whole = self.whole.min(whole);
-        answer
+        returned
     }
 }
 
 fn seconds(work: impl Fn() -> u64) -> (u64, f64) {
     let start = Instant::now();
-    let answer = work();
-    (answer, start.elapsed().as_secs_f64())
+    let returned = work();
+    (returned, start.elapsed().as_secs_f64())
 }
 
 impl Case {

@@ -112,10 +112,10 @@ fn shortest(spawns: u32) -> [Times; 3] {
 fn nanoseconds(spawns: u32, work: impl Fn() -> u64) -> (u64, f64) {
     let times = (STEPS / spawns).max(1);
     let start = Instant::now();
-    let mut answer = 0;
+    let mut returned = 0;
     for _ in 0..times {
-        answer = black_box(work());
+        returned = black_box(work());
     }
     let took = start.elapsed().as_secs_f64();
-    (answer, took * 1e9 / (f64::from(times) * f64::from(spawns)))
+    (returned, took * 1e9 / (f64::from(times) * f64::from(spawns)))
 }

@@ -15,13 +15,13 @@ enum Start {
 }
 
 const SYSTEMS: usize = 64;
-const STEPS: u32 = 50_000;
+const ROUNDS: u32 = 50_000;
 const LONG: u32 = 20;
 
 #[derive(Clone, Copy)]
 struct Work {
     seed: u64,
-    steps: u32,
+    rounds: u32,
 }
 
 /// A system that may spawn an entity with a value.
@@ -46,7 +46,7 @@ impl System for Empty {
 
 fn spin(work: &Work) -> i64 {
     let mut state = work.seed;
-    for _ in 0..work.steps {
+    for _ in 0..work.rounds {
         state = (state ^ (state >> 29))
             .wrapping_mul(0xbf58_476d_1ce4_e5b9)
             .wrapping_add(1);
@@ -55,11 +55,11 @@ fn spin(work: &Work) -> i64 {
 }
 
 fn uneven(long: usize) -> [Work; SYSTEMS] {
-    let mut systems = [Work { seed: 1, steps: STEPS }; SYSTEMS];
+    let mut systems = [Work { seed: 1, rounds: ROUNDS }; SYSTEMS];
     for (number, system) in systems.iter_mut().enumerate() {
         system.seed = number as u64;
     }
-    systems[long].steps = STEPS * LONG;
+    systems[long].rounds = ROUNDS * LONG;
     systems
 }
 
@@ -92,18 +92,18 @@ where
     thread::scope(|scope| match start {
         Start::OneByOne => {
             let others: Vec<_> = (1..workers).map(|_| scope.spawn(work)).collect();
-            let mut answers = work();
+            let mut returned = work();
             for other in others {
-                answers.extend(other.join().unwrap());
+                returned.extend(other.join().unwrap());
             }
-            answers
+            returned
         }
         Start::ByHalves => {
             let half = workers / 2;
             let others = scope.spawn(move || side_by_side(start, half, work));
-            let mut answers = side_by_side(start, workers - half, work);
-            answers.extend(others.join().unwrap());
-            answers
+            let mut returned = side_by_side(start, workers - half, work);
+            returned.extend(others.join().unwrap());
+            returned
         }
     })
 }

@@ -19,7 +19,7 @@ use std::{env, io};
 use work::{Empty, SYSTEMS, VALUE, Work, spin_all, uneven};
 
 /// Steps of a short system, about a hundred microseconds.
-const STEPS: u32 = 50_000;
+const ROUNDS: u32 = 50_000;
 
 /// Steps of a short system if nothing is timed.
 const FEW: u32 = 100;
@@ -70,8 +70,8 @@ fn print_times<R>(rt: &R, rounds: u32) -> io::Result<()>
 where
     R: Threads + Sync + Clock + Print + AllocGlobal,
 {
-    let first = uneven(STEPS, 0);
-    let last = uneven(STEPS, SYSTEMS - 1);
+    let first = uneven(ROUNDS, 0);
+    let last = uneven(ROUNDS, SYSTEMS - 1);
     for _ in 0..rounds {
         time_alone(rt, &first)?;
         for workers in WORKERS {

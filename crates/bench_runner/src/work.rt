@@ -16,11 +16,11 @@ const LONG: u32 = 20;
 /// The component that holds what a system has computed.
 pub const VALUE: ComponentId = ComponentId(0);
 
-/// Computes for that many steps, and spawns an entity that has the result.
+/// Computes for that many rounds, and spawns an entity that has the result.
 #[derive(Clone, Copy)]
 pub struct Work {
     seed: u64,
-    steps: u32,
+    rounds: u32,
 }
 
 /// Does nothing.
@@ -59,15 +59,15 @@ impl System for Empty {
     }
 }
 
-/// Systems of that many steps, and a long one at this number.
-pub fn uneven(steps: u32, long: usize) -> [Work; SYSTEMS]
+/// Systems of that many rounds, and a long one at this number.
+pub fn uneven(rounds: u32, long: usize) -> [Work; SYSTEMS]
     requires { long < SYSTEMS }
 {
-    let mut systems = [Work { seed: 1, steps }; SYSTEMS];
+    let mut systems = [Work { seed: 1, rounds }; SYSTEMS];
     for (number, system) in systems.iter_mut().enumerate() {
         system.seed = number as u64;
     }
-    systems[long].steps = steps.saturating_mul(LONG);
+    systems[long].rounds = rounds.saturating_mul(LONG);
     systems
 }
 
@@ -83,7 +83,7 @@ pub fn spin_all(systems: &[Work]) -> i64 {
 /// Each step needs the one before, so no compiler shortens it.
 fn spin(work: &Work) -> i64 {
     let mut state = work.seed;
-    for _ in 0..work.steps {
+    for _ in 0..work.rounds {
         state = (state ^ (state >> 29))
             .wrapping_mul(0xbf58_476d_1ce4_e5b9)
             .wrapping_add(1);

@@ -80,7 +80,7 @@ flushed r asked given none within =
     let no_given : given ≡ 0 = omega arith in
     λ i. allocator_of r (none i) (no_given i)
 
--- where nothing is reserved, both cursors stand at the top
+-- where nothing is reserved, both counts are 0
 pub AreReserved-flushed : (r : Roster) → IsSound (allocator_of r 0 0) → AreReserved r 0 0
 AreReserved-flushed r sound = record {
   sound = sound;

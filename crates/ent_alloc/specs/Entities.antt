@@ -1,4 +1,4 @@
--- What an `Entities` stands for, and how its slots and its two cursors do so.
+-- What an `Entities` stands for, and how its slots and its two counts do so.
 use Rattle.std.specs.Prelude.{◌≡◌, ℕ, ℤ, ◌+◌, ◌-◌, ◌^◌, ◌≤◌, List, ◌++◌, length, take}
 use Rattle.std.specs.Prelude.{drop, reverse, refl}
 use Rattle.std.specs.Coded.{Coded, code_by, coded×, coded_ℕ}
@@ -34,7 +34,7 @@ allocator_of r asked given = record {
 abbrev pub entities_of : Roster → ℕ → ℕ → Entities
 entities_of r asked given = record { allocator = allocator_of r asked given; rows = r.rows }
 
--- how much a position is below the top
+-- For proofs: how much a position is below the top.
 abbrev pub beneath : Roster → ℤ → ℕ
 beneath r z = asked_at (length r.pending) z
 

@@ -39,6 +39,6 @@ given_in (call ∷ calls) = handles_in call.reply ++ given_in calls
 abbrev pub AreGivenOnce : List Handle → Type 0
 AreGivenOnce handles = AllPairs (λ g h. g ≢ h) handles
 
--- how much was asked for in all
+-- For proofs: how many handles each call requested.
 abbrev pub requests_of : List Call → List ℕ
 requests_of calls = map (λ (call : Call). call.requested) calls

@@ -1,5 +1,5 @@
--- The sequential allocator: what one caller alone would see. Each call of this crate is one of its
--- steps, and the calls of many threads are compared with it.
+-- The sequential allocator: what one caller alone would see. Each call of this crate but `set_row`
+-- is one of its steps, or reads it, and the calls of many threads are compared with it.
 use Rattle.std.specs.Prelude.{ℕ, ◌+◌, ◌-◌, ℤ, pos, negsuc, suc, zero, ◌-ℤ◌, Bool, nat_lt, nat_le}
 use Rattle.std.specs.Prelude.{◌==◌, if◌then◌else◌, List, [], ◌∷◌, ◌++◌, length, take, drop, reverse}
 use Rattle.std.specs.Prelude.{filter, Result, Ok, Err, Option, None, Some, not, ◌||◌, refl}

@@ -45,7 +45,7 @@ pub refused : (on : MachineState → Returned) (inside now : MachineState) → i
 refused on inside now view result is after unchanged takes =
     inr (is, unchanged ∙ view, ap (λ v. event_takes_memory v (on v).0) (sym view) ∙ takes)
 
--- The same of an event that the allocator alone answers.
+-- The same of an event that the allocator alone decides.
 module _ (on : MachineState → Returned) (s : Allocator) (spent : finite.FinMap nat_cmp ℕ)
     (calls : finite.FinMap nat_cmp StoredCall) (now : MachineState)
     (view : machine_state s spent calls ≡ now) (result : Result Outcome ReplayFault)

@@ -1,4 +1,4 @@
--- What the workers did, their histories and the queues in their by_system are a frame.
+-- What the workers did, their histories and the queues in the order of their systems are a frame.
 use Rattle.std.proofs.Common.{◌≡◌, ℕ, suc, ◌+◌, ◌<◌, List, [], ◌∷◌, length, map, get_or, refl, ap}
 use Rattle.std.proofs.Common.{sym, ◌∙◌, arith, subst, Option, Some, None, cond, inl, inr, Result}
 use Rattle.std.proofs.Common.{ne_eqb}

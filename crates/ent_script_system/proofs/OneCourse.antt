@@ -177,7 +177,7 @@ same_queue view names (op ∷ ops) s left cs ds (first, rest, cs_are, may, other
 
 -- ---- one worker
 
--- the first worker's calls, as they were requested and answered
+-- the first worker's calls, as they were requested and replied to
 calls_back : (history : List Call) → All (λ (call : Call). call.caller < 1) history
     → map first_call (map (λ (call : Call). (call.requested, call.reply)) history) ≡ history
 calls_back [] all = refl

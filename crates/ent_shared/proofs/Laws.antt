@@ -29,7 +29,7 @@ use Rattle.ent_shared.specs.Moves.{after_meeting}
 use Rattle.ent_shared.specs.Order.{insert_reservation, by_falling_high, own_of_all, reservations_of}
 use Rattle.ent_shared.specs.Order.{as_call, history_of, reservations_by, Respects, handles_of}
 use Rattle.ent_shared.specs.Order.{handles_given}
-pub use Rattle.ent_shared.proofs.Answering.{length-served}
+pub use Rattle.ent_shared.proofs.Returned.{length-served}
 use Rattle.ent_shared.proofs.Records.{own-made, own-met}
 use Rattle.ent_shared.proofs.Sorting.{sorted, sum_sorted}
 use Rattle.ent_shared.proofs.Closing.{sum_requests}

@@ -2,7 +2,7 @@ pub mod Records
 pub mod Words
 pub mod Steps
 pub mod Ends
-pub mod Answering
+pub mod Returned
 pub mod Sharing
 pub mod Sorting
 pub mod Callers

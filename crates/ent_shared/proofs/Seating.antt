@@ -14,7 +14,7 @@ use Rattle.ent_shared.specs.Record.{after_reservation}
 use Rattle.ent_shared.specs.Moves.{after_meeting}
 use Rattle.ent_shared.specs.Phase.{Shared, Reserver, IsOf, own_of, IsSeated}
 use Rattle.ent_shared.specs.Order.{handles_given}
-use Rattle.ent_shared.proofs.Answering.{recorded_reply}
+use Rattle.ent_shared.proofs.Returned.{recorded_reply}
 use Rattle.ent_shared.proofs.Laws.{given-reserved}
 use Rattle.ent_shared.proofs.Records.{below_reservation, below_meeting, credit-reserved, credit-met}
 
@@ -93,9 +93,9 @@ pub given_now : (views after : List (List Record)) (old : Reserver) (word : Tabl
     → ((k : ℕ) → span.low ≡ span.high -ℤ pos k → reply
     ≡ reply_from start.made (pool_at start span.high) k) → handles_given (own_of after)
     ≡ handles_given old.own ++ handles_in reply
-given_now views after old word start high n span reply view is same span_is answers =
+given_now views after old word start high n span reply view is same span_is replies =
     ap (λ (vs : List (List Record)). handles_given (own_of vs)) is
     ∙ (ap (λ (r : Reserver). handles_given (after_reservation r.own high n)) view
     ∙ (given-reserved old.own high n
     ∙ ap (λ (x : Result (List Handle) Space). handles_given old.own ++ handles_in x)
-    (recorded_reply old.own start high n span reply same span_is answers)))
+    (recorded_reply old.own start high n span reply same span_is replies)))

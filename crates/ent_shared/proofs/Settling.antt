@@ -60,10 +60,10 @@ pub legal_from : (start s : Allocator) (cs : List Reservation) (end : ℤ) → I
     → Follow (cursor s) cs end → All (HasItsReply start) cs → history.IsLegal s (map as_call cs)
 legal_from start s [] end l f replied = tt
 legal_from start s (c ∷ cs) end l f replied =
-    let answer : c.reply ≡ reply_from start.made (pool_at start c.high) c.requested =
+    let here : c.reply ≡ reply_from start.made (pool_at start c.high) c.requested =
     All-head (HasItsReply start) c cs replied in (
       f.1,
-      answer ∙ (λ i. reply_from (sym l.made_is i) (pool_there start s c l f.0 i) c.requested),
+      here ∙ (λ i. reply_from (sym l.made_is i) (pool_there start s c l f.0 i) c.requested),
       legal_from start (after_take s c.requested) cs end (later_take start s c.requested l)
           (follow_on s c cs end l.sound f.0 f.2) (All-tail (HasItsReply start) c cs replied),
     )

@@ -5,8 +5,8 @@ use ent_handle::Handle;
 use std::collections::LinkedList;
 use std::marker::Model;
 
-/// The allocator as it was shared, without the rows that a program keeps in it: what a caller does
-/// has nothing to do with them, so its record says nothing of them.
+/// The allocator as it was shared, without the rows that a program keeps beside its state: what a
+/// caller does has nothing to do with them, so its record says nothing of them.
 pub struct Start {
     entities: Entities,
 }

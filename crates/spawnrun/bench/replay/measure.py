@@ -1,4 +1,4 @@
-"""Runs `spawnrun replay` on a schedule and prints its row of the table, or stops at a wrong answer.
+"""Runs `spawnrun replay` on a schedule and prints its row of the table, or stops at a wrong outcome.
 
 usage: measure.py PROGRAM SHAPE SCHEDULE OUTCOMES
 """

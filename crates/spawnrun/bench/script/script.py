@@ -27,7 +27,7 @@ class World:
         return [birth for birth, values in self.entities.items() if component in values]
 
     def sync(self, systems):
-        """Brings to life what the systems have spawned, and applies their commands. Answers the lines of the frame."""
+        """Brings to life what the systems have spawned, and applies their commands. Returns the lines of the frame."""
         for system in systems:
             self.entities.update((birth, {}) for birth in system.spawned)
         faults = []

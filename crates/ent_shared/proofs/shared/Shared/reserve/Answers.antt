@@ -9,7 +9,7 @@ use Rattle.ent_alloc.specs.Sequential.{pool_at, reply_from, listed_alone}
 use Rattle.ent_shared.specs.Phase.{Shared, Reserver, own_of}
 use Rattle.ent_shared.specs.Order.{handles_given}
 use Rattle.ent_shared.proofs.Seating.{seated_reservation, of_stepped, given_now}
-use Rattle.ent_shared.proofs.Answering.{served_floor, refused_floor, on_err, one_reply}
+use Rattle.ent_shared.proofs.Returned.{served_floor, refused_floor, on_err, one_reply}
 use Rattle.ent_shared.proofs.shared.Shared.reserve.Goals as goal
 use Rattle.ent_shared.proofs.shared.Shared.reserve.Goals.{After-reply_one}
 

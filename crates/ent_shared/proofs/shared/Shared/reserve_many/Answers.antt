@@ -9,10 +9,10 @@ use Rattle.std.proofs.lemmas.Int.{ints}
 use Rattle.ent_alloc.specs.declared.span.Span.{Span}
 use Rattle.ent_shared.specs.Phase.{Shared, Reserver, own_of, IsSeated}
 use Rattle.ent_shared.proofs.Seating.{seated_reservation, of_stepped, given_now}
-use Rattle.ent_shared.proofs.Answering.{served_floor, refused_floor, span_at}
+use Rattle.ent_shared.proofs.Returned.{served_floor, refused_floor, span_at}
 use Rattle.std.proofs.Common.{◌≡◌, ap, refl, ◌∙◌, [], Ok}
 use Rattle.ent_alloc.specs.Sequential.{Allocator, pool_at, top, cursor}
-use Rattle.ent_shared.proofs.Answering.{reply-none, no_space, low_of, length-served, on_err}
+use Rattle.ent_shared.proofs.Returned.{reply-none, no_space, low_of, length-served, on_err}
 use Rattle.ent_shared.proofs.shared.Shared.reserve_many.Goals as goal
 use Rattle.ent_shared.proofs.shared.Shared.reserve_many.Goals.{After-reply-2}
 

@@ -78,10 +78,10 @@ pub recorded_reply : (r : Record) (start : Allocator) (high : ℤ) (n : ℕ) (sp
     → ((k : ℕ) → span.low ≡ span.high -ℤ pos k → reply
     ≡ reply_from start.made (pool_at start span.high) k) → (reservation_at r high n).reply
     ≡ reply
-recorded_reply r start high n span reply same is answers =
+recorded_reply r start high n span reply same is replies =
     let at : span.high ≡ high = ap (λ (s : Span). s.high) is in
     (λ i. reply_from (same i).made (pool_at (same i) (sym at i)) n)
-    ∙ sym (answers n (low_of span high n is))
+    ∙ sym (replies n (low_of span high n is))
 
 pub short_refused : (made : ℕ) (pool : List Handle) (n : ℕ) (refusal : Space)
     → reply_from made pool n ≡ Err refusal → nat_le n (length pool) ≡ false
@@ -107,9 +107,9 @@ pub served_floor : (r : Record) (start : Allocator) (high : ℤ) (n : ℕ) (span
     → ((k : ℕ) → span.low ≡ span.high -ℤ pos k → reply
     ≡ reply_from start.made (pool_at start span.high) k) → reply ≡ Ok handles → span.low
     ≡ (after_reservation r high n).floor
-served_floor r start high n span handles reply same is answers served =
+served_floor r start high n span handles reply same is replies served =
     let test : nat_le n (length (pool_at start span.high)) ≡ true = enough_served start.made
-    (pool_at start span.high) handles n (sym (answers n (low_of span high n is)) ∙ served) in
+    (pool_at start span.high) handles n (sym (replies n (low_of span high n is)) ∙ served) in
     ap (λ (s : Span). s.low) is
     ∙ sym (floor_is r start high span.high n true same (ap (λ (s : Span). s.high) is) test)
 
@@ -119,7 +119,7 @@ pub refused_floor : (r : Record) (start : Allocator) (high : ℤ) (n : ℕ) (spa
     → ((k : ℕ) → span.low ≡ span.high -ℤ pos k → reply
     ≡ reply_from start.made (pool_at start span.high) k) → reply ≡ Err refusal → r.floor
     ≡ (after_reservation r high n).floor
-refused_floor r start high n span refusal reply same is answers refused =
+refused_floor r start high n span refusal reply same is replies refused =
     let test : nat_le n (length (pool_at start span.high)) ≡ false = short_refused start.made
-    (pool_at start span.high) n refusal (sym (answers n (low_of span high n is)) ∙ refused) in
+    (pool_at start span.high) n refusal (sym (replies n (low_of span high n is)) ∙ refused) in
     sym (floor_is r start high span.high n false same (ap (λ (s : Span). s.high) is) test)
