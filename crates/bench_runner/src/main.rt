@@ -18,10 +18,10 @@ use std::time::Instant;
 use std::{env, io};
 use work::{Empty, SYSTEMS, VALUE, Work, spin_all, uneven};
 
-/// Steps of a short system, about a hundred microseconds.
+/// Rounds of a short system, about a hundred microseconds.
 const ROUNDS: u32 = 50_000;
 
-/// Steps of a short system if nothing is timed.
+/// Rounds of a short system if nothing is timed.
 const FEW: u32 = 100;
 
 const WORKERS: [usize; 3] = [1, 2, 4];

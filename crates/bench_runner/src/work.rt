@@ -80,7 +80,7 @@ pub fn spin_all(systems: &[Work]) -> i64 {
     sum
 }
 
-/// Each step needs the one before, so no compiler shortens it.
+/// Each round needs the one before, so no compiler shortens it.
 fn spin(work: &Work) -> i64 {
     let mut state = work.seed;
     for _ in 0..work.rounds {
