@@ -64,6 +64,29 @@ fn keeps_a_row_until_the_entity_goes(rt: HostRuntime) {
 }
 
 #[test]
+fn a_row_stays_while_others_come_and_go(rt: HostRuntime) {
+    let alloc = rt.alloc();
+    let mut entities = unlimited(alloc);
+    let (first, second) = (allocated(&rt, &mut entities), allocated(&rt, &mut entities));
+    let (again, fresh) = (handle(&rt, 1, 2), handle(&rt, 2, 1));
+    set_row(&rt, &mut entities, first, 7);
+    set_row(&rt, &mut entities, second, 8);
+
+    assert_frees(&rt, &mut entities, second, again);
+    assert_reserves(&rt, alloc, &mut entities, 2, Ok(&[again, fresh]));
+    assert_flushes(&rt, alloc, &mut entities, &[], &[fresh, again]);
+    assert!(rt; allocate(&mut entities) == Ok(handle(&rt, 3, 1)));
+    assert_eq!(rt;
+        (
+            entities.row(first),
+            entities.row(again),
+            entities.row(fresh)
+        ),
+        (Some(7), None, None)
+    );
+}
+
+#[test]
 fn the_greatest_limits(rt: HostRuntime) {
     let mut entities = Entities::new(rt.alloc(), Limits::default_limits());
     assert_all_room(&rt, &entities);
