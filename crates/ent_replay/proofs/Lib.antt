@@ -1,4 +1,4 @@
-pub mod OutcomeLemmas
+pub mod SpacedHandles
 pub mod ScheduleEvents
 pub mod ScheduleLaws
 pub mod ScheduleLoop

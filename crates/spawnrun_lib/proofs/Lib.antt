@@ -1,9 +1,9 @@
-pub mod DeviceLemmas
+pub mod TakenInSteps
 pub mod ParsedOptions
 pub mod MovedNames
 pub mod MovedFaults
 pub mod MovedTakes
 pub mod CommandLineOptions
-pub mod CommandLineLemmas
-pub mod ReplayLemmas
-pub mod RunningLemmas
+pub mod TaskOfWords
+pub mod WrittenOfInput
+pub mod OutputOfScript

@@ -1,6 +1,6 @@
 use Rattle.std.proofs.Common.{length, [], ◌∷◌, ap, ◌∙◌, arith, length-append, ◌+◌, ◌≤◌}
 use Rattle.std.proofs.lemmas.Result.{err_from_is_err_and}
-use Rattle.ent_replay.proofs.OutcomeLemmas.{spaced_fits}
+use Rattle.ent_replay.proofs.SpacedHandles.{spaced_fits}
 use Rattle.ent_handle.specs.Text.{handle_text}
 use Rattle.ent_replay.specs.OutcomeText.{spaced}
 use Rattle.ent_replay.proofs.writing.append_spaced.Goals.{After-append}

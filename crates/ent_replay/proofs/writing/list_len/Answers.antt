@@ -1,6 +1,6 @@
 use Rattle.std.proofs.Common.{ap, length, arith}
 use Rattle.ent_replay.specs.OutcomeText.{spaced, outcome_text}
-use Rattle.ent_replay.proofs.OutcomeLemmas.{length-handles_text}
+use Rattle.ent_replay.proofs.SpacedHandles.{length-handles_text}
 use Rattle.ent_replay.proofs.writing.list_len.Goals as goal
 
 pub returns-in-Handles-clause-within : goal.returns-in-Handles-clause-within

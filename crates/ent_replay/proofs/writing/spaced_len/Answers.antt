@@ -1,7 +1,7 @@
 use Rattle.std.proofs.Common.{◌≡◌, ap, length, drop, arith}
 use Rattle.std.proofs.lemmas.List.{drop_all}
 use Rattle.ent_replay.specs.OutcomeText.{spaced}
-use Rattle.ent_replay.proofs.OutcomeLemmas.{length-spaced_drop}
+use Rattle.ent_replay.proofs.SpacedHandles.{length-spaced_drop}
 use Rattle.ent_replay.proofs.writing.spaced_len.Goals as goal
 
 pub loop-handle-preserved : goal.loop-handle-preserved

@@ -9,7 +9,7 @@ use Rattle.spawnrun_advice.specs.Found.{TellsOfLine}
 use Rattle.spawnrun_lib.specs.Advice.{AdvisesOnSchedule, schedule_long, schedule_none}
 use Rattle.spawnrun_lib.specs.Replay.{ReplayEnds, runs, is_too_long, spells_none, input_limit}
 use Rattle.spawnrun_lib.specs.Replay.{outcome_lines, refused_line}
-use Rattle.spawnrun_lib.proofs.ReplayLemmas.{advised, is_longer, reported, told_is, refused_by_size}
+use Rattle.spawnrun_lib.proofs.WrittenOfInput.{advised, is_longer, reported, told_is, refused_by_size}
 use Rattle.spawnrun_lib.proofs.replaying.replay.Given as given
 use Rattle.spawnrun_lib.proofs.replaying.replay.Goals.{In-Ok, In-Err-TooLong}
 use Rattle.spawnrun_lib.proofs.replaying.replay.Goals as goal

@@ -7,9 +7,9 @@ use Rattle.spawnrun_advice.specs.Found.{TellsOfScript}
 use Rattle.spawnrun_lib.specs.Advice.{AdvisesOnScript, script_long, script_none}
 use Rattle.spawnrun_lib.specs.Replay.{input_limit}
 use Rattle.spawnrun_lib.specs.Running.{RunEnds, IsScriptReport, runs, is_too_long, means_none}
-use Rattle.spawnrun_lib.proofs.ReplayLemmas.{advised, had_memory, is_longer, told_is, written}
-use Rattle.spawnrun_lib.proofs.ReplayLemmas.{refused_by_size}
-use Rattle.spawnrun_lib.proofs.RunningLemmas.{IsRefusal, fault_read, made, refusal}
+use Rattle.spawnrun_lib.proofs.WrittenOfInput.{advised, had_memory, is_longer, told_is, written}
+use Rattle.spawnrun_lib.proofs.WrittenOfInput.{refused_by_size}
+use Rattle.spawnrun_lib.proofs.OutputOfScript.{IsRefusal, fault_read, made, refusal}
 use Rattle.spawnrun_lib.proofs.running.run.Given as given
 use Rattle.spawnrun_lib.proofs.running.run.Goals.{In-Ok, In-Err, In-Err-TooLong}
 use Rattle.spawnrun_lib.proofs.running.run.Goals as goal

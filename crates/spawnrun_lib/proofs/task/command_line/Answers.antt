@@ -1,9 +1,9 @@
 use Rattle.std.proofs.Common.{◌≡◌, ◌∙◌, IfSome, ℕ, List, codes, true, refl, sym, map, subst, Some}
 use Rattle.clap.specs.Words.{HasKind, rows_of, found_of, takes, subcommand_of}
 use Rattle.spawnrun_lib.specs.CommandLine.{program}
-use Rattle.spawnrun_lib.proofs.CommandLineLemmas.{IsProgram-names, MeetsTask-parse, found_fault}
-use Rattle.spawnrun_lib.proofs.CommandLineLemmas.{none_other, only_memory, replay_asked, run_asked}
-use Rattle.spawnrun_lib.proofs.CommandLineLemmas.{subcommand_met-named, MeetsTask}
+use Rattle.spawnrun_lib.proofs.TaskOfWords.{IsProgram-names, MeetsTask-parse, found_fault}
+use Rattle.spawnrun_lib.proofs.TaskOfWords.{none_other, only_memory, replay_asked, run_asked}
+use Rattle.spawnrun_lib.proofs.TaskOfWords.{subcommand_met-named, MeetsTask}
 use Rattle.spawnrun_lib.proofs.task.command_line.Given as given
 use Rattle.spawnrun_lib.proofs.task.command_line.Goals.{In_ok-matches, In-replay, In-run}
 use Rattle.spawnrun_lib.proofs.task.command_line.Goals as goal
