@@ -80,7 +80,8 @@ pub fn assert_issues(
     assert_entries(rt, alloc, &queue, entries);
 }
 
-fn assert_entries(rt: &impl Abort, alloc: Global, queue: &CommandQueue, want: &str) {
+/// Compares the commands of a queue with the text.
+pub fn assert_entries(rt: &impl Abort, alloc: Global, queue: &CommandQueue, want: &str) {
     let mut entries = text(rt, alloc);
     write_queue(&mut entries, queue).expect(rt, "room for the entries");
     assert_eq!(rt; entries.as_str(), want);

@@ -1,8 +1,8 @@
 //! Worked queues.
 ghost use Rattle.ent_shared.specs.Phase.{IsOf};
 
-use crate::call::Call;
-use crate::phase::{assert_issues, issued, opened};
+use crate::call::{Call, issue};
+use crate::phase::{assert_entries, assert_issues, issued, opened};
 use crate::shown::text;
 use ent_queue::Commands;
 use ent_shared::{Reserver, Shared};
@@ -32,6 +32,26 @@ fn a_refusal_stays_in_the_queue(rt: HostRuntime) {
          remove 0v1 1\n\
          despawn 9v1\n",
     );
+}
+
+#[test]
+fn a_queue_goes_on(rt: HostRuntime) {
+    let alloc = rt.alloc();
+    let (shared, mut reserver) = opened(&rt, alloc, 2);
+    let first = [Call::Spawn(&[(0, 5)])];
+    let begun = issued(
+        &rt,
+        alloc,
+        &shared,
+        &mut reserver,
+        &first,
+        &mut text(&rt, alloc),
+    );
+    let mut commands = Commands::resume(alloc, &shared, &mut reserver, begun);
+    let later = issue(&rt, alloc, &mut commands, Call::Despawn((0, 1)));
+    assert!(rt; later.is_ok());
+    let queue = commands.finish();
+    assert_entries(&rt, alloc, &queue, "spawn 0v1 with 1: 0=5\ndespawn 0v1\n");
 }
 
 #[test]
