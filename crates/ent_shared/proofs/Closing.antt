@@ -13,6 +13,7 @@ use Rattle.std.proofs.lemmas.Bool.{cases_lt}
 use Rattle.std.proofs.lemmas.List.Sorted.{length_permutation}
 use Rattle.std.proofs.lemmas.Int.{ints}
 use Rattle.ent_handle.specs.Handle.{Handle}
+use Rattle.ent_alloc.specs.Entities.{Entities}
 use Rattle.ent_alloc.specs.Sequential.{Allocator, available, cursor, top, asked_at, settled}
 use Rattle.ent_alloc.specs.Sequential.{after_flush}
 use Rattle.ent_alloc.specs.Sound.{IsSound, IsLive}
@@ -253,17 +254,19 @@ pub in_word : (top : ℕ) (z : ℤ) → top < 2 ^ 32 → pos top ≤ℤ (z +ℤ 
     → to_z w64 (of_z w64 z) ≡ z
 in_word top z small least greatest = omega (arith, ints)
 
-pub ended : (here start : Allocator) (n count : ℕ) (key : Opening) (records : List Record)
-    (at floor from : ℤ) → IsStart here → IsSound here → n ≤ 1024 → key
-    ≡ record { entities = here; count = n }
-    → here ≡ start → n ≡ count → length records ≡ count → IsClosed key.entities key.count records at
-    → from ≡ pos (top here) → floor ≡ least_floor (to_z w64 (of_z w64 from)) records
-    → Ended here start records (to_z w64 (of_z w64 at)) (to_z w64 (of_z w64 floor))
-ended here start n count key records at floor from begins sound few key_is here_is n_is whole closed
-    from_is floor_is =
+pub ended : (entities : Entities) (start : Allocator) (n count : ℕ) (key : Opening)
+    (records : List Record) (at floor from : ℤ) → IsStart entities.allocator
+    → IsSound entities.allocator → n ≤ 1024 → key ≡ record { entities = entities; count = n }
+    → entities.allocator ≡ start → n ≡ count → length records ≡ count
+    → IsClosed key.entities.allocator key.count records at → from ≡ pos (top entities.allocator)
+    → floor ≡ least_floor (to_z w64 (of_z w64 from)) records
+    → Ended entities.allocator start records (to_z w64 (of_z w64 at)) (to_z w64 (of_z w64 floor))
+ended entities start n count key records at floor from begins sound few key_is here_is n_is whole
+    closed from_is floor_is =
+    let here : Allocator = entities.allocator in
     let small = begins.top in
-    let k : IsClosed here n records at = subst (λ (o : Opening). IsClosed o.entities o.count records
-    at) key_is closed in
+    let k : IsClosed here n records at = subst (λ (o : Opening). IsClosed o.entities.allocator
+    o.count records at) key_is closed in
     let from_word : to_z w64 (of_z w64 from) ≡ pos (top here) = omega (arith, ints) in
     let e : Ended here here records at floor = ended_at here n records at floor sound begins.flushed
     few (whole ∙ sym n_is) k (floor_is ∙ ap (λ (z : ℤ). least_floor z records) from_word) in

@@ -16,6 +16,7 @@ use mir.Syntax.{w64}
 use mir.Val.{to_z, of_z}
 use Rattle.ent_handle.specs.Handle.{Handle}
 use Rattle.ent_alloc.specs.declared.space.Space.{Space}
+use Rattle.ent_alloc.specs.Entities.{Entities}
 use Rattle.ent_alloc.specs.Limits.{credit}
 use Rattle.ent_alloc.specs.Sequential.{Allocator, available, cursor, top, is_old, asked_at, pool_at}
 use Rattle.ent_alloc.specs.Sequential.{listed, settled}
@@ -235,20 +236,23 @@ lost_at start count records at floor sound flushed few k which =
           records k.each;
     }
 
-pub lost : (here start : Allocator) (n count room : ℕ) (key : Opening) (records : List Record)
-    (at floor roomed : ℤ) → IsStart here → IsSound here → n ≤ 1024 → key
-    ≡ record { entities = here; count = n }
-    → here ≡ start → n ≡ count → IsClosed key.entities key.count records at → room
-    ≡ here.limits.slots - here.made → room < 2 ^ 32 → roomed ≡ pos room
-    → floor ≡ int_max (to_z w64 (of_z w64 at))
+pub lost : (entities : Entities) (start : Allocator) (n count room : ℕ) (key : Opening)
+    (records : List Record) (at floor roomed : ℤ) → IsStart entities.allocator
+    → IsSound entities.allocator → n ≤ 1024 → key ≡ record { entities = entities; count = n }
+    → entities.allocator ≡ start → n ≡ count
+    → IsClosed key.entities.allocator key.count records at
+    → room ≡ entities.allocator.limits.slots - entities.allocator.made → room < 2 ^ 32
+    → roomed ≡ pos room → floor ≡ int_max (to_z w64 (of_z w64 at))
     (to_z w64 (of_z w64 (pos 0 -ℤ to_z w64 (of_z w64 roomed))))
-    → Lost here start count records (to_z w64 (of_z w64 at)) (to_z w64 (of_z w64 floor))
-lost here start n count room key records at floor roomed begins sound few key_is here_is n_is closed
-    room_is room_small roomed_is floor_is =
+    → Lost entities.allocator start count records (to_z w64 (of_z w64 at))
+    (to_z w64 (of_z w64 floor))
+lost entities start n count room key records at floor roomed begins sound few key_is here_is n_is
+    closed room_is room_small roomed_is floor_is =
+    let here : Allocator = entities.allocator in
     let small = begins.top in
     let flushed = begins.flushed in
-    let k : IsClosed here n records at = subst (λ (o : Opening). IsClosed o.entities o.count records
-    at) key_is closed in
+    let k : IsClosed here n records at = subst (λ (o : Opening). IsClosed o.entities.allocator
+    o.count records at) key_is closed in
     let least = cursor_least here n records at k sound flushed few in
     let greatest = cursor_greatest here n records at k sound flushed in
     let end : ℤ = neg_ℤ (pos (here.limits.slots - here.made)) in

@@ -1,11 +1,13 @@
 -- The reservers of a phase, as they are made one by one.
 use Rattle.std.proofs.Common.{◌≡◌, ℕ, zero, suc, ◌+◌, ◌-◌, ◌<◌, ◌≤◌, ℤ, ◌≤ℤ◌, List, [], ◌∷◌, ◌++◌}
 use Rattle.std.proofs.Common.{map, take, drop, refl, sym, ap, subst, ◌∙◌, arith}
+use Rattle.std.specs.FinMap as maps
 use Rattle.std.specs.List.{All}
 use Rattle.std.proofs.lemmas.List.{map-append}
 use Rattle.std.proofs.lemmas.List.Elements.{All-nil, All-cons}
 use Rattle.atomic_table.specs.Seated.{TableId}
 use Rattle.atomic_table.specs.Table.{Me}
+use Rattle.ent_handle.specs.Handle.{handle_cmp}
 use Rattle.ent_alloc.specs.Sequential.{Allocator, cursor}
 use Rattle.ent_shared.specs.declared.record.Record.{Record}
 use Rattle.ent_shared.specs.declared.record.Reservation.{Reservation}
@@ -106,18 +108,18 @@ pub all_shared : (start : Allocator) (n : ℕ) (word seat : TableId) (made : Lis
 all_shared start n word seat made me d = ap (map (λ (r : Reserver). r.own)) d.made_is
     ∙ own_again word (opened_records start 0 n)
 
-all_of : (start : Allocator) (count : ℕ) (word : TableId) (number many : ℕ) → number + many ≤ count
-    → All (IsOf (record { word = word; start = start; count = count }))
+all_of : (start : Allocator) (rows : maps.FinMap handle_cmp ℕ) (count : ℕ) (word : TableId)
+    (number many : ℕ) → number + many ≤ count → All (IsOf (record { word = word; start = start; rows = rows; count = count }))
     (map (seated word) (opened_records start number many))
 unfolding opened_records
-all_of start count word number zero within =
-    All-nil (IsOf (record { word = word; start = start; count = count }))
-all_of start count word number (suc many) within =
-    All-cons (IsOf (record { word = word; start = start; count = count }))
+all_of start rows count word number zero within =
+    All-nil (IsOf (record { word = word; start = start; rows = rows; count = count }))
+all_of start rows count word number (suc many) within =
+    All-cons (IsOf (record { word = word; start = start; rows = rows; count = count }))
     (seated word (opened start number))
     (map (seated word) (opened_records start (number + 1) many))
     (record { word = refl; start = refl; number = omega arith; credit = omega arith })
-    (all_of start count word (number + 1) many (omega arith))
+    (all_of start rows count word (number + 1) many (omega arith))
 
 none_used : (start : Allocator) (word : TableId) (number many : ℕ)
     → All (λ (r : Reserver). r.own.entries ≡ [])
@@ -137,8 +139,9 @@ all_unused start n word seat made me d = subst (All (λ (r : Reserver). r.own.en
 
 pub all_own : (start : Allocator) (n : ℕ) (word seat : TableId) (made : List Reserver)
     (me : Me (Unit {0}) (List Record)) → AreShared start n n word made seat me
-    → (shared : Shared) → shared ≡ record { word = word; start = start; count = n }
+    → (shared : Shared) (rows : maps.FinMap handle_cmp ℕ) → shared
+    ≡ record { word = word; start = start; rows = rows; count = n }
     → All (IsOf shared) made
-all_own start n word seat made me d shared is =
+all_own start n word seat made me d shared rows is =
     subst (λ (p : Shared × List Reserver). All (IsOf p.0) p.1) (λ i. (sym is i, sym d.made_is i))
-    (all_of start n word 0 n (omega arith))
+    (all_of start rows n word 0 n (omega arith))

@@ -3,7 +3,10 @@ use Rattle.std.specs.Prelude.{◌≡◌, ℕ, ◌+◌, ◌<◌, ◌≤◌, ℤ, 
 use Rattle.std.specs.Prelude.{refl}
 use Rattle.std.specs.List.{All}
 use Rattle.std.specs.Coded.{Coded, code_by, coded×, coded_ℕ}
+use Rattle.std.specs.FinMap as maps
 use Rattle.atomic_table.specs.Seated.{TableId, table_id_coded}
+use Rattle.ent_handle.specs.Handle.{handle_cmp, handle_code}
+use Rattle.ent_alloc.specs.Entities.{Entities}
 use Rattle.ent_alloc.specs.Limits.{credit}
 use Rattle.ent_alloc.specs.Sequential.{Allocator, allocator_code, opening}
 use Rattle.ent_alloc.specs.Sound.{IsSound}
@@ -15,10 +18,12 @@ use Rattle.ent_shared.specs.Record.{low, known_reservations, requested_by}
 use Rattle.ent_shared.specs.declared.rule.Opening.{Opening}
 use Rattle.ent_shared.specs.Rule.{IsStart}
 
--- which atomic word it is, the allocator as it was shared, and how many reservers there are
+-- which atomic word it is, the allocator as it was shared, the rows that are kept with its living
+-- handles, and how many reservers there are
 pub record Shared : Type 0 where
   pub word : TableId
   pub start : Allocator
+  pub rows : maps.FinMap handle_cmp ℕ
   pub count : ℕ
 
 -- which word it reserves from, and what it has done
@@ -28,9 +33,11 @@ pub record Reserver : Type 0 where
 
 abbrev pub shared_code : Coded Shared
 shared_code =
-    code_by (TableId × (Allocator × ℕ)) (coded× table_id_coded (coded× allocator_code coded_ℕ))
-    (λ s. (s.word, (s.start, s.count)))
-    (λ p. record { word = p.0; start = p.1.0; count = p.1.1 }) (λ _. refl)
+    code_by (TableId × (Allocator × (maps.FinMap handle_cmp ℕ × ℕ)))
+    (coded× table_id_coded
+    (coded× allocator_code (coded× (maps.code handle_code coded_ℕ) coded_ℕ)))
+    (λ s. (s.word, (s.start, (s.rows, s.count))))
+    (λ p. record { word = p.0; start = p.1.0; rows = p.1.1.0; count = p.1.1.1 }) (λ _. refl)
 
 abbrev pub reserver_code : Coded Reserver
 reserver_code =
@@ -79,12 +86,13 @@ pub record IsSeated (views : List (List Record)) (number left : ℕ) (floor : �
   pub below : IsBelow (own_of views).mark (own_of views).entries
   pub credit : (own_of views).left + requested_by (own_of views) ≡ credit
 
--- the allocator lies unchanged beside the word
-pub record IsPhase (start : Allocator) (count : ℕ) (key : Opening) (word : TableId) : Type 0 where
-  pub begins : IsStart start
-  pub sound : IsSound start
+-- the allocator and its rows lie unchanged beside the word
+pub record IsPhase (entities : Entities) (count : ℕ) (key : Opening) (word : TableId)
+    : Type 0 where
+  pub begins : IsStart entities.allocator
+  pub sound : IsSound entities.allocator
   pub few : count ≤ 1024
-  pub key_is : key ≡ record { entities = start; count = count }
+  pub key_is : key ≡ record { entities = entities; count = count }
   pub words : word.words ≡ 1
   pub slots : word.slots ≡ 0
 

@@ -11,7 +11,7 @@ mod shared;
 mod word;
 
 pub use phase::share;
-pub use record::{Record, RecordEntry, Reservation};
+pub use record::{Record, RecordEntry, Reservation, Start};
 pub use refused::Refused;
 pub use reserver::Reserver;
 pub use shared::Shared;

@@ -23,15 +23,17 @@ pub fn share(
     entities: Entities,
     n: usize,
 ) -> Result<(Shared, Vec<Reserver>), (Entities, Memory)>
-    requires flushed { entities.asked ≡ 0 }
+    requires flushed { entities.allocator.asked ≡ 0 }
     requires some { 0 < n }
     requires few { n ≤ 1024 }
-    ensures shared { IfOk result (λ made. (made.0.start ≡ entities) × (made.0.count ≡ n)) }
+    ensures shared { IfOk result (λ made.
+        (made.0.start ≡ entities.allocator) × (made.0.count ≡ n)) }
+    ensures rows { IfOk result (λ made. made.0.rows ≡ entities.rows) }
     // What is shared is in a state that steps lead to.
     ensures sound { IfOk result (λ made. IsSound made.0.start) }
     ensures count { IfOk result (λ made. length made.1.items ≡ n) }
     ensures reservers { IfOk result (λ made.
-        records_of made.1.items ≡ opened_records entities 0 n) }
+        records_of made.1.items ≡ opened_records entities.allocator 0 n) }
     ensures unused { IfOk result (λ made. All (λ r. r.own.entries ≡ []) made.1.items) }
     ensures own { IfOk result (λ made. All (IsOf made.0) made.1.items) }
     ensures err { IfErr result (λ refused. refused.0 ≡ entities) }

@@ -3,6 +3,23 @@
 use ent_alloc::{Entities, Space};
 use ent_handle::Handle;
 use std::collections::LinkedList;
+use std::marker::Model;
+
+/// The allocator as it was shared, without the rows that a program keeps in it: what a caller does
+/// has nothing to do with them, so its record says nothing of them.
+pub struct Start {
+    entities: Entities,
+}
+
+impl Model for Start {
+    ghost use Rattle.ent_alloc.specs.Sequential.{Allocator, allocator_code};
+
+    ghost Value = { Allocator };
+
+    ghost coded = { allocator_code };
+
+    ghost view = { λ s. s.entities.allocator };
+}
 
 /// One reservation. It covers the positions from `high` less `requested` up to, not including,
 /// `high`.
@@ -29,7 +46,7 @@ pub enum RecordEntry {
 /// One reserver's record of its phase.
 pub struct Record {
     /// The allocator as it was shared.
-    pub start: Entities,
+    pub start: Start,
     /// The position of the reserver in the list that `share` gave, from 0.
     pub number: u64,
     /// What it did, in order.

@@ -19,9 +19,9 @@ pub(crate) struct Opening {
 pub(crate) struct Cursor;
 
 impl TableRule<(), SeatRecords<Record>, Opening> for Cursor {
-    ghost holds = { λ opening. IsRuled opening.entities opening.count };
+    ghost holds = { λ opening. IsRuled opening.entities.allocator opening.count };
 
-    ghost first = { λ opening. opened_records opening.entities 0 opening.count };
+    ghost first = { λ opening. opened_records opening.entities.allocator 0 opening.count };
 }
 
 /// A reservation.

@@ -37,8 +37,12 @@ impl Model for Shared {
 
     ghost coded = { shared_code };
 
-    ghost view = { λ s.
-        record { word = s.word.shared.table_id; start = s.entities; count = s.count } };
+    ghost view = { λ s. record {
+      word = s.word.shared.table_id;
+      start = s.entities.allocator;
+      rows = s.entities.rows;
+      count = s.count;
+    } };
 
     ghost invariant = { λ s. IsPhase s.entities s.count s.word.shared.key s.word.shared.table_id };
 }
@@ -46,7 +50,12 @@ impl Model for Shared {
 impl Shared {
     pub(crate) fn new(entities: Entities, word: Word, count: usize) -> Self
         requires { IsPhase entities count word.shared.key word.shared.table_id }
-        ensures { result ≡ record { word = word.shared.table_id; start = entities; count = count } }
+        ensures { result ≡ record {
+          word = word.shared.table_id;
+          start = entities.allocator;
+          rows = entities.rows;
+          count = count;
+        } }
     {
         Shared {
             entities,
@@ -173,8 +182,9 @@ impl Shared {
         ensures legal { IsLegal self.start (history_of (records_of reservers.items)) }
         ensures respects { let records = records_of reservers.items in
             All (Respects (reservations_of records)) records }
-        ensures after { result
+        ensures after { result.allocator
             ≡ after_history self.start (history_of (records_of reservers.items)) }
+        ensures rows { result.rows ≡ self.rows }
 
         // Each reservation stands once, where its step came: the cursor falls with each.
         ensures falls { AllPairs (λ earlier later. later.high <ℤ earlier.high)
@@ -192,7 +202,7 @@ impl Shared {
         // A flush brings to life exactly what was given.
         ensures brings_to_life { let given = given_in (history_of (records_of reservers.items)) in
             (h : HandleValue) →
-            IsLive (after_flush result) h ↔ (IsLive self.start h ⊎ Contains given h) }
+            IsLive (after_flush result.allocator) h ↔ (IsLive self.start h ⊎ Contains given h) }
     {
         let Shared {
             mut entities,
@@ -210,25 +220,27 @@ impl Shared {
     /// takes no memory.
     pub fn close_lost(self, reservers: Vec<Reserver>) -> Entities
         requires own { All (IsOf self) reservers.items }
-        ensures after { result ≡ after_loss self.start result.asked }
+        ensures after { result.allocator ≡ after_loss self.start result.allocator.asked }
+        ensures rows { result.rows ≡ self.rows }
 
         // It counts what the reservers that are here have requested, and of the others no more than
         // their credit.
-        ensures least { sum_by (λ r. requested_by r.own) reservers.items ≤ result.asked }
-        ensures most { sum_by (λ r. r.own.left) reservers.items + result.asked
+        ensures least { sum_by (λ r. requested_by r.own) reservers.items
+            ≤ result.allocator.asked }
+        ensures most { sum_by (λ r. r.own.left) reservers.items + result.allocator.asked
             ≤ self.count * credit }
-        ensures reached { All (λ r. cursor result ≤ℤ r.own.mark) reservers.items }
+        ensures reached { All (λ r. cursor result.allocator ≤ℤ r.own.mark) reservers.items }
 
         // If all are here, it counts what they have requested, and the cursor is where `close`
         // leaves it.
         ensures asked { length reservers.items ≡ self.count
-            → sum_by (λ r. requested_by r.own) reservers.items ≡ result.asked }
+            → sum_by (λ r. requested_by r.own) reservers.items ≡ result.allocator.asked }
         ensures whole { length reservers.items ≡ self.count
-            → cursor result
+            → cursor result.allocator
             ≡ cursor (after_history self.start (history_of (records_of reservers.items))) }
 
         // What the reservers that are here were given is reserved.
-        ensures given { All (λ r. All (Contains result.taken) (handles_given r.own))
+        ensures given { All (λ r. All (Contains result.allocator.taken) (handles_given r.own))
             reservers.items }
     {
         let Shared {
@@ -247,7 +259,7 @@ fn end_phase(word: Word, top: i64, reservers: Vec<Reserver>) -> (i64, i64)
     requires word { (word.shared.table_id.words ≡ 1) × (word.shared.table_id.slots ≡ 0) }
     requires own { All (λ r. r.word ≡ word.shared.table_id) reservers.items }
     ensures cursor { let opening = word.shared.key in
-        IsClosed opening.entities opening.count (records_of reservers.items) result.0 }
+        IsClosed opening.entities.allocator opening.count (records_of reservers.items) result.0 }
     ensures floor { result.1 ≡ least_floor top (records_of reservers.items) }
 {
     let mut all = new_seat(&word);

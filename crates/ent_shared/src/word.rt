@@ -22,12 +22,13 @@ pub(crate) type CursorSeat = RecordsSeat<Record>;
 
 /// A word that begins at the cursor of the allocator, and a seat that has all records.
 pub(crate) fn open(alloc: Global, opening: &Opening) -> Result<(Word, CursorSeat), AllocError>
-    requires start { IsStart opening.now.entities }
+    requires start { IsStart opening.now.entities.allocator }
     requires count { opening.now.count ≤ 1024 }
     ensures word { IfOk result (λ made.
         IsPhase opening.now.entities opening.now.count made.0.shared.key made.0.shared.table_id) }
-    ensures seat { IfOk result (λ made. (made.1.table_id ≡ made.0.shared.table_id)
-        × (made.1.me ≡ (opened_records opening.now.entities 0 opening.now.count, []))) }
+    ensures seat { let start = opening.now.entities.allocator in
+        IfOk result (λ made. (made.1.table_id ≡ made.0.shared.table_id)
+        × (made.1.me ≡ (opened_records start 0 opening.now.count, []))) }
 {
     let cursor = opening.entities.cursor();
     Table::of_words(alloc, &[(cursor + OFFSET) as u64], opening)
@@ -79,7 +80,7 @@ pub(crate) fn meet(word: &Word, a: &mut RecordsBadge<Record>, b: &mut RecordsBad
 pub(crate) fn close(word: Word, all: CursorSeat) -> i64
     requires word { (word.shared.table_id.words ≡ 1) × (word.shared.table_id.slots ≡ 0)
         × (all.table_id ≡ word.shared.table_id) }
-    ensures { IsClosed word.shared.key.entities word.shared.key.count all.me.0 result }
+    ensures { IsClosed word.shared.key.entities.allocator word.shared.key.count all.me.0 result }
 {
     let closed = word.close_with(all);
     let last = closed.word(0);

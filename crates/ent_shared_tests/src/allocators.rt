@@ -8,14 +8,14 @@ use std::process::Abort;
 
 /// An allocator that may make `slots` slots.
 pub fn with_slots(rt: &impl Abort, alloc: Global, slots: u32) -> Entities
-    ensures { result.asked ≡ 0 }
+    ensures { result.allocator.asked ≡ 0 }
 {
     Entities::new(alloc, Limits::new(slots, 7).expect(rt, "limits"))
 }
 
 /// An allocator with `n` slots, whose first occupants are gone: 0 was freed first.
 pub fn with_freed(rt: &impl Abort, alloc: Global, n: u32) -> Entities
-    ensures { result.asked ≡ 0 }
+    ensures { result.allocator.asked ≡ 0 }
 {
     let mut entities = Entities::new(alloc, Limits::default_limits());
     for _ in 0..n {
@@ -33,7 +33,7 @@ pub fn with_freed(rt: &impl Abort, alloc: Global, n: u32) -> Entities
 /// An allocator that may make `slots` slots and has made `made` of them. The first `freed` ones
 /// wait for their next occupant, and in the others somebody lives.
 pub fn with_made(rt: &impl Abort, alloc: Global, slots: u32, made: u32, freed: u32) -> Entities
-    ensures { result.asked ≡ 0 }
+    ensures { result.allocator.asked ≡ 0 }
 {
     let mut entities = with_slots(rt, alloc, slots);
     for _ in 0..made {

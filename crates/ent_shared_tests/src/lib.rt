@@ -20,6 +20,8 @@ mod memory;
 #[cfg(test)]
 mod phase;
 #[cfg(test)]
+mod rows;
+#[cfg(test)]
 mod texts;
 #[cfg(test)]
 mod threads;

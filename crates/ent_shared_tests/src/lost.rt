@@ -21,7 +21,7 @@ enum End {
 /// The allocator after a phase of two reservers, each of which requested these numbers of handles
 /// in turn.
 fn after(rt: &impl Abort, alloc: Global, entities: Entities, requests: &[u32], end: End) -> Entities
-    requires { entities.asked ≡ 0 }
+    requires { entities.allocator.asked ≡ 0 }
 {
     let (shared, mut reservers) = opened(rt, alloc, entities, 2);
     let mut b = last(rt, alloc, &shared, &mut reservers);
@@ -213,7 +213,7 @@ fn after_all_are_lost(
     entities: Entities,
     requests: [u32; 3],
 ) -> Entities
-    requires { entities.asked ≡ 0 }
+    requires { entities.allocator.asked ≡ 0 }
 {
     let (shared, mut reservers) = opened(rt, alloc, entities, 3);
     for n in requests {

@@ -15,7 +15,7 @@ pub fn opened(
     entities: Entities,
     n: usize,
 ) -> (Shared, Vec<Reserver>)
-    requires flushed { entities.asked ≡ 0 }
+    requires flushed { entities.allocator.asked ≡ 0 }
     requires some { 0 < n }
     requires few { n ≤ 1024 }
     ensures count { result.0.count ≡ n }

@@ -9,7 +9,7 @@ use Rattle.ent_shared.proofs.phase.share.Goals as goal
 
 pub loop-number-init : goal.loop-number-init
 loop-number-init c = record {
-  first = none_shared c.args.entities c.args.n _ _ _ c.in-Ok-open.all.me c.in-Ok.ensures.items
+  first = none_shared c.args.entities.allocator c.args.n _ _ _ c.in-Ok-open.all.me c.in-Ok.ensures.items
       c.in-Ok-open.ensures.seat.0 c.in-Ok-open.ensures.seat.1;
   count = search rules;
   room = (let e = c.in-Ok.ensures.exact in omega arith);
@@ -24,15 +24,15 @@ new-requires c =
     let from = c.from-top.ensures in
     let flushed = c.requires.flushed in
     let small = c.top.type_inv in
-    let at : to_z w64 (of_z w64 c.from-top.result) ≡ cursor c.args.entities = omega (arith, ints) in
-    next_seated c.args.entities c.args.n c.loop-number.number _ _ _ c.loop-number.all.me
+    let at : to_z w64 (of_z w64 c.from-top.result) ≡ cursor c.args.entities.allocator = omega (arith, ints) in
+    next_seated c.args.entities.allocator c.args.n c.loop-number.number _ _ _ c.loop-number.all.me
     c.loop-number-test.true c.loop-number.invariant.first c.split_first.result.views _
     c.split_first.ensures.first.1 at
 
 pub loop-number-preserved : goal.loop-number-preserved
 loop-number-preserved c = record {
   first =
-      shared_more c.args.entities c.args.n c.loop-number.number _ _ _ c.loop-number.all.me
+      shared_more c.args.entities.allocator c.args.n c.loop-number.number _ _ _ c.loop-number.all.me
       c.loop-number-test.true c.loop-number.invariant.first c.split_first.new.all.table_id
       c.split_first.new.all.me c.new.result
       c.split_first.ensures.kept.0 c.split_first.ensures.kept.1 c.split_first.result.views
@@ -50,22 +50,22 @@ loop-number-preserved c = record {
 }
 
 -- all reservers are made
-made : (c : goal.After-drop-all) → AreShared c.args.entities c.args.n c.args.n
+made : (c : goal.After-drop-all) → AreShared c.args.entities.allocator c.args.n c.args.n
     c.in-Ok-open.word.shared.table_id c.loop-number.reservers.items c.loop-number.all.table_id
     c.loop-number.all.me
 made c =
     let all : c.loop-number.number ≡ c.args.n = (let end = c.loop-number.auto.number-end in
     let last = c.loop-number-test.false in omega arith) in
-    subst (λ k. AreShared c.args.entities c.args.n k c.in-Ok-open.word.shared.table_id
+    subst (λ k. AreShared c.args.entities.allocator c.args.n k c.in-Ok-open.word.shared.table_id
     c.loop-number.reservers.items c.loop-number.all.table_id c.loop-number.all.me) all
     c.loop-number.invariant.first
 
 pub returns-clause-reservers : goal.returns-clause-reservers
-returns-clause-reservers c = all_shared c.args.entities c.args.n _ _ _ _ (made c)
+returns-clause-reservers c = all_shared c.args.entities.allocator c.args.n _ _ _ _ (made c)
 
 pub returns-clause-own : goal.returns-clause-own
-returns-clause-own c = all_own c.args.entities c.args.n _ _ _ _ (made c) c.new-2.result
+returns-clause-own c = all_own c.args.entities.allocator c.args.n _ _ _ _ (made c) c.new-2.result _
     c.new-2.ensures
 
 pub returns-clause-unused : goal.returns-clause-unused
-returns-clause-unused c = all_unused c.args.entities c.args.n _ _ _ _ (made c)
+returns-clause-unused c = all_unused c.args.entities.allocator c.args.n _ _ _ _ (made c)

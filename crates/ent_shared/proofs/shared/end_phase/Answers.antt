@@ -71,7 +71,7 @@ returns-clause-cursor c =
     ∙ ap records_of (all_in c) in
     let fits = c.close.type_inv in
     let at : to_z w64 (of_z w64 c.close.result) ≡ c.close.result = omega (arith, ints) in
-    rw at (subst (λ (rs : List Record). IsClosed c.args.word.shared.key.entities
+    rw at (subst (λ (rs : List Record). IsClosed c.args.word.shared.key.entities.allocator
     c.args.word.shared.key.count rs c.close.result) records c.close.ensures)
 
 pub returns-clause-floor : goal.returns-clause-floor

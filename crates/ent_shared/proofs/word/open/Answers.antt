@@ -10,7 +10,7 @@ of_words-requires c =
     let start = c.requires.start in
     let flushed = start.flushed in
     let at = c.cursor-cursor.ensures.value in
-    let here : c.cursor-cursor.result ≡ pos (top c.args.opening.now.entities) = omega (arith, ints)
+    let here : c.cursor-cursor.result ≡ pos (top c.args.opening.now.entities.allocator) = omega (arith, ints)
     in
     begins _ _ _ start c.requires.count
-    (word_is c.cursor-cursor.result (top c.args.opening.now.entities) start.top here ∙ at)
+    (word_is c.cursor-cursor.result (top c.args.opening.now.entities.allocator) start.top here ∙ at)

@@ -11,7 +11,7 @@ use Rattle.ent_shared.proofs.shared.Shared.close.Goals.{After-end_phase-cursor}
 use Rattle.std.proofs.Common.{to_z, of_z, w64}
 
 -- what is known before the allocator is settled
-known : (c : After-end_phase-cursor) → Ended c.self.inside.entities c.args.self.start
+known : (c : After-end_phase-cursor) → Ended c.self.inside.entities.allocator c.args.self.start
     (records_of c.args.reservers.items) (to_z w64 (of_z w64 c.end_phase-cursor.result.0))
     (to_z w64 (of_z w64 c.end_phase-cursor.result.1))
 known c =
@@ -44,6 +44,7 @@ returns c =
       legal = end.is_legal;
       respects = end.respects;
       after = settled;
+      rows = c.settle.ensures.rows ∙ ap (λ (s : Shared). s.rows) c.self.view_is;
       falls = end.all_fall;
       numbers = end.all_numbers;
       distinct = end.all_distinct;

@@ -13,7 +13,7 @@ use Rattle.ent_shared.proofs.shared.Shared.close_lost.Goals as goal
 use Rattle.ent_shared.proofs.shared.Shared.close_lost.Goals.{After-max}
 
 -- what is known before the allocator is settled
-known : (c : After-max) → Lost c.self.inside.entities c.args.self.start c.args.self.count
+known : (c : After-max) → Lost c.self.inside.entities.allocator c.args.self.start c.args.self.count
     (records_of c.args.reservers.items) (to_z w64 (of_z w64 c.end_phase-cursor.result.0))
     (to_z w64 (of_z w64 c.max.result))
 known c =
@@ -40,15 +40,15 @@ settle-requires-clause-all_given c =
 
 -- what is left, and how much it was asked for
 left_is : (c : goal.After-settle)
-    (l : Lost c.self.inside.entities c.args.self.start c.args.self.count
+    (l : Lost c.self.inside.entities.allocator c.args.self.start c.args.self.count
     (records_of c.args.reservers.items) (to_z w64 (of_z w64 c.end_phase-cursor.result.0))
-    (to_z w64 (of_z w64 c.max.result))) → c.settle.new.self ≡ after_loss c.args.self.start l.asked
+    (to_z w64 (of_z w64 c.max.result))) → c.settle.new.self.allocator ≡ after_loss c.args.self.start l.asked
 left_is c l = c.settle.ensures.settled ∙ l.after
 
 pub returns-clause-after : goal.returns-clause-after
 returns-clause-after c =
     let l = known (goal.at.returns-clause-after c).After-max in
-    let asked : c.settle.new.self.asked ≡ l.asked = ap (λ (s : Allocator). s.asked)
+    let asked : c.settle.new.self.allocator.asked ≡ l.asked = ap (λ (s : Allocator). s.asked)
     (left_is c l) in
     left_is c l ∙ ap (after_loss c.args.self.start) (sym asked)
 
@@ -83,7 +83,7 @@ returns-clause-most c =
 pub returns-clause-reached : goal.returns-clause-reached
 returns-clause-reached c =
     let l = known (goal.at.returns-clause-reached c).After-max in
-    all_owners (λ (r : Record). cursor c.settle.new.self ≤ℤ r.mark) c.args.reservers.items
+    all_owners (λ (r : Record). cursor c.settle.new.self.allocator ≤ℤ r.mark) c.args.reservers.items
     (subst (λ (s : Allocator). All (λ (r : Record). cursor s ≤ℤ r.mark)
     (records_of c.args.reservers.items)) (sym (left_is c l)) l.reached)
 
@@ -95,7 +95,7 @@ returns-clause-whole c = λ all_here.
 pub returns-clause-given : goal.returns-clause-given
 returns-clause-given c =
     let l = known (goal.at.returns-clause-given c).After-max in
-    all_owners (λ (r : Record). All (Contains c.settle.new.self.taken)
+    all_owners (λ (r : Record). All (Contains c.settle.new.self.allocator.taken)
     (handles_of (own_reservations r.entries))) c.args.reservers.items
     (subst (λ (s : Allocator).
     All (λ (r : Record). All (Contains s.taken) (handles_of (own_reservations r.entries)))

@@ -14,17 +14,17 @@ use Rattle.ent_shared.proofs.shared.Shared.reserve.Goals as goal
 use Rattle.ent_shared.proofs.shared.Shared.reserve.Goals.{After-reply_one}
 
 -- the reserver is of this allocator
-started : (c : After-reply_one) → c.args.reserver.now.own.start ≡ c.self.inside.entities
+started : (c : After-reply_one) → c.args.reserver.now.own.start ≡ c.self.inside.entities.allocator
 started c = c.requires.start ∙ sym (ap (λ (s : Shared). s.start) c.self.view_is)
 
 -- the reply is the allocator's at the cursor that the step found
 replied : (c : After-reply_one) → (k : ℕ) → c.reserve-high.result -ℤ pos 1 ≡ c.reserve-high.result
-    -ℤ pos k → listed_alone c.reply_one.result ≡ reply_from c.self.inside.entities.made
-    (pool_at c.self.inside.entities c.reserve-high.result) k
+    -ℤ pos k → listed_alone c.reply_one.result ≡ reply_from c.self.inside.entities.allocator.made
+    (pool_at c.self.inside.entities.allocator c.reserve-high.result) k
 replied c =
     let fits = c.reserve-high.type_inv in
     let least = c.reserve-high.ensures.least in
-    one_reply c.self.inside.entities c.reserve-high.result _ (listed_alone c.reply_one.result)
+    one_reply c.self.inside.entities.allocator c.reserve-high.result _ (listed_alone c.reply_one.result)
     (omega (arith, ints)) c.reply_one.ensures
 
 -- what the reserver was given by then
@@ -33,7 +33,7 @@ given : (c : After-reply_one) → handles_given (own_of c.reserve-high.new.badge
 given c =
     let high = c.reserve-high.result in
     given_now c.reserver.inside.badge.views c.reserve-high.new.badge.views c.args.reserver.now _
-    c.self.inside.entities high 1 (record { high = high; low = high -ℤ pos 1 })
+    c.self.inside.entities.allocator high 1 (record { high = high; low = high -ℤ pos 1 })
     (listed_alone c.reply_one.result) c.reserver.view_is c.reserve-high.ensures.gains (started c)
     refl (replied c)
 
@@ -41,14 +41,14 @@ pub invariant_of-reserver : goal.invariant_of-reserver
 invariant_of-reserver c =
     let at = (goal.at.invariant_of-reserver c).After-reply_one in
     let high = c.reserve-high.result in
-    let start : (own_of c.reserver.inside.badge.views).start ≡ c.self.inside.entities =
+    let start : (own_of c.reserver.inside.badge.views).start ≡ c.self.inside.entities.allocator =
     ap (λ (r : Reserver). r.own.start) c.reserver.view_is ∙ started at in
     seated_reservation c.reserver.inside.badge.views c.reserve-high.new.badge.views
     c.reserver.inside.number c.reserver.inside.left 1 c.reserver.inside.floor high
     c.reserver.inside.floor
     c.reserver.invariant c.reserve-high.ensures.gains c.reserve-high.ensures.mark (omega arith)
     (c.reserver.invariant.floor_is ∙ refused_floor (own_of c.reserver.inside.badge.views)
-    c.self.inside.entities high 1 (record { high = high; low = high -ℤ pos 1 }) _
+    c.self.inside.entities.allocator high 1 (record { high = high; low = high -ℤ pos 1 }) _
     (listed_alone c.reply_one.result) start refl (replied at)
     (ap listed_alone c.in_err-handle.was))
 
@@ -75,12 +75,12 @@ invariant_of-reserver-2 c =
     let least = c.reserve-high.ensures.least in
     let low : to_z w64 (of_z w64 (to_z w64 (of_z w64 high) -ℤ pos 1)) ≡ high -ℤ pos 1 =
     omega (arith, ints) in
-    let start : (own_of c.reserver.inside.badge.views).start ≡ c.self.inside.entities =
+    let start : (own_of c.reserver.inside.badge.views).start ≡ c.self.inside.entities.allocator =
     ap (λ (r : Reserver). r.own.start) c.reserver.view_is ∙ started at in
     seated_reservation c.reserver.inside.badge.views c.reserve-high.new.badge.views
     c.reserver.inside.number c.reserver.inside.left 1 c.reserver.inside.floor high _
     c.reserver.invariant c.reserve-high.ensures.gains c.reserve-high.ensures.mark (omega arith)
-    (low ∙ served_floor (own_of c.reserver.inside.badge.views) c.self.inside.entities high 1
+    (low ∙ served_floor (own_of c.reserver.inside.badge.views) c.self.inside.entities.allocator high 1
     (record { high = high; low = high -ℤ pos 1 }) _ (listed_alone c.reply_one.result) start refl
     (replied at) (ap listed_alone c.in_ok-handle.was))
 

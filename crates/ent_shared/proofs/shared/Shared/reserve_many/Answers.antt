@@ -20,14 +20,14 @@ pub unreachable-requires : goal.unreachable-requires
 unreachable-requires c =
     no_space c.reply.result c.in_default.field-0
     (c.reply.ensures 0 (low_of c.new.result _ 0 c.new.ensures.value)
-    ∙ reply-none c.self.inside.entities.made (pool_at c.self.inside.entities c.new.result.high))
+    ∙ reply-none c.self.inside.entities.allocator.made (pool_at c.self.inside.entities.allocator c.new.result.high))
     c.in_default.is
 
 pub returns-then-n-eq0-clause-nothing : goal.returns-then-n-eq0-clause-nothing
 returns-then-n-eq0-clause-nothing c = λ n.
     let is : c.reply.result
     ≡ Ok [] = c.reply.ensures 0 (low_of c.new.result _ 0 c.new.ensures.value)
-    ∙ reply-none c.self.inside.entities.made (pool_at c.self.inside.entities c.new.result.high)
+    ∙ reply-none c.self.inside.entities.allocator.made (pool_at c.self.inside.entities.allocator c.new.result.high)
     in
     let found = c.in-Ok.is in
     let same : c.in-Ok.nothing ≡ [] = cc in
@@ -37,17 +37,17 @@ pub reply-requires-2 : goal.reply-requires-2
 reply-requires-2 c =
     let fits = c.reserve.type_inv in
     let least = c.reserve.ensures.least in
-    let start : (own_of c.reserver.inside.badge.views).start ≡ c.self.inside.entities =
+    let start : (own_of c.reserver.inside.badge.views).start ≡ c.self.inside.entities.allocator =
     ap (λ (r : Reserver). r.own.start) c.reserver.view_is
     ∙ (c.requires.start ∙ sym (ap (λ (s : Shared). s.start) c.self.view_is)) in
-    let below : c.reserve.result ≤ℤ cursor c.self.inside.entities =
+    let below : c.reserve.result ≤ℤ cursor c.self.inside.entities.allocator =
     subst (λ (s : Allocator). c.reserve.result ≤ℤ cursor s) start c.reserve.ensures.greatest in
-    let passed : to_z w64 (of_z w64 c.reserve.result) ≤ℤ pos (top c.self.inside.entities) =
+    let passed : to_z w64 (of_z w64 c.reserve.result) ≤ℤ pos (top c.self.inside.entities.allocator) =
     omega (arith, ints) in
-    c.new-span.ensures.valid c.self.inside.entities passed
+    c.new-span.ensures.valid c.self.inside.entities.allocator passed
 
 -- the reserver is of this allocator
-started : (c : After-reply-2) → c.args.reserver.now.own.start ≡ c.self.inside.entities
+started : (c : After-reply-2) → c.args.reserver.now.own.start ≡ c.self.inside.entities.allocator
 started c = c.requires.start ∙ sym (ap (λ (s : Shared). s.start) c.self.view_is)
 
 -- the span is the request's, at the cursor that the step found
@@ -63,7 +63,7 @@ spanned c =
 given : (c : After-reply-2) → handles_given (own_of c.reserve.new.badge.views)
     ≡ handles_given c.args.reserver.now.own ++ handles_in c.reply-2.result
 given c = given_now c.reserver.inside.badge.views c.reserve.new.badge.views c.args.reserver.now _
-    c.self.inside.entities c.reserve.result c.args.n c.new-span.result c.reply-2.result
+    c.self.inside.entities.allocator c.reserve.result c.args.n c.new-span.result c.reply-2.result
     c.reserver.view_is c.reserve.ensures.gains (started c) (spanned c) c.reply-2.ensures
 
 pub invariant_of-reserver-2 : goal.invariant_of-reserver-2
@@ -77,7 +77,7 @@ invariant_of-reserver-2 c =
     span in
     let low_word : to_z w64 (of_z w64 c.new-span.result.low) ≡ c.new-span.result.low =
     omega (arith, ints) in
-    let start : (own_of c.reserver.inside.badge.views).start ≡ c.self.inside.entities =
+    let start : (own_of c.reserver.inside.badge.views).start ≡ c.self.inside.entities.allocator =
     ap (λ (r : Reserver). r.own.start) c.reserver.view_is ∙ started at in
     subst (λ (k : ℕ). IsSeated c.reserve.new.badge.views c.reserver.inside.number
     (c.reserver.inside.left - k) (to_z w64 (of_z w64 c.new-span.result.low)))
@@ -86,7 +86,7 @@ invariant_of-reserver-2 c =
     c.reserver.inside.number c.reserver.inside.left c.args.n c.reserver.inside.floor
     c.reserve.result (to_z w64 (of_z w64 c.new-span.result.low))
     c.reserver.invariant c.reserve.ensures.gains c.reserve.ensures.mark (omega arith)
-    (low_word ∙ served_floor (own_of c.reserver.inside.badge.views) c.self.inside.entities
+    (low_word ∙ served_floor (own_of c.reserver.inside.badge.views) c.self.inside.entities.allocator
     c.reserve.result c.args.n c.new-span.result _ c.reply-2.result start span c.reply-2.ensures
     c.in_ok-handles.was))
 
@@ -94,7 +94,7 @@ pub invariant_of-reserver : goal.invariant_of-reserver
 invariant_of-reserver c =
     let at = (goal.at.invariant_of-reserver c).After-reply-2 in
     let span = spanned at in
-    let start : (own_of c.reserver.inside.badge.views).start ≡ c.self.inside.entities =
+    let start : (own_of c.reserver.inside.badge.views).start ≡ c.self.inside.entities.allocator =
     ap (λ (r : Reserver). r.own.start) c.reserver.view_is ∙ started at in
     subst (λ (k : ℕ). IsSeated c.reserve.new.badge.views c.reserver.inside.number
     (c.reserver.inside.left - k) c.reserver.inside.floor) (sym c.from-2.ensures)
@@ -103,12 +103,12 @@ invariant_of-reserver c =
     c.reserve.result c.reserver.inside.floor
     c.reserver.invariant c.reserve.ensures.gains c.reserve.ensures.mark (omega arith)
     (c.reserver.invariant.floor_is ∙ refused_floor (own_of c.reserver.inside.badge.views)
-    c.self.inside.entities c.reserve.result c.args.n c.new-span.result _ c.reply-2.result start
+    c.self.inside.entities.allocator c.reserve.result c.args.n c.new-span.result _ c.reply-2.result start
     span c.reply-2.ensures c.in_err-handles.was))
 
 pub returns-then-n-eq0-clause-length : goal.returns-then-n-eq0-clause-length
 returns-then-n-eq0-clause-length c =
-    length-served c.self.inside.entities.made (pool_at c.self.inside.entities c.new.result.high)
+    length-served c.self.inside.entities.allocator.made (pool_at c.self.inside.entities.allocator c.new.result.high)
     c.in-Ok.nothing 0 (sym (c.reply.ensures 0 (low_of c.new.result _ 0 c.new.ensures.value))
     ∙ c.in-Ok.is) ∙ sym c.if-n-eq0.true
 
@@ -134,7 +134,7 @@ pub returns-then-n-eq0-clause-given : goal.returns-then-n-eq0-clause-given
 returns-then-n-eq0-clause-given c =
     let is : c.reply.result
     ≡ Ok [] = c.reply.ensures 0 (low_of c.new.result _ 0 c.new.ensures.value)
-    ∙ reply-none c.self.inside.entities.made (pool_at c.self.inside.entities c.new.result.high)
+    ∙ reply-none c.self.inside.entities.allocator.made (pool_at c.self.inside.entities.allocator c.new.result.high)
     in
     let found = c.in-Ok.is in
     let none : c.in-Ok.nothing ≡ [] = cc in
