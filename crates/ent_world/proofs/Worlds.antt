@@ -106,7 +106,6 @@ loss-sound s asked sound flushed =
                 old.apart;
           };
       one_occupant = sound.one_occupant;
-      rows = sound.rows;
     }
 
 pub after_loss-world : (asked : ℕ) (w : World) → IsWorld w → w.allocator.asked ≡ 0

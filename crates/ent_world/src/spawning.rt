@@ -12,12 +12,12 @@ use ent_storage::Storage;
 
 /// The handle that `alloc` gives next.
 pub(crate) fn next_handle(entities: &Entities) -> Result<Handle, AllocFault>
-    ensures front { IfOk result (λ handle. slice_get entities.now.pool 0 ≡ Some handle) }
-    ensures new { IfOk result (λ handle. set.contains entities.now.live handle ≡ false) }
-    ensures flushed { OnOk result (entities.now.asked ≡ 0) }
-    ensures needs_flush { IsErrOf result AllocFault.NeedsFlush ↔ (0 < entities.now.asked) }
+    ensures front { IfOk result (λ handle. slice_get entities.now.allocator.pool 0 ≡ Some handle) }
+    ensures new { IfOk result (λ handle. set.contains entities.now.allocator.live handle ≡ false) }
+    ensures flushed { OnOk result (entities.now.allocator.asked ≡ 0) }
+    ensures needs_flush { IsErrOf result AllocFault.NeedsFlush ↔ (0 < entities.now.allocator.asked) }
     ensures space { IsErrOf result AllocFault.Space
-        ↔ ((entities.now.asked ≡ 0) × (entities.now.pool ≡ [])) }
+        ↔ ((entities.now.allocator.asked ≡ 0) × (entities.now.allocator.pool ≡ [])) }
 {
     let top = i64::from(entities.top());
     if entities.cursor() != top {

@@ -44,13 +44,13 @@ impl Model for World {
     ghost coded = { world_code };
 
     ghost view = { λ w. record {
-      allocator = w.entities;
+      allocator = w.entities.allocator;
       phase = w.phase;
       entities = w.storage.entities;
     } };
 
     ghost invariant = { λ w. IsWorld (record {
-      allocator = w.entities;
+      allocator = w.entities.allocator;
       phase = w.phase;
       entities = w.storage.entities;
     }) };

@@ -7,9 +7,9 @@ use Rattle.ent_world.proofs.spawning.next_handle.Goals.{After-reply}
 use Rattle.ent_world.proofs.spawning.next_handle.Goals as goal
 
 -- it is the reply to a request for one
-replied : (c : After-reply) → c.reply.result ≡ reply_to c.args.entities.now 1
+replied : (c : After-reply) → c.reply.result ≡ reply_to c.args.entities.now.allocator 1
 replied c =
-    let s = c.args.entities.now in
+    let s = c.args.entities.now.allocator in
     let span = c.new.result in
     let high = ap (λ p. p.high) c.new.ensures.value in
     let low = ap (λ p. p.low) c.new.ensures.value in
@@ -20,7 +20,7 @@ replied c =
 
 pub returns-in_default-clause-space : goal.returns-in_default-clause-space
 returns-in_default-clause-space c =
-    let s = c.args.entities.now in
+    let s = c.args.entities.now.allocator in
     let reply = replied (goal.at.returns-in_default-clause-space c).After-reply in
     let none : s.asked ≡ 0 =
     omega (
@@ -36,23 +36,23 @@ returns-in_default-clause-space c =
 pub unreachable-requires : goal.unreachable-requires
 unreachable-requires c =
     let reply = replied (goal.at.unreachable-requires c).After-reply in
-    some_given c.args.entities.now c.in-Ok.given (sym reply ∙ c.in-Ok.is)
+    some_given c.args.entities.now.allocator c.in-Ok.given (sym reply ∙ c.in-Ok.is)
     (c.in_default-next.ensures.steps).0
 
 pub returns-clause-front : goal.returns-clause-front
 returns-clause-front c =
     let reply = replied (goal.at.returns-clause-front c).After-reply in
-    one_given c.args.entities.now c.in-Ok.given c.next.new.self c.in-Some.handle
+    one_given c.args.entities.now.allocator c.in-Ok.given c.next.new.self c.in-Some.handle
     (sym reply ∙ c.in-Ok.is) c.in-Some.ensures.steps
 
 pub returns-clause-new : goal.returns-clause-new
 returns-clause-new c =
     let reply = replied (goal.at.returns-clause-new c).After-reply in
-    given_new c.args.entities.now c.in-Ok.given c.next.new.self c.in-Some.handle
+    given_new c.args.entities.now.allocator c.in-Ok.given c.next.new.self c.in-Some.handle
     c.cursor.ensures.sound (sym reply ∙ c.in-Ok.is) c.in-Some.ensures.steps
 
 pub returns-clause-space : goal.returns-clause-space
 returns-clause-space c =
-    let s = c.args.entities.now in
+    let s = c.args.entities.now.allocator in
     let reply = replied (goal.at.returns-clause-space c).After-reply in
     (λ e. cc, λ (flushed, none). absurd (pool_some s c.in-Ok.given (sym reply ∙ c.in-Ok.is) none))

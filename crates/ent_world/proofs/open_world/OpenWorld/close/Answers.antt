@@ -7,7 +7,7 @@ use Rattle.ent_world.proofs.open_world.OpenWorld.close.Goals as goal
 
 -- the world that was opened, after the history of the phase
 closed : (c : After-close) → IsWorld (record {
-  allocator = c.close.result;
+  allocator = c.close.result.allocator;
   phase = c.self.inside.phase;
   entities = c.self.inside.storage.entities;
 })

@@ -11,19 +11,19 @@ use Rattle.ent_world.proofs.world.World.bring_to_life.Goals.{After-number_others
 use Rattle.ent_world.proofs.world.World.bring_to_life.Goals as goal
 
 -- what the flush lists is what is born
-are_born : (c : After-deref) → c.deref.result.now ≡ born c.self.inside.entities
+are_born : (c : After-deref) → c.deref.result.now ≡ born c.self.inside.entities.allocator
 are_born c = c.deref.ensures.value ∙ c.in_ok-flush.ensures.born
-    ∙ ap (λ hs. hs ++ born c.self.inside.entities) c.new-handles.ensures.items
+    ∙ ap (λ hs. hs ++ born c.self.inside.entities.allocator) c.new-handles.ensures.items
 
 pub enter_all-requires-clause-new : goal.enter_all-requires-clause-new
 enter_all-requires-clause-new c =
     rw (are_born c, c.reserve.ensures.entities)
-    (born-new c.self.inside.entities c.self.inside.storage.entities c.self.invariant.sound
+    (born-new c.self.inside.entities.allocator c.self.inside.storage.entities c.self.invariant.sound
     c.self.invariant.living)
 
 pub enter_all-requires-clause-room : goal.enter_all-requires-clause-room
 enter_all-requires-clause-room c =
-    let s = c.self.inside.entities in
+    let s = c.self.inside.entities.allocator in
     let same = length_permutation s.taken (born s) (born-IsPermutation s) in
     let all = ap length (are_born c) in
     omega (arith, same, all, c.reserved.ensures, c.in_ok-reserve.ensures.ok)
@@ -31,14 +31,14 @@ enter_all-requires-clause-room c =
 -- all that are born have their births
 entered : (c : After-number_others) → c.number_others.new.storage.entities
     ≡ with_born c.self.inside.storage.entities
-    (birth_in c.self.inside.phase c.args.queues.now (born c.self.inside.entities))
-    (born c.self.inside.entities)
+    (birth_in c.self.inside.phase c.args.queues.now (born c.self.inside.entities.allocator))
+    (born c.self.inside.entities.allocator)
 entered c =
     let before = c.len-before.result in
     let are = c.deref.ensures.value ∙ c.in_ok-flush.ensures.born
-    ∙ ap (λ hs. hs ++ born c.self.inside.entities) c.new-handles.ensures.items in
+    ∙ ap (λ hs. hs ++ born c.self.inside.entities.allocator) c.new-handles.ensures.items in
     let later = c.enter_all.new.storage.places in
-    all_given c.self.inside.entities c.self.inside.storage.entities c.reserve.new.self.entities
+    all_given c.self.inside.entities.allocator c.self.inside.storage.entities c.reserve.new.self.entities
     c.enter_all.new.storage.entities c.name_listed.new.storage.entities
     c.number_others.new.storage.entities c.self.inside.phase c.args.queues.now c.deref.result.now
     (drop before later) c.deref-2.result.now c.self.invariant.sound c.requires
@@ -50,13 +50,13 @@ entered c =
 
 -- the map after all entered has those that live
 risen : (c : After-number_others) → (phase : ℕ) → IsWorld (record {
-  allocator = c.flush.new.self;
+  allocator = c.flush.new.self.allocator;
   phase = phase;
   entities = c.number_others.new.storage.entities;
 })
 risen c phase =
     let is = after_births-world c.args.queues.now (record {
-      allocator = c.self.inside.entities;
+      allocator = c.self.inside.entities.allocator;
       phase = c.self.inside.phase;
       entities = c.self.inside.storage.entities;
     }) c.self.invariant in

@@ -6,7 +6,7 @@ use Rattle.ent_world.proofs.world.World.contains.Goals as goal
 -- who lives is in the map
 pub returns-in-Alive : goal.returns-in-Alive
 returns-in-Alive c =
-    let alive = alive_by_state c.self.inside.entities c.args.handle (sym c.state.ensures
+    let alive = alive_by_state c.self.inside.entities.allocator c.args.handle (sym c.state.ensures
     ∙ c.in-Alive.is) in
     sym (ap (λ (w : World). lives_in w c.args.handle) (sym c.self.view_is)
     ∙ c.self.invariant.living c.args.handle ∙ alive)

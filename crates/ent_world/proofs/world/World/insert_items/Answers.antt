@@ -9,5 +9,5 @@ invariant_of-self-2 c =
     let changed = on_ok c.insert.result (sym c.is_err.ensures.value ∙ c.if-is_err.false)
     c.insert.ensures.ok in
     components-world (λ held. with_items held c.deref.result.now) c.args.handle
-    c.self.inside.entities
+    c.self.inside.entities.allocator
     c.self.inside.phase c.self.inside.storage.entities _ changed c.self.invariant

@@ -5,14 +5,14 @@ use Rattle.ent_world.proofs.world.World.new.Goals as goal
 
 -- nobody lives, and the map is empty
 begun : (c : After-new) → IsWorld (record {
-  allocator = c.new-entities.result;
+  allocator = c.new-entities.result.allocator;
   phase = 0;
   entities = c.new.result.entities;
 })
 begun c = record {
   sound = c.cursor.ensures.sound;
   living =
-      rw (c.new-entities.ensures, c.new.ensures.entities) keys-empty;
+      rw (c.new-entities.ensures.allocator, c.new.ensures.entities) keys-empty;
 }
 
 pub invariant_of-result : goal.invariant_of-result

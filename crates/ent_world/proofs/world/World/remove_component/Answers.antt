@@ -8,5 +8,5 @@ pub invariant_of-self-2 : goal.invariant_of-self-2
 invariant_of-self-2 c =
     let changed = on_ok c.remove.result (sym c.is_err.ensures.value ∙ c.if-is_err.false)
     c.remove.ensures.ok in
-    components-world (λ held. map.remove held c.args.id) c.args.handle c.self.inside.entities
+    components-world (λ held. map.remove held c.args.id) c.args.handle c.self.inside.entities.allocator
     c.self.inside.phase c.self.inside.storage.entities _ changed c.self.invariant

@@ -31,7 +31,7 @@ pub returns-in-Err-clause-err : goal.returns-in-Err-clause-err
 returns-in-Err-clause-err c =
     let gone = back (goal.at.returns-in-Err-clause-err c).After-despawn in
     let same = c.in-Err.ensures.err in
-    (λ i. record { allocator = same i; phase = c.self.inside.phase; entities = gone i })
+    (λ i. record { allocator = (same i).allocator; phase = c.self.inside.phase; entities = gone i })
     ∙ c.self.view_is
 
 pub returns-in-Err-clause-world : goal.returns-in-Err-clause-world
@@ -41,14 +41,14 @@ returns-in-Err-clause-world c =
 
 -- the handle that the allocator gave is the one under which the entity was made
 grown : (c : In_default) → IsWorld (record {
-  allocator = c.alloc.new.self;
+  allocator = c.alloc.new.self.allocator;
   phase = c.self.inside.phase;
   entities = c.make.new.storage.entities;
 })
 grown c =
     let h = c.in_ok-handle.handle in
     let w : World = record {
-      allocator = c.self.inside.entities;
+      allocator = c.self.inside.entities.allocator;
       phase = c.self.inside.phase;
       entities = c.self.inside.storage.entities;
     } in
