@@ -132,7 +132,8 @@ impl World {
     pub fn items(&self, handle: Handle) -> Option<Items<'_>>
         ensures { result ≡ option_map map.entries (components_of self.now.entities handle) }
     {
-        self.storage.items(handle)
+        let place = place_of(&self.entities, handle)?;
+        Some(self.storage.items_at(place, handle))
     }
 
     /// The handles of all entities, by birth and then by handle.

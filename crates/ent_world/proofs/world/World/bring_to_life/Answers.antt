@@ -5,7 +5,7 @@ use Rattle.ent_alloc.proofs.Flushes.{born-IsPermutation, born-lives}
 use Rattle.ent_world.specs.World.{IsWorld}
 use Rattle.ent_world.specs.Sync.{birth_in, with_born, after_births, next_phase}
 use Rattle.ent_world.specs.Entering.{first_birth}
-use Rattle.ent_world.specs.Rows.{AreRows, with_rows}
+use Rattle.ent_world.specs.Rows.{with_rows}
 use Rattle.ent_world.proofs.Born.{born-new, stand_after, all_given}
 use Rattle.ent_world.proofs.PlacedRows.{rows-born, rows-count, born-fit}
 use Rattle.ent_world.proofs.Worlds.{after_births-world}
