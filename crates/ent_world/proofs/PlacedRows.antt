@@ -257,7 +257,7 @@ has_row-lives live rows places m are living h row is =
     sym (living h) ∙ sym (are.each h) ∙ ap is_some is
 
 -- Each handle of the places stands there once.
-pub distinct_places : (xs : List Handle)
+distinct_places : (xs : List Handle)
     → ((h : Handle) (i j : ℕ) → slice_get xs i ≡ Some h → slice_get xs j ≡ Some h → i ≡ j)
     → AreDistinct xs
 distinct_places [] once = tt
@@ -314,7 +314,7 @@ rows-count s rows places m are living =
         ∙ sym (set.contains-from_list total places q))
 
 -- no more live than there are slots
-pub few_live : (s : Allocator) → IsSound s → set.len s.live < 2 ^ 32
+few_live : (s : Allocator) → IsSound s → set.len s.live < 2 ^ 32
 few_live s sound =
     let rest = retired-rest s sound in
     let made = sound.made in

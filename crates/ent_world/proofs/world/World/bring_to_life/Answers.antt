@@ -15,8 +15,7 @@ use Rattle.ent_world.proofs.world.World.bring_to_life.Goals as goal
 
 -- the first that is born has the next place
 next_place : (c : After-len-first) → c.len-first.result ≡ length c.self.inside.storage.places
-next_place c = c.len-first.ensures ∙ rows-count c.self.inside.entities.allocator
-    c.self.inside.entities.rows c.self.inside.storage.places c.self.inside.storage.entities
+next_place c = c.len-first.ensures ∙ rows-count c.self.inside.entities.allocator _ _ _
     c.self.invariant.rows c.self.invariant.world.living
 
 -- what the flush lists is what is born
@@ -67,9 +66,8 @@ kept : (c : After-set_rows) → c.set_rows.new.entities.rows ≡ with_rows c.sel
     (length c.self.inside.storage.places) (born c.self.inside.entities.allocator)
 kept c =
     let s = c.self.inside.entities.allocator in
-    let next = c.len-first.ensures ∙ rows-count s c.self.inside.entities.rows
-    c.self.inside.storage.places c.self.inside.storage.entities c.self.invariant.rows
-    c.self.invariant.world.living in
+    let next = c.len-first.ensures ∙ rows-count s _ _ _
+    c.self.invariant.rows c.self.invariant.world.living in
     let are = c.deref-2.ensures.value ∙ c.in_ok-flush.ensures.born
     ∙ ap (λ hs. hs ++ born s) c.new-handles.ensures.items in
     c.set_rows.ensures.rows ∙ (λ i. with_rows (c.flush.ensures.rows i) (next i) (are i))
@@ -88,8 +86,7 @@ name_listed-requires-clause-rows c =
 stand : (c : After-set_rows) → drop c.len-first.result c.enter_all.new.storage.places
     ≡ c.deref.result.now
 stand c =
-    let next = c.len-first.ensures ∙ rows-count c.self.inside.entities.allocator
-    c.self.inside.entities.rows c.self.inside.storage.places c.self.inside.storage.entities
+    let next = c.len-first.ensures ∙ rows-count c.self.inside.entities.allocator _ _ _
     c.self.invariant.rows c.self.invariant.world.living in
     stand_after c.len-first.result c.reserve.new.self.places c.enter_all.new.storage.places
     c.deref.result.now (next ∙ ap length (sym c.reserve.ensures.places)) c.enter_all.ensures.places

@@ -15,8 +15,7 @@ use Rattle.ent_world.proofs.world.World.spawn.Goals as goal
 
 -- the next place is the number of those that live
 next_place : (c : After-items) → c.len-row.result ≡ length c.self.inside.storage.places
-next_place c = c.len-row.ensures ∙ rows-count c.self.inside.entities.allocator
-    c.self.inside.entities.rows c.self.inside.storage.places c.self.inside.storage.entities
+next_place c = c.len-row.ensures ∙ rows-count c.self.inside.entities.allocator _ _ _
     c.self.invariant.rows c.self.invariant.world.living
 
 pub make-requires-clause-next : goal.make-requires-clause-next
@@ -41,8 +40,7 @@ back c =
 
 place_back : (c : After-despawn_at) → c.despawn_at.new.self.places ≡ c.self.inside.storage.places
 place_back c =
-    let next = c.len-row.ensures ∙ rows-count c.self.inside.entities.allocator
-    c.self.inside.entities.rows c.self.inside.storage.places c.self.inside.storage.entities
+    let next = c.len-row.ensures ∙ rows-count c.self.inside.entities.allocator _ _ _
     c.self.invariant.rows c.self.invariant.world.living in
     end_taken_back c.self.inside.storage.places c.despawn_at.new.self.places c.in_ok-handle.handle
     (subst (λ (p : ℕ × List Handle). AreWithout p.0 p.1 c.despawn_at.new.self.places)
@@ -100,8 +98,7 @@ placed : (c : In_default) → AreRows
     c.make.new.storage.places c.make.new.storage.entities
 placed c =
     let h = c.in_ok-handle.handle in
-    let next = c.len-row.ensures ∙ rows-count c.self.inside.entities.allocator
-    c.self.inside.entities.rows c.self.inside.storage.places c.self.inside.storage.entities
+    let next = c.len-row.ensures ∙ rows-count c.self.inside.entities.allocator _ _ _
     c.self.invariant.rows c.self.invariant.world.living in
     rw (c.alloc.ensures.rows, next, c.in_ok-make.ensures.placed, c.in_ok-make.ensures.ok)
     (rows-insert c.self.inside.entities.rows c.self.inside.storage.places
