@@ -46,7 +46,7 @@ impl Storage {
         ensures { result ≡ option_map map.entries (components_of self.now.entities handle) }
     {
         let place = self.place(handle)?;
-        Some(self.living.items(place))
+        Some(self.items_at(place, handle))
     }
 
     /// The place of the entity, if it is there. It stays until an entity is taken out.
@@ -64,6 +64,15 @@ impl Storage {
         ensures { result ≡ value_of self.now.entities handle id }
     {
         self.living.value(place, id)
+    }
+
+    /// The components and their values, by rising number, of the entity at a place, whose handle has
+    /// to be this one.
+    pub fn items_at(&self, place: usize, handle: Handle) -> Items<'_>
+        requires { slice_get self.now.places place ≡ Some handle }
+        ensures { option_map map.entries (components_of self.now.entities handle) ≡ Some result }
+    {
+        self.living.items(place)
     }
 
     /// When and by whom the entity at a place was brought to life, whose handle has to be this one.

@@ -60,9 +60,9 @@ living-history s t calls m same after h =
     ∙ live-after_takes s (requests_of calls)))
 
 -- other components of an entity that is there, or of none
-pub keys-components : (live : set.FinSet handle_cmp) (m : EntityMap) (h : Handle)
-    (change : Components → Components) → AreKeys live m → AreKeys live (with_components m h change)
-keys-components live m h change same g = by_entity (map.get m h) refl ∙ same g
+pub same_keys-components : (m : EntityMap) (h : Handle) (change : Components → Components)
+    (g : Handle) → map.contains_key (with_components m h change) g ≡ map.contains_key m g
+same_keys-components m h change g = by_entity (map.get m h) refl
   where
     is_there : (e : Entity) (f : Entity) → map.get m h ≡ Some e → (b : Bool)
         → eq_by_cmp handle_cmp g h ≡ b → is_some (cond b (Some f) (map.get m g))
@@ -79,3 +79,7 @@ keys-components live m h change same g = by_entity (map.get m h) refl ∙ same g
         let f : Entity = record e { components = change e.components } in
         ap is_some (map.get-insert handle_cmp_total m h f g)
         ∙ is_there e f there (eq_by_cmp handle_cmp g h) refl
+
+pub keys-components : (live : set.FinSet handle_cmp) (m : EntityMap) (h : Handle)
+    (change : Components → Components) → AreKeys live m → AreKeys live (with_components m h change)
+keys-components live m h change same g = same_keys-components m h change g ∙ same g

@@ -1,13 +1,15 @@
 -- The handle that is given next, and an entity that is made or taken back.
 use Rattle.std.proofs.Common.{◌≡◌, refl, sym, ap, ◌∙◌, subst, ℕ, ◌<◌, ◌≤◌, Bool, true, false, cond}
 use Rattle.std.proofs.Common.{not, true≢false, List, [], ◌∷◌, ◌++◌, length, take, reverse, filter}
-use Rattle.std.proofs.Common.{slice_get, All, arith, pos, ◌-ℤ◌}
+use Rattle.std.proofs.Common.{slice_get, All, arith, pos, ◌-ℤ◌, suc, ◌⊎◌, inl, inr, length-append}
 use Rattle.std.proofs.Common.{Option, Some, None, Result, Ok, Err, OnOk, OnErr, is_err}
 use Rattle.std.specs.Ordering.{eq_by_cmp}
 use Rattle.std.specs.Option.{option_map_or}
 use Rattle.std.specs.FinSet as set
 use Rattle.std.specs.FinMap as map
 use Rattle.std.proofs.lemmas.List.Elements.{All-head}
+use Rattle.std.proofs.lemmas.Bool.{cases_lt}
+use Rattle.std.proofs.lemmas.Option.{none-some, same_Some, slice_get_past}
 use Rattle.ent_handle.specs.declared.birth.Birth.{Birth}
 use Rattle.ent_handle.specs.Handle.{Handle, handle_cmp, handle_cmp_total}
 use Rattle.ent_handle.specs.Handle.{handle_cmp-IsAntisymmetric}
@@ -22,6 +24,8 @@ use Rattle.ent_alloc.proofs.PoolLaw.{reply-cursor}
 use Rattle.ent_alloc.proofs.Replies.{fresh_is_not_old, served_from, refused_from, reply-not_live}
 use Rattle.ent_storage.specs.Components.{with_items}
 use Rattle.ent_storage.specs.EntityMap.{Entity, EntityMap, newborn, with_components}
+use Rattle.ent_storage.specs.Places.{AreWithout}
+use Rattle.ent_storage.proofs.ElementsAt.{at_push_before}
 use Rattle.ent_queue.specs.Command.{Bundle}
 use Rattle.ent_world.specs.Effects.{spawned}
 
@@ -33,6 +37,11 @@ on_ok (Err e) test p = absurd (true≢false test)
 pub on_err : {X E : Type 0} {P : Type 0} (r : Result X E) → is_err r ≡ true → OnErr r P → P
 on_err (Ok x) test p = absurd (true≢false (sym test))
 on_err (Err e) test p = p
+
+-- one of the two holds
+pub on_either : {X E P Q : Type 0} (r : Result X E) → OnOk r P → OnErr r Q → P ⊎ Q
+on_either (Ok x) p q = inl p
+on_either (Err e) p q = inr q
 
 -- Of one handle.
 
@@ -142,3 +151,27 @@ taken_back m h e none = map.same_map handle_cmp_total handle_cmp-IsAntisymmetric
         → cond b None (cond b (Some e) (map.get m q)) ≡ map.get m q
     by_test q true tied = sym (ap (map.get m) (same_handle q h tied) ∙ none)
     by_test q false apart = refl
+
+same_lists : (xs ys : List Handle) → ((k : ℕ) → slice_get xs k ≡ slice_get ys k) → xs ≡ ys
+same_lists [] [] each = refl
+same_lists [] (y ∷ ys) each = absurd (none-some y (each 0))
+same_lists (x ∷ xs) [] each = absurd (none-some x (sym (each 0)))
+same_lists (x ∷ xs) (y ∷ ys) each =
+    let first = same_Some x y (each 0) in
+    let rest = same_lists xs ys (λ k. each (suc k)) in
+    λ i. first i ∷ rest i
+
+-- a handle that came to the end of the places and went
+pub end_taken_back : (places left : List Handle) (h : Handle)
+    → AreWithout (length places) (places ++ h ∷ []) left → left ≡ places
+end_taken_back places left h without = same_lists left places (λ k. at k (cases_lt k (length places)))
+  where
+    at : (k : ℕ) → (k < length places) ⊎ (length places ≤ k) → slice_get left k ≡ slice_get places k
+    at k (inl below) =
+        let long = length-append places (h ∷ []) in
+        without.others k (λ e. absurd (omega arith)) (omega arith)
+        ∙ at_push_before places h k below
+    at k (inr past) =
+        let long = length-append places (h ∷ []) in
+        let less = without.one_less in
+        slice_get_past left k (omega arith) ∙ sym (slice_get_past places k past)

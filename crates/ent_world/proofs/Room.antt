@@ -1,5 +1,5 @@
 -- Entering one by one, with room for all, and who stands from a place on.
-use Rattle.std.proofs.Common.{◌≡◌, refl, sym, ap, ◌∙◌, ◌+◌, ◌<◌, ◌≤◌, Bool, true, false, cond}
+use Rattle.std.proofs.Common.{◌≡◌, ◌≢◌, refl, sym, ap, ◌∙◌, ◌+◌, ◌<◌, ◌≤◌, Bool, true, false, cond}
 use Rattle.std.proofs.Common.{true≢false, ℕ, zero, suc, ◌-◌, List, [], ◌∷◌, ◌++◌, drop}
 use Rattle.std.proofs.Common.{slice_get, is_some, arith}
 use Rattle.std.proofs.lemmas.Option.{none-some, same_Some}
@@ -77,7 +77,7 @@ slice_get-drop (x ∷ places) (suc n) i =
 some_one : (x h : Handle) → Some x ≡ Some h → eq_by_cmp handle_cmp h x ≡ true
 some_one x h is = ap (λ y. eq_by_cmp handle_cmp h y) (same_Some x h is) ∙ itself h
 
-stands_at : (places : List Handle) (i : ℕ) (h : Handle) → slice_get places i ≡ Some h
+pub stands_at : (places : List Handle) (i : ℕ) (h : Handle) → slice_get places i ≡ Some h
     → stands_in places h ≡ true
 stands_at [] i h is = absurd (none-some h is)
 stands_at (x ∷ places) zero h is = ap (λ b. b || stands_in places h) (some_one x h is)
@@ -87,7 +87,7 @@ stands_at (x ∷ places) (suc i) h is = later (eq_by_cmp handle_cmp h x) (stands
     later true there = refl
     later false there = there
 
-place_of : (places : List Handle) (h : Handle) → stands_in places h ≡ true → (i : ℕ)
+pub place_of : (places : List Handle) (h : Handle) → stands_in places h ≡ true → (i : ℕ)
     × (slice_get places i ≡ Some h)
 place_of [] h none = absurd (true≢false (sym none))
 place_of (x ∷ places) h there =
@@ -116,6 +116,17 @@ stands_before places n i h once before = by_test (stands_in (drop n places) h) r
         let same : i ≡ n + other.0 = same_Some i (n + other.0) (once (n + other.0)
         (sym (slice_get-drop places n other.0) ∙ other.1)) in
         absurd (omega arith)
+
+-- a handle that stands at no place
+pub stands_nowhere : (places : List Handle) (n : ℕ) (h : Handle)
+    → ((k : ℕ) → slice_get places k ≢ Some h) → stands_in (drop n places) h ≡ false
+stands_nowhere places n h nowhere = by_test (stands_in (drop n places) h) refl
+  where
+    by_test : (b : Bool) → stands_in (drop n places) h ≡ b → b ≡ false
+    by_test false _ = refl
+    by_test true there =
+        let other = place_of (drop n places) h there in
+        absurd (nowhere (n + other.0) (sym (slice_get-drop places n other.0) ∙ other.1))
 
 -- whose state is alive lives
 pub alive_by_state : (s : Allocator) (h : Handle) → state_of s h ≡ Alive → set.contains s.live h

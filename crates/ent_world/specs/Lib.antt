@@ -5,5 +5,6 @@ pub mod Sync
 pub mod Rest
 pub mod Memory
 pub mod Entering
+pub mod Rows
 pub mod BirthsAlone
 pub mod Named

@@ -14,6 +14,7 @@ ghost use Rattle.ent_world.specs.Memory.{TakesMemoryIn, TakesMemoryAt};
 ghost use Rattle.ent_world.specs.Rest.{last_part, left_commands, after_left, IsLater, IsLaterIn};
 
 use crate::fault::{Fault, FaultKind};
+use crate::rows::place_of;
 use crate::stop::{At, Stop};
 use crate::world::World;
 use ent_handle::{ComponentId, Handle, Memory};
@@ -271,14 +272,10 @@ impl World {
         ensures memory { OnErr result
             (insert_takes_memory self.new applying.old.items.items handle ≡ true) }
     {
-        let alive = self.contains(handle);
-        if !alive {
+        let Some(place) = place_of(&self.entities, handle) else {
             return applying.add_fault(at, FaultKind::NotAlive(handle));
-        }
-        if self.storage.insert(handle, &applying.items).is_err() {
-            return Err(Memory);
-        }
-        Ok(())
+        };
+        self.storage.insert_at(place, handle, &applying.items)
     }
 
     fn remove_component(
@@ -297,9 +294,10 @@ impl World {
             ≡ applied self.old applying.old.faults.items) }
         ensures memory { OnErr result (lives_in self.new handle ≡ false) }
     {
-        if self.storage.remove(handle, id).is_err() {
+        let Some(place) = place_of(&self.entities, handle) else {
             return applying.add_fault(at, FaultKind::NotAlive(handle));
-        }
+        };
+        let _ = self.storage.remove_at(place, handle, id);
         Ok(())
     }
 

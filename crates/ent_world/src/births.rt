@@ -9,7 +9,10 @@ ghost use Rattle.ent_queue.specs.Entry.{command_of};
 ghost use Rattle.ent_world.specs.Sync.{no_system, with_born, listed_by, handles_listed};
 ghost use Rattle.ent_world.specs.Entering.{first_birth, next_birth, birth_after, AreNew};
 ghost use Rattle.ent_world.specs.Entering.{named, named_handles, named_queues, numbered};
+ghost use Rattle.ent_world.specs.Rows.{ArePlaces};
 
+use crate::rows::place_of;
+use ent_alloc::Entities;
 use ent_handle::{Birth, Handle};
 use ent_queue::{CommandQueue, Entry, Handles};
 use ent_storage::Storage;
@@ -33,22 +36,31 @@ pub(crate) fn enter_all(storage: &mut Storage, phase: u64, handles: &[Handle])
 
 /// Gives what the queues list their births, as far as it is born now: from the place `before` on.
 /// The first queue that lists a handle counts.
-pub(crate) fn name_listed(storage: &mut Storage, before: usize, phase: u64, queues: &[CommandQueue])
-    requires { length queues.now ≤ 2 ^ 16 }
+pub(crate) fn name_listed(
+    entities: &Entities,
+    storage: &mut Storage,
+    before: usize,
+    phase: u64,
+    queues: &[CommandQueue],
+)
+    requires rows { ArePlaces entities.now.rows storage.old.places }
+    requires few { length queues.now ≤ 2 ^ 16 }
     ensures named { storage.new.entities ≡ named_queues
         (drop before storage.old.places) phase 0 queues.now storage.old.entities }
     ensures places { storage.new.places ≡ storage.old.places }
 {
     for (system, queue) in queues.iter().enumerate() {
-        name_queue(storage, before, phase, system as u32, queue);
+        let first = first_birth(phase, system as u32);
+        name_queue(entities, storage, before, first, queue);
     }
 }
 
 /// Numbers those of the handles that no queue lists. They stand from the place `before` on.
 pub(crate) fn number_others(storage: &mut Storage, before: usize, phase: u64, handles: &[Handle])
     requires { drop before storage.old.places ≡ handles.now }
-    ensures { storage.new.entities ≡ numbered
+    ensures numbered { storage.new.entities ≡ numbered
         (first_birth phase no_system) handles.now storage.old.entities }
+    ensures places { storage.new.places ≡ storage.old.places }
 {
     let mut birth = first_birth(phase, NO_SYSTEM);
     for place in before..storage.len() {
@@ -60,20 +72,34 @@ pub(crate) fn number_others(storage: &mut Storage, before: usize, phase: u64, ha
     }
 }
 
-/// Names what one queue lists.
-fn name_queue(storage: &mut Storage, before: usize, phase: u64, system: u32, queue: &CommandQueue)
-    ensures named { storage.new.entities ≡ named_handles (drop before storage.old.places)
-        (first_birth phase system) (handles_listed queue.now) storage.old.entities }
+/// Names what one queue lists, from this birth on.
+fn name_queue(
+    entities: &Entities,
+    storage: &mut Storage,
+    before: usize,
+    first: Birth,
+    queue: &CommandQueue,
+)
+    requires { ArePlaces entities.now.rows storage.old.places }
+    ensures named { storage.new.entities ≡ named_handles
+        (drop before storage.old.places) first (handles_listed queue.now) storage.old.entities }
     ensures places { storage.new.places ≡ storage.old.places }
 {
-    let mut birth = first_birth(phase, system);
+    let mut next = first;
     for entry in queue.entries() {
-        birth = name_entry(storage, before, birth, entry);
+        next = name_entry(entities, storage, before, next, entry);
     }
 }
 
 /// Names the handles of one command, from this birth on, and returns the birth of the next handle.
-fn name_entry(storage: &mut Storage, before: usize, birth: Birth, entry: Entry<'_>) -> Birth
+fn name_entry(
+    entities: &Entities,
+    storage: &mut Storage,
+    before: usize,
+    birth: Birth,
+    entry: Entry<'_>,
+) -> Birth
+    requires { ArePlaces entities.now.rows storage.old.places }
     ensures named { storage.new.entities ≡ named_handles (drop before storage.old.places)
         birth (listed_by (command_of entry.entry)) storage.old.entities }
     ensures places { storage.new.places ≡ storage.old.places }
@@ -81,16 +107,25 @@ fn name_entry(storage: &mut Storage, before: usize, birth: Birth, entry: Entry<'
 {
     match entry {
         Entry::Spawn(only, _) => {
-            name(storage, before, only, birth);
+            name(entities, storage, before, only, birth);
             next_birth(birth)
         }
-        Entry::SpawnMany(handles, _) => name_handles(storage, before, birth, handles.iter()),
+        Entry::SpawnMany(handles, _) => {
+            name_handles(entities, storage, before, birth, handles.iter())
+        }
         _ => birth,
     }
 }
 
 /// Names the handles, from this birth on, and returns the birth of the next one.
-fn name_handles(storage: &mut Storage, before: usize, first: Birth, handles: Handles<'_>) -> Birth
+fn name_handles(
+    entities: &Entities,
+    storage: &mut Storage,
+    before: usize,
+    first: Birth,
+    handles: Handles<'_>,
+) -> Birth
+    requires { ArePlaces entities.now.rows storage.old.places }
     ensures named { storage.new.entities ≡ named_handles
         (drop before storage.old.places) first handles.entry storage.old.entities }
     ensures places { storage.new.places ≡ storage.old.places }
@@ -98,19 +133,20 @@ fn name_handles(storage: &mut Storage, before: usize, first: Birth, handles: Han
 {
     let mut birth = first;
     for handle in handles {
-        name(storage, before, handle, birth);
+        name(entities, storage, before, handle, birth);
         birth = next_birth(birth);
     }
     birth
 }
 
 /// Gives the entity its birth, if it is born now and has none of a system yet.
-fn name(storage: &mut Storage, before: usize, handle: Handle, birth: Birth)
+fn name(entities: &Entities, storage: &mut Storage, before: usize, handle: Handle, birth: Birth)
+    requires { ArePlaces entities.now.rows storage.old.places }
     ensures named { storage.new.entities ≡ named
         (drop before storage.old.places) handle birth storage.old.entities }
     ensures places { storage.new.places ≡ storage.old.places }
 {
-    let Some(place) = storage.place(handle) else {
+    let Some(place) = place_of(entities, handle) else {
         return;
     };
     if before <= place && storage.birth_at(place, handle).system == NO_SYSTEM {

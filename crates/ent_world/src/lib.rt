@@ -6,6 +6,7 @@ mod applying;
 mod births;
 mod fault;
 mod open_world;
+mod rows;
 mod spawning;
 mod stop;
 mod sync;

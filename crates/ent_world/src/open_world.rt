@@ -10,6 +10,7 @@ ghost use Rattle.ent_shared.specs.Phase.{IsOf, records_of, after_loss};
 ghost use Rattle.ent_shared.specs.Order.{reservations_of, history_of, handles_given, Respects};
 ghost use Rattle.ent_world.specs.World.{IsWorld};
 ghost use Rattle.ent_world.specs.OpenWorld.{IsOpenWorld};
+ghost use Rattle.ent_world.specs.Rows.{AreRows};
 
 use crate::view::View;
 use crate::world::World;
@@ -29,6 +30,7 @@ pub struct OpenWorld {
 
 impl Model for OpenWorld {
     ghost use Rattle.ent_world.specs.OpenWorld.{OpenWorld, open_world_code, IsOpenWorld};
+    ghost use Rattle.ent_world.specs.Rows.{AreRows};
 
     ghost Value = { OpenWorld };
 
@@ -40,17 +42,21 @@ impl Model for OpenWorld {
       entities = w.storage.entities;
     } };
 
-    ghost invariant = { λ w. IsOpenWorld (record {
-      shared = w.shared;
-      phase = w.phase;
-      entities = w.storage.entities;
-    }) };
+    ghost invariant = { λ w. record {
+      world : IsOpenWorld (record {
+        shared = w.shared;
+        phase = w.phase;
+        entities = w.storage.entities;
+      });
+      rows : AreRows w.shared.rows w.storage.places w.storage.entities;
+    } };
 }
 
 impl OpenWorld {
     pub(crate) fn new(alloc: Global, shared: Shared, storage: Storage, phase: u64) -> Self
-        requires { IsOpenWorld
+        requires world { IsOpenWorld
             (record { shared = shared; phase = phase; entities = storage.entities }) }
+        requires rows { AreRows shared.rows storage.places storage.entities }
         ensures { result
             ≡ record { shared = shared; phase = phase; entities = storage.entities } }
     {

@@ -1,6 +1,6 @@
 //! What one spawn needs: the handle that the allocator gives next, and an entity that is made whole
 //! or not at all.
-ghost use Rattle.std.specs.Prelude.{◌≡◌, ◌<◌, ◌↔◌, [], Some, None, slice_get};
+ghost use Rattle.std.specs.Prelude.{◌≡◌, ◌<◌, ◌↔◌, [], ◌∷◌, ◌++◌, length, Some, None, slice_get};
 ghost use Rattle.std.specs.Prelude.{IfOk, OnOk, OnErr, IsErrOf, false};
 ghost use Rattle.std.specs.FinSet as set;
 ghost use Rattle.std.specs.FinMap as map;
@@ -32,23 +32,28 @@ pub(crate) fn next_handle(entities: &Entities) -> Result<Handle, AllocFault>
     Ok(handle)
 }
 
-/// Makes an entity that is not there, with all its components. After an `Err` it is not there.
+/// Makes an entity that is not there, with all its components, at the next place. After an `Err` it
+/// is not there.
 pub(crate) fn make(
     storage: &mut Storage,
+    place: usize,
     handle: Handle,
     birth: Birth,
     items: &[(ComponentId, i64)],
 ) -> Result<(), Memory>
-    requires { map.get storage.old.entities handle ≡ None }
+    requires new { map.get storage.old.entities handle ≡ None }
+    requires next { place ≡ length storage.old.places }
     ensures ok { OnOk result (storage.new.entities
         ≡ map.insert storage.old.entities handle (spawned birth items.now)) }
+    ensures placed { OnOk result (storage.new.places ≡ storage.old.places ++ handle ∷ []) }
     ensures err { OnErr result (storage.new.entities ≡ storage.old.entities) }
+    ensures unplaced { OnErr result (storage.new.places ≡ storage.old.places) }
 {
     if storage.born(handle, birth).is_err() {
         return Err(Memory);
     }
-    if storage.insert(handle, items).is_err() {
-        let _ = storage.despawn(handle);
+    if storage.insert_at(place, handle, items).is_err() {
+        let _ = storage.despawn_at(place, handle);
         return Err(Memory);
     }
     Ok(())

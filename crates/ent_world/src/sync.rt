@@ -13,6 +13,7 @@ ghost use Rattle.ent_world.specs.Memory.{TakesMemoryAt};
 use crate::applying::Applying;
 use crate::births::{enter_all, name_listed, number_others};
 use crate::fault::{SyncFault, SyncReport};
+use crate::rows::set_rows;
 use crate::stop::{At, Stop};
 use crate::world::World;
 use ent_handle::{Handle, Memory};
@@ -160,10 +161,18 @@ impl World {
     {
         let mut handles = Vec::new(self.alloc);
         self.storage.reserve(self.entities.reserved() as usize)?;
+        let first = self.entities.len();
         self.entities.flush(&mut handles)?;
-        let before = self.storage.len();
+        let before = first as usize;
         enter_all(&mut self.storage, self.phase, &handles);
-        name_listed(&mut self.storage, before, self.phase, queues);
+        set_rows(&mut self.entities, first, &handles);
+        name_listed(
+            &self.entities,
+            &mut self.storage,
+            before,
+            self.phase,
+            queues,
+        );
         number_others(&mut self.storage, before, self.phase, &handles);
         self.phase = self.phase.saturating_add(1);
         Ok(handles)

@@ -15,6 +15,7 @@ ghost use Rattle.ent_world.specs.Effects.{after_spawn, after_despawn};
 ghost use Rattle.ent_world.specs.Sync.{after_births};
 
 use crate::open_world::OpenWorld;
+use crate::rows::place_of;
 use crate::spawning::{make, next_handle};
 use ent_alloc::{AllocFault, Entities, FreeFault, Freed, Limits, State};
 use ent_handle::{Birth, ComponentId, Handle, Memory};
@@ -38,6 +39,7 @@ pub struct World {
 
 impl Model for World {
     ghost use Rattle.ent_world.specs.World.{World, world_code, IsWorld};
+    ghost use Rattle.ent_world.specs.Rows.{AreRows};
 
     ghost Value = { World };
 
@@ -49,11 +51,14 @@ impl Model for World {
       entities = w.storage.entities;
     } };
 
-    ghost invariant = { λ w. IsWorld (record {
-      allocator = w.entities.allocator;
-      phase = w.phase;
-      entities = w.storage.entities;
-    }) };
+    ghost invariant = { λ w. record {
+      world : IsWorld (record {
+        allocator = w.entities.allocator;
+        phase = w.phase;
+        entities = w.storage.entities;
+      });
+      rows : AreRows w.entities.rows w.storage.places w.storage.entities;
+    } };
 }
 
 impl World {
@@ -111,21 +116,24 @@ impl World {
     pub fn get(&self, handle: Handle, id: ComponentId) -> Option<i64>
         ensures { result ≡ value_of self.now.entities handle id }
     {
-        self.storage.get(handle, id)
+        let place = place_of(&self.entities, handle)?;
+        self.storage.get_at(place, handle, id)
     }
 
     /// When and by whom the entity was brought to life, if it is alive.
     pub fn birth(&self, handle: Handle) -> Option<Birth>
         ensures { result ≡ birth_of self.now.entities handle }
     {
-        self.storage.birth(handle)
+        let place = place_of(&self.entities, handle)?;
+        Some(self.storage.birth_at(place, handle))
     }
 
     /// The entity's components and their values, by rising number, if it is alive.
     pub fn items(&self, handle: Handle) -> Option<Items<'_>>
         ensures { result ≡ option_map map.entries (components_of self.now.entities handle) }
     {
-        self.storage.items(handle)
+        let place = place_of(&self.entities, handle)?;
+        Some(self.storage.items_at(place, handle))
     }
 
     /// The handles of all entities, by birth and then by handle.
@@ -190,11 +198,14 @@ impl World {
         ensures world { IsWorld self.new }
     {
         let handle = next_handle(&self.entities)?;
-        make(&mut self.storage, handle, birth, bundle.items())?;
+        let row = self.entities.len();
+        let place = row as usize;
+        make(&mut self.storage, place, handle, birth, bundle.items())?;
         if let Err(fault) = self.entities.alloc() {
-            let _ = self.storage.despawn(handle);
+            let _ = self.storage.despawn_at(place, handle);
             return Err(fault);
         }
+        self.entities.set_row(handle, row);
         Ok(handle)
     }
 
@@ -217,8 +228,12 @@ impl World {
         ensures err { OnErr result (self.new ≡ self.old) }
         ensures world { IsWorld self.new }
     {
+        let row = self.entities.row(handle);
         let freed = self.entities.free(handle)?;
-        let _ = self.storage.despawn(handle);
+        let Some(row) = row else { unreachable!() };
+        if let Some(moved) = self.storage.despawn_at(row as usize, handle) {
+            self.entities.set_row(moved, row);
+        }
         Ok(freed)
     }
 

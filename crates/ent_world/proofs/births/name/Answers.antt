@@ -1,6 +1,6 @@
 use Rattle.std.proofs.Common.{sym, ◌∙◌, drop}
 use Rattle.ent_world.proofs.BirthsByQueues.{named_now, named_before, keeps_name}
-use Rattle.ent_world.proofs.Room.{stands_from, stands_before}
+use Rattle.ent_world.proofs.Room.{stands_from, stands_before, stands_nowhere}
 use Rattle.ent_world.proofs.births.name.Goals.{else-before-place-via-then-before-place+else-birth_at}
 use Rattle.ent_world.proofs.births.name.Goals.{else-before-place-via-else-before-place}
 use Rattle.ent_world.proofs.births.name.Goals as goal
@@ -9,7 +9,7 @@ use Rattle.ent_world.proofs.births.name.Goals as goal
 pub returns-then-birth_at-clause-named : goal.returns-then-birth_at-clause-named
 returns-then-birth_at-clause-named c =
     let places = c.args.storage.now.places in
-    let at = (c.place.ensures.at c.in-Some.place).0 c.in-Some.is in
+    let at = (c.requires c.args.handle c.in-Some.place).0 (sym c.place_of.ensures ∙ c.in-Some.is) in
     c.set_birth_at.ensures.entities
     ∙ sym (named_now (drop c.args.before places) c.args.handle c.args.birth
     c.args.storage.now.entities c.birth_at.result
@@ -28,5 +28,14 @@ returns-else-before-place-clause-named c =
       | else-before-place-via-else-before-place w ↦ sym (named_before born c.args.handle
           c.args.birth c.args.storage.now.entities
           (stands_before places c.args.before c.in-Some.place c.args.handle
-          (λ k is. sym c.in-Some.is ∙ (c.place.ensures.at k).1 is) w.if-before-place.false))
+          (λ k is. sym c.in-Some.is ∙ c.place_of.ensures ∙ (c.requires c.args.handle k).1 is) w.if-before-place.false))
     ]
+
+-- it has no place
+pub returns-in_default-clause-named : goal.returns-in_default-clause-named
+returns-in_default-clause-named c =
+    let places = c.args.storage.now.places in
+    let h = c.args.handle in
+    sym (named_before (drop c.args.before places) h c.args.birth c.args.storage.now.entities
+    (stands_nowhere places c.args.before h (λ k is.
+    c.in_default.not-Some k (c.place_of.ensures ∙ (c.requires h k).1 is))))

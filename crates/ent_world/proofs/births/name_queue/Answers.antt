@@ -11,15 +11,15 @@ pub loop-entry-preserved : goal.loop-entry-preserved
 loop-entry-preserved c =
     let s = drop c.args.before c.args.storage.now.places in
     let m = c.loop-entry.storage.entities in
-    let done = c.name_entry-birth.ensures in
+    let done = c.name_entry-next.ensures in
     let command = command_of c.in-Some.entry in
     let rest = c.next.new.self in
     record {
       named = rw (done.named, done.next, c.loop-entry.invariant.places) (
-          sym (named-append s c.loop-entry.birth (listed_by command) (handles_listed rest) m)
-          ∙ ap (λ hs. named_handles s c.loop-entry.birth hs m)
+          sym (named-append s c.loop-entry.next (listed_by command) (handles_listed rest) m)
+          ∙ ap (λ hs. named_handles s c.loop-entry.next hs m)
           (sym (flat_map-cons listed_by command rest))
-          ∙ ap (λ q. named_handles s c.loop-entry.birth (handles_listed q) m)
+          ∙ ap (λ q. named_handles s c.loop-entry.next (handles_listed q) m)
           (sym c.in-Some.ensures.steps)
           ∙ c.loop-entry.invariant.named);
       places = done.places ∙ c.loop-entry.invariant.places;

@@ -1,9 +1,10 @@
-use Rattle.std.proofs.Common.{◌≡◌, sym, ap, ◌∙◌, is_some}
+use Rattle.std.proofs.Common.{◌≡◌, sym, ap, subst, ◌∙◌, ℕ, List}
 use Rattle.std.specs.FinMap as map
-use Rattle.ent_storage.specs.EntityMap.{newborn, with_components}
+use Rattle.ent_handle.specs.Handle.{Handle}
+use Rattle.ent_storage.specs.EntityMap.{Store, newborn, with_components}
 use Rattle.ent_storage.specs.Components.{with_items}
-use Rattle.ent_world.proofs.TakenOut.{taken_out}
-use Rattle.ent_world.proofs.Making.{on_ok, on_err, get_inserted, made_whole, taken_back}
+use Rattle.ent_storage.specs.Places.{AreWithout}
+use Rattle.ent_world.proofs.Making.{on_ok, on_err, made_whole, taken_back, end_taken_back}
 use Rattle.ent_world.proofs.spawning.make.Goals as goal
 
 -- the entity without its components goes again
@@ -14,15 +15,21 @@ returns-then-is_err-2-clause-err c =
     let e = newborn c.args.birth in
     let made = on_ok c.born.result (sym c.is_err.ensures.value ∙ c.if-is_err.false)
     c.born.ensures.ok in
-    let kept = on_err c.insert.result (sym c.is_err-2.ensures.value ∙ c.if-is_err-2.true)
-    c.insert.ensures.err in
-    let there : c.insert.new.self.entities ≡ map.insert m h e = ap (λ store. store.entities) kept
+    let kept = on_err c.insert_at.result (sym c.is_err-2.ensures.value ∙ c.if-is_err-2.true)
+    c.insert_at.ensures.err in
+    let there : c.insert_at.new.self.entities ≡ map.insert m h e = ap (λ (s : Store). s.entities) kept
     ∙ made in
-    taken_out c.insert.new.self.entities c.despawn.new.self.entities h c.despawn.result
-    (ap (λ n. map.contains_key n h) there ∙ ap is_some (get_inserted m h e))
-    c.despawn.ensures.ok c.despawn.ensures.absent.0 c.despawn.ensures.only_absent
-    ∙ ap (λ n. map.remove n h) there
-    ∙ taken_back m h e c.requires
+    c.despawn_at.ensures.entities ∙ ap (λ n. map.remove n h) there ∙ taken_back m h e c.requires.new
+
+pub returns-then-is_err-2-clause-unplaced : goal.returns-then-is_err-2-clause-unplaced
+returns-then-is_err-2-clause-unplaced c =
+    let places = c.args.storage.now.places in
+    let h = c.args.handle in
+    let there = c.insert_at.ensures.places ∙ on_ok c.born.result (sym c.is_err.ensures.value
+    ∙ c.if-is_err.false) c.born.ensures.places in
+    end_taken_back places c.despawn_at.new.self.places h
+    (subst (λ (p : ℕ × List Handle). AreWithout p.0 p.1 c.despawn_at.new.self.places)
+    (λ i. (c.requires.next i, there i)) c.despawn_at.ensures.places)
 
 pub returns-clause-ok : goal.returns-clause-ok
 returns-clause-ok c =
@@ -30,7 +37,7 @@ returns-clause-ok c =
     let h = c.args.handle in
     let made = on_ok c.born.result (sym c.is_err.ensures.value ∙ c.if-is_err.false)
     c.born.ensures.ok in
-    let filled = on_ok c.insert.result (sym c.is_err-2.ensures.value ∙ c.if-is_err-2.false)
-    c.insert.ensures.ok in
+    let filled = on_ok c.insert_at.result (sym c.is_err-2.ensures.value ∙ c.if-is_err-2.false)
+    c.insert_at.ensures.ok in
     filled ∙ ap (λ n. with_components n h (λ held. with_items held c.args.items.now)) made
     ∙ made_whole m h c.args.birth c.args.items.now

@@ -18,10 +18,13 @@ closed c =
       entities = c.self.inside.storage.entities;
     } in
     rw c.close.ensures.after (after_history-world (history_of (records_of c.args.reservers.items)) w
-    c.self.invariant.world)
+    c.self.invariant.world.world)
 
 pub invariant_of-result : goal.invariant_of-result
-invariant_of-result c = closed (goal.at.invariant_of-result c).After-close
+invariant_of-result c = record {
+  world = closed (goal.at.invariant_of-result c).After-close;
+  rows = rw c.close.ensures.rows c.self.invariant.rows;
+}
 
 pub returns-clause-world : goal.returns-clause-world
 returns-clause-world c = closed (goal.at.returns-clause-world c).After-close

@@ -9,5 +9,8 @@ invariant_of-result c =
       phase = c.self.inside.phase;
       entities = c.self.inside.storage.entities;
     } in
-    rw c.close_lost.ensures.after (after_loss-world c.close_lost.result.allocator.asked w
-    c.self.invariant.world c.self.invariant.flushed)
+    record {
+      world = rw c.close_lost.ensures.after (after_loss-world c.close_lost.result.allocator.asked w
+          c.self.invariant.world.world c.self.invariant.world.flushed);
+      rows = rw c.close_lost.ensures.rows c.self.invariant.rows;
+    }

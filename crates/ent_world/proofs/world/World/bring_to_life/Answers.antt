@@ -1,14 +1,22 @@
 use Rattle.std.proofs.Common.{◌≡◌, sym, ap, ◌∙◌, ℕ, ◌++◌, length, drop, arith}
 use Rattle.std.proofs.lemmas.List.Sorted.{length_permutation}
 use Rattle.ent_alloc.specs.Sequential.{born}
-use Rattle.ent_alloc.proofs.Flushes.{born-IsPermutation}
+use Rattle.ent_alloc.proofs.Flushes.{born-IsPermutation, born-lives}
 use Rattle.ent_world.specs.World.{IsWorld}
 use Rattle.ent_world.specs.Sync.{birth_in, with_born, after_births, next_phase}
+use Rattle.ent_world.specs.Entering.{first_birth}
+use Rattle.ent_world.specs.Rows.{with_rows}
 use Rattle.ent_world.proofs.Born.{born-new, stand_after, all_given}
+use Rattle.ent_world.proofs.PlacedRows.{rows-born, rows-count, born-fit}
 use Rattle.ent_world.proofs.Worlds.{after_births-world}
-use Rattle.ent_world.proofs.world.World.bring_to_life.Goals.{After-deref}
-use Rattle.ent_world.proofs.world.World.bring_to_life.Goals.{After-number_others}
+use Rattle.ent_world.proofs.world.World.bring_to_life.Goals.{After-len-first, After-deref}
+use Rattle.ent_world.proofs.world.World.bring_to_life.Goals.{After-set_rows, After-number_others}
 use Rattle.ent_world.proofs.world.World.bring_to_life.Goals as goal
+
+-- the first that is born has the next place
+next_place : (c : After-len-first) → c.len-first.result ≡ length c.self.inside.storage.places
+next_place c = c.len-first.ensures ∙ rows-count c.self.inside.entities.allocator _ _ _
+    c.self.invariant.rows c.self.invariant.world.living
 
 -- what the flush lists is what is born
 are_born : (c : After-deref) → c.deref.result.now ≡ born c.self.inside.entities.allocator
@@ -18,8 +26,8 @@ are_born c = c.deref.ensures.value ∙ c.in_ok-flush.ensures.born
 pub enter_all-requires-clause-new : goal.enter_all-requires-clause-new
 enter_all-requires-clause-new c =
     rw (are_born c, c.reserve.ensures.entities)
-    (born-new c.self.inside.entities.allocator c.self.inside.storage.entities c.self.invariant.sound
-    c.self.invariant.living)
+    (born-new c.self.inside.entities.allocator c.self.inside.storage.entities
+    c.self.invariant.world.sound c.self.invariant.world.living)
 
 pub enter_all-requires-clause-room : goal.enter_all-requires-clause-room
 enter_all-requires-clause-room c =
@@ -28,53 +36,131 @@ enter_all-requires-clause-room c =
     let all = ap length (are_born c) in
     omega (arith, same, all, c.reserved.ensures, c.in_ok-reserve.ensures.ok)
 
+pub set_rows-requires-clause-living : goal.set_rows-requires-clause-living
+set_rows-requires-clause-living c =
+    let s = c.self.inside.entities.allocator in
+    let at = (goal.at.set_rows-requires-clause-living c).After-deref in
+    rw (c.deref-2.ensures.value ∙ sym c.deref.ensures.value ∙ are_born at, c.in_ok-flush.ensures.ok)
+    (born-lives s)
+
+pub set_rows-requires-clause-fits : goal.set_rows-requires-clause-fits
+set_rows-requires-clause-fits c =
+    let s = c.self.inside.entities.allocator in
+    let are = are_born (goal.at.set_rows-requires-clause-fits c).After-deref in
+    let next = next_place (goal.at.set_rows-requires-clause-fits c).After-len-first in
+    let all = ap length (c.deref-2.ensures.value ∙ sym c.deref.ensures.value ∙ are) in
+    let fit = born-fit s c.self.inside.entities.rows c.self.inside.storage.places
+    c.self.inside.storage.entities c.self.invariant.world.sound c.self.invariant.world.living
+    c.self.invariant.rows in
+    omega (arith, all, next, fit)
+
+-- those that are born stand after the others
+stood : (c : After-set_rows) → c.enter_all.new.storage.places
+    ≡ c.self.inside.storage.places ++ born c.self.inside.entities.allocator
+stood c = c.enter_all.ensures.places
+    ∙ (λ i. c.reserve.ensures.places i ++ (c.deref.ensures.value ∙ c.in_ok-flush.ensures.born
+    ∙ ap (λ hs. hs ++ born c.self.inside.entities.allocator) c.new-handles.ensures.items) i)
+
+-- and have their places as rows
+kept : (c : After-set_rows) → c.set_rows.new.entities.rows ≡ with_rows c.self.inside.entities.rows
+    (length c.self.inside.storage.places) (born c.self.inside.entities.allocator)
+kept c =
+    let s = c.self.inside.entities.allocator in
+    let next = c.len-first.ensures ∙ rows-count s _ _ _
+    c.self.invariant.rows c.self.invariant.world.living in
+    let are = c.deref-2.ensures.value ∙ c.in_ok-flush.ensures.born
+    ∙ ap (λ hs. hs ++ born s) c.new-handles.ensures.items in
+    c.set_rows.ensures.rows ∙ (λ i. with_rows (c.flush.ensures.rows i) (next i) (are i))
+
+pub name_listed-requires-clause-rows : goal.name_listed-requires-clause-rows
+name_listed-requires-clause-rows c =
+    let at = (goal.at.name_listed-requires-clause-rows c).After-set_rows in
+    let s = c.self.inside.entities.allocator in
+    let m = c.self.inside.storage.entities in
+    rw (kept at, stood at)
+    (rows-born (λ _. first_birth 0 0) (born s) c.self.inside.entities.rows
+    c.self.inside.storage.places m c.self.invariant.rows
+    (born-new s m c.self.invariant.world.sound c.self.invariant.world.living)).at
+
+-- they stand from the first place on
+stand : (c : After-set_rows) → drop c.len-first.result c.enter_all.new.storage.places
+    ≡ c.deref.result.now
+stand c =
+    let next = c.len-first.ensures ∙ rows-count c.self.inside.entities.allocator _ _ _
+    c.self.invariant.rows c.self.invariant.world.living in
+    stand_after c.len-first.result c.reserve.new.self.places c.enter_all.new.storage.places
+    c.deref.result.now (next ∙ ap length (sym c.reserve.ensures.places)) c.enter_all.ensures.places
+
+pub number_others-requires : goal.number_others-requires
+number_others-requires c =
+    ap (drop c.len-first.result) c.name_listed.ensures.places
+    ∙ stand (goal.at.number_others-requires c).After-set_rows
+    ∙ c.deref.ensures.value ∙ sym c.deref-3.ensures.value
+
 -- all that are born have their births
-entered : (c : After-number_others) → c.number_others.new.storage.entities
+entered : (c : After-number_others) → drop c.len-first.result c.enter_all.new.storage.places
+    ≡ c.deref.result.now → c.number_others.new.storage.entities
     ≡ with_born c.self.inside.storage.entities
     (birth_in c.self.inside.phase c.args.queues.now (born c.self.inside.entities.allocator))
     (born c.self.inside.entities.allocator)
-entered c =
-    let before = c.len-before.result in
+entered c stand_there =
+    let s = c.self.inside.entities.allocator in
     let are = c.deref.ensures.value ∙ c.in_ok-flush.ensures.born
-    ∙ ap (λ hs. hs ++ born c.self.inside.entities.allocator) c.new-handles.ensures.items in
-    let later = c.enter_all.new.storage.places in
-    all_given c.self.inside.entities.allocator c.self.inside.storage.entities c.reserve.new.self.entities
+    ∙ ap (λ hs. hs ++ born s) c.new-handles.ensures.items in
+    all_given s c.self.inside.storage.entities c.reserve.new.self.entities
     c.enter_all.new.storage.entities c.name_listed.new.storage.entities
     c.number_others.new.storage.entities c.self.inside.phase c.args.queues.now c.deref.result.now
-    (drop before later) c.deref-2.result.now c.self.invariant.sound c.requires
-    c.reserve.ensures.entities are
-    (stand_after before c.reserve.new.self.places later c.deref.result.now
-    c.len-before.ensures.places c.enter_all.ensures.places)
-    (c.deref-2.ensures.value ∙ sym c.deref.ensures.value ∙ are)
-    c.enter_all.ensures.entered c.name_listed.ensures.named c.number_others.ensures
+    (drop c.len-first.result c.enter_all.new.storage.places) c.deref-3.result.now
+    c.self.invariant.world.sound c.requires c.reserve.ensures.entities are stand_there
+    (c.deref-3.ensures.value ∙ sym c.deref.ensures.value ∙ are)
+    c.enter_all.ensures.entered c.name_listed.ensures.named c.number_others.ensures.numbered
 
 -- the map after all entered has those that live
-risen : (c : After-number_others) → (phase : ℕ) → IsWorld (record {
-  allocator = c.flush.new.self.allocator;
-  phase = phase;
-  entities = c.number_others.new.storage.entities;
-})
-risen c phase =
+risen : (c : After-number_others) → (phase : ℕ)
+    → c.number_others.new.storage.entities
+    ≡ with_born c.self.inside.storage.entities
+    (birth_in c.self.inside.phase c.args.queues.now (born c.self.inside.entities.allocator))
+    (born c.self.inside.entities.allocator) → IsWorld (record {
+      allocator = c.set_rows.new.entities.allocator;
+      phase = phase;
+      entities = c.number_others.new.storage.entities;
+    })
+risen c phase all =
     let is = after_births-world c.args.queues.now (record {
       allocator = c.self.inside.entities.allocator;
       phase = c.self.inside.phase;
       entities = c.self.inside.storage.entities;
-    }) c.self.invariant in
-    rw (entered c, c.in_ok-flush.ensures.ok) (record { sound = is.sound; living = is.living })
+    }) c.self.invariant.world in
+    rw (all, c.set_rows.ensures.allocator, c.in_ok-flush.ensures.ok)
+    (record { sound = is.sound; living = is.living })
 
 pub invariant_of-self-2 : goal.invariant_of-self-2
-invariant_of-self-2 c = risen (goal.at.invariant_of-self-2 c).After-number_others
-    c.saturating_add-self-inside.result
+invariant_of-self-2 c =
+    let at = (goal.at.invariant_of-self-2 c).After-set_rows in
+    let last = (goal.at.invariant_of-self-2 c).After-number_others in
+    let s = c.self.inside.entities.allocator in
+    let m = c.self.inside.storage.entities in
+    let all = entered last (stand at) in
+    record {
+      world = risen last c.saturating_add-self-inside.result all;
+      rows = rw (kept at, c.number_others.ensures.places, c.name_listed.ensures.places, stood at, all)
+          (rows-born (birth_in c.self.inside.phase c.args.queues.now (born s)) (born s)
+          c.self.inside.entities.rows c.self.inside.storage.places m c.self.invariant.rows
+          (born-new s m c.self.invariant.world.sound c.self.invariant.world.living));
+    }
 
 pub returns-clause-ok : goal.returns-clause-ok
 returns-clause-ok c =
-    let all = entered (goal.at.returns-clause-ok c).After-number_others in
-    let flushed = c.in_ok-flush.ensures.ok in
+    let at = (goal.at.returns-clause-ok c).After-set_rows in
+    let all = entered (goal.at.returns-clause-ok c).After-number_others (stand at) in
+    let flushed = c.set_rows.ensures.allocator ∙ c.in_ok-flush.ensures.ok in
     let next : c.saturating_add-self-inside.result ≡ next_phase c.self.inside.phase =
     c.saturating_add-self-inside.ensures in
     (λ i. record { allocator = flushed i; phase = next i; entities = all i })
     ∙ ap (after_births c.args.queues.now) c.self.view_is
 
 pub returns-clause-world : goal.returns-clause-world
-returns-clause-world c = risen (goal.at.returns-clause-world c).After-number_others
-    c.saturating_add-self-inside.result
+returns-clause-world c =
+    let at = (goal.at.returns-clause-world c).After-set_rows in
+    let last = (goal.at.returns-clause-world c).After-number_others in
+    risen last c.saturating_add-self-inside.result (entered last (stand at))

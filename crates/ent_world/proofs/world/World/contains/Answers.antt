@@ -9,4 +9,4 @@ returns-in-Alive c =
     let alive = alive_by_state c.self.inside.entities.allocator c.args.handle (sym c.state.ensures
     ∙ c.in-Alive.is) in
     sym (ap (λ (w : World). lives_in w c.args.handle) (sym c.self.view_is)
-    ∙ c.self.invariant.living c.args.handle ∙ alive)
+    ∙ c.self.invariant.world.living c.args.handle ∙ alive)

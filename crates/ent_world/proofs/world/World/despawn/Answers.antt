@@ -1,34 +1,91 @@
-use Rattle.std.proofs.Common.{◌≡◌, ◌<◌, ◌∙◌, arith}
+use Rattle.std.proofs.Common.{◌≡◌, ◌<◌, refl, sym, subst, ◌∙◌, arith, Option, Some}
+use Rattle.std.specs.FinMap as map
+use Rattle.ent_handle.specs.Handle.{Handle, handle_cmp_total, handle_cmp-IsAntisymmetric}
+use Rattle.ent_storage.proofs.Keys.{get-insert_same}
 use Rattle.ent_world.specs.World.{World, IsWorld}
-use Rattle.ent_world.proofs.TakenOut.{taken_out}
+use Rattle.ent_world.specs.Rows.{AreRows, with_moved}
+use Rattle.ent_world.proofs.PlacedRows.{rows-remove, has_row-lives}
 use Rattle.ent_world.proofs.Worlds.{after_despawn-world}
-use Rattle.ent_world.proofs.world.World.despawn.Goals.{After-despawn}
+use Rattle.ent_world.proofs.world.World.despawn.Goals.{After-despawn_at}
+use Rattle.ent_world.proofs.world.World.despawn.Goals.{in-Some-despawn_at, in_default-despawn_at}
 use Rattle.ent_world.proofs.world.World.despawn.Goals as goal
 
 -- the entity is gone, and its handle is free
-gone : (c : After-despawn) → IsWorld (record {
+gone : (c : After-despawn_at) → IsWorld (record {
   allocator = c.free.new.self.allocator;
   phase = c.self.inside.phase;
-  entities = c.despawn.new.self.entities;
+  entities = c.despawn_at.new.self.entities;
 })
 gone c =
-    let m = c.self.inside.storage.entities in
     let h = c.args.handle in
     let w : World = record {
       allocator = c.self.inside.entities.allocator;
       phase = c.self.inside.phase;
-      entities = m;
+      entities = c.self.inside.storage.entities;
     } in
-    let lived = c.self.invariant.living h ∙ c.in_ok-freed.ensures.lived in
-    let left = taken_out m c.despawn.new.self.entities h c.despawn.result lived c.despawn.ensures.ok
-    c.despawn.ensures.absent.0 c.despawn.ensures.only_absent in
+    let lived = c.self.invariant.world.living h ∙ c.in_ok-freed.ensures.lived in
     let none : 0 < c.self.inside.entities.allocator.asked → ⊥ = λ some. let refused =
     c.in_ok-freed.ensures.needs_flush.1 some in cc in
     let flushed : c.self.inside.entities.allocator.asked ≡ 0 = omega arith in
-    rw (left, c.in_ok-freed.ensures.ok) (after_despawn-world h w c.self.invariant flushed lived)
+    rw (c.despawn_at.ensures.entities, c.in_ok-freed.ensures.ok)
+    (after_despawn-world h w c.self.invariant.world flushed lived)
 
-pub invariant_of-self-2 : goal.invariant_of-self-2
-invariant_of-self-2 c = gone (goal.at.invariant_of-self-2 c).After-despawn
+-- each row is a place still, once the entity that moved has its own
+placed : (c : After-despawn_at) → AreRows
+    (with_moved c.free.new.self.rows c.in-Some.row c.despawn_at.result) c.despawn_at.new.self.places
+    c.despawn_at.new.self.entities
+placed c =
+    let h = c.args.handle in
+    let rows = c.self.inside.entities.rows in
+    let places = c.self.inside.storage.places in
+    let here = (c.self.invariant.rows.at h c.in-Some.row).0
+    (sym c.row-row.ensures.value ∙ c.in-Some.is) in
+    rw (c.despawn_at.ensures.entities, c.in_ok-freed.ensures.row)
+    (rows-remove rows places c.despawn_at.new.self.places c.self.inside.storage.entities h
+    c.in-Some.row c.self.invariant.rows here c.despawn_at.ensures.places c.despawn_at.result
+    c.despawn_at.ensures.moved)
+
+-- an entity moved
+moved_placed : (c : After-despawn_at) (moved : Handle) → c.despawn_at.result ≡ Some moved → AreRows
+    (map.insert c.free.new.self.rows moved c.in-Some.row) c.despawn_at.new.self.places
+    c.despawn_at.new.self.entities
+moved_placed c moved is = subst (λ (o : Option Handle). AreRows
+    (with_moved c.free.new.self.rows c.in-Some.row o) c.despawn_at.new.self.places
+    c.despawn_at.new.self.entities) is (placed c)
+
+pub set_row-requires : goal.set_row-requires
+set_row-requires c =
+    let at = (goal.at.set_row-requires c).After-despawn_at in
+    let moved = c.in-Some-despawn_at.moved in
+    has_row-lives c.free.new.self.allocator.live
+    (map.insert c.free.new.self.rows moved c.in-Some.row) c.despawn_at.new.self.places
+    c.despawn_at.new.self.entities (moved_placed at moved c.in-Some-despawn_at.is) (gone at).living
+    moved c.in-Some.row (get-insert_same handle_cmp_total handle_cmp-IsAntisymmetric
+    c.free.new.self.rows moved c.in-Some.row moved refl)
+
+pub invariant_of-self-in-Some-despawn_at : goal.invariant_of-self-in-Some-despawn_at
+invariant_of-self-in-Some-despawn_at c =
+    let at = (goal.at.invariant_of-self-in-Some-despawn_at c).After-despawn_at in
+    rw (c.set_row.ensures.allocator, c.set_row.ensures.row) (record {
+      world = gone at;
+      rows = moved_placed at c.in-Some-despawn_at.moved c.in-Some-despawn_at.is;
+    })
+
+-- none moved
+pub invariant_of-self-in_default-despawn_at : goal.invariant_of-self-in_default-despawn_at
+invariant_of-self-in_default-despawn_at c =
+    let at = (goal.at.invariant_of-self-in_default-despawn_at c).After-despawn_at in
+    record {
+      world = gone at;
+      rows = subst (λ (o : Option Handle). AreRows
+          (with_moved c.free.new.self.rows c.in-Some.row o) c.despawn_at.new.self.places
+          c.despawn_at.new.self.entities) c.in_default-despawn_at.is (placed at);
+    }
 
 pub returns-clause-world : goal.returns-clause-world
-returns-clause-world c = gone (goal.at.returns-clause-world c).After-despawn
+returns-clause-world c =
+    let at = (goal.at.returns-clause-world c).After-despawn_at in
+    elim c.match-despawn_at.branch [
+      | in-Some-despawn_at w ↦ rw (w.self-is, w.set_row.ensures.allocator) (gone at)
+      | in_default-despawn_at w ↦ rw w.self-is (gone at)
+    ]

@@ -1,13 +1,22 @@
-use Rattle.std.proofs.Common.{sym, ◌∙◌}
+use Rattle.std.proofs.Common.{inl, inr}
 use Rattle.ent_storage.specs.Components.{with_items}
-use Rattle.ent_world.proofs.Making.{on_ok}
+use Rattle.ent_world.proofs.Making.{on_either}
+use Rattle.ent_world.proofs.PlacedRows.{rows-components}
 use Rattle.ent_world.proofs.Worlds.{components-world}
 use Rattle.ent_world.proofs.world.World.insert_items.Goals as goal
 
-pub invariant_of-self-2 : goal.invariant_of-self-2
-invariant_of-self-2 c =
-    let changed = on_ok c.insert.result (sym c.is_err.ensures.value ∙ c.if-is_err.false)
-    c.insert.ensures.ok in
-    components-world (λ held. with_items held c.deref.result.now) c.args.handle
-    c.self.inside.entities.allocator
-    c.self.inside.phase c.self.inside.storage.entities _ changed c.self.invariant
+pub invariant_of-self : goal.invariant_of-self
+invariant_of-self c =
+    let before = c.self.inside.storage in
+    let after = c.insert_at.new.self in
+    elim (on_either c.insert_at.result c.insert_at.ensures.ok c.insert_at.ensures.err) [
+      | inl changed ↦ record {
+        world = components-world (λ held. with_items held c.deref.result.now) c.args.handle
+            c.self.inside.entities.allocator c.self.inside.phase before.entities after.entities
+            changed c.self.invariant.world;
+        rows = rows-components c.self.inside.entities.rows before.places after.places before.entities
+            after.entities c.args.handle (λ held. with_items held c.deref.result.now)
+            c.self.invariant.rows c.insert_at.ensures.places changed;
+      }
+      | inr same ↦ rw same c.self.invariant
+    ]

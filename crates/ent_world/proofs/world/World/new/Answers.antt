@@ -1,5 +1,6 @@
 use Rattle.ent_world.specs.World.{IsWorld}
 use Rattle.ent_world.proofs.Living.{keys-empty}
+use Rattle.ent_world.proofs.PlacedRows.{rows-empty}
 use Rattle.ent_world.proofs.world.World.new.Goals.{After-new}
 use Rattle.ent_world.proofs.world.World.new.Goals as goal
 
@@ -16,7 +17,10 @@ begun c = record {
 }
 
 pub invariant_of-result : goal.invariant_of-result
-invariant_of-result c = begun (goal.at.invariant_of-result c).After-new
+invariant_of-result c = record {
+  world = begun (goal.at.invariant_of-result c).After-new;
+  rows = rw (c.new-entities.ensures.rows, c.new.ensures.places, c.new.ensures.entities) rows-empty;
+}
 
 pub returns-clause-world : goal.returns-clause-world
 returns-clause-world c = begun (goal.at.returns-clause-world c).After-new

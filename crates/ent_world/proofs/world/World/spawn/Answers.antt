@@ -1,43 +1,67 @@
-use Rattle.std.proofs.Common.{◌≡◌, sym, ap, ◌∙◌, is_some, Some}
+use Rattle.std.proofs.Common.{◌≡◌, sym, ap, subst, ◌∙◌, ℕ, List, is_some, Some, length}
 use Rattle.std.specs.FinMap as map
+use Rattle.ent_handle.specs.Handle.{Handle}
+use Rattle.ent_storage.specs.Places.{AreWithout}
+use Rattle.ent_storage.proofs.ElementsAt.{at_pushed}
 use Rattle.ent_world.specs.World.{World, IsWorld}
 use Rattle.ent_world.specs.Effects.{spawned}
-use Rattle.ent_world.proofs.TakenOut.{taken_out}
+use Rattle.ent_world.specs.Rows.{AreRows}
 use Rattle.ent_world.proofs.Born.{no_entity}
-use Rattle.ent_world.proofs.Making.{get_inserted, taken_back}
+use Rattle.ent_world.proofs.Making.{get_inserted, taken_back, end_taken_back}
+use Rattle.ent_world.proofs.PlacedRows.{rows-count, rows-insert}
 use Rattle.ent_world.proofs.Worlds.{after_spawn-world}
-use Rattle.ent_world.proofs.world.World.spawn.Goals.{After-despawn, In_default}
+use Rattle.ent_world.proofs.world.World.spawn.Goals.{After-items, After-despawn_at, In_default}
 use Rattle.ent_world.proofs.world.World.spawn.Goals as goal
 
+-- the next place is the number of those that live
+next_place : (c : After-items) → c.len-row.result ≡ length c.self.inside.storage.places
+next_place c = c.len-row.ensures ∙ rows-count c.self.inside.entities.allocator _ _ _
+    c.self.invariant.rows c.self.invariant.world.living
+
+pub make-requires-clause-next : goal.make-requires-clause-next
+make-requires-clause-next c = next_place (goal.at.make-requires-clause-next c).After-items
+
+pub despawn_at-requires : goal.despawn_at-requires
+despawn_at-requires c =
+    let next = next_place (goal.at.despawn_at-requires c).After-items in
+    rw (c.in_ok-make.ensures.placed, next) (at_pushed c.self.inside.storage.places
+    c.in_ok-handle.handle)
+
 -- the entity that was made is taken back
-back : (c : After-despawn) → c.despawn.new.self.entities ≡ c.self.inside.storage.entities
+back : (c : After-despawn_at) → c.despawn_at.new.self.entities ≡ c.self.inside.storage.entities
 back c =
     let m = c.self.inside.storage.entities in
     let h = c.in_ok-handle.handle in
     let e = spawned c.args.birth c.items.result.now in
-    let made = c.in_ok-make.ensures.ok in
-    let none = no_entity (map.get m h) (c.self.invariant.living h ∙ c.in_ok-handle.ensures.new) in
-    let gone = taken_out c.make.new.storage.entities c.despawn.new.self.entities h c.despawn.result
-    (ap (λ n. map.contains_key n h) made ∙ ap is_some (get_inserted m h e))
-    c.despawn.ensures.ok c.despawn.ensures.absent.0 c.despawn.ensures.only_absent in
-    gone ∙ ap (λ n. map.remove n h) made ∙ taken_back m h e none
+    let none = no_entity (map.get m h) (c.self.invariant.world.living h
+    ∙ c.in_ok-handle.ensures.new) in
+    c.despawn_at.ensures.entities ∙ ap (λ n. map.remove n h) c.in_ok-make.ensures.ok
+    ∙ taken_back m h e none
+
+place_back : (c : After-despawn_at) → c.despawn_at.new.self.places ≡ c.self.inside.storage.places
+place_back c =
+    let next = c.len-row.ensures ∙ rows-count c.self.inside.entities.allocator _ _ _
+    c.self.invariant.rows c.self.invariant.world.living in
+    end_taken_back c.self.inside.storage.places c.despawn_at.new.self.places c.in_ok-handle.handle
+    (subst (λ (p : ℕ × List Handle). AreWithout p.0 p.1 c.despawn_at.new.self.places)
+    (λ i. (next i, c.in_ok-make.ensures.placed i)) c.despawn_at.ensures.places)
 
 pub invariant_of-self-in-Err : goal.invariant_of-self-in-Err
 invariant_of-self-in-Err c =
-    rw (back (goal.at.invariant_of-self-in-Err c).After-despawn, c.in-Err.ensures.err)
-    c.self.invariant
+    let at = (goal.at.invariant_of-self-in-Err c).After-despawn_at in
+    rw (back at, place_back at, c.in-Err.ensures.err) c.self.invariant
 
 pub returns-in-Err-clause-err : goal.returns-in-Err-clause-err
 returns-in-Err-clause-err c =
-    let gone = back (goal.at.returns-in-Err-clause-err c).After-despawn in
+    let gone = back (goal.at.returns-in-Err-clause-err c).After-despawn_at in
     let same = c.in-Err.ensures.err in
     (λ i. record { allocator = (same i).allocator; phase = c.self.inside.phase; entities = gone i })
     ∙ c.self.view_is
 
 pub returns-in-Err-clause-world : goal.returns-in-Err-clause-world
 returns-in-Err-clause-world c =
-    rw (back (goal.at.returns-in-Err-clause-world c).After-despawn, c.in-Err.ensures.err)
-    c.self.invariant
+    rw (back (goal.at.returns-in-Err-clause-world c).After-despawn_at, c.in-Err.ensures.err)
+    c.self.invariant.world
 
 -- the handle that the allocator gave is the one under which the entity was made
 grown : (c : In_default) → IsWorld (record {
@@ -56,11 +80,37 @@ grown c =
     ∙ c.in_ok-handle.ensures.front in
     let same : c.in_default.field-0 ≡ h = cc in
     rw (c.in_ok-make.ensures.ok, c.in_default.ensures.ok, same)
-    (after_spawn-world c.args.birth c.items.result.now h w c.self.invariant
+    (after_spawn-world c.args.birth c.items.result.now h w c.self.invariant.world
     c.in_ok-handle.ensures.flushed c.in_ok-handle.ensures.front)
 
-pub invariant_of-self-in_default : goal.invariant_of-self-in_default
-invariant_of-self-in_default c = grown (goal.at.invariant_of-self-in_default c).In_default
+-- it lives
+pub set_row-requires : goal.set_row-requires
+set_row-requires c =
+    let m = c.self.inside.storage.entities in
+    let h = c.in_ok-handle.handle in
+    sym ((grown (goal.at.set_row-requires c).In_default).living h)
+    ∙ ap (λ n. map.contains_key n h) c.in_ok-make.ensures.ok
+    ∙ ap is_some (get_inserted m h (spawned c.args.birth c.items.result.now))
+
+-- its row is the next place
+placed : (c : In_default) → AreRows
+    (map.insert c.alloc.new.self.rows c.in_ok-handle.handle c.len-row.result)
+    c.make.new.storage.places c.make.new.storage.entities
+placed c =
+    let h = c.in_ok-handle.handle in
+    let next = c.len-row.ensures ∙ rows-count c.self.inside.entities.allocator _ _ _
+    c.self.invariant.rows c.self.invariant.world.living in
+    rw (c.alloc.ensures.rows, next, c.in_ok-make.ensures.placed, c.in_ok-make.ensures.ok)
+    (rows-insert c.self.inside.entities.rows c.self.inside.storage.places
+    c.self.inside.storage.entities h (spawned c.args.birth c.items.result.now)
+    c.self.invariant.rows (c.self.invariant.world.living h ∙ c.in_ok-handle.ensures.new))
+
+pub invariant_of-self-2 : goal.invariant_of-self-2
+invariant_of-self-2 c =
+    let at = (goal.at.invariant_of-self-2 c).In_default in
+    rw (c.set_row.ensures.allocator, c.set_row.ensures.row)
+    (record { world = grown at; rows = placed at })
 
 pub returns-clause-world : goal.returns-clause-world
-returns-clause-world c = grown (goal.at.returns-clause-world c).In_default
+returns-clause-world c =
+    rw c.set_row.ensures.allocator (grown (goal.at.returns-clause-world c).In_default)
