@@ -1,15 +1,13 @@
 -- What columns have at a place, and after each change.
 use Rattle.std.proofs.Common.{◌≡◌, ◌≢◌, ℕ, ℤ, zero, suc, ◌+◌, ◌<◌, ◌≤◌, Bool, true, false, cond, T}
-use Rattle.std.proofs.Common.{◌⊎◌, inl, inr, List, [], ◌∷◌, ◌++◌, length, get_or, set, drop, Option}
-use Rattle.std.proofs.Common.{◌&&◌, Some, None, is_some, refl, sym, ap, subst, ◌∙◌, arith}
+use Rattle.std.proofs.Common.{◌⊎◌, inl, inr, List, [], ◌∷◌, ◌++◌, length, get_or, set, Option}
+use Rattle.std.proofs.Common.{◌&&◌, Some, None, refl, sym, ap, subst, ◌∙◌, arith}
 use Rattle.std.proofs.lemmas.Option.{none-some}
 use Rattle.std.proofs.lemmas.List.{get_or_past, get_or-set_same, get_or-set_other}
 use Rattle.std.proofs.lemmas.Bool.{cases_lt, cases_eq}
 use Rattle.std.specs.declared.cmp.Ordering.TheVariants.{Less, Equal, Greater}
 use Rattle.std.specs.Ordering.{nat_cmp, eq_by_cmp, is_lt, MatchOrdering}
 use Rattle.std.specs.Cmp.{nat_cmp_total, ranks}
-use Rattle.std.specs.List.{count_by}
-use Rattle.std.proofs.lemmas.List.Sums.{sum_by-cons}
 use Rattle.std.specs.FinMap as map
 use Rattle.std.specs.FinMap.{find, is_sorted}
 use Rattle.std.specs.FinMap.Entries.{below_all}
@@ -281,55 +279,3 @@ moved_none place last = record {
   left = map.get-empty nat_cmp last;
   others = λ p n m. refl;
 }
-
--- ---- the items at a place, one by one
-
-count_value : (n : ℕ) (o : Option ℤ) (items : List (ComponentId × ℤ)) → cond (is_some o) 1 0
-    + length items ≡ length (with_value o n items)
-count_value n None items = omega arith
-count_value n (Some v) items = omega arith
-
-pub count_items : (n : ℕ) (columns : List Column) (place : ℕ)
-    → count_by (λ column. is_some (map.get column.values place)) columns
-    ≡ length (items_from n columns place)
-count_items n [] place = refl
-count_items n (column ∷ columns) place =
-    let first = sum_by-cons (λ (column : Column). cond (is_some (map.get column.values place)) 1 0)
-    column columns in
-    let rest = count_items (suc n) columns place in
-    omega (
-      arith,
-      first,
-      rest,
-      count_value n (map.get column.values place)
-          (items_from (suc n) columns place),
-    )
-
-pub items_none : (n : ℕ) (columns : List Column) (place : ℕ)
-    → ((k : ℕ) → k < length columns → map.get (column_at columns k).values place ≡ None)
-    → items_from n columns place ≡ []
-items_none n [] place none = refl
-items_none n (column ∷ columns) place none =
-    ap (λ (o : Option ℤ). with_value o n (items_from (suc n) columns place)) (none 0 (omega arith))
-    ∙ items_none (suc n) columns place (λ k l. none (suc k) (omega arith))
-
-pub items_first : (n : ℕ) (columns : List Column) (place k : ℕ) (v : ℤ) → k < length columns
-    → ((j : ℕ) → j < k → map.get (column_at columns j).values place ≡ None)
-    → map.get (column_at columns k).values place ≡ Some v → items_from n columns place
-    ≡ (record { 0 = n + k }, v) ∷ items_from (n + k + 1) (drop (k + 1) columns) place
-items_first n [] place k v l none here = absurd (omega arith)
-items_first n (column ∷ columns) place zero v l none here =
-    let n_is : n ≡ n + 0 = omega arith in
-    let next : suc n ≡ n + 0 + 1 = omega arith in
-    let one : suc zero ≡ 0 + 1 = omega arith in
-    ap (λ (o : Option ℤ). with_value o n (items_from (suc n) columns place)) here
-    ∙ (λ i. (record { 0 = n_is i }, v) ∷ items_from (next i) (drop (one i) (column ∷ columns))
-    place)
-items_first n (column ∷ columns) place (suc k) v l none here =
-    let n_is : suc n + k ≡ n + suc k = omega arith in
-    let more : suc (k + 1) ≡ suc k + 1 = omega arith in
-    ap (λ (o : Option ℤ). with_value o n (items_from (suc n) columns place)) (none 0 (omega arith))
-    ∙ items_first (suc n) columns place k v (omega arith) (λ j m. none (suc j) (omega arith)) here
-    ∙ (λ i. (record { 0 = n_is i }, v) ∷ items_from (n_is i + 1) (drop (k + 1) columns) place)
-    ∙ (λ i. (record { 0 = n + suc k }, v) ∷ items_from (n + suc k + 1)
-    (drop (more i) (column ∷ columns)) place)

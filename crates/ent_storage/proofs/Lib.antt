@@ -7,6 +7,7 @@ pub mod Dense
 pub mod ElementsAt
 pub mod Indexed
 pub mod InUse
+pub mod ItemsInUse
 pub mod Keys
 pub mod LivingLemmas
 pub mod Missing

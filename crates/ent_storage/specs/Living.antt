@@ -2,7 +2,7 @@
 use Rattle.std.specs.Prelude.{◌≡◌, ◌≢◌, ◌+◌, ◌-◌, ◌<◌, ◌≤◌, ℕ, zero, suc, ℤ, List, [], ◌∷◌, length}
 use Rattle.std.specs.Prelude.{Option, None, Some, refl, ◌⊎◌, Contains}
 use Rattle.std.specs.List.{All, AllPairs}
-use Rattle.std.specs.Prelude.{slice_index_or, slice_get, option_and_then, is_some, IsTrue}
+use Rattle.std.specs.Prelude.{slice_index_or, slice_get, option_and_then}
 use Rattle.std.specs.Option.{option_map}
 use Rattle.std.specs.Coded.{Coded, code_by, coded×, coded_list, coded_ℕ}
 use Rattle.std.specs.FinMap as map
@@ -59,6 +59,13 @@ items_from number (column ∷ columns) place =
 abbrev pub components_at : List Column → ℕ → Components
 components_at columns place = map.from_sorted (items_from 0 columns place)
 
+-- the items at a place whose component numbers are among those
+abbrev pub items_of : List ℕ → List Column → ℕ → List (ComponentId × ℤ)
+items_of [] columns place = []
+items_of (number ∷ numbers) columns place =
+    with_value (map.get (column_at columns number).values place) number
+    (items_of numbers columns place)
+
 -- the entities of the residents, if the first resident is that of the place
 abbrev pub entities_from : ℕ → List Resident → List Column → List LivingEntity
 entities_from place [] columns = []
@@ -76,10 +83,10 @@ pub record AreColumnsOf (count : ℕ) (columns : List Column) : Type 0 where
       → value_at columns place id ≡ None
   pub numbered : length columns ≤ 256
 
--- the columns in use by their numbers, each once, and no other column has values or room
+-- the columns in use by their rising numbers, and no other column has values or room
 pub record AreInUse (used : List ℕ) (columns : List Column) : Type 0 where
   pub inside : All (λ number. number < length columns) used
-  pub once : AllPairs (λ a b. a ≢ b) used
+  pub rising : AllPairs (λ a b. a < b) used
   pub rest : (number : ℕ) → Contains used number ⊎ (column_at columns number ≡ no_column)
 
 -- the entities after the components of the one at the place were changed
@@ -107,12 +114,6 @@ pub record IsMovedInto (living : List LivingEntity) (i : ℕ) (left : List Livin
       → slice_index_or left i d ≡ slice_index_or living (length living - 1) d
   pub others : (k : ℕ) (d : LivingEntity) → k ≢ i → k + 1 < length living
       → slice_index_or left k d ≡ slice_index_or living k d
-
--- the first of the columns that has a value at the place
-pub record IsFirstWith (columns : List Column) (place : ℕ) (position : ℕ) : Type 0 where
-  pub inside : position < length columns
-  pub here : IsTrue (is_some (map.get (column_at columns position).values place))
-  pub before : (k : ℕ) → k < position → map.get (column_at columns k).values place ≡ None
 
 -- the birth and the handle of the entity at the place
 abbrev pub born_at : List LivingEntity → ℕ → Option (Birth × Handle)

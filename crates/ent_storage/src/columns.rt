@@ -1,5 +1,5 @@
 ghost use Rattle.std.specs.Prelude.{◌≡◌, ◌≢◌, ◌<◌, ◌≤◌, ℕ, OnOk, OnErr, None, Some, length};
-ghost use Rattle.std.specs.Prelude.{IsTrue, List, Contains};
+ghost use Rattle.std.specs.Prelude.{List, Contains};
 ghost use Rattle.std.specs.List.{All};
 ghost use Rattle.std.specs.FinMap as map;
 ghost use Rattle.ent_handle.specs.declared.component.ComponentId.{ComponentId};
@@ -70,30 +70,16 @@ fn reserve(
     columns[number].reserve(place)
 }
 
-/// Writes down that the column of the number is in use.
+/// Writes down that the column of the number is in use. The numbers stay in rising order.
 fn mark(used: &mut Vec<u8>, number: u8) -> Result<(), AllocError>
     ensures in_use { (columns : List Column) → number < length columns
         → AreInUse used.old.items columns → AreInUse used.new.items columns }
     ensures ok { OnOk result (Contains used.new.items number) }
 {
-    if is_used(used, number) {
-        return Ok(());
+    if let Err(gap) = used.binary_search(&number) {
+        used.insert(gap, number)?;
     }
-    used.push(number)?;
     Ok(())
-}
-
-/// Whether the number is among those in use.
-fn is_used(used: &[u8], number: u8) -> bool
-    ensures there { IsTrue result → Contains used.now number }
-    ensures absent { ¬ (IsTrue result) → All (λ other. other ≢ number) used.now }
-{
-    for other in used {
-        if *other == number {
-            return true;
-        }
-    }
-    false
 }
 
 /// Adds columns without values until there are that many.

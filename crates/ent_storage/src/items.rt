@@ -1,51 +1,50 @@
-ghost use Rattle.std.specs.Prelude.{◌≡◌, ◌<◌, ◌≤◌, ℕ, IfSome, None, Some, drop, length, is_some};
+ghost use Rattle.std.specs.Prelude.{◌≡◌, IfSome, None, Some, ◌∷◌, [], length, is_some};
 ghost use Rattle.std.specs.List.{count_by};
 ghost use Rattle.std.specs.Iterator.{YieldsFirst, UpTo, item_count};
 ghost use Rattle.std.specs.Iterator.SizeHint.{IsWithinCount};
 ghost use Rattle.std.specs.FinMap as map;
-ghost use Rattle.ent_storage.specs.Living.{components_at, column_at, IsFirstWith};
+ghost use Rattle.ent_storage.specs.Living.{components_at, value_at, items_of, AreInUse};
 
+use super::columns;
 use super::sparse_set::SparseSet;
 use ent_handle::ComponentId;
 use std::marker::Model;
 
 /// The components of one entity and their values, by rising number.
 ///
-/// `Storage::items` makes it. It borrows the storage and copies nothing.
+/// `Storage::items` makes it. It borrows the storage and copies nothing. It looks at the components
+/// that any entity has ever had, at most 256 of them.
 #[derive(Drop)]
 pub struct Items<'a> {
     columns: &'a [SparseSet],
-    number: usize,
+    used: &'a [u8],
     place: usize,
     left: usize,
 }
 
 impl<'a> Model for Items<'a> {
-    ghost use Rattle.std.specs.Prelude.{ℤ, List, ◌≡◌, ◌≤◌, ◌+◌, length};
+    ghost use Rattle.std.specs.Prelude.{ℤ, List, ◌≡◌, length};
     ghost use Rattle.ent_handle.specs.declared.component.ComponentId.{ComponentId};
-    ghost use Rattle.ent_storage.specs.Living.{items_from};
+    ghost use Rattle.ent_storage.specs.Living.{items_of};
 
     ghost Value = { List (ComponentId × ℤ) };
 
-    ghost view = { λ a. items_from a.number a.columns.now a.place };
+    ghost view = { λ a. items_of a.used.now a.columns.now a.place };
 
-    ghost invariant = { λ a. record {
-      left : a.left ≡ length (items_from a.number a.columns.now a.place);
-      numbered : a.number + length a.columns.now ≤ 256;
-    } };
+    ghost invariant = { λ a. a.left ≡ length (items_of a.used.now a.columns.now a.place) };
 }
 
 impl<'a> Items<'a> {
-    /// The items at the place.
-    pub(crate) fn new(columns: &'a [SparseSet], place: usize) -> Self
-        requires { length columns.now ≤ 256 }
+    /// The items at the place. The numbers are those of the columns in use.
+    pub(crate) fn new(columns: &'a [SparseSet], used: &'a [u8], place: usize) -> Self
+        requires { AreInUse used.now columns.now }
         ensures { result ≡ map.entries (components_at columns.now place) }
     {
         Items {
             columns,
-            number: 0,
+            used,
             place,
-            left: count_at(columns, place),
+            left: count_of(columns, used, place),
         }
     }
 }
@@ -58,13 +57,10 @@ impl Iterator for Items<'_> {
     ghost remaining = { item_count (λ items. items) };
 
     fn next(&mut self) -> Option<(ComponentId, i64)> {
-        let skipped = first_with(self.columns, self.place)?;
-        let value = self.columns[skipped].get(self.place)?;
-        let id = ComponentId((self.number + skipped) as u8);
-        self.columns = after(self.columns, skipped + 1);
-        self.number += skipped + 1;
+        let (item, rest) = first_of(self.columns, self.used, self.place)?;
+        self.used = rest;
         self.left -= 1;
-        Some((id, value))
+        Some(item)
     }
 
     fn size_hint(&self) -> (usize, Option<usize>)
@@ -82,35 +78,31 @@ impl ExactSizeIterator for Items<'_> {
     }
 }
 
-/// How many of the columns have a value at the place.
-fn count_at(columns: &[SparseSet], place: usize) -> usize
-    ensures { result
-        ≡ count_by (λ column. is_some (map.get column.values place)) columns.now }
+/// How many of the numbers have a value at the place.
+fn count_of(columns: &[SparseSet], used: &[u8], place: usize) -> usize
+    ensures { result ≡ count_by
+        (λ number. is_some (value_at columns.now place (record { 0 = number }))) used.now }
 {
-    columns
-        .iter()
-        .filter(|column| column.get(place).is_some())
+    used.iter()
+        .filter(|number| columns::value(columns, place, ComponentId(**number)).is_some())
         .count()
 }
 
-/// The position of the first column that has a value at the place.
-fn first_with(columns: &[SparseSet], place: usize) -> Option<usize>
-    ensures found { IfSome result (λ position. IsFirstWith columns.now place position) }
-    ensures absent { result ≡ None → (k : ℕ) → k < length columns.now
-        → map.get (column_at columns.now k).values place ≡ None }
+/// The first item at the place, and the numbers after its own.
+fn first_of<'a>(
+    columns: &[SparseSet],
+    used: &'a [u8],
+    place: usize,
+) -> Option<((ComponentId, i64), &'a [u8])>
+    ensures found { IfSome result (λ first. items_of used.now columns.now place
+        ≡ first.0 ∷ items_of first.1.now columns.now place) }
+    ensures none { result ≡ None → items_of used.now columns.now place ≡ [] }
 {
-    for (position, column) in columns.iter().enumerate() {
-        if column.get(place).is_some() {
-            return Some(position);
+    for (position, number) in used.iter().enumerate() {
+        let id = ComponentId(*number);
+        if let Some(value) = columns::value(columns, place, id) {
+            return Some(((id, value), &used[position + 1..]));
         }
     }
     None
-}
-
-/// The columns after the first ones.
-fn after<'a>(columns: &'a [SparseSet], count: usize) -> &'a [SparseSet]
-    requires { count ≤ length columns.now }
-    ensures { result.now ≡ drop count columns.now }
-{
-    &columns[count..]
 }

@@ -29,7 +29,8 @@ pub struct Resident {
 ///
 /// The residents have the handle and the birth of each. The columns have the components: at a
 /// component's number the values of that component, by the places of the entities that have it. The
-/// columns that have ever had values are in use, and a removal looks at those alone.
+/// columns that have ever had values are in use: their numbers stand in rising order, and a removal
+/// and `items` look at those alone.
 #[derive(Drop)]
 pub struct Living {
     residents: Vec<Resident>,
@@ -142,7 +143,7 @@ impl Living {
         ensures { HoldsAt (λ entity. result ≡ finite.entries entity.components)
             self.now.entities place }
     {
-        Items::new(&self.columns, place)
+        Items::new(&self.columns, &self.used, place)
     }
 
     /// Adds an entity without components. There has to be room for it.

@@ -1,6 +1,6 @@
-use Rattle.std.proofs.Common.{arith}
+use Rattle.std.proofs.Common.{rules, arith}
 use Rattle.ent_storage.proofs.InUse.{in_use_changed, passed_all}
-use Rattle.ent_storage.proofs.InUse.{passed_rest}
+use Rattle.ent_storage.proofs.InUse.{passed_more, passed_rest}
 use Rattle.ent_storage.proofs.columns.swap_remove.Goals as goal
 
 pub returns-clause-moved : goal.returns-clause-moved
@@ -14,3 +14,12 @@ returns-clause-in_use c =
     (passed_rest c.args.used.now c.args.place c.args.last c.args.columns.now c.requires.in_use
     c.loop-number.number-index c.loop-number.columns (omega arith) c.loop-number.invariant.passed)
     c.requires.in_use
+
+pub loop-number-preserved : goal.loop-number-preserved
+loop-number-preserved c = record {
+  passed = passed_more c.args.used.now c.args.place c.args.last c.args.columns.now
+      c.loop-number.number-index c.loop-number.columns c.index-columns-number.result
+      c.swap_remove.new.self c.requires.in_use.rising (omega arith) (omega arith)
+      c.index-columns-number.is c.swap_remove.ensures c.loop-number.invariant.passed;
+  len = search rules;
+}

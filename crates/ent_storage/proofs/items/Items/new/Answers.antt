@@ -1,13 +1,13 @@
-use Rattle.std.proofs.Common.{sym, ◌∙◌, arith}
-use Rattle.ent_storage.proofs.ColumnsLemmas.{entries_components, count_items}
+use Rattle.std.proofs.Common.{sym, ◌∙◌}
+use Rattle.ent_storage.proofs.ColumnsLemmas.{entries_components}
+use Rattle.ent_storage.proofs.ItemsInUse.{count_items, items_in_use}
 use Rattle.ent_storage.proofs.items.Items.new.Goals as goal
 
 pub invariant_of-result : goal.invariant_of-result
-invariant_of-result c = record {
-  left = c.count_at.ensures ∙ count_items 0 c.args.columns.now
-      c.args.place;
-  numbered = omega (arith, c.requires);
-}
+invariant_of-result c =
+    c.count_of.ensures ∙ count_items c.args.used.now c.args.columns.now c.args.place
 
 pub returns : goal.returns
-returns c = sym (entries_components c.args.columns.now c.args.place)
+returns c =
+    items_in_use c.args.columns.now c.args.place c.args.used.now c.requires
+    ∙ sym (entries_components c.args.columns.now c.args.place)

@@ -7,7 +7,7 @@ use Rattle.ent_storage.proofs.LivingLemmas.{read_from}
 use Rattle.ent_storage.proofs.living.Living.items.Goals as goal
 
 pub new-requires : goal.new-requires
-new-requires c = rw c.deref.ensures.value c.self.invariant.0.numbered
+new-requires c = rw (c.deref.ensures.value, c.deref-2.ensures.value) c.self.invariant.1
 
 pub returns : goal.returns
 returns c d =
