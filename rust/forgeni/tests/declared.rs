@@ -77,6 +77,7 @@ fn exports() -> BTreeMap<String, String> {
                 .replace("&mut Object", "*mut Raw")
                 .replace("list: &mut [Pair]", "list: *mut Pair, len: usize")
                 .replace("list: &mut [Item]", "list: *mut Item, len: usize")
+                .replace("list: &mut [FaultRow]", "list: *mut FaultRow, len: usize")
                 .replace("items: &[Item]", "items: *const Item, len: usize");
             (name.to_owned(), plain(&format!("({parameters}) {result}")))
         })
