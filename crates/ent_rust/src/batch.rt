@@ -47,12 +47,14 @@ impl Batch {
         match world.apply(&queues) {
             Ok(report) => Ok(report),
             Err(SyncFault::FlushMemory) => Err((Batch { queues, stop: None }, None)),
-            Err(SyncFault::Memory {
-                system,
-                command,
-                done,
-                so_far,
-            }) => {
+            Err(
+                SyncFault::Memory {
+                    system,
+                    command,
+                    done,
+                    so_far,
+                },
+            ) => {
                 let stop = Stop {
                     system,
                     command,
@@ -69,10 +71,7 @@ impl Batch {
 
     /// `World::apply_from` where the queues stopped. If it stopped again, they come back, with where
     /// it did and a report.
-    pub(crate) fn go_on(
-        self,
-        world: &mut World,
-    ) -> Result<SyncReport, (Batch, (Stop, SyncReport))>
+    pub(crate) fn go_on(self, world: &mut World) -> Result<SyncReport, (Batch, (Stop, SyncReport))>
         requires flushed { world.old.allocator.asked ≡ 0 }
         requires stopped { IsSome self.stop }
         ensures done { IfOk result (λ r. IsThere self.stop (λ s.
@@ -88,12 +87,14 @@ impl Batch {
         match world.apply_from(&queues, from.system, from.command, from.done) {
             Ok(report) => Ok(report),
             Err(SyncFault::FlushMemory) => unreachable!(),
-            Err(SyncFault::Memory {
-                system,
-                command,
-                done,
-                so_far,
-            }) => {
+            Err(
+                SyncFault::Memory {
+                    system,
+                    command,
+                    done,
+                    so_far,
+                },
+            ) => {
                 let stop = Stop {
                     system,
                     command,

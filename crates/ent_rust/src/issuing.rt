@@ -217,8 +217,10 @@ pub extern "C" fn ent_rust_commands_insert(
 ) -> u32
     ensures issued { result ≡ done
         → BecomesOne issuer_of object.old.place.holds object.new.place.holds (λ before after.
-        after ≡ record before { queue = before.queue
-        ++ Insert (handle index generation) (bundle_of_items items.now) ∷ [] }) }
+        after ≡ record before {
+          queue = before.queue
+              ++ Insert (handle index generation) (bundle_of_items items.now) ∷ [];
+        }) }
     ensures no_handle { result ≡ no_handle
         ↔ HoldsOne issuer_of object.old.place.holds (λ _. ¬ IsHandle (handle index generation)) }
     ensures empty { result ≡ is_empty ↔ object.old.place.holds ≡ None }
@@ -254,8 +256,10 @@ pub extern "C" fn ent_rust_commands_remove(
 ) -> u32
     ensures issued { result ≡ done
         → BecomesOne issuer_of object.old.place.holds object.new.place.holds (λ before after.
-        after ≡ record before { queue = before.queue
-        ++ Remove (handle index generation) (component_id component) ∷ [] }) }
+        after ≡ record before {
+          queue = before.queue
+              ++ Remove (handle index generation) (component_id component) ∷ [];
+        }) }
     ensures no_handle { result ≡ no_handle
         ↔ HoldsOne issuer_of object.old.place.holds (λ _. ¬ IsHandle (handle index generation)) }
     ensures empty { result ≡ is_empty ↔ object.old.place.holds ≡ None }
@@ -286,8 +290,10 @@ pub extern "C" fn ent_rust_commands_despawn(
 ) -> u32
     ensures issued { result ≡ done
         → BecomesOne issuer_of object.old.place.holds object.new.place.holds (λ before after.
-        after ≡ record before { queue = before.queue
-        ++ Despawn (handle index generation) ∷ [] }) }
+        after ≡ record before {
+          queue = before.queue
+              ++ Despawn (handle index generation) ∷ [];
+        }) }
     ensures no_handle { result ≡ no_handle
         ↔ HoldsOne issuer_of object.old.place.holds (λ _. ¬ IsHandle (handle index generation)) }
     ensures empty { result ≡ is_empty ↔ object.old.place.holds ≡ None }

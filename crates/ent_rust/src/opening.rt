@@ -77,7 +77,11 @@ pub extern "C" fn ent_rust_world_open(
 /// The empty object becomes a system of the phase that has issued nothing, with the last of the
 /// reservers that are at home.
 #[unsafe(no_mangle)]
-pub extern "C" fn ent_rust_world_commands(alloc: Global, phase: &mut Object, commands: &mut Object) -> u32
+pub extern "C" fn ent_rust_world_commands(
+    alloc: Global,
+    phase: &mut Object,
+    commands: &mut Object,
+) -> u32
     ensures given { result ≡ done
         → BecomesOne world_phase_of phase.old.place.holds phase.new.place.holds (λ before after.
         HoldsOne issuer_of commands.new.place.holds (λ i.
@@ -125,7 +129,11 @@ pub extern "C" fn ent_rust_world_commands(alloc: Global, phase: &mut Object, com
 /// `Commands::finish`: the reserver goes home into its phase, and the queue stands behind those
 /// that came before. The system's object is empty then.
 #[unsafe(no_mangle)]
-pub extern "C" fn ent_rust_world_finish(alloc: Global, phase: &mut Object, commands: &mut Object) -> u32
+pub extern "C" fn ent_rust_world_finish(
+    alloc: Global,
+    phase: &mut Object,
+    commands: &mut Object,
+) -> u32
     requires { AreOfOnePhase phase.old.place.holds commands.old.place.holds }
     ensures home { result ≡ done
         → BecomesOne world_phase_of phase.old.place.holds phase.new.place.holds (λ before after.
@@ -172,7 +180,11 @@ pub extern "C" fn ent_rust_world_finish(alloc: Global, phase: &mut Object, comma
 /// `OpenWorld::close`: the phase's object becomes the world, with all that was reserved, and the
 /// empty object the queues that came home, in the order in which they came.
 #[unsafe(no_mangle)]
-pub extern "C" fn ent_rust_world_close(alloc: Global, phase: &mut Object, queues: &mut Object) -> u32
+pub extern "C" fn ent_rust_world_close(
+    alloc: Global,
+    phase: &mut Object,
+    queues: &mut Object,
+) -> u32
     ensures closed { result ≡ done → HoldsOne world_phase_of phase.old.place.holds (λ p.
         HoldsOne world_of phase.new.place.holds (λ w. w ≡ record {
           allocator = after_history p.world.shared.start (history_of (records_of p.home));

@@ -141,7 +141,9 @@ impl WorldPhase {
             return Err(issuer);
         }
         let Issuer {
-            reserver, queue, ..
+            reserver,
+            queue,
+            ..
         } = issuer;
         self.home.push_reserved(reserver);
         self.queues.push_reserved(queue);
