@@ -1,4 +1,5 @@
 ghost use Rattle.std.specs.Prelude.{◌≡◌, ◌≤◌, ◌^◌, None, Some, IfOk, IfErr, IfNone, IfSome, IsSome, length};
+ghost use Rattle.ent_world.specs.Sync.{IsStop};
 ghost use Rattle.ent_rust.specs.Holds.{IsThere};
 ghost use Rattle.ent_rust.specs.Batch.{IsSynced, IsSyncedUntil, IsFinished, IsLeftUntil};
 
@@ -84,28 +85,48 @@ impl Batch {
         let Some(from) = stop else {
             unreachable!();
         };
-        match world.apply_from(&queues, from.system, from.command, from.done) {
+        match apply_left(world, &queues, from) {
             Ok(report) => Ok(report),
-            Err(SyncFault::FlushMemory) => unreachable!(),
-            Err(
-                SyncFault::Memory {
-                    system,
-                    command,
-                    done,
-                    so_far,
-                },
-            ) => {
-                let stop = Stop {
-                    system,
-                    command,
-                    done,
-                };
+            Err((stop, so_far)) => {
                 let batch = Batch {
                     queues,
                     stop: Some(stop),
                 };
                 Err((batch, (stop, so_far)))
             }
+        }
+    }
+}
+
+/// `World::apply_from`, with a stop as one value.
+fn apply_left(
+    world: &mut World,
+    queues: &[CommandQueue],
+    from: Stop,
+) -> Result<SyncReport, (Stop, SyncReport)>
+    requires flushed { world.old.allocator.asked ≡ 0 }
+    requires stop { IsStop from.system from.command from.done queues.now }
+    ensures done { IfOk result (λ r. IsFinished from queues.now world.old world.new r) }
+    ensures stopped { IfErr result (λ left.
+        IsLeftUntil from left.0 queues.now world.old world.new left.1) }
+{
+    match world.apply_from(queues, from.system, from.command, from.done) {
+        Ok(report) => Ok(report),
+        Err(SyncFault::FlushMemory) => unreachable!(),
+        Err(
+            SyncFault::Memory {
+                system,
+                command,
+                done,
+                so_far,
+            },
+        ) => {
+            let stop = Stop {
+                system,
+                command,
+                done,
+            };
+            Err((stop, so_far))
         }
     }
 }
