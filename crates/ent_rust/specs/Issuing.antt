@@ -1,14 +1,19 @@
 -- What contracts see of a world in a phase, and of a system that issues commands in it.
-use Rattle.std.specs.Prelude.{◌≡◌, ℕ, List, [], ◌∷◌, ◌++◌, Err, refl}
+use Rattle.std.specs.Prelude.{◌≡◌, ◌≢◌, ◌<ℤ◌, ℕ, List, [], ◌∷◌, ◌++◌, Err, refl, All, AllPairs}
 use Rattle.std.specs.Coded.{Coded, code_by, coded×, coded_ℕ, coded_list}
+use Rattle.ent_alloc.specs.History.{IsLegal, after_history, given_in}
+use Rattle.ent_alloc.specs.Sound.{IsLive}
+use Rattle.ent_shared.specs.Order.{reservations_of, history_of, Respects}
 use Rattle.ent_shared.specs.declared.refused.Refused.TheVariants.{Space, Quota}
-use Rattle.ent_shared.specs.Phase.{Shared, Reserver, reserver_code, IsOf}
+use Rattle.ent_shared.specs.Phase.{Shared, Reserver, reserver_code, IsOf, records_of}
 use Rattle.ent_queue.specs.Command.{Command}
 use Rattle.ent_queue.specs.declared.fault.QueueFault.{QueueFault}
 use Rattle.ent_queue.specs.declared.fault.QueueFault.TheVariants as fault
 use Rattle.ent_queue.specs.Reserving.{Gains, IsReturned}
 use Rattle.ent_queue.specs.contracts.queue.CommandQueue as queued
 use Rattle.ent_world.specs.OpenWorld.{OpenWorld, open_world_code}
+use Rattle.ent_world.specs.World.{World}
+use Rattle.ent_rust.specs.Sharing.{BringsToLife}
 
 -- the number by which phases are told apart, the world that is open, the reservers that no issuer
 -- has, and the queues that came home
@@ -49,6 +54,26 @@ with_home p i = record p {
   home = p.home ++ i.reserver ∷ [];
   queues = p.queues ++ i.queue ∷ [];
 }
+
+-- The phase ended with all its reservers: the world is the one that was opened, with all that was
+-- reserved. The reservations stand in one history that is legal and respects each reserver; each
+-- stands there once. No handle was given twice, and none was alive. A flush brings to life just
+-- what was given.
+pub record IsClosed (opened : OpenWorld) (home : List Reserver) (after : World) : Type 0 where
+  pub phase : after.phase ≡ opened.phase
+  pub entities : after.entities ≡ opened.entities
+  pub allocator : after.allocator
+      ≡ after_history opened.shared.start (history_of (records_of home))
+  pub legal : IsLegal opened.shared.start (history_of (records_of home))
+  pub respects : All (Respects (reservations_of (records_of home))) (records_of home)
+  pub falls : AllPairs (λ earlier later. later.high <ℤ earlier.high)
+      (reservations_of (records_of home))
+  pub numbers : AllPairs (λ r s. r.number ≢ s.number) (records_of home)
+  pub distinct : AllPairs (λ g h. g ≢ h) (given_in (history_of (records_of home)))
+  pub not_live : All (λ h. ¬ (IsLive opened.shared.start h))
+      (given_in (history_of (records_of home)))
+  pub brings_to_life : BringsToLife opened.shared.start after.allocator
+      (given_in (history_of (records_of home)))
 
 -- each is stored as the tuple of its parts
 abbrev pub world_phase_code : Coded WorldPhase

@@ -1,13 +1,11 @@
 //! A world is opened for systems that issue commands side by side, and closed again.
 ghost use Rattle.std.specs.Prelude.{◌≡◌, ◌≢◌, ◌<◌, ◌↔◌, ◌⊎◌, [], ◌∷◌, ◌++◌, None, Some, IsSome, length};
-ghost use Rattle.ent_alloc.specs.History.{after_history};
-ghost use Rattle.ent_shared.specs.Order.{history_of};
 ghost use Rattle.ent_shared.specs.Phase.{records_of};
 ghost use Rattle.ent_shared.specs.Record.{opened_records};
 ghost use Rattle.ent_rust.specs.Holds.{HoldsOne, HoldsOther};
 ghost use Rattle.ent_rust.specs.Kinds.{BecomesOne, world_of, world_phase_of, issuer_of};
 ghost use Rattle.ent_rust.specs.Kinds.{batch_of, AreOfOnePhase};
-ghost use Rattle.ent_rust.specs.Issuing.{with_home};
+ghost use Rattle.ent_rust.specs.Issuing.{with_home, IsClosed};
 ghost use Rattle.ent_rust.specs.Answers.{done, is_empty, is_full, other_kind, needs_flush, no_memory};
 ghost use Rattle.ent_rust.specs.Answers.{no_count, none_home, other_phase, not_all_home, in_use, IsOneOf};
 
@@ -186,11 +184,7 @@ pub extern "C" fn ent_rust_world_close(
     queues: &mut Object,
 ) -> u32
     ensures closed { result ≡ done → HoldsOne world_phase_of phase.old.place.holds (λ p.
-        HoldsOne world_of phase.new.place.holds (λ w. w ≡ record {
-          allocator = after_history p.world.shared.start (history_of (records_of p.home));
-          phase = p.world.phase;
-          entities = p.world.entities;
-        })) }
+        HoldsOne world_of phase.new.place.holds (λ w. IsClosed p.world p.home w)) }
     ensures queues { result ≡ done → HoldsOne world_phase_of phase.old.place.holds (λ p.
         HoldsOne batch_of queues.new.place.holds (λ b.
         b ≡ record { queues = p.queues; stop = None })) }

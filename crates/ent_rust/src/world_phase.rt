@@ -1,9 +1,8 @@
 ghost use Rattle.std.specs.Prelude.{◌≡◌, ◌<◌, ◌≤◌, ◌∷◌, [], ◌++◌, All, IfOk, IfErr, OnOk, length};
 ghost use Rattle.std.specs.Prelude.{IfSome, IfNone};
-ghost use Rattle.ent_alloc.specs.History.{after_history};
-ghost use Rattle.ent_shared.specs.Order.{history_of};
-ghost use Rattle.ent_shared.specs.Phase.{records_of};
+ghost use Rattle.ent_shared.specs.Phase.{records_of, IsOf};
 ghost use Rattle.ent_shared.specs.Record.{opened_records};
+ghost use Rattle.ent_rust.specs.Issuing.{IsClosed};
 
 use crate::issuer::Issuer;
 use ent_queue::{CommandQueue, Commands};
@@ -155,11 +154,7 @@ impl WorldPhase {
     pub(crate) fn close(self) -> Result<(World, Vec<CommandQueue>), WorldPhase>
         requires { length self.home ≡ self.world.shared.count }
         ensures queues { IfOk result (λ made. made.1.items ≡ self.queues) }
-        ensures world { IfOk result (λ made. made.0 ≡ record {
-          allocator = after_history self.world.shared.start (history_of (records_of self.home));
-          phase = self.world.phase;
-          entities = self.world.entities;
-        }) }
+        ensures world { IfOk result (λ made. IsClosed self.world self.home made.0) }
         ensures err { IfErr result (λ back. back ≡ self) }
     {
         let WorldPhase {
@@ -169,7 +164,7 @@ impl WorldPhase {
             number,
         } = self;
         match Arc::try_unwrap(world) {
-            Ok(opened) => Ok((opened.close(home), queues)),
+            Ok(opened) => Ok((close_all(opened, home), queues)),
             Err(world) => Err(WorldPhase {
                 world,
                 home,
@@ -178,4 +173,13 @@ impl WorldPhase {
             }),
         }
     }
+}
+
+/// `OpenWorld::close`, with all that it ensures as one fact.
+fn close_all(opened: OpenWorld, home: Vec<Reserver>) -> World
+    requires all { length home.items ≡ opened.shared.count }
+    requires own { All (IsOf opened.shared) home.items }
+    ensures { IsClosed opened home.items result }
+{
+    opened.close(home)
 }
