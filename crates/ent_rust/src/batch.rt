@@ -70,8 +70,8 @@ impl Batch {
         }
     }
 
-    /// `World::apply_from` where the queues stopped. If it stopped again, they come back, with where
-    /// it did and a report.
+    /// `World::apply_from` where the queues stopped. If it stopped again, they come back, with
+    /// where it did and a report.
     pub(crate) fn go_on(self, world: &mut World) -> Result<SyncReport, (Batch, (Stop, SyncReport))>
         requires flushed { world.old.allocator.asked ≡ 0 }
         requires stopped { IsSome self.stop }

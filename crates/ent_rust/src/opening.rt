@@ -190,14 +190,14 @@ pub extern "C" fn ent_rust_world_close(
         b ≡ record { queues = p.queues; stop = None })) }
     ensures full { result ≡ is_full ↔ HoldsOne world_phase_of phase.old.place.holds (λ _.
         IsSome queues.old.place.holds) }
-    ensures not_all_home { result ≡ not_all_home ↔ HoldsOne world_phase_of phase.old.place.holds (λ p.
+    ensures not_all { result ≡ not_all_home ↔ HoldsOne world_phase_of phase.old.place.holds (λ p.
         (queues.old.place.holds ≡ None) × (length p.home ≢ p.world.shared.count)) }
     ensures empty { result ≡ is_empty ↔ phase.old.place.holds ≡ None }
     ensures other { result ≡ other_kind ↔ HoldsOther world_phase_of phase.old.place.holds }
     ensures refused { result ≢ done → (phase.new.place.holds ≡ phase.old.place.holds)
         × (queues.new.place.holds ≡ queues.old.place.holds) }
-    ensures code { IsOneOf (done ∷ is_full ∷ not_all_home ∷ in_use ∷ no_memory ∷ is_empty ∷ other_kind
-        ∷ []) result }
+    ensures code { IsOneOf (done ∷ is_full ∷ not_all_home ∷ in_use ∷ no_memory ∷ is_empty
+        ∷ other_kind ∷ []) result }
 {
     let (room, one) = match take_world_phase(alloc, phase) {
         Ok(taken) => taken,

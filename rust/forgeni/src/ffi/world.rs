@@ -211,7 +211,8 @@ impl Object {
     /// Takes a system's commands home. They are empty then, if the code is `DONE`.
     pub(crate) fn world_finish(&mut self, commands: &mut Self) -> u32 {
         // SAFETY: both objects are borrowed alone for the call. Phases have numbers of their own
-        // (`world_open`), so the two are of one phase if their numbers are equal, which the call tests.
+        // (`world_open`), so the two are of one phase if their numbers are equal, which the call
+        // tests.
         unsafe { ent_rust_world_finish(self.alone(), commands.alone()) }
     }
 
