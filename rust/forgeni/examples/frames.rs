@@ -2,10 +2,38 @@
 //! program. `crates/example_frames` is the same game in Rattle.
 //!
 //! The whole game is played twice, on one thread and on four. Commands take effect in the order of
-//! the systems, so both games tell the same story, and it is printed once: five lines of frames,
-//! two of commands without effect, eighteen of survivors, and `1 thread and 4 threads agree`.
-//! Handles are no part of it: which of two systems reserves first is a matter of luck. An entity is
-//! named by its birth instead.
+//! the systems, so both games tell the same story, and it is printed once. Handles are no part of
+//! it: which of two systems reserves first is a matter of luck. An entity is named by its birth
+//! instead. It prints
+//!
+//! ```text
+//! frame 0: born 6, alive 6, faults 0
+//! frame 1: born 6, alive 12, faults 0
+//! frame 2: born 6, alive 18, faults 0
+//! frame 3: born 6, alive 18, faults 1
+//!   command 0 of system 3 had no effect
+//! frame 4: born 6, alive 18, faults 1
+//!   command 0 of system 3 had no effect
+//! born in frame 2 by system 0 as its 0: age 2
+//! born in frame 2 by system 0 as its 1: age 2
+//! born in frame 2 by system 0 as its 2: age 2, aimed at
+//! born in frame 2 by system 2 as its 0: age 2
+//! born in frame 2 by system 5 as its 0: age 2
+//! born in frame 2 by system 5 as its 1: age 2
+//! born in frame 3 by system 0 as its 0: age 1
+//! born in frame 3 by system 0 as its 1: age 1
+//! born in frame 3 by system 0 as its 2: age 1
+//! born in frame 3 by system 2 as its 0: age 1
+//! born in frame 3 by system 5 as its 0: age 1
+//! born in frame 3 by system 5 as its 1: age 1
+//! born in frame 4 by system 0 as its 0: age 0
+//! born in frame 4 by system 0 as its 1: age 0
+//! born in frame 4 by system 0 as its 2: age 0
+//! born in frame 4 by system 2 as its 0: age 0
+//! born in frame 4 by system 5 as its 0: age 0
+//! born in frame 4 by system 5 as its 1: age 0
+//! 1 thread and 4 threads agree
+//! ```
 
 use forgeni::{CommandQueue, Commands, ComponentId, Handle, OutOfMemory, SpawnError, World};
 use std::error::Error;
