@@ -132,7 +132,7 @@ pub extern "C" fn ent_rust_world_finish(
     phase: &mut Object,
     commands: &mut Object,
 ) -> u32
-    requires { AreOfOnePhase phase.old.place.holds commands.old.place.holds }
+    requires told_apart { AreOfOnePhase phase.old.place.holds commands.old.place.holds }
     ensures home { result ≡ done
         → BecomesOne world_phase_of phase.old.place.holds phase.new.place.holds (λ before after.
         HoldsOne issuer_of commands.old.place.holds (λ i. after ≡ with_home before i)) }
