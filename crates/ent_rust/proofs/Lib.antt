@@ -1,4 +1,5 @@
 pub mod BornCount
 pub mod Boxed
 pub mod OneHandle
+pub mod Replied
 pub mod Unused

@@ -104,6 +104,18 @@ is_present = 26
 abbrev pub no_value : ℕ
 no_value = 27
 
+-- a sync point stopped at a command
+abbrev pub is_stopped : ℕ
+is_stopped = 28
+
+-- the queues have not stopped
+abbrev pub not_stopped : ℕ
+not_stopped = 29
+
+-- the queues have stopped
+abbrev pub not_fresh : ℕ
+not_fresh = 30
+
 -- the code is one of these
 abbrev pub IsOneOf : List ℕ → ℕ → Type 0
 IsOneOf [] code = ⊥

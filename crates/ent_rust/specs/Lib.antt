@@ -1,9 +1,13 @@
 pub mod Answers
+pub mod Batch
 pub mod Birth
+pub mod Fault
 pub mod Holds
+pub mod Issuing
 pub mod Item
 pub mod Kinds
 pub mod Listing
 pub mod Pair
 pub mod Place
 pub mod Sharing
+pub mod SyncAnswer

@@ -79,6 +79,15 @@ pub(crate) const IS_PRESENT: u32 = 26;
 /// There is no such value.
 pub(crate) const NO_VALUE: u32 = 27;
 
+/// A sync point stopped at a command.
+pub(crate) const IS_STOPPED: u32 = 28;
+
+/// The queues have not stopped.
+pub(crate) const NOT_STOPPED: u32 = 29;
+
+/// The queues have stopped.
+pub(crate) const NOT_FRESH: u32 = 30;
+
 /// A code and, where one was given, a handle.
 #[derive(Clone, Copy)]
 #[repr(C)]

@@ -6,24 +6,33 @@
 #![tactic(auto)]
 
 pub mod answer;
+pub mod applying;
+mod batch;
 pub mod birth;
 mod caller;
 pub mod closing;
 pub mod counts;
 pub mod giving;
 mod held;
+mod issuer;
+pub mod issuing;
 pub mod item;
 pub mod life;
 pub mod listing;
 pub mod meeting;
 pub mod object;
+pub mod opening;
 pub mod pair;
 mod parts;
 mod phase;
 mod place;
 pub mod reading;
+pub mod reports;
 pub mod requests;
 pub mod reserving;
 pub mod sharing;
+mod stop;
 pub mod storing;
+mod taking;
+mod world_phase;
 pub mod worlds;

@@ -130,6 +130,8 @@ fn handles_in(held: &Held) -> Option<Vec<Handle>>
     match held {
         Held::Storage(storage) => storage.by_birth().ok(),
         Held::World(world) => world.by_birth().ok(),
+        Held::WorldPhase(phase) => phase.world().view().by_birth().ok(),
+        Held::Issuer(issuer) => issuer.world.view().by_birth().ok(),
         _ => None,
     }
 }

@@ -125,7 +125,7 @@ pub(crate) fn has_living(held: &Held) -> bool
     ensures { IsTrue result ↔ IsSome (living_of held.now) }
 {
     match held {
-        Held::Storage(_) | Held::World(_) => true,
+        Held::Storage(_) | Held::World(_) | Held::WorldPhase(_) | Held::Issuer(_) => true,
         _ => false,
     }
 }
@@ -138,6 +138,8 @@ fn value_in(held: &Held, handle: Handle, id: ComponentId) -> Option<i64>
     match held {
         Held::Storage(storage) => storage.get(handle, id),
         Held::World(world) => world.get(handle, id),
+        Held::WorldPhase(phase) => phase.world().view().get(handle, id),
+        Held::Issuer(issuer) => issuer.world.view().get(handle, id),
         _ => None,
     }
 }
@@ -185,6 +187,8 @@ fn birth_in(held: &Held, handle: Handle) -> Option<Birth>
     match held {
         Held::Storage(storage) => storage.birth(handle),
         Held::World(world) => world.birth(handle),
+        Held::WorldPhase(phase) => phase.world().view().birth(handle),
+        Held::Issuer(issuer) => issuer.world.view().birth(handle),
         _ => None,
     }
 }

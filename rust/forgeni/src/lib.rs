@@ -79,7 +79,9 @@ mod errors;
 mod ffi;
 mod handle;
 mod limits;
+mod open_world;
 mod reading;
+mod report;
 mod sharing;
 mod storage;
 mod world;
@@ -92,6 +94,10 @@ pub use errors::{
 };
 pub use handle::Handle;
 pub use limits::Limits;
+pub use open_world::{
+    CommandQueue, Commands, FinishError, OpenError, OpenWorld, SpawnError, Unfinished, Unopened,
+};
+pub use report::{Fault, FaultKind, Report};
 pub use sharing::{Reserver, Shared};
 pub use storage::Storage;
-pub use world::World;
+pub use world::{GoOnError, Queues, Stopped, SyncError, World};

@@ -1,4 +1,4 @@
-//! A world.
+//! A world and its sync point.
 
 use crate::component::{with_items, Birth, ComponentId};
 use crate::entities::Freed;
@@ -6,24 +6,40 @@ use crate::errors::{AllocError, FreeError, OutOfMemory};
 use crate::ffi::{self, unknown, Object};
 use crate::handle::Handle;
 use crate::limits::Limits;
+use crate::open_world::{Commands, OpenError, OpenWorld, Unopened};
 use crate::reading;
+use crate::report::Report;
 use std::alloc::{handle_alloc_error, Layout};
 use std::fmt;
 
+/// The greatest number of systems of a phase.
+const SYSTEMS: usize = 1024;
+
 /// Who is alive, and what each entity is made of.
 ///
-/// A component is a number ([`ComponentId`]) and a value of 64 bits.
+/// A component is a number ([`ComponentId`]) and a value of 64 bits. Systems that run side by side
+/// don't touch the world: [`open`](Self::open) gives each its [`Commands`], and
+/// [`apply`](Self::apply) lets their queues take effect.
 ///
 /// ```
 /// use forgeni::{ComponentId, World};
 ///
-/// const SPEED: ComponentId = ComponentId(0);
+/// const AGE: ComponentId = ComponentId(0);
 ///
-/// let mut world = World::new();
-/// let cart = world.spawn(&[(SPEED, 40)])?;
-/// assert_eq!(world.get(cart, SPEED), Some(40));
-/// world.despawn(cart)?;
-/// assert_eq!(world.get(cart, SPEED), None);
+/// let (open, mut systems) = World::new().open(2)?;
+/// std::thread::scope(|scope| {
+///     for commands in &mut systems {
+///         scope.spawn(move || commands.spawn(&[(AGE, 1)]));
+///     }
+/// });
+/// let queues = systems.into_iter().map(|commands| commands.finish()).collect();
+/// let (mut world, queues) = open.close(queues)?;
+/// let report = world.apply(queues)?;
+/// assert_eq!(report.born().len(), 2);
+/// assert!(report.faults().is_empty());
+/// for entity in world.by_birth()? {
+///     assert_eq!(world.get(entity, AGE), Some(1));
+/// }
 /// # Ok::<(), Box<dyn std::error::Error>>(())
 /// ```
 ///
@@ -178,13 +194,14 @@ impl World {
         self.counts().retired
     }
 
-    /// Whether any handle was requested since the last flush.
+    /// Whether any handle was requested since the last flush. It is so between
+    /// [`OpenWorld::close`] and [`apply`](Self::apply), if a system has spawned.
     #[must_use]
     pub fn needs_flush(&self) -> bool {
         self.counts().needs_flush
     }
 
-    /// Brings to life what is reserved, without components.
+    /// Brings to life what is reserved, without components. [`apply`](Self::apply) does it too.
     ///
     /// # Errors
     ///
@@ -193,6 +210,65 @@ impl World {
         match self.kept.world_flush() {
             ffi::DONE => Ok(()),
             ffi::NO_MEMORY => Err(OutOfMemory),
+            code => unknown(code),
+        }
+    }
+
+    /// Opens the world for `count` systems, 1 to 1,024, each with its [`Commands`]. They may be
+    /// sent to other threads.
+    ///
+    /// # Errors
+    ///
+    /// The world comes back as it was. `NeedsFlush` if handles were requested since the last flush;
+    /// `Count` if the number of systems is out of its range; `Memory`.
+    ///
+    /// If memory runs out for the commands of a system, and then again on the way back, it ends as
+    /// `Box::new` does.
+    ///
+    /// A world that is open can't be changed:
+    ///
+    /// ```compile_fail
+    /// let mut world = forgeni::World::new();
+    /// let (open, systems) = world.open(1).unwrap();
+    /// world.spawn(&[]);
+    /// ```
+    pub fn open(mut self, count: usize) -> Result<(OpenWorld, Vec<Commands>), Unopened> {
+        let mut all = Vec::new();
+        if all.try_reserve_exact(count.min(SYSTEMS)).is_err() {
+            let why = OpenError::Memory;
+            return Err(Unopened { world: self, why });
+        }
+        let why = match self.kept.world_open(count) {
+            ffi::DONE => return OpenWorld::with_commands(self.kept, count, all),
+            ffi::NEEDS_FLUSH => OpenError::NeedsFlush,
+            ffi::NO_COUNT => OpenError::Count,
+            ffi::NO_MEMORY => OpenError::Memory,
+            code => unknown(code),
+        };
+        Err(Unopened { world: self, why })
+    }
+
+    /// The sync point: brings to life what is reserved, and then lets the queues take effect, one
+    /// after the other, in their order. A command on an entity that is not alive at its turn has no
+    /// effect and is a fault of the report, and so is a refused spawn.
+    ///
+    /// # Errors
+    ///
+    /// - [`SyncError::Memory`]: nothing was done, and the call may be made again with the queues.
+    /// - [`SyncError::Stopped`]: memory ran out at a command. All births stand, and of the commands
+    ///   just those before. It may [go on](Stopped::go_on).
+    pub fn apply(&mut self, mut queues: Queues) -> Result<Report, SyncError> {
+        let (answer, report) = self.kept.apply(&mut queues.kept);
+        match answer.code {
+            ffi::DONE => Ok(Report { kept: report }),
+            ffi::NO_MEMORY => Err(SyncError::Memory(queues)),
+            ffi::IS_STOPPED => Err(SyncError::Stopped(Stopped {
+                system: answer.system as usize,
+                command: answer.command as usize,
+                done: answer.done as usize,
+                so_far: Report { kept: report },
+                queues,
+            })),
             code => unknown(code),
         }
     }
@@ -220,3 +296,108 @@ impl fmt::Debug for World {
             .finish_non_exhaustive()
     }
 }
+
+/// The queues of a phase, in the order of their systems, for one [`World::apply`].
+pub struct Queues {
+    pub(crate) kept: Object,
+}
+
+impl fmt::Debug for Queues {
+    fn fmt(&self, out: &mut fmt::Formatter<'_>) -> fmt::Result {
+        out.debug_struct("Queues").finish_non_exhaustive()
+    }
+}
+
+/// Why a sync point didn't do all.
+#[derive(Debug)]
+pub enum SyncError {
+    /// There was no memory to begin. Nothing was done, and these are the queues.
+    Memory(Queues),
+    /// Memory ran out at a command.
+    Stopped(Stopped),
+}
+
+impl fmt::Display for SyncError {
+    fn fmt(&self, out: &mut fmt::Formatter<'_>) -> fmt::Result {
+        match self {
+            Self::Memory(_) => out.write_str("out of memory for the flush"),
+            Self::Stopped(stopped) => write!(
+                out,
+                "out of memory at command {} of system {}",
+                stopped.command, stopped.system
+            ),
+        }
+    }
+}
+
+impl std::error::Error for SyncError {}
+
+/// Where a sync point stopped for want of memory. All births stand, and of the commands just those
+/// before the one that is named.
+#[derive(Debug)]
+pub struct Stopped {
+    /// The system at whose command it stopped.
+    pub system: usize,
+    /// The number of that command in its queue.
+    pub command: usize,
+    /// How many handles of that command are done. It is 0 except at a spawn of many.
+    pub done: usize,
+    /// What was done before, since the sync point began or went on.
+    pub so_far: Report,
+    queues: Queues,
+}
+
+impl Stopped {
+    /// Goes on from there, on the world in which it stopped. Nothing is flushed or born. The faults
+    /// of all reports together are those of a sync point that didn't stop.
+    ///
+    /// # Errors
+    ///
+    /// - [`GoOnError::NeedsFlush`]: handles were requested in the world since then. Nothing has
+    ///   changed.
+    /// - [`GoOnError::Memory`]: nothing has changed.
+    /// - [`GoOnError::Stopped`]: it stopped again, there or later, and can go on from there.
+    pub fn go_on(mut self, world: &mut World) -> Result<Report, GoOnError> {
+        let (answer, report) = world.kept.go_on(&mut self.queues.kept);
+        match answer.code {
+            ffi::DONE => Ok(Report { kept: report }),
+            ffi::NEEDS_FLUSH => Err(GoOnError::NeedsFlush(self)),
+            ffi::NO_MEMORY => Err(GoOnError::Memory(self)),
+            ffi::IS_STOPPED => Err(GoOnError::Stopped(Self {
+                system: answer.system as usize,
+                command: answer.command as usize,
+                done: answer.done as usize,
+                so_far: Report { kept: report },
+                queues: self.queues,
+            })),
+            code => unknown(code),
+        }
+    }
+}
+
+/// Why a sync point that went on didn't do all.
+#[derive(Debug)]
+pub enum GoOnError {
+    /// The world needs a flush first. Nothing has changed.
+    NeedsFlush(Stopped),
+    /// There was no memory to begin. Nothing has changed.
+    Memory(Stopped),
+    /// Memory ran out at a command.
+    Stopped(Stopped),
+}
+
+impl fmt::Display for GoOnError {
+    fn fmt(&self, out: &mut fmt::Formatter<'_>) -> fmt::Result {
+        match self {
+            Self::NeedsFlush(_) => out.write_str("a flush is needed first"),
+            Self::Memory(_) => out.write_str("out of memory"),
+            Self::Stopped(stopped) => write!(
+                out,
+                "out of memory at command {} of system {}",
+                stopped.command, stopped.system
+            ),
+        }
+    }
+}
+
+impl std::error::Error for GoOnError {}

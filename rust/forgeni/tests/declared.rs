@@ -77,10 +77,20 @@ fn exports() -> BTreeMap<String, String> {
                 .replace("&mut Object", "*mut Raw")
                 .replace("list: &mut [Pair]", "list: *mut Pair, len: usize")
                 .replace("list: &mut [Item]", "list: *mut Item, len: usize")
+                .replace("list: &mut [FaultRow]", "list: *mut FaultRow, len: usize")
                 .replace("items: &[Item]", "items: *const Item, len: usize");
+            let parameters = with_room(parameters);
             (name.to_owned(), plain(&format!("({parameters}) {result}")))
         })
         .collect()
+}
+
+/// The length of a second list is called `room`.
+fn with_room(parameters: String) -> String {
+    match parameters.split_once("len: usize") {
+        Some((first, rest)) => format!("{first}len: usize{}", rest.replace("len:", "room:")),
+        None => parameters,
+    }
 }
 
 /// The declarations of the package.

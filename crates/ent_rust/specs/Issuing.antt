@@ -1,0 +1,92 @@
+-- What contracts see of a world in a phase, and of a system that issues commands in it.
+use Rattle.std.specs.Prelude.{◌≡◌, ◌≢◌, ◌<ℤ◌, ℕ, List, [], ◌∷◌, ◌++◌, Err, refl, All, AllPairs}
+use Rattle.std.specs.Coded.{Coded, code_by, coded×, coded_ℕ, coded_list}
+use Rattle.ent_alloc.specs.History.{IsLegal, after_history, given_in}
+use Rattle.ent_alloc.specs.Sound.{IsLive}
+use Rattle.ent_shared.specs.Order.{reservations_of, history_of, Respects}
+use Rattle.ent_shared.specs.declared.refused.Refused.TheVariants.{Space, Quota}
+use Rattle.ent_shared.specs.Phase.{Shared, Reserver, reserver_code, IsOf, records_of}
+use Rattle.ent_queue.specs.Command.{Command}
+use Rattle.ent_queue.specs.declared.fault.QueueFault.{QueueFault}
+use Rattle.ent_queue.specs.declared.fault.QueueFault.TheVariants as fault
+use Rattle.ent_queue.specs.Reserving.{Gains, IsReturned}
+use Rattle.ent_queue.specs.contracts.queue.CommandQueue as queued
+use Rattle.ent_world.specs.OpenWorld.{OpenWorld, open_world_code}
+use Rattle.ent_world.specs.World.{World}
+use Rattle.ent_rust.specs.Sharing.{BringsToLife}
+
+-- the number by which phases are told apart, the world that is open, the reservers that no issuer
+-- has, and the queues that came home
+pub record WorldPhase : Type 0 where
+  pub number : ℕ
+  pub world : OpenWorld
+  pub home : List Reserver
+  pub queues : List (List Command)
+
+-- of which phase the issuer is, the world that it views, its reserver, and its commands so far
+pub record Issuer : Type 0 where
+  pub number : ℕ
+  pub world : OpenWorld
+  pub reserver : Reserver
+  pub queue : List Command
+
+-- Commands were added, and the reserver has gained their reservations and no others. Nothing else
+-- has changed.
+pub record Extends (before after : Issuer) : Type 0 where
+  pub number : after.number ≡ before.number
+  pub world : after.world ≡ before.world
+  pub ready : IsOf after.world.shared after.reserver
+  pub added : List Command
+  pub queue : after.queue ≡ before.queue ++ added
+  pub gains : Gains before.reserver.own added after.reserver.own
+
+-- A refusal is the result of a request for n handles, unless memory ran out before.
+abbrev pub IsRefused : Shared → Reserver → Reserver → ℕ → QueueFault → Type 0
+IsRefused shared before after n (fault.Space wanted left) =
+    IsReturned shared before after n (Err (Space wanted left))
+IsRefused shared before after n (fault.Quota left) =
+    IsReturned shared before after n (Err (Quota left))
+IsRefused shared before after n fault.Memory = Unit {0}
+
+-- the reserver goes home, and the queue stands behind the others
+abbrev pub with_home : WorldPhase → Issuer → WorldPhase
+with_home p i = record p {
+  home = p.home ++ i.reserver ∷ [];
+  queues = p.queues ++ i.queue ∷ [];
+}
+
+-- The phase ended with all its reservers: the world is the one that was opened, with all that was
+-- reserved. The reservations stand in one history that is legal and respects each reserver; each
+-- stands there once. No handle was given twice, and none was alive. A flush brings to life just
+-- what was given.
+pub record IsClosed (opened : OpenWorld) (home : List Reserver) (after : World) : Type 0 where
+  pub phase : after.phase ≡ opened.phase
+  pub entities : after.entities ≡ opened.entities
+  pub allocator : after.allocator
+      ≡ after_history opened.shared.start (history_of (records_of home))
+  pub legal : IsLegal opened.shared.start (history_of (records_of home))
+  pub respects : All (Respects (reservations_of (records_of home))) (records_of home)
+  pub falls : AllPairs (λ earlier later. later.high <ℤ earlier.high)
+      (reservations_of (records_of home))
+  pub numbers : AllPairs (λ r s. r.number ≢ s.number) (records_of home)
+  pub distinct : AllPairs (λ g h. g ≢ h) (given_in (history_of (records_of home)))
+  pub not_live : All (λ h. ¬ (IsLive opened.shared.start h))
+      (given_in (history_of (records_of home)))
+  pub brings_to_life : BringsToLife opened.shared.start after.allocator
+      (given_in (history_of (records_of home)))
+
+-- each is stored as the tuple of its parts
+abbrev pub world_phase_code : Coded WorldPhase
+world_phase_code =
+    code_by (ℕ × (OpenWorld × (List Reserver × List (List Command))))
+    (coded× coded_ℕ (coded× open_world_code
+    (coded× (coded_list reserver_code) (coded_list queued.the_row.coded))))
+    (λ p. (p.number, (p.world, (p.home, p.queues))))
+    (λ t. record { number = t.0; world = t.1.0; home = t.1.1.0; queues = t.1.1.1 }) (λ _. refl)
+
+abbrev pub issuer_code : Coded Issuer
+issuer_code =
+    code_by (ℕ × (OpenWorld × (Reserver × List Command)))
+    (coded× coded_ℕ (coded× open_world_code (coded× reserver_code queued.the_row.coded)))
+    (λ i. (i.number, (i.world, (i.reserver, i.queue))))
+    (λ t. record { number = t.0; world = t.1.0; reserver = t.1.1.0; queue = t.1.1.1 }) (λ _. refl)
