@@ -1,4 +1,4 @@
--- A request for one handle is answered by the cursor that it found.
+-- The reply to a request for one handle follows from the cursor that it found.
 use Rattle.std.proofs.Common.{◌≡◌, ℤ, [], ◌∷◌, ◌∙◌, sym, ap, Result, Ok, Err}
 use Rattle.ent_handle.specs.Handle.{Handle}
 use Rattle.ent_alloc.specs.Sequential.{Allocator, after_take, cursor, reply_from, reply_to}

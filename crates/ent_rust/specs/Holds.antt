@@ -7,14 +7,14 @@ use Rattle.ent_rust.specs.Sharing.{Phase as SharedPhase, Caller as PhaseCaller}
 use Rattle.ent_rust.specs.declared.held.Held.TheVariants.{Entities, Phase, Caller}
 
 -- this is true of what is there, and there is something
-abbrev pub IsThere : {A : Type 0} → Option A → (A → Type 0) → Type 0
-IsThere None P = ⊥
-IsThere (Some a) P = P a
+abbrev pub HasSuch : {A : Type 0} → Option A → (A → Type 0) → Type 0
+HasSuch None P = ⊥
+HasSuch (Some a) P = P a
 
 -- the object holds something that this view sees, and this is true of it
 abbrev pub HoldsOne : {A : Type 0} → (Seen → Option A) → Option Seen → (A → Type 0) → Type 0
 HoldsOne view None P = ⊥
-HoldsOne view (Some seen) P = IsThere (view seen) P
+HoldsOne view (Some seen) P = HasSuch (view seen) P
 
 -- the object holds something that this view doesn't see
 abbrev pub HoldsOther : {A : Type 0} → (Seen → Option A) → Option Seen → Type 0
@@ -22,13 +22,13 @@ HoldsOther view None = ⊥
 HoldsOther view (Some seen) = view seen ≡ None
 
 -- the allocator, if it is one
-abbrev pub entities_of : Seen → Option Allocator
-entities_of (Entities e) = Some e.allocator
-entities_of _ = None
+abbrev pub allocator_in : Seen → Option Allocator
+allocator_in (Entities e) = Some e.allocator
+allocator_in _ = None
 
 -- the object holds an allocator, and this is true of it
 abbrev pub Holds : Option Seen → (Allocator → Type 0) → Type 0
-Holds holds P = HoldsOne entities_of holds P
+Holds holds P = HoldsOne allocator_in holds P
 
 -- the object held an allocator before and holds one after, and this is true of the two
 abbrev pub Becomes : Option Seen → Option Seen → (Allocator → Allocator → Type 0) → Type 0
@@ -58,14 +58,14 @@ abbrev pub CallerBecomes : Option Seen → Option Seen → (PhaseCaller → Phas
 CallerBecomes before after P = HoldsCaller before (λ a. HoldsCaller after (λ b. P a b))
 
 -- the number of the phase to which it belongs, and the allocator that is shared in it
-abbrev pub shared_of : Seen → Option (ℕ × Shared)
-shared_of (Phase p) = Some (p.phase, p.shared)
-shared_of (Caller c) = Some (c.phase, c.shared)
-shared_of _ = None
+abbrev pub shared_with : Seen → Option (ℕ × Shared)
+shared_with (Phase p) = Some (p.phase, p.shared)
+shared_with (Caller c) = Some (c.phase, c.shared)
+shared_with _ = None
 
 abbrev pub shared_in : Option Seen → Option (ℕ × Shared)
 shared_in None = None
-shared_in (Some seen) = shared_of seen
+shared_in (Some seen) = shared_with seen
 
 -- If the two objects belong to phases of one number, it is one phase. This is what a caller of the
 -- library owes: it gives no number to two phases.

@@ -37,8 +37,8 @@ caller_code =
     (λ t. record { phase = t.0; shared = t.1.0; reserver = t.1.1 }) (λ _. refl)
 
 -- The caller has made one more reservation, of n handles, and nothing else has changed.
-pub record Gains (before after : Caller) (n : ℕ) (returned : Result (List Handle) Refused)
-    : Type 0 where
+pub record MakesReservation (before after : Caller) (n : ℕ)
+    (returned : Result (List Handle) Refused) : Type 0 where
   pub same : after ≡ record before { reserver = after.reserver }
   pub reserves : Reserves before.shared before.reserver after.reserver n returned
 
@@ -48,5 +48,5 @@ pub record BringsToLife (start after : Allocator) (given : List Handle) : Type 0
   pub lives : (h : Handle) → IsLive (after_flush after) h ↔ (IsLive start h ⊎ Contains given h)
 
 -- What these reservers were given is reserved in the allocator.
-pub record AreReserved (a : Allocator) (reservers : List Reserver) : Type 0 where
+pub record AreTaken (a : Allocator) (reservers : List Reserver) : Type 0 where
   pub given : All (λ (r : Reserver). All (Contains a.taken) (handles_given r.own)) reservers

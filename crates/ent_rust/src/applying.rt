@@ -1,7 +1,7 @@
 //! The sync point: queues take effect on a world, and a report says what was done.
 ghost use Rattle.std.specs.Prelude.{◌≡◌, ◌≢◌, ◌<◌, ◌≤◌, ◌^◌, ◌↔◌, ◌⊎◌, [], ◌∷◌, None, Some, IsSome};
 ghost use Rattle.std.specs.Prelude.{IfSome, IfNone, length};
-ghost use Rattle.ent_rust.specs.Holds.{HoldsOne, HoldsOther, IsThere};
+ghost use Rattle.ent_rust.specs.Holds.{HoldsOne, HoldsOther, HasSuch};
 ghost use Rattle.ent_rust.specs.Kinds.{BecomesOne, world_of, batch_of, report_of};
 ghost use Rattle.ent_rust.specs.Batch.{IsSynced, IsSyncedUntil, IsFinished, IsLeftUntil};
 ghost use Rattle.ent_rust.specs.Answers.{done, is_empty, is_full, other_kind, needs_flush, no_memory};
@@ -176,13 +176,13 @@ pub extern "C" fn ent_rust_go_on(
 ) -> SyncAnswer
     ensures applied { result.code ≡ done
         → BecomesOne world_of world.old.place.holds world.new.place.holds (λ before after.
-        HoldsOne batch_of queues.old.place.holds (λ b. IsThere b.stop (λ s.
+        HoldsOne batch_of queues.old.place.holds (λ b. HasSuch b.stop (λ s.
         HoldsOne report_of report.new.place.holds (λ r.
         IsFinished s b.queues before after r)))) }
     ensures gone { result.code ≡ done → queues.new.place.holds ≡ None }
     ensures stopped { result.code ≡ is_stopped
         → BecomesOne world_of world.old.place.holds world.new.place.holds (λ before after.
-        HoldsOne batch_of queues.old.place.holds (λ b. IsThere b.stop (λ s.
+        HoldsOne batch_of queues.old.place.holds (λ b. HasSuch b.stop (λ s.
         HoldsOne report_of report.new.place.holds (λ r.
         IsLeftUntil s (stop_of result) b.queues before after r)))) }
     ensures stays { result.code ≡ is_stopped

@@ -1,6 +1,6 @@
 ghost use Rattle.std.specs.Prelude.{◌≡◌, ◌≤◌, ◌^◌, None, Some, IfOk, IfErr, IfNone, IfSome, IsSome, length};
 ghost use Rattle.ent_world.specs.Sync.{IsStop};
-ghost use Rattle.ent_rust.specs.Holds.{IsThere};
+ghost use Rattle.ent_rust.specs.Holds.{HasSuch};
 ghost use Rattle.ent_rust.specs.Batch.{IsSynced, IsSyncedUntil, IsFinished, IsLeftUntil};
 
 use crate::stop::Stop;
@@ -75,9 +75,9 @@ impl Batch {
     pub(crate) fn go_on(self, world: &mut World) -> Result<SyncReport, (Batch, (Stop, SyncReport))>
         requires flushed { world.old.allocator.asked ≡ 0 }
         requires stopped { IsSome self.stop }
-        ensures done { IfOk result (λ r. IsThere self.stop (λ s.
+        ensures done { IfOk result (λ r. HasSuch self.stop (λ s.
             IsFinished s self.queues world.old world.new r)) }
-        ensures stopped { IfErr result (λ left. IsThere self.stop (λ s.
+        ensures stopped { IfErr result (λ left. HasSuch self.stop (λ s.
             IsLeftUntil s left.1.0 self.queues world.old world.new left.1.1)) }
         ensures stays { IfErr result (λ left. left.0 ≡ record self { stop = Some left.1.0 }) }
     {

@@ -9,7 +9,7 @@ ghost use Rattle.ent_shared.specs.Record.{requested_by};
 ghost use Rattle.ent_shared.specs.Phase.{records_of, after_loss};
 ghost use Rattle.ent_shared.specs.Order.{reservations_of, history_of, Respects};
 ghost use Rattle.ent_rust.specs.Holds.{Holds, HoldsPhase, HoldsOther, phase_of};
-ghost use Rattle.ent_rust.specs.Sharing.{BringsToLife, AreReserved};
+ghost use Rattle.ent_rust.specs.Sharing.{BringsToLife, AreTaken};
 ghost use Rattle.ent_rust.specs.Answers.{done, is_empty, other_kind, not_all_home, in_use, IsOneOf};
 
 use crate::answer::{DONE, IN_USE, IS_EMPTY, NOT_ALL_HOME, OTHER_KIND};
@@ -109,7 +109,7 @@ pub extern "C" fn ent_rust_close_lost(alloc: Global, object: &mut Object) -> u32
 
     // What the reservers at home were given is reserved.
     ensures given { result ≡ done → HoldsPhase object.old.place.holds (λ p.
-        Holds object.new.place.holds (λ a. AreReserved a p.home)) }
+        Holds object.new.place.holds (λ a. AreTaken a p.home)) }
     ensures empty { result ≡ is_empty ↔ object.old.place.holds ≡ None }
     ensures other { result ≡ other_kind ↔ HoldsOther phase_of object.old.place.holds }
     ensures refused { result ≢ done → object.new.place.holds ≡ object.old.place.holds }

@@ -2,7 +2,7 @@
 ghost use Rattle.std.specs.Prelude.{◌≡◌, ◌-◌, ◌↔◌, [], ◌∷◌, None, length};
 ghost use Rattle.std.specs.FinSet as set;
 ghost use Rattle.ent_alloc.specs.Sequential.{top, retired};
-ghost use Rattle.ent_rust.specs.Holds.{Holds, HoldsOther, entities_of};
+ghost use Rattle.ent_rust.specs.Holds.{Holds, HoldsOther, allocator_in};
 ghost use Rattle.ent_rust.specs.Answers.{done, is_empty, other_kind, IsOneOf};
 
 use crate::answer::{DONE, IS_EMPTY, OTHER_KIND};
@@ -61,7 +61,7 @@ pub extern "C" fn ent_rust_counts(alloc: Global, object: &mut Object) -> Counts
         result.reserved ≡ length a.taken) }
     ensures empty { result.code ≡ is_empty ↔ object.old.place.holds ≡ None }
     ensures other { result.code ≡ other_kind
-        ↔ HoldsOther entities_of object.old.place.holds }
+        ↔ HoldsOther allocator_in object.old.place.holds }
     ensures unchanged { object.new.place.holds ≡ object.old.place.holds }
     ensures code { IsOneOf (done ∷ is_empty ∷ other_kind ∷ []) result.code }
 {

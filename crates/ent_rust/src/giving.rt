@@ -5,7 +5,7 @@ ghost use Rattle.std.specs.FinSet as set;
 ghost use Rattle.ent_handle.specs.Handle.{IsHandle};
 ghost use Rattle.ent_alloc.specs.Sequential.{top, next, state_of, after_alloc, after_free};
 ghost use Rattle.ent_alloc.specs.declared.state.State.TheVariants.{Alive, Reserved, Gone};
-ghost use Rattle.ent_rust.specs.Holds.{Holds, Becomes, HoldsOther, entities_of};
+ghost use Rattle.ent_rust.specs.Holds.{Holds, Becomes, HoldsOther, allocator_in};
 ghost use Rattle.ent_rust.specs.Answers.{done, done_and_retired, is_empty, other_kind};
 ghost use Rattle.ent_rust.specs.Answers.{no_handle, needs_flush};
 ghost use Rattle.ent_rust.specs.Answers.{no_space, not_alive, no_memory, is_alive, is_reserved};
@@ -30,7 +30,7 @@ pub extern "C" fn ent_rust_alloc(alloc: Global, object: &mut Object) -> Answer
         × (after ≡ after_alloc before (handle result.index result.generation))) }
     ensures empty { result.code ≡ is_empty ↔ object.old.place.holds ≡ None }
     ensures other { result.code ≡ other_kind
-        ↔ HoldsOther entities_of object.old.place.holds }
+        ↔ HoldsOther allocator_in object.old.place.holds }
     ensures needs_flush { result.code ≡ needs_flush
         ↔ Holds object.old.place.holds (λ a. 0 < a.asked) }
     ensures space { result.code ≡ no_space
@@ -76,7 +76,7 @@ pub extern "C" fn ent_rust_free(
         × (next before.limits (handle index generation) ≡ None)) }
     ensures empty { result.code ≡ is_empty ↔ object.old.place.holds ≡ None }
     ensures other { result.code ≡ other_kind
-        ↔ HoldsOther entities_of object.old.place.holds }
+        ↔ HoldsOther allocator_in object.old.place.holds }
     ensures no_handle { result.code ≡ no_handle
         ↔ Holds object.old.place.holds (λ _. ¬ IsHandle (handle index generation)) }
     ensures needs_flush { result.code ≡ needs_flush ↔ Holds object.old.place.holds (λ a.
@@ -133,7 +133,7 @@ pub extern "C" fn ent_rust_state(
         IsHandle (handle index generation) × (state_of a (handle index generation) ≡ Gone)) }
     ensures empty { result ≡ is_empty ↔ object.old.place.holds ≡ None }
     ensures other { result ≡ other_kind
-        ↔ HoldsOther entities_of object.old.place.holds }
+        ↔ HoldsOther allocator_in object.old.place.holds }
     ensures no_handle { result ≡ no_handle
         ↔ Holds object.old.place.holds (λ _. ¬ IsHandle (handle index generation)) }
     ensures unchanged { object.new.place.holds ≡ object.old.place.holds }

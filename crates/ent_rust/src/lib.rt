@@ -1,7 +1,8 @@
-//! The proved allocator for programs in plain Rust, as exports of a static library.
+//! The proved allocator, storages and worlds for programs in plain Rust, as exports of a static
+//! library.
 //!
 //! A program keeps an `Object`, hands it to each call, and gets a code back. Each export tests what
-//! the call of `ent_alloc` behind it requires. The safe calls over them are those of the package
+//! the call behind it requires. The safe calls over them are those of the package
 //! `rust/forgeni`.
 #![tactic(auto)]
 

@@ -7,7 +7,7 @@ ghost use Rattle.std.specs.FinMap as finite;
 ghost use Rattle.ent_handle.specs.Handle.{IsHandle};
 ghost use Rattle.ent_storage.specs.EntityMap.{components_of};
 ghost use Rattle.ent_storage.specs.BirthOrder.{ListsAll};
-ghost use Rattle.ent_rust.specs.Holds.{HoldsOne, HoldsOther, IsThere};
+ghost use Rattle.ent_rust.specs.Holds.{HoldsOne, HoldsOther, HasSuch};
 ghost use Rattle.ent_rust.specs.Kinds.{living_of, kept_of};
 ghost use Rattle.ent_rust.specs.Item.{item_of};
 ghost use Rattle.ent_rust.specs.Listing.{HasOtherRoom};
@@ -78,7 +78,7 @@ pub extern "C" fn ent_rust_len(alloc: Global, object: &mut Object) -> Count
 /// How many entities there are, if it is something that keeps them.
 fn len_of(held: &Held) -> Option<usize>
     ensures kind { IsSome result ↔ IsSome (kept_of held.now) }
-    ensures len { IfSome result (λ count. IsThere (kept_of held.now) (λ m. count ≡ finite.len m)) }
+    ensures len { IfSome result (λ count. HasSuch (kept_of held.now) (λ m. count ≡ finite.len m)) }
 {
     match held {
         Held::Storage(storage) => Some(storage.len()),
@@ -124,7 +124,7 @@ pub extern "C" fn ent_rust_by_birth(alloc: Global, object: &mut Object, list: &m
 /// The handles of all entities, by birth. `None` for want of memory.
 fn handles_in(held: &Held) -> Option<Vec<Handle>>
     requires { IsSome (living_of held.now) }
-    ensures { IfSome result (λ handles. IsThere (living_of held.now) (λ m.
+    ensures { IfSome result (λ handles. HasSuch (living_of held.now) (λ m.
         ListsAll m handles.items)) }
 {
     match held {
@@ -150,7 +150,7 @@ pub extern "C" fn ent_rust_items(
         option_map finite.entries (components_of m (handle index generation))
         ≡ Some (map item_of list.new)) }
     ensures room { result.code ≡ no_room → HoldsOne kept_of object.old.place.holds (λ m.
-        IsThere (components_of m (handle index generation)) (λ held.
+        HasSuch (components_of m (handle index generation)) (λ held.
         (result.count ≡ length (finite.entries held))
         × (length list.old ≢ length (finite.entries held)))) }
     ensures absent { result.code ≡ is_absent ↔ HoldsOne kept_of object.old.place.holds (λ m.
@@ -184,13 +184,13 @@ pub extern "C" fn ent_rust_items(
 /// Lists the components of an entity of something that keeps entities.
 fn list_items(held: &Held, handle: Handle, list: &mut [Item]) -> Count
     requires { IsSome (kept_of held.now) }
-    ensures listed { result.code ≡ done → IsThere (kept_of held.now) (λ m.
+    ensures listed { result.code ≡ done → HasSuch (kept_of held.now) (λ m.
         option_map finite.entries (components_of m handle) ≡ Some (map item_of list.new)) }
-    ensures room { result.code ≡ no_room → IsThere (kept_of held.now) (λ m.
-        IsThere (components_of m handle) (λ held.
+    ensures room { result.code ≡ no_room → HasSuch (kept_of held.now) (λ m.
+        HasSuch (components_of m handle) (λ held.
         (result.count ≡ length (finite.entries held))
         × (length list.old ≢ length (finite.entries held)))) }
-    ensures absent { result.code ≡ is_absent ↔ IsThere (kept_of held.now) (λ m.
+    ensures absent { result.code ≡ is_absent ↔ HasSuch (kept_of held.now) (λ m.
         components_of m handle ≡ None) }
     ensures unlisted { result.code ≢ done → list.new ≡ list.old }
     ensures code { IsOneOf (done ∷ no_room ∷ is_absent ∷ []) result.code }

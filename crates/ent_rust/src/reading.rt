@@ -2,7 +2,7 @@
 ghost use Rattle.std.specs.Prelude.{◌≡◌, ◌↔◌, [], ◌∷◌, None, Some, IsTrue, IsSome, IfSome, IfNone};
 ghost use Rattle.ent_handle.specs.Handle.{IsHandle};
 ghost use Rattle.ent_storage.specs.EntityMap.{value_of, birth_of};
-ghost use Rattle.ent_rust.specs.Holds.{HoldsOne, HoldsOther, IsThere};
+ghost use Rattle.ent_rust.specs.Holds.{HoldsOne, HoldsOther, HasSuch};
 ghost use Rattle.ent_rust.specs.Kinds.{living_of};
 ghost use Rattle.ent_rust.specs.Birth.{birth_of_numbers};
 ghost use Rattle.ent_rust.specs.Item.{component_id};
@@ -133,7 +133,7 @@ pub(crate) fn has_living(held: &Held) -> bool
 /// The value of the entity's component, if the entity is there and has it.
 fn value_in(held: &Held, handle: Handle, id: ComponentId) -> Option<i64>
     requires { IsSome (living_of held.now) }
-    ensures { IsThere (living_of held.now) (λ m. result ≡ value_of m handle id) }
+    ensures { HasSuch (living_of held.now) (λ m. result ≡ value_of m handle id) }
 {
     match held {
         Held::Storage(storage) => storage.get(handle, id),
@@ -182,7 +182,7 @@ pub extern "C" fn ent_rust_birth(
 /// When and by whom the entity was brought to life, if it is there.
 fn birth_in(held: &Held, handle: Handle) -> Option<Birth>
     requires { IsSome (living_of held.now) }
-    ensures { IsThere (living_of held.now) (λ m. result ≡ birth_of m handle) }
+    ensures { HasSuch (living_of held.now) (λ m. result ≡ birth_of m handle) }
 {
     match held {
         Held::Storage(storage) => storage.birth(handle),

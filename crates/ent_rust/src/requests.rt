@@ -2,7 +2,7 @@
 ghost use Rattle.std.specs.Prelude.{◌≡◌, ◌≢◌, ◌^◌, ◌<◌, ◌≤◌, ◌↔◌, [], ◌∷◌, None};
 ghost use Rattle.std.specs.Prelude.{IfSome, IfNone, Ok, IsErr, length, map};
 ghost use Rattle.ent_alloc.specs.Sequential.{reply_to, after_take, born, after_flush};
-ghost use Rattle.ent_rust.specs.Holds.{Holds, Becomes, HoldsOther, entities_of};
+ghost use Rattle.ent_rust.specs.Holds.{Holds, Becomes, HoldsOther, allocator_in};
 ghost use Rattle.ent_rust.specs.Answers.{done, is_empty, no_space, no_credit, no_room, no_memory};
 ghost use Rattle.ent_rust.specs.Answers.{other_kind, IsOneOf, handle};
 ghost use Rattle.ent_rust.specs.Pair.{handle_of};
@@ -30,7 +30,7 @@ pub extern "C" fn ent_rust_request(alloc: Global, object: &mut Object) -> Answer
         IsErr (reply_to before 1) × (after ≡ after_take before 1)) }
     ensures empty { result.code ≡ is_empty ↔ object.old.place.holds ≡ None }
     ensures other { result.code ≡ other_kind
-        ↔ HoldsOther entities_of object.old.place.holds }
+        ↔ HoldsOther allocator_in object.old.place.holds }
     ensures credit { result.code ≡ no_credit
         ↔ Holds object.old.place.holds (λ a. 2 ^ 50 ≤ a.asked) }
     ensures refused { result.code ≢ done → result.code ≢ no_space
@@ -65,7 +65,7 @@ pub extern "C" fn ent_rust_flush(alloc: Global, object: &mut Object, list: &mut 
         (after ≡ after_flush before) × (map handle_of list.new ≡ born before)) }
     ensures empty { result ≡ is_empty ↔ object.old.place.holds ≡ None }
     ensures other { result ≡ other_kind
-        ↔ HoldsOther entities_of object.old.place.holds }
+        ↔ HoldsOther allocator_in object.old.place.holds }
     ensures room { result ≡ no_room
         ↔ Holds object.old.place.holds (λ a. length list.old ≢ length a.taken) }
     ensures refused { result ≢ done → object.new.place.holds ≡ object.old.place.holds }

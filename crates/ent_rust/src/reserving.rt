@@ -3,7 +3,7 @@ ghost use Rattle.std.specs.Prelude.{◌≡◌, ◌≢◌, ◌<◌, ◌≤◌, �
 ghost use Rattle.std.specs.Prelude.{length, map};
 ghost use Rattle.ent_shared.specs.declared.refused.Refused.TheVariants.{Space as OutOfSpace};
 ghost use Rattle.ent_rust.specs.Holds.{HoldsCaller, CallerBecomes, HoldsOther, caller_of};
-ghost use Rattle.ent_rust.specs.Sharing.{Gains};
+ghost use Rattle.ent_rust.specs.Sharing.{MakesReservation};
 ghost use Rattle.ent_rust.specs.Answers.{done, is_empty, no_space, no_credit, too_many, other_kind};
 ghost use Rattle.ent_rust.specs.Answers.{IsOneOf, handle};
 ghost use Rattle.ent_rust.specs.Pair.{handle_of};
@@ -37,10 +37,10 @@ impl Bulk {
 pub extern "C" fn ent_rust_reserve(alloc: Global, caller: &mut Object) -> Answer
     ensures given { result.code ≡ done
         → CallerBecomes caller.old.place.holds caller.new.place.holds (λ before after.
-        Gains before after 1 (Ok (handle result.index result.generation ∷ []))) }
+        MakesReservation before after 1 (Ok (handle result.index result.generation ∷ []))) }
     ensures space { result.code ≡ no_space
         → CallerBecomes caller.old.place.holds caller.new.place.holds (λ before after.
-        Gains before after 1 (Err (OutOfSpace 1 0))) }
+        MakesReservation before after 1 (Err (OutOfSpace 1 0))) }
     ensures credit { result.code ≡ no_credit
         ↔ HoldsCaller caller.old.place.holds (λ c. c.reserver.own.left ≡ 0) }
     ensures empty { result.code ≡ is_empty ↔ caller.old.place.holds ≡ None }
@@ -74,12 +74,13 @@ pub extern "C" fn ent_rust_reserve_many(
 ) -> Bulk
     ensures given { result.code ≡ done → 0 < length list.old
         → CallerBecomes caller.old.place.holds caller.new.place.holds (λ before after.
-        Gains before after (length list.old) (Ok (map handle_of list.new))) }
+        MakesReservation before after (length list.old) (Ok (map handle_of list.new))) }
     ensures nothing { result.code ≡ done → length list.old ≡ 0
         → caller.new.place.holds ≡ caller.old.place.holds }
     ensures space { result.code ≡ no_space
         → CallerBecomes caller.old.place.holds caller.new.place.holds (λ before after.
-        Gains before after (length list.old) (Err (OutOfSpace (length list.old) result.left))) }
+        MakesReservation before after (length list.old)
+        (Err (OutOfSpace (length list.old) result.left))) }
     ensures credit { result.code ≡ no_credit ↔ HoldsCaller caller.old.place.holds (λ c.
         (length list.old < 2 ^ 32) × (c.reserver.own.left < length list.old)) }
     ensures left { result.code ≡ no_credit → HoldsCaller caller.old.place.holds (λ c.

@@ -4,7 +4,7 @@ ghost use Rattle.std.specs.Prelude.{length};
 ghost use Rattle.ent_shared.specs.Phase.{records_of};
 ghost use Rattle.ent_shared.specs.Record.{opened_records};
 ghost use Rattle.ent_rust.specs.Holds.{Holds, HoldsPhase, PhaseBecomes, HoldsCaller, HoldsOther};
-ghost use Rattle.ent_rust.specs.Holds.{entities_of, phase_of, caller_of, AreToldApart};
+ghost use Rattle.ent_rust.specs.Holds.{allocator_in, phase_of, caller_of, AreToldApart};
 ghost use Rattle.ent_rust.specs.Answers.{done, is_empty, is_full, needs_flush, no_memory};
 ghost use Rattle.ent_rust.specs.Answers.{other_kind, no_count, none_home, other_phase, all_home};
 ghost use Rattle.ent_rust.specs.Answers.{IsOneOf};
@@ -35,7 +35,7 @@ pub extern "C" fn ent_rust_share(
         (p.phase ≡ phase) × (p.shared.start ≡ a) × (p.shared.count ≡ count)
         × (records_of p.home ≡ opened_records a 0 count))) }
     ensures empty { result ≡ is_empty ↔ object.old.place.holds ≡ None }
-    ensures other { result ≡ other_kind ↔ HoldsOther entities_of object.old.place.holds }
+    ensures other { result ≡ other_kind ↔ HoldsOther allocator_in object.old.place.holds }
     ensures needs_flush { result ≡ needs_flush
         ↔ Holds object.old.place.holds (λ a. 0 < a.asked) }
     ensures count { result ≡ no_count ↔ Holds object.old.place.holds (λ a.

@@ -23,7 +23,7 @@ use Rattle.ent_handle.specs.Handle.{Handle, handle_cmp, handle_cmp_total}
 use Rattle.ent_handle.specs.Handle.{handle_cmp-IsAntisymmetric}
 use Rattle.ent_storage.specs.Living.{LivingEntity}
 use Rattle.ent_storage.specs.EntityMap.{Entity}
-use Rattle.ent_storage.specs.Indexed.{entity_of, entities_of, IsIndexed}
+use Rattle.ent_storage.specs.Indexed.{entity_of, map_of, IsIndexed}
 use Rattle.ent_storage.specs.BirthOrder.{birth_order, pair_cmp, ListsByBirth, IsInOrder}
 use Rattle.ent_storage.proofs.Keys.{apart}
 use Rattle.ent_storage.proofs.Indexed.{some_entity, get_placed, placed_from_get, distinct}
@@ -86,14 +86,14 @@ module _ (living : List LivingEntity) (index : FinMap handle_cmp ℕ)
   -- an entity that passes has this birth and this handle
   pub record IsBorn (b : Birth × Handle) : Type 0 where
     pub entity : Entity
-    pub there : finite.get (entities_of living) b.1 ≡ Some entity
+    pub there : finite.get (map_of living) b.1 ≡ Some entity
     pub birth : entity.birth ≡ b.0
     pub pass : passes entity ≡ true
 
   abbrev pub alike : Birth × Handle → Birth × Handle → Bool
   alike a b = eq_by_cmp handle_cmp a.1 b.1
 
-  pub all_there : All (λ entity. finite.get (entities_of living) entity.handle
+  pub all_there : All (λ entity. finite.get (map_of living) entity.handle
       ≡ Some (entity_of entity)) living
   all_there k d l = get_placed living index indexed (get_or living k d).handle k d
       (indexed.each_entity k l d)
@@ -117,7 +117,7 @@ module _ (living : List LivingEntity) (index : FinMap handle_cmp ℕ)
         births sorted ordered.permutation births_apart
 
     in_order : (i j : ℕ) (b : Birth × Handle) → i < j → j < length sorted
-        → birth_order (entities_of living) (get_or sorted i b).1 (get_or sorted j b).1 ≡ Less
+        → birth_order (map_of living) (get_or sorted i b).1 (get_or sorted j b).1 ≡ Less
     in_order i j b l k =
         let x = get_or sorted i b in
         let y = get_or sorted j b in
@@ -134,7 +134,7 @@ module _ (living : List LivingEntity) (index : FinMap handle_cmp ℕ)
         (λ t. ordering_then (option_cmp birth_cmp (birth_x t) (birth_y t)) (handle_cmp x.1 y.1))
         ∙ strictly (birth_cmp x.0 y.0) (handle_cmp x.1 y.1) turned differ
 
-    rising : AllPairs (λ a b. birth_order (entities_of living) a b ≡ Less)
+    rising : AllPairs (λ a b. birth_order (map_of living) a b ≡ Less)
         (map (λ (born : Birth × Handle). born.1) sorted)
     rising i j d l k =
         let b : Birth × Handle = (record { frame = 0; system = 0; ordinal = 0 }, d) in
@@ -142,10 +142,10 @@ module _ (living : List LivingEntity) (index : FinMap handle_cmp ℕ)
         omega (arith, length-map {B = Handle} sorted (λ born. born.1)) in
         let at_i = get_or-map (λ (born : Birth × Handle). born.1) sorted i b d (omega arith) in
         let at_j = get_or-map (λ (born : Birth × Handle). born.1) sorted j b d below in
-        (λ t. birth_order (entities_of living) (at_i t) (at_j t)) ∙ in_order i j b l below
+        (λ t. birth_order (map_of living) (at_i t) (at_j t)) ∙ in_order i j b l below
 
     from_list : (h : Handle) → Contains (map (λ (born : Birth × Handle). born.1) sorted) h
-        → IsSomeAnd (finite.get (entities_of living) h) (λ e. IsTrue (passes e))
+        → IsSomeAnd (finite.get (map_of living) h) (λ e. IsTrue (passes e))
     from_list h at =
         let b : Birth × Handle = (record { frame = 0; system = 0; ordinal = 0 }, h) in
         let below : at.0 < length sorted =
@@ -154,9 +154,9 @@ module _ (living : List LivingEntity) (index : FinMap handle_cmp ℕ)
         ∙ at.2 in
         let born : IsBorn (get_or sorted at.0 b) = all_sorted at.0 b below in
         subst (λ (o : Option Entity). IsSomeAnd o (λ e. IsTrue (passes e)))
-        (sym (ap (finite.get (entities_of living)) (sym is) ∙ born.there)) born.pass
+        (sym (ap (finite.get (map_of living)) (sym is) ∙ born.there)) born.pass
 
-    of_entity : (h : Handle) (e : Entity) (i : ℕ) → finite.get (entities_of living) h ≡ Some e
+    of_entity : (h : Handle) (e : Entity) (i : ℕ) → finite.get (map_of living) h ≡ Some e
         → finite.get index h ≡ Some i → passes e ≡ true
         → Contains (map (λ (born : Birth × Handle). born.1) sorted) h
     of_entity h e i found placed pass =
@@ -170,7 +170,7 @@ module _ (living : List LivingEntity) (index : FinMap handle_cmp ℕ)
         subst (λ q. Contains (map (λ (born : Birth × Handle). born.1) sorted) q) (at.1 r)
         (contains_map (λ (born : Birth × Handle). born.1) sorted (born_of entity) listed)
 
-    to_list : (h : Handle) (o : Option Entity) → finite.get (entities_of living) h ≡ o
+    to_list : (h : Handle) (o : Option Entity) → finite.get (map_of living) h ≡ o
         → IsSomeAnd o (λ e. IsTrue (passes e))
         → Contains (map (λ (born : Birth × Handle). born.1) sorted) h
     to_list h None found pass = absurd pass
@@ -178,8 +178,8 @@ module _ (living : List LivingEntity) (index : FinMap handle_cmp ℕ)
         let place = placed_from_get living index indexed h e found in
         of_entity h e place.0 found place.1 pass
 
-    pub lists_of : ListsByBirth passes (entities_of living) handles
-    lists_of = subst (ListsByBirth passes (entities_of living)) (sym ordered.are) (record {
+    pub lists_of : ListsByBirth passes (map_of living) handles
+    lists_of = subst (ListsByBirth passes (map_of living)) (sym ordered.are) (record {
       rising = rising;
       holds = λ h. (from_list h, to_list h _ refl);
     })
@@ -201,7 +201,7 @@ module _ (living : List LivingEntity) (index : FinMap handle_cmp ℕ)
       subst IsBorn (sym at) (record {
         entity = entity_of (get_or chosen k r);
         there = All-filter (λ entity. passes (entity_of entity))
-            (λ entity. finite.get (entities_of living) entity.handle ≡ Some (entity_of entity))
+            (λ entity. finite.get (map_of living) entity.handle ≡ Some (entity_of entity))
             living all_there k r below;
         birth = refl;
         pass = filter_passes (λ entity. passes (entity_of entity)) living k r below;
@@ -228,5 +228,5 @@ module _ (living : List LivingEntity) (index : FinMap handle_cmp ℕ)
       living entity i l (get_or_default living i entity r l) pass)
 
   pub lists : (handles : List Handle) → IsInOrder births handles
-      → ListsByBirth passes (entities_of living) handles
+      → ListsByBirth passes (map_of living) handles
   lists = lists_of births all_born births_apart complete

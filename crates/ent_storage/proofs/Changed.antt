@@ -8,7 +8,7 @@ use Rattle.ent_handle.specs.Handle.{Handle, handle_cmp}
 use Rattle.ent_storage.specs.Components.{Components}
 use Rattle.ent_storage.specs.EntityMap.{Store, with_components}
 use Rattle.ent_storage.specs.Living.{LivingEntity, change_at}
-use Rattle.ent_storage.specs.Indexed.{entities_of, handles_by_place, counted, IsKeptIndex}
+use Rattle.ent_storage.specs.Indexed.{map_of, handles_by_place, counted, IsKeptIndex}
 use Rattle.ent_storage.proofs.Indexed.{some_entity, entities_changed}
 use Rattle.ent_storage.proofs.Counted.{kept_changed}
 use Rattle.ent_storage.proofs.Placed.{handles_changed}
@@ -33,14 +33,14 @@ length_changed (e ∷ living) (suc i) change = ap suc (length_changed living i c
 -- the store in which the components of one entity are changed
 pub record IsChanged (s : Store) (h : Handle) (change : Components → Components)
     (living : List LivingEntity) (index : FinMap handle_cmp ℕ) (room : ℕ) : Type 0 where
-  pub entities : entities_of living ≡ with_components s.entities h change
+  pub entities : map_of living ≡ with_components s.entities h change
   pub places : handles_by_place living ≡ s.places
   pub spare : room - length living ≡ s.spare
   pub kept : IsKeptIndex living index room
 
 module _ (living : List LivingEntity) (index : FinMap handle_cmp ℕ) (room others : ℕ) (s : Store)
     (kept : IsKeptIndex living index (min room others)) (view : record {
-      entities = entities_of living;
+      entities = map_of living;
       places = handles_by_place living;
       spare = min room others - length living;
     } ≡ s) (h : Handle) (i : ℕ) (placed : finite.get (counted living index) h ≡ Some i) where
@@ -56,7 +56,7 @@ module _ (living : List LivingEntity) (index : FinMap handle_cmp ℕ) (room othe
   pub changed : (change : Components → Components) (after : List LivingEntity) (now : ℕ) → after
       ≡ change_at living i change → now ≡ room → IsChanged s h change after index (min now others)
   changed change after now is same = rw (is, same) (record {
-    entities = ap entities_of is_set
+    entities = ap map_of is_set
         ∙ entities_changed living (counted living index) kept.indexed h i placed was read
         (change was.components) change refl
         ∙ ap (λ (s : Store). with_components s.entities h change) view;

@@ -14,7 +14,7 @@ use Rattle.std.specs.Ordering.{nat_cmp}
 use Rattle.ent_storage.specs.SparseSet.{Column, no_column, HasRoomAt, IsMovedDown}
 use Rattle.ent_storage.specs.Living.{column_at, AreInUse}
 use Rattle.ent_storage.proofs.Keys.{same_or_apart}
-use Rattle.ent_storage.proofs.ColumnsLemmas.{column_set, column_kept, moved_none}
+use Rattle.ent_storage.proofs.ColumnsAtPlaces.{column_set, column_kept, moved_none}
 
 pub in_use_none : AreInUse [] []
 in_use_none = record {

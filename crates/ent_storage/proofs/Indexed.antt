@@ -13,7 +13,7 @@ use Rattle.ent_handle.specs.Handle.{handle_cmp-IsAntisymmetric as same}
 use Rattle.ent_storage.specs.Living.{LivingEntity}
 use Rattle.ent_storage.specs.Components.{Components}
 use Rattle.ent_storage.specs.EntityMap.{Entity, with_components}
-use Rattle.ent_storage.specs.Indexed.{entity_of, entities_of, IsIndexed}
+use Rattle.ent_storage.specs.Indexed.{entity_of, map_of, IsIndexed}
 use Rattle.ent_storage.proofs.Keys.{tied, apart, same_or_apart, get-insert_same, get-insert_other}
 
 pub some_not_none : {A : Type 0} (x : A) (o : Option A) → o ≡ Some x → o ≢ None
@@ -65,7 +65,7 @@ module _ (living : List LivingEntity) (index : FinMap handle_cmp ℕ)
     (indexed : IsIndexed living index) where
   -- what the map has at a handle that has a place
   pub get_placed : (q : Handle) (i : ℕ) (d : LivingEntity) → finite.get index q ≡ Some i
-      → finite.get (entities_of living) q ≡ Some (entity_of (get_or living i d))
+      → finite.get (map_of living) q ≡ Some (entity_of (get_or living i d))
   get_placed q i d placed =
       let at = indexed.each_place q i placed in
       finite.get-from_entries total _ q
@@ -75,7 +75,7 @@ module _ (living : List LivingEntity) (index : FinMap handle_cmp ℕ)
       absurd (omega arith))
 
   -- and at one that has none
-  pub get_unplaced : (q : Handle) → finite.get index q ≡ None → finite.get (entities_of living) q
+  pub get_unplaced : (q : Handle) → finite.get index q ≡ None → finite.get (map_of living) q
       ≡ None
   get_unplaced q none =
       finite.get-from_entries total _ q
@@ -83,7 +83,7 @@ module _ (living : List LivingEntity) (index : FinMap handle_cmp ℕ)
       ∙ indexed.each_entity i l d) none)
 
   -- an entity that is in the map has a place
-  pub placed_from_get : (q : Handle) (e : Entity) → finite.get (entities_of living) q ≡ Some e
+  pub placed_from_get : (q : Handle) (e : Entity) → finite.get (map_of living) q ≡ Some e
       → (i : ℕ) × (finite.get index q ≡ Some i)
   placed_from_get q e found = by (finite.get index q) refl
     where
@@ -146,7 +146,7 @@ module _ (living : List LivingEntity) (index : FinMap handle_cmp ℕ)
       each_place = λ q i at. each_place_pushed q i (same_or_apart total same q entity.handle) at;
     }
 
-    pub entities_push : entities_of (living ++ entity ∷ []) ≡ finite.insert (entities_of living)
+    pub entities_push : map_of (living ++ entity ∷ []) ≡ finite.insert (map_of living)
         entity.handle (entity_of entity)
     entities_push =
         ap (λ es. finite.from_entries {R = handle_cmp} es)
@@ -195,17 +195,17 @@ module _ (living : List LivingEntity) (index : FinMap handle_cmp ℕ)
 
     -- the map is changed at that handle alone
     get_set : (q : Handle) → (q ≡ entity.handle) ⊎ (q ≢ entity.handle) → (o : Option ℕ)
-        → finite.get index q ≡ o → finite.get (entities_of (set living i entity)) q
-        ≡ finite.get (finite.insert (entities_of living) entity.handle (entity_of entity)) q
+        → finite.get index q ≡ o → finite.get (map_of (set living i entity)) q
+        ≡ finite.get (finite.insert (map_of living) entity.handle (entity_of entity)) q
     get_set q (inl e) o at =
         get_placed (set living i entity) index indexed_set q i entity (ap (finite.get index) e
         ∙ placed)
         ∙ ap (λ (r : LivingEntity). Some (entity_of r)) (get_or-set_same living i entity entity
         here)
-        ∙ sym (get-insert_same total same (entities_of living) entity.handle (entity_of entity) q e)
+        ∙ sym (get-insert_same total same (map_of living) entity.handle (entity_of entity) q e)
     get_set q (inr n) None at =
         get_unplaced (set living i entity) index indexed_set q at
-        ∙ sym (get-insert_other total same (entities_of living) entity.handle (entity_of entity) q n
+        ∙ sym (get-insert_other total same (map_of living) entity.handle (entity_of entity) q n
         ∙ get_unplaced living index indexed q at)
     get_set q (inr n) (Some j) at =
         let apart : j ≢ i = λ e. n (sym ((indexed.each_place q j at).1 entity)
@@ -214,10 +214,10 @@ module _ (living : List LivingEntity) (index : FinMap handle_cmp ℕ)
         get_placed (set living i entity) index indexed_set q j entity at
         ∙ ap (λ (r : LivingEntity). Some (entity_of r)) (get_or-set_other living i j entity entity
         apart)
-        ∙ sym (get-insert_other total same (entities_of living) entity.handle (entity_of entity) q n
+        ∙ sym (get-insert_other total same (map_of living) entity.handle (entity_of entity) q n
         ∙ get_placed living index indexed q j entity at)
 
-    pub entities_set : entities_of (set living i entity) ≡ finite.insert (entities_of living)
+    pub entities_set : map_of (set living i entity) ≡ finite.insert (map_of living)
         entity.handle (entity_of entity)
     entities_set = finite.same_map total same _ _
         (λ q. get_set q (same_or_apart total same q entity.handle) _ refl)
@@ -229,45 +229,45 @@ module _ (living : List LivingEntity) (index : FinMap handle_cmp ℕ)
   pub read_handle : entity.handle ≡ h
   read_handle = ap (λ (r : LivingEntity). r.handle) read ∙ (indexed.each_place h i placed).1 entity
 
-  pub get_read : finite.get (entities_of living) h ≡ Some (entity_of entity)
+  pub get_read : finite.get (map_of living) h ≡ Some (entity_of entity)
   get_read = get_placed living index indexed h i entity placed
       ∙ ap (λ (r : LivingEntity). Some (entity_of r)) (sym read)
 
   module _ (held : Components) where
     pub entities_changed : (change : Components → Components) → held ≡ change entity.components
-        → entities_of
+        → map_of
         (set living i (record { handle = entity.handle; birth = entity.birth; components = held }))
-        ≡ with_components (entities_of living) h change
+        ≡ with_components (map_of living) h change
     entities_changed change is =
         entities_set living index indexed i
         (record { handle = entity.handle; birth = entity.birth; components = held })
         (ap (finite.get index) read_handle ∙ placed)
-        ∙ ap (λ (q : Handle). finite.insert (entities_of living) q
+        ∙ ap (λ (q : Handle). finite.insert (map_of living) q
         (record { birth = entity.birth; components = held })) read_handle
-        ∙ ap (λ (cs : Components). finite.insert (entities_of living) h
+        ∙ ap (λ (cs : Components). finite.insert (map_of living) h
         (record { birth = entity.birth; components = cs })) is
-        ∙ sym (ap (λ (o : Option Entity). option_map_or (λ e. finite.insert (entities_of living) h
-        (record e { components = change e.components })) o (entities_of living)) get_read)
+        ∙ sym (ap (λ (o : Option Entity). option_map_or (λ e. finite.insert (map_of living) h
+        (record e { components = change e.components })) o (map_of living)) get_read)
 
 -- ---- how many there are
 
 len_apart : (living : List LivingEntity) → ((i j : ℕ) (d : LivingEntity) → i < length living → j
     < length living → (get_or living i d).handle ≡ (get_or living j d).handle → i ≡ j)
-    → finite.len (entities_of living) ≡ length living
+    → finite.len (map_of living) ≡ length living
 len_apart [] apart = finite.len-empty handle_cmp Entity
 len_apart (entity ∷ living) apart =
-    let none : finite.get (entities_of living) entity.handle ≡ None = finite.get-from_entries total
+    let none : finite.get (map_of living) entity.handle ≡ None = finite.get-from_entries total
     _ entity.handle ∙ find_missing living entity.handle (λ i d l e. let zero_is : suc i
     ≡ 0 = apart (suc i) 0 d (omega arith) (omega arith) e in absurd (omega arith)) in
     let rest = len_apart living (λ i j d l k e. let next : suc i ≡ suc j = apart (suc i) (suc j) d
     (omega arith) (omega arith) e in omega arith) in
-    finite.len-insert total (entities_of living) entity.handle (entity_of entity)
-    ∙ ap (λ (o : Option Entity). cond (is_some o) (finite.len (entities_of living))
-    (finite.len (entities_of living) + 1)) none
+    finite.len-insert total (map_of living) entity.handle (entity_of entity)
+    ∙ ap (λ (o : Option Entity). cond (is_some o) (finite.len (map_of living))
+    (finite.len (map_of living) + 1)) none
     ∙ omega (arith, rest)
 
 pub len_living : (living : List LivingEntity) (index : FinMap handle_cmp ℕ) → IsIndexed living index
-    → finite.len (entities_of living) ≡ length living
+    → finite.len (map_of living) ≡ length living
 len_living living index indexed = len_apart living (distinct living index indexed)
 
 -- ---- none yet

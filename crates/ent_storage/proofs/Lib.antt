@@ -1,7 +1,7 @@
 pub mod ByBirth
 pub mod Changed
 pub mod Reborn
-pub mod ColumnsLemmas
+pub mod ColumnsAtPlaces
 pub mod Counted
 pub mod Dense
 pub mod ElementsAt
@@ -9,13 +9,13 @@ pub mod Indexed
 pub mod InUse
 pub mod ItemsInUse
 pub mod Keys
-pub mod LivingLemmas
+pub mod EntitiesOfResidents
 pub mod Missing
 pub mod OfBirth
 pub mod OneList
 pub mod Overwritten
 pub mod Placed
-pub mod PlacesLemmas
+pub mod SamePlaces
 pub mod Rising
 pub mod TakenOut
 pub mod WithComponent

@@ -20,7 +20,7 @@ use Rattle.ent_handle.specs.Handle.{Handle, handle_cmp, handle_cmp_total as tota
 use Rattle.ent_handle.specs.Handle.{handle_cmp-IsAntisymmetric as same}
 use Rattle.ent_storage.specs.Living.{LivingEntity}
 use Rattle.ent_storage.specs.EntityMap.{Entity, birth_of}
-use Rattle.ent_storage.specs.Indexed.{entities_of, IsIndexed}
+use Rattle.ent_storage.specs.Indexed.{map_of, IsIndexed}
 use Rattle.ent_storage.specs.BirthOrder.{IsLeastOf}
 use Rattle.ent_storage.proofs.ByBirth.{born_of}
 use Rattle.ent_storage.proofs.Indexed.{some_entity, get_placed, placed_from_get}
@@ -96,7 +96,7 @@ module _ (birth : Birth) (pairs : List (Birth × Handle)) (o : Option Handle)
 module _ (living : List LivingEntity) (index : FinMap handle_cmp ℕ)
     (indexed : IsIndexed living index) (birth : Birth) where
   pub to_map : (h : Handle) → Contains (map born_of living) (birth, h)
-      → birth_of (entities_of living) h ≡ Some birth
+      → birth_of (map_of living) h ≡ Some birth
   to_map h at =
       let r : LivingEntity = some_entity h in
       let below : at.0 < length living =
@@ -107,7 +107,7 @@ module _ (living : List LivingEntity) (index : FinMap handle_cmp ℕ)
       ap (option_map (λ (e : Entity). e.birth)) (get_placed living index indexed h at.0 r placed)
       ∙ ap Some (ap (λ (p : Birth × Handle). p.0) pair)
 
-  found : (h : Handle) (o : Option Entity) → finite.get (entities_of living) h ≡ o
+  found : (h : Handle) (o : Option Entity) → finite.get (map_of living) h ≡ o
       → option_map (λ e. e.birth) o ≡ Some birth → Contains (map born_of living) (birth, h)
   found h None at is = absurd (none-some birth is)
   found h (Some e) at is =
@@ -123,7 +123,7 @@ module _ (living : List LivingEntity) (index : FinMap handle_cmp ℕ)
         get_or-map born_of living place.0 r (birth, h) there.0 ∙ (λ j. (born j, handle j)),
       )
 
-  pub from_map : (h : Handle) → birth_of (entities_of living) h ≡ Some birth
+  pub from_map : (h : Handle) → birth_of (map_of living) h ≡ Some birth
       → Contains (map born_of living) (birth, h)
   from_map h is = found h _ refl is
 

@@ -8,7 +8,7 @@ use Rattle.ent_storage.specs.Components.{Components}
 use Rattle.ent_handle.specs.Handle.{Handle, handle_cmp}
 use Rattle.ent_storage.specs.Living.{LivingEntity, IsMovedInto}
 use Rattle.ent_storage.specs.EntityMap.{Store}
-use Rattle.ent_storage.specs.Indexed.{IsIndexed, entity_of, entities_of, handles_by_place}
+use Rattle.ent_storage.specs.Indexed.{IsIndexed, entity_of, map_of, handles_by_place}
 use Rattle.ent_storage.specs.Places.{AreWithout}
 use Rattle.ent_storage.proofs.Indexed.{some_entity, some_not_none, get_placed, get_unplaced}
 
@@ -52,7 +52,7 @@ pub record IsEntityAt (living : List LivingEntity) (s : Store) (h : Handle) (i :
 
 module _ (living : List LivingEntity) (index : FinMap handle_cmp ℕ) (spare : ℕ) (s : Store)
     (indexed : IsIndexed living index) (view : record {
-      entities = entities_of living;
+      entities = map_of living;
       places = handles_by_place living;
       spare = spare;
     } ≡ s) (h : Handle) where
@@ -104,11 +104,11 @@ handles_changed living i entity read held =
 -- a handle has a place if it is in the map
 pub placed_known : (living : List LivingEntity) (index : FinMap handle_cmp ℕ)
     → IsIndexed living index → (h : Handle) → is_some (finite.get index h)
-    ≡ is_some (finite.get (entities_of living) h)
+    ≡ is_some (finite.get (map_of living) h)
 placed_known living index indexed h = by (finite.get index h) refl
   where
     by : (o : Option ℕ) → finite.get index h ≡ o → is_some o
-        ≡ is_some (finite.get (entities_of living) h)
+        ≡ is_some (finite.get (map_of living) h)
     by None at = sym (ap is_some (get_unplaced living index indexed h at))
     by (Some i) at = sym (ap is_some (get_placed living index indexed h i (some_entity h) at))
 

@@ -11,7 +11,7 @@ use Rattle.ent_storage.specs.declared.living.Resident.{Resident}
 use Rattle.ent_storage.specs.EntityMap.{Entity, with_birth}
 use Rattle.ent_storage.specs.SparseSet.{Column}
 use Rattle.ent_storage.specs.Living.{LivingEntity, components_at, entities_from, with_birth_at}
-use Rattle.ent_storage.specs.Indexed.{entity_of, entities_of, handles_by_place, counted}
+use Rattle.ent_storage.specs.Indexed.{entity_of, map_of, handles_by_place, counted}
 use Rattle.ent_storage.specs.Indexed.{IsKeptIndex}
 use Rattle.ent_storage.proofs.Indexed.{some_entity, entities_set, indexed_set, read_handle}
 use Rattle.ent_storage.proofs.Indexed.{get_read}
@@ -75,14 +75,14 @@ module _ (living : List LivingEntity) (index : FinMap handle_cmp ℕ) (room : �
   is_set : with_birth_at living i birth ≡ set living i changed
   is_set = as_set living i (some_entity h) birth inside
 
-  pub reborn_entities : entities_of (with_birth_at living i birth)
-      ≡ with_birth (entities_of living) h birth
+  pub reborn_entities : map_of (with_birth_at living i birth)
+      ≡ with_birth (map_of living) h birth
   reborn_entities =
-      ap entities_of is_set
+      ap map_of is_set
       ∙ entities_set living (counted living index) kept.indexed i changed at
-      ∙ ap (λ (q : Handle). finite.insert (entities_of living) q (entity_of changed)) its_handle
-      ∙ sym (ap (λ (o : Option Entity). option_map_or (λ e. finite.insert (entities_of living) h
-      (record e { birth = birth })) o (entities_of living))
+      ∙ ap (λ (q : Handle). finite.insert (map_of living) q (entity_of changed)) its_handle
+      ∙ sym (ap (λ (o : Option Entity). option_map_or (λ e. finite.insert (map_of living) h
+      (record e { birth = birth })) o (map_of living))
       (get_read living (counted living index) kept.indexed h i placed was read))
 
   pub reborn_handles : handles_by_place (with_birth_at living i birth) ≡ handles_by_place living

@@ -9,7 +9,7 @@ use Rattle.std.specs.FinMap.{FinMap}
 use Rattle.ent_handle.specs.Handle.{Handle, handle_cmp, handle_cmp_total as total}
 use Rattle.ent_handle.specs.Handle.{handle_cmp-IsAntisymmetric as same}
 use Rattle.ent_storage.specs.Living.{LivingEntity, IsMovedInto}
-use Rattle.ent_storage.specs.Indexed.{entity_of, entities_of, IsIndexed}
+use Rattle.ent_storage.specs.Indexed.{entity_of, map_of, IsIndexed}
 use Rattle.ent_storage.proofs.Keys.{same_or_apart, get-insert_same, get-insert_other}
 use Rattle.ent_storage.proofs.Keys.{get-remove_same, get-remove_other}
 use Rattle.ent_storage.proofs.Indexed.{some_not_none, same_number, some_entity, same_place}
@@ -108,21 +108,21 @@ module _ (living : List LivingEntity) (index : FinMap handle_cmp ℕ)
 
       -- the map is without that handle
       get_left : (q : Handle) → (q ≡ h) ⊎ (q ≢ h) → (o : Option ℕ) → finite.get index q ≡ o
-          → finite.get (entities_of left) q ≡ finite.get (finite.remove (entities_of living) h) q
+          → finite.get (map_of left) q ≡ finite.get (finite.remove (map_of living) h) q
       get_left q (inl e) o old =
           get_unplaced left without indexed_without q (ap (finite.get without) e ∙ now.gone)
-          ∙ sym (get-remove_same total same (entities_of living) h q e)
+          ∙ sym (get-remove_same total same (map_of living) h q e)
       get_left q (inr n) None old =
           get_unplaced left without indexed_without q (now.missing q old)
-          ∙ sym (get-remove_other total same (entities_of living) h q n
+          ∙ sym (get-remove_other total same (map_of living) h q n
           ∙ get_unplaced living index indexed q old)
       get_left q (inr n) (Some j) old =
           get_kept q j n old (not_last j (length living) (indexed.each_place q j old).0)
-          ∙ sym (get-remove_other total same (entities_of living) h q n
+          ∙ sym (get-remove_other total same (map_of living) h q n
           ∙ get_placed living index indexed q j (some_entity h) old)
         where
           get_kept : (q : Handle) (j : ℕ) → q ≢ h → finite.get index q ≡ Some j
-              → (j + 1 < length living) ⊎ (j + 1 ≡ length living) → finite.get (entities_of left) q
+              → (j + 1 < length living) ⊎ (j + 1 ≡ length living) → finite.get (map_of left) q
               ≡ Some (entity_of (get_or living j (some_entity h)))
           get_kept q j n old (inl room) =
               get_placed left without indexed_without q j (some_entity h) (now.stay q j n room old)
@@ -138,7 +138,7 @@ module _ (living : List LivingEntity) (index : FinMap handle_cmp ℕ)
               ∙ ap (λ (r : LivingEntity). Some (entity_of r)) (rest.moved (some_entity h) room
               ∙ ap (λ (m : ℕ). get_or living m (some_entity h)) j_is)
 
-      pub entities_without : entities_of left ≡ finite.remove (entities_of living) h
+      pub entities_without : map_of left ≡ finite.remove (map_of living) h
       entities_without = finite.same_map total same _ _
           (λ q. get_left q (same_or_apart total same q h) _ refl)
 
@@ -223,7 +223,7 @@ module _ (living : List LivingEntity) (index : FinMap handle_cmp ℕ)
           indexed_without living index indexed h i placed left _ rest
           (without_moved living index indexed h i placed not_the_last entity.handle was_last)
 
-      pub entities_moved : entities_of left ≡ finite.remove (entities_of living) h
+      pub entities_moved : map_of left ≡ finite.remove (map_of living) h
       entities_moved =
           entities_without living index indexed h i placed left _ rest
           (without_moved living index indexed h i placed not_the_last entity.handle was_last)
@@ -237,7 +237,7 @@ module _ (living : List LivingEntity) (index : FinMap handle_cmp ℕ)
         indexed_without living index indexed h i placed left _ rest
         (without_last living index indexed h i placed was_the_last)
 
-    pub entities_popped : entities_of left ≡ finite.remove (entities_of living) h
+    pub entities_popped : map_of left ≡ finite.remove (map_of living) h
     entities_popped =
         entities_without living index indexed h i placed left _ rest
         (without_last living index indexed h i placed was_the_last)

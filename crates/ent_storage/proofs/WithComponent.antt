@@ -20,7 +20,7 @@ use Rattle.ent_handle.specs.Handle.{handle_cmp-IsAntisymmetric}
 use Rattle.ent_storage.specs.EntityMap.{Entity, value_of}
 use Rattle.ent_storage.specs.BirthOrder.{ListsWith, IsInOrder}
 use Rattle.ent_storage.specs.Living.{LivingEntity, IsValueAt, born_at}
-use Rattle.ent_storage.specs.Indexed.{entity_of, entities_of, handles_by_place, IsIndexed}
+use Rattle.ent_storage.specs.Indexed.{entity_of, map_of, handles_by_place, IsIndexed}
 use Rattle.ent_storage.proofs.Keys.{apart}
 use Rattle.ent_storage.proofs.Indexed.{some_entity, distinct, get_placed}
 use Rattle.ent_storage.proofs.Placed.{from_place}
@@ -49,13 +49,13 @@ pair_inside living id pairs has k d l =
 -- the map has at a place's handle what the entity there has
 pub same_value : (living : List LivingEntity) (index : FinMap handle_cmp ℕ) → IsIndexed living index
     → (id : ComponentId) (p : ℕ) → option_and_then (λ (e : LivingEntity). finite.get e.components
-    id) (slice_get living p) ≡ option_and_then (λ (h : Handle). value_of (entities_of living) h id)
+    id) (slice_get living p) ≡ option_and_then (λ (h : Handle). value_of (map_of living) h id)
     (slice_get (handles_by_place living) p)
 same_value living index indexed id p = by (cases_lt p (length living))
   where
     by : (p < length living) ⊎ (length living ≤ p)
         → option_and_then (λ (e : LivingEntity). finite.get e.components id) (slice_get living p)
-        ≡ option_and_then (λ (h : Handle). value_of (entities_of living) h id)
+        ≡ option_and_then (λ (h : Handle). value_of (map_of living) h id)
         (slice_get (handles_by_place living) p)
     by (inl l) =
         let r : LivingEntity = some_entity (record { index = 0; generation = 0 }) in
@@ -64,12 +64,12 @@ same_value living index indexed id p = by (cases_lt p (length living))
         ap (option_and_then (λ (e : LivingEntity). finite.get e.components id))
         (slice_get-get_or living p r l)
         ∙ sym (ap (option_and_then (λ (e : Entity). finite.get e.components id)) there)
-        ∙ sym (ap (option_and_then (λ (h : Handle). value_of (entities_of living) h id))
+        ∙ sym (ap (option_and_then (λ (h : Handle). value_of (map_of living) h id))
         (from_place living p r l))
     by (inr g) =
         ap (option_and_then (λ (e : LivingEntity). finite.get e.components id))
         (slice_get_past living p g)
-        ∙ sym (ap (option_and_then (λ (h : Handle). value_of (entities_of living) h id))
+        ∙ sym (ap (option_and_then (λ (h : Handle). value_of (map_of living) h id))
         (slice_get_past (handles_by_place living) p
         (omega (arith, length-map living (λ (e : LivingEntity). e.handle)))))
 
@@ -162,5 +162,5 @@ module _ (living : List LivingEntity) (index : FinMap handle_cmp ℕ)
       )
 
   pub lists_with : (handles : List Handle) → IsInOrder births handles
-      → ListsWith id (entities_of living) handles
+      → ListsWith id (map_of living) handles
   lists_with = lists_of living index indexed passes births all_born births_apart complete

@@ -14,8 +14,8 @@ abbrev pub entity_of : LivingEntity → Entity
 entity_of entity = record { birth = entity.birth; components = entity.components }
 
 -- the entities of the list, each under its handle
-abbrev pub entities_of : List LivingEntity → EntityMap
-entities_of living = finite.from_entries (map (λ entity. (entity.handle, entity_of entity)) living)
+abbrev pub map_of : List LivingEntity → EntityMap
+map_of living = finite.from_entries (map (λ entity. (entity.handle, entity_of entity)) living)
 
 -- their handles, place by place
 abbrev pub handles_by_place : List LivingEntity → List Handle
@@ -46,7 +46,7 @@ pub record IsFree (living : List LivingEntity) (pairs : List (Handle × ℕ)) (p
   pub inside : position < length pairs
   pub gone : HoldsAt (λ pair. has_handle_at living pair.0 (Some pair.1) ≡ false) pairs position
 
--- one index has each place that the other has
+-- For proofs: one index has each place that the other has.
 abbrev pub HasAll : finite.FinMap handle_cmp ℕ → finite.FinMap handle_cmp ℕ → Type 0
 HasAll old new = (q : Handle) (i : ℕ) → finite.get old q ≡ Some i → finite.get new q ≡ Some i
 

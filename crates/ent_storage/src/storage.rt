@@ -35,10 +35,10 @@ impl Model for Storage {
 
     ghost coded = { store_code };
 
-    ghost use Rattle.ent_storage.specs.Indexed.{entities_of, handles_by_place, IsKeptIndex};
+    ghost use Rattle.ent_storage.specs.Indexed.{map_of, handles_by_place, IsKeptIndex};
 
     ghost view = { λ a. record {
-      entities = entities_of a.living.entities;
+      entities = map_of a.living.entities;
       places = handles_by_place a.living.entities;
       spare = min a.living.room a.index.room - length a.living.entities;
     } };

@@ -114,7 +114,7 @@ impl Entities {
     }
 
     /// Requests a handle, which the next [`flush`](Self::flush) brings to life. Until then `alloc`
-    /// and `free` answer `NeedsFlush`.
+    /// and `free` return `NeedsFlush`.
     ///
     /// # Errors
     ///

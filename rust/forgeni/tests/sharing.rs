@@ -1,4 +1,4 @@
-//! Worked rows of phases, written by hand, and what stands after each misuse.
+//! Worked examples of phases, written by hand, and what stands after each misuse.
 
 mod common;
 

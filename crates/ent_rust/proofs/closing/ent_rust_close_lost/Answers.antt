@@ -2,12 +2,12 @@ use Rattle.std.proofs.Common.{rules, All, List, Contains}
 use Rattle.ent_alloc.specs.Sequential.{Allocator}
 use Rattle.ent_shared.specs.Phase.{Reserver}
 use Rattle.ent_shared.specs.Order.{handles_given}
-use Rattle.ent_rust.specs.Sharing.{AreReserved}
+use Rattle.ent_rust.specs.Sharing.{AreTaken}
 use Rattle.ent_rust.proofs.closing.ent_rust_close_lost.Goals as goal
 
 are : (a : Allocator) (reservers : List Reserver)
     → All (λ (r : Reserver). All (Contains a.taken) (handles_given r.own)) reservers
-    → AreReserved a reservers
+    → AreTaken a reservers
 are a reservers given = record { given = given }
 
 pub returns-in-Ok-clause-given : goal.returns-in-Ok-clause-given

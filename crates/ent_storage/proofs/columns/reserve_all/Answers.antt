@@ -5,7 +5,7 @@ use Rattle.std.specs.FinMap as map
 use Rattle.ent_handle.specs.declared.component.ComponentId.{ComponentId}
 use Rattle.ent_storage.specs.SparseSet.{Values, HasRoomAt}
 use Rattle.ent_storage.specs.Living.{column_at, components_at}
-use Rattle.ent_storage.proofs.ColumnsLemmas.{get_components}
+use Rattle.ent_storage.proofs.ColumnsAtPlaces.{get_components}
 use Rattle.ent_storage.proofs.columns.reserve_all.Goals as goal
 
 -- the item for which memory was refused is missing

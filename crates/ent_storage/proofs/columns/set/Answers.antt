@@ -4,7 +4,7 @@ use Rattle.std.proofs.lemmas.Int.{to_z-of_z}
 use Rattle.std.specs.FinMap as map
 use Rattle.ent_storage.specs.SparseSet.{Column, Values, HasRoomAt, no_column}
 use Rattle.ent_storage.specs.Living.{column_at}
-use Rattle.ent_storage.proofs.ColumnsLemmas.{room_inside, column_set}
+use Rattle.ent_storage.proofs.ColumnsAtPlaces.{room_inside, column_set}
 use Rattle.ent_storage.proofs.columns.set.Goals as goal
 
 pub bounds-columns-item : goal.bounds-columns-item

@@ -3,7 +3,7 @@ use Rattle.std.proofs.lemmas.List.{at_drop_more}
 use Rattle.ent_handle.specs.declared.component.ComponentId.{ComponentId}
 use Rattle.ent_storage.specs.Components.{Components, with_items}
 use Rattle.ent_storage.specs.Living.{components_at}
-use Rattle.ent_storage.proofs.ColumnsLemmas.{components_insert, insert_others, insert_room}
+use Rattle.ent_storage.proofs.ColumnsAtPlaces.{components_insert, insert_others, insert_room}
 use Rattle.ent_storage.proofs.InUse.{rest_kept}
 use Rattle.ent_storage.proofs.columns.set_all.Goals as goal
 

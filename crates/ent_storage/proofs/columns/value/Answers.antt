@@ -1,7 +1,7 @@
 use Rattle.std.proofs.Common.{ap, sym, ◌∙◌, arith}
 use Rattle.std.specs.FinMap as map
 use Rattle.ent_storage.specs.SparseSet.{Column, no_column}
-use Rattle.ent_storage.proofs.ColumnsLemmas.{taken_none}
+use Rattle.ent_storage.proofs.ColumnsAtPlaces.{taken_none}
 use Rattle.ent_storage.proofs.columns.value.Goals as goal
 
 pub returns-in_err-get : goal.returns-in_err-get

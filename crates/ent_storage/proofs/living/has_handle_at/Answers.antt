@@ -4,7 +4,7 @@ use Rattle.std.proofs.lemmas.Option.{slice_get-get_or}
 use Rattle.std.specs.Ordering.{eq_by_cmp}
 use Rattle.ent_handle.specs.Handle.{handle_cmp}
 use Rattle.ent_storage.specs.Indexed.{has_handle_at}
-use Rattle.ent_storage.proofs.LivingLemmas.{test_at, test_past}
+use Rattle.ent_storage.proofs.EntitiesOfResidents.{test_at, test_past}
 use Rattle.ent_storage.proofs.living.has_handle_at.Goals as goal
 
 pub returns-in-Some : goal.returns-in-Some

@@ -4,7 +4,7 @@ use Rattle.std.specs.FinMap as map
 use Rattle.ent_handle.specs.Handle.{handle_cmp_total as total, handle_cmp-IsAntisymmetric as same}
 use Rattle.ent_storage.specs.Places.{Places}
 use Rattle.ent_storage.proofs.Rising.{get_in_gap, rising_set, map_set}
-use Rattle.ent_storage.proofs.PlacesLemmas.{same_places}
+use Rattle.ent_storage.proofs.SamePlaces.{same_places}
 use Rattle.ent_storage.proofs.index.Index.set_place.Goals as goal
 
 pub invariant_of-self : goal.invariant_of-self

@@ -4,7 +4,7 @@ use Rattle.ent_handle.specs.declared.birth.Birth.{Birth}
 use Rattle.ent_handle.specs.Handle.{Handle}
 use Rattle.ent_storage.specs.declared.living.Resident.{Resident}
 use Rattle.ent_storage.specs.Living.{Living}
-use Rattle.ent_storage.proofs.LivingLemmas.{births_from}
+use Rattle.ent_storage.proofs.EntitiesOfResidents.{births_from}
 use Rattle.ent_storage.proofs.living.Living.births.Goals as goal
 
 pub returns : goal.returns

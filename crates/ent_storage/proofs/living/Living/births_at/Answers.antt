@@ -4,7 +4,7 @@ use Rattle.ent_handle.specs.declared.birth.Birth.{Birth}
 use Rattle.ent_handle.specs.Handle.{Handle}
 use Rattle.ent_storage.specs.declared.living.Resident.{Resident}
 use Rattle.ent_storage.specs.Living.{Living, born_at}
-use Rattle.ent_storage.proofs.LivingLemmas.{inside_from, born_get}
+use Rattle.ent_storage.proofs.EntitiesOfResidents.{inside_from, born_get}
 use Rattle.std.specs.Option.{option_map}
 use Rattle.std.proofs.lemmas.Option.{slice_get-get_or}
 use Rattle.std.proofs.lemmas.List.{map_more, map_push}

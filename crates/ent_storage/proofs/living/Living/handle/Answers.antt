@@ -1,7 +1,7 @@
 use Rattle.std.proofs.Common.{ap, sym, ◌∙◌, arith}
 use Rattle.ent_storage.specs.declared.living.Resident.{Resident}
 use Rattle.ent_storage.specs.Living.{LivingEntity}
-use Rattle.ent_storage.proofs.LivingLemmas.{read_from, inside_from}
+use Rattle.ent_storage.proofs.EntitiesOfResidents.{read_from, inside_from}
 use Rattle.ent_storage.proofs.living.Living.handle.Goals as goal
 
 pub index-requires : goal.index-requires

@@ -4,9 +4,9 @@ use Rattle.ent_storage.specs.Components.{Components, with_items, missing}
 use Rattle.ent_storage.specs.SparseSet.{Values}
 use Rattle.ent_storage.specs.declared.living.Resident.{Resident}
 use Rattle.ent_storage.specs.Living.{Living, LivingEntity, change_at}
-use Rattle.ent_storage.proofs.ColumnsLemmas.{same_components}
-use Rattle.ent_storage.proofs.LivingLemmas.{read_from, inside_from, same_from, changed_from}
-use Rattle.ent_storage.proofs.LivingLemmas.{changed_within, written_back}
+use Rattle.ent_storage.proofs.ColumnsAtPlaces.{same_components}
+use Rattle.ent_storage.proofs.EntitiesOfResidents.{read_from, inside_from, same_from, changed_from}
+use Rattle.ent_storage.proofs.EntitiesOfResidents.{changed_within, written_back}
 use Rattle.ent_storage.proofs.InUse.{in_use_changed}
 use Rattle.ent_storage.proofs.Missing.{on_err}
 use Rattle.ent_storage.proofs.living.Living.insert.Goals as goal

@@ -3,7 +3,7 @@ use Rattle.std.specs.FinMap as finite
 use Rattle.ent_storage.specs.SparseSet.{Column}
 use Rattle.ent_storage.specs.declared.living.Resident.{Resident}
 use Rattle.ent_storage.specs.Living.{LivingEntity, components_at}
-use Rattle.ent_storage.proofs.LivingLemmas.{read_from}
+use Rattle.ent_storage.proofs.EntitiesOfResidents.{read_from}
 use Rattle.ent_storage.proofs.living.Living.items.Goals as goal
 
 pub new-requires : goal.new-requires

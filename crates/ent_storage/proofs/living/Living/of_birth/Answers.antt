@@ -4,7 +4,7 @@ use Rattle.ent_handle.specs.Handle.{Handle}
 use Rattle.ent_storage.specs.declared.living.Resident.{Resident}
 use Rattle.ent_storage.specs.Living.{Living}
 use Rattle.ent_storage.specs.BirthOrder.{IsLeastOf}
-use Rattle.ent_storage.proofs.LivingLemmas.{births_from}
+use Rattle.ent_storage.proofs.EntitiesOfResidents.{births_from}
 use Rattle.ent_storage.proofs.living.Living.of_birth.Goals as goal
 
 pub returns : goal.returns

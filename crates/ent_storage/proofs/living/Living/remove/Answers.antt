@@ -2,9 +2,9 @@ use Rattle.std.proofs.Common.{length, ap, sym, ◌∙◌, inr, arith}
 use Rattle.std.specs.FinMap as finite
 use Rattle.ent_storage.specs.declared.living.Resident.{Resident}
 use Rattle.ent_storage.specs.Living.{Living, LivingEntity, change_at}
-use Rattle.ent_storage.proofs.ColumnsLemmas.{get_components}
-use Rattle.ent_storage.proofs.LivingLemmas.{read_from, inside_from, changed_from}
-use Rattle.ent_storage.proofs.LivingLemmas.{changed_within, written_back}
+use Rattle.ent_storage.proofs.ColumnsAtPlaces.{get_components}
+use Rattle.ent_storage.proofs.EntitiesOfResidents.{read_from, inside_from, changed_from}
+use Rattle.ent_storage.proofs.EntitiesOfResidents.{changed_within, written_back}
 use Rattle.ent_storage.proofs.InUse.{in_use_changed}
 use Rattle.ent_storage.proofs.living.Living.remove.Goals as goal
 

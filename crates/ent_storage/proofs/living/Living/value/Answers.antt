@@ -2,8 +2,8 @@ use Rattle.std.proofs.Common.{ap, sym, ◌∙◌}
 use Rattle.std.specs.FinMap as finite
 use Rattle.ent_storage.specs.declared.living.Resident.{Resident}
 use Rattle.ent_storage.specs.Living.{LivingEntity}
-use Rattle.ent_storage.proofs.ColumnsLemmas.{get_components}
-use Rattle.ent_storage.proofs.LivingLemmas.{read_from}
+use Rattle.ent_storage.proofs.ColumnsAtPlaces.{get_components}
+use Rattle.ent_storage.proofs.EntitiesOfResidents.{read_from}
 use Rattle.ent_storage.proofs.living.Living.value.Goals as goal
 
 pub returns : goal.returns

@@ -18,7 +18,7 @@ use Rattle.ent_storage.specs.declared.living.Resident.{Resident}
 use Rattle.ent_storage.specs.Living.{LivingEntity, Living, IsMovedInto, AreColumnsOf, change_at}
 use Rattle.ent_storage.specs.Living.{column_at, value_at, components_at, entities_from, born_at}
 use Rattle.ent_storage.specs.Indexed.{has_handle_at}
-use Rattle.ent_storage.proofs.ColumnsLemmas.{same_components, no_components, get_components}
+use Rattle.ent_storage.proofs.ColumnsAtPlaces.{same_components, no_components, get_components}
 
 -- ---- the entity at a place
 

@@ -1,4 +1,4 @@
-//! Worked rows, written by hand.
+//! Worked examples, written by hand.
 
 use forgeni::{AllocError, Entities, FreeError, Freed, Handle, Limits, RequestError, State};
 use std::collections::HashSet;

@@ -1,4 +1,4 @@
-//! Worked rows of a world and its phases, written by hand.
+//! Worked examples of a world and its phases, written by hand.
 
 mod common;
 

@@ -1,4 +1,4 @@
--- Two records of places.
+-- Two values of `Places` with the same parts are the same.
 use Rattle.std.proofs.Common.{◌≡◌}
 use Rattle.ent_storage.specs.Places.{Places}
 
