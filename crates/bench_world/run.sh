@@ -4,13 +4,14 @@
 # rising order; and of 512,000 spawns by 1, 2, 16 and 256 systems that reserved in turns. Each figure is the shortest of all
 # runs of its case. Both programs have to end with the same number of entities and the same sum of values. It needs `rt` and
 # `rustc` on the path. An argument is how many turns there are.
-# `run.sh instructions` prints the instructions a command instead, which are the same in each run. It needs `valgrind`.
+# `run.sh instructions` prints the instructions a command instead, which are the same in each run. It needs `valgrind` and `nm`.
 set -eu
 crate=$(cd "$(dirname "$0")" && pwd)
 out=$(mktemp -d)
 trap 'rm -rf "$out"' EXIT
 
-# The instructions of each `apply`, whose name is the third word, on 100,000 entities, as lines of `side|order|kind|instructions`.
+# The instructions of each call of the function whose name is the third word, on 100,000 entities, as lines of
+# `side|order|kind|instructions`.
 count() {
     valgrind --tool=callgrind --collect-atstart=no --toggle-collect="$3" --dump-after="$3" \
         --callgrind-out-file="$out/$1" "$2" 100000 >"$out/printed" 2>"$out/log" || { tail -5 "$out/log"; exit 1; }
@@ -26,8 +27,10 @@ count() {
 rustc -O -C target-cpu=x86-64-v2 --edition 2021 -o "$out/plain_world" "$crate/plain/main.rs"
 
 if [ "${1-}" = instructions ]; then
+    # The compiler puts the verified `apply` into the function that times it, which adds two readings of the clock.
+    timed=$(nm "$crate/out/bench_world" | sed -n 's/.* \(bench_world::timed::.*\)/\1/p')
     {
-        count verified "$crate/out/bench_world" ent_world::world::World::apply
+        count verified "$crate/out/bench_world" "$timed"
         count plain "$out/plain_world" main::plain::World::apply
     } | awk -F'|' '
         $2 != "scattered" { next }
