@@ -1,13 +1,13 @@
 -- Commands in order: what was applied so far, one more, and where it stopped.
 use Rattle.std.proofs.Common.{◌≡◌, refl, sym, ap, ◌∙◌, ℕ, suc, ◌+◌, ◌<◌, List, [], ◌∷◌, ◌++◌}
 use Rattle.std.proofs.Common.{length, take, drop, get_or, arith}
-use Rattle.std.proofs.lemmas.List.{take_more, drop_more, length-drop, length-take}
+use Rattle.std.proofs.lemmas.List.{take_more, drop_more, length-drop}
 use Rattle.ent_handle.specs.Handle.{Handle}
 use Rattle.ent_queue.specs.Command.{Command, Spawn, SpawnMany, Insert, Remove, Despawn, Refused}
 use Rattle.ent_world.specs.World.{World}
 use Rattle.ent_world.specs.Effects.{Applied, on_entity, on_each, after_command, after_commands}
 use Rattle.ent_world.specs.Effects.{after_queues}
-use Rattle.ent_world.specs.Sync.{first_part, cut_commands, cut_queue, cut}
+use Rattle.ent_world.specs.Sync.{first_part}
 
 -- the next element of a list, of which the first ones are done
 pub next_below : {X : Type 0} (xs rest : List X) (k : ℕ) (x : X) → drop k xs ≡ x ∷ rest → k

@@ -9,7 +9,6 @@ use Rattle.ent_handle.specs.Handle.{Handle}
 use Rattle.ent_alloc.proofs.ListLaws.{drop-append}
 use Rattle.ent_queue.specs.Command.{Command, Spawn, SpawnMany, Insert, Remove, Despawn, Refused}
 use Rattle.ent_world.specs.World.{World}
-use Rattle.ent_world.specs.declared.stop.Stop.{Stop}
 use Rattle.ent_world.specs.Effects.{Applied, on_entity, on_each, after_commands, after_queues}
 use Rattle.ent_world.specs.Sync.{first_part, stops, cut_commands, cut_queue, cut}
 use Rattle.ent_world.specs.Rest.{last_part, left_commands, after_left_queues, after_left}

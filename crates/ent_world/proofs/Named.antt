@@ -1,9 +1,8 @@
 -- One induction over queues, and so one file of more than 400 lines: queues do to a world what the
 -- same queues by births do to births alone. If the births told what the world was, they tell what
 -- it is afterwards, and the faults are the same.
-use Rattle.std.proofs.Common.{◌≡◌, refl, sym, ap, ◌∙◌, subst, ℕ, suc, ◌+◌, Bool, true, false}
+use Rattle.std.proofs.Common.{◌≡◌, refl, sym, ap, ◌∙◌, subst, ℕ, ◌+◌, Bool, true, false}
 use Rattle.std.proofs.Common.{cond, not, T, true≢false, List, [], ◌∷◌, ◌++◌, map, filter, All}
-use Rattle.std.proofs.Common.{length}
 use Rattle.std.proofs.Common.{Option, Some, None, is_some, option_map, unwrap_or}
 use Rattle.std.specs.List.{AllZip}
 use Rattle.std.specs.Option.{option_map_or}
@@ -29,7 +28,6 @@ use Rattle.ent_storage.specs.Components.{Components, with_items}
 use Rattle.ent_storage.specs.EntityMap.{Entity, EntityMap, birth_of, with_components}
 use Rattle.ent_queue.specs.Command.{Bundle, with_put, Command, Spawn, SpawnMany, Insert, Remove}
 use Rattle.ent_queue.specs.Command.{Despawn, Refused}
-use Rattle.ent_world.specs.declared.fault.Fault.{Fault}
 use Rattle.ent_world.specs.declared.fault.FaultKind.TheVariants as kind
 use Rattle.ent_world.specs.World.{World, lives_in}
 use Rattle.ent_world.specs.Effects.{Applied, applied, on_entity, on_each, with_fault, after_insert}

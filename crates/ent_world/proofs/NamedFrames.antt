@@ -3,9 +3,9 @@
 -- by where it stands in a queue.
 use Rattle.std.proofs.Common.{◌≡◌, refl, sym, ap, ◌∙◌, subst, ℕ, ◌+◌, ◌^◌, ◌<◌, ◌≤◌, Bool, true}
 use Rattle.std.proofs.Common.{false, cond, ◌||◌, true≢false, List, [], ◌∷◌, ◌++◌, map, length, All}
-use Rattle.std.proofs.Common.{zero, suc, AllPairs, slice_get, flat_map}
+use Rattle.std.proofs.Common.{AllPairs, flat_map}
 use Rattle.std.proofs.Common.{Option, Some, None, is_some, unwrap_or, arith}
-use Rattle.std.specs.List.{AllZip, list_any, position_from, range_with_len}
+use Rattle.std.specs.List.{AllZip, list_any, position_from}
 use Rattle.std.specs.Option.{option_map_or}
 use Rattle.std.specs.Ordering.{eq_by_cmp}
 use Rattle.std.specs.FinSet as set
@@ -15,8 +15,7 @@ use Rattle.std.proofs.lemmas.List.{map-append}
 use Rattle.std.proofs.lemmas.List.Folds.{list_any-append}
 use Rattle.std.proofs.lemmas.List.Elements.{All-head, All-tail, All-contains}
 use Rattle.std.proofs.lemmas.List.Sorted.{Contains-permutation, IsPermutation-sym}
-use Rattle.std.proofs.lemmas.Option.{none-some, same_Some, slice_get_within}
-use Rattle.std.proofs.lemmas.Option.{get_or_from_slice_get}
+use Rattle.std.proofs.lemmas.Option.{none-some, same_Some}
 use Rattle.ent_handle.specs.declared.birth.Birth.{Birth}
 use Rattle.ent_handle.specs.Birth.{birth_cmp}
 use Rattle.ent_handle.specs.Handle.{Handle, handle_cmp, handle_cmp_total}
@@ -24,9 +23,9 @@ use Rattle.ent_alloc.specs.Sequential.{stands_in, born}
 use Rattle.ent_alloc.specs.Sound.{IsLive, AreApart}
 use Rattle.ent_alloc.proofs.HandleSets.{same_handle, itself, Contains-from_stands_in}
 use Rattle.ent_alloc.proofs.HandleSets.{stands_in-from_Contains}
-use Rattle.ent_alloc.proofs.ListLaws.{AllPairs-left, AllPairs-right, AllPairs-across}
-use Rattle.ent_alloc.proofs.ListLaws.{AllPairs-tail, AllPairs-IsPermutation}
-use Rattle.ent_alloc.proofs.Replies.{apart_both, not_apart}
+use Rattle.ent_alloc.proofs.ListLaws.{AllPairs-left}
+use Rattle.ent_alloc.proofs.ListLaws.{AllPairs-IsPermutation}
+use Rattle.ent_alloc.proofs.Replies.{apart_both}
 use Rattle.ent_alloc.proofs.Flushes.{born-not_live, born-IsPermutation}
 use Rattle.ent_storage.specs.EntityMap.{Entity, EntityMap, newborn, with_components}
 use Rattle.ent_queue.specs.Command.{Bundle, Command, Spawn, SpawnMany, Insert, Remove, Despawn}

@@ -1,12 +1,11 @@
 -- A sync that is cut anywhere, and goes on with what is left, is the whole sync; and faults are
 -- only added to those that there were.
 use Rattle.std.proofs.Common.{◌≡◌, refl, sym, ap, ◌∙◌, ℕ, zero, suc, ◌+◌, List, [], ◌∷◌, ◌++◌, Bool}
-use Rattle.std.proofs.Common.{length, take, drop, arith, true, false, inl, inr, ◌≤◌, append-nil}
-use Rattle.std.specs.Prelude.{◌⊎◌}
+use Rattle.std.proofs.Common.{take, drop, arith, true, false, inl, inr, ◌≤◌, append-nil}
 use Rattle.std.specs.Prelude.{if◌then◌else◌}
 use Rattle.std.proofs.lemmas.List.{append_assoc, take-take}
 use Rattle.ent_handle.specs.Handle.{Handle}
-use Rattle.ent_queue.specs.Command.{Bundle, Command, Spawn, SpawnMany, Insert, Remove, Despawn}
+use Rattle.ent_queue.specs.Command.{Command, Spawn, SpawnMany, Insert, Remove, Despawn}
 use Rattle.ent_queue.specs.Command.{Refused}
 use Rattle.ent_world.specs.World.{World, lives_in}
 use Rattle.ent_world.specs.declared.fault.Fault.{Fault}
@@ -15,7 +14,7 @@ use Rattle.ent_world.specs.declared.fault.FaultKind.TheVariants as kind
 use Rattle.ent_world.specs.Effects.{Applied, applied, on_entity, on_each, with_fault, after_insert}
 use Rattle.ent_world.specs.Effects.{after_remove, after_despawn, refused, after_command}
 use Rattle.ent_world.specs.Effects.{after_commands, after_queues}
-use Rattle.ent_world.specs.Sync.{first_part, cut_commands, cut_queue, cut}
+use Rattle.ent_world.specs.Sync.{first_part, cut_commands, cut}
 use Rattle.ent_world.specs.Rest.{last_part, left_commands, after_left_queues, after_left}
 use Rattle.ent_world.specs.Rest.{IsLaterIn, IsLater}
 use Rattle.ent_world.proofs.Folds.{first_alone}

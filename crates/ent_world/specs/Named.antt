@@ -1,6 +1,6 @@
 -- For laws: when births alone tell what a world is, and what queues do to it.
 use Rattle.std.specs.Prelude.{◌≡◌, ℕ, ◌^◌, ◌<◌, ◌≤◌, true, T, List, ◌∷◌, [], Some, map, length}
-use Rattle.std.specs.List.{All, AllZip, flat_map, range_with_len}
+use Rattle.std.specs.List.{All, AllZip, flat_map}
 use Rattle.std.specs.List.Sorted.{IsPermutation}
 use Rattle.std.specs.FinMap as finite
 use Rattle.ent_handle.specs.declared.birth.Birth.{Birth}

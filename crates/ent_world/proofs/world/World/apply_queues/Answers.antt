@@ -1,4 +1,4 @@
-use Rattle.std.proofs.Common.{◌≡◌, refl, sym, ap, ◌+◌, ◌∙◌, subst, List, ◌∷◌, drop, arith}
+use Rattle.std.proofs.Common.{◌≡◌, sym, ap, ◌+◌, ◌∙◌, subst, List, ◌∷◌, drop, arith}
 use Rattle.std.proofs.lemmas.Result.{err_from_is_err_and}
 use Rattle.std.proofs.lemmas.List.{drop_more}
 use Rattle.ent_queue.specs.Command.{Command}
