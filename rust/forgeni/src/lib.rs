@@ -84,6 +84,7 @@ mod reading;
 mod report;
 mod sharing;
 mod storage;
+mod sync;
 mod world;
 
 pub use component::{Birth, ComponentId};
@@ -100,4 +101,5 @@ pub use open_world::{
 pub use report::{Fault, FaultKind, Report};
 pub use sharing::{Reserver, Shared};
 pub use storage::Storage;
-pub use world::{GoOnError, Queues, Stopped, SyncError, World};
+pub use sync::{GoOnError, Queues, Stopped, SyncError};
+pub use world::World;
