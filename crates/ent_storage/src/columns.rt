@@ -1,5 +1,5 @@
 ghost use Rattle.std.specs.Prelude.{◌≡◌, ◌≢◌, ◌<◌, ◌≤◌, ℕ, OnOk, OnErr, None, Some, length};
-ghost use Rattle.std.specs.Prelude.{List, Contains};
+ghost use Rattle.std.specs.Prelude.{List, Contains, IsTrue};
 ghost use Rattle.std.specs.List.{All};
 ghost use Rattle.std.specs.FinMap as map;
 ghost use Rattle.ent_handle.specs.declared.component.ComponentId.{ComponentId};
@@ -61,13 +61,24 @@ fn reserve(
     ensures growing { OnErr result (value_at columns.old.items place id ≡ None) }
     ensures numbered { length columns.new.items ≤ 256 }
 {
-    if value(columns, place, id).is_some() {
+    if has_room(columns, place, id) || value(columns, place, id).is_some() {
         return Ok(());
     }
     let number = id.0 as usize;
     grow(columns, alloc, number + 1)?;
     mark(used, id.0)?;
     columns[number].reserve(place)
+}
+
+/// Whether a value of the component can be set at the place without memory. It may say no of a place
+/// that has a value.
+fn has_room(columns: &[SparseSet], place: usize, id: ComponentId) -> bool
+    ensures { IsTrue result → HasRoomAt (column_at columns.now id.0) place }
+{
+    match columns.get(id.0 as usize) {
+        Some(column) => column.has_room(place),
+        None => false,
+    }
 }
 
 /// Writes down that the column of the number is in use. The numbers stay in rising order.

@@ -1,6 +1,6 @@
 ghost use Rattle.std.specs.Prelude.{◌≡◌, ◌<◌, ◌≤◌, ℕ, ℤ, OnOk, OnErr, IfSome, None, Some};
 ghost use Rattle.std.specs.Prelude.{slice_get, length};
-ghost use Rattle.std.specs.Prelude.{Contains};
+ghost use Rattle.std.specs.Prelude.{Contains, IsTrue};
 ghost use Rattle.std.specs.Ordering.{nat_cmp};
 ghost use Rattle.std.specs.List.{HoldsAt};
 ghost use Rattle.std.specs.FinMap as map;
@@ -85,6 +85,13 @@ impl SparseSet {
         }
     }
 
+    /// Whether there is room for one value more, and for one of the place.
+    pub fn has_room(&self, place: usize) -> bool
+        ensures { IsTrue result → HasRoomAt self.now place }
+    {
+        self.dense.len() < self.dense.capacity().min(MOST_PLACES) && place < self.sparse.len()
+    }
+
     /// Makes room for a value of the place. After an `Err` the values are as before.
     pub fn reserve(&mut self, place: usize) -> Result<(), AllocError>
         ensures values { self.new.values ≡ self.old.values }
@@ -96,6 +103,10 @@ impl SparseSet {
         }
         self.dense.reserve(1)?;
         if place < self.sparse.len() {
+            return Ok(());
+        }
+        if place == self.sparse.len() {
+            self.sparse.push(0)?;
             return Ok(());
         }
         let places = place.checked_add(1).ok_or(AllocError)?;
