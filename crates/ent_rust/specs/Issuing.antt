@@ -1,11 +1,15 @@
 -- What contracts see of a world in a phase, and of a system that issues commands in it.
-use Rattle.std.specs.Prelude.{◌≡◌, ◌≢◌, ◌<ℤ◌, ℕ, List, [], ◌∷◌, ◌++◌, Err, refl, All, AllPairs}
+use Rattle.std.specs.Prelude.{◌≡◌, ◌≢◌, ◌+◌, ◌*◌, ◌≤◌, ◌≤ℤ◌, ◌<ℤ◌, ℕ, List, [], ◌∷◌, ◌++◌}
+use Rattle.std.specs.Prelude.{Err, refl, All, AllPairs, length, sum_by}
 use Rattle.std.specs.Coded.{Coded, code_by, coded×, coded_ℕ, coded_list}
+use Rattle.ent_alloc.specs.Limits.{credit}
+use Rattle.ent_alloc.specs.Sequential.{cursor}
 use Rattle.ent_alloc.specs.History.{IsLegal, after_history, given_in}
 use Rattle.ent_alloc.specs.Sound.{IsLive}
 use Rattle.ent_shared.specs.Order.{reservations_of, history_of, Respects}
 use Rattle.ent_shared.specs.declared.refused.Refused.TheVariants.{Space, Quota}
-use Rattle.ent_shared.specs.Phase.{Shared, Reserver, reserver_code, IsOf, records_of}
+use Rattle.ent_shared.specs.Record.{requested_by}
+use Rattle.ent_shared.specs.Phase.{Shared, Reserver, reserver_code, IsOf, records_of, after_loss}
 use Rattle.ent_queue.specs.Command.{Command}
 use Rattle.ent_queue.specs.declared.fault.QueueFault.{QueueFault}
 use Rattle.ent_queue.specs.declared.fault.QueueFault.TheVariants as fault
@@ -13,7 +17,7 @@ use Rattle.ent_queue.specs.Reserving.{Gains, IsReturned}
 use Rattle.ent_queue.specs.contracts.queue.CommandQueue as queued
 use Rattle.ent_world.specs.OpenWorld.{OpenWorld, open_world_code}
 use Rattle.ent_world.specs.World.{World}
-use Rattle.ent_rust.specs.Sharing.{BringsToLife}
+use Rattle.ent_rust.specs.Sharing.{BringsToLife, AreTaken}
 
 -- the number by which phases are told apart, the world that is open, the reservers that no issuer
 -- has, and the queues that came home
@@ -74,6 +78,23 @@ pub record IsClosed (opened : OpenWorld) (home : List Reserver) (after : World) 
       (given_in (history_of (records_of home)))
   pub brings_to_life : BringsToLife opened.shared.start after.allocator
       (given_in (history_of (records_of home)))
+
+-- The phase ended with those of its reservers that are at home: the world is the one that was
+-- opened, and a front of the pool is reserved. It counts what these have requested, and of the
+-- others no more than their credit. It has all that these were given. If all are at home, the
+-- cursor is where their history leaves it.
+pub record IsClosedLost (opened : OpenWorld) (home : List Reserver) (after : World) : Type 0 where
+  pub phase : after.phase ≡ opened.phase
+  pub entities : after.entities ≡ opened.entities
+  pub allocator : after.allocator ≡ after_loss opened.shared.start after.allocator.asked
+  pub least : sum_by (λ (r : Reserver). requested_by r.own) home ≤ after.allocator.asked
+  pub most : sum_by (λ (r : Reserver). r.own.left) home + after.allocator.asked
+      ≤ opened.shared.count * credit
+  pub reached : All (λ (r : Reserver). cursor after.allocator ≤ℤ r.own.mark) home
+  pub whole : length home ≡ opened.shared.count
+      → cursor after.allocator
+      ≡ cursor (after_history opened.shared.start (history_of (records_of home)))
+  pub given : AreTaken after.allocator home
 
 -- each is stored as the tuple of its parts
 abbrev pub world_phase_code : Coded WorldPhase

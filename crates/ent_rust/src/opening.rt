@@ -5,7 +5,7 @@ ghost use Rattle.ent_shared.specs.Record.{opened_records};
 ghost use Rattle.ent_rust.specs.Holds.{HoldsOne, HoldsOther};
 ghost use Rattle.ent_rust.specs.Kinds.{BecomesOne, world_of, world_phase_of, issuer_of};
 ghost use Rattle.ent_rust.specs.Kinds.{batch_of, AreOfOnePhase};
-ghost use Rattle.ent_rust.specs.Issuing.{with_home, IsClosed};
+ghost use Rattle.ent_rust.specs.Issuing.{with_home, IsClosed, IsClosedLost};
 ghost use Rattle.ent_rust.specs.Answers.{done, is_empty, is_full, other_kind, needs_flush, no_memory};
 ghost use Rattle.ent_rust.specs.Answers.{no_count, none_home, other_phase, not_all_home, in_use, IsOneOf};
 
@@ -221,6 +221,59 @@ pub extern "C" fn ent_rust_world_close(
             put_world(phase, room, world);
             let batch = Batch {
                 queues: list,
+                stop: None,
+            };
+            put_batch(queues, made, batch);
+            DONE
+        }
+        Err(one) => {
+            put_world_phase(phase, room, one);
+            IN_USE
+        }
+    }
+}
+
+/// `OpenWorld::close_lost`, with the reservers that are at home. The other systems are lost, and
+/// their queues. The empty object gets the queues that came home, in the order in which they came:
+/// they are applied as those of any phase.
+#[unsafe(no_mangle)]
+pub extern "C" fn ent_rust_world_close_lost(
+    alloc: Global,
+    phase: &mut Object,
+    queues: &mut Object,
+) -> u32
+    ensures closed { result ≡ done → HoldsOne world_phase_of phase.old.place.holds (λ p.
+        HoldsOne world_of phase.new.place.holds (λ w. IsClosedLost p.world p.home w)) }
+    ensures queues { result ≡ done → HoldsOne world_phase_of phase.old.place.holds (λ p.
+        HoldsOne batch_of queues.new.place.holds (λ b.
+        b ≡ record { queues = p.queues; stop = None })) }
+    ensures full { result ≡ is_full ↔ HoldsOne world_phase_of phase.old.place.holds (λ _.
+        IsSome queues.old.place.holds) }
+    ensures empty { result ≡ is_empty ↔ phase.old.place.holds ≡ None }
+    ensures other { result ≡ other_kind ↔ HoldsOther world_phase_of phase.old.place.holds }
+    ensures refused { result ≢ done → (phase.new.place.holds ≡ phase.old.place.holds)
+        × (queues.new.place.holds ≡ queues.old.place.holds) }
+    ensures code { IsOneOf (done ∷ is_full ∷ in_use ∷ no_memory ∷ is_empty ∷ other_kind ∷ [])
+        result }
+{
+    let (room, one) = match take_world_phase(alloc, phase) {
+        Ok(taken) => taken,
+        Err(code) => return code,
+    };
+    if queues.is_full() {
+        put_world_phase(phase, room, one);
+        return IS_FULL;
+    }
+    // The box first, so that no queue is lost.
+    let Ok(made) = Box::new(alloc, Held::Nothing) else {
+        put_world_phase(phase, room, one);
+        return NO_MEMORY;
+    };
+    match one.close_lost() {
+        Ok((world, home)) => {
+            put_world(phase, room, world);
+            let batch = Batch {
+                queues: home,
                 stop: None,
             };
             put_batch(queues, made, batch);

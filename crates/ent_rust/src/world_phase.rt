@@ -2,7 +2,7 @@ ghost use Rattle.std.specs.Prelude.{◌≡◌, ◌<◌, ◌≤◌, ◌∷◌, []
 ghost use Rattle.std.specs.Prelude.{IfSome, IfNone};
 ghost use Rattle.ent_shared.specs.Phase.{records_of, IsOf};
 ghost use Rattle.ent_shared.specs.Record.{opened_records};
-ghost use Rattle.ent_rust.specs.Issuing.{IsClosed};
+ghost use Rattle.ent_rust.specs.Issuing.{IsClosed, IsClosedLost};
 
 use crate::issuer::Issuer;
 use ent_queue::{CommandQueue, Commands};
@@ -173,6 +173,30 @@ impl WorldPhase {
             }),
         }
     }
+
+    /// Ends the phase with the reservers that are at home: the world and the queues, or the phase
+    /// as it was if an issuer is still somewhere.
+    pub(crate) fn close_lost(self) -> Result<(World, Vec<CommandQueue>), WorldPhase>
+        ensures queues { IfOk result (λ made. made.1.items ≡ self.queues) }
+        ensures world { IfOk result (λ made. IsClosedLost self.world self.home made.0) }
+        ensures err { IfErr result (λ back. back ≡ self) }
+    {
+        let WorldPhase {
+            world,
+            home,
+            queues,
+            number,
+        } = self;
+        match Arc::try_unwrap(world) {
+            Ok(opened) => Ok((close_some(opened, home), queues)),
+            Err(world) => Err(WorldPhase {
+                world,
+                home,
+                queues,
+                number,
+            }),
+        }
+    }
 }
 
 /// `OpenWorld::close`, with all that it ensures as one fact.
@@ -182,4 +206,12 @@ fn close_all(opened: OpenWorld, home: Vec<Reserver>) -> World
     ensures { IsClosed opened home.items result }
 {
     opened.close(home)
+}
+
+/// `OpenWorld::close_lost`, with all that it ensures as one fact.
+fn close_some(opened: OpenWorld, home: Vec<Reserver>) -> World
+    requires { All (IsOf opened.shared) home.items }
+    ensures { IsClosedLost opened home.items result }
+{
+    opened.close_lost(home)
 }

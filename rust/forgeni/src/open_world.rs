@@ -78,10 +78,35 @@ impl OpenWorld {
     /// The phase and the queues come back. `Missing` if the queue of a system isn't there;
     /// `OtherPhase` if one is of another phase; `Memory`.
     pub fn close(self, queues: Vec<CommandQueue>) -> Result<(World, Queues), Unfinished> {
-        let Self { mut kept } = self;
+        let mut open = self.with_home(queues)?;
+        let closed = open.kept.world_close();
+        open.ended(closed)
+    }
+
+    /// Ends the phase although some systems are lost: their [`Commands`] or queues were dropped, as
+    /// by a thread that panicked. The queues of the others take effect in their order here, and are
+    /// numbered so. What a lost system issued is gone.
+    ///
+    /// Which of its requests were refused is lost too. So the front of the pool counts as
+    /// reserved, as far as requests went, and the next sync point or flush also brings to life
+    /// those handles that nobody got, and those of the lost system, all without components.
+    ///
+    /// # Errors
+    ///
+    /// The phase and the queues come back, as from [`close`](Self::close). `Missing` as long as the
+    /// `Commands` or the queue of a system exists that wasn't handed in: one that was given to
+    /// [`std::mem::forget`] exists for good. `OtherPhase` if a queue is of another phase; `Memory`.
+    pub fn close_lost(self, queues: Vec<CommandQueue>) -> Result<(World, Queues), Unfinished> {
+        let mut open = self.with_home(queues)?;
+        let closed = open.kept.world_close_lost();
+        open.ended(closed)
+    }
+
+    /// Takes these queues home, up to the first that is refused.
+    fn with_home(mut self, queues: Vec<CommandQueue>) -> Result<Self, Unfinished> {
         let mut left = queues.into_iter();
         while let Some(mut queue) = left.next() {
-            let why = match kept.world_finish(&mut queue.kept) {
+            let why = match self.kept.world_finish(&mut queue.kept) {
                 ffi::DONE => continue,
                 ffi::OTHER_PHASE => FinishError::OtherPhase,
                 ffi::NO_MEMORY => FinishError::Memory,
@@ -89,17 +114,22 @@ impl OpenWorld {
             };
             let mut queues = vec![queue];
             queues.extend(left);
-            let open = Self { kept };
+            let open = self;
             return Err(Unfinished { open, queues, why });
         }
-        let why = match kept.world_close() {
-            Ok(queues) => return Ok((World { kept }, Queues { kept: queues })),
+        Ok(self)
+    }
+
+    /// The world and its queues, or why the phase, which holds them all, goes on.
+    fn ended(self, closed: Result<Object, u32>) -> Result<(World, Queues), Unfinished> {
+        let why = match closed {
+            Ok(queues) => return Ok((World { kept: self.kept }, Queues { kept: queues })),
             Err(ffi::NOT_ALL_HOME | ffi::IN_USE) => FinishError::Missing,
             Err(ffi::NO_MEMORY) => FinishError::Memory,
             Err(code) => unknown(code),
         };
         Err(Unfinished {
-            open: Self { kept },
+            open: self,
             queues: Vec::new(),
             why,
         })
@@ -248,7 +278,8 @@ impl fmt::Debug for Commands {
     }
 }
 
-/// The commands of one system, in the order of issue. [`OpenWorld::close`] takes it.
+/// The commands of one system, in the order of issue. [`OpenWorld::close`] and
+/// [`OpenWorld::close_lost`] take it.
 pub struct CommandQueue {
     kept: Object,
 }
@@ -350,7 +381,8 @@ impl Error for Unopened {}
 /// Why a phase was not closed.
 #[derive(Clone, Copy, Debug, PartialEq, Eq, Hash)]
 pub enum FinishError {
-    /// The queue of a system is missing.
+    /// The queue of a system is missing. From [`OpenWorld::close_lost`]: a system that wasn't
+    /// handed in still exists.
     Missing,
     /// A queue is of another phase.
     OtherPhase,

@@ -127,6 +127,40 @@ fn a_phase_wants_all_its_queues() {
     assert!(world.is_empty());
 }
 
+/// A system that panicked is lost with its commands. What it had reserved comes to life.
+#[test]
+fn a_phase_ends_without_a_lost_system() {
+    let (open, mut systems) = World::new().open(2).expect("a phase");
+    let mut lost = systems.pop().expect("a system");
+    let mut other = systems.pop().expect("a system");
+    let left = open.close_lost(Vec::new()).expect_err("both exist");
+    assert_eq!((left.why, left.queues.len()), (FinishError::Missing, 0));
+
+    let panicked = std::thread::spawn(move || {
+        let handle = lost.spawn(&[(HP, 1)]).expect("a handle");
+        assert_eq!(handle, handle_of_the_other(), "a panic that is meant");
+    });
+    assert!(panicked.join().is_err());
+    let mine = other.spawn(&[(SPEED, 3)]).expect("a handle");
+    assert_eq!(mine, handle_of_the_other());
+    let left = left.open.close(vec![other.finish()]).expect_err("one lost");
+    assert_eq!((left.why, left.queues.len()), (FinishError::Missing, 0));
+
+    let (mut world, queues) = left.open.close_lost(Vec::new()).expect("one lost");
+    assert!(world.needs_flush());
+    let report = world.apply(queues).expect("memory");
+    assert_eq!(report.faults(), []);
+    assert!(!world.needs_flush());
+    assert_eq!(world.items(mine), Some(vec![(SPEED, 3)]));
+    assert_eq!(world.items(handle(0, 1)), Some(vec![]));
+    assert_eq!((world.len(), world.phase()), (2, 1));
+}
+
+/// The second handle of a new world.
+fn handle_of_the_other() -> forgeni::Handle {
+    handle(1, 1)
+}
+
 #[test]
 fn a_world_is_opened_for_some_systems() {
     let refused = World::new().open(0).expect_err("no system");

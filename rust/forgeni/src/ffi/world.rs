@@ -108,6 +108,7 @@ extern "C" {
     fn ent_rust_commands_despawn(object: *mut Raw, index: u32, generation: u32) -> u32;
     fn ent_rust_world_finish(phase: *mut Raw, commands: *mut Raw) -> u32;
     fn ent_rust_world_close(phase: *mut Raw, queues: *mut Raw) -> u32;
+    fn ent_rust_world_close_lost(phase: *mut Raw, queues: *mut Raw) -> u32;
     fn ent_rust_apply(world: *mut Raw, queues: *mut Raw, report: *mut Raw) -> SyncAnswer;
     fn ent_rust_go_on(world: *mut Raw, queues: *mut Raw, report: *mut Raw) -> SyncAnswer;
     fn ent_rust_report_counts(object: *mut Raw) -> ReportCounts;
@@ -221,6 +222,18 @@ impl Object {
         let mut queues = Self::empty();
         // SAFETY: both objects are ours alone, and the second is empty.
         let code = unsafe { ent_rust_world_close(self.alone(), queues.alone()) };
+        if code == DONE {
+            Ok(queues)
+        } else {
+            Err(code)
+        }
+    }
+
+    /// The phase becomes the world again, although systems may be lost. Returns as `world_close`.
+    pub(crate) fn world_close_lost(&mut self) -> Result<Self, u32> {
+        let mut queues = Self::empty();
+        // SAFETY: as at `world_close`.
+        let code = unsafe { ent_rust_world_close_lost(self.alone(), queues.alone()) };
         if code == DONE {
             Ok(queues)
         } else {
