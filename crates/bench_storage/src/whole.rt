@@ -38,9 +38,11 @@ impl Whole {
             ordinal: value,
         };
         let handle = self.entities.alloc().ok()?;
+        // Who is born gets the place after all others, so no look-up is needed.
+        let place = self.storage.len();
         self.storage.born(handle, birth).ok()?;
         self.storage
-            .insert(handle, &[(VALUE, i64::from(value))])
+            .insert_at(place, handle, &[(VALUE, i64::from(value))])
             .ok()?;
         self.handles.push(handle).ok()
     }

@@ -29,6 +29,9 @@ row mixed 1000000 1 2 4
 row names 1000000 1
 row each 1000000 1
 row crowd 1000000 1 4
+# A frame of 128 systems that spawn ten thousand entities each, one by one and all at once.
+row spawns 1280000 1 2 4
+row flocks 1280000 1 2 4
 # Worlds in which one system names ten thousand entities by their births.
 row births 1000 1
 row births 100000 1

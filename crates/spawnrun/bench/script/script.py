@@ -13,6 +13,7 @@ import sys
 SEED = 20241122
 COMPONENTS = ["hp", "mp", "speed", "age"]
 MOST = 65_536  # handles that one operation may ask for
+SPAWNS = 10_000  # by each system of the shapes `spawns` and `flocks`
 NAMED = 10_000  # births that a system of the shape `births` names
 
 
@@ -159,6 +160,17 @@ def crowd(system, choice):
         system.despawn({"each": "mp"})
 
 
+def spawns(system, choice):
+    """Many systems spawn ten thousand entities each, one by one."""
+    for hp in range(SPAWNS):
+        system.spawn({"hp": hp})
+
+
+def flocks(system, choice):
+    """Many systems spawn ten thousand entities each, all at once."""
+    system.spawn_many(SPAWNS, {"hp": 8})
+
+
 def births(system, choice):
     """So many entities come at once, and then a system names ten thousand births, a fifth of them nobody's."""
     least = system.world.least
@@ -176,6 +188,8 @@ SHAPES = {
     "names": (names, 4, 1),
     "each": (each, 4, 1),
     "crowd": (crowd, 8, 1),
+    "spawns": (spawns, 128, 1),
+    "flocks": (flocks, 128, 1),
     "births": (births, 1, 2),
 }
 
