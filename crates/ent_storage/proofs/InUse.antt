@@ -38,6 +38,15 @@ in_use_changed used old new longer kept in_use = record {
     by n (inl there) = inl there
     by n (inr none) = kept n none
 
+-- a column that has had room is in use
+pub in_use_with_room : (used : List ℕ) (columns : List Column) (n : ℕ) → AreInUse used columns
+    → 0 < (column_at columns n).places → Contains used n
+in_use_with_room used columns n in_use room = by (in_use.rest n)
+  where
+    by : Contains used n ⊎ (column_at columns n ≡ no_column) → Contains used n
+    by (inl there) = there
+    by (inr none) = absurd (omega (arith, room, ap (λ (c : Column). c.places) none))
+
 -- ---- a number is put in its gap
 
 pub rising_from_start : (used : List ℕ) → AllPairs (λ a b. a < b) used → (i j : ℕ) → i ≤ j

@@ -19,6 +19,7 @@ pub fn value(columns: &[SparseSet], place: usize, id: ComponentId) -> Option<i64
 }
 
 /// Makes room for the items at the place. After an `Err` all values are as before.
+#[inline(always)]
 pub fn reserve_all(
     columns: &mut Vec<SparseSet>,
     used: &mut Vec<u8>,
@@ -43,6 +44,7 @@ pub fn reserve_all(
 }
 
 /// Makes room for a value of the component at the place. It takes memory only if there is none.
+#[inline(always)]
 fn reserve(
     columns: &mut Vec<SparseSet>,
     used: &mut Vec<u8>,
@@ -64,10 +66,8 @@ fn reserve(
     if has_room(columns, place, id) || value(columns, place, id).is_some() {
         return Ok(());
     }
-    let number = id.0 as usize;
-    grow(columns, alloc, number + 1)?;
-    mark(used, id.0)?;
-    columns[number].reserve(place)
+    put_in_use(columns, used, alloc, id)?;
+    columns[id.0 as usize].reserve(place)
 }
 
 /// Whether a value of the component can be set at the place without memory. It may say no of a place
@@ -81,7 +81,43 @@ fn has_room(columns: &[SparseSet], place: usize, id: ComponentId) -> bool
     }
 }
 
+/// Makes the component's column one that is there and in use. All values are as before.
+#[inline(always)]
+fn put_in_use(
+    columns: &mut Vec<SparseSet>,
+    used: &mut Vec<u8>,
+    alloc: Global,
+    id: ComponentId,
+) -> Result<(), AllocError>
+    requires numbered { length columns.old.items ≤ 256 }
+    requires in_use { AreInUse used.old.items columns.old.items }
+    ensures in_use { AreInUse used.new.items columns.new.items }
+    ensures same { (number : ℕ) → column_at columns.new.items number
+        ≡ column_at columns.old.items number }
+    ensures there { OnOk result (id.0 < length columns.new.items) }
+    ensures ok { OnOk result (Contains used.new.items id.0) }
+    ensures numbered { length columns.new.items ≤ 256 }
+{
+    if is_in_use(columns, id) {
+        return Ok(());
+    }
+    grow(columns, alloc, id.0 as usize + 1)?;
+    mark(used, id.0)
+}
+
+/// Whether the component's column has had room before, and so is there and in use.
+fn is_in_use(columns: &[SparseSet], id: ComponentId) -> bool
+    ensures there { IsTrue result → id.0 < length columns.now }
+    ensures places { IsTrue result → 0 < (column_at columns.now id.0).places }
+{
+    match columns.get(id.0 as usize) {
+        Some(column) => column.has_places(),
+        None => false,
+    }
+}
+
 /// Writes down that the column of the number is in use. The numbers stay in rising order.
+#[inline(never)]
 fn mark(used: &mut Vec<u8>, number: u8) -> Result<(), AllocError>
     ensures in_use { (columns : List Column) → number < length columns
         → AreInUse used.old.items columns → AreInUse used.new.items columns }
@@ -94,6 +130,7 @@ fn mark(used: &mut Vec<u8>, number: u8) -> Result<(), AllocError>
 }
 
 /// Adds columns without values until there are that many.
+#[inline(never)]
 fn grow(columns: &mut Vec<SparseSet>, alloc: Global, count: usize) -> Result<(), AllocError>
     requires numbered { length columns.old.items ≤ 256 }
     requires count { count ≤ 256 }
@@ -110,6 +147,7 @@ fn grow(columns: &mut Vec<SparseSet>, alloc: Global, count: usize) -> Result<(),
 }
 
 /// Sets each of the items at the place. There has to be room for them.
+#[inline(always)]
 pub fn set_all(columns: &mut [SparseSet], place: usize, items: &[(ComponentId, i64)])
     requires { All (λ item. HasRoomAt (column_at columns.old item.0.0) place) items.now }
     ensures here { components_at columns.new place
@@ -138,6 +176,7 @@ fn set(columns: &mut [SparseSet], place: usize, item: (ComponentId, i64))
 }
 
 /// Takes the value of one component at the place out, and returns it.
+#[inline(always)]
 pub fn remove(columns: &mut [SparseSet], place: usize, id: ComponentId) -> Option<i64>
     ensures value { result ≡ value_at columns.old place id }
     ensures here { components_at columns.new place
@@ -158,6 +197,7 @@ pub fn remove(columns: &mut [SparseSet], place: usize, id: ComponentId) -> Optio
 
 /// Takes all values at the place out, and moves those at the last place there. Only the columns in
 /// use are looked at.
+#[inline(always)]
 pub fn swap_remove(columns: &mut [SparseSet], used: &[u8], place: usize, last: usize)
     requires before { place ≤ last }
     requires in_use { AreInUse used.now columns.old }

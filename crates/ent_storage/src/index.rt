@@ -54,6 +54,7 @@ impl Index {
     }
 
     /// The place of the entity, if it is among the living.
+    #[inline(always)]
     pub fn place(&self, living: &Living, handle: Handle) -> Option<usize>
         ensures { result ≡ map.get (counted living.now.entities self.now.by_handle) handle }
     {
@@ -65,6 +66,7 @@ impl Index {
     /// did: not if the living have the entity already. It takes no memory.
     ///
     /// The handle is looked for once, and once more only if pairs have to be dropped.
+    #[inline(always)]
     pub fn put(&mut self, living: &Living, handle: Handle) -> bool
         requires room { length living.now.entities < self.old.room }
         ensures new { result
@@ -86,6 +88,7 @@ impl Index {
     }
 
     /// Changes the place of an entity that is there.
+    #[inline(always)]
     pub fn set_place(&mut self, handle: Handle, place: usize)
         requires there { IsSome (map.get self.old.by_handle handle) }
         requires room { place < self.old.room }
@@ -121,6 +124,7 @@ impl Index {
 }
 
 /// The place in the pair that was found, if one was, and it counts.
+#[inline(always)]
 fn place_found(
     pairs: &[(Handle, u32)],
     living: &Living,
@@ -144,6 +148,7 @@ fn place_found(
 }
 
 /// Drops the pairs that don't count. It takes no memory.
+#[inline(never)]
 fn sweep(pairs: &mut Vec<(Handle, u32)>, living: &Living)
     requires { T (map.is_sorted handle_cmp pairs.old.items) }
     ensures sorted { T (map.is_sorted handle_cmp pairs.new.items) }
@@ -157,6 +162,7 @@ fn sweep(pairs: &mut Vec<(Handle, u32)>, living: &Living)
 
 /// Puts a pair where its handle was found, or into the gap for it. If there is no room for one pair
 /// more, some pairs don't count. Then it drops those, and looks for the handle again.
+#[inline(always)]
 fn put_found(
     pairs: &mut Vec<(Handle, u32)>,
     living: &Living,
@@ -184,6 +190,7 @@ fn put_found(
 }
 
 /// Puts a pair where its handle was found, or into the gap for it.
+#[inline(always)]
 fn put_at(
     pairs: &mut Vec<(Handle, u32)>,
     living: &Living,
@@ -209,6 +216,7 @@ fn put_at(
 
 /// Puts a pair into the gap for it: over a pair beside the gap that doesn't count, or between the
 /// two.
+#[inline(always)]
 fn put_in_gap(pairs: &mut Vec<(Handle, u32)>, living: &Living, position: usize, pair: (Handle, u32))
     requires sorted { T (map.is_sorted handle_cmp pairs.old.items) }
     requires gap { IsGapFor handle_cmp pairs.old.items pair.0 position }
@@ -234,6 +242,7 @@ fn put_in_gap(pairs: &mut Vec<(Handle, u32)>, living: &Living, position: usize, 
 ///
 /// The pair of the same slot comes first, so that the slots' pairs stay at their numbers. At the
 /// end a new pair moves nothing, so it takes over no other slot's.
+#[inline(always)]
 fn taken_over(
     pairs: &[(Handle, u32)],
     living: &Living,

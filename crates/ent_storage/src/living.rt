@@ -157,6 +157,7 @@ impl Living {
     }
 
     /// Takes the entity at the place out, and moves the last one there. It takes no memory.
+    #[inline(always)]
     pub fn swap_remove(&mut self, place: usize)
         requires { place < length self.old.entities }
         ensures entities { IsMovedInto self.old.entities place self.new.entities }
@@ -169,6 +170,7 @@ impl Living {
 
     /// Sets each of the items of the entity at the place, the first item first. After an `Err`
     /// nothing is changed.
+    #[inline(always)]
     pub fn insert(&mut self, place: usize, items: &[(ComponentId, i64)]) -> Result<(), AllocError>
         requires { place < length self.old.entities }
         ensures ok { OnOk result (self.new.entities

@@ -50,6 +50,7 @@ impl Storage {
     }
 
     /// The place of the entity, if it is there. It stays until an entity is taken out.
+    #[inline(always)]
     pub fn place(&self, handle: Handle) -> Option<usize>
         ensures at { (i : ℕ) → (result ≡ Some i) ↔ (slice_get self.now.places i ≡ Some handle) }
         ensures there { is_some result ≡ map.contains_key self.now.entities handle }
@@ -59,6 +60,7 @@ impl Storage {
 
     /// The value of a component of the entity at a place, whose handle has to be this one. It takes
     /// constant time.
+    #[inline(always)]
     pub fn get_at(&self, place: usize, handle: Handle, id: ComponentId) -> Option<i64>
         requires { slice_get self.now.places place ≡ Some handle }
         ensures { result ≡ value_of self.now.entities handle id }

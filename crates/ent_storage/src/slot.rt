@@ -10,25 +10,30 @@ use ent_sorted::search;
 
 /// The position of the handle, or the position where it would go. It is looked for at its slot's
 /// number first, and only then by a binary search.
+#[inline(always)]
 pub fn search_slot(pairs: &[(Handle, u32)], handle: Handle) -> Result<usize, usize>
     requires { T (is_sorted handle_cmp pairs.now) }
     ensures found { IfOk result (IsAt handle_cmp pairs.now handle) }
     ensures absent { IfErr result (IsGapFor handle_cmp pairs.now handle) }
 {
     let slot = handle.index() as usize;
-    if slot < pairs.len() && pairs[slot].0 == handle {
-        return Ok(slot);
+    if slot < pairs.len() {
+        if pairs[slot].0 == handle {
+            return Ok(slot);
+        }
+        // The next occupant of the slot goes behind the pair that stands there.
+        if is_gap(pairs, slot + 1, handle) {
+            return Err(slot + 1);
+        }
     }
     if is_gap(pairs, slot, handle) {
         return Err(slot);
-    }
-    if is_gap(pairs, slot + 1, handle) {
-        return Err(slot + 1);
     }
     search(pairs, handle)
 }
 
 /// Whether the handle would go to that position.
+#[inline(always)]
 fn is_gap(pairs: &[(Handle, u32)], position: usize, handle: Handle) -> bool
     requires { T (is_sorted handle_cmp pairs.now) }
     ensures { IsTrue result → IsGapFor handle_cmp pairs.now handle position }

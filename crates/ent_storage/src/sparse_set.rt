@@ -72,6 +72,7 @@ impl SparseSet {
     }
 
     /// Sets the value of the place. There has to be room for it if it has none.
+    #[inline(always)]
     pub fn set(&mut self, place: usize, value: i64)
         requires { HasRoomAt self.old place }
         ensures { self.new.values ≡ map.insert self.old.values place value }
@@ -83,6 +84,13 @@ impl SparseSet {
                 self.dense.push_reserved((place, value));
             }
         }
+    }
+
+    /// Whether there is room for any place.
+    pub fn has_places(&self) -> bool
+        ensures { IsTrue result → 0 < self.now.places }
+    {
+        !self.sparse.is_empty()
     }
 
     /// Whether there is room for one value more, and for one of the place.
@@ -114,6 +122,7 @@ impl SparseSet {
     }
 
     /// Takes the value of the place out, and returns it. It takes no memory.
+    #[inline(always)]
     pub fn remove(&mut self, place: usize) -> Option<i64>
         ensures value { result ≡ map.get self.old.values place }
         ensures after { self.new.values ≡ map.remove self.old.values place }
@@ -129,6 +138,7 @@ impl SparseSet {
 
     /// Moves the value of the later place, if it has one, to the earlier place, which has none. It
     /// takes no memory.
+    #[inline(always)]
     fn relocate(&mut self, from: usize, to: usize)
         requires before { to < from }
         requires free { map.get self.old.values to ≡ None }
@@ -142,6 +152,7 @@ impl SparseSet {
 
     /// Takes the value of the place out, and moves that of the last place there. It takes no
     /// memory.
+    #[inline(always)]
     pub fn swap_remove(&mut self, place: usize, last: usize)
         requires { place ≤ last }
         ensures { IsMovedDown place last self.old.values self.new.values }

@@ -141,6 +141,7 @@ impl Storage {
     /// - `Present`: the entity is there already. This is tested first.
     /// - `Memory`: `spare` is 0, and there is no memory for more, or there are 4,294,967,296
     ///   entities, which is the most.
+    #[inline(always)]
     pub fn born(&mut self, handle: Handle, birth: Birth) -> Result<(), StorageFault>
         ensures ok { OnOk result
             (self.new.entities ≡ map.insert self.old.entities handle (newborn birth)) }
@@ -163,6 +164,7 @@ impl Storage {
     }
 
     /// Adds an entity without components, if there is room for it. The index is searched once.
+    #[inline(always)]
     fn born_within(&mut self, handle: Handle, birth: Birth) -> Result<(), StorageFault>
         requires room { 0 < self.old.spare }
         ensures ok { OnOk result
@@ -190,6 +192,7 @@ impl Storage {
     /// # Errors
     ///
     /// `Absent`: the entity is not there. Nothing is changed.
+    #[inline(always)]
     pub fn despawn(&mut self, handle: Handle) -> Result<(), StorageFault>
         ensures ok { OnOk result (self.new.entities ≡ map.remove self.old.entities handle) }
         ensures spare { OnOk result (self.new.spare ≡ self.old.spare + 1) }
@@ -215,6 +218,7 @@ impl Storage {
     ///
     /// The time is that of a look-up, for the entity that moves, and of a look at each component
     /// that any entity has ever had.
+    #[inline(always)]
     pub fn despawn_at(&mut self, place: usize, handle: Handle) -> Option<Handle>
         requires { slice_get self.old.places place ≡ Some handle }
         ensures entities { self.new.entities ≡ map.remove self.old.entities handle }
@@ -243,6 +247,7 @@ impl Storage {
     ///
     /// - `Absent`: the entity is not there.
     /// - `Memory`: there is no memory for the components that the entity does not have yet.
+    #[inline(always)]
     pub fn insert(
         &mut self,
         handle: Handle,
@@ -279,6 +284,7 @@ impl Storage {
     ///
     /// `Memory`: there is no memory for the components that the entity does not have yet. Nothing
     /// is changed.
+    #[inline(always)]
     pub fn insert_at(
         &mut self,
         place: usize,
@@ -327,6 +333,7 @@ impl Storage {
     /// Takes the component out of the entity at a place, whose handle has to be this one, and
     /// returns the value that it had, or `None` if the entity does not have it. It takes no memory
     /// and constant time.
+    #[inline(always)]
     pub fn remove_at(&mut self, place: usize, handle: Handle, id: ComponentId) -> Option<i64>
         requires { slice_get self.old.places place ≡ Some handle }
         ensures value { result ≡ value_of self.old.entities handle id }
