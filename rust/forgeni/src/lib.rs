@@ -61,7 +61,7 @@
 //! - Reservers of two phases don't [meet](Reserver::meet): [`OtherPhase`], and nothing has changed.
 //! - A thread panics, and its reserver is dropped: `close` says what is missing, and
 //!   [`close_lost`](Shared::close_lost) ends the phase. The handles of the lost reserver come to
-//!   life too.
+//!   life too. [`OpenWorld::close_lost`] does the same for a world, with the queues of the others.
 //! - A reserver that is forgotten ([`std::mem::forget`]) counts as in use for good. The phase goes
 //!   on, and can't be closed.
 //! - The `Shared` is dropped: its reservers still reserve, and the allocator goes with the last of
