@@ -1,6 +1,7 @@
-"""Runs `spawnrun run` on a script and prints its row of the table, or stops at a wrong report.
+"""Runs `spawnrun run` on a script, by each of these numbers of workers in turns, and prints their rows of the table. It stops
+at a wrong report.
 
-usage: measure.py PROGRAM SHAPE WORKERS COMMANDS SCRIPT REPORT
+usage: measure.py PROGRAM SHAPE COMMANDS SCRIPT REPORT WORKERS..
 """
 
 import fcntl
@@ -12,7 +13,7 @@ import time
 from itertools import zip_longest
 from pathlib import Path
 
-RUNS = 5
+RUNS = 7
 PAGE = 4096  # the least that a pipe holds
 
 
@@ -54,17 +55,22 @@ def peak_memory(command, script):
     return 1024 * int(re.search(r"VmHWM:\s*(\d+) kB", status)[1])
 
 
-def main(program, shape, workers, commands, script, report):
-    command, commands, script = [program, "run", "--workers", workers], int(commands), Path(script)
+def main(program, shape, commands, script, report, *workers):
+    commands, script = int(commands), Path(script)
     wanted, length = Path(report).read_bytes(), script.stat().st_size
     if len(wanted) <= PAGE + 1:
         sys.exit("the report is too short to tell the memory")
-    least = min(nanoseconds(command, script, wanted) for _ in range(RUNS))
-    peak = peak_memory(command, script)
-    print(
-        f"| {shape} | {workers} | {commands:,} | {length:,} | {len(wanted):,} | {least / 1e6:,.1f} | {least / commands:,.0f}"
-        f" | {peak / 2**20:,.1f} | {peak / commands:,.0f} |"
-    )
+    sides = {count: [program, "run", "--workers", count] for count in workers}
+    times = {count: [] for count in workers}
+    for _ in range(RUNS):
+        for count, command in sides.items():
+            times[count].append(nanoseconds(command, script, wanted))
+    for count, command in sides.items():
+        least, peak = min(times[count]), peak_memory(command, script)
+        print(
+            f"| {shape} | {count} | {commands:,} | {length:,} | {len(wanted):,} | {least / 1e6:,.1f} | {least / commands:,.0f}"
+            f" | {peak / 2**20:,.1f} | {peak / commands:,.0f} |"
+        )
 
 
 if __name__ == "__main__":

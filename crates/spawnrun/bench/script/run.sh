@@ -1,7 +1,8 @@
 #!/bin/sh
 # Builds the program of crates/spawnrun, runs `spawnrun run` on scripts of several lengths and shapes, and prints the
-# table of times and memory. A report that is not what the model in script.py says ends it.
-# It needs `rt` and `python3` on the path, Linux, and 100 MB for temporary files.
+# table of times and memory. A report that is not what the model in script.py says ends it. Then it runs texts of the
+# greatest length, of which two are no scripts, and prints the table of these.
+# It needs `rt` and `python3` on the path, Linux, and 300 MB for temporary files.
 set -eu
 here=$(cd "$(dirname "$0")" && pwd)
 crate=$here/../..
@@ -13,9 +14,7 @@ row() {
     shape=$1 least=$2
     shift 2
     commands=$(python3 "$here/script.py" "$least" "$shape" --report "$out/report" 2>&1 >"$out/script")
-    for workers; do
-        python3 "$here/measure.py" "$crate/out/spawnrun" "$shape" "$workers" "$commands" "$out/script" "$out/report"
-    done
+    python3 "$here/measure.py" "$crate/out/spawnrun" "$shape" "$commands" "$out/script" "$out/report" "$@"
 }
 
 echo '{"components":[],"frames":[]}' >"$out/empty"
@@ -36,3 +35,5 @@ row flocks 1280000 1 2 4
 row births 1000 1
 row births 100000 1
 row births 1000000 1
+echo
+python3 "$here/long.py" "$crate/out/spawnrun"
