@@ -84,8 +84,8 @@ impl OpenWorld {
     }
 
     /// Ends the phase although some systems are lost: their [`Commands`] or queues were dropped, as
-    /// by a thread that panicked. The queues of the others take effect in their order here, and are
-    /// numbered so. What a lost system issued is gone.
+    /// by a thread that panicked. The queues of the others take effect in their order here, which
+    /// also numbers their systems in births and faults. What a lost system issued is gone.
     ///
     /// Which of its requests were refused is lost too. So the front of the pool counts as
     /// reserved, as far as requests went, and the next sync point or flush also brings to life
