@@ -12,8 +12,7 @@ use crate::answer::{
     DONE, IS_FULL, IS_STOPPED, NEEDS_FLUSH, NO_MEMORY, NOT_FRESH, NOT_STOPPED, TOO_MANY,
 };
 use crate::batch::Batch;
-use crate::held::Held;
-use crate::object::Object;
+use crate::object::{Object, new_room};
 use crate::stop::Stop;
 use crate::taking::{put_batch, put_report, put_world, take_batch, take_world};
 use ent_world::World;
@@ -123,7 +122,7 @@ pub extern "C" fn ent_rust_apply(
         return SyncAnswer::none(code);
     }
     // The box first, so that the report has room.
-    let Ok(made) = Box::new(alloc, Held::Nothing) else {
+    let Some(made) = new_room(alloc) else {
         put_world(world, room, one);
         put_batch(queues, list, batch);
         return SyncAnswer::none(NO_MEMORY);
@@ -230,7 +229,7 @@ pub extern "C" fn ent_rust_go_on(
         return SyncAnswer::none(code);
     }
     // The box first, so that the report has room.
-    let Ok(made) = Box::new(alloc, Held::Nothing) else {
+    let Some(made) = new_room(alloc) else {
         put_world(world, room, one);
         put_batch(queues, list, batch);
         return SyncAnswer::none(NO_MEMORY);

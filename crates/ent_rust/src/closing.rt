@@ -12,11 +12,10 @@ ghost use Rattle.ent_rust.specs.Holds.{Holds, HoldsPhase, HoldsOther, phase_of};
 ghost use Rattle.ent_rust.specs.Sharing.{BringsToLife, AreTaken};
 ghost use Rattle.ent_rust.specs.Answers.{done, is_empty, other_kind, not_all_home, in_use, IsOneOf};
 
-use crate::answer::{DONE, IN_USE, IS_EMPTY, NOT_ALL_HOME, OTHER_KIND};
-use crate::held::Held;
+use crate::answer::{DONE, IN_USE, NOT_ALL_HOME};
 use crate::object::Object;
+use crate::taking::{put_entities, put_phase, take_phase};
 use std::alloc::Global;
-use std::mem::replace;
 
 /// `Shared::close`, if all reservers are at home.
 #[unsafe(no_mangle)]
@@ -54,29 +53,21 @@ pub extern "C" fn ent_rust_close(alloc: Global, object: &mut Object) -> u32
     ensures refused { result ≢ done → object.new.place.holds ≡ object.old.place.holds }
     ensures code { IsOneOf (done ∷ is_empty ∷ other_kind ∷ not_all_home ∷ in_use ∷ []) result }
 {
-    let Some(mut held) = object.take(alloc) else {
-        return IS_EMPTY;
+    let (room, phase) = match take_phase(alloc, object) {
+        Ok(taken) => taken,
+        Err(code) => return code,
     };
-    let Held::Phase(one) = &*held else {
-        object.put(held);
-        return OTHER_KIND;
-    };
-    if one.at_home() != one.count() {
-        object.put(held);
+    if phase.at_home() != phase.count() {
+        put_phase(object, room, phase);
         return NOT_ALL_HOME;
     }
-    let Held::Phase(one) = replace(&mut *held, Held::Nothing) else {
-        unreachable!()
-    };
-    match one.end() {
+    match phase.end() {
         Ok((shared, home)) => {
-            *held = Held::Entities(shared.close(home));
-            object.put(held);
+            put_entities(object, room, shared.close(home));
             DONE
         }
-        Err(one) => {
-            *held = Held::Phase(one);
-            object.put(held);
+        Err(phase) => {
+            put_phase(object, room, phase);
             IN_USE
         }
     }
@@ -115,25 +106,17 @@ pub extern "C" fn ent_rust_close_lost(alloc: Global, object: &mut Object) -> u32
     ensures refused { result ≢ done → object.new.place.holds ≡ object.old.place.holds }
     ensures code { IsOneOf (done ∷ is_empty ∷ other_kind ∷ in_use ∷ []) result }
 {
-    let Some(mut held) = object.take(alloc) else {
-        return IS_EMPTY;
+    let (room, phase) = match take_phase(alloc, object) {
+        Ok(taken) => taken,
+        Err(code) => return code,
     };
-    let Held::Phase(_) = &*held else {
-        object.put(held);
-        return OTHER_KIND;
-    };
-    let Held::Phase(one) = replace(&mut *held, Held::Nothing) else {
-        unreachable!()
-    };
-    match one.end() {
+    match phase.end() {
         Ok((shared, home)) => {
-            *held = Held::Entities(shared.close_lost(home));
-            object.put(held);
+            put_entities(object, room, shared.close_lost(home));
             DONE
         }
-        Err(one) => {
-            *held = Held::Phase(one);
-            object.put(held);
+        Err(phase) => {
+            put_phase(object, room, phase);
             IN_USE
         }
     }

@@ -58,6 +58,20 @@ impl Object {
             place: Place::of_parts(Parts::of(sent(held))),
         };
     }
+
+    /// Puts this into the object, in a box that is there already.
+    pub(crate) fn put_in(&mut self, mut room: Box<Held, Global>, held: Held)
+        ensures { self.new.place.holds ≡ Some held }
+    {
+        *room = held;
+        self.put(room);
+    }
+}
+
+/// A box for what an object is to hold, if there is memory.
+pub(crate) fn new_room(alloc: Global) -> Option<Box<Held, Global>>
+{
+    Box::new(alloc, Held::Nothing).ok()
 }
 
 /// What an object holds may be taken out on another thread.

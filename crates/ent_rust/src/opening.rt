@@ -13,8 +13,7 @@ use crate::answer::{
     DONE, IN_USE, IS_FULL, NEEDS_FLUSH, NO_COUNT, NO_MEMORY, NONE_HOME, NOT_ALL_HOME, OTHER_PHASE,
 };
 use crate::batch::Batch;
-use crate::held::Held;
-use crate::object::Object;
+use crate::object::{Object, new_room};
 use crate::taking::{
     put_batch, put_issuer, put_world, put_world_phase, take_issuer, take_world, take_world_phase,
 };
@@ -109,7 +108,7 @@ pub extern "C" fn ent_rust_world_commands(
         return NONE_HOME;
     }
     // The box first, so that no reserver is lost.
-    let Ok(made) = Box::new(alloc, Held::Nothing) else {
+    let Some(made) = new_room(alloc) else {
         put_world_phase(phase, room, one);
         return NO_MEMORY;
     };
@@ -212,7 +211,7 @@ pub extern "C" fn ent_rust_world_close(
         return NOT_ALL_HOME;
     }
     // The box first, so that no queue is lost.
-    let Ok(made) = Box::new(alloc, Held::Nothing) else {
+    let Some(made) = new_room(alloc) else {
         put_world_phase(phase, room, one);
         return NO_MEMORY;
     };
@@ -265,7 +264,7 @@ pub extern "C" fn ent_rust_world_close_lost(
         return IS_FULL;
     }
     // The box first, so that no queue is lost.
-    let Ok(made) = Box::new(alloc, Held::Nothing) else {
+    let Some(made) = new_room(alloc) else {
         put_world_phase(phase, room, one);
         return NO_MEMORY;
     };

@@ -14,8 +14,9 @@ use crate::answer::{
     OTHER_PHASE,
 };
 use crate::held::Held;
-use crate::object::Object;
+use crate::object::{Object, new_room};
 use crate::phase::Phase;
+use crate::taking::{put_entities, put_phase, take_entities, take_phase};
 use std::alloc::Global;
 use std::mem::replace;
 
@@ -44,33 +45,25 @@ pub extern "C" fn ent_rust_share(
     ensures code { IsOneOf (done ∷ is_empty ∷ other_kind ∷ needs_flush ∷ no_count ∷ no_memory
         ∷ []) result }
 {
-    let Some(mut held) = object.take(alloc) else {
-        return IS_EMPTY;
-    };
-    let Held::Entities(entities) = &*held else {
-        object.put(held);
-        return OTHER_KIND;
+    let (room, entities) = match take_entities(alloc, object) {
+        Ok(taken) => taken,
+        Err(code) => return code,
     };
     if entities.asked() > 0 {
-        object.put(held);
+        put_entities(object, room, entities);
         return NEEDS_FLUSH;
     }
     if count == 0 || count > CALLERS {
-        object.put(held);
+        put_entities(object, room, entities);
         return NO_COUNT;
     }
-    let Held::Entities(entities) = replace(&mut *held, Held::Nothing) else {
-        unreachable!()
-    };
     match Phase::open(alloc, entities, count, phase) {
         Ok(phase) => {
-            *held = Held::Phase(phase);
-            object.put(held);
+            put_phase(object, room, phase);
             DONE
         }
         Err(entities) => {
-            *held = Held::Entities(entities);
-            object.put(held);
+            put_entities(object, room, entities);
             NO_MEMORY
         }
     }
@@ -95,32 +88,28 @@ pub extern "C" fn ent_rust_caller(alloc: Global, phase: &mut Object, caller: &mu
     ensures code { IsOneOf (done ∷ is_empty ∷ other_kind ∷ is_full ∷ none_home ∷ no_memory ∷ [])
         result }
 {
-    let Some(mut held) = phase.take(alloc) else {
-        return IS_EMPTY;
-    };
-    let Held::Phase(one) = &mut *held else {
-        phase.put(held);
-        return OTHER_KIND;
+    let (room, mut one) = match take_phase(alloc, phase) {
+        Ok(taken) => taken,
+        Err(code) => return code,
     };
     if caller.is_full() {
-        phase.put(held);
+        put_phase(phase, room, one);
         return IS_FULL;
     }
     if one.at_home() == 0 {
-        phase.put(held);
+        put_phase(phase, room, one);
         return NONE_HOME;
     }
     // The box first, so that no reserver is lost.
-    let Ok(mut made) = Box::new(alloc, Held::Nothing) else {
-        phase.put(held);
+    let Some(made) = new_room(alloc) else {
+        put_phase(phase, room, one);
         return NO_MEMORY;
     };
     let given = one.give();
-    phase.put(held);
+    put_phase(phase, room, one);
     match given {
         Some(one) => {
-            *made = Held::Caller(one);
-            caller.put(made);
+            caller.put_in(made, Held::Caller(one));
             DONE
         }
         None => NO_MEMORY,

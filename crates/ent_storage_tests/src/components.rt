@@ -10,12 +10,16 @@ use std::test::Fail;
 // them, and a third one none. Then the first one loses a component, and gets it again.
 #[test]
 fn components_are_listed_by_rising_number(rt: HostRuntime) -> Result<(), Fail> {
-    let (first, second, third) = (handle(0)?, handle(1)?, handle(2)?);
     let mut storage = Storage::new(rt.alloc());
+    assert_listed_by_rising_number(&rt, &mut storage)
+}
+
+fn assert_listed_by_rising_number(rt: &impl Abort, storage: &mut Storage) -> Result<(), Fail> {
+    let (first, second, third) = (handle(0)?, handle(1)?, handle(2)?);
     for entity in &[first, second, third] {
         assert!(rt; storage.born(*entity, birth(0)) == Ok(()));
     }
-    assert_items(&rt, &storage, first, &[])?;
+    assert_items(rt, storage, first, &[])?;
     for item in &[
         item(200, 1),
         item(7, 2),
@@ -33,11 +37,11 @@ fn components_are_listed_by_rising_number(rt: HostRuntime) -> Result<(), Fail> {
         item(200, 1),
         item(255, 4),
     ];
-    assert_items(&rt, &storage, first, &before)?;
-    assert_items(&rt, &storage, second, &[item(7, 7), item(100, 6)])?;
-    assert_items(&rt, &storage, third, &[])?;
-    assert_leaves_and_returns(&rt, &mut storage, first)?;
-    assert_items(&rt, &storage, second, &[item(7, 7), item(100, 6)])
+    assert_items(rt, storage, first, &before)?;
+    assert_items(rt, storage, second, &[item(7, 7), item(100, 6)])?;
+    assert_items(rt, storage, third, &[])?;
+    assert_leaves_and_returns(rt, storage, first)?;
+    assert_items(rt, storage, second, &[item(7, 7), item(100, 6)])
 }
 
 fn item(number: u8, value: i64) -> (ComponentId, i64) {

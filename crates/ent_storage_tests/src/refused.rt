@@ -30,15 +30,19 @@ fn refused_memory_changes_nothing(rt: HostRuntime) -> Result<(), Fail> {
 
 fn assert_keeps(rt: &impl Abort, alloc: Global, size: u32) -> Result<(), Fail> {
     let mut storage = Storage::new(alloc);
+    assert_each_call_keeps(rt, &mut storage, size)
+}
+
+fn assert_each_call_keeps(rt: &impl Abort, storage: &mut Storage, size: u32) -> Result<(), Fail> {
     for index in (0..size).rev() {
         let entity = handle(index)?;
-        born_at_last(rt, &mut storage, entity)?;
-        insert_at_last(rt, &mut storage, entity, &[], &FEW)?;
-        insert_at_last(rt, &mut storage, entity, &FEW, &MORE)?;
+        born_at_last(rt, storage, entity)?;
+        insert_at_last(rt, storage, entity, &[], &FEW)?;
+        insert_at_last(rt, storage, entity, &FEW, &MORE)?;
     }
-    reserve_at_last(rt, &mut storage)?;
-    list_at_last(rt, &storage, size)?;
-    take_apart(rt, &mut storage, size)
+    reserve_at_last(rt, storage)?;
+    list_at_last(rt, storage, size)?;
+    take_apart(rt, storage, size)
 }
 
 fn born_at_last(rt: &impl Abort, storage: &mut Storage, entity: Handle) -> Result<(), Fail> {

@@ -22,10 +22,19 @@ fn every_call_at_each_size(rt: HostRuntime) -> Result<(), Fail> {
 fn assert_size(rt: &impl Abort, alloc: Global, size: u32) -> Result<(), Fail> {
     let mut storage = Storage::new(alloc);
     assert_eq!(rt; storage.spare(), 0);
-    fill(rt, &mut storage, size)?;
-    assert_reserves(rt, &mut storage, 5000);
-    assert_full(rt, alloc, &mut storage, size)?;
-    assert_taken(rt, alloc, &mut storage, size)
+    assert_filled(rt, alloc, &mut storage, size)
+}
+
+fn assert_filled(
+    rt: &impl Abort,
+    alloc: Global,
+    storage: &mut Storage,
+    size: u32,
+) -> Result<(), Fail> {
+    fill(rt, storage, size)?;
+    assert_reserves(rt, storage, 5000);
+    assert_full(rt, alloc, storage, size)?;
+    assert_taken(rt, alloc, storage, size)
 }
 
 fn assert_full(
@@ -135,6 +144,11 @@ fn assert_thinned(rt: &impl Abort, storage: &mut Storage, size: u32) -> Result<(
 
 #[test]
 fn keeps_the_greatest_numbers(rt: HostRuntime) -> Result<(), Fail> {
+    let mut storage = Storage::new(rt.alloc());
+    assert_keeps_greatest_numbers(&rt, &mut storage)
+}
+
+fn assert_keeps_greatest_numbers(rt: &impl Abort, storage: &mut Storage) -> Result<(), Fail> {
     let entity = Handle::new(4_294_967_294, 2_147_483_647).ok_or("no handle")?;
     let latest = Birth {
         frame: u64::MAX,
@@ -142,17 +156,16 @@ fn keeps_the_greatest_numbers(rt: HostRuntime) -> Result<(), Fail> {
         ordinal: u32::MAX,
     };
     let last = ComponentId(255);
-    let mut storage = Storage::new(rt.alloc());
     storage.born(entity, latest)?;
     assert_eq!(rt; storage.birth(entity), Some(latest));
-    assert_inserts(&rt, &mut storage, entity, &[(HEALTH, -1)], &[(HEALTH, -1)])?;
-    assert_inserts(&rt, &mut storage, entity, &[], &[(HEALTH, -1)])?;
+    assert_inserts(rt, storage, entity, &[(HEALTH, -1)], &[(HEALTH, -1)])?;
+    assert_inserts(rt, storage, entity, &[], &[(HEALTH, -1)])?;
     let greatest = [(HEALTH, i64::MAX), (MANA, 4), (last, i64::MIN)];
-    assert_inserts(&rt, &mut storage, entity, &greatest, &greatest)?;
+    assert_inserts(rt, storage, entity, &greatest, &greatest)?;
     assert_eq!(rt; storage.remove(entity, MANA), Ok(Some(4)));
     assert_items(
-        &rt,
-        &storage,
+        rt,
+        storage,
         entity,
         &[(HEALTH, i64::MAX), (last, i64::MIN)],
     )

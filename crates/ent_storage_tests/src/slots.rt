@@ -14,13 +14,17 @@ fn occupant(index: u32, generation: u32) -> Result<Handle, Fail> {
 #[test]
 fn occupants_of_a_slot_follow_each_other(rt: HostRuntime) -> Result<(), Fail> {
     let mut storage = Storage::new(rt.alloc());
+    assert_follow_each_other(&rt, &mut storage)
+}
+
+fn assert_follow_each_other(rt: &impl Abort, storage: &mut Storage) -> Result<(), Fail> {
     for generation in 1..50 {
         for index in 0..20 {
             let entity = occupant(index, generation)?;
             assert!(rt; storage.born(entity, birth(generation)) == Ok(()));
             assert!(rt; storage.insert(entity, &[(HEALTH, i64::from(index))]) == Ok(()));
         }
-        assert_occupied(&rt, &storage, generation)?;
+        assert_occupied(rt, storage, generation)?;
         for index in (0..20).rev() {
             assert!(rt; storage.despawn(occupant(index, generation)?) == Ok(()));
         }
@@ -46,7 +50,11 @@ fn assert_occupied(rt: &impl Abort, storage: &Storage, generation: u32) -> Resul
 #[test]
 fn handles_of_other_making_need_no_more_room(rt: HostRuntime) -> Result<(), Fail> {
     let mut storage = Storage::new(rt.alloc());
-    assert_reserves(&rt, &mut storage, 9);
+    assert_needs_no_more_room(&rt, &mut storage)
+}
+
+fn assert_needs_no_more_room(rt: &impl Abort, storage: &mut Storage) -> Result<(), Fail> {
+    assert_reserves(rt, storage, 9);
     let spare = storage.spare();
     for number in 0..2000 {
         assert!(rt; storage.born(entity(number)?, birth(0)) == Ok(()));
@@ -65,9 +73,13 @@ fn handles_of_other_making_need_no_more_room(rt: HostRuntime) -> Result<(), Fail
 // The same handle leaves and comes back: it has its new birth and none of its old components.
 #[test]
 fn a_handle_comes_back(rt: HostRuntime) -> Result<(), Fail> {
-    let (first, second) = (handle(4)?, handle(9)?);
     let mut storage = Storage::new(rt.alloc());
-    assert_lives(&rt, &mut storage, &[(first, 2, 10), (second, 1, 11)]);
+    assert_comes_back(&rt, &mut storage)
+}
+
+fn assert_comes_back(rt: &impl Abort, storage: &mut Storage) -> Result<(), Fail> {
+    let (first, second) = (handle(4)?, handle(9)?);
+    assert_lives(rt, storage, &[(first, 2, 10), (second, 1, 11)]);
     assert_eq!(rt; storage.despawn(first), Ok(()));
     assert_eq!(rt; storage.born(first, birth(7)), Ok(()));
     assert!(rt; storage.birth(first) == Some(birth(7)));

@@ -13,11 +13,11 @@ brings : (start after : Allocator) (given : List Handle)
     → BringsToLife start after given
 brings start after given lives = record { lives = lives }
 
-pub returns-in-Ok-clause-brings_to_life : goal.returns-in-Ok-clause-brings_to_life
-returns-in-Ok-clause-brings_to_life c =
-    let given : List Handle = given_in (history_of (records_of c.in-Ok.home.items)) in
+pub returns-in-Ok-end-clause-brings_to_life : goal.returns-in-Ok-end-clause-brings_to_life
+returns-in-Ok-end-clause-brings_to_life c =
+    let given : List Handle = given_in (history_of (records_of c.in-Ok-end.home.items)) in
     search (
       rules,
-      brings c.in-Ok.shared.start c.close.result.allocator given
+      brings c.in-Ok-end.shared.start c.close.result.allocator given
           c.close.ensures.brings_to_life,
     )

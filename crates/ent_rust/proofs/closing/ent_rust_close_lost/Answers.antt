@@ -10,6 +10,6 @@ are : (a : Allocator) (reservers : List Reserver)
     → AreTaken a reservers
 are a reservers given = record { given = given }
 
-pub returns-in-Ok-clause-given : goal.returns-in-Ok-clause-given
-returns-in-Ok-clause-given c =
-    search (rules, are c.close_lost.result.allocator c.in-Ok.home.items c.close_lost.ensures.given)
+pub returns-in-Ok-end-clause-given : goal.returns-in-Ok-end-clause-given
+returns-in-Ok-end-clause-given c =
+    search (rules, are c.close_lost.result.allocator c.in-Ok-end.home.items c.close_lost.ensures.given)
