@@ -5,6 +5,7 @@ use crate::frames::frame;
 use crate::rendezvous::Rendezvous;
 use crate::shown::{births, commands, text};
 use ent_alloc::Limits;
+use ent_queue::CommandQueue;
 use ent_world::World;
 use std::alloc::Global;
 use std::process::Abort;
@@ -44,27 +45,41 @@ fn a_busy_worker_leaves_systems_to_others(rt: HostRuntime) {
 #[test]
 fn queues_stand_in_the_order_of_the_systems(rt: HostRuntime) {
     let alloc = rt.alloc();
-    let mut systems = Vec::new(alloc);
-    for number in 0..NUMBERS {
-        systems
-            .push(Act::Spawn(i64::from(number)))
-            .expect(&rt, "memory for the systems");
-    }
+    let systems = spawns(&rt, alloc);
     let mut world = World::new(alloc, Limits::default_limits());
     let gate = Rendezvous::new(NUMBERS, 1);
     let report = frame(&rt, alloc, &mut world, &systems, 4, &gate);
     assert_eq!(rt; gate.saw_all(), 1);
-    assert_eq!(rt; (report.queues.len(), world.len()), (40, 40));
-    let (mut queues, mut born) = (text(&rt, alloc), text(&rt, alloc));
+    assert_queues_in_order(&rt, alloc, &report.queues);
+    assert_births_in_order(&rt, alloc, &world);
+}
+
+fn spawns(rt: &impl Abort, alloc: Global) -> Vec<Act> {
+    let mut systems = Vec::new(alloc);
     for number in 0..NUMBERS {
-        writeln!(queues, "spawn 0={number}").expect(&rt, "room");
-        writeln!(born, "0.{number}.0 0={number}").expect(&rt, "room");
+        systems
+            .push(Act::Spawn(i64::from(number)))
+            .expect(rt, "memory for the systems");
     }
-    assert_eq!(rt;
-        commands(&rt, alloc, &report.queues).as_str(),
-        queues.as_str()
-    );
-    assert_eq!(rt; births(&rt, alloc, &world).as_str(), born.as_str());
+    systems
+}
+
+fn assert_queues_in_order(rt: &impl Abort, alloc: Global, queues: &[CommandQueue]) {
+    let mut wanted = text(rt, alloc);
+    for number in 0..NUMBERS {
+        writeln!(wanted, "spawn 0={number}").expect(rt, "room");
+    }
+    assert!(rt; queues.len() == 40);
+    assert_eq!(rt; commands(rt, alloc, queues).as_str(), wanted.as_str());
+}
+
+fn assert_births_in_order(rt: &impl Abort, alloc: Global, world: &World) {
+    let mut wanted = text(rt, alloc);
+    for number in 0..NUMBERS {
+        writeln!(wanted, "0.{number}.0 0={number}").expect(rt, "room");
+    }
+    assert!(rt; world.len() == 40);
+    assert_eq!(rt; births(rt, alloc, world).as_str(), wanted.as_str());
 }
 
 /// One worker takes the systems one after the other, and the gate is told of each before it runs.

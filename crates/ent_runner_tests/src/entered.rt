@@ -64,9 +64,14 @@ where
     let ended = tried(rt, alloc, &mut world, &systems, workers, &counts);
     assert!(rt; matches!(ended, Err(FrameFault::Lost)));
     counts.assert_first(rt, entered, 1);
+    assert_reserved(rt, &mut world, entered);
+}
+
+/// So many are reserved, and nobody lives.
+fn assert_reserved(rt: &impl Abort, world: &mut World, entered: usize) {
     assert!(rt; world.is_empty());
     world.flush().expect(rt, "memory for the flush");
-    assert_eq!(rt; world.len(), entered);
+    assert!(rt; world.len() == entered);
 }
 
 /// A worker that has stopped does no more. The others run what is left, as long as one of them has

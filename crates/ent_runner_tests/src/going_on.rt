@@ -113,14 +113,20 @@ where
         Act::Spawn(5),
     ];
     match ended(rt, alloc, &mut world, &systems, workers) {
-        Some(report) => {
-            assert_eq!(rt; report.born.len(), 4);
-            assert_eq!(rt; faults(rt, alloc, &report.faults).as_str(), FAULTS);
-            assert_eq!(rt; births(rt, alloc, &world).as_str(), AFTER);
-            assert!(rt; world.phase() == 1 && !world.needs_flush());
-        }
-        None => assert_eq!(rt; births(rt, alloc, &world).as_str(), BEFORE),
+        Some(report) => assert_ended(rt, alloc, &world, &report),
+        None => assert_births(rt, alloc, &world, BEFORE),
     }
+}
+
+fn assert_ended(rt: &impl Abort, alloc: Global, world: &World, report: &SyncReport) {
+    assert!(rt; report.born.len() == 4);
+    assert_eq!(rt; faults(rt, alloc, &report.faults).as_str(), FAULTS);
+    assert_births(rt, alloc, world, AFTER);
+    assert!(rt; world.phase() == 1 && !world.needs_flush());
+}
+
+fn assert_births(rt: &impl Abort, alloc: Global, world: &World, wanted: &str) {
+    assert_eq!(rt; births(rt, alloc, world).as_str(), wanted);
 }
 
 #[test]

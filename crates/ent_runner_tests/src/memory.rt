@@ -28,19 +28,28 @@ where
     let mut world = World::new(alloc, Limits::default_limits());
     match tried(rt, alloc, &mut world, &SYSTEMS, workers, &NoGate) {
         Ok(report) => assert_done(rt, alloc, &world, &report),
-        Err(FrameFault::Memory) => {
-            assert_nothing_done(rt, &world);
+        Err(fault) => goes_on_after(rt, alloc, &mut world, workers, &fault),
+    }
+}
+
+fn goes_on_after<R>(rt: &R, alloc: Global, world: &mut World, workers: usize, fault: &FrameFault)
+where
+    R: Threads + Sync + Abort,
+{
+    match fault {
+        FrameFault::Memory => {
+            assert_nothing_done(rt, world);
             assert!(rt; !world.needs_flush());
-            let report = frame(rt, alloc, &mut world, &SYSTEMS, workers, &NoGate);
-            assert_done(rt, alloc, &world, &report);
+            let report = frame(rt, alloc, world, &SYSTEMS, workers, &NoGate);
+            assert_done(rt, alloc, world, &report);
         }
-        Err(FrameFault::Lost) => {
-            assert_nothing_done(rt, &world);
-            goes_on_after_loss(rt, alloc, &mut world, workers);
+        FrameFault::Lost => {
+            assert_nothing_done(rt, world);
+            goes_on_after_loss(rt, alloc, world, workers);
         }
-        Err(FrameFault::Sync { fault, queues }) => {
-            assert_eq!(rt; commands(rt, alloc, &queues).as_str(), QUEUES);
-            goes_on_after_stop(rt, alloc, &mut world, &fault, &queues);
+        FrameFault::Sync { fault, queues } => {
+            assert_eq!(rt; commands(rt, alloc, queues).as_str(), QUEUES);
+            goes_on_after_stop(rt, alloc, world, fault, queues);
         }
     }
 }

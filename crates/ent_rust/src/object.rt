@@ -69,8 +69,7 @@ impl Object {
 }
 
 /// A box for what an object is to hold, if there is memory.
-pub(crate) fn new_room(alloc: Global) -> Option<Box<Held, Global>>
-{
+pub(crate) fn new_room(alloc: Global) -> Option<Box<Held, Global>> {
     Box::new(alloc, Held::Nothing).ok()
 }
 

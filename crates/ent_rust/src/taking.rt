@@ -166,11 +166,7 @@ pub(crate) fn take_world_phase(
 }
 
 /// Puts the phase back, into the box in which it was.
-pub(crate) fn put_world_phase(
-    object: &mut Object,
-    room: Box<Held, Global>,
-    world_phase: WorldPhase,
-)
+pub(crate) fn put_world_phase(object: &mut Object, room: Box<Held, Global>, world_phase: WorldPhase)
     ensures { object.new.place.holds ≡ Some (held.WorldPhase world_phase) }
 {
     object.put_in(room, Held::WorldPhase(world_phase));

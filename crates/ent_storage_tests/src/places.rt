@@ -69,17 +69,11 @@ fn assert_birth_changes(rt: &impl Abort, storage: &mut Storage) -> Result<(), Fa
     let entities = [(first, 2, 10), (second, 1, 11), (third, 0, 12)];
     assert_lives(rt, storage, &entities);
     assert_lists(rt, storage, &[third, second, first], &[])?;
-    assert_eq!(rt;
-        changed_birth(storage, second, birth(345)),
-        Some(birth(1))
-    );
+    assert_eq!(rt; changed_birth(storage, second, birth(345)), Some(birth(1)));
     assert_eq!(rt; birth_at(storage, second), Some(birth(345)));
     assert_eq!(rt; storage.birth(second), Some(birth(345)));
     assert_lists(rt, storage, &[third, first, second], &[])?;
-    assert_eq!(rt;
-        changed_birth(storage, third, birth(400)),
-        Some(birth(0))
-    );
+    assert_eq!(rt; changed_birth(storage, third, birth(400)), Some(birth(0)));
     assert_lists(rt, storage, &[first, second, third], &[])?;
     assert_eq!(rt; birth_at(storage, first), Some(birth(2)));
     assert_places(

@@ -163,12 +163,7 @@ fn assert_keeps_greatest_numbers(rt: &impl Abort, storage: &mut Storage) -> Resu
     let greatest = [(HEALTH, i64::MAX), (MANA, 4), (last, i64::MIN)];
     assert_inserts(rt, storage, entity, &greatest, &greatest)?;
     assert_eq!(rt; storage.remove(entity, MANA), Ok(Some(4)));
-    assert_items(
-        rt,
-        storage,
-        entity,
-        &[(HEALTH, i64::MAX), (last, i64::MIN)],
-    )
+    assert_items(rt, storage, entity, &[(HEALTH, i64::MAX), (last, i64::MIN)])
 }
 
 fn assert_inserts(

@@ -23,12 +23,21 @@ use std::thread::Threads;
 fn main(rt: HostRuntime) -> Result<()> {
     let world = World::new(rt.alloc(), Limits::default_limits());
     let mut world = plant_by_hand(rt.alloc(), world)?;
+    frames(&rt, &mut world)
+}
+
+/// Three frames, and how many plants there are before and after each.
+fn frames<R>(rt: &R, world: &mut World) -> Result<()>
+where
+    R: Threads + Sync + Print + AllocGlobal,
+    requires flushed { world.old.allocator.asked ≡ 0 }
+{
     println!(rt; "by hand: {} alive", world.len())?;
-    let _ = sow_and_grow(&rt, &mut world)?;
+    let _ = sow_and_grow(rt, world)?;
     println!(rt; "sown and grown: {} alive", world.len())?;
-    let _ = reap(&rt, &mut world)?;
+    let _ = reap(rt, world)?;
     println!(rt; "reaped: {} alive", world.len())?;
-    let _ = frame_that_goes_on(&rt, &mut world, &[Sow, Sow])?;
+    let _ = frame_that_goes_on(rt, world, &[Sow, Sow])?;
     println!(rt; "sown twice: {} alive", world.len())?;
     Ok(())
 }

@@ -9,7 +9,7 @@ use std::test::Fail;
 use std::thread::Threads;
 
 // Texts that are no script, what the test wants that each fails, and what it found.
-const NO_SCRIPTS: [(&str, &str, &str); 26] = [
+const NO_SCRIPTS: &[(&str, &str, &str)] = &[
     (
         r#"{"components":[],"frames":["#,
         "the input must be a JSON text in UTF-8, its lists and objects at most 127 deep, its \
@@ -208,12 +208,19 @@ fn said_of_schedule<I: Source>(rt: &(impl Abort + AllocGlobal), source: &mut I) 
 #[test]
 fn each_test_of_a_script_is_explained(rt: HostRuntime) -> Result<(), Fail> {
     for (script, wants, found) in NO_SCRIPTS {
-        let mut source = MemorySource::new(script.as_bytes(), 64, NEVER);
-        let said = said_of_script(&rt, &mut source);
         let line = format!(in rt.alloc(); "{wants}; found {found}\n")?;
-        assert!(rt; said.as_slice() == line.as_bytes(), "at {script}");
+        assert_explained(&rt, script, &line);
     }
     Ok(())
+}
+
+fn assert_explained<R>(rt: &R, script: &str, line: &str)
+where
+    R: Threads + Sync + Abort + AllocGlobal,
+{
+    let mut source = MemorySource::new(script.as_bytes(), 64, NEVER);
+    let said = said_of_script(rt, &mut source);
+    assert!(rt; said.as_slice() == line.as_bytes(), "at {script}");
 }
 
 #[test]
