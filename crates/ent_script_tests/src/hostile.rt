@@ -40,7 +40,7 @@ fn nested_arrays(rt: HostRuntime) -> Result<(), Fail> {
     Ok(())
 }
 
-const TEXTS: [(&[u8], &[u8]); 13] = [
+const TEXTS: &[(&[u8], &[u8])] = &[
     (
         b"{\"components\":[\"h\xff\"],\"frames\":[]}",
         b"refused json\n",
@@ -90,7 +90,7 @@ const TEXTS: [(&[u8], &[u8]); 13] = [
 ];
 
 // Of a key that stands twice the last value counts, at each level.
-const TWICE: [(&[u8], &[u8]); 8] = [
+const TWICE: &[(&[u8], &[u8])] = &[
     (
         b"{\"slots\":0,\"components\":[],\"frames\":[],\"slots\":1}",
         b"read\n",
@@ -142,7 +142,7 @@ fn texts(rt: HostRuntime) -> Result<(), Fail> {
 }
 
 // Numbers, and the line of a script that has one as the value of a component.
-const NUMBERS: [(&[u8], &[u8]); 12] = [
+const NUMBERS: &[(&[u8], &[u8])] = &[
     (b"0", b"read\n"),
     (b"-9223372036854775808", b"read\n"),
     (b"9223372036854775807", b"read\n"),
@@ -169,7 +169,7 @@ fn numbers(rt: HostRuntime) -> Result<(), Fail> {
 }
 
 // Numbers elsewhere.
-const PLACES: [(&[u8], &[u8]); 7] = [
+const PLACES: &[(&[u8], &[u8])] = &[
     (
         b"{\"components\":[],\"frames\":[[[{\"spawn_many\":-0}]]]}",
         b"refused operation 0 0 0 count\n",

@@ -5,7 +5,7 @@ use std::alloc::Global;
 use std::test::Fail;
 
 // Texts outside the frames, and the line of each.
-const TOPS: [(&[u8], &[u8]); 35] = [
+const TOPS: &[(&[u8], &[u8])] = &[
     (b"", b"refused json\n"),
     (b"{\"components\":[\"hp\"],\"frames\":[", b"refused json\n"),
     (b"[]", b"refused script top\n"),
@@ -131,7 +131,7 @@ fn tops(rt: HostRuntime) -> Result<(), Fail> {
 
 // The operations of a system, and the line of a script of it alone. The components are `hp` and
 // `mp`.
-const OPERATIONS: [(&[u8], &[u8]); 49] = [
+const OPERATIONS: &[(&[u8], &[u8])] = &[
     (b"3", b"refused operation 0 0 0 shape\n"),
     (b"{}", b"refused operation 0 0 0 shape\n"),
     (b"{\"as\":\"a\"}", b"refused operation 0 0 0 shape\n"),
@@ -307,7 +307,7 @@ const OPERATIONS: [(&[u8], &[u8]); 49] = [
 ];
 
 // The births of a target in frame 1 of a script of format 2, and the line of that script.
-const BIRTHS: [(&[u8], &[u8]); 13] = [
+const BIRTHS: &[(&[u8], &[u8])] = &[
     (b"0.0.0", b"read\n"),
     (b"0.255.4294967295", b"read\n"),
     (b"00.0.0", b"refused operation 1 0 0 birth\n"),
@@ -335,7 +335,7 @@ fn births(rt: HostRuntime) -> Result<(), Fail> {
 
 // A birth of the frame itself, in each format; a birth that is no text; and a birth of a frame
 // far before its own.
-const FORMATS: [(&[u8], &[u8]); 5] = [
+const FORMATS: &[(&[u8], &[u8])] = &[
     (
         b"{\"format\":2,\"components\":[],\"frames\":[[[{\"despawn\":{\"birth\":\"0.0.0\"}}]]]}",
         b"refused operation 0 0 0 birth\n",

@@ -156,7 +156,7 @@ const NO_SCRIPTS: &[(&str, &str, &str)] = &[
 ];
 
 // Texts that are no schedule, the same of each.
-const NO_SCHEDULES: [(&str, &str, &str); 5] = [
+const NO_SCHEDULES: &[(&str, &str, &str)] = &[
     (
         "alloc\nfree 0v0\n",
         "a handle must be an index up to 4294967294, the letter v and a generation from 1 to \

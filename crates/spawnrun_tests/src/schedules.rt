@@ -27,7 +27,7 @@ fn replays(
 }
 
 // A schedule with its limits, and what it writes.
-const WORKED: [(u32, u32, &str, &str); 14] = [
+const WORKED: &[(u32, u32, &str, &str)] = &[
     // One bulk takes freed slots and fresh ones, and a flush lists the fresh ones first.
     (
         SLOTS,
@@ -129,7 +129,7 @@ const WORKED: [(u32, u32, &str, &str); 14] = [
 #[test]
 fn worked_schedules(rt: HostRuntime) {
     for (slots, generations, schedule, output) in WORKED {
-        replays(&rt, slots, generations, schedule, Status::Done, output);
+        replays(&rt, *slots, *generations, schedule, Status::Done, output);
     }
 }
 

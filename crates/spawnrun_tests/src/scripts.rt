@@ -55,7 +55,7 @@ fn two_systems_spawn(rt: HostRuntime) {
 }
 
 // Scripts, and what they write if handles are shown.
-const WORKED: [(&str, &str); 7] = [
+const WORKED: &[(&str, &str)] = &[
     // What an earlier system takes out is not alive for a later one.
     (
         r#"{"components":["hp"],"frames":[[[{"spawn":{"hp":1}}]],[[{"despawn":{"handle":"0v1"}}],[{"insert":{"hp":9},"on":{"handle":"0v1"}}]]]}"#,
@@ -111,7 +111,7 @@ fn births_are_targets(rt: HostRuntime) {
 }
 
 // Texts that are no script, and the line that refuses each.
-const REFUSED: [(&str, &str); 8] = [
+const REFUSED: &[(&str, &str)] = &[
     (r#"{"components":["hp"],"frames":["#, "refused json\n"),
     ("[]", "refused script top\n"),
     (
