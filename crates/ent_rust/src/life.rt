@@ -7,7 +7,7 @@ ghost use Rattle.ent_rust.specs.Answers.{done, is_full, no_limits, no_memory, Is
 
 use crate::answer::{DONE, IS_FULL, NO_LIMITS, NO_MEMORY};
 use crate::held::Held;
-use crate::object::Object;
+use crate::object::{Object, new_room};
 use ent_alloc::{Entities, Limits};
 use std::alloc::Global;
 
@@ -33,10 +33,10 @@ pub extern "C" fn ent_rust_new(
     let Some(limits) = Limits::new(slots, generations) else {
         return NO_LIMITS;
     };
-    let Ok(held) = Box::new(alloc, Held::Entities(Entities::new(alloc, limits))) else {
+    let Some(room) = new_room(alloc) else {
         return NO_MEMORY;
     };
-    object.put(held);
+    object.put_in(room, Held::Entities(Entities::new(alloc, limits)));
     DONE
 }
 

@@ -1,6 +1,6 @@
 //! An allocator is shared among callers, and comes back when they are at home again.
 ghost use Rattle.std.specs.Prelude.{◌≡◌, ◌≢◌, ◌<◌, ◌≤◌, ◌↔◌, ◌⊎◌, [], ◌∷◌, ◌++◌, None, IsSome};
-ghost use Rattle.std.specs.Prelude.{length};
+ghost use Rattle.std.specs.Prelude.{length, IfOk, IfErr, OnOk};
 ghost use Rattle.ent_shared.specs.Phase.{records_of};
 ghost use Rattle.ent_shared.specs.Record.{opened_records};
 ghost use Rattle.ent_rust.specs.Holds.{Holds, HoldsPhase, PhaseBecomes, HoldsCaller, HoldsOther};
@@ -13,12 +13,12 @@ use crate::answer::{
     ALL_HOME, DONE, IS_EMPTY, IS_FULL, NEEDS_FLUSH, NO_COUNT, NO_MEMORY, NONE_HOME, OTHER_KIND,
     OTHER_PHASE,
 };
+use crate::caller::Caller;
 use crate::held::Held;
 use crate::object::{Object, new_room};
 use crate::phase::Phase;
-use crate::taking::{put_entities, put_phase, take_entities, take_phase};
+use crate::taking::{put_caller, put_entities, put_phase, take_caller, take_entities, take_phase};
 use std::alloc::Global;
-use std::mem::replace;
 
 /// How many callers a phase may have.
 const CALLERS: usize = 1024;
@@ -140,33 +140,50 @@ pub extern "C" fn ent_rust_come_home(alloc: Global, phase: &mut Object, caller: 
         × (caller.new.place.holds ≡ caller.old.place.holds) }
     ensures code { IsOneOf (done ∷ is_empty ∷ other_kind ∷ other_phase ∷ all_home ∷ []) result }
 {
-    let Some(mut held) = phase.take(alloc) else {
+    if !caller.is_full() {
         return IS_EMPTY;
-    };
-    let Some(mut guest) = caller.take(alloc) else {
-        phase.put(held);
-        return IS_EMPTY;
-    };
-    let code = match (&mut *held, &*guest) {
-        (Held::Phase(one), Held::Caller(other)) if one.number() != other.phase => OTHER_PHASE,
-        (Held::Phase(one), Held::Caller(_)) if one.at_home() >= one.count() => ALL_HOME,
-        (Held::Phase(_), Held::Caller(_)) => DONE,
-        _ => OTHER_KIND,
-    };
-    if code != DONE {
-        phase.put(held);
-        caller.put(guest);
-        return code;
     }
-    let Held::Caller(one) = replace(&mut *guest, Held::Nothing) else {
-        unreachable!()
+    let (room, mut home) = match take_phase(alloc, phase) {
+        Ok(taken) => taken,
+        Err(code) => return code,
     };
-    let Held::Phase(home) = &mut *held else {
-        unreachable!()
+    let guest = match take_guest(alloc, caller, &home) {
+        Ok(guest) => guest,
+        Err(code) => {
+            put_phase(phase, room, home);
+            return code;
+        }
     };
-    home.take_home(one);
-    phase.put(held);
+    home.take_home(guest);
+    put_phase(phase, room, home);
     DONE
+}
+
+/// Takes out the caller if it may come home into the phase, or says why not.
+fn take_guest(alloc: Global, caller: &mut Object, home: &Phase) -> Result<Caller, u32>
+    requires full { IsSome caller.old.place.holds }
+    ensures guest { IfOk result (λ c. HoldsCaller caller.old.place.holds (λ held. c ≡ held)) }
+    ensures fits { IfOk result (λ c. (c.phase ≡ home.now.phase)
+        × (length home.now.home < home.now.shared.count)) }
+    ensures emptied { OnOk result (caller.new.place.holds ≡ None) }
+    ensures why { IfErr result (λ code. ((code ≡ other_kind) × HoldsOther caller_of caller.old.place.holds)
+        ⊎ HoldsCaller caller.old.place.holds (λ c.
+        ((code ≡ other_phase) × (home.now.phase ≢ c.phase))
+        ⊎ ((code ≡ all_home) × (home.now.phase ≡ c.phase)
+        × (home.now.shared.count ≤ length home.now.home)))) }
+    ensures err { IfErr result (λ _. caller.new.place.holds ≡ caller.old.place.holds) }
+{
+    let (seat, guest) = take_caller(alloc, caller)?;
+    if home.number() != guest.phase {
+        put_caller(caller, seat, guest);
+        return Err(OTHER_PHASE);
+    }
+    if home.at_home() >= home.count() {
+        put_caller(caller, seat, guest);
+        return Err(ALL_HOME);
+    }
+    drop(seat);
+    Ok(guest)
 }
 
 /// A code and, if the object holds a phase, its numbers.

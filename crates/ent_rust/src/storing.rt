@@ -18,7 +18,7 @@ use crate::answer::{
 use crate::birth::BirthNumbers;
 use crate::held::Held;
 use crate::item::{Item, bundle_from};
-use crate::object::Object;
+use crate::object::{Object, new_room};
 use crate::reading::Value;
 use ent_handle::{ComponentId, Handle};
 use ent_storage::{Storage, StorageFault};
@@ -36,10 +36,10 @@ pub extern "C" fn ent_rust_storage_new(alloc: Global, object: &mut Object) -> u3
     if object.is_full() {
         return IS_FULL;
     }
-    let Ok(held) = Box::new(alloc, Held::Storage(Storage::new(alloc))) else {
+    let Some(room) = new_room(alloc) else {
         return NO_MEMORY;
     };
-    object.put(held);
+    object.put_in(room, Held::Storage(Storage::new(alloc)));
     DONE
 }
 

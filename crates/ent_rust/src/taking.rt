@@ -1,12 +1,13 @@
 //! One kind of thing is taken out of an object, with the box in which it was, and put back.
 ghost use Rattle.std.specs.Prelude.{◌≡◌, ◌⊎◌, None, Some, IfOk, IfErr, OnOk};
 ghost use Rattle.ent_rust.specs.declared.held.Held.TheVariants as held;
-ghost use Rattle.ent_rust.specs.Holds.{HoldsOther, allocator_in, phase_of};
+ghost use Rattle.ent_rust.specs.Holds.{HoldsOther, allocator_in, phase_of, caller_of};
 ghost use Rattle.ent_rust.specs.Kinds.{world_of, world_phase_of, issuer_of, batch_of};
 ghost use Rattle.ent_rust.specs.Answers.{is_empty, other_kind};
 
 use crate::answer::{IS_EMPTY, OTHER_KIND};
 use crate::batch::Batch;
+use crate::caller::Caller;
 use crate::held::Held;
 use crate::issuer::Issuer;
 use crate::object::Object;
@@ -77,6 +78,37 @@ pub(crate) fn put_phase(object: &mut Object, room: Box<Held, Global>, phase: Pha
     ensures { object.new.place.holds ≡ Some (held.Phase phase) }
 {
     object.put_in(room, Held::Phase(phase));
+}
+
+/// Takes out the caller, or says why not. The object is empty then.
+pub(crate) fn take_caller(
+    alloc: Global,
+    object: &mut Object,
+) -> Result<(Box<Held, Global>, Caller), u32>
+    ensures ok { IfOk result (λ taken. object.old.place.holds ≡ Some (held.Caller taken.1)) }
+    ensures emptied { OnOk result (object.new.place.holds ≡ None) }
+    ensures why { IfErr result (λ code.
+        ((code ≡ is_empty) × (object.old.place.holds ≡ None))
+        ⊎ ((code ≡ other_kind) × HoldsOther caller_of object.old.place.holds)) }
+    ensures err { IfErr result (λ _. object.new.place.holds ≡ object.old.place.holds) }
+{
+    let Some(mut room) = object.take(alloc) else {
+        return Err(IS_EMPTY);
+    };
+    match replace(&mut *room, Held::Nothing) {
+        Held::Caller(caller) => Ok((room, caller)),
+        other => {
+            object.put_in(room, other);
+            Err(OTHER_KIND)
+        }
+    }
+}
+
+/// Puts the caller back, into the box in which it was.
+pub(crate) fn put_caller(object: &mut Object, room: Box<Held, Global>, caller: Caller)
+    ensures { object.new.place.holds ≡ Some (held.Caller caller) }
+{
+    object.put_in(room, Held::Caller(caller));
 }
 
 /// Takes out the system that issues commands, or says why not. The object is empty then.

@@ -23,7 +23,7 @@ use crate::answer::{
 use crate::birth::BirthNumbers;
 use crate::held::Held;
 use crate::item::{Item, bundle_from};
-use crate::object::Object;
+use crate::object::{Object, new_room};
 use ent_alloc::{AllocFault, FreeFault, Limits};
 use ent_handle::Handle;
 use ent_world::World;
@@ -51,10 +51,10 @@ pub extern "C" fn ent_rust_world_new(
     let Some(limits) = Limits::new(slots, generations) else {
         return NO_LIMITS;
     };
-    let Ok(held) = Box::new(alloc, Held::World(World::new(alloc, limits))) else {
+    let Some(room) = new_room(alloc) else {
         return NO_MEMORY;
     };
-    object.put(held);
+    object.put_in(room, Held::World(World::new(alloc, limits)));
     DONE
 }
 

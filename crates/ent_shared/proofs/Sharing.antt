@@ -109,7 +109,8 @@ all_shared start n word seat made me d = ap (map (λ (r : Reserver). r.own)) d.m
     ∙ own_again word (opened_records start 0 n)
 
 all_of : (start : Allocator) (rows : maps.FinMap handle_cmp ℕ) (count : ℕ) (word : TableId)
-    (number many : ℕ) → number + many ≤ count → All (IsOf (record { word = word; start = start; rows = rows; count = count }))
+    (number many : ℕ) → number + many ≤ count
+    → All (IsOf (record { word = word; start = start; rows = rows; count = count }))
     (map (seated word) (opened_records start number many))
 unfolding opened_records
 all_of start rows count word number zero within =

@@ -14,7 +14,8 @@ pub frames-init : goal.frames-init
 frames-init c = record {
   at =
       λ n ds rest e. subst (λ done. At (value c.args.depth)
-      (frame_of c.args.format c.args.components.now) done 0 c.args.reader.now ds rest) (sym c.new-frames.ensures.items)
+      (frame_of c.args.format c.args.components.now) done 0 c.args.reader.now ds rest)
+      (sym c.new-frames.ensures.items)
       (at_start (value c.args.depth) (frame_of c.args.format c.args.components.now) n
       c.args.reader.now ds rest e);
   few = omega arith;

@@ -1,4 +1,5 @@
 use Rattle.std.proofs.Common.{ap, ◌∙◌, map}
+use Rattle.std.proofs.lemmas.List.Sorted.{IsPermutation-trans}
 use Rattle.std.proofs.lemmas.Result.{IfOk-weaker}
 use Rattle.ent_storage.specs.BirthOrder.{IsInOrder}
 use Rattle.ent_storage.proofs.order.handles_in_order.Goals as goal
@@ -8,7 +9,8 @@ pub returns : goal.returns
 returns c =
     IfOk-weaker _ _ (λ handles. IsInOrder c.args.births.items handles.items) (λ handles is. record {
       sorted = c.sort_unstable.new.self.items;
-      permutation = c.sort_unstable.ensures.permutation;
+      permutation = IsPermutation-trans _ _ _ c.gather.ensures
+          c.sort_unstable.ensures.permutation;
       in_order = c.sort_unstable.ensures.sorted;
       are = is ∙ ap (map (λ born. born.1)) c.deref.ensures.value;
     }) c.handles.ensures

@@ -20,14 +20,16 @@ pub unreachable-requires : goal.unreachable-requires
 unreachable-requires c =
     no_space c.reply.result c.in_default.field-0
     (c.reply.ensures 0 (low_of c.new.result _ 0 c.new.ensures.value)
-    ∙ reply-none c.self.inside.entities.allocator.made (pool_at c.self.inside.entities.allocator c.new.result.high))
+    ∙ reply-none c.self.inside.entities.allocator.made
+    (pool_at c.self.inside.entities.allocator c.new.result.high))
     c.in_default.is
 
 pub returns-then-n-eq0-clause-nothing : goal.returns-then-n-eq0-clause-nothing
 returns-then-n-eq0-clause-nothing c = λ n.
     let is : c.reply.result
     ≡ Ok [] = c.reply.ensures 0 (low_of c.new.result _ 0 c.new.ensures.value)
-    ∙ reply-none c.self.inside.entities.allocator.made (pool_at c.self.inside.entities.allocator c.new.result.high)
+    ∙ reply-none c.self.inside.entities.allocator.made
+    (pool_at c.self.inside.entities.allocator c.new.result.high)
     in
     let found = c.in-Ok.is in
     let same : c.in-Ok.nothing ≡ [] = cc in
@@ -108,7 +110,8 @@ invariant_of-reserver c =
 
 pub returns-then-n-eq0-clause-length : goal.returns-then-n-eq0-clause-length
 returns-then-n-eq0-clause-length c =
-    length-served c.self.inside.entities.allocator.made (pool_at c.self.inside.entities.allocator c.new.result.high)
+    length-served c.self.inside.entities.allocator.made
+    (pool_at c.self.inside.entities.allocator c.new.result.high)
     c.in-Ok.nothing 0 (sym (c.reply.ensures 0 (low_of c.new.result _ 0 c.new.ensures.value))
     ∙ c.in-Ok.is) ∙ sym c.if-n-eq0.true
 
@@ -134,7 +137,8 @@ pub returns-then-n-eq0-clause-given : goal.returns-then-n-eq0-clause-given
 returns-then-n-eq0-clause-given c =
     let is : c.reply.result
     ≡ Ok [] = c.reply.ensures 0 (low_of c.new.result _ 0 c.new.ensures.value)
-    ∙ reply-none c.self.inside.entities.allocator.made (pool_at c.self.inside.entities.allocator c.new.result.high)
+    ∙ reply-none c.self.inside.entities.allocator.made
+    (pool_at c.self.inside.entities.allocator c.new.result.high)
     in
     let found = c.in-Ok.is in
     let none : c.in-Ok.nothing ≡ [] = cc in
