@@ -5,7 +5,7 @@
 //! short frames compute, which is the same on every machine.
 #![tactic(auto)]
 
-ghost use Rattle.std.specs.Prelude.{◌<◌, ◌≤◌, ◌^◌, length};
+ghost use Rattle.std.specs.Prelude.{◌≡◌, ◌<◌, ◌≤◌, ◌^◌, length};
 
 mod work;
 
@@ -44,14 +44,25 @@ where
     let alone = spin_all(&systems);
     println!(rt; "alone {alone}")?;
     for workers in WORKERS {
-        let mut world = World::new(rt.alloc(), Limits::default_limits());
-        if run_frame(rt, rt.alloc(), &mut world, &systems, workers, &NoGate).is_err() {
-            return Err(io::ErrorKind::OutOfMemory.into());
-        }
-        let sum = sum_of(&world)?;
+        let sum = sum_after(rt, &systems, workers)?;
         println!(rt; "workers {workers} {sum}")?;
     }
     Ok(())
+}
+
+/// What the systems compute in an empty world.
+fn sum_after<R>(rt: &R, systems: &[Work], workers: usize) -> io::Result<i64>
+where
+    R: Threads + Sync + AllocGlobal,
+    requires systems { length systems.now ≤ 2 ^ 16 }
+    requires some { 0 < workers }
+    requires few { workers ≤ 64 }
+{
+    let mut world = World::new(rt.alloc(), Limits::default_limits());
+    match run_frame(rt, rt.alloc(), &mut world, systems, workers, &NoGate) {
+        Ok(_) => sum_of(&world),
+        Err(_) => Err(io::ErrorKind::OutOfMemory.into()),
+    }
 }
 
 /// The sum of the values of all entities.
@@ -99,14 +110,36 @@ where
     requires few { workers ≤ 64 }
 {
     let mut world = World::new(rt.alloc(), Limits::default_limits());
-    let start = Instant::now(rt)?;
-    let ran = run_frame(rt, rt.alloc(), &mut world, systems, workers, &NoGate).is_ok();
-    let micros = start.elapsed(rt)?.as_secs_f64() * 1e6;
-    if !ran {
-        return Err(io::ErrorKind::OutOfMemory.into());
-    }
+    let micros = micros_of_frame(rt, &mut world, systems, workers);
+    drop(world);
     let count = systems.len();
+    let micros = micros?;
     println!(rt; "{name} {count} {workers} {micros:.1}")
+}
+
+/// The time of one frame.
+fn micros_of_frame<R, S>(
+    rt: &R,
+    world: &mut World,
+    systems: &[S],
+    workers: usize,
+) -> io::Result<f64>
+where
+    R: Threads + Sync + Clock + AllocGlobal,
+    S: System + Sync,
+    requires flushed { world.old.allocator.asked ≡ 0 }
+    requires systems { length systems.now ≤ 2 ^ 16 }
+    requires some { 0 < workers }
+    requires few { workers ≤ 64 }
+{
+    let start = Instant::now(rt)?;
+    let ran = run_frame(rt, rt.alloc(), world, systems, workers, &NoGate).is_ok();
+    let micros = start.elapsed(rt)?.as_secs_f64() * 1e6;
+    if ran {
+        Ok(micros)
+    } else {
+        Err(io::ErrorKind::OutOfMemory.into())
+    }
 }
 
 /// Times the work of the systems by itself.

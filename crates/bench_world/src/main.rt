@@ -88,16 +88,24 @@ where
             rounds: spawns / systems.max(1),
         };
         let (world, seconds) = in_turns(rt, turns)?;
-        let commands = turns.spawns();
-        let living = world.len();
-        let sum = sum_of(&world, commands);
-        if timed {
-            println!(rt; "turns|{systems}|{commands}|{seconds:.9}|{living}|{sum}")?;
-        } else {
-            println!(rt; "turns systems {systems} commands {commands} living {living} sum {sum}")?;
-        }
+        print_turn(rt, &world, turns, seconds, timed)?;
     }
     Ok(())
+}
+
+fn print_turn<R>(rt: &R, world: &World, turns: Turns, seconds: f64, timed: bool) -> io::Result<()>
+where
+    R: Print,
+{
+    let systems = turns.systems;
+    let commands = turns.spawns();
+    let living = world.len();
+    let sum = sum_of(world, commands);
+    if timed {
+        println!(rt; "turns|{systems}|{commands}|{seconds:.9}|{living}|{sum}")
+    } else {
+        println!(rt; "turns systems {systems} commands {commands} living {living} sum {sum}")
+    }
 }
 
 /// Issues the commands and applies them to an empty world. Returns the seconds of `apply`.
@@ -200,7 +208,16 @@ where
 /// The sync point. Returns the seconds of `apply`.
 fn timed<R>(rt: &R, mut world: World, queues: &[CommandQueue]) -> io::Result<(World, f64)>
 where
-    R: Clock + AllocGlobal,
+    R: Clock,
+    requires { length queues.now ≤ 2 ^ 16 }
+{
+    let seconds = seconds_of(rt, &mut world, queues)?;
+    Ok((world, seconds))
+}
+
+fn seconds_of<R>(rt: &R, world: &mut World, queues: &[CommandQueue]) -> io::Result<f64>
+where
+    R: Clock,
     requires { length queues.now ≤ 2 ^ 16 }
 {
     let start = Instant::now(rt)?;
@@ -212,7 +229,7 @@ where
     if !report.faults.is_empty() {
         return Err(io::ErrorKind::Unsupported.into());
     }
-    Ok((world, seconds))
+    Ok(seconds)
 }
 
 fn print_line<R>(rt: &R, world: &World, work: Work, seconds: f64, timed: bool) -> io::Result<()>
@@ -253,12 +270,16 @@ fn sum_of(world: &World, slots: u32) -> i64 {
 fn filled<R: AllocGlobal>(rt: &R, entities: u32) -> io::Result<World> {
     let mut world = World::new(rt.alloc(), Limits::default_limits());
     let mut bundle = bundle(rt.alloc(), VALUE, 7);
+    fill(&mut world, &mut bundle, entities)?;
+    Ok(world)
+}
+
+fn fill(world: &mut World, bundle: &mut Bundle, entities: u32) -> io::Result<()> {
     for ordinal in 1..entities {
-        spawn(&mut world, ordinal, &bundle)?;
+        spawn(world, ordinal, bundle)?;
     }
     let _ = bundle.put(FLAG, 1);
-    spawn(&mut world, 0, &bundle)?;
-    Ok(world)
+    spawn(world, 0, bundle)
 }
 
 fn spawn(world: &mut World, ordinal: u32, bundle: &Bundle) -> io::Result<()> {

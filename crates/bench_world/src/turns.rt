@@ -1,5 +1,5 @@
 //! Queues of systems that reserved in turns: between two slots of one there is one of each other.
-ghost use Rattle.std.specs.Prelude.{◌≡◌};
+ghost use Rattle.std.specs.Prelude.{All};
 ghost use Rattle.ent_shared.specs.Phase.{IsOf};
 
 use crate::work::{VALUE, bundle};
@@ -35,18 +35,29 @@ impl Turns {
     /// The queue of one system. It is issued in a phase of its own, in which another reserver takes
     /// what the other systems would.
     fn queue(self, alloc: Global, system: u32) -> io::Result<CommandQueue> {
-        let Ok((opened, mut reservers)) = World::new(alloc, Limits::default_limits()).open(2) else {
-            return Err(io::ErrorKind::OutOfMemory.into());
-        };
-        let Some(mut own) = reservers.pop() else {
-            return Err(io::ErrorKind::Unsupported.into());
-        };
-        let Some(mut others) = reservers.pop() else {
-            return Err(io::ErrorKind::Unsupported.into());
-        };
-        let _ = opened.shared().reserve_many(&mut others, system);
-        Ok(issued(alloc, opened.shared(), &mut own, &mut others, self, system))
+        match World::new(alloc, Limits::default_limits()).open(2) {
+            Ok((opened, mut reservers)) => {
+                issued_by_two(alloc, opened.shared(), &mut reservers, self, system)
+            }
+            Err(_) => Err(io::ErrorKind::OutOfMemory.into()),
+        }
     }
+}
+
+fn issued_by_two(
+    alloc: Global,
+    shared: &Shared,
+    reservers: &mut [Reserver],
+    turns: Turns,
+    system: u32,
+) -> io::Result<CommandQueue>
+    requires { All (IsOf shared.now) reservers.old }
+{
+    let [own, others] = reservers else {
+        return Err(io::ErrorKind::Unsupported.into());
+    };
+    let _ = shared.reserve_many(others, system);
+    Ok(issued(alloc, shared, own, others, turns, system))
 }
 
 fn issued(
