@@ -337,7 +337,7 @@ def measure(parts):
     if not parts:
         begin = lines.index(MACHINE) + 1
         end = lines.index("", begin)
-        free = f"Before each script the processors had nothing to do for at least {100 * least:.0f} % of a second."
+        free = f"In the second before each script the processors were idle for at least {100 * least:.0f} % of the time."
         lines[begin:end] = [f"{machine()}.", free]
         PAGE.write_text("\n".join(lines) + "\n")
     CHART.write_text(drawn(lines))
