@@ -3,10 +3,6 @@
 # lints, and each example, which must print what its first comment says.
 set -eu
 cd "$(dirname "$0")/../rust/forgeni"
-if ! command -v cargo >/dev/null; then
-    echo "rust/forgeni: not tested, since there is no cargo on the PATH"
-    exit 0
-fi
 cargo test --offline
 if command -v valgrind >/dev/null; then
     # Rust's standard library keeps a handle of the main thread, of which valgrind says that it may be lost. So only what is lost for sure
