@@ -1,6 +1,10 @@
 -- What an export answers: a code, and a handle where one was given.
 use Rattle.std.specs.Prelude.{ℕ, List, [], ◌∷◌, ◌≡◌, ◌⊎◌}
 use Rattle.ent_handle.specs.Handle.{Handle}
+use Rattle.ent_alloc.specs.declared.fault.AllocFault.{AllocFault}
+use Rattle.ent_alloc.specs.declared.fault.AllocFault.TheVariants as alloc
+use Rattle.ent_alloc.specs.declared.fault.FreeFault.{FreeFault}
+use Rattle.ent_alloc.specs.declared.fault.FreeFault.TheVariants as free
 
 -- it was done
 abbrev pub done : ℕ
@@ -115,6 +119,18 @@ not_stopped = 29
 -- the queues have stopped
 abbrev pub not_fresh : ℕ
 not_fresh = 30
+
+-- the code of a refused `alloc`
+abbrev pub code_of_alloc : AllocFault → ℕ
+code_of_alloc alloc.NeedsFlush = needs_flush
+code_of_alloc alloc.Space = no_space
+code_of_alloc alloc.Memory = no_memory
+
+-- the code of a refused `free`
+abbrev pub code_of_free : FreeFault → ℕ
+code_of_free free.NeedsFlush = needs_flush
+code_of_free free.NotAlive = not_alive
+code_of_free free.Memory = no_memory
 
 -- the code is one of these
 abbrev pub IsOneOf : List ℕ → ℕ → Type 0

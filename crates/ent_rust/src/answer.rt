@@ -1,6 +1,8 @@
-ghost use Rattle.std.specs.Prelude.{◌≡◌};
-ghost use Rattle.ent_rust.specs.Answers.{handle};
+ghost use Rattle.std.specs.Prelude.{◌≡◌, None, IfSome, IfOk, IfErr};
+ghost use Rattle.ent_rust.specs.Answers.{done, done_and_retired, handle};
+ghost use Rattle.ent_rust.specs.Answers.{code_of_alloc, code_of_free};
 
+use ent_alloc::{AllocFault, FreeFault, Freed};
 use ent_handle::Handle;
 
 /// It was done.
@@ -107,6 +109,36 @@ impl Answer {
             code,
             index: given.index(),
             generation: given.generation(),
+        }
+    }
+
+    /// What a call said that gives a handle: `alloc` of an allocator, or `spawn` of a world.
+    pub(crate) fn of_alloc(given: Result<Handle, AllocFault>) -> Self
+        ensures ok { IfOk given (λ h.
+            (result.code ≡ done) × (handle result.index result.generation ≡ h)) }
+        ensures err { IfErr given (λ fault. result.code ≡ code_of_alloc fault) }
+    {
+        match given {
+            Ok(handle) => Answer::with(DONE, handle),
+            Err(AllocFault::NeedsFlush) => Answer::alone(NEEDS_FLUSH),
+            Err(AllocFault::Space) => Answer::alone(NO_SPACE),
+            Err(AllocFault::Memory) => Answer::alone(NO_MEMORY),
+        }
+    }
+
+    /// What a call said that takes a handle back: `free` of an allocator, or `despawn` of a world.
+    pub(crate) fn of_free(freed: Result<Freed, FreeFault>) -> Self
+        ensures next { IfOk freed (λ f. IfSome f.next (λ h.
+            (result.code ≡ done) × (handle result.index result.generation ≡ h))) }
+        ensures retired { IfOk freed (λ f. f.next ≡ None → result.code ≡ done_and_retired) }
+        ensures err { IfErr freed (λ fault. result.code ≡ code_of_free fault) }
+    {
+        match freed {
+            Ok(Freed { next: Some(next) }) => Answer::with(DONE, next),
+            Ok(Freed { next: None }) => Answer::alone(DONE_AND_RETIRED),
+            Err(FreeFault::NeedsFlush) => Answer::alone(NEEDS_FLUSH),
+            Err(FreeFault::NotAlive) => Answer::alone(NOT_ALIVE),
+            Err(FreeFault::Memory) => Answer::alone(NO_MEMORY),
         }
     }
 

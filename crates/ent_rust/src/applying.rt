@@ -1,6 +1,7 @@
 //! The sync point: queues take effect on a world, and a report says what was done.
 ghost use Rattle.std.specs.Prelude.{◌≡◌, ◌≢◌, ◌<◌, ◌≤◌, ◌^◌, ◌↔◌, ◌⊎◌, [], ◌∷◌, None, Some, IsSome};
-ghost use Rattle.std.specs.Prelude.{IfSome, IfNone, length};
+ghost use Rattle.std.specs.Prelude.{IfSome, IfNone, IfOk, IfErr, OnOk, length};
+ghost use Rattle.ent_rust.specs.declared.held.Held.TheVariants as held;
 ghost use Rattle.ent_rust.specs.Holds.{HoldsOne, HoldsOther, HasSuch};
 ghost use Rattle.ent_rust.specs.Kinds.{BecomesOne, world_of, batch_of, report_of};
 ghost use Rattle.ent_rust.specs.Batch.{IsSynced, IsSyncedUntil, IsFinished, IsLeftUntil};
@@ -12,6 +13,7 @@ use crate::answer::{
     DONE, IS_FULL, IS_STOPPED, NEEDS_FLUSH, NO_MEMORY, NOT_FRESH, NOT_STOPPED, TOO_MANY,
 };
 use crate::batch::Batch;
+use crate::held::Held;
 use crate::object::{Object, new_room};
 use crate::stop::Stop;
 use crate::taking::{put_batch, put_report, put_world, take_batch, take_world};
@@ -20,6 +22,55 @@ use std::alloc::Global;
 
 /// How many queues may be applied at once.
 const QUEUES: usize = 65_536;
+
+/// A world and queues that were taken out of their objects, each with the box in which it was.
+#[derive(Drop)]
+struct Both {
+    room: Box<Held, Global>,
+    world: World,
+    list: Box<Held, Global>,
+    batch: Batch,
+}
+
+/// Takes out a world and queues, or says why not. The objects are empty then.
+fn take_both(alloc: Global, world: &mut Object, queues: &mut Object) -> Result<Both, u32>
+    ensures world { IfOk result (λ both. world.old.place.holds ≡ Some (held.World both.world)) }
+    ensures queues { IfOk result (λ both.
+        queues.old.place.holds ≡ Some (held.Batch both.batch)) }
+    ensures emptied { OnOk result ((world.new.place.holds ≡ None)
+        × (queues.new.place.holds ≡ None)) }
+    ensures why { IfErr result (λ code.
+        ((code ≡ is_empty) × ((world.old.place.holds ≡ None)
+        ⊎ HoldsOne world_of world.old.place.holds (λ _. queues.old.place.holds ≡ None)))
+        ⊎ ((code ≡ other_kind) × (HoldsOther world_of world.old.place.holds
+        ⊎ HoldsOne world_of world.old.place.holds (λ _.
+        HoldsOther batch_of queues.old.place.holds)))) }
+    ensures err { IfErr result (λ _. (world.new.place.holds ≡ world.old.place.holds)
+        × (queues.new.place.holds ≡ queues.old.place.holds)) }
+{
+    let (room, one) = take_world(alloc, world)?;
+    match take_batch(alloc, queues) {
+        Ok((list, batch)) => Ok(Both {
+            room,
+            world: one,
+            list,
+            batch,
+        }),
+        Err(code) => {
+            put_world(world, room, one);
+            Err(code)
+        }
+    }
+}
+
+/// Puts the two back.
+fn put_both(world: &mut Object, queues: &mut Object, both: Both)
+    ensures world { world.new.place.holds ≡ Some (held.World both.world) }
+    ensures queues { queues.new.place.holds ≡ Some (held.Batch both.batch) }
+{
+    put_world(world, both.room, both.world);
+    put_batch(queues, both.list, both.batch);
+}
 
 /// A code and, if a sync point stopped, where.
 #[derive(Clone, Copy)]
@@ -104,29 +155,26 @@ pub extern "C" fn ent_rust_apply(
     if report.is_full() {
         return SyncAnswer::none(IS_FULL);
     }
-    let (room, mut one) = match take_world(alloc, world) {
-        Ok(taken) => taken,
+    let both = match take_both(alloc, world, queues) {
+        Ok(both) => both,
         Err(code) => return SyncAnswer::none(code),
     };
-    let (list, batch) = match take_batch(alloc, queues) {
-        Ok(taken) => taken,
-        Err(code) => {
-            put_world(world, room, one);
-            return SyncAnswer::none(code);
-        }
-    };
-    let code = may_apply(&batch);
+    let code = may_apply(&both.batch);
     if code != DONE {
-        put_world(world, room, one);
-        put_batch(queues, list, batch);
+        put_both(world, queues, both);
         return SyncAnswer::none(code);
     }
     // The box first, so that the report has room.
     let Some(made) = new_room(alloc) else {
-        put_world(world, room, one);
-        put_batch(queues, list, batch);
+        put_both(world, queues, both);
         return SyncAnswer::none(NO_MEMORY);
     };
+    let Both {
+        room,
+        world: mut one,
+        list,
+        batch,
+    } = both;
     let applied = batch.apply(&mut one);
     put_world(world, room, one);
     match applied {
@@ -211,29 +259,26 @@ pub extern "C" fn ent_rust_go_on(
     if report.is_full() {
         return SyncAnswer::none(IS_FULL);
     }
-    let (room, mut one) = match take_world(alloc, world) {
-        Ok(taken) => taken,
+    let both = match take_both(alloc, world, queues) {
+        Ok(both) => both,
         Err(code) => return SyncAnswer::none(code),
     };
-    let (list, batch) = match take_batch(alloc, queues) {
-        Ok(taken) => taken,
-        Err(code) => {
-            put_world(world, room, one);
-            return SyncAnswer::none(code);
-        }
-    };
-    let code = may_go_on(&one, &batch);
+    let code = may_go_on(&both.world, &both.batch);
     if code != DONE {
-        put_world(world, room, one);
-        put_batch(queues, list, batch);
+        put_both(world, queues, both);
         return SyncAnswer::none(code);
     }
     // The box first, so that the report has room.
     let Some(made) = new_room(alloc) else {
-        put_world(world, room, one);
-        put_batch(queues, list, batch);
+        put_both(world, queues, both);
         return SyncAnswer::none(NO_MEMORY);
     };
+    let Both {
+        room,
+        world: mut one,
+        list,
+        batch,
+    } = both;
     let applied = batch.go_on(&mut one);
     put_world(world, room, one);
     match applied {

@@ -11,13 +11,10 @@ ghost use Rattle.ent_rust.specs.Answers.{no_handle, needs_flush};
 ghost use Rattle.ent_rust.specs.Answers.{no_space, not_alive, no_memory, is_alive, is_reserved};
 ghost use Rattle.ent_rust.specs.Answers.{is_gone, IsOneOf, handle};
 
-use crate::answer::{
-    Answer, DONE, DONE_AND_RETIRED, IS_ALIVE, IS_EMPTY, IS_GONE, IS_RESERVED, NEEDS_FLUSH,
-    NO_HANDLE, NO_MEMORY, NO_SPACE, NOT_ALIVE, OTHER_KIND,
-};
+use crate::answer::{Answer, IS_ALIVE, IS_EMPTY, IS_GONE, IS_RESERVED, NO_HANDLE, OTHER_KIND};
 use crate::held::Held;
 use crate::object::Object;
-use ent_alloc::{AllocFault, FreeFault, State};
+use ent_alloc::State;
 use ent_handle::Handle;
 use std::alloc::Global;
 
@@ -49,12 +46,7 @@ pub extern "C" fn ent_rust_alloc(alloc: Global, object: &mut Object) -> Answer
     };
     let given = entities.alloc();
     object.put(held);
-    match given {
-        Ok(handle) => Answer::with(DONE, handle),
-        Err(AllocFault::NeedsFlush) => Answer::alone(NEEDS_FLUSH),
-        Err(AllocFault::Space) => Answer::alone(NO_SPACE),
-        Err(AllocFault::Memory) => Answer::alone(NO_MEMORY),
-    }
+    Answer::of_alloc(given)
 }
 
 /// `Entities::free`. The answer has the handle that the slot gives next.
@@ -106,15 +98,7 @@ pub extern "C" fn ent_rust_free(
     };
     let freed = entities.free(handle);
     object.put(held);
-    match freed {
-        Ok(freed) => match freed.next {
-            Some(next) => Answer::with(DONE, next),
-            None => Answer::alone(DONE_AND_RETIRED),
-        },
-        Err(FreeFault::NeedsFlush) => Answer::alone(NEEDS_FLUSH),
-        Err(FreeFault::NotAlive) => Answer::alone(NOT_ALIVE),
-        Err(FreeFault::Memory) => Answer::alone(NO_MEMORY),
-    }
+    Answer::of_free(freed)
 }
 
 /// `Entities::state`.

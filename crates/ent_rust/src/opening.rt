@@ -1,5 +1,7 @@
 //! A world is opened for systems that issue commands side by side, and closed again.
 ghost use Rattle.std.specs.Prelude.{◌≡◌, ◌≢◌, ◌<◌, ◌↔◌, ◌⊎◌, [], ◌∷◌, ◌++◌, None, Some, IsSome, length};
+ghost use Rattle.std.specs.Prelude.{IfOk, IfErr, OnOk};
+ghost use Rattle.ent_rust.specs.declared.held.Held.TheVariants as held;
 ghost use Rattle.ent_shared.specs.Phase.{records_of};
 ghost use Rattle.ent_shared.specs.Record.{opened_records};
 ghost use Rattle.ent_rust.specs.Holds.{HoldsOne, HoldsOther};
@@ -13,11 +15,14 @@ use crate::answer::{
     DONE, IN_USE, IS_FULL, NEEDS_FLUSH, NO_COUNT, NO_MEMORY, NONE_HOME, NOT_ALL_HOME, OTHER_PHASE,
 };
 use crate::batch::Batch;
+use crate::held::Held;
 use crate::object::{Object, new_room};
 use crate::taking::{
     put_batch, put_issuer, put_world, put_world_phase, take_issuer, take_world, take_world_phase,
 };
 use crate::world_phase::WorldPhase;
+use ent_queue::CommandQueue;
+use ent_world::World;
 use std::alloc::Global;
 
 /// How many reservers a phase may have.
@@ -215,21 +220,8 @@ pub extern "C" fn ent_rust_world_close(
         put_world_phase(phase, room, one);
         return NO_MEMORY;
     };
-    match one.close() {
-        Ok((world, list)) => {
-            put_world(phase, room, world);
-            let batch = Batch {
-                queues: list,
-                stop: None,
-            };
-            put_batch(queues, made, batch);
-            DONE
-        }
-        Err(one) => {
-            put_world_phase(phase, room, one);
-            IN_USE
-        }
-    }
+    let closed = one.close();
+    put_closed(phase, room, queues, made, closed)
 }
 
 /// `OpenWorld::close_lost`, with the reservers that are at home. The other systems are lost, and
@@ -268,7 +260,28 @@ pub extern "C" fn ent_rust_world_close_lost(
         put_world_phase(phase, room, one);
         return NO_MEMORY;
     };
-    match one.close_lost() {
+    let closed = one.close_lost();
+    put_closed(phase, room, queues, made, closed)
+}
+
+/// Puts the world of a closed phase back, and the queues that came home into the empty object. A
+/// phase that could not be closed is put back as it was.
+fn put_closed(
+    phase: &mut Object,
+    room: Box<Held, Global>,
+    queues: &mut Object,
+    made: Box<Held, Global>,
+    closed: Result<(World, Vec<CommandQueue>), WorldPhase>,
+) -> u32
+    ensures done { OnOk closed (result ≡ done) }
+    ensures world { IfOk closed (λ c. phase.new.place.holds ≡ Some (held.World c.0)) }
+    ensures queues { IfOk closed (λ c. queues.new.place.holds
+        ≡ Some (held.Batch (record { queues = c.1.items; stop = None }))) }
+    ensures in_use { IfErr closed (λ one. (result ≡ in_use)
+        × (phase.new.place.holds ≡ Some (held.WorldPhase one))
+        × (queues.new.place.holds ≡ queues.old.place.holds)) }
+{
+    match closed {
         Ok((world, home)) => {
             put_world(phase, room, world);
             let batch = Batch {

@@ -17,14 +17,13 @@ ghost use Rattle.ent_rust.specs.Answers.{no_limits, no_handle, needs_flush, no_s
 ghost use Rattle.ent_rust.specs.Answers.{no_memory, IsOneOf, handle};
 
 use crate::answer::{
-    Answer, DONE, DONE_AND_RETIRED, IS_EMPTY, IS_FULL, NEEDS_FLUSH, NO_HANDLE, NO_LIMITS,
-    NO_MEMORY, NO_SPACE, NOT_ALIVE, OTHER_KIND,
+    Answer, DONE, IS_EMPTY, IS_FULL, NEEDS_FLUSH, NO_HANDLE, NO_LIMITS, NO_MEMORY, OTHER_KIND,
 };
 use crate::birth::BirthNumbers;
 use crate::held::Held;
 use crate::item::{Item, bundle_from};
 use crate::object::{Object, new_room};
-use ent_alloc::{AllocFault, FreeFault, Limits};
+use ent_alloc::Limits;
 use ent_handle::Handle;
 use ent_world::World;
 use std::alloc::Global;
@@ -104,12 +103,7 @@ pub extern "C" fn ent_rust_world_spawn(
     };
     let spawned = world.spawn(birth.birth(), &bundle);
     object.put(held);
-    match spawned {
-        Ok(handle) => Answer::with(DONE, handle),
-        Err(AllocFault::NeedsFlush) => Answer::alone(NEEDS_FLUSH),
-        Err(AllocFault::Space) => Answer::alone(NO_SPACE),
-        Err(AllocFault::Memory) => Answer::alone(NO_MEMORY),
-    }
+    Answer::of_alloc(spawned)
 }
 
 /// `World::despawn`. The answer has the handle that the slot gives next.
@@ -162,15 +156,7 @@ pub extern "C" fn ent_rust_world_despawn(
     };
     let freed = world.despawn(handle);
     object.put(held);
-    match freed {
-        Ok(freed) => match freed.next {
-            Some(next) => Answer::with(DONE, next),
-            None => Answer::alone(DONE_AND_RETIRED),
-        },
-        Err(FreeFault::NeedsFlush) => Answer::alone(NEEDS_FLUSH),
-        Err(FreeFault::NotAlive) => Answer::alone(NOT_ALIVE),
-        Err(FreeFault::Memory) => Answer::alone(NO_MEMORY),
-    }
+    Answer::of_free(freed)
 }
 
 /// `World::flush`.
