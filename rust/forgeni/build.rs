@@ -19,10 +19,13 @@ fn link() -> Result<(), String> {
     let library = here.join("../../crates/ent_rust");
     let archive = library.join("out/libent_rust.a");
     println!("cargo:rerun-if-changed={}", archive.display());
-    println!("cargo:rerun-if-changed={}", library.join("src").display());
+    let folders = source_folders(&library);
+    for folder in &folders {
+        println!("cargo:rerun-if-changed={}", folder.display());
+    }
     println!("cargo:rerun-if-env-changed=PATH");
     let rt = find_rt();
-    if !archive.is_file() || is_stale(&archive, &library) {
+    if !archive.is_file() || is_stale(&archive, &folders) {
         match &rt {
             Some(rt) => make(rt, &library)?,
             None if archive.is_file() => println!(
@@ -55,14 +58,27 @@ fn link() -> Result<(), String> {
     Ok(())
 }
 
-/// Whether a source of the library was written after its archive.
-fn is_stale(archive: &Path, library: &Path) -> bool {
-    let written = |path: &Path| path.metadata().and_then(|about| about.modified()).ok();
-    let Ok(sources) = library.join("src").read_dir() else {
-        return false;
+/// The folders with the sources of the library and of all below it. A few stand beside it: a change
+/// of theirs only makes the archive anew in vain.
+fn source_folders(library: &Path) -> Vec<PathBuf> {
+    let Some(crates) = library.parent().and_then(|crates| crates.read_dir().ok()) else {
+        return Vec::new();
     };
-    sources
+    let is_library = |name: &str| name.starts_with("ent_") && !name.ends_with("_tests");
+    crates
         .flatten()
+        .filter(|found| found.file_name().to_str().is_some_and(is_library))
+        .map(|found| found.path().join("src"))
+        .collect()
+}
+
+/// Whether a source in one of these folders was written after the archive.
+fn is_stale(archive: &Path, folders: &[PathBuf]) -> bool {
+    let written = |path: &Path| path.metadata().and_then(|about| about.modified()).ok();
+    folders
+        .iter()
+        .filter_map(|folder| folder.read_dir().ok())
+        .flat_map(|sources| sources.flatten())
         .any(|source| written(&source.path()) > written(archive))
 }
 
@@ -75,7 +91,7 @@ fn find_rt() -> Option<PathBuf> {
     rt.canonicalize().ok()
 }
 
-/// Proves the library and builds its archive. The first time it takes minutes.
+/// Proves the library and all below it, and builds its archive. That takes 10 to 15 minutes.
 fn make(rt: &Path, library: &Path) -> Result<(), String> {
     let made = Command::new(rt).arg("lib").current_dir(library).output();
     match made {

@@ -72,7 +72,8 @@ impl Handle {
         ((self.generation.get() as u64) << 32) | self.index as u64
     }
 
-    /// The handle that was packed so. `None` if these are the bits of no handle.
+    /// The handle that [`to_bits`](Self::to_bits) packed into these bits. `None` if they are the
+    /// bits of no handle.
     #[must_use]
     pub const fn from_bits(bits: u64) -> Option<Self> {
         Self::new(bits as u32, (bits >> 32) as u32)

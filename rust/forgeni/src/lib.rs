@@ -66,8 +66,11 @@
 //!   on, and can't be closed.
 //! - The `Shared` is dropped: its reservers still reserve, and the allocator goes with the last of
 //!   them.
-//! - Memory runs out: an `Err`, and nothing has changed. [`new`](Entities::new) and
-//!   [`with_limits`](Entities::with_limits) end as `Box::new` does.
+//! - Memory runs out in the library: an `Err`. Nothing has changed then, but where a sync point
+//!   stopped ([`Stopped`]). Where this package makes an object or a list of its own, it ends the
+//!   process, as `Box::new` and `Vec` do: [`new`](Entities::new) and
+//!   [`with_limits`](Entities::with_limits), the lists of a [`Report`], the items of an entity, a
+//!   call with more than 8 components, and the lists of a refused close.
 //!
 //! Nothing panics, unless the library broke its contracts ("the library answered ..").
 #![deny(unsafe_code, missing_docs)]

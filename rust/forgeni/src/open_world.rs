@@ -258,7 +258,8 @@ impl Commands {
         reading::by_birth(&self.kept)
     }
 
-    /// The system has issued all its commands. It can issue no more:
+    /// Ends the issuing, and returns the queue, which [`OpenWorld::close`] takes. The system can
+    /// issue no more:
     ///
     /// ```compile_fail
     /// let (open, mut systems) = forgeni::World::new().open(1).unwrap();

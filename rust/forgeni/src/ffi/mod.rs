@@ -6,7 +6,7 @@
 //! - an object is zeros at first, and then what the calls left there. A full one is given to one
 //!   call at a time, is never copied, nothing else writes it, and it is emptied once, when its owner
 //!   is dropped;
-//! - no two phases get the same number.
+//! - no two phases of an allocator get the same number, and no two of a world.
 //!
 //! An object may go to another thread: the library proves it of all that one can hold (`sent` in
 //! `crates/ent_rust/src/object.rt`). A move, a start or a join of a thread orders its calls.

@@ -45,7 +45,7 @@ extern "C" {
     fn ent_rust_caller_numbers(object: *mut Raw) -> CallerNumbers;
 }
 
-/// The number of the next phase. It would take centuries to come round.
+/// The number of the next phase of an allocator. It would take centuries to come round.
 static NEXT_PHASE: AtomicU64 = AtomicU64::new(0);
 
 impl Object {
@@ -53,7 +53,7 @@ impl Object {
     pub(crate) fn share(&mut self, count: usize) -> Result<u64, u32> {
         let phase = NEXT_PHASE.fetch_add(1, Ordering::Relaxed);
         // SAFETY: the object is borrowed alone for the call. The call tests the count. No other
-        // phase has this number.
+        // phase of an allocator has this number.
         match unsafe { ent_rust_share(self.alone(), count, phase) } {
             DONE => Ok(phase),
             code => Err(code),

@@ -116,8 +116,8 @@ extern "C" {
     fn ent_rust_report_faults(object: *mut Raw, list: *mut FaultRow, len: usize) -> u32;
 }
 
-/// The number of the next phase. No number is given to two phases, as the library wants: a program
-/// doesn't open 2^64 of them.
+/// The number of the next phase of a world. No number is given to two of them, as the library
+/// wants: a program doesn't open 2^64.
 static NEXT_PHASE: AtomicU64 = AtomicU64::new(0);
 
 impl Object {
