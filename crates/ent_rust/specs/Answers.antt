@@ -60,7 +60,7 @@ is_gone = 12
 abbrev pub no_credit : ℕ
 no_credit = 13
 
--- there is room for another number of handles than are reserved
+-- the list is longer or shorter than what it is to get
 abbrev pub no_room : ℕ
 no_room = 14
 
@@ -84,11 +84,12 @@ other_phase = 18
 abbrev pub not_all_home : ℕ
 not_all_home = 19
 
--- a caller of the phase is not at home yet
+-- a caller or a system of the phase is not at home yet
 abbrev pub in_use : ℕ
 in_use = 20
 
--- the list has room for more handles than one request may name
+-- the list has room for more handles than one request may name, or there are more queues than one
+-- sync point takes
 abbrev pub too_many : ℕ
 too_many = 21
 

@@ -45,7 +45,7 @@ pub(crate) const IS_GONE: u32 = 12;
 /// No more may be requested before a flush.
 pub(crate) const NO_CREDIT: u32 = 13;
 
-/// There is room for another number of handles than are reserved.
+/// The list is longer or shorter than what it is to get.
 pub(crate) const NO_ROOM: u32 = 14;
 
 /// The object holds something of another kind.
@@ -63,10 +63,11 @@ pub(crate) const OTHER_PHASE: u32 = 18;
 /// Not all reservers are at home.
 pub(crate) const NOT_ALL_HOME: u32 = 19;
 
-/// A caller of the phase is not at home yet.
+/// A caller or a system of the phase is not at home yet.
 pub(crate) const IN_USE: u32 = 20;
 
-/// The list has room for more handles than one request may name.
+/// The list has room for more handles than one request may name, or there are more queues than one
+/// sync point takes.
 pub(crate) const TOO_MANY: u32 = 21;
 
 /// All reservers are at home already.

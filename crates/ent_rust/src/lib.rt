@@ -1,9 +1,11 @@
 //! The proved allocator, storages and worlds for programs in plain Rust, as exports of a static
 //! library.
 //!
-//! A program keeps an `Object`, hands it to each call, and gets a code back. Each export tests what
-//! the call behind it requires. The safe calls over them are those of the package
-//! `rust/forgeni`.
+//! A program keeps an `Object`, hands it to each call, and gets a code back (`answer`). Each export
+//! tests what the call behind it requires. Which codes it gives stands in its clause `code`, and
+//! when, in the clause of that name. With every code but those of its success the objects are as
+//! they were (`refused`). A few requests are kept although they are refused: their clauses say so.
+//! The safe calls over them are those of the package `rust/forgeni`.
 #![tactic(auto)]
 
 pub mod answer;

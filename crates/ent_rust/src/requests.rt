@@ -1,7 +1,7 @@
 //! Handles are requested before they live, and a flush brings them to life.
-ghost use Rattle.std.specs.Prelude.{◌≡◌, ◌≢◌, ◌^◌, ◌<◌, ◌≤◌, ◌↔◌, [], ◌∷◌, None};
+ghost use Rattle.std.specs.Prelude.{◌≡◌, ◌≢◌, ◌^◌, ◌<◌, ◌≤◌, ◌↔◌, ◌⊎◌, [], ◌∷◌, None};
 ghost use Rattle.std.specs.Prelude.{IfSome, IfNone, Ok, IsErr, length, map};
-ghost use Rattle.ent_alloc.specs.Sequential.{reply_to, after_take, born, after_flush};
+ghost use Rattle.ent_alloc.specs.Sequential.{reply_to, after_take, born, made_at_flush, after_flush};
 ghost use Rattle.ent_rust.specs.Holds.{Holds, Becomes, HoldsOther, allocator_in};
 ghost use Rattle.ent_rust.specs.Answers.{done, is_empty, no_space, no_credit, no_room, no_memory};
 ghost use Rattle.ent_rust.specs.Answers.{other_kind, IsOneOf, handle};
@@ -68,6 +68,10 @@ pub extern "C" fn ent_rust_flush(alloc: Global, object: &mut Object, list: &mut 
         ↔ HoldsOther allocator_in object.old.place.holds }
     ensures room { result ≡ no_room
         ↔ Holds object.old.place.holds (λ a. length list.old ≢ length a.taken) }
+
+    // Memory is wanted for new slots, and for the list of those that come to life.
+    ensures memory { result ≡ no_memory → Holds object.old.place.holds (λ a.
+        (0 < made_at_flush a) ⊎ (0 < length a.taken)) }
     ensures refused { result ≢ done → object.new.place.holds ≡ object.old.place.holds }
     ensures unlisted { result ≢ done → list.new ≡ list.old }
     ensures code { IsOneOf (done ∷ is_empty ∷ other_kind ∷ no_room ∷ no_memory ∷ []) result }
@@ -102,6 +106,8 @@ fn flush(alloc: Global, entities: &mut Entities) -> Option<Vec<Handle>>
     ensures count { IfSome result (λ handles.
         length handles.items ≡ length entities.old.allocator.taken) }
     ensures refused { IfNone result (entities.new ≡ entities.old) }
+    ensures memory { IfNone result ((0 < made_at_flush entities.old.allocator)
+        ⊎ (0 < length entities.old.allocator.taken)) }
 {
     let mut handles = Vec::new(alloc);
     match entities.flush(&mut handles) {

@@ -1,10 +1,11 @@
 //! A storage: what living entities are made of.
 ghost use Rattle.std.specs.Prelude.{◌≡◌, ◌≢◌, ◌≤◌, ◌<◌, ◌+◌, ◌↔◌, ◌⊎◌, [], ◌∷◌, ◌++◌, None, Some};
-ghost use Rattle.std.specs.Prelude.{IsSome, IfSome, length, true, false};
+ghost use Rattle.std.specs.Prelude.{IsSome, IfSome, SomeIndex, slice_get, length, true, false};
 ghost use Rattle.std.specs.FinMap as map;
 ghost use Rattle.ent_handle.specs.Handle.{IsHandle};
 ghost use Rattle.ent_storage.specs.Components.{with_items, missing};
 ghost use Rattle.ent_storage.specs.EntityMap.{newborn, components_of, value_of, with_components};
+ghost use Rattle.ent_storage.specs.Places.{AreWithout};
 ghost use Rattle.ent_rust.specs.Holds.{HoldsOne, HoldsOther};
 ghost use Rattle.ent_rust.specs.Kinds.{BecomesOne, storage_of};
 ghost use Rattle.ent_rust.specs.Item.{component_id, bundle_of_items};
@@ -56,7 +57,8 @@ pub extern "C" fn ent_rust_storage_born(
         → BecomesOne storage_of object.old.place.holds object.new.place.holds (λ before after.
         (after.entities ≡ map.insert before.entities (handle index generation)
         (newborn (birth_of_numbers birth)))
-        × (after.places ≡ before.places ++ handle index generation ∷ [])) }
+        × (after.places ≡ before.places ++ handle index generation ∷ [])
+        × (0 < before.spare → after.spare + 1 ≡ before.spare)) }
     ensures present { result ≡ is_present ↔ HoldsOne storage_of object.old.place.holds (λ s.
         IsHandle (handle index generation)
         × (map.contains_key s.entities (handle index generation) ≡ true)) }
@@ -102,6 +104,11 @@ pub extern "C" fn ent_rust_storage_despawn(
         → BecomesOne storage_of object.old.place.holds object.new.place.holds (λ before after.
         (after.entities ≡ map.remove before.entities (handle index generation))
         × (after.spare ≡ before.spare + 1)) }
+    ensures places { result ≡ done
+        → BecomesOne storage_of object.old.place.holds object.new.place.holds (λ before after.
+        SomeIndex before.places (λ place.
+        (slice_get before.places place ≡ Some (handle index generation))
+        × AreWithout place before.places after.places)) }
     ensures absent { result ≡ is_absent ↔ HoldsOne storage_of object.old.place.holds (λ s.
         IsHandle (handle index generation)
         × (map.get s.entities (handle index generation) ≡ None)) }
