@@ -49,11 +49,14 @@ ends 2 '' 'error: ' "$here/one_caller.txt" replay again
 ends 2 '' 'error: ' "$here/one_caller.txt" replay --slots
 ends 2 '' 'error: ' "$here/one_caller.txt" replay --slots 0
 ends 2 '' 'error: ' "$here/one_caller.txt" replay --slots 4294967296
+ends 2 '' 'error: ' "$here/one_caller.txt" replay --slots 2 --slots 3
 ends 2 '' 'error: ' "$here/one_caller.txt" replay --workers 1
 ends 2 '' 'error: ' "$scripts/spawners.json" run --workers 0
 ends 2 '' 'error: ' "$scripts/spawners.json" run --workers 65
 ends 2 '' 'error: ' "$scripts/spawners.json" run --show rows
 ends 2 '' 'Runs schedules and scripts ' "$here/one_caller.txt" --help
+ends 2 '' 'Runs the schedule ' "$here/one_caller.txt" replay --help
+ends 2 '' 'Runs the script ' "$scripts/spawners.json" run --help
 
 ends 4 '' 'device' "$here" replay
 ends 4 '' 'device' "$here" run

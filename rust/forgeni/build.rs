@@ -1,8 +1,10 @@
 //! Finds the archive of `crates/ent_rust`, or has `rt` make it, and the C file that it allocates by.
 
 use std::env;
+use std::fs::File;
 use std::path::{Path, PathBuf};
 use std::process::Command;
+use std::time::SystemTime;
 
 fn main() {
     match link() {
@@ -15,6 +17,10 @@ fn main() {
 }
 
 fn link() -> Result<(), String> {
+    let is = |key: &str, value: &str| env::var(key).is_ok_and(|found| found == value);
+    if !is("CARGO_CFG_TARGET_ARCH", "x86_64") || !is("CARGO_CFG_TARGET_OS", "linux") {
+        return Err("forgeni is for Linux on x86-64: its library is machine code.".to_owned());
+    }
     let here = PathBuf::from(env::var("CARGO_MANIFEST_DIR").expect("cargo sets it"));
     let library = here.join("../../crates/ent_rust");
     let archive = library.join("out/libent_rust.a");
@@ -25,20 +31,15 @@ fn link() -> Result<(), String> {
     }
     println!("cargo:rerun-if-env-changed=PATH");
     let rt = find_rt();
+    // The declarations of src/ffi fit the sources. An older archive may have other exports.
     if !archive.is_file() || is_stale(&archive, &folders) {
-        match &rt {
-            Some(rt) => make(rt, &library)?,
-            None if archive.is_file() => println!(
-                "cargo:warning={} is older than its sources, and `rt` isn't on the PATH to make it anew.",
+        let Some(rt) = &rt else {
+            return Err(format!(
+                "forgeni needs {}, no older than its sources: put `rt` on the PATH, or run `rt lib` in crates/ent_rust.",
                 archive.display()
-            ),
-            None => {
-                return Err(format!(
-                    "forgeni needs {}: run `rt lib` in crates/ent_rust, or put `rt` on the PATH.",
-                    archive.display()
-                ))
-            }
-        }
+            ));
+        };
+        make(rt, &library, &archive)?;
     }
     let Some(heap) = heap_archive(rt.as_deref()) else {
         return Err(
@@ -58,18 +59,23 @@ fn link() -> Result<(), String> {
     Ok(())
 }
 
-/// The folders with the sources of the library and of all below it. A few stand beside it: a change
-/// of theirs only makes the archive anew in vain.
+/// `crates/ent_rust` and the libraries of this repository below it, by `crates.txt`.
+const LIBRARIES: [&str; 9] = [
+    "ent_alloc",
+    "ent_handle",
+    "ent_queue",
+    "ent_rust",
+    "ent_seats",
+    "ent_shared",
+    "ent_sorted",
+    "ent_storage",
+    "ent_world",
+];
+
+/// The folders with the sources of the library and of all below it.
 fn source_folders(library: &Path) -> Vec<PathBuf> {
-    let Some(crates) = library.parent().and_then(|crates| crates.read_dir().ok()) else {
-        return Vec::new();
-    };
-    let is_library = |name: &str| name.starts_with("ent_") && !name.ends_with("_tests");
-    crates
-        .flatten()
-        .filter(|found| found.file_name().to_str().is_some_and(is_library))
-        .map(|found| found.path().join("src"))
-        .collect()
+    let folder = |name| library.join("..").join(name).join("src");
+    LIBRARIES.into_iter().map(folder).collect()
 }
 
 /// Whether a source in one of these folders was written after the archive.
@@ -91,11 +97,17 @@ fn find_rt() -> Option<PathBuf> {
     rt.canonicalize().ok()
 }
 
-/// Proves the library and all below it, and builds its archive. That takes 10 to 15 minutes.
-fn make(rt: &Path, library: &Path) -> Result<(), String> {
+/// Proves the library and all below it, and builds its archive. That takes 10 to 15 minutes. The
+/// archive is dated to when it was begun, so that a source that changes meanwhile is newer.
+fn make(rt: &Path, library: &Path, archive: &Path) -> Result<(), String> {
+    let begun = SystemTime::now();
     let made = Command::new(rt).arg("lib").current_dir(library).output();
     match made {
-        Ok(made) if made.status.success() && library.join("out/libent_rust.a").is_file() => Ok(()),
+        Ok(made) if made.status.success() && archive.is_file() => File::options()
+            .write(true)
+            .open(archive)
+            .and_then(|file| file.set_modified(begun))
+            .map_err(|error| format!("{} can't be dated: {error}", archive.display())),
         Ok(made) => Err(format!(
             "`rt lib` failed in {}:\n{}{}",
             library.display(),

@@ -1,5 +1,6 @@
--- The sequential allocator: what one caller alone would see. Each call of this crate but `set_row`
--- is one of its steps, or reads it, and the calls of many threads are compared with it.
+-- The sequential allocator: what one caller alone would see. Each call of `Entities` is one of its
+-- steps or two, or reads it, but for the rows, which stand beside it (`specs/Entities`). The calls
+-- of many threads are compared with it.
 use Rattle.std.specs.Prelude.{ℕ, ◌+◌, ◌-◌, ℤ, pos, negsuc, suc, zero, ◌-ℤ◌, Bool, nat_lt, nat_le}
 use Rattle.std.specs.Prelude.{◌==◌, if◌then◌else◌, List, [], ◌∷◌, ◌++◌, length, take, drop, reverse}
 use Rattle.std.specs.Prelude.{filter, Result, Ok, Err, Option, None, Some, not, ◌||◌, refl}
@@ -49,7 +50,7 @@ is_old made h = nat_lt h.index made
 abbrev pub is_fresh : ℕ → Handle → Bool
 is_fresh made h = nat_le made h.index
 
--- what there was to give after the last flush, in the order in which it is given
+-- what there was to give when nothing was requested yet, in the order in which it is given
 abbrev pub available : Allocator → List Handle
 available s = s.taken ++ (s.aside ++ s.pool)
 

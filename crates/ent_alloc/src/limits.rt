@@ -1,7 +1,6 @@
 ghost use Rattle.std.specs.Prelude.{◌≡◌, ◌-◌, ◌^◌, ◌<◌, ◌≤◌, ◌↔◌, IsSome, IfSome};
 ghost use Rattle.ent_alloc.specs.Limits.{AreLimits};
 
-use std::fmt;
 use std::marker::Model;
 
 /// How many handles one caller may request between two flushes. It is this project's own limit:
@@ -76,13 +75,5 @@ impl Default for Limits {
 
     fn default() -> Self {
         Limits::default_limits()
-    }
-}
-
-impl fmt::Display for Limits {
-    fn fmt<W: fmt::Write>(&self, f: &mut fmt::Formatter<W>) -> fmt::Result {
-        let slots = self.slots;
-        let generations = self.generations;
-        write!(f, "{slots} slots, {generations} generations")
     }
 }

@@ -75,8 +75,8 @@ impl Entities {
     /// of their positions, then the fresh ones. It may be asked at any time until the next flush,
     /// also after later requests.
     ///
-    /// The span is one that `lower` returned since the last flush, or any with `high` from -2^60 to
-    /// the top, and `low` from `high - (2^32 - 1)` to `high`.
+    /// The span is one that `lower` returned, if no `flush` or `alloc` came since. Any other one
+    /// will do with `high` from -2^60 to the top, and `low` from `high - (2^32 - 1)` to `high`.
     ///
     /// # Errors
     ///
@@ -111,8 +111,8 @@ impl Entities {
         Ok(Reserved::new(&self.slots, 0, 0, index, index_end, count))
     }
 
-    /// What the request for one handle was given that found the cursor at `high`: the handle that
-    /// `reply` lists for its span. It is faster, since there is nothing to list.
+    /// What a request for one handle gets if it found the cursor at `high`: the only handle of the
+    /// list that `reply` gives for that span. It is faster than `reply`, since it makes no list.
     ///
     /// `high` is from -2^60 to the top.
     ///
@@ -146,7 +146,7 @@ impl Entities {
         self.available().saturating_sub(before) as u32
     }
 
-    /// How many handles there were to give after the last flush.
+    /// How many handles there were to give when nothing was requested yet.
     pub(crate) fn available(&self) -> u64
         ensures value { result ≡ length (available self.now.allocator) }
         ensures fits { result < 2 ^ 32 }

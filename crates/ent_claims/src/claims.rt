@@ -37,12 +37,13 @@ impl Model for Claims {
 }
 
 impl Claims {
-    /// The numbers below `numbers`, which is at most 65,536, and claimers for that many workers, 1
-    /// to 64. No number is claimed yet. Both limits are this project's own.
+    /// Makes the numbers below `numbers` ready to be claimed, and one claimer for each worker. No
+    /// number is claimed yet. `numbers` is at most 65,536, and `workers` is 1 to 64: both limits
+    /// are this project's own.
     ///
     /// # Errors
     ///
-    /// [`Memory`].
+    /// [`Memory`] if there is no memory for them. Nothing is left of them then.
     pub fn open(
         alloc: Global,
         numbers: usize,

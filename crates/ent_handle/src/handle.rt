@@ -12,11 +12,11 @@ use std::marker::Model;
 /// Names one occupant of one slot: the slot's index, and a generation that tells the slot's
 /// occupants apart.
 ///
-/// An index is 0 to 4,294,967,294, and a generation 1 to 2,147,483,647. As in Bevy, each occupant
-/// of a slot has the generation after that of the one before it, so that an earlier handle does
-/// not name a later occupant. After the last generation a slot has no more occupants, where in Bevy
-/// the first one comes again. The ranges are this project's own, and so is the order: by index, then by
-/// generation.
+/// An index is 0 to 4,294,967,294, and a generation 1 to 2,147,483,647: Bevy's ranges without the
+/// index that its placeholder has. As in Bevy, each occupant of a slot has the generation after
+/// that of the one before it, so that an earlier handle does not name a later occupant. After the
+/// last generation a slot has no more occupants, where in Bevy the first one comes again. The order
+/// is this project's own: by index, then by generation. Bevy's is by generation first.
 #[derive(Clone, Copy, Debug, PartialEq, Eq, Hash)]
 pub struct Handle {
     index: u32,

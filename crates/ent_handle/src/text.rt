@@ -73,7 +73,7 @@ impl Handle {
         Handle::new(decimal_value(index)?, decimal_value(generation)?)
     }
 
-    /// Appends the handle's text. It takes memory only if `out` has no room for the whole text.
+    /// Appends the handle's text. It succeeds if `out` has room for the whole text.
     ///
     /// # Errors
     ///

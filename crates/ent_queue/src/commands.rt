@@ -118,7 +118,8 @@ impl<'a> Commands<'a> {
     ///
     /// # Errors
     ///
-    /// `Memory`, and then nothing has changed.
+    /// `Memory`, and then nothing has changed. The bundle is dropped, and it has no `clone`: who
+    /// wants to try again keeps the list of its components, for [`Bundle::of`].
     pub fn insert(&mut self, handle: Handle, bundle: Bundle) -> Result<(), Memory>
         requires { IsReady self.old }
         ensures extends { Extends self.old self.new }

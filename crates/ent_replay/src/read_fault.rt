@@ -2,10 +2,11 @@ ghost use Rattle.std.specs.Prelude.{◌≡◌};
 ghost use Rattle.ent_replay.specs.ScheduleText.{line_cause_text};
 ghost use Rattle.ent_replay.specs.declared.read_fault.ReadFault.TheVariants.{Memory};
 
-use std::alloc::{AllocError, AllocFailed};
+use std::alloc::AllocFailed;
 use thiserror::Error;
 
-/// What is wrong with a line: the first of these that is.
+/// What is wrong with a line. The tests are made in the order of this list, and the first one that
+/// fails is the cause.
 #[derive(Clone, Copy, Debug, PartialEq, Eq, Hash)]
 pub enum Cause {
     /// The first word names no event.
@@ -46,14 +47,6 @@ pub enum ReadFault {
     /// Memory ran out.
     #[error("out of memory")]
     Memory,
-}
-
-impl From<AllocError> for ReadFault {
-    ghost from_gives = { λ _ fault. fault ≡ Memory };
-
-    fn from(_refused: AllocError) -> Self {
-        ReadFault::Memory
-    }
 }
 
 impl<T: Drop> From<AllocFailed<T>> for ReadFault {

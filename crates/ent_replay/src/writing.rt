@@ -200,7 +200,8 @@ fn write_line(outcome: &Result<Outcome, ReplayFault>, out: &mut Vec<u8>) -> Resu
     append(out, b"\n")
 }
 
-/// Appends the line of an event: what it gave, or why it was not applied.
+/// Appends the line of an event: what it gave, or why it was not applied. The outcome may not be
+/// `Memory`: an event that ran out of memory has no line.
 ///
 /// A line that lists handles may be long. It asks for all of its room before it writes a byte.
 ///
@@ -211,7 +212,6 @@ pub fn write_outcome(
     outcome: &Result<Outcome, ReplayFault>,
     out: &mut Vec<u8>,
 ) -> Result<(), Memory>
-    // An event that ran out of memory has no line.
     requires { outcome.now ≢ Err ReplayFault.Memory }
     ensures ok { OnOk result (out.new.items ≡ out.old.items ++ line_of outcome.now) }
     ensures err { OnErr result (out.new.items ≡ out.old.items) }

@@ -12,6 +12,7 @@ ghost use Rattle.ent_shared.specs.Record.{opened_records};
 ghost use Rattle.ent_runner.specs.Frame.{IsFrame, Ends, EndsInOrder, IsBrokenOff, IsLost, StopsAt};
 ghost use Rattle.ent_world.specs.OpenWorld.{world_at_start};
 ghost use Rattle.ent_runner.specs.Frame.{IfSyncStopped, IfStoppedAt, reserved_by};
+ghost use Rattle.ent_world.specs.Memory.{TakesMemoryAt};
 ghost use Rattle.ent_world.specs.Sync.{IsStop};
 ghost use Rattle.ent_runner.specs.Collecting.{queues_put};
 ghost use Rattle.ent_runner.specs.Worker.{IsRoomFor, HasReturns, HasClaimed, HaveWorked};
@@ -36,8 +37,11 @@ use std::thread::Threads;
 ///
 /// A worker has one reserver, and takes the next system that nobody has taken yet until none is
 /// left. Each system fills a queue of its own. The queues are applied in the order of the systems,
-/// whatever the order in which they ended. There are 1 to 64 workers and at most 65,536 systems,
-/// and the world is flushed. If a thread can't be started, its work is done by another one.
+/// whatever the order in which they ended. If a thread can't be started, another one does its work.
+///
+/// There have to be 1 to 64 workers and at most 65,536 systems. No handle may have been requested
+/// since the world's last flush, not even by a request that was refused: [`World::needs_flush`]
+/// has to be `false`, as it is in a new world, and after a flush or a frame that succeeded.
 ///
 /// # Errors
 ///
@@ -45,10 +49,10 @@ use std::thread::Threads;
 /// - [`FrameFault::Lost`] if memory was refused later, or a system returned so. No command was
 ///   applied. What the systems that ran had reserved stays reserved, and nothing else is:
 ///   [`World::flush`] brings it to life.
-/// - [`FrameFault::Sync`] if all systems ran and the sync point stopped. Unless memory was refused
-///   for the flush, the world is flushed, and [`World::apply_from`] goes on with these queues
-///   where it stopped. It then ends as this frame would have. After a refused flush
-///   [`World::apply`] does the same.
+/// - [`FrameFault::Sync`] if all systems ran and the sync point stopped for want of memory. The
+///   fault has the queues. If it stopped before any entity was born ([`SyncFault::FlushMemory`]),
+///   [`World::apply`] does the sync point. If it stopped at a command, [`World::apply_from`] goes
+///   on there. Both end as this frame would have.
 pub fn run_frame<R, S, G>(
     rt: &R,
     alloc: Global,
@@ -79,6 +83,13 @@ where
         StopsAt S.may_issue systems.now workers world.old queues world.new fault) }
     ensures stopped_flushed { IfSyncStopped result (λ fault _.
         fault ≢ SyncFault.FlushMemory → world.new.allocator.asked ≡ 0) }
+
+    // It stops before the births only if something is reserved, and else only at a command that may
+    // take memory in the world as it then is.
+    ensures flush_reserved { IfSyncStopped result (λ fault _.
+        fault ≡ SyncFault.FlushMemory → 0 < length world.new.allocator.taken) }
+    ensures stopped_memory { IfStoppedAt result (λ system command done _ queues.
+        TakesMemoryAt world.new system command done queues) }
 
     // What `World::apply_from` requires of who goes on after a stop at a command.
     ensures stop { IfStoppedAt result (λ system command done _ queues.

@@ -32,7 +32,8 @@ struct Both {
     batch: Batch,
 }
 
-/// Takes out a world and queues, or says why not. The objects are empty then.
+/// Takes out a world and queues, and leaves both objects empty; or says why not, and leaves both as
+/// they were.
 fn take_both(alloc: Global, world: &mut Object, queues: &mut Object) -> Result<Both, u32>
     ensures world { IfOk result (λ both. world.old.place.holds ≡ Some (held.World both.world)) }
     ensures queues { IfOk result (λ both.

@@ -3,9 +3,9 @@
 //!
 //! A program keeps an `Object`, hands it to each call, and gets a code back (`answer`). Each export
 //! tests what the call behind it requires. Which codes it gives stands in its clause `code`, and
-//! when, in the clause of that name. With every code but those of its success the objects are as
-//! they were (`refused`). A few requests are kept although they are refused: their clauses say so.
-//! The safe calls over them are those of the package `rust/forgeni`.
+//! when it gives one, in a clause that mostly has the code's name. With every code but those of its
+//! success the objects are as they were (`refused`). A few requests are kept although they are
+//! refused: their clauses say so. The safe calls over them are those of the package `rust/forgeni`.
 #![tactic(auto)]
 
 pub mod answer;

@@ -54,7 +54,8 @@ impl Phase {
         ensures phase { IfOk result (λ p. p.phase ≡ phase) }
         ensures shared { IfOk result (λ p.
             (p.shared.start ≡ entities.allocator) × (p.shared.count ≡ count)) }
-        ensures home { IfOk result (λ p. records_of p.home ≡ opened_records entities.allocator 0 count) }
+        ensures home { IfOk result (λ p.
+            records_of p.home ≡ opened_records entities.allocator 0 count) }
         ensures err { IfErr result (λ refused. refused ≡ entities) }
     {
         let (shared, home) = match share(alloc, entities, count) {

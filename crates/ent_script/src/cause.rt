@@ -37,7 +37,8 @@ impl ScriptCause {
     }
 }
 
-/// What is wrong with an operation: the first of these that is.
+/// What is wrong with an operation: the first test that it fails. The tests are made in the order
+/// of `specs/Reading`: its form, then what stands under its own key, then under the others.
 #[derive(Clone, Copy, Debug, PartialEq, Eq, Hash)]
 pub enum Cause {
     /// It is no object, or its keys are those of no operation.

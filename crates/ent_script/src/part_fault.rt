@@ -3,7 +3,6 @@ ghost use Rattle.ent_script.specs.declared.part_fault.PartFault.TheVariants as f
 
 use crate::cause::Cause;
 use ent_handle::Memory;
-use std::alloc::AllocFailed;
 
 /// Why an operation could not be read.
 #[derive(Clone, Copy, Debug, PartialEq, Eq)]
@@ -26,14 +25,6 @@ impl From<Memory> for PartFault {
     ghost from_gives = { λ _ fault. fault ≡ faults.Memory };
 
     fn from(_refused: Memory) -> Self {
-        PartFault::Memory
-    }
-}
-
-impl<T: Drop> From<AllocFailed<T>> for PartFault {
-    ghost from_gives = { λ _ fault. fault ≡ faults.Memory };
-
-    fn from(_refused: AllocFailed<T>) -> Self {
         PartFault::Memory
     }
 }

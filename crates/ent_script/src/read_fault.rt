@@ -31,7 +31,7 @@ pub enum ReadFault {
         /// Its number in the frame.
         system: usize,
     },
-    /// An operation is none.
+    /// An element of a system is no operation.
     #[error("no operation at {frame} {system} {operation}")]
     Operation {
         /// The number of its frame.

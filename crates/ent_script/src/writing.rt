@@ -161,13 +161,13 @@ fn append_line(fault: ReadFault, out: &mut Vec<u8>) -> Result<(), Memory>
     append(out, b"\n")
 }
 
-/// Appends the line of a refusal, as `refused operation 0 0 0 component`.
+/// Appends the line of a refusal, as `refused operation 0 0 0 component`. The fault may not be
+/// `Memory`, which has no line.
 ///
 /// # Errors
 ///
 /// `Memory` if there is no room for all of the line. `out` keeps its items then.
 pub fn write_refusal(fault: ReadFault, out: &mut Vec<u8>) -> Result<(), Memory>
-    // Want of memory has no line.
     requires { fault ≢ ReadFault.Memory }
     ensures ok { OnOk result (out.new.items ≡ out.old.items ++ refusal_line fault) }
     ensures err { OnErr result (out.new.items ≡ out.old.items) }

@@ -68,10 +68,10 @@ where
 /// text of each frame and of the world that the last one leaves. The script is one that
 /// `ent_script` has read.
 ///
-/// With several workers, which entity gets which handle may differ from run to run. The text by
-/// births of a script that names no handle stays the same, as long as no request is refused, as of
-/// a script that spawns no more entities in all than it has slots. What a frame has done is kept as
-/// text alone, so memory grows with the world, the text and the longest frame.
+/// With several workers, which entity gets which handle may differ from run to run. If the script
+/// names no handle and no request is refused, the text by births is the same in each run. No
+/// request is refused if the script spawns no more entities in all than it has slots. What a frame
+/// has done is kept as text alone, so memory grows with the world, the text and the longest frame.
 ///
 /// # Errors
 ///

@@ -83,7 +83,7 @@ pub record IsKept (start : Allocator) (at : ℤ) (log : List Reservation) (r : R
   pub credit : CreditAddsUp start r
   pub marks : MarksInOrder at log r
 
--- the top, and how many reservers there are, keep the word in its range
+-- nothing was requested, and the top keeps the word in its range
 pub record IsStart (start : Allocator) : Type 0 where
   pub flushed : start.asked ≡ 0
   pub top : top start < 2 ^ 32

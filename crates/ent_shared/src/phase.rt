@@ -29,7 +29,7 @@ pub fn share(
     ensures shared { IfOk result (λ made.
         (made.0.start ≡ entities.allocator) × (made.0.count ≡ n)) }
     ensures rows { IfOk result (λ made. made.0.rows ≡ entities.rows) }
-    // What is shared is in a state that steps lead to.
+    // What is shared is in a sound state.
     ensures sound { IfOk result (λ made. IsSound made.0.start) }
     ensures count { IfOk result (λ made. length made.1.items ≡ n) }
     ensures reservers { IfOk result (λ made.

@@ -190,7 +190,7 @@ impl Shared {
         ensures falls { AllPairs (λ earlier later. later.high <ℤ earlier.high)
             (reservations_of (records_of reservers.items)) }
 
-        // Each reserver has a number of its own. It is below the count.
+        // Each reserver has a number of its own.
         ensures numbers { AllPairs (λ r s. r.number ≢ s.number) (records_of reservers.items) }
 
         // No handle was given twice, and none was alive.

@@ -70,8 +70,8 @@ fn reserve(
     columns[id.0 as usize].reserve(place)
 }
 
-/// Whether a value of the component can be set at the place without memory. It may say no of a place
-/// that has a value.
+/// Whether a value of the component can be set at the place without memory. It may say no of a
+/// place that has a value.
 fn has_room(columns: &[SparseSet], place: usize, id: ComponentId) -> bool
     ensures { IsTrue result → HasRoomAt (column_at columns.now id.0) place }
 {

@@ -1,7 +1,6 @@
 ghost use Rattle.std.specs.Prelude.{◌≡◌};
 ghost use Rattle.ent_storage.specs.declared.fault.StorageFault.TheVariants.{Memory};
 
-use std::alloc::AllocError;
 use std::error::Error;
 use std::fmt;
 
@@ -12,7 +11,8 @@ pub enum StorageFault {
     Absent,
     /// An entity has that handle already.
     Present,
-    /// Memory ran out: a growth was really refused.
+    /// Memory ran out: a growth was really refused, or there would be more than 4,294,967,296
+    /// entities.
     Memory,
 }
 
@@ -32,14 +32,6 @@ impl fmt::Display for StorageFault {
 }
 
 impl Error for StorageFault {}
-
-impl From<AllocError> for StorageFault {
-    ghost from_gives = { λ _ fault. fault ≡ Memory };
-
-    fn from(_refused: AllocError) -> Self {
-        StorageFault::Memory
-    }
-}
 
 impl From<ent_handle::Memory> for StorageFault {
     ghost from_gives = { λ _ fault. fault ≡ Memory };

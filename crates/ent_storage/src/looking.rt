@@ -58,8 +58,8 @@ impl Storage {
         self.index.place(&self.living, handle)
     }
 
-    /// The value of a component of the entity at a place, whose handle has to be this one. It takes
-    /// constant time.
+    /// The value of a component of the entity at this place, which has to be that of the handle
+    /// (`place`). It takes constant time.
     #[inline(always)]
     pub fn get_at(&self, place: usize, handle: Handle, id: ComponentId) -> Option<i64>
         requires { slice_get self.now.places place ≡ Some handle }
@@ -68,8 +68,8 @@ impl Storage {
         self.living.value(place, id)
     }
 
-    /// The components and their values, by rising number, of the entity at a place, whose handle has
-    /// to be this one.
+    /// The components and their values, by rising number, of the entity at this place, which has to
+    /// be that of the handle.
     pub fn items_at(&self, place: usize, handle: Handle) -> Items<'_>
         requires { slice_get self.now.places place ≡ Some handle }
         ensures { option_map map.entries (components_of self.now.entities handle) ≡ Some result }
@@ -77,8 +77,8 @@ impl Storage {
         self.living.items(place)
     }
 
-    /// When and by whom the entity at a place was brought to life, whose handle has to be this one.
-    /// It takes constant time.
+    /// When and by whom the entity at this place was brought to life. The place has to be that of
+    /// the handle. It takes constant time.
     pub fn birth_at(&self, place: usize, handle: Handle) -> Birth
         requires { slice_get self.now.places place ≡ Some handle }
         ensures { birth_of self.now.entities handle ≡ Some result }

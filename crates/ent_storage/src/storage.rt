@@ -19,7 +19,8 @@ use std::marker::Model;
 ///
 /// It also has the handle at each place, and a number, `spare`: for how many more entities there is
 /// room. It takes constant time to look an entity up by its handle if the handles are those of an
-/// allocator, and else logarithmic time. Each component's values stand in a vector of their own.
+/// allocator that has retired few slots, and else logarithmic time. Each component's values stand
+/// in a vector of their own.
 #[derive(Drop)]
 pub struct Storage {
     pub(crate) living: Living,
@@ -76,8 +77,8 @@ impl Storage {
         self.living.is_empty()
     }
 
-    /// Changes the birth of the entity at a place, whose handle has to be this one, and leaves the
-    /// rest. It takes no memory and constant time.
+    /// Changes the birth of the entity at this place, which has to be that of the handle, and
+    /// leaves the rest. It takes no memory and constant time.
     pub fn set_birth_at(&mut self, place: usize, handle: Handle, birth: Birth)
         requires { slice_get self.old.places place ≡ Some handle }
         ensures entities { self.new.entities ≡ with_birth self.old.entities handle birth }
@@ -103,7 +104,8 @@ impl Storage {
     ///
     /// # Errors
     ///
-    /// `Memory`. The entities are as before, and `spare` is below `additional`. It may have grown.
+    /// `Memory` if there is no memory for so many, or if they would be more than 4,294,967,296. The
+    /// entities are as before, and `spare` is below `additional`. It may have grown.
     pub fn reserve(&mut self, additional: usize) -> Result<(), Memory>
         ensures entities { self.new.entities ≡ self.old.entities }
         ensures ok { OnOk result (additional ≤ self.new.spare) }
@@ -131,8 +133,11 @@ impl Storage {
     /// Adds an entity without components. With `spare` above 0 it takes no memory, and `spare` is
     /// then less by 1.
     ///
-    /// The time is that of one look-up, if the handle comes after all others, or if an entity of
-    /// the same slot has lived before. Else the later handles of the index move up by one.
+    /// The time is that of one look-up, if the handle comes after all others, or if the pair of an
+    /// entity that is gone stands where the new pair goes, or beside it. With an allocator's
+    /// handles that is the pair of the slot's last occupant. Else the later pairs of the index move
+    /// up by one. If the index is full, the pairs of all that are gone are dropped first, in one
+    /// pass.
     ///
     /// # Errors
     ///
@@ -212,9 +217,9 @@ impl Storage {
         Ok(())
     }
 
-    /// Takes out the entity at a place, whose handle has to be this one, and returns the handle of
-    /// the entity that has moved into the place: the last one, or nobody if it was the last itself.
-    /// It takes no memory, and `spare` is then greater by 1.
+    /// Takes out the entity at this place, which has to be that of the handle. Returns the handle
+    /// of the entity that has moved into the place, which was the last one; `None` if the entity
+    /// was the last one itself. It takes no memory, and `spare` is then greater by 1.
     ///
     /// The time is that of a look-up, for the entity that moves, and of a look at each component
     /// that any entity has ever had.
@@ -273,9 +278,9 @@ impl Storage {
         Ok(())
     }
 
-    /// Sets each of the components of the entity at a place, whose handle has to be this one, and
-    /// leaves its others as they are. If a component stands twice among the items, its last value
-    /// counts.
+    /// Sets each of these components of the entity at this place, and leaves its others as they
+    /// are. The place has to be that of the handle. If a component stands twice among the items,
+    /// its last value counts.
     ///
     /// It takes memory only for components that the entity does not have yet. The index is not
     /// searched.
@@ -330,8 +335,8 @@ impl Storage {
         Ok(self.remove_at(place, handle, id))
     }
 
-    /// Takes the component out of the entity at a place, whose handle has to be this one, and
-    /// returns the value that it had, or `None` if the entity does not have it. It takes no memory
+    /// Takes the component out of the entity at this place, which has to be that of the handle.
+    /// Returns the value that it had, or `None` if the entity does not have it. It takes no memory
     /// and constant time.
     #[inline(always)]
     pub fn remove_at(&mut self, place: usize, handle: Handle, id: ComponentId) -> Option<i64>

@@ -6,8 +6,8 @@ use ent_storage::Storage;
 use std::process::Abort;
 use std::test::Fail;
 
-// One entity gets components in an order that is neither rising nor falling, a second one has two of
-// them, and a third one none. Then the first one loses a component, and gets it again.
+// One entity gets components in an order that is neither rising nor falling, a second one has two
+// of them, and a third one none. Then the first one loses a component, and gets it again.
 #[test]
 fn components_are_listed_by_rising_number(rt: HostRuntime) -> Result<(), Fail> {
     let mut storage = Storage::new(rt.alloc());

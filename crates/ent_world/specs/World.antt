@@ -23,7 +23,7 @@ first_world limits = record { allocator = opening limits; phase = 0; entities = 
 abbrev pub AreLiving : Allocator → EntityMap → Type 0
 AreLiving s m = (h : Handle) → map.contains_key m h ≡ set.contains s.live h
 
--- What is true of every world: its allocator is in a state that steps lead to, and its map has
+-- What is true of every world: its allocator is as all steps leave it (`IsSound`), and its map has
 -- exactly those that are alive.
 pub record IsWorld (w : World) : Type 0 where
   pub sound : IsSound w.allocator

@@ -3,7 +3,8 @@
 //! All enter in the order of the flush, so that nothing moves: fresh slots come after all others,
 //! and old ones are there. Their births are of no system at first. Then the queues name them, one
 //! after the other, and an entity that has the birth of a system keeps it. Those that no queue
-//! lists are numbered at last. Each handle takes constant time.
+//! lists are numbered at last. Each handle takes constant time, as long as the storage's index has
+//! dropped no pair (`ent_storage`).
 ghost use Rattle.std.specs.Prelude.{◌≡◌, ◌≤◌, ◌++◌, ◌^◌, drop, length};
 ghost use Rattle.ent_queue.specs.Entry.{command_of};
 ghost use Rattle.ent_world.specs.Sync.{no_system, with_born, listed_by, handles_listed};

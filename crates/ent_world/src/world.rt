@@ -68,7 +68,7 @@ impl World {
         ensures world { IsWorld result }
     {
         let entities = Entities::new(alloc, limits);
-        // Whatever the limits are, it begins in a state that steps lead to, as `cursor` promises.
+        // Whatever the limits are, it begins in a sound state, as `cursor` promises.
         prove_eq!(entities.cursor(), 0);
         World {
             entities,
@@ -161,8 +161,8 @@ impl World {
         self.entities.needs_flush()
     }
 
-    /// Brings to life what is reserved. Each entity has the birth of its number among those that
-    /// are born, by no system, and no components.
+    /// Brings to life what is reserved, without components. The birth of each entity names the
+    /// phase that ends, no system, and the entity's number among those that are born.
     ///
     /// # Errors
     ///
@@ -179,12 +179,17 @@ impl World {
     }
 
     /// Brings an entity to life at once, with this birth and these components. Its handle is the
-    /// next one of the slot that was freed last, or the first one of a new slot if none waits.
+    /// next one of the slot that was freed last of those that wait, or the first one of a new slot
+    /// if none waits.
     ///
     /// # Errors
     ///
-    /// Nothing changes. `NeedsFlush` if handles were requested since the last flush, even if the
-    /// request was refused. `Space` if every slot has a living occupant or is retired. `Memory`.
+    /// Nothing changes.
+    ///
+    /// - `NeedsFlush` if handles were requested since the last flush, even if the request was
+    ///   refused.
+    /// - `Space` if every slot has a living occupant or is retired.
+    /// - `Memory` if there is no memory for the entity, for a component or for a new slot.
     pub fn spawn(&mut self, birth: Birth, bundle: &Bundle) -> Result<Handle, AllocFault>
         ensures front { IfOk result (λ handle.
             slice_get self.old.allocator.pool 0 ≡ Some handle) }
@@ -213,9 +218,13 @@ impl World {
     ///
     /// # Errors
     ///
-    /// Nothing changes. `NeedsFlush` if handles were requested since the last flush, even if the
-    /// request was refused; then `NotAlive`; then `Memory`, which never comes if the slot is
-    /// retired.
+    /// Nothing changes. The first of these that holds:
+    ///
+    /// - `NeedsFlush` if handles were requested since the last flush, even if the request was
+    ///   refused.
+    /// - `NotAlive` if the handle names no living entity.
+    /// - `Memory` if there is no memory for the slot to wait in. The slot of the last generation
+    ///   never waits, so its entity is never refused for that.
     pub fn despawn(&mut self, handle: Handle) -> Result<Freed, FreeFault>
         ensures ok { OnOk result (self.new ≡ after_despawn handle self.old) }
         ensures next { IfOk result (λ freed. freed.next ≡ next self.old.allocator.limits handle) }

@@ -28,6 +28,6 @@ pub record TellsOfValue (e : ReadFault) (found : List ℕ) : Type 0 where
   pub short : length shown ≤ 60
   pub is : found ≡ codes "; found " ++ shown ++ position_text e
 
--- that, or without memory for it where it stands alone
+-- that, or only where it stands: if there was no memory for the value, or if the text is long
 abbrev pub TellsOfScript : ReadFault → List ℕ → Type 0
 TellsOfScript e found = TellsOfValue e found ⊎ (found ≡ position_text e)

@@ -12,7 +12,7 @@ pub fn size_wants() -> &'static str
     "the input must have at most 67108864 bytes"
 }
 
-/// What the test of a schedule's line wants that has this cause.
+/// What a line of a schedule has to be: the demand that a line refused for this cause fails.
 pub fn line_wants(cause: LineCause) -> &'static str
     ensures { result.now ≡ line_wants cause }
 {
@@ -35,7 +35,8 @@ pub fn line_wants(cause: LineCause) -> &'static str
     }
 }
 
-/// What the test of a script wants that it fails. Want of memory fails none.
+/// What a script has to be: the demand that a script refused for this fault fails. Want of memory
+/// refuses no script, so its text is empty.
 pub fn script_wants(fault: ReadFault) -> &'static str
     ensures { result.now ≡ script_wants fault }
 {

@@ -1,10 +1,11 @@
 //! The program: what its words ask for, done between two devices, and what it says on the error
 //! stream.
-ghost use Rattle.std.specs.Prelude.{◌≡◌, ◌≢◌, ◌≤◌, ◌+◌, ◌⊎◌, min, map, length, codes, true, OnErr};
+ghost use Rattle.std.specs.Prelude.{◌≡◌, ◌≢◌, ◌≤◌, ◌+◌, ◌⊎◌, [], min, map, length, codes, true};
+ghost use Rattle.std.specs.Prelude.{OnErr};
 ghost use Rattle.std.specs.Prelude.{IfOk, IfSome, OnOk, string_bytes};
 ghost use Rattle.std.specs.IoError.{error_kind};
 ghost use Rattle.std.specs.Io.KnownBytes.{Appends};
-ghost use Rattle.clap.specs.Words.{takes};
+ghost use Rattle.clap.specs.Words.{fault_of, takes};
 ghost use Rattle.spawnrun_lib.specs.CommandLine.{IsFaulty, program};
 ghost use Rattle.spawnrun_lib.specs.Device.{OneFails, Takes, TakesAtMost};
 ghost use Rattle.spawnrun_lib.specs.Replay.{input_limit};
@@ -55,9 +56,11 @@ where
         HasDone task Status.Refused
         (I.remaining input.old) (O.written output.old) (O.written output.new)) }
 
-    // The words are faulty, exactly then without want of memory.
+    // The words are no command line, or ask for help. They have no other status, but 3 for want of
+    // memory.
     ensures faulty { result ≡ 2 → IsFaulty (map S.text words.now) }
     ensures taken { takes program (map S.text words.now) ≡ true → result ≢ 2 }
+    ensures unfaulty { result ≢ 2 → result ≢ 3 → fault_of program (map S.text words.now) ≡ [] }
     ensures unused_input { result ≡ 2 → input.new ≡ input.old }
     ensures unused_output { result ≡ 2 → output.new ≡ output.old }
 

@@ -27,8 +27,8 @@ use std::alloc::Global;
 /// After `Memory`, or a failure of the input, the output is as it was. `Device` is one failed call
 /// of one of the two devices.
 ///
-/// The error stream is told of a refused input alone: what the test wants that it fails, and what
-/// was found. Its failure changes nothing else.
+/// Only a refused input is told to the error stream: what the input has to be, and what was found
+/// instead. If the error stream fails, nothing else changes.
 pub fn replay<I: Source, O: Sink, E: Sink>(
     alloc: Global,
     input: &mut I,

@@ -28,8 +28,8 @@ use std::thread::Threads;
 /// After `Memory`, or a failure of the input, the output is as it was. `Device` is one failed call
 /// of one of the two devices.
 ///
-/// The error stream is told of a refused input alone: what the test wants that it fails, and what
-/// was found. Its failure changes nothing else.
+/// Only a refused input is told to the error stream: what the input has to be, and what was found
+/// instead. If the error stream fails, nothing else changes.
 pub fn run<R, I: Source, O: Sink, E: Sink>(
     rt: &R,
     alloc: Global,

@@ -7,16 +7,22 @@ use std::fmt;
 #[derive(Clone, Copy, Debug, PartialEq, Eq, Hash, PartialOrd, Ord)]
 pub struct ComponentId(pub u8);
 
-/// When and by whom an entity was brought to life: a name of the entity that needs no handle.
+/// When and by whom an entity was brought to life.
 ///
-/// Births are ordered by frame, then by system, then by ordinal.
+/// Of what the queues of a world's sync points list each entity has a birth of its own, which is a
+/// name that needs no handle, unless [`spawn_with_birth`](crate::World::spawn_with_birth) gives it
+/// to another one. Without a system several entities may have the same birth. Births are ordered
+/// by frame, then by system, then by ordinal.
 #[derive(Clone, Copy, Debug, PartialEq, Eq, Hash, PartialOrd, Ord)]
 pub struct Birth {
     /// The number of the phase that brought it to life.
     pub frame: u64,
-    /// The first system whose queue lists the entity, counted from 0.
+    /// The first of the queues, counted from 0, that lists the entity, or
+    /// [`NO_SYSTEM`](Self::NO_SYSTEM).
     pub system: u32,
-    /// How many handles that queue lists before it.
+    /// How many handles that queue lists before it. Without a system: how many that no queue lists
+    /// were brought to life before it by the same flush, or 0 from
+    /// [`World::spawn`](crate::World::spawn).
     pub ordinal: u32,
 }
 

@@ -107,6 +107,8 @@ impl fmt::Display for ShareError {
 impl Error for ShareError {}
 
 /// What [`Entities::share`](crate::Entities::share) returns if it refuses.
+///
+/// Like the allocator it isn't `Sync`. Its `error` is, for a box of errors that wants that.
 #[derive(Debug)]
 pub struct Unshared {
     /// The allocator as it was.
@@ -197,6 +199,8 @@ impl Error for CloseError {}
 
 /// What [`Shared::close`](crate::Shared::close) and
 /// [`Shared::close_lost`](crate::Shared::close_lost) return if they refuse. The phase goes on.
+///
+/// Like the `Shared` it isn't `Sync`. Its `error` is, for a box of errors that wants that.
 #[derive(Debug)]
 pub struct Unclosed {
     /// The allocator, which is still shared.

@@ -66,13 +66,17 @@
 //!   on, and can't be closed.
 //! - The `Shared` is dropped: its reservers still reserve, and the allocator goes with the last of
 //!   them.
+//! - Queues are applied to another world than that of their phase: [`SyncError::OtherWorld`].
 //! - Memory runs out in the library: an `Err`. Nothing has changed then, but where a sync point
-//!   stopped ([`Stopped`]). Where this package makes an object or a list of its own, it ends the
+//!   stopped ([`Stopped`]), and where a phase that wasn't closed keeps the queues that it took
+//!   ([`Unfinished`]). Where this package makes an object or a list of its own, it ends the
 //!   process, as `Box::new` and `Vec` do: [`new`](Entities::new) and
 //!   [`with_limits`](Entities::with_limits), the lists of a [`Report`], the items of an entity, a
-//!   call with more than 8 components, and the lists of a refused close.
+//!   call with more than 8 components, and [`World::open`] if memory runs out again on its way back.
 //!
-//! Nothing panics, unless the library broke its contracts ("the library answered ..").
+//! Nothing panics, unless the library broke its contracts ("the library answered .."). One thing no
+//! contract says: where [`Entities::share`] runs out of memory on its way, it closes the phase that
+//! it has begun, of which nobody else has a part, and takes for granted that this isn't refused.
 #![deny(unsafe_code, missing_docs)]
 
 mod component;
@@ -104,5 +108,5 @@ pub use open_world::{
 pub use report::{Fault, FaultKind, Report};
 pub use sharing::{Reserver, Shared};
 pub use storage::Storage;
-pub use sync::{GoOnError, Queues, Stopped, SyncError};
+pub use sync::{GoOnError, Queues, Stopped, SyncError, SyncErrorKind};
 pub use world::World;

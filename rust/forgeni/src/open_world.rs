@@ -17,33 +17,61 @@ use std::fmt;
 /// It may go to another thread, and so may the [`Commands`] of its systems.
 pub struct OpenWorld {
     kept: Object,
+    /// The number of the world.
+    world: u64,
+    phase: u64,
+    count: usize,
+    /// How many systems have no [`Commands`] outside: they have not begun, or their queue came.
+    home: usize,
 }
 
 impl OpenWorld {
-    /// The phase, and the commands of each system in a list that has room for them.
+    /// The phase of this number, of a world of that number.
+    pub(crate) fn new(kept: Object, world: u64, phase: u64, count: usize) -> Self {
+        Self {
+            kept,
+            world,
+            phase,
+            count,
+            home: count,
+        }
+    }
+
+    /// Gives out the commands of each system, into a list that has room for them. The spare memory
+    /// is for the way back.
     pub(crate) fn with_commands(
-        kept: Object,
-        count: usize,
+        mut self,
         mut all: Vec<Commands>,
+        spare: Vec<u8>,
     ) -> Result<(Self, Vec<Commands>), Unopened> {
-        let mut open = Self { kept };
-        for _ in 0..count {
-            match open.kept.world_commands() {
-                Ok(kept) => all.push(Commands { kept }),
-                Err(ffi::NO_MEMORY) => return Err(open.undone(all)),
+        for number in 0..self.count {
+            match self.kept.world_commands() {
+                Ok(kept) => all.push(Commands {
+                    kept,
+                    phase: self.phase,
+                    number,
+                }),
+                Err(ffi::NO_MEMORY) => {
+                    drop(spare);
+                    return Err(self.undone(all));
+                }
                 Err(code) => unknown(code),
             }
         }
-        Ok((open, all))
+        self.home = 0;
+        Ok((self, all))
     }
 
-    /// Ends the phase before it has begun.
-    fn undone(self, all: Vec<Commands>) -> Unopened {
-        let queues = all.into_iter().map(Commands::finish).collect();
-        match self.close(queues) {
-            Ok((world, _)) => Unopened {
-                world,
-                why: OpenError::Memory,
+    /// Ends the phase before it has begun. It makes no list, since memory ran out.
+    fn undone(mut self, all: Vec<Commands>) -> Unopened {
+        for mut commands in all {
+            // A refusal here is one of `world_close` too.
+            let _ = self.kept.world_finish(&mut commands.kept);
+        }
+        match self.kept.world_close() {
+            Ok(_) => Unopened {
+                world: World::of(self.kept, self.world),
+                error: OpenError::Memory,
             },
             Err(_) => handle_alloc_error(Layout::new::<[usize; 32]>()),
         }
@@ -61,6 +89,12 @@ impl OpenWorld {
         reading::birth(&self.kept, handle)
     }
 
+    /// Whether the entity is alive. What the systems spawn isn't yet.
+    #[must_use]
+    pub fn contains(&self, handle: Handle) -> bool {
+        self.birth(handle).is_some()
+    }
+
     /// The handles of all entities, by birth and then by handle.
     ///
     /// # Errors
@@ -70,14 +104,36 @@ impl OpenWorld {
         reading::by_birth(&self.kept)
     }
 
+    /// How many systems the phase has.
+    #[must_use]
+    pub fn count(&self) -> usize {
+        self.count
+    }
+
+    /// How many queues it has already: a close that was refused took them.
+    #[must_use]
+    pub fn at_home(&self) -> usize {
+        self.home
+    }
+
     /// Ends the phase with the queues of all its systems. Their order here is the order in which
-    /// they will take effect. Nothing of the world has changed but that handles are reserved.
+    /// they will take effect, and numbers their systems in births and faults. Nothing of the world
+    /// has changed but that handles are reserved.
     ///
     /// # Errors
     ///
-    /// The phase and the queues come back. `Missing` if the queue of a system isn't there;
-    /// `OtherPhase` if one is of another phase; `Memory`.
+    /// [`Unfinished`] has the phase. With [`OtherPhase`](FinishError::OtherPhase) and
+    /// [`Missing`](FinishError::Missing) all queues come back, in their order. With
+    /// [`Memory`](FinishError::Memory) the phase keeps the first ones, which stay before those that
+    /// the next close is given, and the others come back.
     pub fn close(self, queues: Vec<CommandQueue>) -> Result<(World, Queues), Unfinished> {
+        if let Err(error) = self.own(&queues) {
+            return Err(self.unfinished(queues, error));
+        }
+        let missing = self.count - self.home - queues.len();
+        if missing > 0 {
+            return Err(self.unfinished(queues, FinishError::Missing { count: missing }));
+        }
         let mut open = self.with_home(queues)?;
         let closed = open.kept.world_close();
         open.ended(closed)
@@ -93,52 +149,77 @@ impl OpenWorld {
     ///
     /// # Errors
     ///
-    /// The phase and the queues come back, as from [`close`](Self::close). `Missing` as long as the
-    /// `Commands` or the queue of a system exists that wasn't handed in: one that was given to
-    /// [`std::mem::forget`] exists for good. `OtherPhase` if a queue is of another phase; `Memory`.
+    /// As of [`close`](Self::close), without `Missing`. With [`InUse`](FinishError::InUse) the
+    /// `Commands` or the queue of a system exists that wasn't handed in. The phase keeps those that
+    /// were, and they stay before those that the next close is given. One that was given to
+    /// [`std::mem::forget`] exists for good.
     pub fn close_lost(self, queues: Vec<CommandQueue>) -> Result<(World, Queues), Unfinished> {
+        if let Err(error) = self.own(&queues) {
+            return Err(self.unfinished(queues, error));
+        }
         let mut open = self.with_home(queues)?;
         let closed = open.kept.world_close_lost();
         open.ended(closed)
     }
 
-    /// Takes these queues home, up to the first that is refused.
-    fn with_home(mut self, queues: Vec<CommandQueue>) -> Result<Self, Unfinished> {
-        let mut left = queues.into_iter();
-        while let Some(mut queue) = left.next() {
-            let why = match self.kept.world_finish(&mut queue.kept) {
-                ffi::DONE => continue,
-                ffi::OTHER_PHASE => FinishError::OtherPhase,
-                ffi::NO_MEMORY => FinishError::Memory,
-                code => unknown(code),
-            };
-            let mut queues = vec![queue];
-            queues.extend(left);
-            let open = self;
-            return Err(Unfinished { open, queues, why });
+    /// Whether all these queues are of this phase.
+    fn own(&self, queues: &[CommandQueue]) -> Result<(), FinishError> {
+        if queues.iter().all(|one| one.phase == self.phase) {
+            Ok(())
+        } else {
+            Err(FinishError::OtherPhase)
         }
-        Ok(self)
+    }
+
+    /// Takes these queues home, which are of this phase. For want of memory it stops at one, and
+    /// gives back that one and those after it.
+    fn with_home(mut self, mut queues: Vec<CommandQueue>) -> Result<Self, Unfinished> {
+        let mut taken = 0;
+        for queue in &mut queues {
+            match self.kept.world_finish(&mut queue.kept) {
+                ffi::DONE => taken += 1,
+                ffi::NO_MEMORY => break,
+                code => unknown(code),
+            }
+        }
+        self.home += taken;
+        queues.drain(..taken);
+        if queues.is_empty() {
+            Ok(self)
+        } else {
+            Err(self.unfinished(queues, FinishError::Memory))
+        }
     }
 
     /// The world and its queues, or why the phase, which holds them all, goes on.
     fn ended(self, closed: Result<Object, u32>) -> Result<(World, Queues), Unfinished> {
-        let why = match closed {
-            Ok(queues) => return Ok((World { kept: self.kept }, Queues { kept: queues })),
-            Err(ffi::NOT_ALL_HOME | ffi::IN_USE) => FinishError::Missing,
+        let error = match closed {
+            Ok(queues) => {
+                let queues = Queues::of(queues, self.world);
+                return Ok((World::of(self.kept, self.world), queues));
+            }
+            Err(ffi::IN_USE) => FinishError::InUse,
             Err(ffi::NO_MEMORY) => FinishError::Memory,
             Err(code) => unknown(code),
         };
-        Err(Unfinished {
+        Err(self.unfinished(Vec::new(), error))
+    }
+
+    fn unfinished(self, queues: Vec<CommandQueue>, error: FinishError) -> Unfinished {
+        Unfinished {
             open: self,
-            queues: Vec::new(),
-            why,
-        })
+            queues,
+            error,
+        }
     }
 }
 
 impl fmt::Debug for OpenWorld {
     fn fmt(&self, out: &mut fmt::Formatter<'_>) -> fmt::Result {
-        out.debug_struct("OpenWorld").finish_non_exhaustive()
+        out.debug_struct("OpenWorld")
+            .field("count", &self.count)
+            .field("at_home", &self.home)
+            .finish_non_exhaustive()
     }
 }
 
@@ -147,8 +228,12 @@ impl fmt::Debug for OpenWorld {
 ///
 /// A spawn reserves its handle at once, so a system knows what it will have spawned. The world can
 /// be read, as it was when it was opened.
+// A call writes the object, so two of them in a list share no line of a processor's cache.
+#[repr(align(128))]
 pub struct Commands {
     kept: Object,
+    phase: u64,
+    number: usize,
 }
 
 impl Commands {
@@ -249,6 +334,12 @@ impl Commands {
         reading::birth(&self.kept, handle)
     }
 
+    /// Whether the entity is alive. What the systems of the phase spawn isn't yet.
+    #[must_use]
+    pub fn contains(&self, handle: Handle) -> bool {
+        self.birth(handle).is_some()
+    }
+
     /// The handles of all entities, by birth and then by handle.
     ///
     /// # Errors
@@ -256,6 +347,13 @@ impl Commands {
     /// `OutOfMemory`: there is no memory for the list.
     pub fn by_birth(&self) -> Result<Vec<Handle>, OutOfMemory> {
         reading::by_birth(&self.kept)
+    }
+
+    /// Which of the systems it is: its position in the list that [`World::open`] gave, from 0.
+    /// Births and faults count systems by the order of their queues at the close instead.
+    #[must_use]
+    pub fn number(&self) -> usize {
+        self.number
     }
 
     /// Ends the issuing, and returns the queue, which [`OpenWorld::close`] takes. The system can
@@ -269,13 +367,19 @@ impl Commands {
     /// ```
     #[must_use]
     pub fn finish(self) -> CommandQueue {
-        CommandQueue { kept: self.kept }
+        CommandQueue {
+            kept: self.kept,
+            phase: self.phase,
+            number: self.number,
+        }
     }
 }
 
 impl fmt::Debug for Commands {
     fn fmt(&self, out: &mut fmt::Formatter<'_>) -> fmt::Result {
-        out.debug_struct("Commands").finish_non_exhaustive()
+        out.debug_struct("Commands")
+            .field("number", &self.number)
+            .finish_non_exhaustive()
     }
 }
 
@@ -283,11 +387,25 @@ impl fmt::Debug for Commands {
 /// [`OpenWorld::close_lost`] take it.
 pub struct CommandQueue {
     kept: Object,
+    phase: u64,
+    number: usize,
+}
+
+impl CommandQueue {
+    /// The number of its [`Commands`]. Queues that came in any order are put back in order by it:
+    /// `queues.sort_by_key(|one| one.number())`. A queue that a refused close kept stays where it
+    /// is.
+    #[must_use]
+    pub fn number(&self) -> usize {
+        self.number
+    }
 }
 
 impl fmt::Debug for CommandQueue {
     fn fmt(&self, out: &mut fmt::Formatter<'_>) -> fmt::Result {
-        out.debug_struct("CommandQueue").finish_non_exhaustive()
+        out.debug_struct("CommandQueue")
+            .field("number", &self.number)
+            .finish_non_exhaustive()
     }
 }
 
@@ -358,22 +476,32 @@ pub enum OpenError {
     Memory,
 }
 
+impl fmt::Display for OpenError {
+    fn fmt(&self, out: &mut fmt::Formatter<'_>) -> fmt::Result {
+        out.write_str(match self {
+            Self::NeedsFlush => "a flush is needed first",
+            Self::Count => "a phase has 1 to 1,024 systems",
+            Self::Memory => "out of memory",
+        })
+    }
+}
+
+impl Error for OpenError {}
+
 /// A world that was not opened, as it was.
+///
+/// Like the world it isn't `Sync`. Its `error` is, for a box of errors that wants that.
 #[derive(Debug)]
 pub struct Unopened {
     /// The world.
     pub world: World,
     /// Why it was not opened.
-    pub why: OpenError,
+    pub error: OpenError,
 }
 
 impl fmt::Display for Unopened {
     fn fmt(&self, out: &mut fmt::Formatter<'_>) -> fmt::Result {
-        out.write_str(match self.why {
-            OpenError::NeedsFlush => "a flush is needed first",
-            OpenError::Count => "a phase has 1 to 1,024 systems",
-            OpenError::Memory => "out of memory",
-        })
+        self.error.fmt(out)
     }
 }
 
@@ -382,33 +510,49 @@ impl Error for Unopened {}
 /// Why a phase was not closed.
 #[derive(Clone, Copy, Debug, PartialEq, Eq, Hash)]
 pub enum FinishError {
-    /// The queue of a system is missing. From [`OpenWorld::close_lost`]: a system that wasn't
-    /// handed in still exists.
-    Missing,
-    /// A queue is of another phase.
+    /// One of the queues is of another phase. All of them are handed back.
     OtherPhase,
-    /// Memory ran out.
+    /// The queues of some systems are missing. Those that came are handed back.
+    Missing {
+        /// How many.
+        count: usize,
+    },
+    /// The `Commands` or the queue of a system that wasn't handed in still exists. The phase keeps
+    /// the queues that came.
+    InUse,
+    /// Memory ran out. The phase keeps the queues that it took before.
     Memory,
 }
 
+impl fmt::Display for FinishError {
+    fn fmt(&self, out: &mut fmt::Formatter<'_>) -> fmt::Result {
+        match self {
+            Self::OtherPhase => out.write_str("a queue is of another phase"),
+            Self::Missing { count } => write!(out, "{count} queues are missing"),
+            Self::InUse => out.write_str("a system is still in use"),
+            Self::Memory => out.write_str("out of memory"),
+        }
+    }
+}
+
+impl Error for FinishError {}
+
 /// A phase that was not closed.
+///
+/// Like the phase it isn't `Sync`. Its `error` is, for a box of errors that wants that.
 #[derive(Debug)]
 pub struct Unfinished {
-    /// The phase. It keeps the queues that it took before the one that it refused.
+    /// The phase, which goes on.
     pub open: OpenWorld,
-    /// The others, the refused one first.
+    /// The queues that are handed back, in their order.
     pub queues: Vec<CommandQueue>,
     /// Why it was not closed.
-    pub why: FinishError,
+    pub error: FinishError,
 }
 
 impl fmt::Display for Unfinished {
     fn fmt(&self, out: &mut fmt::Formatter<'_>) -> fmt::Result {
-        out.write_str(match self.why {
-            FinishError::Missing => "the queue of a system is missing",
-            FinishError::OtherPhase => "a queue is of another phase",
-            FinishError::Memory => "out of memory",
-        })
+        self.error.fmt(out)
     }
 }
 

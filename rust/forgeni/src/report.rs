@@ -43,7 +43,8 @@ impl Fault {
                 wanted: row.wanted,
                 left: row.left as u32,
             },
-            _ => FaultKind::Credit { left: row.left },
+            2 => FaultKind::Credit { left: row.left },
+            kind => unknown(kind),
         };
         Self {
             system: row.system as usize,

@@ -1,7 +1,8 @@
 //! An allocator that many threads reserve from at once.
 
 use crate::entities::Entities;
-use crate::errors::{CloseError, OtherPhase, Refused, ShareError, Unclosed, Unshared};
+use crate::errors::{CloseError, OtherPhase, OutOfMemory, Refused, ShareError};
+use crate::errors::{Unclosed, Unshared};
 use crate::ffi::{self, unknown, Object, Pair};
 use crate::handle::Handle;
 use std::fmt;
@@ -32,10 +33,11 @@ impl Shared {
         mut self,
         mut reservers: Vec<Reserver>,
     ) -> Result<(Self, Vec<Reserver>), Unshared> {
-        while self.at_home() > 0 {
+        loop {
             match self.reserver() {
-                Some(reserver) => reservers.push(reserver),
-                None => return Err(self.undo(reservers)),
+                Ok(Some(reserver)) => reservers.push(reserver),
+                Ok(None) => break,
+                Err(OutOfMemory) => return Err(self.undo(reservers)),
             }
         }
         // The library gives the last one first.
@@ -70,15 +72,20 @@ impl Shared {
         self.numbers().home
     }
 
-    /// One of the reservers that are at home. `None` if none is, or if memory ran out.
-    pub fn reserver(&mut self) -> Option<Reserver> {
+    /// One of the reservers that are at home, or `None` if none is.
+    ///
+    /// # Errors
+    ///
+    /// `OutOfMemory`, and then nothing has changed.
+    pub fn reserver(&mut self) -> Result<Option<Reserver>, OutOfMemory> {
         match self.object.caller() {
-            Ok(object) => Some(Reserver {
+            Ok(object) => Ok(Some(Reserver {
                 object,
                 phase: self.phase,
                 list: Vec::new(),
-            }),
-            Err(ffi::NONE_HOME | ffi::NO_MEMORY) => None,
+            })),
+            Err(ffi::NONE_HOME) => Ok(None),
+            Err(ffi::NO_MEMORY) => Err(OutOfMemory),
             Err(code) => unknown(code),
         }
     }

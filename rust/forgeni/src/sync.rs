@@ -4,11 +4,21 @@ use crate::ffi::world::SyncAnswer;
 use crate::ffi::{self, unknown, Object};
 use crate::report::Report;
 use crate::world::World;
+use std::error::Error;
 use std::fmt;
 
-/// The queues of a phase, in the order of their systems, for one [`World::apply`].
+/// The queues of a phase, in the order in which they were handed in, for one [`World::apply`] of
+/// the world whose phase it was.
 pub struct Queues {
     pub(crate) kept: Object,
+    /// The number of the world.
+    pub(crate) world: u64,
+}
+
+impl Queues {
+    pub(crate) fn of(kept: Object, world: u64) -> Self {
+        Self { kept, world }
+    }
 }
 
 impl fmt::Debug for Queues {
@@ -17,41 +27,86 @@ impl fmt::Debug for Queues {
     }
 }
 
+/// Why a sync point didn't do all, without the queues that [`SyncError`] and [`GoOnError`] have. It
+/// is `Sync`, for a box of errors that wants that.
+#[derive(Clone, Copy, Debug, PartialEq, Eq, Hash)]
+pub enum SyncErrorKind {
+    /// The queues are of another world.
+    OtherWorld,
+    /// The world needs a flush first.
+    NeedsFlush,
+    /// There was no memory to begin.
+    Memory,
+    /// Memory ran out at a command.
+    Stopped {
+        /// The number of its queue among those that are applied, from 0.
+        system: usize,
+        /// Its number in that queue, from 0.
+        command: usize,
+    },
+}
+
+impl fmt::Display for SyncErrorKind {
+    fn fmt(&self, out: &mut fmt::Formatter<'_>) -> fmt::Result {
+        match self {
+            Self::OtherWorld => out.write_str("the queues are of another world"),
+            Self::NeedsFlush => out.write_str("a flush is needed first"),
+            Self::Memory => out.write_str("out of memory"),
+            Self::Stopped { system, command } => {
+                write!(out, "out of memory at command {command} of system {system}")
+            }
+        }
+    }
+}
+
+impl Error for SyncErrorKind {}
+
 /// Why a sync point didn't do all.
+///
+/// Like the queues it isn't `Sync`. Its [`kind`](Self::kind) is.
 #[derive(Debug)]
 pub enum SyncError {
+    /// The queues are of a phase of another world. Nothing was done, and these are the queues.
+    OtherWorld(Queues),
     /// There was no memory to begin. Nothing was done, and these are the queues.
     Memory(Queues),
     /// Memory ran out at a command.
     Stopped(Stopped),
 }
 
-impl fmt::Display for SyncError {
-    fn fmt(&self, out: &mut fmt::Formatter<'_>) -> fmt::Result {
+impl SyncError {
+    /// Which of them it is.
+    #[must_use]
+    pub fn kind(&self) -> SyncErrorKind {
         match self {
-            Self::Memory(_) => out.write_str("out of memory for the flush"),
-            Self::Stopped(stopped) => write!(
-                out,
-                "out of memory at command {} of system {}",
-                stopped.command, stopped.system
-            ),
+            Self::OtherWorld(_) => SyncErrorKind::OtherWorld,
+            Self::Memory(_) => SyncErrorKind::Memory,
+            Self::Stopped(stopped) => stopped.kind(),
         }
     }
 }
 
-impl std::error::Error for SyncError {}
+impl fmt::Display for SyncError {
+    fn fmt(&self, out: &mut fmt::Formatter<'_>) -> fmt::Result {
+        self.kind().fmt(out)
+    }
+}
+
+impl Error for SyncError {}
 
 /// Where a sync point stopped for want of memory. All births stand, and of the commands just those
 /// before the one that is named.
 #[derive(Debug)]
 pub struct Stopped {
-    /// The system at whose command it stopped.
+    /// The number of the queue at whose command it stopped, among those that are applied, from 0.
     pub system: usize,
-    /// The number of that command in its queue.
+    /// The number of that command in its queue, from 0.
     pub command: usize,
     /// How many handles of that command are done. It is 0 except at a spawn of many.
     pub done: usize,
-    /// What was done before, since the sync point began or went on.
+    /// What was done before, since the sync point began or went on. After
+    /// [`GoOnError::OtherWorld`], [`GoOnError::NeedsFlush`] and [`GoOnError::Memory`] it is the same
+    /// report again.
     pub so_far: Report,
     queues: Queues,
 }
@@ -67,16 +122,28 @@ impl Stopped {
         }
     }
 
-    /// Goes on from there, on the world in which it stopped. Nothing is flushed or born. The faults
-    /// of all reports together are those of a sync point that didn't stop.
+    fn kind(&self) -> SyncErrorKind {
+        SyncErrorKind::Stopped {
+            system: self.system,
+            command: self.command,
+        }
+    }
+
+    /// Goes on from there, on the world in which it stopped. Nothing is flushed or born. If nothing
+    /// else has changed the world since, then in the end the world, and the faults of all reports
+    /// together, are those of a sync point that didn't stop.
     ///
     /// # Errors
     ///
+    /// - [`GoOnError::OtherWorld`]: it stopped in another world. Nothing has changed.
     /// - [`GoOnError::NeedsFlush`]: handles were requested in the world since then. Nothing has
     ///   changed.
     /// - [`GoOnError::Memory`]: nothing has changed.
     /// - [`GoOnError::Stopped`]: it stopped again, there or later, and can go on from there.
     pub fn go_on(mut self, world: &mut World) -> Result<Report, GoOnError> {
+        if !world.owns(&self.queues) {
+            return Err(GoOnError::OtherWorld(self));
+        }
         let (answer, report) = world.kept.go_on(&mut self.queues.kept);
         match answer.code {
             ffi::DONE => Ok(Report { kept: report }),
@@ -89,8 +156,12 @@ impl Stopped {
 }
 
 /// Why a sync point that went on didn't do all.
+///
+/// Like the queues it isn't `Sync`. Its [`kind`](Self::kind) is.
 #[derive(Debug)]
 pub enum GoOnError {
+    /// It stopped in another world. Nothing has changed.
+    OtherWorld(Stopped),
     /// The world needs a flush first. Nothing has changed.
     NeedsFlush(Stopped),
     /// There was no memory to begin. Nothing has changed.
@@ -99,18 +170,23 @@ pub enum GoOnError {
     Stopped(Stopped),
 }
 
-impl fmt::Display for GoOnError {
-    fn fmt(&self, out: &mut fmt::Formatter<'_>) -> fmt::Result {
+impl GoOnError {
+    /// Which of them it is.
+    #[must_use]
+    pub fn kind(&self) -> SyncErrorKind {
         match self {
-            Self::NeedsFlush(_) => out.write_str("a flush is needed first"),
-            Self::Memory(_) => out.write_str("out of memory"),
-            Self::Stopped(stopped) => write!(
-                out,
-                "out of memory at command {} of system {}",
-                stopped.command, stopped.system
-            ),
+            Self::OtherWorld(_) => SyncErrorKind::OtherWorld,
+            Self::NeedsFlush(_) => SyncErrorKind::NeedsFlush,
+            Self::Memory(_) => SyncErrorKind::Memory,
+            Self::Stopped(stopped) => stopped.kind(),
         }
     }
 }
 
-impl std::error::Error for GoOnError {}
+impl fmt::Display for GoOnError {
+    fn fmt(&self, out: &mut fmt::Formatter<'_>) -> fmt::Result {
+        self.kind().fmt(out)
+    }
+}
+
+impl Error for GoOnError {}

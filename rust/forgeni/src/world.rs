@@ -12,15 +12,25 @@ use crate::report::Report;
 use crate::sync::{Queues, Stopped, SyncError};
 use std::alloc::{handle_alloc_error, Layout};
 use std::fmt;
+use std::hint::black_box;
+use std::sync::atomic::{AtomicU64, Ordering};
 
 /// The greatest number of systems of a phase.
 const SYSTEMS: usize = 1024;
+
+/// How many bytes [`World::open`] keeps free for the way back, should memory run out on its way.
+const SPARE: usize = 1 << 16;
+
+/// The number of the next world. It tells whose queues are applied.
+static NEXT_WORLD: AtomicU64 = AtomicU64::new(0);
 
 /// Who is alive, and what each entity is made of.
 ///
 /// A component is a number ([`ComponentId`]) and a value of 64 bits. Systems that run side by side
 /// don't touch the world: [`open`](Self::open) gives each its [`Commands`], and
-/// [`apply`](Self::apply) lets their queues take effect.
+/// [`apply`](Self::apply) lets their queues take effect. Outside of phases entities come and go at
+/// once ([`spawn`](Self::spawn), [`despawn`](Self::despawn)), and the components of a living one
+/// change by commands alone.
 ///
 /// ```
 /// use forgeni::{ComponentId, World};
@@ -47,9 +57,20 @@ const SYSTEMS: usize = 1024;
 /// It may go to another thread, and one thread has it at a time: it is `Send` and not `Sync`.
 pub struct World {
     pub(crate) kept: Object,
+    number: u64,
 }
 
 impl World {
+    /// The world of this number, with what it keeps.
+    pub(crate) fn of(kept: Object, number: u64) -> Self {
+        Self { kept, number }
+    }
+
+    /// Whether a phase of this world made the queues.
+    pub(crate) fn owns(&self, queues: &Queues) -> bool {
+        queues.world == self.number
+    }
+
     /// A world without entities, with the greatest limits.
     ///
     /// Where memory runs out, it ends as `Box::new` does.
@@ -76,14 +97,15 @@ impl World {
     /// `OutOfMemory` if there is no memory for the empty world.
     pub fn try_with_limits(limits: Limits) -> Result<Self, OutOfMemory> {
         match Object::new_world(limits.slots(), limits.generations()) {
-            Ok(kept) => Ok(Self { kept }),
+            Ok(kept) => Ok(Self::of(kept, NEXT_WORLD.fetch_add(1, Ordering::Relaxed))),
             Err(ffi::NO_MEMORY) => Err(OutOfMemory),
             Err(code) => unknown(code),
         }
     }
 
     /// Brings an entity to life at once, with these components. If one stands twice in the list,
-    /// its last value counts. Its birth names the phase, no system, and the ordinal 0.
+    /// its last value counts. Its birth names the phase, no system, and the ordinal 0, so all that
+    /// are spawned so between two flushes have the same one.
     ///
     /// # Errors
     ///
@@ -97,7 +119,7 @@ impl World {
         self.spawn_with_birth(birth, components)
     }
 
-    /// As [`spawn`](Self::spawn), with this birth.
+    /// As [`spawn`](Self::spawn), with this birth, which may be any.
     ///
     /// # Errors
     ///
@@ -202,7 +224,10 @@ impl World {
         self.counts().needs_flush
     }
 
-    /// Brings to life what is reserved, without components. [`apply`](Self::apply) does it too.
+    /// Brings to life what is reserved, without components: what the systems of a phase had
+    /// spawned whose queues are not to take effect. The birth of each entity names the phase that
+    /// ends, no system, and the entity's number among those that are born.
+    /// [`apply`](Self::apply) brings to life too.
     ///
     /// # Errors
     ///
@@ -235,18 +260,25 @@ impl World {
     /// ```
     pub fn open(mut self, count: usize) -> Result<(OpenWorld, Vec<Commands>), Unopened> {
         let mut all = Vec::new();
-        if all.try_reserve_exact(count.min(SYSTEMS)).is_err() {
-            let why = OpenError::Memory;
-            return Err(Unopened { world: self, why });
+        let mut spare = Vec::new();
+        if all.try_reserve_exact(count.min(SYSTEMS)).is_err()
+            || spare.try_reserve_exact(SPARE).is_err()
+        {
+            let error = OpenError::Memory;
+            return Err(Unopened { world: self, error });
         }
-        let why = match self.kept.world_open(count) {
-            ffi::DONE => return OpenWorld::with_commands(self.kept, count, all),
-            ffi::NEEDS_FLUSH => OpenError::NeedsFlush,
-            ffi::NO_COUNT => OpenError::Count,
-            ffi::NO_MEMORY => OpenError::Memory,
-            code => unknown(code),
+        let error = match self.kept.world_open(count) {
+            Ok(phase) => {
+                let open = OpenWorld::new(self.kept, self.number, phase, count);
+                // The compiler may not leave memory out that is only dropped.
+                return open.with_commands(all, black_box(spare));
+            }
+            Err(ffi::NEEDS_FLUSH) => OpenError::NeedsFlush,
+            Err(ffi::NO_COUNT) => OpenError::Count,
+            Err(ffi::NO_MEMORY) => OpenError::Memory,
+            Err(code) => unknown(code),
         };
-        Err(Unopened { world: self, why })
+        Err(Unopened { world: self, error })
     }
 
     /// The sync point: brings to life what is reserved, and then lets the queues take effect, one
@@ -255,10 +287,14 @@ impl World {
     ///
     /// # Errors
     ///
+    /// - [`SyncError::OtherWorld`]: the queues are of a phase of another world. Nothing was done.
     /// - [`SyncError::Memory`]: nothing was done, and the call may be made again with the queues.
     /// - [`SyncError::Stopped`]: memory ran out at a command. All births stand, and of the commands
     ///   just those before. It may [go on](Stopped::go_on).
     pub fn apply(&mut self, mut queues: Queues) -> Result<Report, SyncError> {
+        if !self.owns(&queues) {
+            return Err(SyncError::OtherWorld(queues));
+        }
         let (answer, report) = self.kept.apply(&mut queues.kept);
         match answer.code {
             ffi::DONE => Ok(Report { kept: report }),

@@ -108,13 +108,13 @@ fn declared() -> BTreeMap<String, String> {
 #[test]
 fn exports_are_declared_as_they_are() {
     assert_eq!(declared(), exports());
-    assert!(declared().len() >= 18);
+    assert_eq!(declared().len(), 48);
 }
 
 #[test]
 fn codes_are_those_of_the_library() {
     let (ours, theirs) = (codes(&package()), codes(&library()));
-    assert!(ours.len() >= 14);
+    assert_eq!(ours.len(), 19);
     for (name, code) in &ours {
         assert_eq!(theirs.get(name), Some(code), "{name}");
     }

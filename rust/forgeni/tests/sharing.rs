@@ -186,10 +186,10 @@ fn a_reserver_that_is_in_use() {
     let mut shared = refused.shared;
     assert_eq!((shared.count(), shared.at_home()), (2, 1));
     assert_eq!(away.reserve(), Ok(handle(1, 1)));
-    let mut back = shared.reserver().expect("at home");
+    let mut back = shared.reserver().expect("memory").expect("at home");
     assert_eq!((back.number(), back.quota_left()), (0, (1 << 40) - 1));
     assert_eq!(back.reserve(), Ok(handle(2, 1)));
-    assert!(shared.reserver().is_none());
+    assert!(shared.reserver().expect("memory").is_none());
     let entities = shared.close(vec![away, back]).expect("closed");
     assert_eq!((entities.asked(), entities.reserved()), (3, 3));
 }

@@ -4,8 +4,8 @@ mod common;
 
 use common::handle;
 use forgeni::{
-    AllocError, Birth, ComponentId, Fault, FaultKind, FinishError, FreeError, Freed, Limits,
-    OpenError, SpawnError, World,
+    AllocError, Birth, Commands, ComponentId, Fault, FaultKind, FinishError, FreeError, Freed,
+    Limits, OpenError, SpawnError, SyncError, SyncErrorKind, World,
 };
 
 const HP: ComponentId = ComponentId(0);
@@ -110,21 +110,124 @@ fn a_refused_spawn_is_a_fault() {
 #[test]
 fn a_phase_wants_all_its_queues() {
     let (open, mut systems) = World::new().open(2).expect("a phase");
-    let mut second = systems.pop().expect("a system").finish();
+    let second = systems.pop().expect("a system").finish();
     let first = systems.pop().expect("a system").finish();
     let left = open.close(vec![first]).expect_err("one is missing");
-    assert_eq!(left.why, FinishError::Missing);
-    assert_eq!(left.to_string(), "the queue of a system is missing");
+    assert_eq!(left.error, FinishError::Missing { count: 1 });
+    assert_eq!(left.to_string(), "1 queues are missing");
+    assert_eq!((left.open.count(), left.open.at_home()), (2, 0));
+    assert_eq!(left.queues.len(), 1);
+    let (open, mut queues) = (left.open, left.queues);
 
     let (other, mut others) = World::new().open(1).expect("a phase");
     let foreign = others.pop().expect("a system").finish();
-    let left = left.open.close(vec![foreign, second]).expect_err("foreign");
-    assert_eq!((left.why, left.queues.len()), (FinishError::OtherPhase, 2));
-    let mut queues = left.queues;
-    second = queues.pop().expect("a queue");
-    other.close(queues).expect("its own queue");
-    let (world, _) = left.open.close(vec![second]).expect("the last queue");
+    queues.push(foreign);
+    let left = open.close(queues).expect_err("foreign");
+    assert_eq!(
+        (left.error, left.queues.len()),
+        (FinishError::OtherPhase, 2)
+    );
+    assert_eq!(left.to_string(), "a queue is of another phase");
+    let left = left.open.close_lost(left.queues).expect_err("foreign");
+    assert_eq!(
+        (left.error, left.queues.len()),
+        (FinishError::OtherPhase, 2)
+    );
+    let (open, mut queues) = (left.open, left.queues);
+    let foreign = queues.pop().expect("a queue");
+    other.close(vec![foreign]).expect("its own queue");
+    queues.push(second);
+    let (world, _) = open.close(queues).expect("all queues");
     assert!(world.is_empty());
+}
+
+/// A system whose queue came late can still be put before the others.
+#[test]
+fn a_late_queue_keeps_its_number() {
+    let (open, mut systems) = World::new().open(2).expect("a phase");
+    assert_eq!((systems[0].number(), systems[1].number()), (0, 1));
+    let one = systems[1].spawn(&[(HP, 1)]).expect("a handle");
+    systems[0].insert(one, &[(HP, 2)]).expect("memory");
+    systems[1].insert(one, &[(HP, 3)]).expect("memory");
+    let late = systems.remove(0);
+    let queues = systems.into_iter().map(Commands::finish).collect();
+    let left = open.close(queues).expect_err("one is missing");
+    let mut queues = left.queues;
+    queues.push(late.finish());
+    queues.sort_by_key(|queue| queue.number());
+    let (mut world, queues) = left.open.close(queues).expect("all queues");
+    world.apply(queues).expect("memory");
+    assert_eq!(world.get(one, HP), Some(3));
+    assert_eq!(world.birth(one).map(|birth| birth.system), Some(1));
+}
+
+/// A close that is refused since a system is in use keeps the queues that came, before later ones.
+#[test]
+fn a_refused_close_keeps_its_queues() {
+    let (open, mut systems) = World::new().open(2).expect("a phase");
+    let mut second = systems.pop().expect("a system");
+    let mut first = systems.pop().expect("a system");
+    let one = first.spawn(&[(HP, 1)]).expect("a handle");
+    first.insert(one, &[(HP, 5)]).expect("memory");
+    second.insert(one, &[(HP, 2)]).expect("memory");
+    let left = open.close_lost(vec![second.finish()]).expect_err("in use");
+    assert_eq!((left.error, left.queues.len()), (FinishError::InUse, 0));
+    assert_eq!((left.open.count(), left.open.at_home()), (2, 1));
+    let left = left.open.close(Vec::new()).expect_err("one is missing");
+    assert_eq!(left.error, FinishError::Missing { count: 1 });
+    let (mut world, queues) = left.open.close(vec![first.finish()]).expect("all queues");
+    world.apply(queues).expect("memory");
+    assert_eq!(world.get(one, HP), Some(5));
+    assert_eq!(world.birth(one).map(|birth| birth.system), Some(1));
+}
+
+/// Handles of two worlds may have the same numbers, so the queues of one are none for the other.
+#[test]
+fn queues_of_another_world_are_refused() {
+    let queues_of = |world: World, value| {
+        let (open, mut systems) = world.open(1).expect("a phase");
+        systems[0].spawn(&[(HP, value)]).expect("a handle");
+        let queues = systems.into_iter().map(Commands::finish).collect();
+        open.close(queues).expect("all queues")
+    };
+    let (mut one, of_one) = queues_of(World::new(), 1);
+    let (mut other, of_other) = queues_of(World::default(), 2);
+    let refused = one.apply(of_other).expect_err("of another world");
+    assert_eq!(refused.kind(), SyncErrorKind::OtherWorld);
+    assert_eq!(refused.to_string(), "the queues are of another world");
+    assert!(one.needs_flush() && one.is_empty());
+    let SyncError::OtherWorld(of_other) = refused else {
+        panic!("{refused}");
+    };
+    one.apply(of_one).expect("memory");
+    other.apply(of_other).expect("memory");
+    assert_eq!(one.get(handle(0, 1), HP), Some(1));
+    assert_eq!(other.get(handle(0, 1), HP), Some(2));
+}
+
+/// While a phase goes on, the world is read as it was when it was opened.
+#[test]
+fn an_open_world_is_read() {
+    let mut world = World::new();
+    let birth = Birth {
+        frame: 7,
+        system: 3,
+        ordinal: 1,
+    };
+    let first = world.spawn(&[]).expect("a handle");
+    let other = world.spawn_with_birth(birth, &[(HP, 4)]).expect("a handle");
+    let (open, mut systems) = world.open(1).expect("a phase");
+    let only = &mut systems[0];
+    let new = only.spawn(&[]).expect("a handle");
+    assert_eq!(open.by_birth(), Ok(vec![first, other]));
+    assert_eq!(only.by_birth(), Ok(vec![first, other]));
+    assert_eq!(
+        (open.birth(other), only.birth(other)),
+        (Some(birth), Some(birth))
+    );
+    assert_eq!(birth.to_string(), "7.3.1");
+    assert!(open.contains(other) && only.contains(other));
+    assert!(!open.contains(new) && !only.contains(new));
 }
 
 /// A system that panicked is lost with its commands. What it had reserved comes to life.
@@ -134,7 +237,8 @@ fn a_phase_ends_without_a_lost_system() {
     let mut lost = systems.pop().expect("a system");
     let mut other = systems.pop().expect("a system");
     let left = open.close_lost(Vec::new()).expect_err("both exist");
-    assert_eq!((left.why, left.queues.len()), (FinishError::Missing, 0));
+    assert_eq!((left.error, left.queues.len()), (FinishError::InUse, 0));
+    assert_eq!(left.to_string(), "a system is still in use");
 
     let panicked = std::thread::spawn(move || {
         let handle = lost.spawn(&[(HP, 1)]).expect("a handle");
@@ -144,9 +248,10 @@ fn a_phase_ends_without_a_lost_system() {
     let mine = other.spawn(&[(SPEED, 3)]).expect("a handle");
     assert_eq!(mine, handle_of_the_other());
     let left = left.open.close(vec![other.finish()]).expect_err("one lost");
-    assert_eq!((left.why, left.queues.len()), (FinishError::Missing, 0));
+    let missing = FinishError::Missing { count: 1 };
+    assert_eq!((left.error, left.queues.len()), (missing, 1));
 
-    let (mut world, queues) = left.open.close_lost(Vec::new()).expect("one lost");
+    let (mut world, queues) = left.open.close_lost(left.queues).expect("one lost");
     assert!(world.needs_flush());
     let report = world.apply(queues).expect("memory");
     assert_eq!(report.faults(), []);
@@ -164,16 +269,17 @@ fn handle_of_the_other() -> forgeni::Handle {
 #[test]
 fn a_world_is_opened_for_some_systems() {
     let refused = World::new().open(0).expect_err("no system");
-    assert_eq!(refused.why, OpenError::Count);
+    assert_eq!(refused.error, OpenError::Count);
+    assert_eq!(refused.to_string(), "a phase has 1 to 1,024 systems");
     let refused = refused.world.open(1025).expect_err("too many");
-    assert_eq!(refused.why, OpenError::Count);
+    assert_eq!(refused.error, OpenError::Count);
     let (open, mut systems) = refused.world.open(1024).expect("a phase");
     systems[1023].spawn(&[]).expect("a handle");
     let queues = systems.into_iter().map(|one| one.finish()).collect();
     let (world, queues) = open.close(queues).expect("all queues");
     drop(queues);
     let refused = world.open(1).expect_err("not flushed");
-    assert_eq!(refused.why, OpenError::NeedsFlush);
+    assert_eq!(refused.error, OpenError::NeedsFlush);
     let mut world = refused.world;
     assert_eq!(world.flush(), Ok(()));
     let birth = Birth {
@@ -184,9 +290,9 @@ fn a_world_is_opened_for_some_systems() {
     assert_eq!(world.birth(handle(0, 1)), Some(birth));
 }
 
-/// What a world and a phase hold goes, in whatever order they are dropped.
+/// Commands and their queue outlive the phase, which goes with the last of them.
 #[test]
-fn dropped_in_any_order() {
+fn dropped_after_their_phase() {
     let mut world = World::new();
     for number in 0..100 {
         world.spawn(&[(HP, number)]).expect("a handle");

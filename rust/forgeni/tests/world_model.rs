@@ -178,11 +178,12 @@ fn phase(world: World, model: &mut WorldModel, seed: u64, way: Way, place: &str)
     let (queues, issued): (Vec<_>, Vec<_>) = systems.into_iter().map(System::finish).unzip();
     check_given(model, &issued, place);
     let (mut world, queues) = open.close(queues).expect("all queues");
-    let asked = issued
-        .iter()
-        .flatten()
-        .any(|command| matches!(command, Command::Spawn(handles, _) if !handles.is_empty()));
-    assert!(!asked || world.needs_flush(), "{place}: needs_flush");
+    let asked = issued.iter().flatten().any(|command| match command {
+        Command::Spawn(handles, _) => !handles.is_empty(),
+        Command::Refused(_) => true,
+        _ => false,
+    });
+    assert_eq!(world.needs_flush(), asked, "{place}: needs_flush");
     let report = world.apply(queues).expect("memory");
     let (born, faults) = model.apply(&issued);
     assert_eq!(report.born(), born, "{place}: born");

@@ -36,7 +36,6 @@ pub(crate) const NO_ROOM: u32 = 14;
 pub(crate) const NO_COUNT: u32 = 16;
 pub(crate) const NONE_HOME: u32 = 17;
 pub(crate) const OTHER_PHASE: u32 = 18;
-pub(crate) const NOT_ALL_HOME: u32 = 19;
 pub(crate) const IN_USE: u32 = 20;
 pub(crate) const IS_ABSENT: u32 = 25;
 pub(crate) const IS_PRESENT: u32 = 26;

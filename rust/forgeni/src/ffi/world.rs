@@ -155,11 +155,15 @@ impl Object {
         unsafe { ent_rust_world_counts(self.shared()) }
     }
 
-    /// The world becomes a phase with a number of its own.
-    pub(crate) fn world_open(&mut self, count: usize) -> u32 {
-        let number = NEXT_PHASE.fetch_add(1, Ordering::Relaxed);
-        // SAFETY: the object is borrowed alone for the call. The call tests the count.
-        unsafe { ent_rust_world_open(self.alone(), count, number) }
+    /// The world becomes a phase. Its number, or the code of the refusal.
+    pub(crate) fn world_open(&mut self, count: usize) -> Result<u64, u32> {
+        let phase = NEXT_PHASE.fetch_add(1, Ordering::Relaxed);
+        // SAFETY: the object is borrowed alone for the call. The call tests the count. No other
+        // phase of a world has this number.
+        match unsafe { ent_rust_world_open(self.alone(), count, phase) } {
+            DONE => Ok(phase),
+            code => Err(code),
+        }
     }
 
     /// The commands of one more system of the phase, or the code of the refusal.
