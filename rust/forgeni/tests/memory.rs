@@ -13,6 +13,15 @@ const ID: ComponentId = ComponentId(7);
 /// How many entities are spawned.
 const COUNT: u32 = 20_000;
 
+/// How often every second of them is despawned. All but the first of these commands are faults. Their
+/// list outgrows what the spawning leaves free, so memory runs out there too.
+const TIMES: usize = 8;
+
+/// How many small parts of memory there are to give back.
+const STEPS: usize = 512;
+
+const MIB: usize = 1 << 20;
+
 /// Set in the process with little memory.
 const LITTLE: &str = "FORGENI_LITTLE_MEMORY";
 
@@ -22,15 +31,15 @@ type Made = (Vec<(Handle, Option<i64>)>, Vec<Fault>);
 /// A place where a sync point stopped.
 type Place = (usize, usize, usize);
 
-/// A world, and the queues of two systems: the first spawns, the second despawns half of that, each
-/// entity twice, so that every second of its commands is a fault.
+/// A world, and the queues of two systems: the first spawns, and the second despawns half of that,
+/// again and again.
 fn prepared() -> (World, Queues) {
     let limits = Limits::new(COUNT, 9).expect("limits");
     let (open, mut systems) = World::with_limits(limits).open(2).expect("opened");
     let components: Vec<_> = (0..8).map(|id| (ComponentId(id), i64::from(id))).collect();
     let handles = systems[0].spawn_many(COUNT, &components).expect("spawned");
     for one in handles.iter().step_by(2) {
-        for _ in 0..2 {
+        for _ in 0..TIMES {
             systems[1].despawn(*one).expect("issued");
         }
     }
@@ -45,21 +54,34 @@ fn living(world: &World) -> Vec<(Handle, Option<i64>)> {
         .collect()
 }
 
-/// All the memory that there is, in parts. The small ones come last.
-fn ballast() -> Vec<Vec<u8>> {
+/// All the memory that there is, in parts. The last of them, at least as many as `STEPS`, have this
+/// size.
+fn ballast(size: usize) -> Vec<Vec<u8>> {
     let mut parts = Vec::with_capacity(100_000);
-    for size in [1 << 20, 1 << 16, 1 << 12] {
-        // The last part of the size before goes into smaller ones.
-        parts.pop();
-        loop {
-            let mut part: Vec<u8> = Vec::new();
-            if part.try_reserve_exact(size).is_err() {
-                break;
-            }
-            parts.push(part);
-        }
-    }
+    fill(&mut parts, MIB);
+    let small = (STEPS * size).div_ceil(MIB);
+    parts.truncate(parts.len() - small);
+    fill(&mut parts, size);
     parts
+}
+
+fn fill(parts: &mut Vec<Vec<u8>>, size: usize) {
+    loop {
+        let mut part: Vec<u8> = Vec::new();
+        if part.try_reserve_exact(size).is_err() {
+            break;
+        }
+        parts.push(part);
+    }
+}
+
+/// Does this while there is no more memory than this many parts of this size.
+fn with_parts<T>(count: usize, size: usize, work: impl FnOnce() -> T) -> T {
+    let mut parts = ballast(size);
+    parts.truncate(parts.len() - count);
+    let done = work();
+    drop(parts);
+    done
 }
 
 /// What is left to do, and whether it has stopped anew, so that its report is a new one.
@@ -113,17 +135,13 @@ fn in_another_world(stopped: Stopped) -> Stopped {
     }
 }
 
-/// Applies the queues with no memory at first, and with a part more after each refusal.
+/// Applies the queues with no memory at first, and with 64 KiB more after each refusal.
 fn with_little_memory() -> (Made, Vec<Place>) {
     let (mut world, queues) = prepared();
     let (mut faults, mut places) = (Vec::new(), Vec::new());
     let mut left = Left::All(queues);
     for free in 0.. {
-        let mut parts = ballast();
-        parts.truncate(parts.len().saturating_sub(free));
-        let done = left.try_to_do(&mut world);
-        drop(parts);
-        let again = match done {
+        let again = match with_parts(free, 1 << 16, || left.try_to_do(&mut world)) {
             Ok(report) => {
                 faults.extend(report.faults());
                 break;
@@ -162,7 +180,7 @@ fn compare() {
     let (made, places) = with_little_memory();
     assert_eq!(made, with_ample_memory());
     assert_eq!(made.0.len(), COUNT as usize / 2);
-    assert_eq!(made.1.len(), COUNT as usize / 2);
+    assert_eq!(made.1.len(), COUNT as usize / 2 * (TIMES - 1));
     assert!(places.windows(2).all(|two| two[0] <= two[1]), "{places:?}");
     assert!(
         places.iter().any(|place| place.0 == 0 && place.2 > 0),
@@ -171,62 +189,48 @@ fn compare() {
     assert!(places.iter().any(|place| place.0 == 1), "{places:?}");
 }
 
-/// `share` for as many callers as there may be, with no memory at first, and with a part more after
-/// each refusal.
+/// `share` for as many callers as there may be, with no memory at first, and with 4 KiB more after
+/// each refusal. So it is refused at each place where it wants memory: when the phase begins, and
+/// when the reservers are given out, which is last.
 fn share_again_and_again() {
     let mut entities = Entities::new();
     let one = entities.alloc().expect("a handle");
-    let mut late = 0;
-    for free in 0.. {
-        let mut parts = ballast();
-        parts.truncate(parts.len().saturating_sub(free));
-        let begins = has_room_for_lists();
-        let shared = entities.share(1024);
-        drop(parts);
-        match shared {
+    for free in 0..STEPS {
+        match with_parts(free, 1 << 12, || entities.share(1024)) {
             Ok((shared, mut reservers)) => {
+                assert!(free > 0);
                 assert_eq!(reservers.len(), 1024);
                 reservers[1023].reserve().expect("a handle");
                 entities = shared.close(reservers).expect("closed");
-                break;
+                assert_eq!(entities.flush().expect("memory").len(), 1);
+                return;
             }
             Err(refused) => {
                 assert_eq!(refused.error, ShareError::Memory);
                 assert_eq!(refused.to_string(), "out of memory");
                 entities = refused.entities;
                 assert!(entities.contains(one) && !entities.needs_flush());
-                late += usize::from(begins);
             }
         }
     }
-    assert!(late > 0);
-    assert_eq!(entities.flush().expect("memory").len(), 1);
-}
-
-/// Whether there is memory for all lists of 1,024 reservers or systems. Who is refused then has
-/// begun the phase.
-fn has_room_for_lists() -> bool {
-    Vec::<u8>::new().try_reserve_exact(300 << 10).is_ok()
+    panic!("all steps were refused");
 }
 
 /// `open` for as many systems as there may be, as `share_again_and_again`.
 fn open_again_and_again() {
     let mut world = World::new();
     let one = world.spawn(&[(ID, 3)]).expect("a handle");
-    let mut late = 0;
-    for free in 0.. {
-        let mut parts = ballast();
-        parts.truncate(parts.len().saturating_sub(free));
-        let begins = has_room_for_lists();
-        let opened = world.open(1024);
-        drop(parts);
-        match opened {
+    for free in 0..STEPS {
+        match with_parts(free, 1 << 12, || world.open(1024)) {
             Ok((open, mut systems)) => {
+                assert!(free > 0);
                 assert_eq!(systems.len(), 1024);
                 systems[1023].spawn(&[]).expect("a handle");
                 let queues = systems.into_iter().map(Commands::finish).collect();
-                (world, _) = open.close(queues).expect("closed");
-                break;
+                let (mut world, _) = open.close(queues).expect("closed");
+                world.flush().expect("memory");
+                assert_eq!(world.len(), 2);
+                return;
             }
             Err(refused) => {
                 assert_eq!(refused.error, OpenError::Memory);
@@ -234,13 +238,10 @@ fn open_again_and_again() {
                 world = refused.world;
                 assert_eq!(world.get(one, ID), Some(3));
                 assert!(!world.needs_flush());
-                late += usize::from(begins);
             }
         }
     }
-    assert!(late > 0);
-    world.flush().expect("memory");
-    assert_eq!(world.len(), 2);
+    panic!("all steps were refused");
 }
 
 /// Runs this test, whose name is given, in a process of its own whose memory the shell bounds.
