@@ -528,7 +528,7 @@ impl fmt::Display for FinishError {
     fn fmt(&self, out: &mut fmt::Formatter<'_>) -> fmt::Result {
         match self {
             Self::OtherPhase => out.write_str("a queue is of another phase"),
-            Self::Missing { count } => write!(out, "{count} queues are missing"),
+            Self::Missing { count } => write!(out, "missing queues: {count}"),
             Self::InUse => out.write_str("a system is still in use"),
             Self::Memory => out.write_str("out of memory"),
         }

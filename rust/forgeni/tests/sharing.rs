@@ -165,7 +165,7 @@ fn all_must_come_home() {
     let last = reservers.pop().expect("three");
     let refused = shared.close(reservers).expect_err("refused");
     assert_eq!(refused.error, CloseError::Missing { count: 1 });
-    assert_eq!(refused.to_string(), "1 reservers are missing");
+    assert_eq!(refused.to_string(), "missing reservers: 1");
     let (shared, mut reservers) = (refused.shared, refused.reservers);
     reservers.push(last);
     assert_eq!(reservers[0].reserve(), Ok(handle(0, 1)));

@@ -114,7 +114,7 @@ fn a_phase_wants_all_its_queues() {
     let first = systems.pop().expect("a system").finish();
     let left = open.close(vec![first]).expect_err("one is missing");
     assert_eq!(left.error, FinishError::Missing { count: 1 });
-    assert_eq!(left.to_string(), "1 queues are missing");
+    assert_eq!(left.to_string(), "missing queues: 1");
     assert_eq!((left.open.count(), left.open.at_home()), (2, 0));
     assert_eq!(left.queues.len(), 1);
     let (open, mut queues) = (left.open, left.queues);
