@@ -18,8 +18,7 @@ HoldsOne view (Some seen) P = HasSuch (view seen) P
 
 -- the object holds something that this view doesn't see
 abbrev pub HoldsOther : {A : Type 0} → (Seen → Option A) → Option Seen → Type 0
-HoldsOther view None = ⊥
-HoldsOther view (Some seen) = view seen ≡ None
+HoldsOther view holds = HasSuch holds (λ seen. view seen ≡ None)
 
 -- the allocator, if it is one
 abbrev pub allocator_in : Seen → Option Allocator

@@ -16,7 +16,7 @@ use crate::batch::Batch;
 use crate::held::Held;
 use crate::object::{Object, new_room};
 use crate::stop::Stop;
-use crate::taking::{put_batch, put_report, put_world, take_batch, take_world};
+use crate::taking::{put, take};
 use ent_world::World;
 use std::alloc::Global;
 
@@ -49,8 +49,8 @@ fn take_both(alloc: Global, world: &mut Object, queues: &mut Object) -> Result<B
     ensures err { IfErr result (λ _. (world.new.place.holds ≡ world.old.place.holds)
         × (queues.new.place.holds ≡ queues.old.place.holds)) }
 {
-    let (room, one) = take_world(alloc, world)?;
-    match take_batch(alloc, queues) {
+    let (room, one) = take::<World>(alloc, world)?;
+    match take::<Batch>(alloc, queues) {
         Ok((list, batch)) => Ok(Both {
             room,
             world: one,
@@ -58,7 +58,7 @@ fn take_both(alloc: Global, world: &mut Object, queues: &mut Object) -> Result<B
             batch,
         }),
         Err(code) => {
-            put_world(world, room, one);
+            put(world, room, one);
             Err(code)
         }
     }
@@ -69,8 +69,8 @@ fn put_both(world: &mut Object, queues: &mut Object, both: Both)
     ensures world { world.new.place.holds ≡ Some (held.World both.world) }
     ensures queues { queues.new.place.holds ≡ Some (held.Batch both.batch) }
 {
-    put_world(world, both.room, both.world);
-    put_batch(queues, both.list, both.batch);
+    put(world, both.room, both.world);
+    put(queues, both.list, both.batch);
 }
 
 /// A code and, if a sync point stopped, where.
@@ -177,17 +177,17 @@ pub extern "C" fn ent_rust_apply(
         batch,
     } = both;
     let applied = batch.apply(&mut one);
-    put_world(world, room, one);
+    put(world, room, one);
     match applied {
         Ok(done) => {
-            put_report(report, made, done);
+            report.put_in(made, Held::Report(done));
             SyncAnswer::none(DONE)
         }
         Err((batch, left)) => {
-            put_batch(queues, list, batch);
+            put(queues, list, batch);
             match left {
                 Some((stop, so_far)) => {
-                    put_report(report, made, so_far);
+                    report.put_in(made, Held::Report(so_far));
                     SyncAnswer::stopped(stop)
                 }
                 None => SyncAnswer::none(NO_MEMORY),
@@ -281,16 +281,16 @@ pub extern "C" fn ent_rust_go_on(
         batch,
     } = both;
     let applied = batch.go_on(&mut one);
-    put_world(world, room, one);
+    put(world, room, one);
     match applied {
         Ok(done) => {
-            put_report(report, made, done);
+            report.put_in(made, Held::Report(done));
             SyncAnswer::none(DONE)
         }
         Err((batch, left)) => {
-            put_batch(queues, list, batch);
+            put(queues, list, batch);
             let (stop, so_far) = left;
-            put_report(report, made, so_far);
+            report.put_in(made, Held::Report(so_far));
             SyncAnswer::stopped(stop)
         }
     }

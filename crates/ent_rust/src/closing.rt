@@ -14,7 +14,8 @@ ghost use Rattle.ent_rust.specs.Answers.{done, is_empty, other_kind, not_all_hom
 
 use crate::answer::{DONE, IN_USE, NOT_ALL_HOME};
 use crate::object::Object;
-use crate::taking::{put_entities, put_phase, take_phase};
+use crate::phase::Phase;
+use crate::taking::{put, take};
 use std::alloc::Global;
 
 /// `Shared::close`, if all reservers are at home.
@@ -53,21 +54,21 @@ pub extern "C" fn ent_rust_close(alloc: Global, object: &mut Object) -> u32
     ensures refused { result ≢ done → object.new.place.holds ≡ object.old.place.holds }
     ensures code { IsOneOf (done ∷ is_empty ∷ other_kind ∷ not_all_home ∷ in_use ∷ []) result }
 {
-    let (room, phase) = match take_phase(alloc, object) {
+    let (room, phase) = match take::<Phase>(alloc, object) {
         Ok(taken) => taken,
         Err(code) => return code,
     };
     if phase.at_home() != phase.count() {
-        put_phase(object, room, phase);
+        put(object, room, phase);
         return NOT_ALL_HOME;
     }
     match phase.end() {
         Ok((shared, home)) => {
-            put_entities(object, room, shared.close(home));
+            put(object, room, shared.close(home));
             DONE
         }
         Err(phase) => {
-            put_phase(object, room, phase);
+            put(object, room, phase);
             IN_USE
         }
     }
@@ -106,17 +107,17 @@ pub extern "C" fn ent_rust_close_lost(alloc: Global, object: &mut Object) -> u32
     ensures refused { result ≢ done → object.new.place.holds ≡ object.old.place.holds }
     ensures code { IsOneOf (done ∷ is_empty ∷ other_kind ∷ in_use ∷ []) result }
 {
-    let (room, phase) = match take_phase(alloc, object) {
+    let (room, phase) = match take::<Phase>(alloc, object) {
         Ok(taken) => taken,
         Err(code) => return code,
     };
     match phase.end() {
         Ok((shared, home)) => {
-            put_entities(object, room, shared.close_lost(home));
+            put(object, room, shared.close_lost(home));
             DONE
         }
         Err(phase) => {
-            put_phase(object, room, phase);
+            put(object, room, phase);
             IN_USE
         }
     }

@@ -14,11 +14,12 @@ ghost use Rattle.ent_rust.specs.Answers.{done, is_empty, other_kind, no_handle, 
 ghost use Rattle.ent_rust.specs.Answers.{no_credit, too_many, IsOneOf, handle};
 
 use crate::answer::{DONE, NO_CREDIT, NO_HANDLE, NO_MEMORY, NO_SPACE, TOO_MANY};
+use crate::issuer::Issuer;
 use crate::item::{Item, bundle_from};
 use crate::object::Object;
 use crate::pair::Pair;
 use crate::requests::write_all;
-use crate::taking::{put_issuer, take_issuer};
+use crate::taking::{put, take};
 use ent_handle::{ComponentId, Handle};
 use ent_queue::QueueFault;
 use std::alloc::Global;
@@ -125,16 +126,16 @@ pub extern "C" fn ent_rust_commands_spawn(
     ensures code { IsOneOf (done ∷ no_space ∷ no_credit ∷ no_memory ∷ is_empty ∷ other_kind ∷ [])
         result.code }
 {
-    let (room, issuer) = match take_issuer(alloc, object) {
+    let (room, issuer) = match take::<Issuer>(alloc, object) {
         Ok(taken) => taken,
         Err(code) => return SpawnAnswer::none(code),
     };
     let Some(bundle) = bundle_from(alloc, items) else {
-        put_issuer(object, room, issuer);
+        put(object, room, issuer);
         return SpawnAnswer::none(NO_MEMORY);
     };
     let (issuer, spawned) = issuer.spawn(alloc, bundle);
-    put_issuer(object, room, issuer);
+    put(object, room, issuer);
     match spawned {
         Ok(handle) => SpawnAnswer::given(handle),
         Err(QueueFault::Space { wanted, left }) => SpawnAnswer::space(wanted, left),
@@ -181,20 +182,20 @@ pub extern "C" fn ent_rust_commands_spawn_many(
     ensures code { IsOneOf (done ∷ no_space ∷ no_credit ∷ no_memory ∷ too_many ∷ is_empty
         ∷ other_kind ∷ []) result.code }
 {
-    let (room, issuer) = match take_issuer(alloc, object) {
+    let (room, issuer) = match take::<Issuer>(alloc, object) {
         Ok(taken) => taken,
         Err(code) => return SpawnAnswer::none(code),
     };
     let Ok(n) = u32::try_from(list.len()) else {
-        put_issuer(object, room, issuer);
+        put(object, room, issuer);
         return SpawnAnswer::none(TOO_MANY);
     };
     let Some(bundle) = bundle_from(alloc, items) else {
-        put_issuer(object, room, issuer);
+        put(object, room, issuer);
         return SpawnAnswer::none(NO_MEMORY);
     };
     let (issuer, spawned) = issuer.spawn_many(alloc, n, bundle);
-    put_issuer(object, room, issuer);
+    put(object, room, issuer);
     match spawned {
         Ok(handles) => {
             write_all(list, &handles);
@@ -228,20 +229,20 @@ pub extern "C" fn ent_rust_commands_insert(
     ensures refused { result ≢ done → object.new.place.holds ≡ object.old.place.holds }
     ensures code { IsOneOf (done ∷ no_handle ∷ no_memory ∷ is_empty ∷ other_kind ∷ []) result }
 {
-    let (room, issuer) = match take_issuer(alloc, object) {
+    let (room, issuer) = match take::<Issuer>(alloc, object) {
         Ok(taken) => taken,
         Err(code) => return code,
     };
     let Some(handle) = Handle::new(index, generation) else {
-        put_issuer(object, room, issuer);
+        put(object, room, issuer);
         return NO_HANDLE;
     };
     let Some(bundle) = bundle_from(alloc, items) else {
-        put_issuer(object, room, issuer);
+        put(object, room, issuer);
         return NO_MEMORY;
     };
     let (issuer, issued) = issuer.insert(alloc, handle, bundle);
-    put_issuer(object, room, issuer);
+    put(object, room, issuer);
     if issued { DONE } else { NO_MEMORY }
 }
 
@@ -267,16 +268,16 @@ pub extern "C" fn ent_rust_commands_remove(
     ensures refused { result ≢ done → object.new.place.holds ≡ object.old.place.holds }
     ensures code { IsOneOf (done ∷ no_handle ∷ no_memory ∷ is_empty ∷ other_kind ∷ []) result }
 {
-    let (room, issuer) = match take_issuer(alloc, object) {
+    let (room, issuer) = match take::<Issuer>(alloc, object) {
         Ok(taken) => taken,
         Err(code) => return code,
     };
     let Some(handle) = Handle::new(index, generation) else {
-        put_issuer(object, room, issuer);
+        put(object, room, issuer);
         return NO_HANDLE;
     };
     let (issuer, issued) = issuer.remove(alloc, handle, ComponentId(component));
-    put_issuer(object, room, issuer);
+    put(object, room, issuer);
     if issued { DONE } else { NO_MEMORY }
 }
 
@@ -301,15 +302,15 @@ pub extern "C" fn ent_rust_commands_despawn(
     ensures refused { result ≢ done → object.new.place.holds ≡ object.old.place.holds }
     ensures code { IsOneOf (done ∷ no_handle ∷ no_memory ∷ is_empty ∷ other_kind ∷ []) result }
 {
-    let (room, issuer) = match take_issuer(alloc, object) {
+    let (room, issuer) = match take::<Issuer>(alloc, object) {
         Ok(taken) => taken,
         Err(code) => return code,
     };
     let Some(handle) = Handle::new(index, generation) else {
-        put_issuer(object, room, issuer);
+        put(object, room, issuer);
         return NO_HANDLE;
     };
     let (issuer, issued) = issuer.despawn(alloc, handle);
-    put_issuer(object, room, issuer);
+    put(object, room, issuer);
     if issued { DONE } else { NO_MEMORY }
 }

@@ -16,10 +16,9 @@ use crate::answer::{
 };
 use crate::batch::Batch;
 use crate::held::Held;
+use crate::issuer::Issuer;
 use crate::object::{Object, new_room};
-use crate::taking::{
-    put_batch, put_issuer, put_world, put_world_phase, take_issuer, take_world, take_world_phase,
-};
+use crate::taking::{put, take};
 use crate::world_phase::WorldPhase;
 use ent_queue::CommandQueue;
 use ent_world::World;
@@ -52,25 +51,25 @@ pub extern "C" fn ent_rust_world_open(
     ensures code { IsOneOf (done ∷ needs_flush ∷ no_count ∷ no_memory ∷ is_empty ∷ other_kind
         ∷ []) result }
 {
-    let (room, world) = match take_world(alloc, object) {
+    let (room, world) = match take::<World>(alloc, object) {
         Ok(taken) => taken,
         Err(code) => return code,
     };
     if world.needs_flush() {
-        put_world(object, room, world);
+        put(object, room, world);
         return NEEDS_FLUSH;
     }
     if count == 0 || count > RESERVERS {
-        put_world(object, room, world);
+        put(object, room, world);
         return NO_COUNT;
     }
     match WorldPhase::open(alloc, world, count, number) {
         Ok(phase) => {
-            put_world_phase(object, room, phase);
+            put(object, room, phase);
             DONE
         }
         Err(world) => {
-            put_world(object, room, world);
+            put(object, room, world);
             NO_MEMORY
         }
     }
@@ -100,28 +99,28 @@ pub extern "C" fn ent_rust_world_commands(
     ensures code { IsOneOf (done ∷ is_full ∷ none_home ∷ no_memory ∷ is_empty ∷ other_kind ∷ [])
         result }
 {
-    let (room, mut one) = match take_world_phase(alloc, phase) {
+    let (room, mut one) = match take::<WorldPhase>(alloc, phase) {
         Ok(taken) => taken,
         Err(code) => return code,
     };
     if commands.is_full() {
-        put_world_phase(phase, room, one);
+        put(phase, room, one);
         return IS_FULL;
     }
     if one.at_home() == 0 {
-        put_world_phase(phase, room, one);
+        put(phase, room, one);
         return NONE_HOME;
     }
     // The box first, so that no reserver is lost.
     let Some(made) = new_room(alloc) else {
-        put_world_phase(phase, room, one);
+        put(phase, room, one);
         return NO_MEMORY;
     };
     let given = one.give(alloc);
-    put_world_phase(phase, room, one);
+    put(phase, room, one);
     match given {
         Some(issuer) => {
-            put_issuer(commands, made, issuer);
+            put(commands, made, issuer);
             DONE
         }
         None => NO_MEMORY,
@@ -152,28 +151,28 @@ pub extern "C" fn ent_rust_world_finish(
         × (commands.new.place.holds ≡ commands.old.place.holds) }
     ensures code { IsOneOf (done ∷ other_phase ∷ no_memory ∷ is_empty ∷ other_kind ∷ []) result }
 {
-    let (room, mut one) = match take_world_phase(alloc, phase) {
+    let (room, mut one) = match take::<WorldPhase>(alloc, phase) {
         Ok(taken) => taken,
         Err(code) => return code,
     };
-    let (guest, issuer) = match take_issuer(alloc, commands) {
+    let (guest, issuer) = match take::<Issuer>(alloc, commands) {
         Ok(taken) => taken,
         Err(code) => {
-            put_world_phase(phase, room, one);
+            put(phase, room, one);
             return code;
         }
     };
     if one.number() != issuer.number {
-        put_world_phase(phase, room, one);
-        put_issuer(commands, guest, issuer);
+        put(phase, room, one);
+        put(commands, guest, issuer);
         return OTHER_PHASE;
     }
     let taken = one.take_home(issuer);
-    put_world_phase(phase, room, one);
+    put(phase, room, one);
     match taken {
         Ok(()) => DONE,
         Err(issuer) => {
-            put_issuer(commands, guest, issuer);
+            put(commands, guest, issuer);
             NO_MEMORY
         }
     }
@@ -203,21 +202,21 @@ pub extern "C" fn ent_rust_world_close(
     ensures code { IsOneOf (done ∷ is_full ∷ not_all_home ∷ in_use ∷ no_memory ∷ is_empty
         ∷ other_kind ∷ []) result }
 {
-    let (room, one) = match take_world_phase(alloc, phase) {
+    let (room, one) = match take::<WorldPhase>(alloc, phase) {
         Ok(taken) => taken,
         Err(code) => return code,
     };
     if queues.is_full() {
-        put_world_phase(phase, room, one);
+        put(phase, room, one);
         return IS_FULL;
     }
     if one.at_home() != one.count() {
-        put_world_phase(phase, room, one);
+        put(phase, room, one);
         return NOT_ALL_HOME;
     }
     // The box first, so that no queue is lost.
     let Some(made) = new_room(alloc) else {
-        put_world_phase(phase, room, one);
+        put(phase, room, one);
         return NO_MEMORY;
     };
     let closed = one.close();
@@ -247,17 +246,17 @@ pub extern "C" fn ent_rust_world_close_lost(
     ensures code { IsOneOf (done ∷ is_full ∷ in_use ∷ no_memory ∷ is_empty ∷ other_kind ∷ [])
         result }
 {
-    let (room, one) = match take_world_phase(alloc, phase) {
+    let (room, one) = match take::<WorldPhase>(alloc, phase) {
         Ok(taken) => taken,
         Err(code) => return code,
     };
     if queues.is_full() {
-        put_world_phase(phase, room, one);
+        put(phase, room, one);
         return IS_FULL;
     }
     // The box first, so that no queue is lost.
     let Some(made) = new_room(alloc) else {
-        put_world_phase(phase, room, one);
+        put(phase, room, one);
         return NO_MEMORY;
     };
     let closed = one.close_lost();
@@ -283,16 +282,16 @@ fn put_closed(
 {
     match closed {
         Ok((world, home)) => {
-            put_world(phase, room, world);
+            put(phase, room, world);
             let batch = Batch {
                 queues: home,
                 stop: None,
             };
-            put_batch(queues, made, batch);
+            put(queues, made, batch);
             DONE
         }
         Err(one) => {
-            put_world_phase(phase, room, one);
+            put(phase, room, one);
             IN_USE
         }
     }

@@ -17,7 +17,8 @@ use crate::caller::Caller;
 use crate::held::Held;
 use crate::object::{Object, new_room};
 use crate::phase::Phase;
-use crate::taking::{put_caller, put_entities, put_phase, take_caller, take_entities, take_phase};
+use crate::taking::{put, take};
+use ent_alloc::Entities;
 use std::alloc::Global;
 
 /// How many callers a phase may have.
@@ -45,25 +46,25 @@ pub extern "C" fn ent_rust_share(
     ensures code { IsOneOf (done ∷ is_empty ∷ other_kind ∷ needs_flush ∷ no_count ∷ no_memory
         ∷ []) result }
 {
-    let (room, entities) = match take_entities(alloc, object) {
+    let (room, entities) = match take::<Entities>(alloc, object) {
         Ok(taken) => taken,
         Err(code) => return code,
     };
     if entities.asked() > 0 {
-        put_entities(object, room, entities);
+        put(object, room, entities);
         return NEEDS_FLUSH;
     }
     if count == 0 || count > CALLERS {
-        put_entities(object, room, entities);
+        put(object, room, entities);
         return NO_COUNT;
     }
     match Phase::open(alloc, entities, count, phase) {
         Ok(phase) => {
-            put_phase(object, room, phase);
+            put(object, room, phase);
             DONE
         }
         Err(entities) => {
-            put_entities(object, room, entities);
+            put(object, room, entities);
             NO_MEMORY
         }
     }
@@ -88,25 +89,25 @@ pub extern "C" fn ent_rust_caller(alloc: Global, phase: &mut Object, caller: &mu
     ensures code { IsOneOf (done ∷ is_empty ∷ other_kind ∷ is_full ∷ none_home ∷ no_memory ∷ [])
         result }
 {
-    let (room, mut one) = match take_phase(alloc, phase) {
+    let (room, mut one) = match take::<Phase>(alloc, phase) {
         Ok(taken) => taken,
         Err(code) => return code,
     };
     if caller.is_full() {
-        put_phase(phase, room, one);
+        put(phase, room, one);
         return IS_FULL;
     }
     if one.at_home() == 0 {
-        put_phase(phase, room, one);
+        put(phase, room, one);
         return NONE_HOME;
     }
     // The box first, so that no reserver is lost.
     let Some(made) = new_room(alloc) else {
-        put_phase(phase, room, one);
+        put(phase, room, one);
         return NO_MEMORY;
     };
     let given = one.give();
-    put_phase(phase, room, one);
+    put(phase, room, one);
     match given {
         Some(one) => {
             caller.put_in(made, Held::Caller(one));
@@ -143,19 +144,19 @@ pub extern "C" fn ent_rust_come_home(alloc: Global, phase: &mut Object, caller: 
     if !caller.is_full() {
         return IS_EMPTY;
     }
-    let (room, mut home) = match take_phase(alloc, phase) {
+    let (room, mut home) = match take::<Phase>(alloc, phase) {
         Ok(taken) => taken,
         Err(code) => return code,
     };
     let guest = match take_guest(alloc, caller, &home) {
         Ok(guest) => guest,
         Err(code) => {
-            put_phase(phase, room, home);
+            put(phase, room, home);
             return code;
         }
     };
     home.take_home(guest);
-    put_phase(phase, room, home);
+    put(phase, room, home);
     DONE
 }
 
@@ -173,13 +174,13 @@ fn take_guest(alloc: Global, caller: &mut Object, home: &Phase) -> Result<Caller
         × (home.now.shared.count ≤ length home.now.home)))) }
     ensures err { IfErr result (λ _. caller.new.place.holds ≡ caller.old.place.holds) }
 {
-    let (seat, guest) = take_caller(alloc, caller)?;
+    let (seat, guest) = take::<Caller>(alloc, caller)?;
     if home.number() != guest.phase {
-        put_caller(caller, seat, guest);
+        put(caller, seat, guest);
         return Err(OTHER_PHASE);
     }
     if home.at_home() >= home.count() {
-        put_caller(caller, seat, guest);
+        put(caller, seat, guest);
         return Err(ALL_HOME);
     }
     drop(seat);
