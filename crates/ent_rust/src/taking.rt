@@ -37,8 +37,8 @@ pub(crate) trait Kind: Drop {
         ensures err { IfErr result (λ other. (other ≡ held) × IsOther held) };
 }
 
-/// Takes out what the object holds, or says why not: it is empty, or holds something of another
-/// kind. The object is empty then.
+/// Takes a thing of this kind out of the object, which is empty afterwards. A refusal changes
+/// nothing. Its code says why: the object is empty, or holds something of another kind.
 pub(crate) fn take<K: Kind>(
     alloc: Global,
     object: &mut Object,

@@ -1,6 +1,6 @@
-//! Memory runs out in the middle of a sync point, which goes on, and of `share` and `open`, which give
-//! back what they were called on. That is tried in processes of their own, whose memory the shell
-//! bounds.
+//! Memory runs out in the middle of a sync point, which goes on, and of `share` and `open`, which
+//! give back what they were called on. That is tried in processes of their own, whose memory the
+//! shell bounds.
 
 use forgeni::{Commands, ComponentId, Entities, Fault, GoOnError, Handle, Limits};
 use forgeni::{OpenError, Queues, Report, ShareError, SpawnError};
@@ -13,8 +13,8 @@ const ID: ComponentId = ComponentId(7);
 /// How many entities are spawned.
 const COUNT: u32 = 20_000;
 
-/// How often every second of them is despawned. All but the first of these commands are faults. Their
-/// list outgrows what the spawning leaves free, so memory runs out there too.
+/// How often every second of them is despawned. All but the first of these commands are faults.
+/// Their list outgrows what the spawning leaves free, so memory runs out there too.
 const TIMES: usize = 8;
 
 /// How many small parts of memory there are to give back.
