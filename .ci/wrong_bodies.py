@@ -1,19 +1,22 @@
 #!/usr/bin/env python3
 """Wrong bodies: edits of a crate's code that the prover has to refuse, each by what its file names.
 
-    .ci/wrong_bodies.py fit             each fits the code, and says what refuses it
-    .ci/wrong_bodies.py try [CRATE..]   each of these crates (or of all) is refused by what its file names
-    .ci/wrong_bodies.py try --gate      the same of those that the gate tries
-    .ci/wrong_bodies.py try --changed REV     of the crates whose sources, specs or proofs differ from that commit
-    .ci/wrong_bodies.py try --name ..   writes the line `refused by` into each file that has none
+    .ci/wrong_bodies.py fit                   each fits the code, and says what refuses it
+    .ci/wrong_bodies.py said LOG              what `rt ci` printed of must-fail/ is what the files say
+    .ci/wrong_bodies.py try --gate            those of wrong_bodies/ with a line `gate` are refused by what their files say
+    .ci/wrong_bodies.py try [CRATE..]         all of these crates, or of all crates
+    .ci/wrong_bodies.py try --changed REV     all of the crates whose sources, specs or proofs differ from that commit
+    .ci/wrong_bodies.py try --name ..         writes the line `refused by` into each file that has none
 
-An edit is a file crates/NAME/wrong_bodies/NAME.edit. Its lines: `file: PATH`, then `old: TEXT` that stands there once, and `new: TEXT`. One
-line `refused by: FUNCTION: GOAL` says which function is no longer proved with the edit, and which goal of its proof stays open or is
-refused. The goal's name is the prover's: it ends with the name of a clause, of an invariant, or of a condition of a call. A line `gate` puts
-the edit among those that the gate tries.
+An edit is a file `crates/CRATE/must-fail/NAME.edit`, which `rt ci` tries, or `crates/CRATE/wrong_bodies/NAME.edit`. It has pairs of lines:
+`old: TEXT`, which stands once in the file that a line `file: PATH` above names, and `new: TEXT`. Lines with `#` say what it does.
 
-Only the function that refuses is checked, with those that it calls: nothing else can make the edit right. So an edit takes a few seconds
-where a whole check takes minutes. It runs at the top of the repository, and needs `rt` on the PATH.
+Its line `refused by: FUNCTION: GOAL` says which function the prover refuses then, and which goal of that proof it names. A goal's name ends
+with the name of a clause, of an invariant, or of what a call requires. Where `rt ci` prints another goal first, that one stands behind a
+comma. With a line `gate` the gate tries it.
+
+Only the function that the file names is checked, with those that it calls. So a try takes seconds where the check of a crate takes minutes.
+The script runs at the top of the repository, and needs `rt` on the PATH.
 """
 
 import argparse
@@ -36,7 +39,8 @@ class Edit:
 
     def __init__(self, path):
         self.path, self.crate, self.name = path, path.parts[1], path.stem
-        self.pairs, self.refused_by, self.in_gate = [], None, False
+        self.is_must_fail = path.parts[2] == "must-fail"
+        self.pairs, self.refused_by, self.is_of_gate = [], None, False
         file = old = None
         for line in path.read_text().splitlines():
             if line.startswith("file: "):
@@ -46,13 +50,14 @@ class Edit:
             elif line.startswith("new:"):
                 self.pairs.append((file, old, line.removeprefix("new:").removeprefix(" ")))
             elif line.startswith("refused by: "):
-                self.refused_by = line.removeprefix("refused by: ").rpartition(": ")[::2]
+                function, _, goals = line.removeprefix("refused by: ").rpartition(": ")
+                self.refused_by = function, goals.split(", ")
             elif line == "gate":
-                self.in_gate = True
+                self.is_of_gate = True
 
-    def texts(self):
-        """The files that it changes, by their path in the crate, as it leaves them; or why it doesn't fit."""
-        texts = {}
+    def over(self, texts):
+        """These texts of the crate's files with the edit, by path; or why it doesn't fit them."""
+        texts = dict(texts)
         for file, old, new in self.pairs:
             path = pathlib.Path("crates", self.crate, file or "")
             if not file or not old or not path.is_file():
@@ -61,18 +66,22 @@ class Edit:
             if text.count(old) != 1:
                 return f"a text that it replaces stands {text.count(old)} times in {path}"
             texts[file] = text.replace(old, new)
-        return texts or "it replaces nothing"
+        return texts if self.pairs else "it replaces nothing"
 
     def fault(self):
         """What is wrong with its file, or None."""
-        texts = self.texts()
+        texts = self.over({})
         if isinstance(texts, str):
             return texts
         return None if self.refused_by else "it has no line `refused by: FUNCTION: GOAL`"
 
+    def functions(self):
+        """The functions to check: the one that its file names, or those whose text it changes."""
+        return [self.refused_by[0]] if self.refused_by else enclosing(self)
+
 
 def edits_of(crates=("*",)):
-    paths = [it for name in crates for it in pathlib.Path("crates").glob(f"{name}/wrong_bodies/*.edit")]
+    paths = [it for name in crates for it in pathlib.Path("crates").glob(f"{name}/*/*.edit")]
     return [Edit(it) for it in sorted(paths)]
 
 
@@ -123,24 +132,38 @@ class Prover:
                     shutil.copytree(f"crates/{crate}/{part}", f"{room}/{part}")
             for path, text in texts.items():
                 pathlib.Path(room, path).write_text(text)
-            said = subprocess.run(self.words(crate, functions, kept), cwd=room, capture_output=True, errors="replace")
-        return said.returncode, said.stdout.decode() if isinstance(said.stdout, bytes) else said.stdout
+            how = {"cwd": room, "stdout": subprocess.PIPE, "stderr": subprocess.STDOUT, "errors": "replace"}
+            said = subprocess.run(self.words(crate, functions, kept), **how)
+        return said.returncode, said.stdout
 
 
 def refusals(crate, said):
     """Which functions a check doesn't prove, each with the goals that it names: what refuses an edit."""
-    unproved = re.findall(rf"(?m)^fn {crate}::(\S+): (?:not proved|no proof)", said)
-    found = {it: [] for it in unproved}
-    folder = lambda it: "proofs/" + it.replace("::", "/") + "/"
-    for place, goal in re.findall(r"(?m)^(?:\./)?(proofs/\S+?):\d+:\d+: error: (?:in )?`([^`]+)`", said):
-        for it in found:
-            if place.startswith(folder(it)):
-                found[it].append(goal)
-    for it, goals in re.findall(rf"(?m)^fn {crate}::(\S+): no proof: .*?`search` did not prove (.*)$", said):
-        found[it] += re.findall(r"`([^`]+)`", goals)
-    for place, goals in re.findall(r"(?m)^(?:\./)?(proofs/\S+?):\d+:\d+: error: (\d+ declarations? that depends? .*)$", said):
-        pass
+    found = {it: [] for it in re.findall(rf"(?m)^fn {crate}::(\S+): (?:not proved|no proof)", said)}
+    for folder, goal, why in re.findall(r"(?m)^(?:\./)?proofs/(\S+)/\w+\.antt:\d+:\d+: error: (?:in )?`([^`]+)`(.*)", said):
+        # An answer whose goal is gone with the edit says nothing of the contract.
+        function = folder.replace("/", "::")
+        if function in found and not re.search(r"has no `|is not in scope", why):
+            found[function].append(goal)
+    for function, goals in re.findall(rf"(?m)^fn {crate}::(\S+): no proof: .*?`search` did not prove (.*)$", said):
+        found[function] += re.findall(r"`([^`]+)`", goals)
+    # Open goals stand at a place of the source. Where one function alone is refused, they are its own.
+    open_goals = re.findall(r"(?m)^note: src/\S+: it is not proved .*?\(`([^`]+)`\)", said)
+    if len(found) == 1:
+        found[next(iter(found))] += open_goals
     return {it: list(dict.fromkeys(goals)) for it, goals in found.items()}
+
+
+# A line of a check that `rt ci` shows of a refused edit, and those that it passes over: they name what the edit took away.
+SHOWN = re.compile(r"(?m)^(?!(?:note: )?(?:\./)?proofs/.*(?:has no field|is not in scope|has no `|was not admitted))"
+                   r"(?:note: \S+:\d+:\d+:.*|\S+:\d+:\d+:.*: error.*)$")
+
+
+def first_printed(said):
+    """The goal in the line that `rt ci` shows of a refused edit, if it names one there."""
+    line = SHOWN.search(said)
+    goal = line and re.search(r"`([^`]+)`", line[0][:160])
+    return goal[1] if goal else None
 
 
 def of_clause_first(goals):
@@ -173,51 +196,105 @@ def enclosing(edit):
 REFUSED, OTHERWISE, LET_THROUGH, UNKNOWN = "refused", "refused otherwise", "LET THROUGH", "NOT TRIED"
 
 
-def attempt(prover, edit, kept, names):
-    """What a try of the edit comes to, and the line to print of it."""
-    texts, began = edit.texts(), time.monotonic()
-    if isinstance(texts, str):
-        return UNKNOWN, texts, 0
-    functions = [edit.refused_by[0]] if edit.refused_by else enclosing(edit)
-    status, said = prover.check(edit.crate, texts, functions, kept)
-    if functions and (status == 2 or status == 0 and not edit.refused_by):
-        status, said = prover.check(edit.crate, texts, [], kept)
-    took = time.monotonic() - began
+def verdict(edit, status, said, names):
+    """What a check with the edit came to, and what to say of it."""
     if status == 0:
-        return LET_THROUGH, "the prover proves it", took
+        return LET_THROUGH, "the prover proves it"
     found = refusals(edit.crate, said)
     if status != 1 or not found or re.search(r"\berror\[[\w-]+\]", said):
         errors = [it for it in said.splitlines() if "error" in it][:3] or said.splitlines()[-3:]
-        return UNKNOWN, f"no verdict (status {status}): " + " | ".join(it[:200] for it in errors), took
-    told = "; ".join(f"{function}: {', '.join(goals[:6])}" for function, goals in found.items())
+        return UNKNOWN, f"no verdict (status {status}): " + " | ".join(it[:200] for it in errors)
     if edit.refused_by:
-        function, goal = edit.refused_by
-        return (REFUSED, f"by {function}: {goal}", took) if goal in found.get(function, []) else (OTHERWISE, told, took)
-    chosen = [(it, of_clause_first(goals)) for it, goals in found.items() if goals]
-    if not chosen:
-        return UNKNOWN, f"no goal is named: {told}", took
-    function, goal = next((it for it in chosen if it[1].startswith("returns")), chosen[0])
+        function, goals = edit.refused_by
+        if goals[0] in found.get(function, []):
+            return REFUSED, f"by {function}: {goals[0]}"
+        return OTHERWISE, "; ".join(f"{it}: {', '.join(goals[:6])}" for it, goals in found.items())
+    own = [it for it in edit.functions() if found.get(it)] or [it for it in found if found[it]]
+    if not own:
+        return UNKNOWN, f"no goal is named: {', '.join(found)}"
+    function, goal = min(((it, of_clause_first(found[it])) for it in own), key=lambda it: not it[1].startswith("returns"))
+    goals = [goal, first_printed(said)] if edit.is_must_fail else [goal]
     if names:
         text = edit.path.read_text().rstrip("\n")
-        edit.path.write_text(f"{text}\nrefused by: {function}: {goal}\n")
-    return REFUSED, f"by {function}: {goal}", took
+        edit.path.write_text(f"{text}\nrefused by: {function}: {', '.join(dict.fromkeys(it for it in goals if it))}\n")
+    return REFUSED, f"by {function}: {goal}"
+
+
+def alone(prover, edit, kept, names):
+    """Tries one edit by itself: first over the functions that it should be refused by, then over all."""
+    texts, functions = edit.over({}), edit.functions()
+    if isinstance(texts, str):
+        return UNKNOWN, texts
+    status, said = prover.check(edit.crate, texts, functions, kept)
+    if functions and not edit.refused_by and status in (0, 2):
+        status, said = prover.check(edit.crate, texts, [], kept)
+    return verdict(edit, status, said, names)
+
+
+def rounds_of(edits):
+    """The edits in groups, each of which can be made at once: no two of one function."""
+    rounds = []
+    for edit in edits:
+        functions = set(edit.functions())
+        for group, taken, texts in rounds:
+            made = edit.over(texts)
+            if functions and not functions & taken and len(group) < 8 and not edit.is_must_fail and isinstance(made, dict):
+                group.append(edit)
+                taken.update(functions)
+                texts.update(made)
+                break
+        else:
+            made = edit.over({})
+            rounds.append(([edit], functions, made if isinstance(made, dict) else {}))
+    return rounds
+
+
+def together(prover, crate, group, functions, texts, kept, names):
+    """Tries edits of several functions in one check: what refuses one stands in its function's own proof. Those that this doesn't settle
+    are tried by themselves."""
+    settled = {}
+    if len(group) > 1:
+        status, said = prover.check(crate, texts, sorted(functions), kept)
+        found = refusals(crate, said) if status == 1 and not re.search(r"\berror\[[\w-]+\]", said) else {}
+        for edit in group:
+            if any(found.get(it) for it in edit.functions()):
+                mine = verdict(edit, status, said, names)
+                settled.update({edit: mine} if mine[0] == REFUSED else {})
+    return [(it, settled.get(it) or alone(prover, it, kept, names)) for it in group]
 
 
 def try_crate(prover, crate, edits, names):
-    """Tries the edits of one crate, one after the other, over what the first ones have checked of it already."""
+    """Tries the edits of one crate, over what the first ones have checked of it already."""
     results = []
     with tempfile.TemporaryDirectory() as room:
-        kept = f"{room}/kept"
-        begun = f"crates/{crate}/out/incremental"
+        kept, begun = f"{room}/kept", f"crates/{crate}/out/incremental"
         if os.path.isdir(begun):
             subprocess.run(["cp", "-al", begun, kept], check=True)
         else:
             os.mkdir(kept)
-        for edit in edits:
-            kind, said, took = attempt(prover, edit, kept, names)
-            results.append((edit, kind, said))
-            print(f"{crate}/{edit.name}: {kind} {said} ({took:.0f} s)", flush=True)
+        for group, functions, texts in rounds_of(edits):
+            began = time.monotonic()
+            tried = together(prover, crate, group, functions, texts, kept, names)
+            took = (time.monotonic() - began) / len(group)
+            for edit, (kind, said) in tried:
+                results.append((edit, kind, said))
+                print(f"{crate}/{edit.name}: {kind} {said} ({took:.0f} s)", flush=True)
     return results
+
+
+def told(log):
+    """Compares what `rt ci` printed of each edit in must-fail/ with what its file says."""
+    printed = dict(re.findall(r"(?m)^(?:rt: )?must-fail (\S+)\.edit: refused, as it must be: (.*)$", pathlib.Path(log).read_text()))
+    faults = []
+    for edit in edits_of():
+        if edit.is_must_fail:
+            line = printed.get(f"{edit.crate}/{edit.name}", "nothing")
+            function, goals = edit.refused_by
+            folder = f"proofs/{function.replace('::', '/')}/"
+            if not any(f"`{it}`" in line for it in goals) or "proofs/" in line and folder not in line:
+                faults.append(f"{edit.path}: it is not refused by {function}: {goals}, but: {line}")
+    print(*faults, f"wrong bodies of must-fail/: {len(printed)} refused, {len(faults)} otherwise than they say", sep="\n")
+    return 1 if faults else 0
 
 
 def changed_since(revision):
@@ -231,7 +308,7 @@ def changed_since(revision):
 def fit():
     edits = edits_of()
     faults = [f"{it.path}: {it.fault()}" for it in edits if it.fault()]
-    gate = sum(it.in_gate for it in edits)
+    gate = sum(it.is_must_fail or it.is_of_gate for it in edits)
     faults += [f"the gate tries {gate} wrong bodies, and at most {GATE} are wanted"] if gate > GATE else []
     print(*faults, f"wrong bodies: {len(edits)}, {gate} of them in the gate, {len(faults)} faults", sep="\n")
     return 1 if faults else 0
@@ -241,7 +318,7 @@ def try_all(options):
     crates = changed_since(options.changed) if options.changed else options.crates or ["*"]
     by_crate = {}
     for it in edits_of(crates):
-        if it.in_gate or not options.gate:
+        if it.is_of_gate or not options.gate:
             by_crate.setdefault(it.crate, []).append(it)
     lacking = [it for it in options.crates if it not in by_crate]
     if lacking:
@@ -264,6 +341,7 @@ def main():
     words = argparse.ArgumentParser(description="Tries wrong bodies.")
     verbs = words.add_subparsers(dest="verb", required=True)
     verbs.add_parser("fit")
+    verbs.add_parser("said").add_argument("log")
     of_try = verbs.add_parser("try")
     of_try.add_argument("crates", nargs="*", metavar="CRATE")
     of_try.add_argument("--gate", action="store_true")
@@ -271,7 +349,9 @@ def main():
     of_try.add_argument("--name", action="store_true")
     of_try.add_argument("--jobs", type=int, default=os.cpu_count())
     options = words.parse_args()
-    return fit() if options.verb == "fit" else try_all(options)
+    if options.verb == "try":
+        return try_all(options)
+    return fit() if options.verb == "fit" else told(options.log)
 
 
 if __name__ == "__main__":
