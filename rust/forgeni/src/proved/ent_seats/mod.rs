@@ -1,0 +1,8 @@
+// Made from crates/ent_seats/src/lib.rt by rust/erase. Not edited by hand.
+//! Records of what was done to one atomic word, and how they move from seat to seat of it.
+
+mod plays;
+mod seats;
+
+pub use plays::SeatRecords;
+pub use seats::{RecordsBadge, RecordsSeat, RecordsWord, merge, new_seat, split_first};
