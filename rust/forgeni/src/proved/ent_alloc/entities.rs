@@ -1,4 +1,5 @@
-// Made from crates/ent_alloc/src/entities.rt by rust/erase. Not edited by hand.
+// Made of crates/ent_alloc/src/entities.rt by rust/erase. It isn't edited by hand.
+
 use crate::kit::vec::Vec;
 use crate::proved::ent_alloc::fault::{AllocFault, FreeFault, Freed};
 use crate::proved::ent_alloc::limits::Limits;
@@ -79,9 +80,10 @@ impl Entities {
     #[inline]
     pub fn retired(&self) -> u32
         // ensures value { result ≡ retired self.now.allocator }
+
         // Each slot that was made has a living occupant, waits for the next one, or is retired.
         // ensures rest { set.len self.now.allocator.live + top self.now.allocator + result
-            // ≡ self.now.allocator.made }
+        //     ≡ self.now.allocator.made }
     {
         self.total() - self.slots.live() - self.slots.waiting()
     }
@@ -91,6 +93,7 @@ impl Entities {
     #[inline]
     pub fn cursor(&self) -> i64
         // ensures value { result ≡ cursor self.now.allocator }
+
         // What is true of every state, as that no slot has two handles among the living and those
         // to be given.
         // ensures sound { IsSound self.now.allocator }
@@ -137,9 +140,9 @@ impl Entities {
         // ensures ok { IfOk result (λ h. self.new.allocator ≡ after_alloc self.old.allocator h) }
         // ensures rows { self.new.rows ≡ self.old.rows }
         // ensures needs_flush { IsErrOf result AllocFault.NeedsFlush
-            // ↔ (0 < self.old.allocator.asked) }
+        //     ↔ (0 < self.old.allocator.asked) }
         // ensures space { IsErrOf result AllocFault.Space
-            // ↔ ((self.old.allocator.asked ≡ 0) × (self.old.allocator.pool ≡ [])) }
+        //     ↔ ((self.old.allocator.asked ≡ 0) × (self.old.allocator.pool ≡ [])) }
         // ensures memory { IsErrOf result AllocFault.Memory → top self.old.allocator ≡ 0 }
         // ensures err { OnErr result (self.new ≡ self.old) }
     {
@@ -172,13 +175,14 @@ impl Entities {
         // ensures next { IfOk result (λ freed. freed.next ≡ next self.old.allocator.limits handle) }
         // ensures lived { OnOk result (set.contains self.old.allocator.live handle ≡ true) }
         // ensures needs_flush { IsErrOf result FreeFault.NeedsFlush
-            // ↔ (0 < self.old.allocator.asked) }
+        //     ↔ (0 < self.old.allocator.asked) }
         // ensures not_alive { IsErrOf result FreeFault.NotAlive
-            // ↔ ((self.old.allocator.asked ≡ 0)
-            // × (set.contains self.old.allocator.live handle ≡ false)) }
+        //     ↔ ((self.old.allocator.asked ≡ 0)
+        //     × (set.contains self.old.allocator.live handle ≡ false)) }
+
         // The slot of a handle of the last generation is retired, which takes no memory.
         // ensures memory { IsErrOf result FreeFault.Memory
-            // → handle.generation ≢ self.old.allocator.limits.generations }
+        //     → handle.generation ≢ self.old.allocator.limits.generations }
         // ensures err { OnErr result (self.new ≡ self.old) }
     {
         if self.needs_flush() {
@@ -212,9 +216,10 @@ impl Entities {
         // ensures err { OnErr result (self.new ≡ self.old) }
         // ensures unchanged { OnErr result (out.new.items ≡ out.old.items) }
         // ensures capacity { OnErr result (vec_capacity out.new ≡ vec_capacity out.old) }
+
         // Memory runs out only for new slots, or for a list that lacks room.
         // ensures memory { OnErr result ((0 < made_at_flush self.old.allocator)
-            // ⊎ (vec_capacity out.old < vec_len out.old + length self.old.allocator.taken)) }
+        //     ⊎ (vec_capacity out.old < vec_len out.old + length self.old.allocator.taken)) }
     {
         let waiting = self.slots.waiting();
         let kept = self.requests.kept(waiting);

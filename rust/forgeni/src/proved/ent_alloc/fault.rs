@@ -1,4 +1,5 @@
-// Made from crates/ent_alloc/src/fault.rt by rust/erase. Not edited by hand.
+// Made of crates/ent_alloc/src/fault.rt by rust/erase. It isn't edited by hand.
+
 use crate::proved::ent_handle::{Handle, Memory};
 
 /// Why `Entities::alloc` gave no handle. Nothing has changed.

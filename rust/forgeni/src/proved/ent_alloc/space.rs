@@ -1,4 +1,4 @@
-// Made from crates/ent_alloc/src/space.rt by rust/erase. Not edited by hand.
+// Made of crates/ent_alloc/src/space.rt by rust/erase. It isn't edited by hand.
 
 /// The refusal of a request for which too few handles were left.
 #[derive(Clone, Copy, Debug, PartialEq, Eq)]
@@ -11,9 +11,8 @@ pub struct Space {
 
 impl core::fmt::Display for Space {
     fn fmt(&self, f: &mut core::fmt::Formatter<'_>) -> core::fmt::Result {
-        match self {
-            Space { wanted, left } => write!(f, "{wanted} wanted and {left} left"),
-        }
+        let Space { wanted, left } = self;
+        write!(f, "{wanted} wanted and {left} left")
     }
 }
 

@@ -1,4 +1,5 @@
-// Made from crates/ent_storage/src/looking.rt by rust/erase. Not edited by hand.
+// Made of crates/ent_storage/src/looking.rt by rust/erase. It isn't edited by hand.
+
 //! What a storage has: the look-ups, which change nothing.
 
 use crate::kit::vec::Vec;
@@ -102,12 +103,12 @@ impl Storage {
     #[inline]
     pub fn of_birth(&self, birth: Birth) -> Option<Handle>
         // ensures found { IfSome result (λ handle.
-            // birth_of self.now.entities handle ≡ Some birth) }
+        //     birth_of self.now.entities handle ≡ Some birth) }
         // ensures least { IfSome result (λ handle. (other : Handle)
-            // → birth_of self.now.entities other ≡ Some birth
-            // → handle_cmp handle other ≢ Greater) }
+        //     → birth_of self.now.entities other ≡ Some birth
+        //     → handle_cmp handle other ≢ Greater) }
         // ensures none { IfNone result ((handle : Handle)
-            // → birth_of self.now.entities handle ≢ Some birth) }
+        //     → birth_of self.now.entities handle ≢ Some birth) }
     {
         self.living.of_birth(birth)
     }
@@ -117,7 +118,7 @@ impl Storage {
     #[inline]
     pub fn dense(&self, id: ComponentId) -> &[(usize, i64)]
         // ensures has { (place : ℕ) (value : ℤ) → Contains result.now (place, value)
-            // ↔ (value_at_place self.now place id ≡ Some value) }
+        //     ↔ (value_at_place self.now place id ≡ Some value) }
         // ensures once { AllPairs (λ a b. a.0 ≢ b.0) result.now }
     {
         self.living.pairs(id)

@@ -1,4 +1,5 @@
-// Made from crates/ent_storage/src/order.rt by rust/erase. Not edited by hand.
+// Made of crates/ent_storage/src/order.rt by rust/erase. It isn't edited by hand.
+
 use crate::kit::vec::CollectIn;
 use crate::kit::vec::Vec;
 use super::living::Resident;
@@ -42,7 +43,7 @@ fn handles(alloc: Global, births: &[(Birth, Handle)]) -> Result<Vec<Handle>, All
 #[inline]
 pub fn least_of_birth(residents: &[Resident], birth: Birth) -> Option<Handle>
     // ensures { IsLeastOf birth (map (λ resident. (resident.birth, resident.handle)) residents.now)
-        // result }
+    //     result }
 {
     let mut least = None;
     for resident in residents {

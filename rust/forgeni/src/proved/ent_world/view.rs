@@ -1,4 +1,5 @@
-// Made from crates/ent_world/src/view.rt by rust/erase. Not edited by hand.
+// Made of crates/ent_world/src/view.rt by rust/erase. It isn't edited by hand.
+
 use crate::kit::vec::Vec;
 use crate::proved::ent_handle::{Birth, ComponentId, Handle, Memory};
 use crate::proved::ent_storage::Storage;
@@ -72,12 +73,12 @@ impl<'a> View<'a> {
     #[inline]
     pub fn of_birth(&self, birth: Birth) -> Option<Handle>
         // ensures found { IfSome result (λ handle.
-            // birth_of self.now.entities handle ≡ Some birth) }
+        //     birth_of self.now.entities handle ≡ Some birth) }
         // ensures least { IfSome result (λ handle. (other : HandleValue)
-            // → birth_of self.now.entities other ≡ Some birth
-            // → handle_cmp handle other ≢ Greater) }
+        //     → birth_of self.now.entities other ≡ Some birth
+        //     → handle_cmp handle other ≢ Greater) }
         // ensures none { IfNone result ((handle : HandleValue)
-            // → birth_of self.now.entities handle ≢ Some birth) }
+        //     → birth_of self.now.entities handle ≢ Some birth) }
     {
         self.storage.of_birth(birth)
     }
