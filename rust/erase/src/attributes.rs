@@ -65,7 +65,9 @@ impl Walk<'_> {
         if forms::KEPT_ATTRIBUTES.contains(&text.as_str()) {
             return Ok(false);
         }
-        Err(self.source.fault(at, format!("an unknown attribute: `{text}`")))
+        Err(self
+            .source
+            .fault(at, format!("an unknown attribute: `{text}`")))
     }
 
     /// `#[derive(..)]`, with the word at `name`. Returns whether it derives error messages.
@@ -79,14 +81,18 @@ impl Walk<'_> {
             let is_known = forms::KEPT_DERIVES.contains(name)
                 || [forms::DROP, forms::ERROR_DERIVE].contains(name);
             if !is_known {
-                return Err(self.source.fault(at, format!("an unknown derive: `{name}`")));
+                return Err(self
+                    .source
+                    .fault(at, format!("an unknown derive: `{name}`")));
             }
         }
         if names.contains(&"Clone") && !names.contains(&"Copy") {
             let what = "`Clone` without `Copy`, which may fail in the kit and not in Rust";
             return Err(self.source.fault(at, what));
         }
-        let kept = names.iter().filter(|name| forms::KEPT_DERIVES.contains(name));
+        let kept = names
+            .iter()
+            .filter(|name| forms::KEPT_DERIVES.contains(name));
         let kept: Vec<&str> = kept.copied().collect();
         if kept.is_empty() {
             self.cut_lines(at, end)?;
@@ -112,8 +118,18 @@ impl Walk<'_> {
         if self.source.has(at + 2, &["super", ")"]) {
             return Ok(());
         }
-        if scope == Scope::Module || !self.source.has(at + 2, &["crate", ")"]) {
+        if !self.source.has(at + 2, &["crate", ")"]) {
             return Err(self.source.fault(at, "an unknown form of visibility"));
+        }
+        // Only right below the crate's module are its files what `super` says.
+        let is_below =
+            self.source.path.split("/src/").last().is_some_and(|file| {
+                file != "lib.rt" && !file.contains('/') && scope != Scope::Module
+            });
+        if !is_below {
+            return Err(self
+                .source
+                .fault(at, "`pub(crate)` in another place than a file of `src`"));
         }
         self.replace(at, at + 4, OWN_ONLY);
         Ok(())

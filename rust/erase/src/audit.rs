@@ -50,7 +50,7 @@ struct Audit<'a> {
     at: usize,
     /// The next token of the result.
     out: usize,
-    /// The tokens of the source that were found to be ghost.
+    /// The tokens of the source before which a comment is ghost too.
     is_ghost: Vec<bool>,
     /// Those of them that are clauses.
     is_clause: Vec<bool>,
@@ -60,7 +60,10 @@ impl Audit<'_> {
     /// Goes on in one of the texts or in both.
     fn step(&mut self) -> Result<(), Fault> {
         if let Some(end) = self.ghost_end() {
+            // Comments above an attribute or a clause stay.
+            let stay = self.source.at(self.at) == "#" || self.is_clause[self.at];
             self.is_ghost[self.at..end].fill(true);
+            self.is_ghost[self.at] = !stay;
             self.at = end;
             return Ok(());
         }
@@ -88,7 +91,8 @@ impl Audit<'_> {
         let (source, at) = (self.source, self.at);
         let starts = |tokens: &[&str]| source.has(at, tokens);
         match source.at(at) {
-            "ghost" => source.find(at, source.len(), &[";", ","]).map(|end| end + 1),
+            "pub" if starts(&["pub", "ghost"]) => self.ghost_item_end(),
+            "ghost" => self.ghost_item_end(),
             word if forms::CLAUSES.contains(&word) => {
                 let open = source.find(at, source.len(), &["{"])?;
                 let end = source.partner(open) + 1;
@@ -106,6 +110,12 @@ impl Audit<'_> {
         }
     }
 
+    /// The end of an import, a member or a field.
+    fn ghost_item_end(&self) -> Option<usize> {
+        let end = self.source.find(self.at, self.source.len(), &[";", ","])?;
+        Some(end + 1)
+    }
+
     /// The end of an `impl` of a ghost trait.
     fn ghost_impl_end(&self) -> Option<usize> {
         let open = self.source.find(self.at, self.source.len(), &["{"])?;
@@ -113,7 +123,10 @@ impl Audit<'_> {
         let is_of = |at: usize| {
             forms::GHOST_TRAITS.contains(&self.source.at(at)) && self.source.at(at + 1) == "for"
         };
-        header.into_iter().any(is_of).then(|| self.source.partner(open) + 1)
+        header
+            .into_iter()
+            .any(is_of)
+            .then(|| self.source.partner(open) + 1)
     }
 
     /// The end of an attribute for the prover, of a message, or of a derive of which nothing stays.
@@ -131,7 +144,9 @@ impl Audit<'_> {
     /// What stays of the derive whose `[` stands here in the source.
     fn kept_derives(&self, open: usize) -> Vec<&str> {
         let names = (open + 3..self.source.partner(open)).map(|at| self.source.at(at));
-        names.filter(|name| forms::KEPT_DERIVES.contains(name)).collect()
+        names
+            .filter(|name| forms::KEPT_DERIVES.contains(name))
+            .collect()
     }
 
     /// The end of what was added to the result here, if something was.
@@ -157,9 +172,15 @@ impl Audit<'_> {
     fn added_import(&self) -> Option<usize> {
         let macros = forms::KIT_MACROS.iter().map(|name| ("", *name));
         let prelude = forms::PRELUDE.iter().map(|(name, module)| (*module, *name));
-        let traits = forms::RENAMED.iter().map(|renamed| (renamed.import.1, renamed.import.0));
+        let traits = forms::RENAMED
+            .iter()
+            .map(|renamed| (renamed.import.1, renamed.import.0));
         let lines = macros.chain(prelude).chain(traits).map(|(module, name)| {
-            let module = if module.is_empty() { String::new() } else { format!("::{module}") };
+            let module = if module.is_empty() {
+                String::new()
+            } else {
+                format!("::{module}")
+            };
             format!("use {KIT}{module}::{name};")
         });
         lines
@@ -171,35 +192,90 @@ impl Audit<'_> {
     /// The end of the `Display` and the `Error` that stand in the result for the messages of a type.
     fn added_messages(&self) -> Result<usize, Fault> {
         let name = self.result.at(self.out + 7);
-        let open = self.out + 8;
-        let close = self.result.partner(open);
-        let wanted = self.messages_of(name);
-        let found = written_messages(self.result, open, close);
-        if wanted.is_empty() || wanted != found {
-            let what = format!("the messages of `{name}` are {found:?}, and not {wanted:?}");
-            return Err(self.source.fault(self.at, what));
+        let head = format!(
+            "impl core::fmt::Display for {name} {{ \
+             fn fmt(&self, f: &mut core::fmt::Formatter<'_>) -> core::fmt::Result {{"
+        );
+        let mut at = self.added(self.out, &head)?;
+        let messages = self.messages_of(name);
+        if self.result.at(at) == "match" {
+            at = self.added(at, "match self {")?;
+            for (variant, text) in &messages {
+                at = self.added(at, &format!("{name}::{variant}"))?;
+                at = self.after_pattern(at, text);
+                at = self.added(at, &format!("=> write!(f, {text}),"))?;
+            }
+            at = self.added(at, "}")?;
+        } else {
+            let text = messages.first().map_or("", |(_, text)| text.as_str());
+            if self.result.at(at) == "let" {
+                at = self.added(at, &format!("let {name}"))?;
+                at = self.added(self.after_pattern(at, text), "= self;")?;
+            }
+            at = self.added(at, &format!("write!(f, {text})"))?;
         }
-        let error = pieces(&format!("impl core::error::Error for {name} {{}}"));
-        if !has(self.result, close + 1, &error) {
-            return Err(self.source.fault(self.at, format!("no `Error` of `{name}`")));
+        self.added(
+            at,
+            &format!("}} }} impl core::error::Error for {name} {{}}"),
+        )
+    }
+
+    /// The place after these tokens of the result, which have to stand here.
+    fn added(&self, at: usize, text: &str) -> Result<usize, Fault> {
+        let wanted = pieces(text);
+        if has(self.result, at, &wanted) {
+            return Ok(at + wanted.len());
         }
-        Ok(close + 1 + error.len())
+        let what = format!("the result lacks `{text}`, which the messages give");
+        Err(self.source.fault(self.at, what))
+    }
+
+    /// The place after the fields of a pattern: names of the message, and `..` at the end, or `(..)`.
+    fn after_pattern(&self, at: usize, text: &str) -> usize {
+        let (result, close) = (self.result, self.result.partner(at));
+        if result.has(at, &["(", "..", ")"]) {
+            return at + 3;
+        }
+        if result.at(at) != "{" {
+            return at;
+        }
+        let is_name = |at: usize| match result.at(at) {
+            ".." => at + 1 == close,
+            name => text.contains(&format!("{{{name}")),
+        };
+        let parts: Vec<usize> = (at + 1..close).collect();
+        let is_list = parts
+            .iter()
+            .enumerate()
+            .all(|(number, at)| match number % 2 {
+                0 => is_name(*at),
+                _ => result.at(*at) == ",",
+            });
+        if is_list && parts.len() % 2 == 1 {
+            close + 1
+        } else {
+            at
+        }
     }
 
     /// The messages of a type of the source, each after the name of its struct or variant.
     fn messages_of(&self, name: &str) -> Vec<(String, String)> {
         let source = self.source;
-        let is_type = |at: &usize| {
-            ["struct", "enum"].contains(&source.at(*at)) && source.at(*at + 1) == name
-        };
+        let is_type =
+            |at: &usize| ["struct", "enum"].contains(&source.at(*at)) && source.at(*at + 1) == name;
         let Some(at) = (0..source.len()).find(is_type) else {
             return Vec::new();
         };
         let is_message = |at: &usize| source.has(*at, &["#", "[", "error", "("]);
         let message = |at: usize, name: &str| (name.to_owned(), source.at(at + 4).to_owned());
         if source.at(at) == "struct" {
-            let above = (0..at).rev().take_while(|at| ![";", "}"].contains(&source.at(*at)));
-            return above.filter(is_message).map(|at| message(at, name)).collect();
+            let above = (0..at)
+                .rev()
+                .take_while(|at| ![";", "}"].contains(&source.at(*at)));
+            return above
+                .filter(is_message)
+                .map(|at| message(at, name))
+                .collect();
         }
         let close = source.partner(at + 2);
         (at..close)
@@ -242,8 +318,8 @@ impl Audit<'_> {
         let wanted = comments(self.source);
         let mut clauses = String::new();
         let mut next = 0;
-        for (_, text) in comments(self.result).iter().skip(1) {
-            let is_same = |(_, old): &(usize, &str)| self.led(old) == *text;
+        for Comment { text, .. } in comments(self.result).iter().skip(1) {
+            let is_same = |old: &Comment<'_>| self.led(old.text) == *text;
             match wanted[next..].iter().position(is_same) {
                 Some(passed) => {
                     self.only_ghost(&wanted[next..next + passed])?;
@@ -257,28 +333,48 @@ impl Audit<'_> {
         }
         self.only_ghost(&wanted[next..])?;
         let is_clause = |at: &usize| self.is_clause[*at];
-        let of_source = (0..self.source.len()).filter(is_clause).map(|at| self.source.at(at));
+        let of_source = (0..self.source.len())
+            .filter(is_clause)
+            .map(|at| self.source.at(at));
         if of_source.eq(pieces(&clauses).iter().map(String::as_str)) {
             return Ok(());
         }
-        Err(self.source.fault(0, "the comments of the result are not those of the source and its clauses"))
+        Err(self.source.fault(
+            0,
+            "the comments of the result are not those of the source and its clauses",
+        ))
     }
 
-    /// Comments that are not in the result have to stand at what is ghost.
-    fn only_ghost(&self, comments: &[(usize, &str)]) -> Result<(), Fault> {
-        match comments.iter().find(|(at, _)| !self.is_ghost.get(*at).copied().unwrap_or(false)) {
-            Some((at, text)) => Err(self.source.fault(*at, format!("a comment is lost: `{text}`"))),
+    /// Comments that are not in the result have to stand in what is ghost, or right above.
+    fn only_ghost(&self, comments: &[Comment<'_>]) -> Result<(), Fault> {
+        let is_lost = |comment: &&Comment<'_>| {
+            let is_ghost = |at: usize| self.is_ghost.get(at).copied().unwrap_or(false);
+            let is_within = comment.next.checked_sub(1).is_some_and(is_ghost);
+            let is_above = !comment.is_apart && !comment.text.starts_with("//!");
+            !is_ghost(comment.next) || !is_within && !is_above
+        };
+        match comments.iter().find(is_lost) {
+            Some(Comment { next, text, .. }) => Err(self
+                .source
+                .fault(*next, format!("a comment is lost: `{text}`"))),
             None => Ok(()),
         }
     }
 
     /// A comment as it stands in the result: its links lead where the code's paths do.
     fn led(&self, comment: &str) -> String {
-        if !["///", "//!"].iter().any(|begin| comment.starts_with(begin)) {
+        if !["///", "//!"]
+            .iter()
+            .any(|begin| comment.starts_with(begin))
+        {
             return comment.to_owned();
         }
         let own = ("crate", &self.names.crates[self.krate]);
-        let others = self.names.crates.iter().map(|(name, path)| (name.as_str(), path));
+        let others = self
+            .names
+            .crates
+            .iter()
+            .map(|(name, path)| (name.as_str(), path));
         let mut text = comment.to_owned();
         for (name, path) in std::iter::once(own).chain(others) {
             text = text.replace(&format!("]({name}::"), &format!("]({path}::"));
@@ -326,36 +422,42 @@ fn changes(krate: &str, names: &Names) -> Vec<Change> {
     changes
 }
 
-/// The comments, each with the place in the code of the token after it.
-fn comments<'a>(source: &Source<'a>) -> Vec<(usize, &'a str)> {
-    let mut code = 0;
+/// A comment of a text.
+struct Comment<'a> {
+    text: &'a str,
+    /// The place in the code of the token after it.
+    next: usize,
+    /// Whether an empty line stands between them.
+    is_apart: bool,
+}
+
+fn comments<'a>(source: &Source<'a>) -> Vec<Comment<'a>> {
     let mut comments = Vec::new();
+    let mut next = 0;
     for token in &source.tokens {
-        match token.kind {
-            Kind::Blank => {}
-            Kind::Comment => comments.push((code, source.text[token.from..token.to].trim_end())),
-            _ => code += 1,
+        if token.kind == Kind::Comment {
+            let end = source
+                .code
+                .get(next)
+                .map_or(source.text.len(), |it| source.tokens[*it].from);
+            comments.push(Comment {
+                text: source.text[token.from..token.to].trim_end(),
+                next,
+                is_apart: source.text[token.to..end].contains("\n\n"),
+            });
+        } else if token.kind != Kind::Blank {
+            next += 1;
         }
     }
     comments
 }
 
-/// The messages that a `Display` writes, each after the name of its struct or variant.
-fn written_messages(result: &Source<'_>, open: usize, close: usize) -> Vec<(String, String)> {
-    let is_write = |at: &usize| result.has(*at, &["write", "!", "(", "f", ","]);
-    let message = |at: usize| {
-        let arm = (open..at).rev().find(|at| result.at(*at) == "::" && result.at(at - 1) != "fmt");
-        let of_variant = arm.filter(|_| result.before(at) == "=>").map(|arm| result.at(arm + 1));
-        let name = of_variant.unwrap_or(result.at(open - 1));
-        (name.to_owned(), result.at(at + 5).to_owned())
-    };
-    (open..close).filter(is_write).map(message).collect()
-}
-
 /// The tokens of a text without blanks and comments.
 fn pieces(text: &str) -> Vec<String> {
     let tokens = crate::lex::tokens(text).unwrap_or_default();
-    let code = tokens.iter().filter(|it| !matches!(it.kind, Kind::Blank | Kind::Comment));
+    let code = tokens
+        .iter()
+        .filter(|it| !matches!(it.kind, Kind::Blank | Kind::Comment));
     code.map(|it| text[it.from..it.to].to_owned()).collect()
 }
 

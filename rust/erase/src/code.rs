@@ -8,8 +8,8 @@ use crate::walk::{Next, Walk};
 
 /// Words of Rust that may begin a statement whose block follows at once, or after one word.
 const STATEMENT_WORDS: [&str; 13] = [
-    "else", "enum", "for", "if", "impl", "let", "loop", "match", "mod", "return", "struct", "trait",
-    "while",
+    "else", "enum", "for", "if", "impl", "let", "loop", "match", "mod", "return", "struct",
+    "trait", "while",
 ];
 
 impl Walk<'_> {
@@ -37,12 +37,12 @@ impl Walk<'_> {
                 self.attribute(at, end, false)?;
                 Ok(end)
             }
-            ".." if self.is_open_range(at) => {
-                Err(self.source.fault(at, "a range without an end, which ends sooner in the kit"))
-            }
-            _ if !token.is_ascii() => {
-                Err(self.source.fault(at, format!("an unknown sign in code: `{token}`")))
-            }
+            ".." if self.is_open_range(at) => Err(self
+                .source
+                .fault(at, "a range without an end, which ends sooner in the kit")),
+            _ if !token.is_ascii() => Err(self
+                .source
+                .fault(at, format!("an unknown sign in code: `{token}`"))),
             _ => Ok(at + 1),
         }
     }
@@ -125,19 +125,18 @@ impl Walk<'_> {
         if let Some(known) = forms::KIT_MACROS.iter().find(|known| **known == name) {
             self.imports.insert(("", known));
         } else if !forms::KEPT_MACROS.contains(&name) {
-            return Err(self.source.fault(at, format!("an unknown macro: `{name}!`")));
+            return Err(self
+                .source
+                .fault(at, format!("an unknown macro: `{name}!`")));
         }
         Ok(at + 2)
     }
 
     /// A name that no path leads to.
     fn name(&mut self, at: usize) -> Next {
-        let word = self.source.at(at);
-        if ["::", "."].contains(&self.source.before(at)) {
-            return Ok(at + 1);
+        if !["::", "."].contains(&self.source.before(at)) {
+            self.need(at)?;
         }
-        self.need(at)?;
-        let _ = word;
         Ok(at + 1)
     }
 
@@ -148,7 +147,9 @@ impl Walk<'_> {
             self.imports.insert((module, name));
         }
         if forms::REFUSED_NAMES.contains(&word) {
-            return Err(self.source.fault(at, format!("an unknown name of the kit: `{word}`")));
+            return Err(self
+                .source
+                .fault(at, format!("an unknown name of the kit: `{word}`")));
         }
         Ok(())
     }
@@ -176,6 +177,8 @@ impl Walk<'_> {
         if forms::METHODS.contains(&name) || self.names.functions.contains(name) {
             return Ok(at + 1);
         }
-        Err(self.source.fault(at, format!("an unknown method: `{name}`")))
+        Err(self
+            .source
+            .fault(at, format!("an unknown method: `{name}`")))
     }
 }

@@ -64,11 +64,18 @@ pub fn read(repository: &Path, name: &str) -> io::Result<Crate> {
     collect(&folder, &mut paths)?;
     paths.sort();
     let file = |path: PathBuf| -> io::Result<File> {
-        let local = path.strip_prefix(&folder).expect("a path in the folder").to_owned();
+        let local = path
+            .strip_prefix(&folder)
+            .expect("a path in the folder")
+            .to_owned();
         let is_root = local == Path::new("lib.rt");
         Ok(File {
             path: format!("crates/{name}/src/{}", local.display()),
-            result: if is_root { PathBuf::from("mod.rs") } else { local.with_extension("rs") },
+            result: if is_root {
+                PathBuf::from("mod.rs")
+            } else {
+                local.with_extension("rs")
+            },
             text: fs::read_to_string(&path)?,
         })
     };
@@ -97,7 +104,9 @@ fn collect(folder: &Path, paths: &mut Vec<PathBuf>) -> io::Result<()> {
 /// A source can't be cut into tokens.
 pub fn add_names(names: &mut Names, crates: &[Crate], path: &str) -> Result<(), Fault> {
     for krate in crates {
-        names.crates.insert(krate.name.clone(), format!("{path}::{}", krate.name));
+        names
+            .crates
+            .insert(krate.name.clone(), format!("{path}::{}", krate.name));
         for file in &krate.files {
             let source = Source::read(&file.path, &file.text)?;
             for at in 0..source.len().saturating_sub(1) {
@@ -117,7 +126,8 @@ pub fn add_names(names: &mut Names, crates: &[Crate], path: &str) -> Result<(), 
 mod tests {
     use super::below;
 
-    const LISTED: &str = "# A comment: with a colon.\n\na: itoa\nb staticlib: a\nc:\nd: b c\ne: a\n";
+    const LISTED: &str =
+        "# A comment: with a colon.\n\na: itoa\nb staticlib: a\nc:\nd: b c\ne: a\n";
 
     fn names(tops: &[&str]) -> Result<Vec<String>, String> {
         let tops: Vec<String> = tops.iter().map(|top| (*top).to_owned()).collect();
@@ -128,6 +138,9 @@ mod tests {
     fn what_a_crate_stands_on_comes_before_it() {
         assert_eq!(names(&["d"]).expect("crates"), ["a", "b", "c", "d"]);
         assert_eq!(names(&["e", "c"]).expect("crates"), ["a", "c", "e"]);
-        assert_eq!(names(&["f"]).expect_err("no f"), "crates.txt doesn't list f");
+        assert_eq!(
+            names(&["f"]).expect_err("no f"),
+            "crates.txt doesn't list f"
+        );
     }
 }

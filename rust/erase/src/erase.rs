@@ -17,7 +17,11 @@ pub fn erase(source: &Source<'_>, krate: &str, names: &Names) -> Result<String, 
     edits.extend(imports(&walk));
     let text = edited(source.text, edits);
     let text = text.trim_start_matches('\n');
-    Ok(format!("{}\n\n{}", header(source.path), led_links(text, krate, names)))
+    Ok(format!(
+        "{}\n\n{}",
+        header(source.path),
+        led_links(text, krate, names)
+    ))
 }
 
 /// The first line of a result.

@@ -112,30 +112,54 @@ pub struct Module {
 /// All modules that are known.
 pub const MODULES: &[Module] = &[
     module("atomic_table", Target::Kit("atomic_table"), TABLE),
-    module("either", Target::Kit("either"), &["Either", "Left", "Right"]),
+    module(
+        "either",
+        Target::Kit("either"),
+        &["Either", "Left", "Right"],
+    ),
     module("itoa", Target::Kit("itoa"), &["Buffer"]),
     module("smallvec", Target::Kit("smallvec"), &["SmallVec"]),
-    module("std::alloc", Target::Kit("alloc"), &["AllocError", "AllocFailed", "Global"]),
-    module("std::cmp", Target::Rust("core::cmp"), &["Ordering", "Reverse"]),
-    module("std::collections", Target::Rust("alloc::collections"), &["LinkedList"]),
+    module(
+        "std::alloc",
+        Target::Kit("alloc"),
+        &["AllocError", "AllocFailed", "Global"],
+    ),
+    module(
+        "std::cmp",
+        Target::Rust("core::cmp"),
+        &["Ordering", "Reverse"],
+    ),
+    module(
+        "std::collections",
+        Target::Rust("alloc::collections"),
+        &["LinkedList"],
+    ),
     module("std::error", Target::Rust("core::error"), &["Error"]),
     module("std::fmt", Target::Rust("core::fmt"), FMT),
     module("std::marker", Target::Gone, GHOST_TRAITS),
     module("std::mem", Target::Rust("core::mem"), &["replace", "swap"]),
     module("std::sync", Target::Kit("sync"), &["Arc"]),
-    module("std::thread", Target::Kit("thread"), &["Threads", "for_each_mut"]),
+    module(
+        "std::thread",
+        Target::Kit("thread"),
+        &["Threads", "for_each_mut"],
+    ),
     module("thiserror", Target::Gone, &[ERROR_DERIVE]),
 ];
 
-const TABLE: &[&str] = &["Badge", "Join", "Play", "Seat", "Split", "Table", "TableRule"];
+const TABLE: &[&str] = &[
+    "Badge",
+    "Join",
+    "Play",
+    "Seat",
+    "Split",
+    "Table",
+    "TableRule",
+];
 
 const FMT: &[&str] = &["Debug", "Display", "Formatter", "Result", "Write"];
 
-const fn module(
-    path: &'static str,
-    target: Target,
-    names: &'static [&'static str],
-) -> Module {
+const fn module(path: &'static str, target: Target, names: &'static [&'static str]) -> Module {
     Module {
         path,
         target,

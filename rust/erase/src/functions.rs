@@ -11,8 +11,28 @@ const TYPE_WORDS: [&str; 6] = ["as", "const", "dyn", "for", "impl", "mut"];
 
 /// `fmt` in the kit, which writes to what it is told.
 const KIT_FMT: &[&str] = &[
-    "<", "W", ":", "fmt", "::", "Write", ">", "(", "&", "self", ",", "f", ":", "&", "mut", "fmt",
-    "::", "Formatter", "<", "W", ">", ")",
+    "<",
+    "W",
+    ":",
+    "fmt",
+    "::",
+    "Write",
+    ">",
+    "(",
+    "&",
+    "self",
+    ",",
+    "f",
+    ":",
+    "&",
+    "mut",
+    "fmt",
+    "::",
+    "Formatter",
+    "<",
+    "W",
+    ">",
+    ")",
 ];
 
 impl Walk<'_> {
@@ -58,7 +78,9 @@ impl Walk<'_> {
             self.replace(at + 19, at + 20, "'_");
             return Ok(());
         }
-        Err(self.source.fault(at, "another signature of `fmt` than the kit's"))
+        Err(self
+            .source
+            .fault(at, "another signature of `fmt` than the kit's"))
     }
 
     /// What a function returns, its bounds, its contract, and its body or `;`.
@@ -80,7 +102,7 @@ impl Walk<'_> {
             }
             if forms::CLAUSES.contains(&token) {
                 at = self.contract(at)?;
-                if !["{", ";"].contains(&self.source.at(at)) {
+                if !["{", ";", ""].contains(&self.source.at(at)) {
                     return Err(self.unknown_clause(at));
                 }
                 continue;
@@ -94,7 +116,8 @@ impl Walk<'_> {
 
     fn unknown_clause(&self, at: usize) -> Fault {
         let word = self.source.at(at);
-        self.source.fault(at, format!("an unknown clause: `{word}`"))
+        self.source
+            .fault(at, format!("an unknown clause: `{word}`"))
     }
 
     /// Whether a type, or a list of parameters, ends before this place.
@@ -129,7 +152,9 @@ impl Walk<'_> {
         }
         let clauses = &self.source.text[from..self.source.token(end - 1).to];
         text.push_str(&commented(clauses, self.first_column(at)));
-        if !self.source.text[to..].starts_with('\n') {
+        let rest = &self.source.text[to..];
+        if !rest.starts_with('\n') {
+            to += rest.len() - rest.trim_start_matches(' ').len();
             text.push('\n');
             text.push_str(&" ".repeat(self.first_column(at - 1)));
         }
@@ -183,7 +208,9 @@ fn commented(clauses: &str, column: usize) -> String {
         if line.trim().is_empty() {
             continue;
         }
-        let beyond = line.strip_prefix(margin.as_str()).unwrap_or(line.trim_start());
+        let beyond = line
+            .strip_prefix(margin.as_str())
+            .unwrap_or(line.trim_start());
         text.push_str(&comment(beyond, &margin, true));
     }
     text
@@ -192,7 +219,11 @@ fn commented(clauses: &str, column: usize) -> String {
 /// A line as a comment, unless it is one.
 fn comment(line: &str, margin: &str, is_whole: bool) -> String {
     let margin = if is_whole { margin } else { "" };
-    let mark = if line.trim_start().starts_with("//") { "" } else { "// " };
+    let mark = if line.trim_start().starts_with("//") {
+        ""
+    } else {
+        "// "
+    };
     format!("{margin}{mark}{line}")
 }
 
@@ -203,7 +234,8 @@ mod tests {
     #[test]
     fn lines_keep_their_indentation() {
         let clauses = "\n    requires a { b\n        ≡ c }\n\n    // Why.\n    ensures { d }";
-        let wanted = "\n    // requires a { b\n    //     ≡ c }\n\n    // Why.\n    // ensures { d }";
+        let wanted =
+            "\n    // requires a { b\n    //     ≡ c }\n\n    // Why.\n    // ensures { d }";
         assert_eq!(commented(clauses, 4), wanted);
     }
 

@@ -87,7 +87,10 @@ impl Walk<'_> {
         if name == "use" {
             return self.after_ghost_use(at + 2);
         }
-        let unknown = || self.source.fault(at, format!("an unknown ghost form: `ghost {name}`"));
+        let unknown = || {
+            self.source
+                .fault(at, format!("an unknown ghost form: `ghost {name}`"))
+        };
         let is_member = matches!(scope, Scope::Impl | Scope::Trait);
         if !is_member || !forms::GHOST_MEMBERS.contains(&name) {
             return Err(unknown());
@@ -111,8 +114,8 @@ impl Walk<'_> {
         let end = end.ok_or_else(|| self.source.fault(at, "`;` is missing"))?;
         let is_path = |at: usize| self.source.is_word(at) || self.source.at(at) == ".";
         let names = (at..end).find(|at| !is_path(*at)).unwrap_or(end);
-        let is_known = names == end
-            || self.source.has(names, &["{"]) && self.source.partner(names) + 1 == end;
+        let is_known =
+            names == end || self.source.has(names, &["{"]) && self.source.partner(names) + 1 == end;
         if is_known {
             return Ok(end + 1);
         }
@@ -172,7 +175,8 @@ impl Walk<'_> {
         let body = self.body_of(at)?;
         if scope == Scope::Impl {
             if let Some(name) = self.trait_of(at, body)? {
-                let is_known = forms::KEPT_TRAITS.contains(&name) || self.names.traits.contains(name);
+                let is_known =
+                    forms::KEPT_TRAITS.contains(&name) || self.names.traits.contains(name);
                 if !is_known {
                     let what = format!("an impl of an unknown trait: `{name}`");
                     return Err(self.source.fault(at, what));

@@ -8,8 +8,8 @@
 //! Whether the result is the source less what is ghost is tested apart from that, on the tokens of
 //! both ([`audit`]).
 
-pub mod audit;
 mod attributes;
+pub mod audit;
 mod code;
 pub mod crates;
 pub mod edit;

@@ -42,7 +42,11 @@ fn make() -> Result<String, Box<dyn Error>> {
             None => fs::remove_file(repository.join(path))?,
         }
     }
-    Ok(format!("{} erased sources, of which {} changed", files.len(), differing.len()))
+    Ok(format!(
+        "{} erased sources, of which {} changed",
+        files.len(),
+        differing.len()
+    ))
 }
 
 /// Fails if a result differs from what is there.
@@ -50,10 +54,20 @@ fn check() -> Result<String, Box<dyn Error>> {
     let files = package(Path::new("."))?;
     let differing = differing(Path::new("."), &files)?;
     if differing.is_empty() {
-        return Ok(format!("{} erased sources are those of crates/", files.len()));
+        return Ok(format!(
+            "{} erased sources are those of crates/",
+            files.len()
+        ));
     }
-    let list: Vec<String> = differing.iter().map(|path| path.display().to_string()).collect();
-    Err(format!("not what the sources make, which `erase` writes:\n{}", list.join("\n")).into())
+    let list: Vec<String> = differing
+        .iter()
+        .map(|path| path.display().to_string())
+        .collect();
+    Err(format!(
+        "not what the sources make, which `erase` writes:\n{}",
+        list.join("\n")
+    )
+    .into())
 }
 
 /// The files that are not as they are to be, or are there and not to be.

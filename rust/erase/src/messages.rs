@@ -82,7 +82,9 @@ impl Walk<'_> {
                 text: self.source.at(found + 4),
                 fields,
             }),
-            _ => Err(self.source.fault(at, format!("`{path}` has no message of a known form"))),
+            _ => Err(self
+                .source
+                .fault(at, format!("`{path}` has no message of a known form"))),
         }
     }
 
@@ -131,10 +133,16 @@ fn pattern(walk: &Walk<'_>, message: &Message<'_>, at: usize) -> Result<String, 
         Fields::Unnamed if wanted.is_empty() => Ok(format!("{path}(..)")),
         Fields::Named(_) if wanted.is_empty() => Ok(format!("{path} {{ .. }}")),
         Fields::Named(names) if wanted.iter().all(|it| names.contains(it)) => {
-            let rest = if wanted.len() < names.len() { ", .." } else { "" };
+            let rest = if wanted.len() < names.len() {
+                ", .."
+            } else {
+                ""
+            };
             Ok(format!("{path} {{ {}{rest} }}", wanted.join(", ")))
         }
-        _ => Err(walk.source.fault(at, format!("the message of `{path}` names no field of it"))),
+        _ => Err(walk
+            .source
+            .fault(at, format!("the message of `{path}` names no field of it"))),
     }
 }
 

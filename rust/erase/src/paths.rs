@@ -23,7 +23,9 @@ impl Walk<'_> {
         } else if first == "crate" || self.names.crates.contains_key(first) {
             self.lead_to_crate(at + 1);
         } else if !["super", "self"].contains(&first) && !self.declared.contains(first) {
-            return Err(self.source.fault(at + 1, format!("an unknown crate: `{first}`")));
+            return Err(self
+                .source
+                .fault(at + 1, format!("an unknown crate: `{first}`")));
         }
         if scope == Scope::File {
             let begin = self.begin_of_item(start)?;
@@ -47,11 +49,20 @@ impl Walk<'_> {
         }
         let known = match self.modules.get(first) {
             Some(known) => Some(*known),
-            None => forms::ASSOCIATED.iter().find(|it| it.0 == first).map(|it| it.1),
+            None => forms::ASSOCIATED
+                .iter()
+                .find(|it| it.0 == first)
+                .map(|it| it.1),
         };
-        let name = self.source.at(at + 2);
-        if known.is_some_and(|known| self.source.is_word(at + 2) && !known.contains(&name)) {
-            return Err(self.source.fault(at, format!("an unknown path: `{first}::{name}`")));
+        let mut next = at + 2;
+        if self.source.at(next) == "<" {
+            next = self.after_angles(next)? + 1;
+        }
+        let name = self.source.at(next);
+        if known.is_some_and(|known| !known.contains(&name)) {
+            return Err(self
+                .source
+                .fault(at, format!("an unknown path: `{first}::{name}`")));
         }
         self.need(at)?;
         Ok(at + 1)
@@ -65,10 +76,15 @@ impl Walk<'_> {
             let fits = |(number, name)| self.source.at(at + 2 * number) == name;
             names.into_iter().all(fits)
         };
-        let longest = forms::MODULES.iter().filter(begins).max_by_key(|module| module.path.len());
+        let longest = forms::MODULES
+            .iter()
+            .filter(begins)
+            .max_by_key(|module| module.path.len());
         if longest.is_none() && ["std", "core", "alloc"].contains(&self.source.at(at)) {
             let path = format!("{}::{}", self.source.at(at), self.source.at(at + 2));
-            return Err(self.source.fault(at, format!("an unknown path of std: `{path}`")));
+            return Err(self
+                .source
+                .fault(at, format!("an unknown path of std: `{path}`")));
         }
         Ok(longest)
     }

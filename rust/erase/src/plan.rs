@@ -51,8 +51,14 @@ pub fn package(repository: &Path) -> Result<Files, Box<dyn Error>> {
     let mut files = erased(&crates, Path::new(folder), &names)?;
     let mut names: Vec<&str> = crates.iter().map(|it| it.name.as_str()).collect();
     names.sort_unstable();
-    let modules: String = names.iter().map(|name| format!("pub mod {name};\n")).collect();
-    files.insert(Path::new(folder).join("mod.rs"), format!("{HEAD}\n{modules}"));
+    let modules: String = names
+        .iter()
+        .map(|name| format!("pub mod {name};\n"))
+        .collect();
+    files.insert(
+        Path::new(folder).join("mod.rs"),
+        format!("{HEAD}\n{modules}"),
+    );
     Ok(files)
 }
 

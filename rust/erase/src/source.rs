@@ -124,7 +124,10 @@ impl<'a> Source<'a> {
     /// A fault at the code's token of this place.
     pub fn fault(&self, at: usize, what: impl Into<String>) -> Fault {
         let at = at.min(self.len().saturating_sub(1));
-        let from = self.code.get(at).map_or(0, |place| self.tokens[*place].from);
+        let from = self
+            .code
+            .get(at)
+            .map_or(0, |place| self.tokens[*place].from);
         Fault {
             path: self.path.to_owned(),
             line: 1 + self.text[..from].matches('\n').count(),

@@ -157,8 +157,10 @@ impl<'a> Walk<'a> {
         let last = self.source.token(end - 1).to;
         let rest = self.source.text[last..].split('\n').next().unwrap_or("");
         let rest_is_code = !rest.trim().is_empty() && !rest.trim_start().starts_with("//");
-        if rest_is_code && self.source.at(end) != "" {
-            return Err(self.source.fault(first, "what is ghost shares its last line with code"));
+        if rest_is_code {
+            return Err(self
+                .source
+                .fault(first, "what is ghost shares its last line with code"));
         }
         self.edits.push(Edit {
             from,
@@ -191,7 +193,9 @@ impl<'a> Walk<'a> {
                 && blank.kind == Kind::Blank
                 && gap.matches('\n').count() == 1
                 && !text.starts_with("//!");
-            let line = self.source.text[..comment.from].rfind('\n').map_or(0, |at| at + 1);
+            let line = self.source.text[..comment.from]
+                .rfind('\n')
+                .map_or(0, |at| at + 1);
             if !belongs || !self.source.text[line..comment.from].trim().is_empty() {
                 break;
             }
