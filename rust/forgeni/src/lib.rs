@@ -79,14 +79,28 @@
 //! it has begun, of which nobody else has a part, and takes for granted that this isn't refused.
 #![deny(unsafe_code, missing_docs)]
 
+// The proofs are of sources whose `usize` has 64 bits.
+#[cfg(not(target_pointer_width = "64"))]
+compile_error!(
+    "forgeni is for targets whose usize has 64 bits: its sources are proved for those alone"
+);
+
+extern crate alloc;
+#[cfg(test)]
+extern crate std;
+
 mod component;
 mod entities;
 mod errors;
 #[allow(unsafe_code)]
 mod ffi;
 mod handle;
+#[allow(dead_code, missing_docs, unreachable_pub)]
+mod kit;
 mod limits;
 mod open_world;
+#[rustfmt::skip]
+mod proved;
 mod reading;
 mod report;
 mod sharing;

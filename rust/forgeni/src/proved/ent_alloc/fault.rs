@@ -1,0 +1,71 @@
+// Made of crates/ent_alloc/src/fault.rt by rust/erase. It isn't edited by hand.
+
+use crate::proved::ent_handle::{Handle, Memory};
+
+/// Why `Entities::alloc` gave no handle. Nothing has changed.
+#[derive(Clone, Copy, Debug, PartialEq, Eq)]
+pub enum AllocFault {
+    /// Handles were requested since the last flush, even if the request was refused.
+    NeedsFlush,
+    /// Every slot has a living occupant or is retired.
+    Space,
+    /// Memory ran out.
+    Memory,
+}
+
+impl core::fmt::Display for AllocFault {
+    fn fmt(&self, f: &mut core::fmt::Formatter<'_>) -> core::fmt::Result {
+        match self {
+            AllocFault::NeedsFlush => write!(f, "a flush is needed first"),
+            AllocFault::Space => write!(f, "no slot is free"),
+            AllocFault::Memory => write!(f, "out of memory"),
+        }
+    }
+}
+
+impl core::error::Error for AllocFault {}
+
+impl From<Memory> for AllocFault {
+    #[inline]
+    fn from(_refused: Memory) -> Self {
+        AllocFault::Memory
+    }
+}
+
+/// Why `Entities::free` freed nothing. Nothing has changed.
+#[derive(Clone, Copy, Debug, PartialEq, Eq)]
+pub enum FreeFault {
+    /// Handles were requested since the last flush, even if the request was refused.
+    NeedsFlush,
+    /// The handle isn't alive.
+    NotAlive,
+    /// Memory ran out.
+    Memory,
+}
+
+impl core::fmt::Display for FreeFault {
+    fn fmt(&self, f: &mut core::fmt::Formatter<'_>) -> core::fmt::Result {
+        match self {
+            FreeFault::NeedsFlush => write!(f, "a flush is needed first"),
+            FreeFault::NotAlive => write!(f, "the entity is not alive"),
+            FreeFault::Memory => write!(f, "out of memory"),
+        }
+    }
+}
+
+impl core::error::Error for FreeFault {}
+
+impl From<Memory> for FreeFault {
+    #[inline]
+    fn from(_refused: Memory) -> Self {
+        FreeFault::Memory
+    }
+}
+
+/// What `Entities::free` returns.
+#[derive(Clone, Copy, Debug, PartialEq, Eq)]
+pub struct Freed {
+    /// The handle that the slot gives next. `None` if the freed one was of the last generation: the
+    /// slot is retired then, and gives no handle any more.
+    pub next: Option<Handle>,
+}
