@@ -292,6 +292,7 @@ pub const METHODS: &[&str] = &[
 
 /// What may be called by a path that begins with a type or a module of std.
 pub const ASSOCIATED: &[(&str, &[&str])] = &[
+    ("Arc", &["new", "ptr_eq", "try_clone", "try_unwrap"]),
     ("Table", &["of_words"]),
     ("Badge", &["blank"]),
     ("Buffer", &["new"]),
