@@ -71,11 +71,13 @@ mod tests {
 
     #[test]
     fn the_last_owner_has_the_value() {
-        let one = Arc::new(Global, 7).ok().expect("memory");
+        let one = Arc::new(Global, 7).expect("memory");
         let two = Arc::try_clone(&one).expect("a second owner");
-        let other = Arc::new(Global, 7).ok().expect("memory");
+        let other = Arc::new(Global, 7).expect("memory");
         assert!(Arc::ptr_eq(&one, &two) && !Arc::ptr_eq(&one, &other));
-        let one = Arc::try_unwrap(one).err().expect("there is a second owner");
+        let Err(one) = Arc::try_unwrap(one) else {
+            panic!("there is a second owner");
+        };
         assert_eq!((*one, *two), (7, 7));
         drop(one);
         assert_eq!(Arc::try_unwrap(two).ok(), Some(7));
