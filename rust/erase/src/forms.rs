@@ -82,6 +82,8 @@ pub const KEPT_TRAITS: &[&str] = &[
     "Iterator",
     "Join",
     "Ord",
+    "Eq",
+    "PartialEq",
     "PartialOrd",
     "Play",
     "Split",

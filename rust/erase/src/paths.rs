@@ -68,8 +68,8 @@ impl Walk<'_> {
     /// What may be called by a path that begins with this type or module.
     fn associated(&self, first: &str) -> Option<&'static [&'static str]> {
         let all = self.names.forms.iter().flat_map(|forms| forms.associated);
-        all.filter(|known| known.0 == first)
-            .last()
+        all.rev()
+            .find(|known| known.0 == first)
             .map(|known| known.1)
     }
 

@@ -261,6 +261,11 @@ fn what_only_looks_ghost_stays() {
 }
 
 #[test]
+fn types_and_ranges_of_slices() {
+    stays("type A = [u8; 2];\n\n#[inline]\nfn b() -> ([u8; 2], &[u8]) {\n    c.get(1..)\n}\n");
+}
+
+#[test]
 fn code_stays_as_it_is_laid_out() {
     stays(
         "use super::a;\n\n\n/// B.\n#[inline]\npub fn b<'a, T>(c: &'a [T], d: impl Fn(u8) -> u8) -> Option<&'a T>\n\
