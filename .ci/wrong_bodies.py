@@ -1,34 +1,364 @@
 #!/usr/bin/env python3
-"""Says whether the wrong bodies that the gate doesn't try still fit the code: each text that one replaces must stand there exactly once.
-It runs at the top of the repository. `./try_wrong_bodies.sh` tries them."""
+"""Wrong bodies: edits of a crate's code that the prover has to refuse, each by what its file names.
 
+    .ci/wrong_bodies.py fit                   each fits the code, and says what refuses it
+    .ci/wrong_bodies.py said LOG              what `rt ci` printed of must-fail/ is what the files say
+    .ci/wrong_bodies.py try --gate            those of wrong_bodies/ with a line `gate` are refused by what their files say
+    .ci/wrong_bodies.py try [CRATE..]         all of these crates, or of all crates
+    .ci/wrong_bodies.py try --changed REV     all of the crates whose sources, specs or proofs differ from that commit
+    .ci/wrong_bodies.py try --name ..         writes the line `refused by` into each file that has none
+
+An edit is a file `crates/CRATE/must-fail/NAME.edit`, which `rt ci` tries, or `crates/CRATE/wrong_bodies/NAME.edit`. It has pairs of lines:
+`old: TEXT`, which stands once in the file that a line `file: PATH` above names, and `new: TEXT`. Lines with `#` say what it does.
+
+Its line `refused by: FUNCTION: GOAL` says which function the prover refuses then, and which goal of that proof it names. A goal's name ends
+with the name of a clause, of an invariant, or of what a call requires. Where `rt ci` prints another goal first, that one stands behind a
+comma. With a line `gate` the gate tries it.
+
+Only the function that the file names is checked, with those that it calls. So a try takes seconds where the check of a crate takes minutes.
+The script runs at the top of the repository, and needs `rt` on the PATH.
+"""
+
+import argparse
+import concurrent.futures
+import os
 import pathlib
+import re
+import shutil
+import subprocess
 import sys
+import tempfile
+import time
+
+PARTS = ("src", "specs", "proofs")
+GATE = 70
 
 
-def fault_of(edit, crate):
-    """Why the wrong body doesn't fit the crate, or None."""
-    texts, file, old = {}, None, None
-    for line in edit.read_text().splitlines():
-        word, _, text = line.partition(": ")
-        if word == "file":
-            file = crate / text.strip()
-            texts.setdefault(file, file.read_text() if file.is_file() else "")
-        elif word == "old":
-            old = text
-        elif line.startswith("new:") and file and old:
-            if texts[file].count(old) != 1:
-                return f"a text that it replaces stands {texts[file].count(old)} times in {file}"
-            texts[file] = texts[file].replace(old, text)
-    return None if old else "it replaces nothing"
+class Edit:
+    """One wrong body, as its file has it."""
+
+    def __init__(self, path):
+        self.path, self.crate, self.name = path, path.parts[1], path.stem
+        self.is_must_fail = path.parts[2] == "must-fail"
+        self.pairs, self.refused_by, self.is_of_gate = [], None, False
+        file = old = None
+        for line in path.read_text().splitlines():
+            if line.startswith("file: "):
+                file = line.removeprefix("file: ").strip()
+            elif line.startswith("old: "):
+                old = line.removeprefix("old: ")
+            elif line.startswith("new:"):
+                self.pairs.append((file, old, line.removeprefix("new:").removeprefix(" ")))
+            elif line.startswith("refused by: "):
+                function, _, goals = line.removeprefix("refused by: ").rpartition(": ")
+                self.refused_by = function, goals.split(", ")
+            elif line == "gate":
+                self.is_of_gate = True
+
+    def over(self, texts):
+        """These texts of the crate's files with the edit, by path; or why it doesn't fit them."""
+        texts = dict(texts)
+        for file, old, new in self.pairs:
+            path = pathlib.Path("crates", self.crate, file or "")
+            if not file or not old or not path.is_file():
+                return f"it names no text of {path}"
+            text = texts.get(file) or path.read_text()
+            if text.count(old) != 1:
+                return f"a text that it replaces stands {text.count(old)} times in {path}"
+            texts[file] = text.replace(old, new)
+        return texts if self.pairs else "it replaces nothing"
+
+    def fault(self):
+        """What is wrong with its file, or None."""
+        texts = self.over({})
+        if isinstance(texts, str):
+            return texts
+        return None if self.refused_by else "it has no line `refused by: FUNCTION: GOAL`"
+
+    def functions(self):
+        """The functions to check: the one that its file names, or those whose text it changes."""
+        return [self.refused_by[0]] if self.refused_by else enclosing(self)
+
+
+def edits_of(crates=("*",)):
+    paths = [it for name in crates for it in pathlib.Path("crates").glob(f"{name}/*/*.edit")]
+    return [Edit(it) for it in sorted(paths)]
+
+
+class Prover:
+    """The check of a crate, or of some of its functions, as the kit makes it."""
+
+    def __init__(self):
+        self.kit = pathlib.Path(shutil.which("rt")).resolve().parent.parent
+        self.top = pathlib.Path.cwd()
+        self.uses, self.marks = {}, {}
+        for line in pathlib.Path("crates.txt").read_text().splitlines():
+            head, _, used = line.partition("#")[0].partition(":")
+            if head.strip():
+                name, *marks = head.split()
+                self.uses[name], self.marks[name] = used.split(), marks
+
+    def below(self, crate):
+        found = {it for it in self.uses[crate] if it in self.uses}
+        return found.union(*(self.below(it) for it in found))
+
+    def words(self, crate, functions, kept):
+        """The command that checks these functions, or all of them if none is named."""
+        words = [self.kit / "bin/rattle", "check", "--crate-name", crate, "src/lib.rt"]
+        for used in ["std", *self.uses[crate]]:
+            own = self.top / f"crates/{used}/out/rlib/{used}.rlib"
+            words += ["--extern", f"{used}={own if used in self.uses else self.kit / f'rlibs/{used}.rlib'}"]
+        words += ["-L", f"dependency={self.kit / 'rlibs'}"]
+        for used in sorted(self.below(crate)):
+            words += ["-L", f"dependency={self.top / f'crates/{used}/out/rlib'}"]
+        words += ["--antt-project", self.kit / "rattle/logic/antt-project.json", "--logic-built", self.kit / "logic_built"]
+        words += ["--crate-type", "staticlib"] if "staticlib" in self.marks[crate] else []
+        words += ["--links", f"{crate}=", "--jobs", "1", "--incremental", kept]
+        return [str(it) for it in [*words, *(word for it in functions for word in ("--only", it))]]
+
+    def build_below(self, crate):
+        """Builds the libraries below a crate that aren't built yet: `rt` does so before each check."""
+        lacking = [it for it in self.below(crate) if not pathlib.Path(f"crates/{it}/out/rlib/{it}.rlib/format").is_file()]
+        if lacking:
+            said = subprocess.run(["rt", "check", "--only", ""], cwd=f"crates/{crate}", capture_output=True, text=True)
+            if said.returncode:
+                sys.exit(f"the libraries below {crate} are not built: {said.stdout[-500:]}{said.stderr[-500:]}")
+
+    def check(self, crate, texts, functions, kept):
+        """The status and what is printed of a check of the crate with these texts in place of its own."""
+        with tempfile.TemporaryDirectory() as room:
+            for part in PARTS:
+                if os.path.isdir(f"crates/{crate}/{part}"):
+                    shutil.copytree(f"crates/{crate}/{part}", f"{room}/{part}")
+            for path, text in texts.items():
+                pathlib.Path(room, path).write_text(text)
+            how = {"cwd": room, "stdout": subprocess.PIPE, "stderr": subprocess.STDOUT, "errors": "replace"}
+            said = subprocess.run(self.words(crate, functions, kept), **how)
+        return said.returncode, said.stdout
+
+
+def refusals(crate, said):
+    """Which functions a check doesn't prove, each with the goals that it names: what refuses an edit."""
+    found = {it: [] for it in re.findall(rf"(?m)^fn {crate}::(\S+): (?:not proved|no proof)", said)}
+    for folder, goal, why in re.findall(r"(?m)^(?:\./)?proofs/(\S+)/\w+\.antt:\d+:\d+: error: (?:in )?`([^`]+)`(.*)", said):
+        # An answer whose goal is gone with the edit says nothing of the contract.
+        function = folder.replace("/", "::")
+        if function in found and not re.search(r"has no `|is not in scope", why):
+            found[function].append(goal)
+    for function, goals in re.findall(rf"(?m)^fn {crate}::(\S+): no proof: .*?`search` did not prove (.*)$", said):
+        found[function] += re.findall(r"`([^`]+)`", goals)
+    # Open goals stand at a place of the source. Where one function alone is refused, they are its own.
+    open_goals = re.findall(r"(?m)^note: src/\S+: it is not proved .*?\(`([^`]+)`\)", said)
+    if len(found) == 1:
+        found[next(iter(found))] += open_goals
+    return {it: list(dict.fromkeys(goals)) for it, goals in found.items()}
+
+
+# A line of a check that `rt ci` shows of a refused edit, and those that it passes over: they name what the edit took away.
+SHOWN = re.compile(r"(?m)^(?!(?:note: )?(?:\./)?proofs/.*(?:has no field|is not in scope|has no `|was not admitted))"
+                   r"(?:note: \S+:\d+:\d+:.*|\S+:\d+:\d+:.*: error.*)$")
+
+
+def first_printed(said):
+    """The goal in the line that `rt ci` shows of a refused edit, if it names one there."""
+    line = SHOWN.search(said)
+    goal = line and re.search(r"`([^`]+)`", line[0][:160])
+    return goal[1] if goal else None
+
+
+def of_clause_first(goals):
+    """The goal that says most of the contract: one of a clause of the function, else of its invariant, else the first."""
+    kinds = [r"^returns.*-clause-", r"^returns", r"invariant"]
+    rank = lambda it: next((at for at, kind in enumerate(kinds) if re.search(kind, it)), len(kinds))
+    return min(goals, key=rank) if goals else None
+
+
+def enclosing(edit):
+    """The functions whose text an edit changes, by the ends of the names that the prover gives them, or none where they can't be told."""
+    found = []
+    for file, old, _ in edit.pairs:
+        text = pathlib.Path("crates", edit.crate, file).read_text()
+        before = text[: text.index(old) + len(old)]
+        name = re.findall(r"(?m)^\s*(?:pub(?:\([a-z]+\))? )?(?:const )?(?:extern \"C\" )?fn (\w+)", before)
+        head = re.findall(r"(?m)^(impl\b.*|\})", before)
+        module = re.sub(r"(^|/)(lib|mod)$", "", file.removeprefix("src/").removesuffix(".rt")).replace("/", "::")
+        owner = ""
+        if name and head and head[-1].startswith("impl"):
+            said = re.sub(r"<[^<>]*(?:<[^<>]*>)?[^<>]*>", "", head[-1].removeprefix("impl")).split("{")[0].split()
+            owner = (said[said.index("for") + 1] + said[0].split("::")[-1] if "for" in said else said[0]) + "::"
+        if not name:
+            return []
+        # A method has the name of its type's module, wherever it stands.
+        found.append(owner + name[-1] if owner else "::".join(it for it in (module, name[-1]) if it))
+    return list(dict.fromkeys(found))
+
+
+# What a try comes to.
+REFUSED, OTHERWISE, LET_THROUGH, UNKNOWN = "refused", "refused otherwise", "LET THROUGH", "NOT TRIED"
+
+
+def goals_of(edit, found):
+    """The functions of the edit among those that a check doesn't prove, where it names a goal of theirs."""
+    ends = tuple(f"::{it}" for it in edit.functions())
+    return {it: goals for it, goals in found.items() if goals and f"::{it}".endswith(ends)}
+
+
+def verdict(edit, status, said, names):
+    """What a check with the edit came to, and what to say of it."""
+    if status == 0:
+        return LET_THROUGH, "the prover proves it"
+    found = refusals(edit.crate, said)
+    if status != 1 or not found or re.search(r"\berror\[[\w-]+\]", said):
+        errors = [it for it in said.splitlines() if "error" in it][:3] or said.splitlines()[-3:]
+        return UNKNOWN, f"no verdict (status {status}): " + " | ".join(it[:200] for it in errors)
+    if edit.refused_by:
+        function, goals = edit.refused_by
+        if goals[0] in found.get(function, []):
+            return REFUSED, f"by {function}: {goals[0]}"
+        return OTHERWISE, "; ".join(f"{it}: {', '.join(goals[:6])}" for it, goals in found.items())
+    own = goals_of(edit, found) or {it: goals for it, goals in found.items() if goals}
+    if not own:
+        return UNKNOWN, f"no goal is named: {', '.join(found)}"
+    function, goal = min(((it, of_clause_first(own[it])) for it in own), key=lambda it: not it[1].startswith("returns"))
+    goals = [goal, first_printed(said)] if edit.is_must_fail else [goal]
+    if names:
+        text = edit.path.read_text().rstrip("\n")
+        edit.path.write_text(f"{text}\nrefused by: {function}: {', '.join(dict.fromkeys(it for it in goals if it))}\n")
+    return REFUSED, f"by {function}: {goal}"
+
+
+def alone(prover, edit, kept, names):
+    """Tries one edit by itself: first over the functions that it should be refused by, then over all."""
+    texts, functions = edit.over({}), edit.functions()
+    if isinstance(texts, str):
+        return UNKNOWN, texts
+    status, said = prover.check(edit.crate, texts, functions, kept)
+    if functions and not edit.refused_by and status in (0, 2):
+        status, said = prover.check(edit.crate, texts, [], kept)
+    return verdict(edit, status, said, names)
+
+
+def rounds_of(edits):
+    """The edits in groups, each of which can be made at once: no two of one function."""
+    rounds = []
+    for edit in edits:
+        functions = set(edit.functions())
+        for group, taken, texts in rounds:
+            made = edit.over(texts)
+            if functions and not functions & taken and len(group) < 8 and not edit.is_must_fail and isinstance(made, dict):
+                group.append(edit)
+                taken.update(functions)
+                texts.update(made)
+                break
+        else:
+            made = edit.over({})
+            rounds.append(([edit], functions, made if isinstance(made, dict) else {}))
+    return rounds
+
+
+def together(prover, crate, group, functions, texts, kept, names):
+    """Tries edits of several functions in one check: what refuses one stands in its function's own proof. Those that this doesn't settle
+    are tried by themselves."""
+    settled = {}
+    if len(group) > 1:
+        status, said = prover.check(crate, texts, sorted(functions), kept)
+        found = refusals(crate, said) if status == 1 and not re.search(r"\berror\[[\w-]+\]", said) else {}
+        for edit in group:
+            if goals_of(edit, found):
+                mine = verdict(edit, status, said, names)
+                settled.update({edit: mine} if mine[0] == REFUSED else {})
+    return [(it, settled.get(it) or alone(prover, it, kept, names)) for it in group]
+
+
+def try_crate(prover, crate, edits, names):
+    """Tries the edits of one crate, over what the first ones have checked of it already."""
+    results = []
+    with tempfile.TemporaryDirectory() as room:
+        kept, begun = f"{room}/kept", f"crates/{crate}/out/incremental"
+        if os.path.isdir(begun):
+            subprocess.run(["cp", "-al", begun, kept], check=True)
+        else:
+            os.mkdir(kept)
+        for group, functions, texts in rounds_of(edits):
+            began = time.monotonic()
+            tried = together(prover, crate, group, functions, texts, kept, names)
+            took = (time.monotonic() - began) / len(group)
+            for edit, (kind, said) in tried:
+                results.append((edit, kind, said))
+                print(f"{crate}/{edit.name}: {kind} {said} ({took:.0f} s)", flush=True)
+    return results
+
+
+def told(log):
+    """Compares what `rt ci` printed of each edit in must-fail/ with what its file says."""
+    printed = dict(re.findall(r"(?m)^(?:rt: )?must-fail (\S+)\.edit: refused, as it must be: (.*)$", pathlib.Path(log).read_text()))
+    faults = []
+    for edit in edits_of():
+        if edit.is_must_fail:
+            line = printed.get(f"{edit.crate}/{edit.name}", "nothing")
+            function, goals = edit.refused_by
+            folder = f"proofs/{function.replace('::', '/')}/"
+            if not any(f"`{it}`" in line for it in goals) or "proofs/" in line and folder not in line:
+                faults.append(f"{edit.path}: it is not refused by {function}: {goals}, but: {line}")
+    print(*faults, f"wrong bodies of must-fail/: {len(printed)} refused, {len(faults)} otherwise than they say", sep="\n")
+    return 1 if faults else 0
+
+
+def changed_since(revision):
+    """The crates whose sources, specs or proofs differ from a commit, in what is committed or not."""
+    said = subprocess.run(["git", "diff", "--name-only", revision, "--", "crates"], capture_output=True, text=True, check=True)
+    new = subprocess.run(["git", "ls-files", "--others", "--exclude-standard", "crates"], capture_output=True, text=True, check=True)
+    paths = [it.split("/") for it in (said.stdout + new.stdout).splitlines()]
+    return sorted({it[1] for it in paths if len(it) > 3 and it[2] in PARTS})
+
+
+def fit():
+    edits = edits_of()
+    faults = [f"{it.path}: {it.fault()}" for it in edits if it.fault()]
+    gate = sum(it.is_must_fail or it.is_of_gate for it in edits)
+    faults += [f"the gate tries {gate} wrong bodies, and at most {GATE} are wanted"] if gate > GATE else []
+    print(*faults, f"wrong bodies: {len(edits)}, {gate} of them in the gate, {len(faults)} faults", sep="\n")
+    return 1 if faults else 0
+
+
+def try_all(options):
+    crates = changed_since(options.changed) if options.changed else options.crates or ["*"]
+    by_crate = {}
+    for it in edits_of(crates):
+        if it.is_of_gate or not options.gate:
+            by_crate.setdefault(it.crate, []).append(it)
+    lacking = [it for it in options.crates if it not in by_crate]
+    if lacking:
+        sys.exit(f"no wrong bodies in crates/{lacking[0]}")
+    prover = Prover()
+    for crate in by_crate:
+        prover.build_below(crate)
+    # The crates with most to do first: each is one worker's.
+    order = sorted(by_crate, key=lambda it: -len(by_crate[it]))
+    with concurrent.futures.ThreadPoolExecutor(options.jobs) as pool:
+        runs = [pool.submit(try_crate, prover, it, by_crate[it], options.name) for it in order]
+    results = [it for run in runs for it in run.result()]
+    faults = [f"{edit.crate}/{edit.name}: {kind}: {said}" for edit, kind, said in results if kind != REFUSED]
+    count = len(results) - len(faults)
+    print(*faults, f"wrong bodies tried: {len(results)}, refused as their files say: {count}, not so: {len(faults)}", sep="\n")
+    return 1 if faults else 0
 
 
 def main():
-    edits = sorted(pathlib.Path("crates").glob("*/wrong_bodies/*.edit"))
-    faults = [(it, fault_of(it, it.parent.parent)) for it in edits]
-    faults = [f"{edit}: {fault}" for edit, fault in faults if fault]
-    print(*faults, f"wrong bodies outside the gate: {len(edits)}, {len(faults)} don't fit", sep="\n")
-    return 1 if faults else 0
+    words = argparse.ArgumentParser(description="Tries wrong bodies.")
+    verbs = words.add_subparsers(dest="verb", required=True)
+    verbs.add_parser("fit")
+    verbs.add_parser("said").add_argument("log")
+    of_try = verbs.add_parser("try")
+    of_try.add_argument("crates", nargs="*", metavar="CRATE")
+    of_try.add_argument("--gate", action="store_true")
+    of_try.add_argument("--changed", metavar="REV")
+    of_try.add_argument("--name", action="store_true")
+    of_try.add_argument("--jobs", type=int, default=os.cpu_count())
+    options = words.parse_args()
+    if options.verb == "try":
+        return try_all(options)
+    return fit() if options.verb == "fit" else told(options.log)
 
 
 if __name__ == "__main__":

@@ -1,5 +1,13 @@
-//! The proved crates of this repository, erased to plain Rust: what is ghost is taken out, and clauses stay
-//! as comments. `rust/erase` makes all files below this one. None of them is edited by hand.
+//! The proved crates of this repository as plain Rust, each a module.
+//!
+//! `rust/erase` makes all files here of the sources below `crates/`. What is ghost is taken out, and the
+//! clauses of each contract stay below its signature as comments. None of these files is edited by
+//! hand: the gate makes them anew and compares.
+//!
+//! The proofs are of the sources, before that.
+
+// What a clause alone reads isn't used here, and the package doesn't call all that is proved. How the
+// sources are written is up to them.
 #![allow(dead_code, unused_imports, unused_variables, clippy::all)]
 
 pub mod ent_alloc;

@@ -1,4 +1,5 @@
-// Made from crates/ent_alloc/src/entities.rt by rust/erase. Not edited by hand.
+// Made of crates/ent_alloc/src/entities.rt by rust/erase. It isn't edited by hand.
+
 use crate::kit::vec::Vec;
 use crate::proved::ent_alloc::fault::{AllocFault, FreeFault, Freed};
 use crate::proved::ent_alloc::limits::Limits;
@@ -26,6 +27,7 @@ impl Entities {
     pub fn new(alloc: Global, limits: Limits) -> Self
         // ensures allocator { result.allocator ≡ opening limits }
         // ensures rows { result.rows ≡ map.empty }
+        // ensures rows_of_living { HasRowsOfLiving result }
     {
         Entities {
             slots: Slots::new(alloc, limits),
@@ -79,9 +81,10 @@ impl Entities {
     #[inline]
     pub fn retired(&self) -> u32
         // ensures value { result ≡ retired self.now.allocator }
+
         // Each slot that was made has a living occupant, waits for the next one, or is retired.
         // ensures rest { set.len self.now.allocator.live + top self.now.allocator + result
-            // ≡ self.now.allocator.made }
+        //     ≡ self.now.allocator.made }
     {
         self.total() - self.slots.live() - self.slots.waiting()
     }
@@ -91,6 +94,7 @@ impl Entities {
     #[inline]
     pub fn cursor(&self) -> i64
         // ensures value { result ≡ cursor self.now.allocator }
+
         // What is true of every state, as that no slot has two handles among the living and those
         // to be given.
         // ensures sound { IsSound self.now.allocator }
@@ -136,10 +140,12 @@ impl Entities {
         // ensures front { IfOk result (λ h. slice_get self.old.allocator.pool 0 ≡ Some h) }
         // ensures ok { IfOk result (λ h. self.new.allocator ≡ after_alloc self.old.allocator h) }
         // ensures rows { self.new.rows ≡ self.old.rows }
+        // ensures no_row { IfOk result (λ h. map.get self.new.rows h ≡ None) }
+        // ensures rows_of_living { HasRowsOfLiving self.new }
         // ensures needs_flush { IsErrOf result AllocFault.NeedsFlush
-            // ↔ (0 < self.old.allocator.asked) }
+        //     ↔ (0 < self.old.allocator.asked) }
         // ensures space { IsErrOf result AllocFault.Space
-            // ↔ ((self.old.allocator.asked ≡ 0) × (self.old.allocator.pool ≡ [])) }
+        //     ↔ ((self.old.allocator.asked ≡ 0) × (self.old.allocator.pool ≡ [])) }
         // ensures memory { IsErrOf result AllocFault.Memory → top self.old.allocator ≡ 0 }
         // ensures err { OnErr result (self.new ≡ self.old) }
     {
@@ -169,16 +175,18 @@ impl Entities {
     pub fn free(&mut self, handle: Handle) -> Result<Freed, FreeFault>
         // ensures ok { OnOk result (self.new.allocator ≡ after_free self.old.allocator handle) }
         // ensures row { OnOk result (self.new.rows ≡ map.remove self.old.rows handle) }
+        // ensures rows_of_living { HasRowsOfLiving self.new }
         // ensures next { IfOk result (λ freed. freed.next ≡ next self.old.allocator.limits handle) }
         // ensures lived { OnOk result (set.contains self.old.allocator.live handle ≡ true) }
         // ensures needs_flush { IsErrOf result FreeFault.NeedsFlush
-            // ↔ (0 < self.old.allocator.asked) }
+        //     ↔ (0 < self.old.allocator.asked) }
         // ensures not_alive { IsErrOf result FreeFault.NotAlive
-            // ↔ ((self.old.allocator.asked ≡ 0)
-            // × (set.contains self.old.allocator.live handle ≡ false)) }
+        //     ↔ ((self.old.allocator.asked ≡ 0)
+        //     × (set.contains self.old.allocator.live handle ≡ false)) }
+
         // The slot of a handle of the last generation is retired, which takes no memory.
         // ensures memory { IsErrOf result FreeFault.Memory
-            // → handle.generation ≢ self.old.allocator.limits.generations }
+        //     → handle.generation ≢ self.old.allocator.limits.generations }
         // ensures err { OnErr result (self.new ≡ self.old) }
     {
         if self.needs_flush() {
@@ -209,12 +217,16 @@ impl Entities {
         // ensures ok { OnOk result (self.new.allocator ≡ after_flush self.old.allocator) }
         // ensures rows { self.new.rows ≡ self.old.rows }
         // ensures born { OnOk result (out.new.items ≡ out.old.items ++ born self.old.allocator) }
+        // ensures no_rows { OnOk result
+        //     (All (λ h. map.get self.new.rows h ≡ None) (born self.old.allocator)) }
+        // ensures rows_of_living { HasRowsOfLiving self.new }
         // ensures err { OnErr result (self.new ≡ self.old) }
         // ensures unchanged { OnErr result (out.new.items ≡ out.old.items) }
         // ensures capacity { OnErr result (vec_capacity out.new ≡ vec_capacity out.old) }
+
         // Memory runs out only for new slots, or for a list that lacks room.
         // ensures memory { OnErr result ((0 < made_at_flush self.old.allocator)
-            // ⊎ (vec_capacity out.old < vec_len out.old + length self.old.allocator.taken)) }
+        //     ⊎ (vec_capacity out.old < vec_len out.old + length self.old.allocator.taken)) }
     {
         let waiting = self.slots.waiting();
         let kept = self.requests.kept(waiting);
@@ -262,6 +274,7 @@ impl Entities {
     pub fn set_row(&mut self, handle: Handle, row: u32)
         // requires { set.contains self.old.allocator.live handle ≡ true }
         // ensures row { self.new.rows ≡ map.insert self.old.rows handle row }
+        // ensures rows_of_living { HasRowsOfLiving self.new }
         // ensures allocator { self.new.allocator ≡ self.old.allocator }
     {
         self.slots.set_row(handle, row);

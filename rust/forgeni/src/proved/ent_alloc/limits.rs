@@ -1,4 +1,5 @@
-// Made from crates/ent_alloc/src/limits.rt by rust/erase. Not edited by hand.
+// Made of crates/ent_alloc/src/limits.rt by rust/erase. It isn't edited by hand.
+
 /// How many handles one caller may request between two flushes. It is this project's own limit:
 /// with it 1,024 callers together stay within the 2^50 that an allocator can count.
 pub const CREDIT: u64 = 1 << 40;
@@ -18,9 +19,9 @@ impl Limits {
     #[inline]
     pub fn new(slots: u32, generations: u32) -> Option<Self>
         // ensures in_range { IsSome result
-            // ↔ AreLimits (record { slots = slots; generations = generations }) }
+        //     ↔ AreLimits (record { slots = slots; generations = generations }) }
         // ensures value { IfSome result (λ limits.
-            // limits ≡ record { slots = slots; generations = generations }) }
+        //     limits ≡ record { slots = slots; generations = generations }) }
     {
         if 1 <= slots && 1 <= generations && generations < 1 << 31 {
             Some(Limits { slots, generations })

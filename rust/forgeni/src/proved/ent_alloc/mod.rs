@@ -1,4 +1,5 @@
-// Made from crates/ent_alloc/src/lib.rt by rust/erase. Not edited by hand.
+// Made of crates/ent_alloc/src/lib.rt by rust/erase. It isn't edited by hand.
+
 //! Bevy's entity allocator for one caller: its exclusive calls, and the arithmetic by which many
 //! callers reserve.
 

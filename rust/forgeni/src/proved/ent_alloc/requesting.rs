@@ -1,4 +1,5 @@
-// Made from crates/ent_alloc/src/requesting.rt by rust/erase. Not edited by hand.
+// Made of crates/ent_alloc/src/requesting.rt by rust/erase. It isn't edited by hand.
+
 //! What callers request, one or many of them: a step lowers the cursor, and what it gives follows
 //! from the cursor that it found.
 
@@ -26,16 +27,17 @@ impl Entities {
         // requires greatest { floor ≤ℤ pos (top self.old.allocator) }
         // requires ordered { cursor ≤ℤ floor }
         // requires reachable { let start = self.old.allocator in
-            // pos 0 ≤ℤ (floor +ℤ pos (start.limits.slots - start.made)) }
+        //     pos 0 ≤ℤ (floor +ℤ pos (start.limits.slots - start.made)) }
         // requires all_given { let start = self.old.allocator in
-            // pos 0 ≤ℤ (cursor +ℤ pos (start.limits.slots - start.made)) → floor ≡ cursor }
+        //     pos 0 ≤ℤ (cursor +ℤ pos (start.limits.slots - start.made)) → floor ≡ cursor }
         // ensures settled { let start = self.old.allocator in self.new.allocator
-            // ≡ settled start (asked_at (top start) floor) (asked_at (top start) cursor) }
+        //     ≡ settled start (asked_at (top start) floor) (asked_at (top start) cursor) }
         // ensures requests { let start = self.old.allocator in
-            // let given = asked_at (top start) floor in
-            // let asked = asked_at (top start) cursor in
-            // self.new.allocator ≡ after_take (after_take start given) (asked - given) }
+        //     let given = asked_at (top start) floor in
+        //     let asked = asked_at (top start) cursor in
+        //     self.new.allocator ≡ after_take (after_take start given) (asked - given) }
         // ensures rows { self.new.rows ≡ self.old.rows }
+        // ensures rows_of_living { HasRowsOfLiving self.new }
     {
         let waiting = self.slots.waiting();
         self.requests = Requests {
@@ -56,9 +58,11 @@ impl Entities {
     pub fn lower(&mut self, n: u32) -> Span
         // requires { self.old.allocator.asked + n ≤ 2 ^ 50 }
         // ensures span { let high = cursor self.old.allocator in
-            // result ≡ record { high = high; low = high -ℤ pos n } }
+        //     result ≡ record { high = high; low = high -ℤ pos n } }
         // ensures step { self.new.allocator ≡ after_take self.old.allocator n }
         // ensures rows { self.new.rows ≡ self.old.rows }
+        // ensures rows_of_living { HasRowsOfLiving self.new }
+
         // `reply` takes the span.
         // ensures valid { IsSpanOf self.new.allocator result }
     {
@@ -82,8 +86,8 @@ impl Entities {
     pub fn reply(&self, span: Span) -> Result<Reserved<'_>, Space>
         // requires { IsSpanOf self.now.allocator span }
         // ensures { let here = self.now.allocator in
-            // (n : ℕ) → span.low ≡ span.high -ℤ pos n
-            // → result ≡ reply_from here.made (pool_at here span.high) n }
+        //     (n : ℕ) → span.low ≡ span.high -ℤ pos n
+        //     → result ≡ reply_from here.made (pool_at here span.high) n }
     {
         let Span { high, low } = span;
         if low == high {
@@ -122,7 +126,7 @@ impl Entities {
         // requires least { neg_ℤ (pos (2 ^ 60)) ≤ℤ high }
         // requires passed { high ≤ℤ pos (top self.now.allocator) }
         // ensures { let here = self.now.allocator in
-            // listed_alone result ≡ reply_from here.made (pool_at here high) 1 }
+        //     listed_alone result ≡ reply_from here.made (pool_at here high) 1 }
     {
         if high > 0 {
             return Ok(self.slots.pending_at(high as usize - 1));

@@ -1,4 +1,5 @@
-// Made from crates/ent_alloc/src/requests.rt by rust/erase. Not edited by hand.
+// Made of crates/ent_alloc/src/requests.rt by rust/erase. It isn't edited by hand.
+
 /// The requests since the last flush.
 #[derive(Clone, Copy)]
 pub(super) struct Requests {
@@ -25,9 +26,9 @@ impl Requests {
         // requires few { self.asked + n ≤ 2 ^ 50 }
         // requires fits { available < 2 ^ 32 }
         // ensures served { self.asked + n ≤ available
-            // → result ≡ record { asked = self.asked + n; served = self.asked + n } }
+        //     → result ≡ record { asked = self.asked + n; served = self.asked + n } }
         // ensures refused { available < self.asked + n
-            // → result ≡ record { asked = self.asked + n; served = self.served } }
+        //     → result ≡ record { asked = self.asked + n; served = self.served } }
     {
         let asked = self.asked + u64::from(n);
         let served = if asked <= available {

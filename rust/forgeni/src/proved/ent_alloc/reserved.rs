@@ -1,4 +1,5 @@
-// Made from crates/ent_alloc/src/reserved.rt by rust/erase. Not edited by hand.
+// Made of crates/ent_alloc/src/reserved.rt by rust/erase. It isn't edited by hand.
+
 use crate::proved::ent_alloc::slot_record::first_occupant;
 use crate::proved::ent_alloc::slots::Slots;
 use crate::proved::ent_handle::Handle;

@@ -1,4 +1,5 @@
-// Made from crates/ent_alloc/src/slots.rt by rust/erase. Not edited by hand.
+// Made of crates/ent_alloc/src/slots.rt by rust/erase. It isn't edited by hand.
+
 use crate::kit::vec::Vec;
 use crate::proved::ent_alloc::limits::Limits;
 use crate::proved::ent_alloc::slot_record;
@@ -18,11 +19,11 @@ impl Slots {
     #[inline]
     pub(super) fn new(alloc: Global, limits: Limits) -> Self
         // ensures value { result ≡ record {
-          // limits = limits;
-          // live = set.empty;
-          // rows = maps.empty;
-          // pending = [];
-          // made = 0;
+        //   limits = limits;
+        //   live = set.empty;
+        //   rows = maps.empty;
+        //   pending = [];
+        //   made = 0;
         // } }
         // ensures limited { AreLimits limits }
     {
@@ -87,7 +88,7 @@ impl Slots {
         // ensures lives { set.contains self.now.live handle ≡ lives result }
         // ensures row { maps.get self.now.rows handle ≡ row_kept result }
         // ensures waits { (from : ℕ)
-            // → stands_in (drop from self.now.pending) handle ≡ waits_from result from }
+        //     → stands_in (drop from self.now.pending) handle ≡ waits_from result from }
         // ensures made { OnSome result (handle.index < self.now.made) }
     {
         slot_record::occupancy_of(&self.records, handle)
@@ -156,10 +157,10 @@ impl Slots {
     #[inline]
     pub(super) fn reuse_last(&mut self) -> Option<Handle>
         // ensures last { IfSome result (λ h.
-            // slice_get self.old.pending (length self.old.pending - 1) ≡ Some h) }
+        //     slice_get self.old.pending (length self.old.pending - 1) ≡ Some h) }
         // ensures some { IfSome result (λ h. self.new ≡ record self.old {
-          // live = set.union self.old.live (set.from_list (h ∷ []));
-          // pending = take (length self.old.pending - 1) self.old.pending;
+        //   live = set.union self.old.live (set.from_list (h ∷ []));
+        //   pending = take (length self.old.pending - 1) self.old.pending;
         // }) }
         // ensures none { IfNone result (self.old.pending ≡ []) }
         // ensures unchanged { IfNone result (self.new ≡ self.old) }
@@ -178,8 +179,8 @@ impl Slots {
         // requires { self.old.made < self.old.limits.slots }
         // ensures first { IfOk result (λ h. h ≡ record { index = self.old.made; generation = 1 }) }
         // ensures ok { IfOk result (λ h. self.new ≡ record self.old {
-          // live = set.union self.old.live (set.from_list (h ∷ []));
-          // made = self.old.made + 1;
+        //   live = set.union self.old.live (set.from_list (h ∷ []));
+        //   made = self.old.made + 1;
         // }) }
         // ensures err { OnErr result (self.new ≡ self.old) }
     {
@@ -202,19 +203,19 @@ impl Slots {
         // requires waiting { kept ≤ length self.old.pending }
         // requires room { self.old.made + fresh ≤ self.old.limits.slots }
         // ensures ok { OnOk result (self.new ≡ record self.old {
-          // live = set.union
-              // (set.union self.old.live (set.from_list (fresh_handles self.old.made fresh)))
-              // (set.from_list (drop kept self.old.pending));
-          // pending = take kept self.old.pending;
-          // made = self.old.made + fresh;
+        //   live = set.union
+        //       (set.union self.old.live (set.from_list (fresh_handles self.old.made fresh)))
+        //       (set.from_list (drop kept self.old.pending));
+        //   pending = take kept self.old.pending;
+        //   made = self.old.made + fresh;
         // }) }
         // ensures born { OnOk result (out.new.items ≡ out.old.items
-            // ++ (fresh_handles self.old.made fresh ++ drop kept self.old.pending)) }
+        //     ++ (fresh_handles self.old.made fresh ++ drop kept self.old.pending)) }
         // ensures err { OnErr result (self.new ≡ self.old) }
         // ensures unchanged { OnErr result (out.new.items ≡ out.old.items) }
         // ensures capacity { OnErr result (vec_capacity out.new ≡ vec_capacity out.old) }
         // ensures memory { OnErr result ((0 < fresh)
-            // ⊎ (vec_capacity out.old < vec_len out.old + (length self.old.pending - kept))) }
+        //     ⊎ (vec_capacity out.old < vec_len out.old + (length self.old.pending - kept))) }
     {
         let reused = self.pending.len() - kept;
         self.records.reserve(fresh as usize)?;
@@ -232,9 +233,9 @@ impl Slots {
         // requires lives { set.contains self.old.live handle ≡ true }
         // requires not_last { handle.generation ≢ self.old.limits.generations }
         // ensures ok { OnOk result (self.new ≡ record self.old {
-          // live = set.remove self.old.live handle;
-          // rows = maps.remove self.old.rows handle;
-          // pending = self.old.pending ++ following handle ∷ [];
+        //   live = set.remove self.old.live handle;
+        //   rows = maps.remove self.old.rows handle;
+        //   pending = self.old.pending ++ following handle ∷ [];
         // }) }
         // ensures next { IfOk result (λ h. h ≡ following handle) }
         // ensures err { OnErr result (self.new ≡ self.old) }
@@ -256,8 +257,8 @@ impl Slots {
     pub(super) fn retire(&mut self, handle: Handle)
         // requires { set.contains self.old.live handle ≡ true }
         // ensures { self.new ≡ record self.old {
-          // live = set.remove self.old.live handle;
-          // rows = maps.remove self.old.rows handle;
+        //   live = set.remove self.old.live handle;
+        //   rows = maps.remove self.old.rows handle;
         // } }
     {
         let index = handle.index();

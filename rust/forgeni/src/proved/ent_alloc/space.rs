@@ -1,4 +1,7 @@
-// Made from crates/ent_alloc/src/space.rt by rust/erase. Not edited by hand.
+// Made of crates/ent_alloc/src/space.rt by rust/erase. It isn't edited by hand.
+
+use core::error::Error;
+use core::fmt;
 
 /// The refusal of a request for which too few handles were left.
 #[derive(Clone, Copy, Debug, PartialEq, Eq)]
@@ -9,12 +12,13 @@ pub struct Space {
     pub left: u32,
 }
 
-impl core::fmt::Display for Space {
-    fn fmt(&self, f: &mut core::fmt::Formatter<'_>) -> core::fmt::Result {
-        match self {
-            Space { wanted, left } => write!(f, "{wanted} wanted and {left} left"),
-        }
+impl fmt::Display for Space {
+    #[inline]
+    fn fmt(&self, f: &mut fmt::Formatter<'_>) -> fmt::Result {
+        let wanted = self.wanted;
+        let left = self.left;
+        write!(f, "{wanted} wanted and {left} left")
     }
 }
 
-impl core::error::Error for Space {}
+impl Error for Space {}

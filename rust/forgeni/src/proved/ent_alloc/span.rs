@@ -1,4 +1,5 @@
-// Made from crates/ent_alloc/src/span.rt by rust/erase. Not edited by hand.
+// Made of crates/ent_alloc/src/span.rt by rust/erase. It isn't edited by hand.
+
 /// The positions that one request passed: from `low` up to, not including, `high`.
 ///
 /// A position of 0 or more is one of the pending list. Those below 0 stand for fresh slots.
@@ -18,6 +19,7 @@ impl Span {
         // requires least { neg_ℤ (pos (2 ^ 60)) ≤ℤ high }
         // requires greatest { high ≤ℤ pos (2 ^ 60) }
         // ensures value { result ≡ record { high = high; low = high -ℤ pos n } }
+
         // `reply` of an allocator takes it if `high` is at most its top.
         // ensures valid { (s : Allocator) → high ≤ℤ pos (top s) → IsSpanOf s result }
     {

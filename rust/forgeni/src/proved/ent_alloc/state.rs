@@ -1,4 +1,5 @@
-// Made from crates/ent_alloc/src/state.rt by rust/erase. Not edited by hand.
+// Made of crates/ent_alloc/src/state.rt by rust/erase. It isn't edited by hand.
+
 /// What became of a handle.
 #[derive(Clone, Copy, Debug, PartialEq, Eq)]
 pub enum State {

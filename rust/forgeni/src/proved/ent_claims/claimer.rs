@@ -1,10 +1,11 @@
-// Made from crates/ent_claims/src/claimer.rt by rust/erase. Not edited by hand.
+// Made of crates/ent_claims/src/claimer.rt by rust/erase. It isn't edited by hand.
+
 use crate::proved::ent_claims::record::ClaimRecord;
 use crate::proved::ent_seats::RecordsBadge;
 
 /// The right of one worker to claim numbers.
 ///
-/// [`Claims::open`](crate::Claims::open) makes them, and [`Claims::close`](crate::Claims::close)
+/// [`Claims::open`](crate::proved::ent_claims::Claims::open) makes them, and [`Claims::close`](crate::proved::ent_claims::Claims::close)
 /// takes them back. A worker that claims in a thread of its own takes one along.
 pub struct Claimer {
     pub(super) badge: RecordsBadge<ClaimRecord>,

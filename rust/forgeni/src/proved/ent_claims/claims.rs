@@ -1,4 +1,5 @@
-// Made from crates/ent_claims/src/claims.rt by rust/erase. Not edited by hand.
+// Made of crates/ent_claims/src/claims.rt by rust/erase. It isn't edited by hand.
+
 use crate::kit::vec::Vec;
 use crate::proved::ent_claims::claimer::Claimer;
 use crate::proved::ent_claims::rule::Opening;
@@ -36,7 +37,7 @@ impl Claims {
         // ensures count { IfOk result (λ made. length made.1.items ≡ workers) }
         // ensures own { IfOk result (λ made. All (IsClaimerOf made.0) made.1.items) }
         // ensures unused { IfOk result (λ made. All (λ c.
-            // (c.own.claims ≡ []) × (c.own.ended ≡ false)) made.1.items) }
+        //     (c.own.claims ≡ []) × (c.own.ended ≡ false)) made.1.items) }
     {
         let mut claimers = Vec::with_capacity(alloc, workers)?;
         let opening = Opening { numbers, workers };
@@ -54,14 +55,16 @@ impl Claims {
     pub fn next(&self, claimer: &mut Claimer) -> Option<usize>
         // requires { IsClaimerOf self.now claimer.old }
         // ensures stays { IsClaimerOf self.now claimer.new }
+
         // A number is below the count, and above all that this claimer had claimed before.
         // ensures below { IfSome result (λ n. n < self.now.numbers) }
         // ensures rises { IfSome result (λ n. All (λ earlier. earlier < n) claimer.old.own.claims) }
         // ensures claims { IfSome result (λ n. claimer.new.own
-            // ≡ record claimer.old.own { claims = claimer.old.own.claims ++ n ∷ [] }) }
+        //     ≡ record claimer.old.own { claims = claimer.old.own.claims ++ n ∷ [] }) }
+
         // Without a number the claimer has ended, and one that has ended gets none.
         // ensures ends { IfNone result
-            // (claimer.new.own ≡ record claimer.old.own { ended = true }) }
+        //     (claimer.new.own ≡ record claimer.old.own { ended = true }) }
         // ensures ended { claimer.old.own.ended ≡ true → result ≡ None }
     {
         if claimer.ended {
@@ -81,18 +84,21 @@ impl Claims {
     pub fn close(self, claimers: Vec<Claimer>)
         // requires all { length claimers.items ≡ self.workers }
         // requires own { All (IsClaimerOf self) claimers.items }
+
         // No number is claimed by two claimers.
         // ensures apart { (n j k : ℕ) → IsClaimedBy claimers.items n j
-            // → IsClaimedBy claimers.items n k → j ≡ k }
+        //     → IsClaimedBy claimers.items n k → j ≡ k }
+
         // All claims together are the first numbers, each once.
         // ensures first { AreFirst self.numbers claimers.items }
+
         // If all claimers have ended, each number is claimed, and all claims together are the
         // numbers, each once.
         // ensures claimed { HaveEnded claimers.items → (n : ℕ) → n < self.numbers
-            // → (k : ℕ) × IsClaimedBy claimers.items n k }
+        //     → (k : ℕ) × IsClaimedBy claimers.items n k }
         // ensures once { HaveEnded claimers.items
-            // → IsPermutation (flat_map (λ c. c.own.claims) claimers.items)
-            // (range_with_len 0 self.numbers) }
+        //     → IsPermutation (flat_map (λ c. c.own.claims) claimers.items)
+        //     (range_with_len 0 self.numbers) }
     {
         let Claims { word, .. } = self;
         let mut all = new_seat(&word);

@@ -1,4 +1,5 @@
-// Made from crates/ent_claims/src/lib.rt by rust/erase. Not edited by hand.
+// Made of crates/ent_claims/src/lib.rt by rust/erase. It isn't edited by hand.
+
 //! Numbers that workers claim, each by one atomic step.
 
 mod claimer;

@@ -1,4 +1,5 @@
-// Made from crates/ent_claims/src/record.rt by rust/erase. Not edited by hand.
+// Made of crates/ent_claims/src/record.rt by rust/erase. It isn't edited by hand.
+
 //! What one worker has claimed. Contracts speak of it, and no value of it is ever made.
 
 use alloc::collections::LinkedList;

@@ -1,4 +1,5 @@
-// Made from crates/ent_claims/src/rule.rt by rust/erase. Not edited by hand.
+// Made of crates/ent_claims/src/rule.rt by rust/erase. It isn't edited by hand.
+
 //! The rule over the claim word and the records of all claimers, and what its steps tell.
 
 use crate::proved::ent_claims::record::ClaimRecord;

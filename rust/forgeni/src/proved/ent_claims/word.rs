@@ -1,4 +1,5 @@
-// Made from crates/ent_claims/src/word.rt by rust/erase. Not edited by hand.
+// Made of crates/ent_claims/src/word.rt by rust/erase. It isn't edited by hand.
+
 //! The claim word: what each kind of step does to the word and to the records.
 
 use crate::proved::ent_claims::record::ClaimRecord;
@@ -19,9 +20,9 @@ pub(super) fn open(alloc: Global, opening: &Opening) -> Result<(Word, WordSeat),
     // requires some { 0 < opening.now.workers }
     // requires few { opening.now.workers ≤ 64 }
     // ensures word { IfOk result (λ made. IsOpen opening.now.numbers opening.now.workers
-        // made.0.shared.key made.0.shared.table_id) }
+    //     made.0.shared.key made.0.shared.table_id) }
     // ensures seat { IfOk result (λ made. (made.1.table_id ≡ made.0.shared.table_id)
-        // × (made.1.me ≡ (replicate opening.now.workers (nothing_claimed opening.now.numbers), []))) }
+    //     × (made.1.me ≡ (replicate opening.now.workers (nothing_claimed opening.now.numbers), []))) }
 {
     Table::of_words(alloc, &[0], opening)
 }
@@ -30,12 +31,12 @@ pub(super) fn open(alloc: Global, opening: &Opening) -> Result<(Word, WordSeat),
 #[inline]
 pub(super) fn claim(word: &Word, badge: &mut RecordsBadge<ClaimRecord>) -> u64
     // requires word { (word.now.shared.table_id.words ≡ 1)
-        // × (badge.old.table_id ≡ word.now.shared.table_id) }
+    //     × (badge.old.table_id ≡ word.now.shared.table_id) }
     // requires alone { badge.old.views ≡ (claims_of badge.old.views ∷ []) ∷ [] }
     // requires goes_on { (claims_of badge.old.views).ended ≡ false }
     // ensures same { badge.new.table_id ≡ badge.old.table_id }
     // ensures claims { badge.new.views
-        // ≡ (after_claim (claims_of badge.old.views) result ∷ []) ∷ [] }
+    //     ≡ (after_claim (claims_of badge.old.views) result ∷ []) ∷ [] }
     // ensures above { All (λ n. n < result) (claims_of badge.old.views).claims }
 {
     let mut seat = mem::replace(badge, Badge::blank()).into_seat();
@@ -48,7 +49,7 @@ pub(super) fn claim(word: &Word, badge: &mut RecordsBadge<ClaimRecord>) -> u64
 #[inline]
 pub(super) fn close(word: Word, all: WordSeat)
     // requires word { (word.shared.table_id.words ≡ 1) × (word.shared.table_id.slots ≡ 0)
-        // × (all.table_id ≡ word.shared.table_id) }
+    //     × (all.table_id ≡ word.shared.table_id) }
     // ensures { AreClaimsClosed word.shared.key.numbers word.shared.key.workers all.me.0 }
 {
     word.close_with(all).free();

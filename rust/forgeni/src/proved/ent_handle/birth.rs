@@ -1,4 +1,5 @@
-// Made from crates/ent_handle/src/birth.rt by rust/erase. Not edited by hand.
+// Made of crates/ent_handle/src/birth.rt by rust/erase. It isn't edited by hand.
+
 use core::cmp::Ordering;
 
 /// When and by whom an entity was brought to life. Of what the systems of a world spawn it is a

@@ -1,4 +1,5 @@
-// Made from crates/ent_handle/src/component.rt by rust/erase. Not edited by hand.
+// Made of crates/ent_handle/src/component.rt by rust/erase. It isn't edited by hand.
+
 use core::cmp::Ordering;
 
 /// The number of a component: a kind of data that an entity may have. What it means is up to its

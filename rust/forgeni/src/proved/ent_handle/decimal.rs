@@ -1,4 +1,5 @@
-// Made from crates/ent_handle/src/decimal.rt by rust/erase. Not edited by hand.
+// Made of crates/ent_handle/src/decimal.rt by rust/erase. It isn't edited by hand.
+
 use crate::proved::ent_handle::text::TextFault;
 
 #[inline]
@@ -49,9 +50,11 @@ pub fn read_decimal(bytes: &[u8]) -> Result<u32, TextFault>
     // ensures found { IfOk result (λ n. bytes.now ≡ decimal n) }
     // The decimal of each number below 2^32 is read as that number.
     // ensures only { (n : ℕ) → n < 2 ^ 32 → bytes.now ≡ decimal n → result ≡ Ok n }
+
     // ensures shape { IsErrOf result TextFault.Shape ↔ (¬ IsDecimal bytes.now) }
     // ensures range { IsErrOf result TextFault.Range
-        // ↔ (IsDecimal bytes.now × (2 ^ 32 ≤ digits_value 10 bytes.now)) }
+    //     ↔ (IsDecimal bytes.now × (2 ^ 32 ≤ digits_value 10 bytes.now)) }
+
     // The whole result, as a function of the text.
     // ensures exact { result ≡ number_of bytes.now }
 {

@@ -1,4 +1,5 @@
-// Made from crates/ent_handle/src/handle.rt by rust/erase. Not edited by hand.
+// Made of crates/ent_handle/src/handle.rt by rust/erase. It isn't edited by hand.
+
 use core::cmp::Ordering;
 
 /// Names one occupant of one slot: the slot's index, and a generation that tells the slot's
@@ -20,7 +21,7 @@ impl Handle {
     #[inline]
     pub fn new(index: u32, generation: u32) -> Option<Self>
         // ensures in_range { IsSome result
-            // ↔ IsHandle (record { index = index; generation = generation }) }
+        //     ↔ IsHandle (record { index = index; generation = generation }) }
         // ensures value { IfSome result (λ h. h ≡ record { index = index; generation = generation }) }
     {
         if index < u32::MAX && 1 <= generation && generation < 1 << 31 {

@@ -1,4 +1,5 @@
-// Made from crates/ent_handle/src/memory.rt by rust/erase. Not edited by hand.
+// Made of crates/ent_handle/src/memory.rt by rust/erase. It isn't edited by hand.
+
 use crate::kit::alloc::{AllocError, AllocFailed};
 
 /// Memory ran out: a growth was really refused, or a call says what else counts as such. It is the
@@ -8,9 +9,7 @@ pub struct Memory;
 
 impl core::fmt::Display for Memory {
     fn fmt(&self, f: &mut core::fmt::Formatter<'_>) -> core::fmt::Result {
-        match self {
-            Memory => write!(f, "out of memory"),
-        }
+        write!(f, "out of memory")
     }
 }
 

@@ -1,4 +1,5 @@
-// Made from crates/ent_handle/src/lib.rt by rust/erase. Not edited by hand.
+// Made of crates/ent_handle/src/lib.rt by rust/erase. It isn't edited by hand.
+
 //! Handles of entities and their text, and the small types that all crates above share.
 
 mod birth;

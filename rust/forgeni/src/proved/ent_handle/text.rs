@@ -1,4 +1,5 @@
-// Made from crates/ent_handle/src/text.rt by rust/erase. Not edited by hand.
+// Made of crates/ent_handle/src/text.rt by rust/erase. It isn't edited by hand.
+
 use crate::kit::vec::Vec;
 use crate::proved::ent_handle::decimal::{decimal_value, is_decimal};
 use crate::proved::ent_handle::handle::Handle;
@@ -53,9 +54,11 @@ impl Handle {
         // ensures found { IfOk result (λ h. IsHandle h × (bytes.now ≡ handle_text h)) }
         // The text of each handle is read as that handle.
         // ensures only { (h : HandleValue) → IsHandle h → bytes.now ≡ handle_text h → result ≡ Ok h }
+
         // ensures shape { IsErrOf result TextFault.Shape ↔ (¬ HasHandleForm bytes.now) }
         // ensures range { IsErrOf result TextFault.Range ↔ (HasHandleForm bytes.now
-            // × ((h : HandleValue) → IsHandle h → bytes.now ≢ handle_text h)) }
+        //     × ((h : HandleValue) → IsHandle h → bytes.now ≢ handle_text h)) }
+
         // The whole result, as a function of the text.
         // ensures exact { result ≡ handle_of bytes.now }
     {
@@ -88,7 +91,7 @@ impl Handle {
         // ensures ok { OnOk result (out.new.items ≡ out.old.items ++ handle_text self.now) }
         // ensures err { OnErr result (out.new.items ≡ out.old.items) }
         // ensures full { OnErr result
-            // (vec_capacity out.old < vec_len out.old + length (handle_text self.now)) }
+        //     (vec_capacity out.old < vec_len out.old + length (handle_text self.now)) }
         // ensures capacity { vec_capacity out.old ≤ vec_capacity out.new }
     {
         let mut index = Buffer::new();

@@ -1,4 +1,5 @@
-// Made from crates/ent_queue/src/bundle.rt by rust/erase. Not edited by hand.
+// Made of crates/ent_queue/src/bundle.rt by rust/erase. It isn't edited by hand.
+
 use crate::proved::ent_handle::{ComponentId, Memory};
 use crate::proved::ent_sorted::search;
 use crate::kit::smallvec::SmallVec;
@@ -35,7 +36,7 @@ impl Bundle {
     pub fn of(alloc: Global, items: &[(ComponentId, i64)]) -> Result<Self, Memory>
         // ensures ok { IfOk result (λ bundle. bundle ≡ bundle_of items.now) }
         // ensures last { IfOk result (λ bundle. (id : Id) →
-            // find component_cmp id bundle ≡ find component_cmp id (reverse items.now)) }
+        //     find component_cmp id bundle ≡ find component_cmp id (reverse items.now)) }
         // ensures memory { OnErr result (4 < length (bundle_of items.now)) }
     {
         let mut bundle = Bundle::new(alloc);
@@ -55,7 +56,7 @@ impl Bundle {
     pub fn put(&mut self, id: ComponentId, value: i64) -> Result<(), Memory>
         // ensures ok { OnOk result (self.new ≡ put component_cmp id value self.old) }
         // ensures memory { OnErr result
-            // ((4 ≤ length self.old) × (find component_cmp id self.old ≡ None)) }
+        //     ((4 ≤ length self.old) × (find component_cmp id self.old ≡ None)) }
         // ensures err { OnErr result (self.new ≡ self.old) }
     {
         match search(self.items.as_slice(), id) {

@@ -1,4 +1,5 @@
-// Made from crates/ent_queue/src/bundle_ref.rt by rust/erase. Not edited by hand.
+// Made of crates/ent_queue/src/bundle_ref.rt by rust/erase. It isn't edited by hand.
+
 use crate::proved::ent_queue::reading::{read_u8, read_u16, read_u64};
 use crate::proved::ent_handle::ComponentId;
 

@@ -1,4 +1,5 @@
-// Made from crates/ent_queue/src/commands.rt by rust/erase. Not edited by hand.
+// Made of crates/ent_queue/src/commands.rt by rust/erase. It isn't edited by hand.
+
 use crate::kit::vec::Vec;
 use crate::proved::ent_queue::bundle::Bundle;
 use crate::proved::ent_queue::fault::QueueFault;
@@ -67,15 +68,16 @@ impl<'a> Commands<'a> {
         // requires { IsReady self.old }
         // ensures extends { Extends self.old self.new }
         // ensures ok { IfOk result (λ handle.
-            // queue_of self.new ≡ queue_of self.old ++ Spawn handle bundle ∷ []) }
+        //     queue_of self.new ≡ queue_of self.old ++ Spawn handle bundle ∷ []) }
         // ensures refused { IfErr result (λ fault.
-            // queue_of self.new ≡ queue_of self.old ++ refused_by 1 fault) }
+        //     queue_of self.new ≡ queue_of self.old ++ refused_by 1 fault) }
         // ensures memory { IsErrOf result QueueFault.Memory
-            // → reserver_of self.new ≡ reserver_of self.old }
+        //     → reserver_of self.new ≡ reserver_of self.old }
+
         // Anything but Memory is the result of a reservation.
         // ensures replies { (reply : Result HandleValue Refusal) → result ≡ queued reply
-            // → IsReturned (shared_of self.new) (reserver_of self.old) (reserver_of self.new) 1
-            // (listed_alone reply) }
+        //     → IsReturned (shared_of self.new) (reserver_of self.old) (reserver_of self.new) 1
+        //     (listed_alone reply) }
     {
         self.queue.spawn(self.shared, self.reserver, bundle.items())
     }
@@ -90,17 +92,18 @@ impl<'a> Commands<'a> {
         // requires { IsReady self.old }
         // ensures extends { Extends self.old self.new }
         // ensures ok { IfOk result (λ handles.
-            // queue_of self.new ≡ queue_of self.old ++ SpawnMany handles.items bundle ∷ []) }
+        //     queue_of self.new ≡ queue_of self.old ++ SpawnMany handles.items bundle ∷ []) }
         // ensures length { IfOk result (λ handles. length handles.items ≡ n) }
         // ensures refused { IfErr result (λ fault.
-            // queue_of self.new ≡ queue_of self.old ++ refused_by n fault) }
+        //     queue_of self.new ≡ queue_of self.old ++ refused_by n fault) }
         // ensures memory { IsErrOf result QueueFault.Memory
-            // → reserver_of self.new ≡ reserver_of self.old }
+        //     → reserver_of self.new ≡ reserver_of self.old }
+
         // Anything but Memory is the result of a reservation.
         // ensures replies { (reply : Result (List HandleValue) Refusal)
-            // → as_list result ≡ queued reply
-            // → IsReturned (shared_of self.new) (reserver_of self.old) (reserver_of self.new) n
-            // reply }
+        //     → as_list result ≡ queued reply
+        //     → IsReturned (shared_of self.new) (reserver_of self.old) (reserver_of self.new) n
+        //     reply }
     {
         self.queue
             .spawn_many(self.alloc, self.shared, self.reserver, n, bundle.items())
@@ -118,7 +121,7 @@ impl<'a> Commands<'a> {
         // ensures extends { Extends self.old self.new }
         // ensures reserver { reserver_of self.new ≡ reserver_of self.old }
         // ensures ok { OnOk result
-            // (queue_of self.new ≡ queue_of self.old ++ Insert handle bundle ∷ []) }
+        //     (queue_of self.new ≡ queue_of self.old ++ Insert handle bundle ∷ []) }
         // ensures err { OnErr result (queue_of self.new ≡ queue_of self.old) }
     {
         self.queue.insert(handle, bundle.items())

@@ -1,4 +1,5 @@
-// Made from crates/ent_queue/src/entries.rt by rust/erase. Not edited by hand.
+// Made of crates/ent_queue/src/entries.rt by rust/erase. It isn't edited by hand.
+
 use crate::proved::ent_queue::bundle_ref::BundleRef;
 use crate::proved::ent_queue::entry::Entry;
 use crate::proved::ent_queue::handles_ref::HandlesRef;

@@ -1,4 +1,5 @@
-// Made from crates/ent_queue/src/fault.rt by rust/erase. Not edited by hand.
+// Made of crates/ent_queue/src/fault.rt by rust/erase. It isn't edited by hand.
+
 use crate::proved::ent_handle::Memory;
 use crate::proved::ent_shared::Refused;
 use crate::kit::alloc::AllocError;
@@ -26,8 +27,8 @@ pub enum QueueFault {
 impl core::fmt::Display for QueueFault {
     fn fmt(&self, f: &mut core::fmt::Formatter<'_>) -> core::fmt::Result {
         match self {
-            QueueFault::Space { wanted, left, .. } => write!(f, "{wanted} wanted and {left} left"),
-            QueueFault::Quota { left, .. } => write!(f, "the credit left is {left}"),
+            QueueFault::Space { wanted, left } => write!(f, "{wanted} wanted and {left} left"),
+            QueueFault::Quota { left } => write!(f, "the credit left is {left}"),
             QueueFault::Memory => write!(f, "out of memory"),
         }
     }

@@ -1,4 +1,5 @@
-// Made from crates/ent_queue/src/handles_ref.rt by rust/erase. Not edited by hand.
+// Made of crates/ent_queue/src/handles_ref.rt by rust/erase. It isn't edited by hand.
+
 use crate::proved::ent_queue::reading::read_handle;
 use crate::proved::ent_handle::Handle;
 

@@ -1,4 +1,5 @@
-// Made from crates/ent_queue/src/kind.rt by rust/erase. Not edited by hand.
+// Made of crates/ent_queue/src/kind.rt by rust/erase. It isn't edited by hand.
+
 //! The byte that each kind of command begins with.
 
 pub(super) const SPAWN: u8 = 0;

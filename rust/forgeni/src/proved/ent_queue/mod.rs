@@ -1,4 +1,5 @@
-// Made from crates/ent_queue/src/lib.rt by rust/erase. Not edited by hand.
+// Made of crates/ent_queue/src/lib.rt by rust/erase. It isn't edited by hand.
+
 //! Bundles of components, and queues of commands that systems write and a world applies.
 
 mod bundle;

@@ -1,4 +1,5 @@
-// Made from crates/ent_queue/src/queue.rt by rust/erase. Not edited by hand.
+// Made of crates/ent_queue/src/queue.rt by rust/erase. It isn't edited by hand.
+
 use crate::kit::vec::Vec;
 use crate::proved::ent_queue::entries::Entries;
 use crate::proved::ent_queue::fault::QueueFault;
@@ -15,7 +16,7 @@ const REFUSAL: usize = 14;
 
 /// Commands in the order of issue, packed as bytes.
 ///
-/// [`Commands`](crate::Commands) makes it, and nothing else does.
+/// [`Commands`](crate::proved::ent_queue::Commands) makes it, and nothing else does.
 #[derive(Debug)]
 pub struct CommandQueue {
     bytes: Vec<u8>,
@@ -53,6 +54,7 @@ impl CommandQueue {
     #[inline]
     pub fn entries(&self) -> Entries<'_>
         // ensures entries { result ≡ self.now }
+
         // Each command is in its ranges. A refusal for want of slots says twice how many handles
         // were wanted, and the two numbers are equal.
         // ensures each { All IsCommand self.now }
@@ -96,7 +98,7 @@ impl CommandQueue {
         // ensures refused { IfErr result (λ fault. self.new ≡ self.old ++ refused_by 1 fault) }
         // ensures memory { IsErrOf result QueueFault.Memory → reserver.new ≡ reserver.old }
         // ensures replies { (reply : Result HandleValue Refusal) → result ≡ queued reply
-            // → IsReturned shared.now reserver.old reserver.new 1 (listed_alone reply) }
+        //     → IsReturned shared.now reserver.old reserver.new 1 (listed_alone reply) }
     {
         let own = 11 + 9 * items.len();
         self.bytes.reserve(own.max(REFUSAL))?;
@@ -128,13 +130,13 @@ impl CommandQueue {
         // requires is { IsBundle items.now }
         // ensures stays { IsOf shared.now reserver.new }
         // ensures ok { IfOk result
-            // (λ handles. self.new ≡ self.old ++ SpawnMany handles.items items.now ∷ []) }
+        //     (λ handles. self.new ≡ self.old ++ SpawnMany handles.items items.now ∷ []) }
         // ensures length { IfOk result (λ handles. length handles.items ≡ n) }
         // ensures refused { IfErr result (λ fault. self.new ≡ self.old ++ refused_by n fault) }
         // ensures memory { IsErrOf result QueueFault.Memory → reserver.new ≡ reserver.old }
         // ensures replies { (reply : Result (List HandleValue) Refusal)
-            // → as_list result ≡ queued reply
-            // → IsReturned shared.now reserver.old reserver.new n reply }
+        //     → as_list result ≡ queued reply
+        //     → IsReturned shared.now reserver.old reserver.new n reply }
     {
         let mut handles = Vec::with_capacity(alloc, n as usize)?;
         let own = 7 + 8 * n as usize + 9 * items.len();

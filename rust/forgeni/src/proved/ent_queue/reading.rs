@@ -1,4 +1,5 @@
-// Made from crates/ent_queue/src/reading.rt by rust/erase. Not edited by hand.
+// Made of crates/ent_queue/src/reading.rt by rust/erase. It isn't edited by hand.
+
 //! Numbers, handles and lists at the front of packed bytes, each with the bytes after it.
 
 use crate::proved::ent_handle::Handle;

@@ -1,4 +1,5 @@
-// Made from crates/ent_queue/src/writing.rt by rust/erase. Not edited by hand.
+// Made of crates/ent_queue/src/writing.rt by rust/erase. It isn't edited by hand.
+
 //! Commands at the end of packed bytes, and their parts. There is room for all that is written.
 
 use crate::kit::vec::Vec;
@@ -96,7 +97,7 @@ pub(super) fn write_with_bundle(
     // requires is { IsBundle items.now }
     // ensures handle { IsHandle handle }
     // ensures items { bytes.new.items
-        // ≡ bytes.old.items ++ kind ∷ (handle_bytes handle ++ bundle_bytes items.now) }
+    //     ≡ bytes.old.items ++ kind ∷ (handle_bytes handle ++ bundle_bytes items.now) }
 {
     write_u8(bytes, kind);
     write_handle(bytes, handle);
@@ -162,7 +163,7 @@ pub(super) fn write_many(
     // ensures handles { handles.new.items ≡ handles.old.items ++ given.entry }
     // ensures each { All IsHandle given.entry }
     // ensures items { bytes.new.items
-        // ≡ bytes.old.items ++ 1 ∷ (bytes_4 n ++ flat_map handle_bytes given.entry) }
+    //     ≡ bytes.old.items ++ 1 ∷ (bytes_4 n ++ flat_map handle_bytes given.entry) }
     // ensures len { vec_len bytes.new ≡ vec_len bytes.old + (5 + 8 * n) }
     // ensures capacity { vec_capacity bytes.old ≤ vec_capacity bytes.new }
 {

@@ -1,4 +1,5 @@
-// Made from crates/ent_runner/src/collecting.rt by rust/erase. Not edited by hand.
+// Made of crates/ent_runner/src/collecting.rt by rust/erase. It isn't edited by hand.
+
 //! The queues that workers hand back are put at the numbers of their systems.
 
 use crate::kit::vec::Vec;

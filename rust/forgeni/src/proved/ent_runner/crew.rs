@@ -1,4 +1,5 @@
-// Made from crates/ent_runner/src/crew.rt by rust/erase. Not edited by hand.
+// Made of crates/ent_runner/src/crew.rt by rust/erase. It isn't edited by hand.
+
 //! The workers of a frame are made before it and taken apart after it, in room that was asked for
 //! before the phase was opened.
 
@@ -140,13 +141,13 @@ pub(super) fn disband(
 )
     // requires empty { (reservers.old.items ≡ []) × (claimers.old.items ≡ []) }
     // requires room { (length workers.items ≤ vec_capacity reservers.old)
-        // × (length workers.items ≤ vec_capacity claimers.old) }
+    //     × (length workers.items ≤ vec_capacity claimers.old) }
     // requires inside { All (λ w. All (λ i. i.system < length by_system.old) w.issued.items)
-        // workers.items }
+    //     workers.items }
     // ensures reservers { reservers.new.items ≡ map (λ w. w.reserver) workers.items }
     // ensures claimers { claimers.new.items ≡ map (λ w. w.claimer) workers.items }
     // ensures by_system { by_system.new
-        // ≡ queues_put (flat_map (λ w. w.issued.items) workers.items) by_system.old }
+    //     ≡ queues_put (flat_map (λ w. w.issued.items) workers.items) by_system.old }
 {
     for worker in workers {
         reservers.push_reserved(worker.reserver);

@@ -1,4 +1,5 @@
-// Made from crates/ent_runner/src/frame.rt by rust/erase. Not edited by hand.
+// Made of crates/ent_runner/src/frame.rt by rust/erase. It isn't edited by hand.
+
 //! A frame: workers run the systems while the world is open, and the sync point applies their
 //! queues.
 
@@ -56,28 +57,30 @@ where
     // requires some { 0 < workers }
     // requires few { workers ≤ 64 }
     // ensures ok { IfOk result (λ report. Ends S.may_issue systems.now workers world.old
-        // report.queues.items world.new report.sync.born.items report.sync.faults.items) }
+    //     report.queues.items world.new report.sync.born.items report.sync.faults.items) }
     // ensures alone { workers ≡ 1 → IfOk result (λ report. EndsInOrder world.old
-        // report.queues.items world.new report.sync.born.items report.sync.faults.items) }
+    //     report.queues.items world.new report.sync.born.items report.sync.faults.items) }
     // ensures flushed { OnOk result (world.new.allocator.asked ≡ 0) }
     // ensures memory { IsErrOf result FrameFault.Memory → world.new ≡ world.old }
     // ensures lost { IsErrOf result FrameFault.Lost → (history : List Call)
-        // × IsBrokenOff S.may_issue S.may_leave systems.now workers world.old history
-        // × (world.new ≡ reserved_by history world.old) }
+    //     × IsBrokenOff S.may_issue S.may_leave systems.now workers world.old history
+    //     × (world.new ≡ reserved_by history world.old) }
     // ensures still { IsErrOf result FrameFault.Lost → IsLost world.old world.new }
     // ensures stopped { IfSyncStopped result (λ fault queues.
-        // StopsAt S.may_issue systems.now workers world.old queues world.new fault) }
+    //     StopsAt S.may_issue systems.now workers world.old queues world.new fault) }
     // ensures stopped_flushed { IfSyncStopped result (λ fault _.
-        // fault ≢ SyncFault.FlushMemory → world.new.allocator.asked ≡ 0) }
+    //     fault ≢ SyncFault.FlushMemory → world.new.allocator.asked ≡ 0) }
+
     // It stops before the births only if something is reserved, and else only at a command that may
     // take memory in the world as it then is.
     // ensures flush_reserved { IfSyncStopped result (λ fault _.
-        // fault ≡ SyncFault.FlushMemory → 0 < length world.new.allocator.taken) }
+    //     fault ≡ SyncFault.FlushMemory → 0 < length world.new.allocator.taken) }
     // ensures stopped_memory { IfStoppedAt result (λ system command done _ queues.
-        // TakesMemoryAt world.new system command done queues) }
+    //     TakesMemoryAt world.new system command done queues) }
+
     // What `World::apply_from` requires of who goes on after a stop at a command.
     // ensures stop { IfStoppedAt result (λ system command done _ queues.
-        // IsStop system command done queues) }
+    //     IsStop system command done queues) }
     // ensures stop_flushed { IfStoppedAt result (λ _ _ _ _ _. world.new.allocator.asked ≡ 0) }
 {
     let Ok(room) = Room::new(alloc, systems.len(), workers) else {
@@ -123,14 +126,14 @@ where
     // requires count { length reservers.items ≡ opened.shared.count }
     // requires own { All (IsOf opened.shared) reservers.items }
     // requires unused { records_of reservers.items
-        // ≡ opened_records opened.shared.start 0 opened.shared.count }
+    //     ≡ opened_records opened.shared.start 0 opened.shared.count }
     // ensures { (history : List Call)
-        // × IsBrokenOff S.may_issue S.may_leave systems.now opened.shared.count
-        // (world_at_start opened)
-        // history
-        // × (result.0 ≡ reserved_by history (world_at_start opened))
-        // × IfSome result.1 (λ queues. IsFrame S.may_issue systems.now opened.shared.count
-        // (world_at_start opened) queues.items history) }
+    //     × IsBrokenOff S.may_issue S.may_leave systems.now opened.shared.count
+    //     (world_at_start opened)
+    //     history
+    //     × (result.0 ≡ reserved_by history (world_at_start opened))
+    //     × IfSome result.1 (λ queues. IsFrame S.may_issue systems.now opened.shared.count
+    //     (world_at_start opened) queues.items history) }
 {
     let Room {
         claims,
@@ -163,11 +166,11 @@ where
     // requires some { 0 < opened.now.shared.count }
     // requires count { length workers.old.items ≡ opened.now.shared.count }
     // requires ready { All (λ w. IsOf opened.now.shared w.reserver
-        // × IsClaimerOf claims.now w.claimer × IsNewWorker w) workers.old.items }
+    //     × IsClaimerOf claims.now w.claimer × IsNewWorker w) workers.old.items }
     // requires unused { map (λ w. w.reserver.own) workers.old.items
-        // ≡ opened_records opened.now.shared.start 0 opened.now.shared.count }
+    //     ≡ opened_records opened.now.shared.start 0 opened.now.shared.count }
     // ensures { HaveWorked S.may_issue S.may_leave systems.now opened.now claims.now
-        // workers.new.items }
+    //     workers.new.items }
 {
     let stage = Stage {
         alloc,
@@ -194,18 +197,18 @@ fn finish(
     // requires claims { claims.workers ≡ opened.shared.count }
     // requires room { HasReturns claims.numbers opened.shared.count returned }
     // ensures world { result.0
-        // ≡ reserved_by (history_of (all_records workers.items)) (world_at_start opened) }
+    //     ≡ reserved_by (history_of (all_records workers.items)) (world_at_start opened) }
     // ensures legal { IsLegal opened.shared.start (history_of (all_records workers.items)) }
     // ensures respects { let records = all_records workers.items in
-        // All (Respects (reservations_of records)) records }
+    //     All (Respects (reservations_of records)) records }
     // ensures first { HaveRunFirst claims.numbers workers.items }
     // ensures going { IfSome result.1 (λ _. All (λ w. w.stopped ≡ false) workers.items) }
     // ensures once { IfSome result.1 (λ _. IsPermutation
-        // (flat_map (λ w. systems_of w.issued.items) workers.items)
-        // (range_with_len 0 claims.numbers)) }
+    //     (flat_map (λ w. systems_of w.issued.items) workers.items)
+    //     (range_with_len 0 claims.numbers)) }
     // ensures queues { IfSome result.1 (λ queues. map Some queues.items
-        // ≡ queues_put (flat_map (λ w. w.issued.items) workers.items)
-        // (replicate claims.numbers None)) }
+    //     ≡ queues_put (flat_map (λ w. w.issued.items) workers.items)
+    //     (replicate claims.numbers None)) }
 {
     let stopped = some_stopped(&workers);
     let Returned {

@@ -1,4 +1,5 @@
-// Made from crates/ent_runner/src/gate.rt by rust/erase. Not edited by hand.
+// Made of crates/ent_runner/src/gate.rt by rust/erase. It isn't edited by hand.
+
 /// Is told when a system begins. A test waits in it, and a program may count or trace.
 pub trait Gate {
     /// A worker is about to run the system of this number.

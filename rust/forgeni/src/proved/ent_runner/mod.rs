@@ -1,4 +1,5 @@
-// Made from crates/ent_runner/src/lib.rt by rust/erase. Not edited by hand.
+// Made of crates/ent_runner/src/lib.rt by rust/erase. It isn't edited by hand.
+
 //! Frames: systems run on workers over one shared world, each with a queue of its own, and the
 //! sync point applies the queues in the order of the systems.
 

@@ -1,4 +1,5 @@
-// Made from crates/ent_runner/src/side.rt by rust/erase. Not edited by hand.
+// Made of crates/ent_runner/src/side.rt by rust/erase. It isn't edited by hand.
+
 //! Systems of several types in one list.
 
 use crate::proved::ent_runner::system::System;

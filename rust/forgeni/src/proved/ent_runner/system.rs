@@ -1,4 +1,5 @@
-// Made from crates/ent_runner/src/system.rt by rust/erase. Not edited by hand.
+// Made of crates/ent_runner/src/system.rt by rust/erase. It isn't edited by hand.
+
 use crate::proved::ent_handle::Memory;
 use crate::proved::ent_queue::Commands;
 use crate::proved::ent_world::View;
@@ -19,7 +20,7 @@ pub trait System {
         // requires { IsReady commands.old }
         // ensures extends { Extends commands.old commands.new }
         // ensures may { queue_of commands.old ≡ []
-            // → OnOk result (may_issue self.now view.now (queue_of commands.new)) }
+        //     → OnOk result (may_issue self.now view.now (queue_of commands.new)) }
         // ensures leaves { queue_of commands.old ≡ []
-            // → OnErr result (may_leave self.now view.now (queue_of commands.new)) }
+        //     → OnErr result (may_leave self.now view.now (queue_of commands.new)) }
 }

@@ -1,4 +1,5 @@
-// Made from crates/ent_runner/src/worker.rt by rust/erase. Not edited by hand.
+// Made of crates/ent_runner/src/worker.rt by rust/erase. It isn't edited by hand.
+
 //! Workers: each claims systems, one after the other, runs them, and keeps their queues.
 
 use crate::kit::vec::Vec;
@@ -48,9 +49,9 @@ impl<S: System, G: Gate> Stage<'_, S, G> {
         // ensures stays { IsOf self.now.shared.now reserver.new }
         // ensures gains { Gains reserver.old.own result.0 reserver.new.own }
         // ensures may { OnOk result.1
-            // (SystemMayIssue S.may_issue self.now.systems.now self.now.view system result.0) }
+        //     (SystemMayIssue S.may_issue self.now.systems.now self.now.view system result.0) }
         // ensures leaves { OnErr result.1
-            // (SystemMayIssue S.may_leave self.now.systems.now self.now.view system result.0) }
+        //     (SystemMayIssue S.may_leave self.now.systems.now self.now.view system result.0) }
     {
         self.gate.entered(system);
         let mut commands = Commands::new(self.alloc, self.shared, reserver);
@@ -72,11 +73,11 @@ impl Worker {
         // ensures claimer { IsClaimerOf stage.now.claims.now self.new.claimer }
         // ensures inside { All (λ i. i.system < length stage.now.systems.now) self.new.issued.items }
         // ensures ran_some { HasRunSome S.may_issue S.may_leave stage.now.systems.now stage.now.view
-            // self.old.reserver.own self.new.reserver.own self.new.claimer.own.claims
-            // self.new.issued.items }
+        //     self.old.reserver.own self.new.reserver.own self.new.claimer.own.claims
+        //     self.new.issued.items }
         // ensures ran { OnOk result (HasRun S.may_issue stage.now.systems.now stage.now.view
-            // self.old.reserver.own self.new.reserver.own self.new.claimer.own.claims
-            // self.new.issued.items) }
+        //     self.old.reserver.own self.new.reserver.own self.new.claimer.own.claims
+        //     self.new.issued.items) }
         // ensures ended { OnOk result (self.new.claimer.own.ended ≡ true) }
         // ensures some { OnErr result (0 < length self.new.issued.items) }
         // ensures stopped { self.new.stopped ≡ self.old.stopped }
@@ -98,7 +99,7 @@ impl Worker {
         // requires claimer { IsClaimerOf stage.now.claims.now self.old.claimer }
         // requires fresh { IsNewWorker self.old }
         // ensures { HasWorked S.may_issue S.may_leave stage.now.shared.now stage.now.claims.now
-            // stage.now.systems.now stage.now.view self.old.reserver.own self.new }
+        //     stage.now.systems.now stage.now.view self.old.reserver.own self.new }
     {
         self.stopped = self.work(stage).is_err();
     }
@@ -114,12 +115,12 @@ where
     // requires systems { stage.now.claims.now.numbers ≡ length stage.now.systems.now }
     // requires some { 0 < length workers.old }
     // requires ready { All (λ w. IsOf stage.now.shared.now w.reserver
-        // × IsClaimerOf stage.now.claims.now w.claimer × IsNewWorker w) workers.old }
+    //     × IsClaimerOf stage.now.claims.now w.claimer × IsNewWorker w) workers.old }
     // ensures count { length workers.new ≡ length workers.old }
     // ensures each { (k : ℕ) (d : _) → k < length workers.old
-        // → HasWorked S.may_issue S.may_leave stage.now.shared.now stage.now.claims.now
-        // stage.now.systems.now stage.now.view (slice_index_or workers.old k d).reserver.own
-        // (slice_index_or workers.new k d) }
+    //     → HasWorked S.may_issue S.may_leave stage.now.shared.now stage.now.claims.now
+    //     stage.now.systems.now stage.now.view (slice_index_or workers.old k d).reserver.own
+    //     (slice_index_or workers.new k d) }
 {
     let threads = workers.len();
     for_each_mut(

@@ -1,4 +1,5 @@
-// Made from crates/ent_seats/src/lib.rt by rust/erase. Not edited by hand.
+// Made of crates/ent_seats/src/lib.rt by rust/erase. It isn't edited by hand.
+
 //! Records of what was done to one atomic word, and how they move from seat to seat of it.
 
 mod plays;

@@ -1,4 +1,5 @@
-// Made from crates/ent_seats/src/plays.rt by rust/erase. Not edited by hand.
+// Made of crates/ent_seats/src/plays.rt by rust/erase. It isn't edited by hand.
+
 //! What a seat knows, and what a step makes of it.
 
 use crate::kit::atomic_table::{Join, Play, Split};

@@ -1,4 +1,5 @@
-// Made from crates/ent_seats/src/seats.rt by rust/erase. Not edited by hand.
+// Made of crates/ent_seats/src/seats.rt by rust/erase. It isn't edited by hand.
+
 //! How records move from seat to seat. No step here changes the word.
 
 use crate::proved::ent_seats::plays::{Merge, NewSeat, SeatRecords, SplitFirst};
@@ -22,11 +23,11 @@ pub fn split_first<R, K, P: TableRule<(), SeatRecords<R>, K>>(
 ) -> RecordsBadge<R>
     // requires rule { GoesByRecords (P.holds word.now.shared.key) }
     // requires word { (word.now.shared.table_id.words ≡ 1)
-        // × (all.old.table_id ≡ word.now.shared.table_id) × (all.old.me.1 ≡ []) }
+    //     × (all.old.table_id ≡ word.now.shared.table_id) × (all.old.me.1 ≡ []) }
     // ensures kept { (all.new.table_id ≡ all.old.table_id)
-        // × (all.new.me ≡ (drop 1 all.old.me.0, [])) }
+    //     × (all.new.me ≡ (drop 1 all.old.me.0, [])) }
     // ensures first { (result.table_id ≡ all.old.table_id)
-        // × (result.views ≡ take 1 all.old.me.0 ∷ []) }
+    //     × (result.views ≡ take 1 all.old.me.0 ∷ []) }
 {
     word.shared.split_seat::<SplitFirst>(all).into_badge()
 }
@@ -52,13 +53,13 @@ pub fn merge<R, K, P: TableRule<(), SeatRecords<R>, K>>(
 )
     // requires rule { GoesByRecords (P.holds word.now.shared.key) }
     // requires word { (word.now.shared.table_id.words ≡ 1)
-        // × (all.old.table_id ≡ word.now.shared.table_id)
-        // × (badge.table_id ≡ word.now.shared.table_id)
-        // × (all.old.me.1 ≡ []) }
+    //     × (all.old.table_id ≡ word.now.shared.table_id)
+    //     × (badge.table_id ≡ word.now.shared.table_id)
+    //     × (all.old.me.1 ≡ []) }
     // requires one { (records : List R) × (badge.views ≡ records ∷ []) }
     // ensures kept { all.new.table_id ≡ all.old.table_id }
     // ensures merges { (all.new.me.1 ≡ []) × ((records : List R) → badge.views ≡ records ∷ []
-        // → all.new.me.0 ≡ all.old.me.0 ++ records) }
+    //     → all.new.me.0 ≡ all.old.me.0 ++ records) }
 {
     word.shared.join_seat::<Merge>(all, badge.into_seat());
 }

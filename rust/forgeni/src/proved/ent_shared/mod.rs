@@ -1,4 +1,5 @@
-// Made from crates/ent_shared/src/lib.rt by rust/erase. Not edited by hand.
+// Made of crates/ent_shared/src/lib.rt by rust/erase. It isn't edited by hand.
+
 //! Reservation by many threads at once: one atomic word counts down, and each caller reserves from
 //! it through a shared reference.
 

@@ -1,4 +1,5 @@
-// Made from crates/ent_shared/src/phase.rt by rust/erase. Not edited by hand.
+// Made of crates/ent_shared/src/phase.rt by rust/erase. It isn't edited by hand.
+
 use crate::kit::vec::Vec;
 use crate::proved::ent_shared::reserver::Reserver;
 use crate::proved::ent_shared::rule::Opening;
@@ -10,7 +11,7 @@ use crate::proved::ent_seats::split_first;
 use crate::kit::alloc::Global;
 
 /// Shares a flushed allocator among `n` reservers, 1 to 1,024, each of which may request
-/// [`CREDIT`](ent_alloc::CREDIT) handles. Bevy has no such limits; they are this project's own.
+/// [`CREDIT`](crate::proved::ent_alloc::CREDIT) handles. Bevy has no such limits; they are this project's own.
 ///
 /// # Errors
 ///
@@ -25,13 +26,13 @@ pub fn share(
     // requires some { 0 < n }
     // requires few { n ≤ 1024 }
     // ensures shared { IfOk result (λ made.
-        // (made.0.start ≡ entities.allocator) × (made.0.count ≡ n)) }
+    //     (made.0.start ≡ entities.allocator) × (made.0.count ≡ n)) }
     // ensures rows { IfOk result (λ made. made.0.rows ≡ entities.rows) }
     // What is shared is in a sound state.
     // ensures sound { IfOk result (λ made. IsSound made.0.start) }
     // ensures count { IfOk result (λ made. length made.1.items ≡ n) }
     // ensures reservers { IfOk result (λ made.
-        // records_of made.1.items ≡ opened_records entities.allocator 0 n) }
+    //     records_of made.1.items ≡ opened_records entities.allocator 0 n) }
     // ensures unused { IfOk result (λ made. All (λ r. r.own.entries ≡ []) made.1.items) }
     // ensures own { IfOk result (λ made. All (IsOf made.0) made.1.items) }
     // ensures err { IfErr result (λ refused. refused.0 ≡ entities) }

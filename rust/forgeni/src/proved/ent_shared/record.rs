@@ -1,4 +1,5 @@
-// Made from crates/ent_shared/src/record.rt by rust/erase. Not edited by hand.
+// Made of crates/ent_shared/src/record.rt by rust/erase. It isn't edited by hand.
+
 //! What one caller has done in a phase. Contracts speak of it, and no value of it is ever made.
 
 use crate::proved::ent_alloc::{Entities, Space};

@@ -1,4 +1,5 @@
-// Made from crates/ent_shared/src/refused.rt by rust/erase. Not edited by hand.
+// Made of crates/ent_shared/src/refused.rt by rust/erase. It isn't edited by hand.
+
 use crate::proved::ent_alloc::Space;
 
 /// Why a request gave no handle.
@@ -22,8 +23,8 @@ pub enum Refused {
 impl core::fmt::Display for Refused {
     fn fmt(&self, f: &mut core::fmt::Formatter<'_>) -> core::fmt::Result {
         match self {
-            Refused::Space { wanted, left, .. } => write!(f, "{wanted} wanted and {left} left"),
-            Refused::Quota { left, .. } => write!(f, "the credit left is {left}"),
+            Refused::Space { wanted, left } => write!(f, "{wanted} wanted and {left} left"),
+            Refused::Quota { left } => write!(f, "the credit left is {left}"),
         }
     }
 }

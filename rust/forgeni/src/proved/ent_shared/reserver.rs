@@ -1,11 +1,12 @@
-// Made from crates/ent_shared/src/reserver.rt by rust/erase. Not edited by hand.
+// Made of crates/ent_shared/src/reserver.rt by rust/erase. It isn't edited by hand.
+
 use crate::proved::ent_shared::record::Record;
 use crate::proved::ent_alloc::CREDIT;
 use crate::proved::ent_seats::RecordsBadge;
 
 /// The right of one caller to reserve from a shared allocator, and what is left of its credit.
 ///
-/// [`share`](crate::share) makes them, and [`Shared::close`](crate::Shared::close) takes them back.
+/// [`share`](crate::proved::ent_shared::share) makes them, and [`Shared::close`](crate::proved::ent_shared::Shared::close) takes them back.
 /// A caller that reserves in a thread of its own takes one along.
 pub struct Reserver {
     pub(super) badge: RecordsBadge<Record>,

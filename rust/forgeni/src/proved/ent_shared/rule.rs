@@ -1,4 +1,5 @@
-// Made from crates/ent_shared/src/rule.rt by rust/erase. Not edited by hand.
+// Made of crates/ent_shared/src/rule.rt by rust/erase. It isn't edited by hand.
+
 //! The rule over the cursor word and the records of all reservers, and what its steps tell.
 
 use crate::proved::ent_shared::record::Record;

@@ -1,4 +1,5 @@
-// Made from crates/ent_shared/src/shared.rt by rust/erase. Not edited by hand.
+// Made of crates/ent_shared/src/shared.rt by rust/erase. It isn't edited by hand.
+
 use crate::kit::vec::Vec;
 use crate::proved::ent_shared::refused::Refused;
 use crate::proved::ent_shared::reserver::Reserver;
@@ -20,10 +21,10 @@ impl Shared {
     pub(super) fn new(entities: Entities, word: Word, count: usize) -> Self
         // requires { IsPhase entities count word.shared.key word.shared.table_id }
         // ensures { result ≡ record {
-          // word = word.shared.table_id;
-          // start = entities.allocator;
-          // rows = entities.rows;
-          // count = count;
+        //   word = word.shared.table_id;
+        //   start = entities.allocator;
+        //   rows = entities.rows;
+        //   count = count;
         // } }
     {
         Shared {
@@ -57,14 +58,15 @@ impl Shared {
         // requires { IsOf self.now reserver.old }
         // ensures stays { IsOf self.now reserver.new }
         // ensures quota { reserver.old.own.left ≡ 0
-            // → (result ≡ Err (Quota 0)) × (reserver.new ≡ reserver.old) }
+        //     → (result ≡ Err (Quota 0)) × (reserver.new ≡ reserver.old) }
         // ensures gains { 0 < reserver.old.own.left
-            // → Reserves self.now reserver.old reserver.new 1 (listed_alone result) }
+        //     → Reserves self.now reserver.old reserver.new 1 (listed_alone result) }
+
         // What was given is recorded.
         // ensures given { IfOk result (λ handle.
-            // handles_given reserver.new.own ≡ handles_given reserver.old.own ++ handle ∷ []) }
+        //     handles_given reserver.new.own ≡ handles_given reserver.old.own ++ handle ∷ []) }
         // ensures refused { OnErr result
-            // (handles_given reserver.new.own ≡ handles_given reserver.old.own) }
+        //     (handles_given reserver.new.own ≡ handles_given reserver.old.own) }
     {
         if reserver.left == 0 {
             return Err(Refused::Quota { left: 0 });
@@ -92,16 +94,17 @@ impl Shared {
         // requires { IsOf self.now reserver.old }
         // ensures stays { IsOf self.now reserver.new }
         // ensures quota { reserver.old.own.left < n
-            // → (result ≡ Err (Quota reserver.old.own.left)) × (reserver.new ≡ reserver.old) }
+        //     → (result ≡ Err (Quota reserver.old.own.left)) × (reserver.new ≡ reserver.old) }
         // ensures nothing { n ≡ 0 → (result ≡ Ok []) × (reserver.new ≡ reserver.old) }
         // ensures gains { 0 < n → n ≤ reserver.old.own.left
-            // → Reserves self.now reserver.old reserver.new n result }
+        //     → Reserves self.now reserver.old reserver.new n result }
         // ensures length { IfOk result (λ handles. length handles ≡ n) }
+
         // What was given is recorded.
         // ensures given { IfOk result (λ handles.
-            // handles_given reserver.new.own ≡ handles_given reserver.old.own ++ handles) }
+        //     handles_given reserver.new.own ≡ handles_given reserver.old.own ++ handles) }
         // ensures refused { OnErr result
-            // (handles_given reserver.new.own ≡ handles_given reserver.old.own) }
+        //     (handles_given reserver.new.own ≡ handles_given reserver.old.own) }
     {
         if u64::from(n) > reserver.left {
             return Err(Refused::Quota {
@@ -134,6 +137,7 @@ impl Shared {
         // ensures given { handles_given a.new.own ≡ handles_given a.old.own }
         // ensures first { IsOf self.now a.new }
         // ensures second { IsOf self.now b.new }
+
         // Every reservation that b has made or learned of ends above where a's next one may begin.
         // ensures mark { IsBelow a.new.own.mark b.old.own.entries }
     {
@@ -148,24 +152,29 @@ impl Shared {
         // requires own { All (IsOf self) reservers.items }
         // ensures legal { IsLegal self.start (history_of (records_of reservers.items)) }
         // ensures respects { let records = records_of reservers.items in
-            // All (Respects (reservations_of records)) records }
+        //     All (Respects (reservations_of records)) records }
         // ensures after { result.allocator
-            // ≡ after_history self.start (history_of (records_of reservers.items)) }
+        //     ≡ after_history self.start (history_of (records_of reservers.items)) }
         // ensures rows { result.rows ≡ self.rows }
+        // ensures rows_of_living { HasRowsOfLiving result }
+
         // Each reservation stands once, where its step came: the cursor falls with each.
         // ensures falls { AllPairs (λ earlier later. later.high <ℤ earlier.high)
-            // (reservations_of (records_of reservers.items)) }
+        //     (reservations_of (records_of reservers.items)) }
+
         // Each reserver has a number of its own.
         // ensures numbers { AllPairs (λ r s. r.number ≢ s.number) (records_of reservers.items) }
+
         // No handle was given twice, and none was alive.
         // ensures distinct { AllPairs (λ g h. g ≢ h)
-            // (given_in (history_of (records_of reservers.items))) }
+        //     (given_in (history_of (records_of reservers.items))) }
         // ensures not_live { All (λ h. ¬ (IsLive self.start h))
-            // (given_in (history_of (records_of reservers.items))) }
+        //     (given_in (history_of (records_of reservers.items))) }
+
         // A flush brings to life exactly what was given.
         // ensures brings_to_life { let given = given_in (history_of (records_of reservers.items)) in
-            // (h : HandleValue) →
-            // IsLive (after_flush result.allocator) h ↔ (IsLive self.start h ⊎ Contains given h) }
+        //     (h : HandleValue) →
+        //     IsLive (after_flush result.allocator) h ↔ (IsLive self.start h ⊎ Contains given h) }
     {
         let Shared {
             mut entities,
@@ -186,23 +195,27 @@ impl Shared {
         // requires own { All (IsOf self) reservers.items }
         // ensures after { result.allocator ≡ after_loss self.start result.allocator.asked }
         // ensures rows { result.rows ≡ self.rows }
+        // ensures rows_of_living { HasRowsOfLiving result }
+
         // It counts what the reservers that are here have requested, and of the others no more than
         // their credit.
         // ensures least { sum_by (λ r. requested_by r.own) reservers.items
-            // ≤ result.allocator.asked }
+        //     ≤ result.allocator.asked }
         // ensures most { sum_by (λ r. r.own.left) reservers.items + result.allocator.asked
-            // ≤ self.count * credit }
+        //     ≤ self.count * credit }
         // ensures reached { All (λ r. cursor result.allocator ≤ℤ r.own.mark) reservers.items }
+
         // If all are here, it counts what they have requested, and the cursor is where `close`
         // leaves it.
         // ensures asked { length reservers.items ≡ self.count
-            // → sum_by (λ r. requested_by r.own) reservers.items ≡ result.allocator.asked }
+        //     → sum_by (λ r. requested_by r.own) reservers.items ≡ result.allocator.asked }
         // ensures whole { length reservers.items ≡ self.count
-            // → cursor result.allocator
-            // ≡ cursor (after_history self.start (history_of (records_of reservers.items))) }
+        //     → cursor result.allocator
+        //     ≡ cursor (after_history self.start (history_of (records_of reservers.items))) }
+
         // What the reservers that are here were given is reserved.
         // ensures given { All (λ r. All (Contains result.allocator.taken) (handles_given r.own))
-            // reservers.items }
+        //     reservers.items }
     {
         let Shared {
             mut entities,
@@ -221,7 +234,7 @@ fn end_phase(word: Word, top: i64, reservers: Vec<Reserver>) -> (i64, i64)
     // requires word { (word.shared.table_id.words ≡ 1) × (word.shared.table_id.slots ≡ 0) }
     // requires own { All (λ r. r.word ≡ word.shared.table_id) reservers.items }
     // ensures cursor { let opening = word.shared.key in
-        // IsClosed opening.entities.allocator opening.count (records_of reservers.items) result.0 }
+    //     IsClosed opening.entities.allocator opening.count (records_of reservers.items) result.0 }
     // ensures floor { result.1 ≡ least_floor top (records_of reservers.items) }
 {
     let mut all = new_seat(&word);

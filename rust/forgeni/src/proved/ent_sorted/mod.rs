@@ -1,4 +1,5 @@
-// Made from crates/ent_sorted/src/lib.rt by rust/erase. Not edited by hand.
+// Made of crates/ent_sorted/src/lib.rt by rust/erase. It isn't edited by hand.
+
 //! Pairs of a key and a value, by strictly rising key: where a key stands among them.
 
 mod pairs;

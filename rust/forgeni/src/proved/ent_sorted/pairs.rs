@@ -1,4 +1,5 @@
-// Made from crates/ent_sorted/src/pairs.rt by rust/erase. Not edited by hand.
+// Made of crates/ent_sorted/src/pairs.rt by rust/erase. It isn't edited by hand.
+
 /// The position of the key among pairs whose keys strictly rise.
 ///
 /// Takes no memory, and a time that grows with the logarithm of their count.

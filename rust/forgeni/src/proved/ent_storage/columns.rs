@@ -1,4 +1,5 @@
-// Made from crates/ent_storage/src/columns.rt by rust/erase. Not edited by hand.
+// Made of crates/ent_storage/src/columns.rt by rust/erase. It isn't edited by hand.
+
 use crate::kit::vec::Vec;
 use super::sparse_set::SparseSet;
 use crate::proved::ent_handle::ComponentId;
@@ -25,9 +26,9 @@ pub fn reserve_all(
     // requires in_use { AreInUse used.old.items columns.old.items }
     // ensures in_use { AreInUse used.new.items columns.new.items }
     // ensures values { (number : ℕ) → (column_at columns.new.items number).values
-        // ≡ (column_at columns.old.items number).values }
+    //     ≡ (column_at columns.old.items number).values }
     // ensures ok { OnOk result
-        // (All (λ item. HasRoomAt (column_at columns.new.items item.0.0) place) items.now) }
+    //     (All (λ item. HasRoomAt (column_at columns.new.items item.0.0) place) items.now) }
     // ensures growing { OnErr result (0 < missing (components_at columns.old.items place) items.now) }
     // ensures numbered { length columns.new.items ≤ 256 }
 {
@@ -50,10 +51,10 @@ fn reserve(
     // requires in_use { AreInUse used.old.items columns.old.items }
     // ensures in_use { AreInUse used.new.items columns.new.items }
     // ensures values { (number : ℕ) → (column_at columns.new.items number).values
-        // ≡ (column_at columns.old.items number).values }
+    //     ≡ (column_at columns.old.items number).values }
     // ensures ok { OnOk result (HasRoomAt (column_at columns.new.items id.0) place) }
     // ensures kept { (number : ℕ) → HasRoomAt (column_at columns.old.items number) place
-        // → HasRoomAt (column_at columns.new.items number) place }
+    //     → HasRoomAt (column_at columns.new.items number) place }
     // ensures growing { OnErr result (value_at columns.old.items place id ≡ None) }
     // ensures numbered { length columns.new.items ≤ 256 }
 {
@@ -88,7 +89,7 @@ fn put_in_use(
     // requires in_use { AreInUse used.old.items columns.old.items }
     // ensures in_use { AreInUse used.new.items columns.new.items }
     // ensures same { (number : ℕ) → column_at columns.new.items number
-        // ≡ column_at columns.old.items number }
+    //     ≡ column_at columns.old.items number }
     // ensures there { OnOk result (id.0 < length columns.new.items) }
     // ensures ok { OnOk result (Contains used.new.items id.0) }
     // ensures numbered { length columns.new.items ≤ 256 }
@@ -116,7 +117,7 @@ fn is_in_use(columns: &[SparseSet], id: ComponentId) -> bool
 #[inline(never)]
 fn mark(used: &mut Vec<u8>, number: u8) -> Result<(), AllocError>
     // ensures in_use { (columns : List Column) → number < length columns
-        // → AreInUse used.old.items columns → AreInUse used.new.items columns }
+    //     → AreInUse used.old.items columns → AreInUse used.new.items columns }
     // ensures ok { OnOk result (Contains used.new.items number) }
 {
     if let Err(gap) = used.binary_search(&number) {
@@ -131,7 +132,7 @@ fn grow(columns: &mut Vec<SparseSet>, alloc: Global, count: usize) -> Result<(),
     // requires numbered { length columns.old.items ≤ 256 }
     // requires count { count ≤ 256 }
     // ensures same { (number : ℕ) → column_at columns.new.items number
-        // ≡ column_at columns.old.items number }
+    //     ≡ column_at columns.old.items number }
     // ensures ok { OnOk result (count ≤ length columns.new.items) }
     // ensures longer { length columns.old.items ≤ length columns.new.items }
     // ensures numbered { length columns.new.items ≤ 256 }
@@ -147,11 +148,11 @@ fn grow(columns: &mut Vec<SparseSet>, alloc: Global, count: usize) -> Result<(),
 pub fn set_all(columns: &mut [SparseSet], place: usize, items: &[(ComponentId, i64)])
     // requires { All (λ item. HasRoomAt (column_at columns.old item.0.0) place) items.now }
     // ensures here { components_at columns.new place
-        // ≡ with_items (components_at columns.old place) items.now }
+    //     ≡ with_items (components_at columns.old place) items.now }
     // ensures others { (other : ℕ) (id : ComponentId) → other ≢ place
-        // → value_at columns.new other id ≡ value_at columns.old other id }
+    //     → value_at columns.new other id ≡ value_at columns.old other id }
     // ensures rest { (number : ℕ) → column_at columns.old number ≡ no_column
-        // → column_at columns.new number ≡ no_column }
+    //     → column_at columns.new number ≡ no_column }
     // ensures len { length columns.new ≡ length columns.old }
 {
     for item in items {
@@ -164,9 +165,9 @@ pub fn set_all(columns: &mut [SparseSet], place: usize, items: &[(ComponentId, i
 fn set(columns: &mut [SparseSet], place: usize, item: (ComponentId, i64))
     // requires { HasRoomAt (column_at columns.old item.0.0) place }
     // ensures set { (column_at columns.new item.0.0).values
-        // ≡ map.insert (column_at columns.old item.0.0).values place item.1 }
+    //     ≡ map.insert (column_at columns.old item.0.0).values place item.1 }
     // ensures others { (number : ℕ) → number ≢ item.0.0
-        // → column_at columns.new number ≡ column_at columns.old number }
+    //     → column_at columns.new number ≡ column_at columns.old number }
     // ensures len { length columns.new ≡ length columns.old }
 {
     columns[item.0.0 as usize].set(place, item.1);
@@ -177,11 +178,11 @@ fn set(columns: &mut [SparseSet], place: usize, item: (ComponentId, i64))
 pub fn remove(columns: &mut [SparseSet], place: usize, id: ComponentId) -> Option<i64>
     // ensures value { result ≡ value_at columns.old place id }
     // ensures here { components_at columns.new place
-        // ≡ map.remove (components_at columns.old place) id }
+    //     ≡ map.remove (components_at columns.old place) id }
     // ensures others { (other : ℕ) (id : ComponentId) → other ≢ place
-        // → value_at columns.new other id ≡ value_at columns.old other id }
+    //     → value_at columns.new other id ≡ value_at columns.old other id }
     // ensures rest { (number : ℕ) → column_at columns.old number ≡ no_column
-        // → column_at columns.new number ≡ no_column }
+    //     → column_at columns.new number ≡ no_column }
     // ensures len { length columns.new ≡ length columns.old }
 {
     let number = id.0 as usize;
@@ -200,7 +201,7 @@ pub fn swap_remove(columns: &mut [SparseSet], used: &[u8], place: usize, last: u
     // requires in_use { AreInUse used.now columns.old }
     // ensures in_use { AreInUse used.now columns.new }
     // ensures moved { (number : ℕ) → IsMovedDown place last (column_at columns.old number).values
-        // (column_at columns.new number).values }
+    //     (column_at columns.new number).values }
     // ensures len { length columns.new ≡ length columns.old }
 {
     for number in used {

@@ -1,4 +1,5 @@
-// Made from crates/ent_storage/src/fault.rt by rust/erase. Not edited by hand.
+// Made of crates/ent_storage/src/fault.rt by rust/erase. It isn't edited by hand.
+
 use core::error::Error;
 use core::fmt;
 

@@ -1,4 +1,5 @@
-// Made from crates/ent_storage/src/index.rt by rust/erase. Not edited by hand.
+// Made of crates/ent_storage/src/index.rt by rust/erase. It isn't edited by hand.
+
 use crate::kit::vec::Vec;
 use super::living::{Living, has_handle_at};
 use super::places::MOST_PLACES;
@@ -45,11 +46,11 @@ impl Index {
     pub fn put(&mut self, living: &Living, handle: Handle) -> bool
         // requires room { length living.now.entities < self.old.room }
         // ensures new { result
-            // ≡ is_none (map.get (counted living.now.entities self.old.by_handle) handle) }
+        //     ≡ is_none (map.get (counted living.now.entities self.old.by_handle) handle) }
         // ensures placed { IsTrue result
-            // → map.get self.new.by_handle handle ≡ Some (length living.now.entities) }
+        //     → map.get self.new.by_handle handle ≡ Some (length living.now.entities) }
         // ensures kept { IsTrue result
-            // → Keeps handle (counted living.now.entities self.old.by_handle) self.new.by_handle }
+        //     → Keeps handle (counted living.now.entities self.old.by_handle) self.new.by_handle }
         // ensures refused { ¬ (IsTrue result) → self.new ≡ self.old }
         // ensures room { self.new.room ≡ self.old.room }
     {
@@ -68,7 +69,7 @@ impl Index {
         // requires there { IsSome (map.get self.old.by_handle handle) }
         // requires room { place < self.old.room }
         // ensures { self.new
-            // ≡ record self.old { by_handle = map.insert self.old.by_handle handle place } }
+        //     ≡ record self.old { by_handle = map.insert self.old.by_handle handle place } }
     {
         if let Ok(position) = search_slot(&self.pairs, handle) {
             self.pairs[position] = (handle, place as u32);
@@ -130,7 +131,7 @@ fn sweep(pairs: &mut Vec<(Handle, u32)>, living: &Living)
     // requires { T (map.is_sorted handle_cmp pairs.old.items) }
     // ensures sorted { T (map.is_sorted handle_cmp pairs.new.items) }
     // ensures counted { map.from_sorted pairs.new.items
-        // ≡ counted living.now.entities (map.from_sorted pairs.old.items) }
+    //     ≡ counted living.now.entities (map.from_sorted pairs.old.items) }
     // ensures len { vec_len pairs.new ≤ length living.now.entities }
     // ensures capacity { vec_capacity pairs.new ≡ vec_capacity pairs.old }
 {
@@ -152,9 +153,9 @@ fn put_found(
     // requires room { length living.now.entities < vec_capacity pairs.old }
     // ensures sorted { T (map.is_sorted handle_cmp pairs.new.items) }
     // ensures placed { map.get (map.from_sorted {R = handle_cmp} pairs.new.items) pair.0
-        // ≡ Some pair.1 }
+    //     ≡ Some pair.1 }
     // ensures kept { Keeps pair.0 (counted living.now.entities (map.from_sorted pairs.old.items))
-        // (map.from_sorted pairs.new.items) }
+    //     (map.from_sorted pairs.new.items) }
     // ensures capacity { vec_capacity pairs.new ≡ vec_capacity pairs.old }
 {
     if pairs.len() < pairs.capacity() {
@@ -180,9 +181,9 @@ fn put_at(
     // requires room { vec_len pairs.old < vec_capacity pairs.old }
     // ensures sorted { T (map.is_sorted handle_cmp pairs.new.items) }
     // ensures placed { map.get (map.from_sorted {R = handle_cmp} pairs.new.items) pair.0
-        // ≡ Some pair.1 }
+    //     ≡ Some pair.1 }
     // ensures kept { Keeps pair.0 (counted living.now.entities (map.from_sorted pairs.old.items))
-        // (map.from_sorted pairs.new.items) }
+    //     (map.from_sorted pairs.new.items) }
     // ensures capacity { vec_capacity pairs.new ≡ vec_capacity pairs.old }
 {
     match found {
@@ -200,9 +201,9 @@ fn put_in_gap(pairs: &mut Vec<(Handle, u32)>, living: &Living, position: usize, 
     // requires room { vec_len pairs.old < vec_capacity pairs.old }
     // ensures sorted { T (map.is_sorted handle_cmp pairs.new.items) }
     // ensures placed { map.get (map.from_sorted {R = handle_cmp} pairs.new.items) pair.0
-        // ≡ Some pair.1 }
+    //     ≡ Some pair.1 }
     // ensures kept { Keeps pair.0 (counted living.now.entities (map.from_sorted pairs.old.items))
-        // (map.from_sorted pairs.new.items) }
+    //     (map.from_sorted pairs.new.items) }
     // ensures capacity { vec_capacity pairs.new ≡ vec_capacity pairs.old }
 {
     match taken_over(pairs, living, position, pair.0) {

@@ -1,4 +1,5 @@
-// Made from crates/ent_storage/src/items.rt by rust/erase. Not edited by hand.
+// Made of crates/ent_storage/src/items.rt by rust/erase. It isn't edited by hand.
+
 use super::columns;
 use super::sparse_set::SparseSet;
 use crate::proved::ent_handle::ComponentId;
@@ -62,7 +63,7 @@ impl ExactSizeIterator for Items<'_> {
 #[inline]
 fn count_of(columns: &[SparseSet], used: &[u8], place: usize) -> usize
     // ensures { result ≡ count_by
-        // (λ number. is_some (value_at columns.now place (record { 0 = number }))) used.now }
+    //     (λ number. is_some (value_at columns.now place (record { 0 = number }))) used.now }
 {
     used.iter()
         .filter(|number| columns::value(columns, place, ComponentId(**number)).is_some())
@@ -77,7 +78,7 @@ fn first_of<'a>(
     place: usize,
 ) -> Option<((ComponentId, i64), &'a [u8])>
     // ensures found { IfSome result (λ first. items_of used.now columns.now place
-        // ≡ first.0 ∷ items_of first.1.now columns.now place) }
+    //     ≡ first.0 ∷ items_of first.1.now columns.now place) }
     // ensures none { result ≡ None → items_of used.now columns.now place ≡ [] }
 {
     for (position, number) in used.iter().enumerate() {

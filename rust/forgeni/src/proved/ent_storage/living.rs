@@ -1,4 +1,5 @@
-// Made from crates/ent_storage/src/living.rt by rust/erase. Not edited by hand.
+// Made of crates/ent_storage/src/living.rt by rust/erase. It isn't edited by hand.
+
 use crate::kit::vec::CollectIn;
 use crate::kit::vec::Vec;
 use super::columns;
@@ -112,7 +113,7 @@ impl Living {
     pub fn value(&self, place: usize, id: ComponentId) -> Option<i64>
         // requires { place < length self.now.entities }
         // ensures { HoldsAt (λ entity. result ≡ finite.get entity.components id)
-            // self.now.entities place }
+        //     self.now.entities place }
     {
         columns::value(&self.columns, place, id)
     }
@@ -122,7 +123,7 @@ impl Living {
     pub fn items(&self, place: usize) -> Items<'_>
         // requires { place < length self.now.entities }
         // ensures { HoldsAt (λ entity. result ≡ finite.entries entity.components)
-            // self.now.entities place }
+        //     self.now.entities place }
     {
         Items::new(&self.columns, &self.used, place)
     }
@@ -132,7 +133,7 @@ impl Living {
     pub fn push(&mut self, handle: Handle, birth: Birth)
         // requires { length self.old.entities < self.old.room }
         // ensures entities { self.new.entities ≡ self.old.entities
-            // ++ record { handle = handle; birth = birth; components = finite.empty } ∷ [] }
+        //     ++ record { handle = handle; birth = birth; components = finite.empty } ∷ [] }
         // ensures room { self.new.room ≡ self.old.room }
     {
         self.residents.push_reserved(Resident { handle, birth });
@@ -156,11 +157,11 @@ impl Living {
     pub fn insert(&mut self, place: usize, items: &[(ComponentId, i64)]) -> Result<(), AllocError>
         // requires { place < length self.old.entities }
         // ensures ok { OnOk result (self.new.entities
-            // ≡ change_at self.old.entities place (λ held. with_items held items.now)) }
+        //     ≡ change_at self.old.entities place (λ held. with_items held items.now)) }
         // ensures room { self.new.room ≡ self.old.room }
         // ensures err { OnErr result (self.new.entities ≡ self.old.entities) }
         // ensures growing { OnErr result
-            // (HoldsAt (λ entity. 0 < missing entity.components items.now) self.old.entities place) }
+        //     (HoldsAt (λ entity. 0 < missing entity.components items.now) self.old.entities place) }
     {
         columns::reserve_all(&mut self.columns, &mut self.used, self.alloc, place, items)?;
         columns::set_all(&mut self.columns, place, items);
@@ -172,19 +173,20 @@ impl Living {
     pub fn remove(&mut self, place: usize, id: ComponentId) -> Option<i64>
         // requires { place < length self.old.entities }
         // ensures value { HoldsAt (λ entity. result ≡ finite.get entity.components id)
-            // self.old.entities place }
+        //     self.old.entities place }
         // ensures entities { self.new.entities
-            // ≡ change_at self.old.entities place (λ held. finite.remove held id) }
+        //     ≡ change_at self.old.entities place (λ held. finite.remove held id) }
         // ensures room { self.new.room ≡ self.old.room }
     {
         columns::remove(&mut self.columns, place, id)
     }
 
-    /// The birth and the handle of each entity.
+    /// The birth and the handle of each entity. It takes no memory if there is none.
     #[inline]
     pub fn births(&self, alloc: Global) -> Result<Vec<(Birth, Handle)>, AllocError>
-        // ensures { IfOk result (λ births. births.items
-            // ≡ map (λ entity. (entity.birth, entity.handle)) self.now.entities) }
+        // ensures ok { IfOk result (λ births. births.items
+        //     ≡ map (λ entity. (entity.birth, entity.handle)) self.now.entities) }
+        // ensures memory { OnErr result (0 < length self.now.entities) }
     {
         births(alloc, &self.residents)
     }
@@ -193,12 +195,13 @@ impl Living {
     #[inline]
     pub fn of_birth(&self, birth: Birth) -> Option<Handle>
         // ensures { IsLeastOf birth
-            // (map (λ entity. (entity.birth, entity.handle)) self.now.entities) result }
+        //     (map (λ entity. (entity.birth, entity.handle)) self.now.entities) result }
     {
         least_of_birth(&self.residents, birth)
     }
 
-    /// The birth and the handle of the entity at the place of each pair.
+    /// The birth and the handle of the entity at the place of each pair. It takes no memory for
+    /// none.
     #[inline]
     pub fn births_at(
         &self,
@@ -206,8 +209,9 @@ impl Living {
         pairs: &[(usize, i64)],
     ) -> Result<Vec<(Birth, Handle)>, AllocError>
         // requires { All (λ pair. pair.0 < length self.now.entities) pairs.now }
-        // ensures { IfOk result (λ births. map Some births.items
-            // ≡ map (λ pair. born_at self.now.entities pair.0) pairs.now) }
+        // ensures ok { IfOk result (λ births. map Some births.items
+        //     ≡ map (λ pair. born_at self.now.entities pair.0) pairs.now) }
+        // ensures memory { OnErr result (0 < length pairs.now) }
     {
         let mut births = Vec::new(alloc);
         for pair in pairs {
@@ -221,9 +225,9 @@ impl Living {
     #[inline]
     pub fn pairs(&self, id: ComponentId) -> &[(usize, i64)]
         // ensures has { (place : ℕ) (v : ℤ) → Contains result.now (place, v)
-            // → IsValueAt self.now.entities place id v }
+        //     → IsValueAt self.now.entities place id v }
         // ensures all { (place : ℕ) (v : ℤ) → IsValueAt self.now.entities place id v
-            // → Contains result.now (place, v) }
+        //     → Contains result.now (place, v) }
         // ensures once { AllPairs (λ a b. a.0 ≢ b.0) result.now }
     {
         match self.columns.get(id.0 as usize) {
@@ -236,9 +240,13 @@ impl Living {
 /// The birth and the handle of each resident.
 #[inline]
 fn births(alloc: Global, residents: &[Resident]) -> Result<Vec<(Birth, Handle)>, AllocError>
-    // ensures { IfOk result (λ births.
-        // births.items ≡ map (λ resident. (resident.birth, resident.handle)) residents.now) }
+    // ensures ok { IfOk result (λ births.
+    //     births.items ≡ map (λ resident. (resident.birth, resident.handle)) residents.now) }
+    // ensures memory { OnErr result (0 < length residents.now) }
 {
+    if residents.is_empty() {
+        return Ok(Vec::new(alloc));
+    }
     residents
         .iter()
         .map(|resident| (resident.birth, resident.handle))

@@ -1,4 +1,5 @@
-// Made from crates/ent_storage/src/looking.rt by rust/erase. Not edited by hand.
+// Made of crates/ent_storage/src/looking.rt by rust/erase. It isn't edited by hand.
+
 //! What a storage has: the look-ups, which change nothing.
 
 use crate::kit::vec::Vec;
@@ -86,10 +87,11 @@ impl Storage {
     ///
     /// # Errors
     ///
-    /// `Memory`: there is no memory for the list.
+    /// `Memory`: there is no memory for the list. It never comes if there are no entities.
     #[inline]
     pub fn by_birth(&self) -> Result<Vec<Handle>, Memory>
-        // ensures { IfOk result (λ handles. ListsAll self.now.entities handles.items) }
+        // ensures ok { IfOk result (λ handles. ListsAll self.now.entities handles.items) }
+        // ensures memory { OnErr result (self.now.entities ≢ map.empty) }
     {
         let births = self.living.births(self.alloc)?;
         Ok(handles_in_order(self.alloc, births)?)
@@ -102,12 +104,12 @@ impl Storage {
     #[inline]
     pub fn of_birth(&self, birth: Birth) -> Option<Handle>
         // ensures found { IfSome result (λ handle.
-            // birth_of self.now.entities handle ≡ Some birth) }
+        //     birth_of self.now.entities handle ≡ Some birth) }
         // ensures least { IfSome result (λ handle. (other : Handle)
-            // → birth_of self.now.entities other ≡ Some birth
-            // → handle_cmp handle other ≢ Greater) }
+        //     → birth_of self.now.entities other ≡ Some birth
+        //     → handle_cmp handle other ≢ Greater) }
         // ensures none { IfNone result ((handle : Handle)
-            // → birth_of self.now.entities handle ≢ Some birth) }
+        //     → birth_of self.now.entities handle ≢ Some birth) }
     {
         self.living.of_birth(birth)
     }
@@ -117,7 +119,7 @@ impl Storage {
     #[inline]
     pub fn dense(&self, id: ComponentId) -> &[(usize, i64)]
         // ensures has { (place : ℕ) (value : ℤ) → Contains result.now (place, value)
-            // ↔ (value_at_place self.now place id ≡ Some value) }
+        //     ↔ (value_at_place self.now place id ≡ Some value) }
         // ensures once { AllPairs (λ a b. a.0 ≢ b.0) result.now }
     {
         self.living.pairs(id)
@@ -128,10 +130,12 @@ impl Storage {
     ///
     /// # Errors
     ///
-    /// `Memory`: there is no memory for the list.
+    /// `Memory`: there is no memory for the list. It never comes if no entity has the component.
     #[inline]
     pub fn with(&self, id: ComponentId) -> Result<Vec<Handle>, Memory>
-        // ensures { IfOk result (λ handles. ListsWith id self.now.entities handles.items) }
+        // ensures ok { IfOk result (λ handles. ListsWith id self.now.entities handles.items) }
+        // ensures memory { OnErr result
+        //     ((handle : Handle) × IsSome (value_of self.now.entities handle id)) }
     {
         let births = self.living.births_at(self.alloc, self.living.pairs(id))?;
         Ok(handles_in_order(self.alloc, births)?)

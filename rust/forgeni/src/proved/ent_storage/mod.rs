@@ -1,4 +1,5 @@
-// Made from crates/ent_storage/src/lib.rt by rust/erase. Not edited by hand.
+// Made of crates/ent_storage/src/lib.rt by rust/erase. It isn't edited by hand.
+
 //! Birth and components of living entities: a finite map from handles.
 //!
 //! `Storage` keeps the entities in one vector. An entity's *place* is where it stands there. Beside

@@ -1,4 +1,5 @@
-// Made from crates/ent_storage/src/places.rt by rust/erase. Not edited by hand.
+// Made of crates/ent_storage/src/places.rt by rust/erase. It isn't edited by hand.
+
 //! How many places there are.
 
 /// How many entities a storage has at most: the places are numbered in 32 bits.

@@ -1,4 +1,5 @@
-// Made from crates/ent_storage/src/slot.rt by rust/erase. Not edited by hand.
+// Made of crates/ent_storage/src/slot.rt by rust/erase. It isn't edited by hand.
+
 use crate::proved::ent_handle::Handle;
 use crate::proved::ent_sorted::search;
 
@@ -42,7 +43,7 @@ fn is_gap(pairs: &[(Handle, u32)], position: usize, handle: Handle) -> bool
 #[inline]
 fn is_after(pairs: &[(Handle, u32)], position: usize, handle: Handle) -> bool
     // ensures { IsTrue result → (k : ℕ) → k + 1 ≡ position
-        // → HoldsAt (λ pair. handle_cmp pair.0 handle ≡ Less) pairs.now k }
+    //     → HoldsAt (λ pair. handle_cmp pair.0 handle ≡ Less) pairs.now k }
 {
     match position.checked_sub(1) {
         Some(before) => before < pairs.len() && pairs[before].0 < handle,
@@ -54,7 +55,7 @@ fn is_after(pairs: &[(Handle, u32)], position: usize, handle: Handle) -> bool
 #[inline]
 fn is_before(pairs: &[(Handle, u32)], position: usize, handle: Handle) -> bool
     // ensures { IsTrue result → position < length pairs.now
-        // → HoldsAt (λ pair. handle_cmp pair.0 handle ≡ Greater) pairs.now position }
+    //     → HoldsAt (λ pair. handle_cmp pair.0 handle ≡ Greater) pairs.now position }
 {
     position >= pairs.len() || handle < pairs[position].0
 }

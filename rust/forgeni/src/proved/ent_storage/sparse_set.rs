@@ -1,4 +1,5 @@
-// Made from crates/ent_storage/src/sparse_set.rt by rust/erase. Not edited by hand.
+// Made of crates/ent_storage/src/sparse_set.rt by rust/erase. It isn't edited by hand.
+
 use crate::kit::vec::Vec;
 use super::places::MOST_PLACES;
 use crate::kit::alloc::{AllocError, Global};
@@ -29,11 +30,11 @@ impl SparseSet {
     #[inline]
     pub fn pairs(&self) -> &[(usize, i64)]
         // ensures has { (p : ℕ) (v : ℤ) → Contains result.now (p, v)
-            // → map.get self.now.values p ≡ Some v }
+        //     → map.get self.now.values p ≡ Some v }
         // ensures all { (p : ℕ) (v : ℤ) → map.get self.now.values p ≡ Some v
-            // → Contains result.now (p, v) }
+        //     → Contains result.now (p, v) }
         // ensures once { (j k p : ℕ) (v w : ℤ) → slice_get result.now j ≡ Some (p, v)
-            // → slice_get result.now k ≡ Some (p, w) → j ≡ k }
+        //     → slice_get result.now k ≡ Some (p, w) → j ≡ k }
     {
         &self.dense
     }
@@ -148,10 +149,10 @@ impl SparseSet {
 fn position_of(dense: &[(usize, i64)], sparse: &[u32], place: usize) -> Option<u32>
     // requires { IsDense dense.now sparse.now }
     // ensures found { IfSome result
-        // (λ position. HoldsAt (λ pair. pair.0 ≡ place) dense.now position) }
+    //     (λ position. HoldsAt (λ pair. pair.0 ≡ place) dense.now position) }
     // ensures inside { IfSome result (λ position. position < length dense.now) }
     // ensures absent { result ≡ None
-        // → map.get (map.from_entries {R = nat_cmp} dense.now) place ≡ None }
+    //     → map.get (map.from_entries {R = nat_cmp} dense.now) place ≡ None }
 {
     let position = *sparse.get(place)?;
     let pair = dense.get(position as usize)?;

@@ -1,4 +1,5 @@
-// Made from crates/ent_storage/src/storage.rt by rust/erase. Not edited by hand.
+// Made of crates/ent_storage/src/storage.rt by rust/erase. It isn't edited by hand.
+
 use super::fault::StorageFault;
 use super::index::Index;
 use super::living::Living;
@@ -86,9 +87,11 @@ impl Storage {
         // ensures ok { OnOk result (additional ≤ self.new.spare) }
         // ensures grows { self.old.spare ≤ self.new.spare }
         // ensures places { self.new.places ≡ self.old.places }
+
         // With room for that many, the call succeeds and changes nothing.
         // ensures succeeds { additional ≤ self.old.spare → IsOk result }
         // ensures in_place { additional ≤ self.old.spare → self.new ≡ self.old }
+
         // ensures err { OnErr result (self.new.spare < additional) }
     {
         if additional <= self.spare() {
@@ -122,11 +125,12 @@ impl Storage {
     #[inline(always)]
     pub fn born(&mut self, handle: Handle, birth: Birth) -> Result<(), StorageFault>
         // ensures ok { OnOk result
-            // (self.new.entities ≡ map.insert self.old.entities handle (newborn birth)) }
+        //     (self.new.entities ≡ map.insert self.old.entities handle (newborn birth)) }
         // ensures spare { OnOk result (0 < self.old.spare → self.new.spare + 1 ≡ self.old.spare) }
         // ensures places { OnOk result (self.new.places ≡ self.old.places ++ handle ∷ []) }
+
         // ensures present { IsErrOf result StorageFault.Present
-            // ↔ IsTrue (map.contains_key self.old.entities handle) }
+        //     ↔ IsTrue (map.contains_key self.old.entities handle) }
         // ensures memory_without_room { IsErrOf result StorageFault.Memory → self.old.spare ≡ 0 }
         // ensures never_absent { ¬ (IsErrOf result StorageFault.Absent) }
         // ensures err { OnErr result (self.new ≡ self.old) }
@@ -145,11 +149,11 @@ impl Storage {
     fn born_within(&mut self, handle: Handle, birth: Birth) -> Result<(), StorageFault>
         // requires room { 0 < self.old.spare }
         // ensures ok { OnOk result
-            // (self.new.entities ≡ map.insert self.old.entities handle (newborn birth)) }
+        //     (self.new.entities ≡ map.insert self.old.entities handle (newborn birth)) }
         // ensures spare { OnOk result (self.new.spare + 1 ≡ self.old.spare) }
         // ensures places { OnOk result (self.new.places ≡ self.old.places ++ handle ∷ []) }
         // ensures present { IsErrOf result StorageFault.Present
-            // ↔ IsTrue (map.contains_key self.old.entities handle) }
+        //     ↔ IsTrue (map.contains_key self.old.entities handle) }
         // ensures only_present { IfErr result (λ fault. fault ≡ StorageFault.Present) }
         // ensures err { OnErr result (self.new ≡ self.old) }
     {
@@ -174,10 +178,11 @@ impl Storage {
         // ensures ok { OnOk result (self.new.entities ≡ map.remove self.old.entities handle) }
         // ensures spare { OnOk result (self.new.spare ≡ self.old.spare + 1) }
         // ensures places { OnOk result (SomeIndex self.old.places (λ place.
-            // (slice_get self.old.places place ≡ Some handle)
-            // × AreWithout place self.old.places self.new.places)) }
+        //     (slice_get self.old.places place ≡ Some handle)
+        //     × AreWithout place self.old.places self.new.places)) }
+
         // ensures absent { IsErrOf result StorageFault.Absent
-            // ↔ (map.get self.old.entities handle ≡ None) }
+        //     ↔ (map.get self.old.entities handle ≡ None) }
         // ensures only_absent { IfErr result (λ fault. fault ≡ StorageFault.Absent) }
         // ensures err { OnErr result (self.new ≡ self.old) }
     {
@@ -230,14 +235,15 @@ impl Storage {
         items: &[(ComponentId, i64)],
     ) -> Result<(), StorageFault>
         // ensures ok { OnOk result (self.new.entities
-            // ≡ with_components self.old.entities handle (λ held. with_items held items.now)) }
+        //     ≡ with_components self.old.entities handle (λ held. with_items held items.now)) }
         // ensures spare { self.new.spare ≡ self.old.spare }
         // ensures places { self.new.places ≡ self.old.places }
+
         // ensures absent { IsErrOf result StorageFault.Absent
-            // ↔ (map.get self.old.entities handle ≡ None) }
+        //     ↔ (map.get self.old.entities handle ≡ None) }
         // ensures memory_to_grow { IsErrOf result StorageFault.Memory
-            // → IfSome (components_of self.old.entities handle)
-            // (λ held. 0 < missing held items.now) }
+        //     → IfSome (components_of self.old.entities handle)
+        //     (λ held. 0 < missing held items.now) }
         // ensures never_present { ¬ (IsErrOf result StorageFault.Present) }
         // ensures err { OnErr result (self.new ≡ self.old) }
     {
@@ -268,12 +274,13 @@ impl Storage {
     ) -> Result<(), Memory>
         // requires { slice_get self.old.places place ≡ Some handle }
         // ensures ok { OnOk result (self.new.entities
-            // ≡ with_components self.old.entities handle (λ held. with_items held items.now)) }
+        //     ≡ with_components self.old.entities handle (λ held. with_items held items.now)) }
         // ensures spare { self.new.spare ≡ self.old.spare }
         // ensures places { self.new.places ≡ self.old.places }
+
         // ensures memory_to_grow { OnErr result
-            // (IfSome (components_of self.old.entities handle)
-            // (λ held. 0 < missing held items.now)) }
+        //     (IfSome (components_of self.old.entities handle)
+        //     (λ held. 0 < missing held items.now)) }
         // ensures err { OnErr result (self.new ≡ self.old) }
     {
         self.living.insert(place, items)?;
@@ -290,11 +297,12 @@ impl Storage {
     pub fn remove(&mut self, handle: Handle, id: ComponentId) -> Result<Option<i64>, StorageFault>
         // ensures value { IfOk result (λ value. value ≡ value_of self.old.entities handle id) }
         // ensures ok { OnOk result (self.new.entities
-            // ≡ with_components self.old.entities handle (λ held. map.remove held id)) }
+        //     ≡ with_components self.old.entities handle (λ held. map.remove held id)) }
         // ensures spare { self.new.spare ≡ self.old.spare }
         // ensures places { self.new.places ≡ self.old.places }
+
         // ensures absent { IsErrOf result StorageFault.Absent
-            // ↔ (map.get self.old.entities handle ≡ None) }
+        //     ↔ (map.get self.old.entities handle ≡ None) }
         // ensures only_absent { IfErr result (λ fault. fault ≡ StorageFault.Absent) }
         // ensures err { OnErr result (self.new ≡ self.old) }
     {
@@ -312,7 +320,7 @@ impl Storage {
         // requires { slice_get self.old.places place ≡ Some handle }
         // ensures value { result ≡ value_of self.old.entities handle id }
         // ensures entities { self.new.entities
-            // ≡ with_components self.old.entities handle (λ held. map.remove held id) }
+        //     ≡ with_components self.old.entities handle (λ held. map.remove held id) }
         // ensures spare { self.new.spare ≡ self.old.spare }
         // ensures places { self.new.places ≡ self.old.places }
     {

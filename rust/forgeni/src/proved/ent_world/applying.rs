@@ -1,4 +1,5 @@
-// Made from crates/ent_world/src/applying.rt by rust/erase. Not edited by hand.
+// Made of crates/ent_world/src/applying.rt by rust/erase. It isn't edited by hand.
+
 //! The commands of a sync point take effect, one by one. Each changes the world whole or not at
 //! all.
 
@@ -52,7 +53,7 @@ impl Applying {
     fn add_fault(&mut self, at: At, kind: FaultKind) -> Result<(), Memory>
         // ensures items { self.new.items.items ≡ self.old.items.items }
         // ensures ok { OnOk result (self.new.faults.items ≡ self.old.faults.items
-            // ++ record { system = at.system; command = at.command; kind = kind } ∷ []) }
+        //     ++ record { system = at.system; command = at.command; kind = kind } ∷ []) }
         // ensures err { OnErr result (self.new.faults.items ≡ self.old.faults.items) }
     {
         self.faults.push(Fault {
@@ -75,14 +76,14 @@ impl World {
         // requires { self.old.allocator.asked ≡ 0 }
         // ensures flushed { self.new.allocator.asked ≡ 0 }
         // ensures ok { OnOk result (applied self.new applying.new.faults.items
-            // ≡ after_queues 0 queues.now (applied self.old applying.old.faults.items)) }
+        //     ≡ after_queues 0 queues.now (applied self.old applying.old.faults.items)) }
         // ensures err { IfErr result (λ stop. applied self.new applying.new.faults.items
-            // ≡ after_queues 0 (cut stop.at.system stop.at.command stop.done queues.now)
-            // (applied self.old applying.old.faults.items)) }
+        //     ≡ after_queues 0 (cut stop.at.system stop.at.command stop.done queues.now)
+        //     (applied self.old applying.old.faults.items)) }
         // ensures stop { IfErr result (λ stop.
-            // IsStop stop.at.system stop.at.command stop.done queues.now) }
+        //     IsStop stop.at.system stop.at.command stop.done queues.now) }
         // ensures memory { IfErr result (λ stop.
-            // TakesMemoryAt self.new stop.at.system stop.at.command stop.done queues.now) }
+        //     TakesMemoryAt self.new stop.at.system stop.at.command stop.done queues.now) }
     {
         self.apply_queues(Stop::before(0), queues, applying)
     }
@@ -99,18 +100,18 @@ impl World {
         // requires from { from.done ≡ 0 ⊎ IsStop from.at.system from.at.command from.done queues.now }
         // ensures flushed { self.new.allocator.asked ≡ 0 }
         // ensures ok { OnOk result (applied self.new applying.new.faults.items
-            // ≡ after_left from.at.system from.at.command from.done queues.now
-            // (applied self.old applying.old.faults.items)) }
+        //     ≡ after_left from.at.system from.at.command from.done queues.now
+        //     (applied self.old applying.old.faults.items)) }
         // ensures err { IfErr result (λ stop. applied self.new applying.new.faults.items
-            // ≡ after_left from.at.system from.at.command from.done
-            // (cut stop.at.system stop.at.command stop.done queues.now)
-            // (applied self.old applying.old.faults.items)) }
+        //     ≡ after_left from.at.system from.at.command from.done
+        //     (cut stop.at.system stop.at.command stop.done queues.now)
+        //     (applied self.old applying.old.faults.items)) }
         // ensures stop { IfErr result (λ stop.
-            // IsStop stop.at.system stop.at.command stop.done queues.now) }
+        //     IsStop stop.at.system stop.at.command stop.done queues.now) }
         // ensures later { IfErr result (λ stop. IsLater from.at.system from.at.command from.done
-            // stop.at.system stop.at.command stop.done) }
+        //     stop.at.system stop.at.command stop.done) }
         // ensures memory { IfErr result (λ stop.
-            // TakesMemoryAt self.new stop.at.system stop.at.command stop.done queues.now) }
+        //     TakesMemoryAt self.new stop.at.system stop.at.command stop.done queues.now) }
     {
         for (system, queue) in queues.iter().enumerate() {
             if system < from.at.system {
@@ -133,20 +134,20 @@ impl World {
         // requires from { from.done ≡ 0 ⊎ from.done < stops (drop from.at.command queue.now) }
         // ensures flushed { self.new.allocator.asked ≡ 0 }
         // ensures ok { OnOk result (applied self.new applying.new.faults.items
-            // ≡ after_commands from.at.system from.at.command
-            // (left_commands from.at.command from.done queue.now)
-            // (applied self.old applying.old.faults.items)) }
+        //     ≡ after_commands from.at.system from.at.command
+        //     (left_commands from.at.command from.done queue.now)
+        //     (applied self.old applying.old.faults.items)) }
         // ensures err { IfErr result (λ stop. applied self.new applying.new.faults.items
-            // ≡ after_commands from.at.system from.at.command (left_commands from.at.command from.done
-            // (cut_commands stop.at.command stop.done queue.now))
-            // (applied self.old applying.old.faults.items)) }
+        //     ≡ after_commands from.at.system from.at.command (left_commands from.at.command from.done
+        //     (cut_commands stop.at.command stop.done queue.now))
+        //     (applied self.old applying.old.faults.items)) }
         // ensures at { IfErr result (λ stop. stop.at.system ≡ from.at.system) }
         // ensures stop { IfErr result (λ stop.
-            // stop.done < stops (drop stop.at.command queue.now)) }
+        //     stop.done < stops (drop stop.at.command queue.now)) }
         // ensures later { IfErr result (λ stop.
-            // IsLaterIn from.at.command from.done stop.at.command stop.done) }
+        //     IsLaterIn from.at.command from.done stop.at.command stop.done) }
         // ensures memory { IfErr result (λ stop.
-            // TakesMemoryIn self.new stop.at.command stop.done queue.now) }
+        //     TakesMemoryIn self.new stop.at.command stop.done queue.now) }
     {
         let mut entries = queue.entries();
         for command in 0..queue.len() {
@@ -173,18 +174,18 @@ impl World {
         // requires from { from.done < stops (command_of entry ∷ []) }
         // ensures flushed { self.new.allocator.asked ≡ 0 }
         // ensures ok { OnOk result (applied self.new applying.new.faults.items
-            // ≡ after_commands from.at.system from.at.command
-            // (last_part from.done (command_of entry.entry ∷ []))
-            // (applied self.old applying.old.faults.items)) }
+        //     ≡ after_commands from.at.system from.at.command
+        //     (last_part from.done (command_of entry.entry ∷ []))
+        //     (applied self.old applying.old.faults.items)) }
         // ensures err { IfErr result (λ stop. applied self.new applying.new.faults.items
-            // ≡ after_commands from.at.system from.at.command
-            // (last_part from.done (first_part stop.done (command_of entry.entry ∷ [])))
-            // (applied self.old applying.old.faults.items)) }
+        //     ≡ after_commands from.at.system from.at.command
+        //     (last_part from.done (first_part stop.done (command_of entry.entry ∷ [])))
+        //     (applied self.old applying.old.faults.items)) }
         // ensures at { IfErr result (λ stop. stop.at ≡ from.at) }
         // ensures later { IfErr result (λ stop. from.done ≤ stop.done) }
         // ensures stop { IfErr result (λ stop. stop.done < stops (command_of entry.entry ∷ [])) }
         // ensures memory { IfErr result (λ stop.
-            // command_takes_memory self.new stop.done (command_of entry.entry) ≡ true) }
+        //     command_takes_memory self.new stop.done (command_of entry.entry) ≡ true) }
     {
         let at = from.at;
         match entry {
@@ -216,18 +217,18 @@ impl World {
         // requires from { from.done < max 1 (length handles) }
         // ensures flushed { self.new.allocator.asked ≡ 0 }
         // ensures ok { OnOk result (applied self.new applying.new.faults.items
-            // ≡ on_each from.at.system from.at.command (after_insert bundle.entry)
-            // (drop from.done handles.entry)
-            // (applied self.old applying.old.faults.items)) }
+        //     ≡ on_each from.at.system from.at.command (after_insert bundle.entry)
+        //     (drop from.done handles.entry)
+        //     (applied self.old applying.old.faults.items)) }
         // ensures err { IfErr result (λ stop. applied self.new applying.new.faults.items
-            // ≡ on_each from.at.system from.at.command (after_insert bundle.entry)
-            // (drop from.done (take stop.done handles.entry))
-            // (applied self.old applying.old.faults.items)) }
+        //     ≡ on_each from.at.system from.at.command (after_insert bundle.entry)
+        //     (drop from.done (take stop.done handles.entry))
+        //     (applied self.old applying.old.faults.items)) }
         // ensures at { IfErr result (λ stop. stop.at ≡ from.at) }
         // ensures later { IfErr result (λ stop. from.done ≤ stop.done) }
         // ensures stop { IfErr result (λ stop. stop.done < max 1 (length handles.entry)) }
         // ensures memory { IfErr result (λ stop. one_takes_memory self.new bundle.entry
-            // (slice_get handles.entry stop.done) ≡ true) }
+        //     (slice_get handles.entry stop.done) ≡ true) }
     {
         if handles.is_empty() {
             return Ok(());
@@ -263,12 +264,12 @@ impl World {
         // ensures flushed { self.new.allocator.asked ≡ 0 }
         // ensures items { applying.new.items.items ≡ applying.old.items.items }
         // ensures ok { OnOk result (applied self.new applying.new.faults.items
-            // ≡ on_entity at.system at.command (after_insert applying.old.items.items) handle
-            // (applied self.old applying.old.faults.items)) }
+        //     ≡ on_entity at.system at.command (after_insert applying.old.items.items) handle
+        //     (applied self.old applying.old.faults.items)) }
         // ensures err { OnErr result (applied self.new applying.new.faults.items
-            // ≡ applied self.old applying.old.faults.items) }
+        //     ≡ applied self.old applying.old.faults.items) }
         // ensures memory { OnErr result
-            // (insert_takes_memory self.new applying.old.items.items handle ≡ true) }
+        //     (insert_takes_memory self.new applying.old.items.items handle ≡ true) }
     {
         let Some(place) = place_of(&self.entities, handle) else {
             return applying.add_fault(at, FaultKind::NotAlive(handle));
@@ -287,10 +288,10 @@ impl World {
         // requires { self.old.allocator.asked ≡ 0 }
         // ensures flushed { self.new.allocator.asked ≡ 0 }
         // ensures ok { OnOk result (applied self.new applying.new.faults.items
-            // ≡ on_entity at.system at.command (after_remove id) handle
-            // (applied self.old applying.old.faults.items)) }
+        //     ≡ on_entity at.system at.command (after_remove id) handle
+        //     (applied self.old applying.old.faults.items)) }
         // ensures err { OnErr result (applied self.new applying.new.faults.items
-            // ≡ applied self.old applying.old.faults.items) }
+        //     ≡ applied self.old applying.old.faults.items) }
         // ensures memory { OnErr result (lives_in self.new handle ≡ false) }
     {
         let Some(place) = place_of(&self.entities, handle) else {
@@ -310,10 +311,10 @@ impl World {
         // requires { self.old.allocator.asked ≡ 0 }
         // ensures flushed { self.new.allocator.asked ≡ 0 }
         // ensures ok { OnOk result (applied self.new applying.new.faults.items
-            // ≡ on_entity at.system at.command after_despawn handle
-            // (applied self.old applying.old.faults.items)) }
+        //     ≡ on_entity at.system at.command after_despawn handle
+        //     (applied self.old applying.old.faults.items)) }
         // ensures err { OnErr result (applied self.new applying.new.faults.items
-            // ≡ applied self.old applying.old.faults.items) }
+        //     ≡ applied self.old applying.old.faults.items) }
         // ensures memory { OnErr result (despawn_takes_memory self.new handle ≡ true) }
     {
         if !self.contains(handle) {

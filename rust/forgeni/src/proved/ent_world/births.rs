@@ -1,4 +1,5 @@
-// Made from crates/ent_world/src/births.rt by rust/erase. Not edited by hand.
+// Made of crates/ent_world/src/births.rt by rust/erase. It isn't edited by hand.
+
 //! What a flush brings to life enters the storage, each entity with its birth.
 //!
 //! All enter in the order of the flush, so that nothing moves: fresh slots come after all others,
@@ -22,7 +23,7 @@ pub(super) fn enter_all(storage: &mut Storage, phase: u64, handles: &[Handle])
     // requires new { AreNew handles.now storage.old.entities }
     // requires room { length handles.now ≤ storage.old.spare }
     // ensures entered { storage.new.entities ≡ with_born
-        // storage.old.entities (λ _. first_birth phase no_system) handles.now }
+    //     storage.old.entities (λ _. first_birth phase no_system) handles.now }
     // ensures places { storage.new.places ≡ storage.old.places ++ handles.now }
 {
     let birth = first_birth(phase, NO_SYSTEM);
@@ -44,7 +45,7 @@ pub(super) fn name_listed(
     // requires rows { ArePlaces entities.now.rows storage.old.places }
     // requires few { length queues.now ≤ 2 ^ 16 }
     // ensures named { storage.new.entities ≡ named_queues
-        // (drop before storage.old.places) phase 0 queues.now storage.old.entities }
+    //     (drop before storage.old.places) phase 0 queues.now storage.old.entities }
     // ensures places { storage.new.places ≡ storage.old.places }
 {
     for (system, queue) in queues.iter().enumerate() {
@@ -58,7 +59,7 @@ pub(super) fn name_listed(
 pub(super) fn number_others(storage: &mut Storage, before: usize, phase: u64, handles: &[Handle])
     // requires { drop before storage.old.places ≡ handles.now }
     // ensures numbered { storage.new.entities ≡ numbered
-        // (first_birth phase no_system) handles.now storage.old.entities }
+    //     (first_birth phase no_system) handles.now storage.old.entities }
     // ensures places { storage.new.places ≡ storage.old.places }
 {
     let mut birth = first_birth(phase, NO_SYSTEM);
@@ -82,7 +83,7 @@ fn name_queue(
 )
     // requires { ArePlaces entities.now.rows storage.old.places }
     // ensures named { storage.new.entities ≡ named_handles
-        // (drop before storage.old.places) first (handles_listed queue.now) storage.old.entities }
+    //     (drop before storage.old.places) first (handles_listed queue.now) storage.old.entities }
     // ensures places { storage.new.places ≡ storage.old.places }
 {
     let mut next = first;
@@ -102,7 +103,7 @@ fn name_entry(
 ) -> Birth
     // requires { ArePlaces entities.now.rows storage.old.places }
     // ensures named { storage.new.entities ≡ named_handles (drop before storage.old.places)
-        // birth (listed_by (command_of entry.entry)) storage.old.entities }
+    //     birth (listed_by (command_of entry.entry)) storage.old.entities }
     // ensures places { storage.new.places ≡ storage.old.places }
     // ensures next { result ≡ birth_after birth (listed_by (command_of entry.entry)) }
 {
@@ -129,7 +130,7 @@ fn name_handles(
 ) -> Birth
     // requires { ArePlaces entities.now.rows storage.old.places }
     // ensures named { storage.new.entities ≡ named_handles
-        // (drop before storage.old.places) first handles.entry storage.old.entities }
+    //     (drop before storage.old.places) first handles.entry storage.old.entities }
     // ensures places { storage.new.places ≡ storage.old.places }
     // ensures next { result ≡ birth_after first handles.entry }
 {
@@ -146,7 +147,7 @@ fn name_handles(
 fn name(entities: &Entities, storage: &mut Storage, before: usize, handle: Handle, birth: Birth)
     // requires { ArePlaces entities.now.rows storage.old.places }
     // ensures named { storage.new.entities ≡ named
-        // (drop before storage.old.places) handle birth storage.old.entities }
+    //     (drop before storage.old.places) handle birth storage.old.entities }
     // ensures places { storage.new.places ≡ storage.old.places }
 {
     let Some(place) = place_of(entities, handle) else {

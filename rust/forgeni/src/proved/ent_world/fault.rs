@@ -1,4 +1,5 @@
-// Made from crates/ent_world/src/fault.rt by rust/erase. Not edited by hand.
+// Made of crates/ent_world/src/fault.rt by rust/erase. It isn't edited by hand.
+
 use crate::kit::vec::Vec;
 use crate::proved::ent_handle::Handle;
 

@@ -1,4 +1,5 @@
-// Made from crates/ent_world/src/lib.rt by rust/erase. Not edited by hand.
+// Made of crates/ent_world/src/lib.rt by rust/erase. It isn't edited by hand.
+
 //! Worlds: who is alive and what each entity is made of, and the sync point at which the commands
 //! of all systems take effect.
 

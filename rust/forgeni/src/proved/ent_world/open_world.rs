@@ -1,4 +1,5 @@
-// Made from crates/ent_world/src/open_world.rt by rust/erase. Not edited by hand.
+// Made of crates/ent_world/src/open_world.rt by rust/erase. It isn't edited by hand.
+
 use crate::kit::vec::Vec;
 use crate::proved::ent_world::view::View;
 use crate::proved::ent_world::world::World;
@@ -18,10 +19,10 @@ impl OpenWorld {
     #[inline]
     pub(super) fn new(alloc: Global, shared: Shared, storage: Storage, phase: u64) -> Self
         // requires world { IsOpenWorld
-            // (record { shared = shared; phase = phase; entities = storage.entities }) }
+        //     (record { shared = shared; phase = phase; entities = storage.entities }) }
         // requires rows { AreRows shared.rows storage.places storage.entities }
         // ensures { result
-            // ≡ record { shared = shared; phase = phase; entities = storage.entities } }
+        //     ≡ record { shared = shared; phase = phase; entities = storage.entities } }
     {
         OpenWorld {
             shared,
@@ -57,25 +58,29 @@ impl OpenWorld {
         // ensures phase { result.phase ≡ self.phase }
         // ensures entities { result.entities ≡ self.entities }
         // ensures world { IsWorld result }
+
         // All reservations stand in one history that is legal and respects every reserver.
         // ensures legal { IsLegal self.shared.start (history_of (records_of reservers.items)) }
         // ensures respects { let records = records_of reservers.items in
-            // All (Respects (reservations_of records)) records }
+        //     All (Respects (reservations_of records)) records }
         // ensures after { result.allocator
-            // ≡ after_history self.shared.start (history_of (records_of reservers.items)) }
+        //     ≡ after_history self.shared.start (history_of (records_of reservers.items)) }
+
         // Each reservation stands once, where its step came: the cursor falls with each.
         // ensures falls { AllPairs (λ earlier later. later.high <ℤ earlier.high)
-            // (reservations_of (records_of reservers.items)) }
+        //     (reservations_of (records_of reservers.items)) }
         // ensures numbers { AllPairs (λ r s. r.number ≢ s.number) (records_of reservers.items) }
+
         // No handle was given twice, and none was alive.
         // ensures distinct { AllPairs (λ g h. g ≢ h)
-            // (given_in (history_of (records_of reservers.items))) }
+        //     (given_in (history_of (records_of reservers.items))) }
         // ensures not_live { All (λ h. ¬ (IsLive self.shared.start h))
-            // (given_in (history_of (records_of reservers.items))) }
+        //     (given_in (history_of (records_of reservers.items))) }
+
         // A flush brings to life exactly what was given.
         // ensures brings_to_life { let given = given_in (history_of (records_of reservers.items)) in
-            // (h : HandleValue) → IsLive (after_flush result.allocator) h
-            // ↔ (IsLive self.shared.start h ⊎ Contains given h) }
+        //     (h : HandleValue) → IsLive (after_flush result.allocator) h
+        //     ↔ (IsLive self.shared.start h ⊎ Contains given h) }
     {
         let OpenWorld {
             shared,
@@ -100,18 +105,21 @@ impl OpenWorld {
         // ensures entities { result.entities ≡ self.entities }
         // ensures world { IsWorld result }
         // ensures after { result.allocator ≡ after_loss self.shared.start result.allocator.asked }
+
         // It counts what the reservers that are here have requested, and of the others no more than
         // their credit.
         // ensures least { sum_by (λ r. requested_by r.own) reservers.items ≤ result.allocator.asked }
         // ensures most { sum_by (λ r. r.own.left) reservers.items + result.allocator.asked
-            // ≤ self.shared.count * credit }
+        //     ≤ self.shared.count * credit }
         // ensures reached { All (λ r. cursor result.allocator ≤ℤ r.own.mark) reservers.items }
+
         // If all are here, the cursor is where `close` leaves it.
         // ensures whole { length reservers.items ≡ self.shared.count → cursor result.allocator
-            // ≡ cursor (after_history self.shared.start (history_of (records_of reservers.items))) }
+        //     ≡ cursor (after_history self.shared.start (history_of (records_of reservers.items))) }
+
         // What the reservers that are here were given is reserved.
         // ensures given { All (λ r. All (Contains result.allocator.taken) (handles_given r.own))
-            // reservers.items }
+        //     reservers.items }
     {
         let OpenWorld {
             shared,

@@ -1,4 +1,5 @@
-// Made from crates/ent_world/src/rows.rt by rust/erase. Not edited by hand.
+// Made of crates/ent_world/src/rows.rt by rust/erase. It isn't edited by hand.
+
 //! The rows of a world's entities. The allocator keeps with each living handle the entity's place
 //! in the storage, so that a look-up is one look at the handle's slot.
 

@@ -1,4 +1,5 @@
-// Made from crates/ent_world/src/spawning.rt by rust/erase. Not edited by hand.
+// Made of crates/ent_world/src/spawning.rt by rust/erase. It isn't edited by hand.
+
 //! What one spawn needs: the handle that the allocator gives next, and an entity that is made whole
 //! or not at all.
 
@@ -14,7 +15,7 @@ pub(super) fn next_handle(entities: &Entities) -> Result<Handle, AllocFault>
     // ensures flushed { OnOk result (entities.now.allocator.asked ≡ 0) }
     // ensures needs_flush { IsErrOf result AllocFault.NeedsFlush ↔ (0 < entities.now.allocator.asked) }
     // ensures space { IsErrOf result AllocFault.Space
-        // ↔ ((entities.now.allocator.asked ≡ 0) × (entities.now.allocator.pool ≡ [])) }
+    //     ↔ ((entities.now.allocator.asked ≡ 0) × (entities.now.allocator.pool ≡ [])) }
 {
     let top = i64::from(entities.top());
     if entities.cursor() != top {
@@ -42,7 +43,7 @@ pub(super) fn make(
     // requires new { map.get storage.old.entities handle ≡ None }
     // requires next { place ≡ length storage.old.places }
     // ensures ok { OnOk result (storage.new.entities
-        // ≡ map.insert storage.old.entities handle (spawned birth items.now)) }
+    //     ≡ map.insert storage.old.entities handle (spawned birth items.now)) }
     // ensures placed { OnOk result (storage.new.places ≡ storage.old.places ++ handle ∷ []) }
     // ensures err { OnErr result (storage.new.entities ≡ storage.old.entities) }
     // ensures unplaced { OnErr result (storage.new.places ≡ storage.old.places) }

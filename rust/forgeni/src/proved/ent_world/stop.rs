@@ -1,4 +1,5 @@
-// Made from crates/ent_world/src/stop.rt by rust/erase. Not edited by hand.
+// Made of crates/ent_world/src/stop.rt by rust/erase. It isn't edited by hand.
+
 //! Where a sync point stops, and where it goes on.
 
 use crate::proved::ent_world::fault::{SyncFault, SyncReport};
@@ -49,7 +50,7 @@ impl Stop {
         // ensures system { self.at.system ≤ system → result.at.system ≡ system }
         // ensures first { system ≡ self.at.system → result ≡ self }
         // ensures later { self.at.system < system
-            // → result ≡ record { at = record { system = system; command = 0 }; done = 0 } }
+        //     → result ≡ record { at = record { system = system; command = 0 }; done = 0 } }
     {
         if system == self.at.system {
             self

@@ -1,4 +1,5 @@
-// Made from crates/ent_world/src/sync.rt by rust/erase. Not edited by hand.
+// Made of crates/ent_world/src/sync.rt by rust/erase. It isn't edited by hand.
+
 //! The sync point of a world: what was reserved comes to life, and then the queues take effect.
 
 use crate::kit::vec::Vec;
@@ -32,24 +33,26 @@ impl World {
         // ensures ok { OnOk result (self.new ≡ (sync queues.now self.old).world) }
         // ensures born { IfOk result (λ report. report.born.items ≡ born self.old.allocator) }
         // ensures faults { IfOk result (λ report.
-            // report.faults.items ≡ (sync queues.now self.old).faults) }
+        //     report.faults.items ≡ (sync queues.now self.old).faults) }
         // ensures flushed { OnOk result (self.new.allocator.asked ≡ 0) }
         // ensures world { IsWorld self.new }
+
         // ensures flush_memory { IsErrOf result SyncFault.FlushMemory → self.new ≡ self.old }
         // ensures flush_reserved { IsErrOf result SyncFault.FlushMemory
-            // → 0 < length self.old.allocator.taken }
+        //     → 0 < length self.old.allocator.taken }
+
         // What stands after it stopped at a command.
         // ensures stop { IfStopped result (λ system command done _.
-            // IsStop system command done queues.now) }
+        //     IsStop system command done queues.now) }
         // ensures stopped_world { IfStopped result (λ system command done _.
-            // self.new ≡ (sync_until system command done queues.now self.old).world) }
+        //     self.new ≡ (sync_until system command done queues.now self.old).world) }
         // ensures stopped_flushed { IfStopped result (λ _ _ _ _. self.new.allocator.asked ≡ 0) }
         // ensures stopped_born { IfStopped result (λ _ _ _ so_far.
-            // so_far.born.items ≡ born self.old.allocator) }
+        //     so_far.born.items ≡ born self.old.allocator) }
         // ensures stopped_faults { IfStopped result (λ system command done so_far.
-            // so_far.faults.items ≡ (sync_until system command done queues.now self.old).faults) }
+        //     so_far.faults.items ≡ (sync_until system command done queues.now self.old).faults) }
         // ensures stopped_memory { IfStopped result (λ system command done _.
-            // TakesMemoryAt self.new system command done queues.now) }
+        //     TakesMemoryAt self.new system command done queues.now) }
     {
         let Ok(born) = self.bring_to_life(queues) else {
             return Err(SyncFault::FlushMemory);
@@ -85,41 +88,43 @@ impl World {
         // requires flushed { self.old.allocator.asked ≡ 0 }
         // requires stop { IsStop system command done queues.now }
         // ensures ok { OnOk result (self.new
-            // ≡ (after_left system command done queues.now (applied self.old [])).world) }
+        //     ≡ (after_left system command done queues.now (applied self.old [])).world) }
         // ensures born { IfOk result (λ report. report.born.items ≡ []) }
         // ensures faults { IfOk result (λ report. report.faults.items
-            // ≡ (after_left system command done queues.now (applied self.old [])).faults) }
+        //     ≡ (after_left system command done queues.now (applied self.old [])).faults) }
         // ensures flushed { self.new.allocator.asked ≡ 0 }
         // ensures world { IsWorld self.new }
+
         // What stands after it stopped again.
         // ensures no_flush { IsErrOf result SyncFault.FlushMemory → ⊥ }
         // ensures stop { IfStopped result (λ later later_command later_done _.
-            // IsStop later later_command later_done queues.now) }
+        //     IsStop later later_command later_done queues.now) }
         // ensures later { IfStopped result (λ later later_command later_done _.
-            // IsLater system command done later later_command later_done) }
+        //     IsLater system command done later later_command later_done) }
         // ensures stopped_world { IfStopped result (λ later later_command later_done _.
-            // self.new ≡ (after_left system command done
-            // (cut later later_command later_done queues.now) (applied self.old [])).world) }
+        //     self.new ≡ (after_left system command done
+        //     (cut later later_command later_done queues.now) (applied self.old [])).world) }
         // ensures stopped_born { IfStopped result (λ _ _ _ so_far. so_far.born.items ≡ []) }
         // ensures stopped_faults { IfStopped result (λ later later_command later_done so_far.
-            // so_far.faults.items ≡ (after_left system command done
-            // (cut later later_command later_done queues.now) (applied self.old [])).faults) }
+        //     so_far.faults.items ≡ (after_left system command done
+        //     (cut later later_command later_done queues.now) (applied self.old [])).faults) }
         // ensures stopped_memory { IfStopped result (λ later later_command later_done _.
-            // TakesMemoryAt self.new later later_command later_done queues.now) }
+        //     TakesMemoryAt self.new later later_command later_done queues.now) }
+
         // Who stopped there in the sync point of a world has now done the whole of it, or stopped
         // again in that sync point. The faults of all reports are its faults.
         // ensures whole_world { (before : WorldValue) (earlier : List FaultValue)
-            // → HasStoppedSo system command done queues.now before self.old earlier
-            // → OnOk result (self.new ≡ (sync queues.now before).world) }
+        //     → HasStoppedSo system command done queues.now before self.old earlier
+        //     → OnOk result (self.new ≡ (sync queues.now before).world) }
         // ensures whole_faults { (before : WorldValue) (earlier : List FaultValue)
-            // → HasStoppedSo system command done queues.now before self.old earlier
-            // → IfOk result (λ report.
-            // earlier ++ report.faults.items ≡ (sync queues.now before).faults) }
+        //     → HasStoppedSo system command done queues.now before self.old earlier
+        //     → IfOk result (λ report.
+        //     earlier ++ report.faults.items ≡ (sync queues.now before).faults) }
         // ensures whole_later { (before : WorldValue) (earlier : List FaultValue)
-            // → HasStoppedSo system command done queues.now before self.old earlier
-            // → IfStopped result (λ later later_command later_done so_far.
-            // HasStoppedSo later later_command later_done queues.now before self.new
-            // (earlier ++ so_far.faults.items)) }
+        //     → HasStoppedSo system command done queues.now before self.old earlier
+        //     → IfStopped result (λ later later_command later_done so_far.
+        //     HasStoppedSo later later_command later_done queues.now before self.new
+        //     (earlier ++ so_far.faults.items)) }
     {
         let from = Stop {
             at: At { system, command },

@@ -1,4 +1,5 @@
-// Made from crates/ent_world/src/view.rt by rust/erase. Not edited by hand.
+// Made of crates/ent_world/src/view.rt by rust/erase. It isn't edited by hand.
+
 use crate::kit::vec::Vec;
 use crate::proved::ent_handle::{Birth, ComponentId, Handle, Memory};
 use crate::proved::ent_storage::Storage;
@@ -45,10 +46,12 @@ impl<'a> View<'a> {
     ///
     /// # Errors
     ///
-    /// `Memory`: there is no memory for the list.
+    /// `Memory`: there is no memory for the list. It never comes if no entity has the component.
     #[inline]
     pub fn with(&self, id: ComponentId) -> Result<Vec<Handle>, Memory>
-        // ensures { IfOk result (λ handles. ListsWith id self.now.entities handles.items) }
+        // ensures ok { IfOk result (λ handles. ListsWith id self.now.entities handles.items) }
+        // ensures memory { OnErr result
+        //     ((handle : HandleValue) × IsSome (value_of self.now.entities handle id)) }
     {
         self.storage.with(id)
     }
@@ -57,10 +60,11 @@ impl<'a> View<'a> {
     ///
     /// # Errors
     ///
-    /// `Memory`: there is no memory for the list.
+    /// `Memory`: there is no memory for the list. It never comes if there are no entities.
     #[inline]
     pub fn by_birth(&self) -> Result<Vec<Handle>, Memory>
-        // ensures { IfOk result (λ handles. ListsAll self.now.entities handles.items) }
+        // ensures ok { IfOk result (λ handles. ListsAll self.now.entities handles.items) }
+        // ensures memory { OnErr result (self.now.entities ≢ map.empty) }
     {
         self.storage.by_birth()
     }
@@ -72,12 +76,12 @@ impl<'a> View<'a> {
     #[inline]
     pub fn of_birth(&self, birth: Birth) -> Option<Handle>
         // ensures found { IfSome result (λ handle.
-            // birth_of self.now.entities handle ≡ Some birth) }
+        //     birth_of self.now.entities handle ≡ Some birth) }
         // ensures least { IfSome result (λ handle. (other : HandleValue)
-            // → birth_of self.now.entities other ≡ Some birth
-            // → handle_cmp handle other ≢ Greater) }
+        //     → birth_of self.now.entities other ≡ Some birth
+        //     → handle_cmp handle other ≢ Greater) }
         // ensures none { IfNone result ((handle : HandleValue)
-            // → birth_of self.now.entities handle ≢ Some birth) }
+        //     → birth_of self.now.entities handle ≢ Some birth) }
     {
         self.storage.of_birth(birth)
     }

@@ -1,6 +1,7 @@
-// Made from crates/ent_world/src/world.rt by rust/erase. Not edited by hand.
-use crate::kit::vec::Vec;
+// Made of crates/ent_world/src/world.rt by rust/erase. It isn't edited by hand.
+
 use crate::kit::prove_eq;
+use crate::kit::vec::Vec;
 use crate::proved::ent_world::open_world::OpenWorld;
 use crate::proved::ent_world::rows::place_of;
 use crate::proved::ent_world::spawning::{make, next_handle};
@@ -44,6 +45,7 @@ impl World {
     #[inline]
     pub fn len(&self) -> usize
         // ensures value { result ≡ map.len self.now.entities }
+
         // A part of what is true of every world, for who was lent one.
         // ensures living { AreLiving self.now.allocator self.now.entities }
     {
@@ -108,10 +110,11 @@ impl World {
     ///
     /// # Errors
     ///
-    /// `Memory`: there is no memory for the list.
+    /// `Memory`: there is no memory for the list. It never comes if there are no entities.
     #[inline]
     pub fn by_birth(&self) -> Result<Vec<Handle>, Memory>
-        // ensures { IfOk result (λ handles. ListsAll self.now.entities handles.items) }
+        // ensures ok { IfOk result (λ handles. ListsAll self.now.entities handles.items) }
+        // ensures memory { OnErr result (self.now.entities ≢ map.empty) }
     {
         self.storage.by_birth()
     }
@@ -165,13 +168,13 @@ impl World {
     #[inline]
     pub fn spawn(&mut self, birth: Birth, bundle: &Bundle) -> Result<Handle, AllocFault>
         // ensures front { IfOk result (λ handle.
-            // slice_get self.old.allocator.pool 0 ≡ Some handle) }
+        //     slice_get self.old.allocator.pool 0 ≡ Some handle) }
         // ensures ok { IfOk result (λ handle.
-            // self.new ≡ after_spawn birth bundle.now handle self.old) }
+        //     self.new ≡ after_spawn birth bundle.now handle self.old) }
         // ensures needs_flush { IsErrOf result AllocFault.NeedsFlush
-            // ↔ (0 < self.old.allocator.asked) }
+        //     ↔ (0 < self.old.allocator.asked) }
         // ensures space { IsErrOf result AllocFault.Space
-            // ↔ ((self.old.allocator.asked ≡ 0) × (self.old.allocator.pool ≡ [])) }
+        //     ↔ ((self.old.allocator.asked ≡ 0) × (self.old.allocator.pool ≡ [])) }
         // ensures err { OnErr result (self.new ≡ self.old) }
         // ensures world { IsWorld self.new }
     {
@@ -205,9 +208,9 @@ impl World {
         // ensures lived { OnOk result (lives_in self.old handle ≡ true) }
         // ensures needs_flush { IsErrOf result FreeFault.NeedsFlush ↔ (0 < self.old.allocator.asked) }
         // ensures not_alive { IsErrOf result FreeFault.NotAlive
-            // ↔ ((self.old.allocator.asked ≡ 0) × (lives_in self.old handle ≡ false)) }
+        //     ↔ ((self.old.allocator.asked ≡ 0) × (lives_in self.old handle ≡ false)) }
         // ensures memory { IsErrOf result FreeFault.Memory
-            // → handle.generation ≢ self.old.allocator.limits.generations }
+        //     → handle.generation ≢ self.old.allocator.limits.generations }
         // ensures err { OnErr result (self.new ≡ self.old) }
         // ensures world { IsWorld self.new }
     {
@@ -232,14 +235,14 @@ impl World {
         // requires some { 0 < n }
         // requires few { n ≤ 1024 }
         // ensures shared { IfOk result (λ made.
-            // (made.0.shared.start ≡ self.allocator) × (made.0.shared.count ≡ n)) }
+        //     (made.0.shared.start ≡ self.allocator) × (made.0.shared.count ≡ n)) }
         // ensures sound { IfOk result (λ made. IsSound made.0.shared.start) }
         // ensures living { IfOk result (λ made. AreLiving made.0.shared.start made.0.entities) }
         // ensures phase { IfOk result (λ made. made.0.phase ≡ self.phase) }
         // ensures entities { IfOk result (λ made. made.0.entities ≡ self.entities) }
         // ensures count { IfOk result (λ made. length made.1.items ≡ n) }
         // ensures reservers { IfOk result (λ made.
-            // records_of made.1.items ≡ opened_records self.allocator 0 n) }
+        //     records_of made.1.items ≡ opened_records self.allocator 0 n) }
         // ensures unused { IfOk result (λ made. All (λ r. r.own.entries ≡ []) made.1.items) }
         // ensures own { IfOk result (λ made. All (IsOf made.0.shared) made.1.items) }
         // ensures err { IfErr result (λ refused. refused.0 ≡ self) }
