@@ -90,7 +90,8 @@ pub fn run_frame<S: System>(
     guarded.extend(systems.iter().map(Guarded::new));
     let (threads, world) = (&StdThreads, &mut world.proved);
     let ran = ent_total::run_frame(threads, Global, world, &guarded, workers, &NoGate);
-    if let Some(panic) = guarded.into_iter().find_map(Guarded::panic) {
+    let panic = guarded.into_iter().find_map(Guarded::panic);
+    if let Some(panic) = panic {
         resume_unwind(panic);
     }
     Ok(Report::of(ran?))

@@ -30,8 +30,8 @@ type Caller = ent_total::Caller<Numbers>;
 /// ```
 pub struct Shared {
     proved: Phase,
-    /// Room for all callers on their way home, so that a close takes no memory.
-    room: List<Caller>,
+    /// Room for the callers on their way home, so that a close takes no memory.
+    room: Vec<Caller>,
     _unsync: Unsync,
 }
 
@@ -57,10 +57,11 @@ impl Shared {
     }
 
     /// A list for the reservers, and room for their way home.
-    fn rooms(callers: usize) -> Result<(Vec<Reserver>, List<Caller>), OutOfMemory> {
-        let mut reservers = Vec::new();
+    fn rooms(callers: usize) -> Result<(Vec<Reserver>, Vec<Caller>), OutOfMemory> {
+        let (mut reservers, mut room) = (Vec::new(), Vec::new());
         reservers.try_reserve_exact(callers)?;
-        Ok((reservers, List::with_capacity(Global, callers)?))
+        room.try_reserve_exact(callers)?;
+        Ok((reservers, room))
     }
 
     /// Gives out all reservers, in the order of their numbers, into a list with room for them.
@@ -103,11 +104,11 @@ impl Shared {
         self.proved.at_home()
     }
 
-    /// One of the reservers that are at home, or `None` if none is.
+    /// One of the reservers that are at home, or `None` if none is. It takes no memory.
     ///
     /// # Errors
     ///
-    /// `OutOfMemory`, and then nothing has changed.
+    /// `OutOfMemory` if the phase can't count one more owner, and then nothing has changed.
     pub fn reserver(&mut self) -> Result<Option<Reserver>, OutOfMemory> {
         Ok(self.proved.caller()?.map(Reserver::of))
     }
@@ -124,7 +125,8 @@ impl Shared {
     ///
     /// # Errors
     ///
-    /// [`Unclosed`] says why, and has the `Shared` and the reservers.
+    /// [`Unclosed`] says why, and has the `Shared` and the reservers. It takes no memory, unless a
+    /// close before was refused with [`InUse`](CloseError::InUse): then it may end as `Vec` does.
     pub fn close(self, reservers: Vec<Reserver>) -> Result<Entities, Unclosed> {
         self.end(reservers, Phase::close)
     }
@@ -150,7 +152,7 @@ impl Shared {
         mut reservers: Vec<Reserver>,
         close: fn(Phase, List<Caller>) -> Result<ent_alloc::Entities, ent_total::Unclosed<Numbers>>,
     ) -> Result<Entities, Unclosed> {
-        // There is room for all of this phase alone.
+        // There is room for those of this phase alone.
         if !reservers.iter().all(|one| one.is_of(&self)) {
             return Err(Unclosed {
                 shared: self,
@@ -159,10 +161,8 @@ impl Shared {
             });
         }
         let mut callers = self.room;
-        for one in reservers.drain(..) {
-            callers.push_reserved(one.proved);
-        }
-        match close(self.proved, callers) {
+        callers.extend(reservers.drain(..).map(|one| one.proved));
+        match close(self.proved, callers.into()) {
             Ok(entities) => Ok(Entities::of(entities)),
             Err(refused) => Err(Self::unclosed(refused, reservers)),
         }
@@ -170,11 +170,11 @@ impl Shared {
 
     /// The phase goes on, and the reservers are handed back in the list in which they came.
     fn unclosed(refused: ent_total::Unclosed<Numbers>, mut reservers: Vec<Reserver>) -> Unclosed {
-        let mut room = refused.callers;
-        while let Some(caller) = room.pop() {
-            reservers.push(Reserver::of(caller));
-        }
-        reservers.reverse();
+        let mut room: Vec<Caller> = refused.callers.into();
+        reservers.extend(room.drain(..).map(Reserver::of));
+        // The room is gone with those that are at home now. Where there is none, the next close asks
+        // again.
+        let _ = room.try_reserve_exact(refused.phase.count());
         Unclosed {
             shared: Self {
                 proved: refused.phase,

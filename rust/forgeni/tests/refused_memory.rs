@@ -8,9 +8,10 @@ mod refusing;
 
 use common::handle;
 use forgeni::{
-    AllocError, Birth, BornError, CommandQueue, Commands, ComponentId, Entities, Fault,
-    FinishError, FreeError, GoOnError, Handle, InsertError, OpenError, OpenWorld, OutOfMemory,
-    Queues, Refused, Report, ShareError, SpawnError, State, Storage, SyncError, World,
+    run_frame, AllocError, Birth, BornError, CommandQueue, Commands, ComponentId, Entities, Fault,
+    FinishError, FrameError, FreeError, GoOnError, Handle, InsertError, OpenError, OpenWorld,
+    OutOfMemory, Queues, Refused, Report, ShareError, SpawnError, State, Storage, SyncError,
+    SystemCommands, View, World,
 };
 use refusing::{refusing, Refusal};
 
@@ -59,8 +60,10 @@ fn each_block_in_turn(attempt: impl FnMut(Refusal) -> usize) {
     in_turn(above, attempt);
 }
 
-/// Makes a call while memory is refused. If it was, the call must have said so, and is made again
-/// without a refusal. Returns what it did in the end, and how often it was refused.
+/// Makes a call while memory is refused. If it says so, it is made again without a refusal. Returns
+/// what it did in the end, and how often it was refused.
+///
+/// A call may do without memory that it was refused: a storage's index is one that may.
 fn insist<T, E: PartialEq + std::fmt::Debug>(
     refusal: Refusal,
     memory: E,
@@ -68,10 +71,7 @@ fn insist<T, E: PartialEq + std::fmt::Debug>(
 ) -> (T, usize) {
     let (done, refused) = refusing(refusal, &mut call);
     match done {
-        Ok(done) => {
-            assert_eq!(refused, 0, "it was refused and says nothing");
-            (done, 0)
-        }
+        Ok(done) => (done, refused),
         Err(error) => {
             assert_eq!(error, memory);
             assert!(refused > 0, "nothing was refused");
@@ -98,7 +98,10 @@ fn alloc_and_free() {
     each_in_turn(|refusal| {
         let mut entities = Entities::new();
         let (one, refused) = insist(refusal, AllocError::Memory, || entities.alloc());
-        assert_eq!((one, entities.len(), entities.total()), (handle(0, 1), 1, 1));
+        assert_eq!(
+            (one, entities.len(), entities.total()),
+            (handle(0, 1), 1, 1)
+        );
         refused
     });
     each_in_turn(|refusal| {
@@ -166,28 +169,32 @@ fn reserving_many() {
     });
 }
 
-/// No close of a phase of an allocator takes memory, not even one that is refused before.
+/// No close of a phase of an allocator takes memory, not even after one that was refused.
 #[test]
 fn closes_of_allocators_take_no_memory() {
     let (shared, mut reservers) = three().share(9).expect("shared");
     let away = reservers.pop().expect("nine");
     reservers[0].reserve().expect("a handle");
     let none = Refusal::All { after: 0 };
-    let ((shared, reservers), refused) = refusing(none, || {
-        let left = shared.close_lost(reservers).expect_err("one is in use");
-        let mut shared = left.shared;
-        let mut reservers = left.reservers;
-        while let Ok(Some(one)) = shared.reserver() {
-            // Its memory is that of the list before.
-            reservers.push(one);
-        }
-        let left = shared.close(reservers).expect_err("one is missing");
-        (left.shared, left.reservers)
-    });
-    assert_eq!((refused, reservers.len(), shared.at_home()), (0, 8, 0));
+    let (left, refused) = refusing(none, || shared.close(reservers).expect_err("missing"));
+    assert_eq!((refused, left.reservers.len()), (0, 8));
     drop(away);
-    let (entities, refused) = refusing(none, || shared.close_lost(reservers).expect("closed"));
+    let closed = || left.shared.close_lost(left.reservers).expect("closed");
+    let (entities, refused) = refusing(none, closed);
     assert_eq!((refused, entities.reserved()), (0, 1));
+}
+
+/// After a close that found one in use there may be no room for the others, until there is memory.
+#[test]
+fn a_close_after_one_in_use() {
+    let (shared, mut reservers) = three().share(9).expect("shared");
+    let away = reservers.pop().expect("nine");
+    let none = Refusal::All { after: 0 };
+    let (left, _) = refusing(none, || shared.close_lost(reservers).expect_err("in use"));
+    assert_eq!((left.reservers.len(), left.shared.at_home()), (0, 8));
+    let (shared, mut reservers) = (left.shared, vec![away]);
+    reservers[0].reserve().expect("a handle");
+    assert_eq!(shared.close(reservers).expect("closed").reserved(), 1);
 }
 
 #[test]
@@ -411,7 +418,7 @@ fn a_sync_point_goes_on_wherever_it_stopped() {
     each_in_turn(|refusal| {
         let (mut world_2, queues) = with_queues();
         let (done, refused) = refusing(refusal, || world_2.apply(queues));
-        assert_eq!(done.is_err(), refused > 0);
+        assert!(done.is_ok() || refused > 0);
         if let Err(SyncError::Stopped(stopped)) = &done {
             stops.push((stopped.system, stopped.command, stopped.done));
         }
@@ -420,26 +427,34 @@ fn a_sync_point_goes_on_wherever_it_stopped() {
         refused
     });
     // It stopped in the middle of the spawn of many too, and at a fault.
-    assert!(stops.iter().any(|stop| stop.0 == 0 && stop.2 > 0), "{stops:?}");
+    assert!(
+        stops.iter().any(|stop| stop.0 == 0 && stop.2 > 0),
+        "{stops:?}"
+    );
     assert!(stops.iter().any(|stop| stop.0 == 1), "{stops:?}");
 }
 
-/// It stops at its first request, and what goes on is refused in turn too.
+/// The refusal at which the sync point stops first.
+fn first_stop() -> Refusal {
+    (0..1_000)
+        .map(|after| Refusal::One { after })
+        .find(|refusal| {
+            let (mut world, queues) = with_queues();
+            let (done, _) = refusing(*refusal, || world.apply(queues));
+            matches!(done, Err(SyncError::Stopped(_)))
+        })
+        .expect("it stops")
+}
+
+/// It stops as early as it can, and what goes on is refused in turn too.
 #[test]
 fn what_goes_on_goes_on_again() {
     let (mut world, queues) = with_queues();
     let wanted = world.apply(queues).expect("memory").faults();
     let world = all(&world);
+    let first = first_stop();
     each_in_turn(|refusal| {
         let (mut again, queues) = with_queues();
-        let stopped = (0..)
-            .find_map(|after| {
-                let (mut other, queues) = with_queues();
-                let (done, _) = refusing(Refusal::One { after }, || other.apply(queues));
-                matches!(done, Err(SyncError::Stopped(_))).then_some(after)
-            })
-            .expect("a stop");
-        let first = Refusal::One { after: stopped };
         let (done, _) = refusing(first, || again.apply(queues));
         let Err(SyncError::Stopped(stopped)) = done else {
             panic!("it doesn't stop");
@@ -471,4 +486,119 @@ fn a_flush_of_a_world() {
         assert_eq!((world.len(), world.phase()), (12, 1));
         refused
     });
+}
+
+type Systems = [fn(View<'_>, &mut SystemCommands<'_, '_>) -> Result<(), OutOfMemory>; 3];
+
+fn launch(_: View<'_>, commands: &mut SystemCommands<'_, '_>) -> Result<(), OutOfMemory> {
+    commands
+        .spawn_many(4, &MANY)
+        .map_or_else(SpawnError::or_memory, |_| Ok(()))
+}
+
+fn change(view: View<'_>, commands: &mut SystemCommands<'_, '_>) -> Result<(), OutOfMemory> {
+    for one in view.with(HP)? {
+        commands.insert(one, &MANY[1..])?;
+        commands.remove(one, HP)?;
+    }
+    Ok(())
+}
+
+/// Twice, so that there are faults.
+fn clear(view: View<'_>, commands: &mut SystemCommands<'_, '_>) -> Result<(), OutOfMemory> {
+    for one in view.by_birth()? {
+        commands.despawn(one)?;
+        commands.despawn(one)?;
+    }
+    Ok(())
+}
+
+const SYSTEMS: Systems = [launch, change, clear];
+
+/// What a frame with ample memory makes of that world.
+fn after_a_frame() -> (Vec<Fault>, Vec<(Handle, Birth, Vec<(ComponentId, i64)>)>) {
+    let mut world = two();
+    let report = run_frame(&mut world, &SYSTEMS, 1).expect("memory");
+    assert_eq!(
+        (report.born().len(), report.faults().len(), world.len()),
+        (4, 2, 4)
+    );
+    (report.faults(), all(&world))
+}
+
+/// The world is the one before, but for what the systems that ran had reserved.
+fn expect_lost(mut world: World) {
+    assert_eq!(all(&world), all(&two()));
+    world.flush().expect("memory");
+    assert!(world.len() == 2 || world.len() == 6, "{}", world.len());
+    let born = world.by_birth().expect("memory");
+    let bare = |one: &Handle| world.items(*one) == Some(vec![]);
+    assert_eq!(born.iter().filter(|one| bare(one)).count(), world.len() - 1);
+}
+
+#[test]
+fn frames() {
+    let wanted = after_a_frame();
+    let (mut before, mut lost, mut synced) = (0, 0, 0);
+    each_in_turn(|refusal| {
+        let mut world = two();
+        let (done, refused) = refusing(refusal, || run_frame(&mut world, &SYSTEMS, 1));
+        let faults = match done {
+            Ok(report) => report.faults(),
+            Err(FrameError::Memory) => {
+                before += 1;
+                assert_eq!(all(&world), all(&two()));
+                assert!(!world.needs_flush());
+                let again = run_frame(&mut world, &SYSTEMS, 1);
+                again.expect("memory").faults()
+            }
+            Err(FrameError::Lost) => {
+                lost += 1;
+                expect_lost(world);
+                return refused;
+            }
+            Err(FrameError::Sync(error)) => {
+                synced += 1;
+                ended(&mut world, Err(error))
+            }
+            Err(other) => panic!("{other}"),
+        };
+        assert_eq!((faults, all(&world)), wanted);
+        refused
+    });
+    assert!(
+        before > 0 && lost > 0 && synced > 0,
+        "{before}, {lost}, {synced}"
+    );
+}
+
+/// Memory is refused on the worker that runs the system, and nowhere else: starting threads takes
+/// memory that can't be refused.
+#[test]
+fn frames_on_threads() {
+    for workers in [1, 2, 3] {
+        in_turn(
+            |after| Refusal::All { after },
+            |refusal| {
+                let mut world = two();
+                let refused = std::sync::atomic::AtomicUsize::new(0);
+                let system = |view: View<'_>, commands: &mut SystemCommands<'_, '_>| {
+                    let (ran, times) = refusing(refusal, || {
+                        launch(view, commands)?;
+                        change(view, commands)
+                    });
+                    refused.store(times, std::sync::atomic::Ordering::Relaxed);
+                    ran
+                };
+                let ran = run_frame(&mut world, &[system], workers);
+                let refused = refused.into_inner();
+                match ran {
+                    Ok(report) => assert_eq!((report.born().len(), refused), (4, 0)),
+                    Err(FrameError::Lost) => expect_lost(world),
+                    Err(other) => panic!("{other}"),
+                }
+                refused
+            },
+        );
+    }
 }
