@@ -1,9 +1,9 @@
 //! Paths, in imports and in code.
 
-use crate::forms::{self, Module, Target};
+use crate::forms::Module;
 use crate::items::Scope;
 use crate::source::Fault;
-use crate::walk::{Next, Walk, KIT};
+use crate::walk::{Next, Walk};
 
 impl Walk<'_> {
     /// An import whose `use` stands at `at`, and its attributes before it.
@@ -12,7 +12,7 @@ impl Walk<'_> {
         let end = end.ok_or_else(|| self.source.fault(at, "`;` is missing"))? + 1;
         let first = self.source.at(at + 1);
         let module = self.module_at(at + 1)?;
-        if module.is_some_and(|module| module.target == Target::Gone) {
+        if module.is_some_and(|module| module.to.is_none()) {
             self.names_of(at + 1, module)?;
             self.cut_item(start, end)?;
             return Ok(end);
@@ -49,10 +49,7 @@ impl Walk<'_> {
         }
         let known = match self.modules.get(first) {
             Some(known) => Some(*known),
-            None => forms::ASSOCIATED
-                .iter()
-                .find(|it| it.0 == first)
-                .map(|it| it.1),
+            None => self.associated(first),
         };
         let mut next = at + 2;
         if self.source.at(next) == "<" {
@@ -68,6 +65,14 @@ impl Walk<'_> {
         Ok(at + 1)
     }
 
+    /// What may be called by a path that begins with this type or module.
+    fn associated(&self, first: &str) -> Option<&'static [&'static str]> {
+        let all = self.names.forms.iter().flat_map(|forms| forms.associated);
+        all.filter(|known| known.0 == first)
+            .last()
+            .map(|known| known.1)
+    }
+
     /// The module of std or of the kit that the path at this place begins with, the longest one. Any
     /// other path of std is a fault.
     fn module_at(&self, at: usize) -> Result<Option<&'static Module>, Fault> {
@@ -76,10 +81,8 @@ impl Walk<'_> {
             let fits = |(number, name)| self.source.at(at + 2 * number) == name;
             names.into_iter().all(fits)
         };
-        let longest = forms::MODULES
-            .iter()
-            .filter(begins)
-            .max_by_key(|module| module.path.len());
+        let all = self.names.forms.iter().flat_map(|forms| forms.modules);
+        let longest = all.filter(begins).max_by_key(|module| module.path.len());
         if longest.is_none() && ["std", "core", "alloc"].contains(&self.source.at(at)) {
             let path = format!("{}::{}", self.source.at(at), self.source.at(at + 2));
             return Err(self
@@ -121,10 +124,8 @@ impl Walk<'_> {
         let Some(module) = module else {
             return Ok(());
         };
-        let path = match module.target {
-            Target::Rust(path) => path.to_owned(),
-            Target::Kit(name) => format!("{KIT}::{name}"),
-            Target::Gone => return Err(self.source.fault(at, "a ghost path in code")),
+        let Some(path) = module.to else {
+            return Err(self.source.fault(at, "a ghost path in code"));
         };
         self.replace(at, at + length(module), path);
         Ok(())

@@ -3,6 +3,7 @@
 use crate::audit::audit;
 use crate::crates::{add_names, below, read, Crate};
 use crate::erase;
+use crate::forms::PACKAGE;
 use crate::source::{Fault, Source};
 use crate::walk::Names;
 use std::collections::BTreeMap;
@@ -46,7 +47,10 @@ pub fn package(repository: &Path) -> Result<Files, Box<dyn Error>> {
     let names = below(&listed, &tops)?;
     let crates = names.iter().map(|name| read(repository, name));
     let crates = crates.collect::<Result<Vec<_>, _>>()?;
-    let mut names = Names::default();
+    let mut names = Names {
+        forms: vec![&PACKAGE],
+        ..Names::default()
+    };
     add_names(&mut names, &crates, path)?;
     let mut files = erased(&crates, Path::new(folder), &names)?;
     let mut names: Vec<&str> = crates.iter().map(|it| it.name.as_str()).collect();
