@@ -1,6 +1,7 @@
 //! What is erased, and where the results go.
 
 use crate::audit::audit;
+use crate::clauses::shown;
 use crate::crates::{add_names, below, read, Crate};
 use crate::erase;
 use crate::forms::PACKAGE;
@@ -39,7 +40,8 @@ pub type Files = BTreeMap<PathBuf, String>;
 ///
 /// # Errors
 ///
-/// A file can't be read, a source has an unknown form, or a result isn't its source.
+/// A file can't be read, a source has an unknown form, a result isn't its source, or the face shows
+/// clauses that aren't there.
 pub fn package(repository: &Path) -> Result<Files, Box<dyn Error>> {
     let (folder, path) = PROVED;
     let listed = fs::read_to_string(repository.join("crates.txt"))?;
@@ -63,6 +65,8 @@ pub fn package(repository: &Path) -> Result<Files, Box<dyn Error>> {
         Path::new(folder).join("mod.rs"),
         format!("{HEAD}\n{modules}"),
     );
+    let clauses = shown(repository, Path::new(folder), &files)?;
+    files.extend(clauses);
     Ok(files)
 }
 

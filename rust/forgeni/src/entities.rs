@@ -101,6 +101,7 @@ impl Entities {
     /// # Errors
     ///
     /// `NeedsFlush`, `Space` or `Memory`, and then nothing has changed.
+    #[doc = include_str!("proved/ent_alloc/entities.alloc.md")]
     #[inline]
     pub fn alloc(&mut self) -> Result<Handle, AllocError> {
         Ok(Handle::of(self.proved.alloc()?))
@@ -112,6 +113,7 @@ impl Entities {
     /// # Errors
     ///
     /// `NeedsFlush`, `NotAlive` or `Memory`, and then nothing has changed.
+    #[doc = include_str!("proved/ent_alloc/entities.free.md")]
     #[inline]
     pub fn free(&mut self, handle: Handle) -> Result<Freed, FreeError> {
         Ok(Freed::of(self.proved.free(handle.proved())?))
@@ -124,6 +126,7 @@ impl Entities {
     ///
     /// `Space` if no handle is left: every request is refused then until the next flush. `Credit`
     /// if 2^50 were requested since the last flush.
+    #[doc = include_str!("proved/ent_total/requesting.request.md")]
     pub fn request(&mut self) -> Result<Handle, RequestError> {
         Ok(Handle::of(ent_total::request(&mut self.proved)?))
     }
@@ -134,6 +137,7 @@ impl Entities {
     /// # Errors
     ///
     /// `OutOfMemory`, and then nothing has changed.
+    #[doc = include_str!("proved/ent_alloc/entities.flush.md")]
     pub fn flush(&mut self) -> Result<Vec<Handle>, OutOfMemory> {
         let mut born = List::new(Global);
         self.proved.flush(&mut born)?;
@@ -168,11 +172,13 @@ impl Entities {
     /// # Errors
     ///
     /// [`Unshared`] says why, and has the allocator as it was.
+    #[doc = include_str!("proved/ent_total/opening.share.md")]
     pub fn share(self, callers: usize) -> Result<(Shared, Vec<Reserver>), Unshared> {
         Shared::open(self.proved, callers)
     }
 
     /// What became of a handle. It takes constant time.
+    #[doc = include_str!("proved/ent_alloc/entities.state.md")]
     #[inline]
     #[must_use]
     pub fn state(&self, handle: Handle) -> State {
@@ -187,6 +193,7 @@ impl Entities {
     }
 
     /// How many entities are alive.
+    #[doc = include_str!("proved/ent_alloc/entities.len.md")]
     #[inline]
     #[must_use]
     pub fn len(&self) -> u32 {
@@ -194,6 +201,7 @@ impl Entities {
     }
 
     /// Whether no entity is alive.
+    #[doc = include_str!("proved/ent_alloc/entities.is_empty.md")]
     #[inline]
     #[must_use]
     pub fn is_empty(&self) -> bool {
@@ -201,6 +209,7 @@ impl Entities {
     }
 
     /// How many slots were made. A retired slot counts for good.
+    #[doc = include_str!("proved/ent_alloc/entities.total.md")]
     #[inline]
     #[must_use]
     pub fn total(&self) -> u32 {
@@ -208,6 +217,7 @@ impl Entities {
     }
 
     /// How many slots can still be made.
+    #[doc = include_str!("proved/ent_alloc/entities.room.md")]
     #[inline]
     #[must_use]
     pub fn room(&self) -> u32 {
@@ -215,6 +225,7 @@ impl Entities {
     }
 
     /// How many old slots wait for their next entity.
+    #[doc = include_str!("proved/ent_alloc/entities.top.md")]
     #[inline]
     #[must_use]
     pub fn waiting(&self) -> u32 {
@@ -222,6 +233,7 @@ impl Entities {
     }
 
     /// How many handles were requested since the last flush, served or refused.
+    #[doc = include_str!("proved/ent_alloc/entities.asked.md")]
     #[inline]
     #[must_use]
     pub fn asked(&self) -> u64 {
@@ -229,6 +241,7 @@ impl Entities {
     }
 
     /// How many handles the next flush brings to life.
+    #[doc = include_str!("proved/ent_alloc/entities.reserved.md")]
     #[inline]
     #[must_use]
     pub fn reserved(&self) -> u32 {
@@ -236,6 +249,7 @@ impl Entities {
     }
 
     /// Whether any handle was requested since the last flush.
+    #[doc = include_str!("proved/ent_alloc/entities.needs_flush.md")]
     #[inline]
     #[must_use]
     pub fn needs_flush(&self) -> bool {
@@ -243,6 +257,7 @@ impl Entities {
     }
 
     /// How many slots are retired: they give no handle any more.
+    #[doc = include_str!("proved/ent_alloc/entities.retired.md")]
     #[inline]
     #[must_use]
     pub fn retired(&self) -> u32 {

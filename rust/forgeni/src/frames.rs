@@ -78,6 +78,7 @@ use std::sync::{Mutex, PoisonError};
 ///
 /// With more than one worker, threads are started as [`std::thread::scope`] starts them. It ends
 /// the process where memory for that is refused.
+#[doc = include_str!("proved/ent_runner/frame.run_frame.md")]
 pub fn run_frame<S: System>(
     world: &mut World,
     systems: &[S],

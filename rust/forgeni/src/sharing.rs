@@ -99,6 +99,7 @@ impl Shared {
     }
 
     /// How many reservers are at home: a close that was refused took them.
+    #[doc = include_str!("proved/ent_total/phase.at_home.md")]
     #[must_use]
     pub fn at_home(&self) -> usize {
         self.proved.at_home()
@@ -109,6 +110,7 @@ impl Shared {
     /// # Errors
     ///
     /// `OutOfMemory` if the phase can't count one more owner, and then nothing has changed.
+    #[doc = include_str!("proved/ent_total/phase.caller.md")]
     pub fn reserver(&mut self) -> Result<Option<Reserver>, OutOfMemory> {
         Ok(self.proved.caller()?.map(Reserver::of))
     }
@@ -127,6 +129,7 @@ impl Shared {
     ///
     /// [`Unclosed`] says why, and has the `Shared` and the reservers. It takes no memory, unless a
     /// close before was refused with [`InUse`](CloseError::InUse): then it may end as `Vec` does.
+    #[doc = include_str!("proved/ent_total/closing.close.md")]
     pub fn close(self, reservers: Vec<Reserver>) -> Result<Entities, Unclosed> {
         self.end(reservers, Phase::close)
     }
@@ -142,6 +145,7 @@ impl Shared {
     ///
     /// [`Unclosed`] says why. As long as a reserver that wasn't handed in exists, it is `InUse`.
     /// One that was given to [`std::mem::forget`] exists for good.
+    #[doc = include_str!("proved/ent_total/closing.close_lost.md")]
     pub fn close_lost(self, reservers: Vec<Reserver>) -> Result<Entities, Unclosed> {
         self.end(reservers, Phase::close_lost)
     }
@@ -227,6 +231,7 @@ impl Reserver {
     ///
     /// `Space` if the pool is empty, which is taken from the quota too. `Quota` if nothing is left
     /// of it, and then nothing has changed.
+    #[doc = include_str!("proved/ent_total/caller.reserve.md")]
     #[inline]
     pub fn reserve(&mut self) -> Result<Handle, Refused> {
         Ok(Handle::of(self.proved.reserve()?))
@@ -253,6 +258,7 @@ impl Reserver {
     /// # Errors
     ///
     /// As of [`reserve_many`](Self::reserve_many), and then the list is as it was.
+    #[doc = include_str!("proved/ent_total/caller.reserve_into.md")]
     #[inline]
     pub fn reserve_into(&mut self, handles: &mut Vec<Handle>, n: u32) -> Result<(), Refused> {
         handles
@@ -268,12 +274,14 @@ impl Reserver {
     /// # Errors
     ///
     /// [`OtherPhase`] if they are not of one phase, and then nothing has changed.
+    #[doc = include_str!("proved/ent_total/caller.meet.md")]
     pub fn meet(&mut self, other: &mut Reserver) -> Result<(), OtherPhase> {
         self.proved.meet(&mut other.proved).map_err(|_| OtherPhase)
     }
 
     /// Which of the reservers it is: its position in the list that [`Entities::share`] gave, from
     /// 0.
+    #[doc = include_str!("proved/ent_total/caller.number.md")]
     #[inline]
     #[must_use]
     pub fn number(&self) -> usize {
@@ -282,6 +290,7 @@ impl Reserver {
 
     /// How many handles it may still request in this phase: 2^40 less what it has requested, served
     /// or not.
+    #[doc = include_str!("proved/ent_total/caller.left.md")]
     #[inline]
     #[must_use]
     pub fn quota_left(&self) -> u64 {
@@ -295,6 +304,7 @@ impl Reserver {
     }
 
     /// Whether it is of this phase.
+    #[doc = include_str!("proved/ent_total/caller.is_of.md")]
     #[inline]
     #[must_use]
     pub fn is_of(&self, shared: &Shared) -> bool {

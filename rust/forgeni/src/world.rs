@@ -108,6 +108,7 @@ impl World {
     /// # Errors
     ///
     /// As `spawn`.
+    #[doc = include_str!("proved/ent_world/world.spawn.md")]
     pub fn spawn_with_birth(
         &mut self,
         birth: Birth,
@@ -122,29 +123,34 @@ impl World {
     /// # Errors
     ///
     /// `NeedsFlush`, `NotAlive` or `Memory`, and then nothing has changed.
+    #[doc = include_str!("proved/ent_world/world.despawn.md")]
     pub fn despawn(&mut self, handle: Handle) -> Result<Freed, FreeError> {
         Ok(Freed::of(self.proved.world.despawn(handle.proved())?))
     }
 
     /// The value of the entity's component, if the entity is alive and has it.
+    #[doc = include_str!("proved/ent_world/world.get.md")]
     #[must_use]
     pub fn get(&self, handle: Handle, id: ComponentId) -> Option<i64> {
         self.proved.world.get(handle.proved(), id)
     }
 
     /// When and by whom the entity was brought to life, if it is alive.
+    #[doc = include_str!("proved/ent_world/world.birth.md")]
     #[must_use]
     pub fn birth(&self, handle: Handle) -> Option<Birth> {
         self.proved.world.birth(handle.proved())
     }
 
     /// Whether the entity is alive.
+    #[doc = include_str!("proved/ent_world/world.contains.md")]
     #[must_use]
     pub fn contains(&self, handle: Handle) -> bool {
         self.proved.world.contains(handle.proved())
     }
 
     /// The entity's components and their values, by rising number, if it is alive.
+    #[doc = include_str!("proved/ent_world/world.items.md")]
     #[must_use]
     pub fn items(&self, handle: Handle) -> Option<Vec<(ComponentId, i64)>> {
         let items = self.proved.world.items(handle.proved())?;
@@ -156,29 +162,34 @@ impl World {
     /// # Errors
     ///
     /// `OutOfMemory`: there is no memory for the list.
+    #[doc = include_str!("proved/ent_world/world.by_birth.md")]
     pub fn by_birth(&self) -> Result<Vec<Handle>, OutOfMemory> {
         Ok(all_handles(self.proved.world.by_birth()?))
     }
 
     /// How many entities are alive.
+    #[doc = include_str!("proved/ent_world/world.len.md")]
     #[must_use]
     pub fn len(&self) -> usize {
         self.proved.world.len()
     }
 
     /// Whether no entity is alive.
+    #[doc = include_str!("proved/ent_world/world.is_empty.md")]
     #[must_use]
     pub fn is_empty(&self) -> bool {
         self.proved.world.is_empty()
     }
 
     /// How often the world was flushed. It stays at 2^64 - 1.
+    #[doc = include_str!("proved/ent_world/world.phase.md")]
     #[must_use]
     pub fn phase(&self) -> u64 {
         self.proved.world.phase()
     }
 
     /// How many slots are retired: they give no handle any more.
+    #[doc = include_str!("proved/ent_world/world.retired.md")]
     #[must_use]
     pub fn retired(&self) -> u32 {
         self.proved.world.retired()
@@ -186,6 +197,7 @@ impl World {
 
     /// Whether any handle was requested since the last flush. It is so between
     /// [`OpenWorld::close`] and [`apply`](Self::apply), if a system has spawned.
+    #[doc = include_str!("proved/ent_world/world.needs_flush.md")]
     #[must_use]
     pub fn needs_flush(&self) -> bool {
         self.proved.world.needs_flush()
@@ -199,6 +211,7 @@ impl World {
     /// # Errors
     ///
     /// `OutOfMemory`, and then nothing has changed.
+    #[doc = include_str!("proved/ent_world/world.flush.md")]
     pub fn flush(&mut self) -> Result<(), OutOfMemory> {
         Ok(self.proved.world.flush()?)
     }

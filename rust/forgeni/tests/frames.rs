@@ -314,7 +314,7 @@ fn what_a_frame_wants() {
     }
     let most = vec![nothing; 65_536];
     run_frame(&mut world, &most, 2).expect("memory");
-    let refused = run_frame(&mut world, &vec![nothing; 65_537], 2).expect_err("refused");
+    let refused = run_frame(&mut world, &[nothing; 65_537], 2).expect_err("refused");
     assert!(matches!(refused, FrameError::Systems), "{refused}");
     assert_eq!((world.phase(), world.len()), (1, 0));
 

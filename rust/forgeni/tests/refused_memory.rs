@@ -234,7 +234,10 @@ fn two() -> World {
     world
 }
 
-fn all(world: &World) -> Vec<(Handle, Birth, Vec<(ComponentId, i64)>)> {
+/// An entity with its birth and its components.
+type Told = (Handle, Birth, Vec<(ComponentId, i64)>);
+
+fn all(world: &World) -> Vec<Told> {
     let living = world.by_birth().expect("memory");
     let one = |one| {
         let birth = world.birth(one).expect("alive");
@@ -516,7 +519,7 @@ fn clear(view: View<'_>, commands: &mut SystemCommands<'_, '_>) -> Result<(), Ou
 const SYSTEMS: Systems = [launch, change, clear];
 
 /// What a frame with ample memory makes of that world.
-fn after_a_frame() -> (Vec<Fault>, Vec<(Handle, Birth, Vec<(ComponentId, i64)>)>) {
+fn after_a_frame() -> (Vec<Fault>, Vec<Told>) {
     let mut world = two();
     let report = run_frame(&mut world, &SYSTEMS, 1).expect("memory");
     assert_eq!(
