@@ -10,6 +10,7 @@
 
 mod attributes;
 pub mod audit;
+mod clauses;
 mod code;
 pub mod crates;
 pub mod edit;

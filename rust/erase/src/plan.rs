@@ -1,6 +1,7 @@
 //! What is erased, and where the results go.
 
 use crate::audit::audit;
+use crate::clauses::shown;
 use crate::crates::{add_names, below, read, Crate, File};
 use crate::erase;
 use crate::forms::PACKAGE;
@@ -76,7 +77,8 @@ pub type Files = BTreeMap<PathBuf, String>;
 ///
 /// # Errors
 ///
-/// A file can't be read, a source has an unknown form, or a result isn't its source.
+/// A file can't be read, a source has an unknown form, a result isn't its source, or the face shows
+/// clauses that aren't there.
 pub fn package(repository: &Path) -> Result<Files, Box<dyn Error>> {
     let crates = crates_below(repository, TOPS)?;
     let mut names = Names {
@@ -84,7 +86,10 @@ pub fn package(repository: &Path) -> Result<Files, Box<dyn Error>> {
         ..Names::default()
     };
     add_names(&mut names, &crates, PROVED.path)?;
-    erased(&crates, &PROVED, &names)
+    let mut files = erased(&crates, &PROVED, &names)?;
+    let clauses = shown(repository, Path::new(PROVED.folder), &files)?;
+    files.extend(clauses);
+    Ok(files)
 }
 
 /// Erases the tests of those crates.
