@@ -110,8 +110,5 @@ const ASSOCIATED: &[Associated] = &[
     ("HashMap", &["new"]),
     ("Ordering", &["Equal", "Greater", "Less", "SeqCst"]),
     ("String", &["new", "with_capacity"]),
-    (
-        "Vec",
-        &["from_array", "from_slice", "new", "with_capacity"],
-    ),
+    ("Vec", &["from_array", "from_slice", "new", "with_capacity"]),
 ];

@@ -69,6 +69,14 @@ fn models() {
 }
 
 #[test]
+fn imports_of_which_a_part_is_ghost() {
+    gives(
+        "use std::marker::{Model, PhantomData};\n\nstruct A<B>(PhantomData<B>);\n",
+        "use core::marker::PhantomData;\n\nstruct A<B>(PhantomData<B>);\n",
+    );
+}
+
+#[test]
 fn clauses_become_comments() {
     gives(
         "fn a(b: u8) -> Option<u8>\n    requires b { b ≡ { 1 } }\n    // Why.\n    ensures { IfSome result\n        \
