@@ -27,10 +27,6 @@ impl String {
     pub fn as_str(&self) -> &str {
         &self.0
     }
-
-    pub fn clear(&mut self) {
-        self.0.clear();
-    }
 }
 
 impl Deref for String {

@@ -7,11 +7,6 @@ use core::fmt;
 #[derive(Clone, Copy, Debug, Default, PartialEq, Eq)]
 pub struct Global;
 
-/// An allocator. There is only one here.
-pub trait Allocator {}
-
-impl Allocator for Global {}
-
 /// Memory was refused.
 ///
 /// The contract: a call that returns it has changed nothing that its caller can see.
