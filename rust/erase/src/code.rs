@@ -1,6 +1,6 @@
 //! Code within items: types, bounds, expressions and patterns.
 
-use crate::forms;
+use crate::forms::{self, Forms, Import, Renamed};
 use crate::items::Scope;
 use crate::lex::Kind;
 use crate::source::Fault;
@@ -50,8 +50,12 @@ impl Walk<'_> {
     /// Whether the `..` here begins a range that counts on without an end. That of a slice has one, and
     /// in a pattern `..` is no range.
     fn is_open_range(&self, at: usize) -> bool {
+        let after = self.source.at(at + 1);
+        if after == ")" && self.source.before(self.source.partner(at + 1)) == "get" {
+            return false;
+        }
         let has_begin = !["(", "[", "{", ",", "@", "|"].contains(&self.source.before(at));
-        has_begin && [")", "{", ",", ";"].contains(&self.source.at(at + 1))
+        has_begin && [")", "{", ",", ";"].contains(&after)
     }
 
     fn word(&mut self, at: usize) -> Next {
@@ -122,9 +126,15 @@ impl Walk<'_> {
 
     fn macro_call(&mut self, at: usize) -> Next {
         let name = self.source.at(at);
-        if let Some(known) = forms::KIT_MACROS.iter().find(|known| **known == name) {
-            self.imports.insert(("", known));
-        } else if !forms::KEPT_MACROS.contains(&name) {
+        let mut lists = self.names.forms.iter();
+        if let Some(import) = lists.find_map(|forms| imported(forms.macros, name)) {
+            self.imports.insert(import);
+        } else if !self
+            .names
+            .forms
+            .iter()
+            .any(|forms| forms.kept_macros.contains(&name))
+        {
             return Err(self
                 .source
                 .fault(at, format!("an unknown macro: `{name}!`")));
@@ -143,10 +153,10 @@ impl Walk<'_> {
     /// A name of the kit's prelude has to be imported.
     pub(crate) fn need(&mut self, at: usize) -> Result<(), Fault> {
         let word = self.source.at(at);
-        if let Some((name, module)) = forms::PRELUDE.iter().find(|known| known.0 == word) {
-            self.imports.insert((module, name));
-        }
-        if forms::REFUSED_NAMES.contains(&word) {
+        let mut lists = self.names.forms.iter();
+        if let Some(import) = lists.find_map(|forms| imported(forms.prelude, word)) {
+            self.imports.insert(import);
+        } else if forms::REFUSED_NAMES.contains(&word) {
             return Err(self
                 .source
                 .fault(at, format!("an unknown name of the kit: `{word}`")));
@@ -164,21 +174,35 @@ impl Walk<'_> {
             return Ok(at + 1);
         }
         let name = self.source.at(at);
-        if let Some(known) = forms::RENAMED.iter().find(|known| known.from == name) {
-            if self.source.at(open + 1) != known.argument {
-                let what = format!("an unknown form of the kit's `{name}`");
-                return Err(self.source.fault(at, what));
-            }
-            self.replace(at, at + 1, known.to);
-            let (name, module) = known.import;
-            self.imports.insert((module, name));
+        if let Some(renamed) = self.renamed(name, open + 1) {
+            self.replace(at, at + 1, renamed.to);
+            self.imports.insert(renamed.import);
             return Ok(at + 1);
         }
-        if forms::METHODS.contains(&name) || self.names.functions.contains(name) {
+        let is_known = |forms: &&Forms| forms.methods.contains(&name);
+        if self.names.forms.iter().any(is_known) || self.names.functions.contains(name) {
             return Ok(at + 1);
         }
         Err(self
             .source
-            .fault(at, format!("an unknown method: `{name}`")))
+            .fault(at, format!("an unknown method, or form of it: `{name}`")))
     }
+
+    /// What a method is renamed to whose arguments begin here.
+    fn renamed(&self, name: &str, at: usize) -> Option<&'static Renamed> {
+        let fits = |argument: &&[&str]| match argument {
+            ["\""] => self.source.at(at).starts_with('"'),
+            _ => self.source.has(at, argument),
+        };
+        let mut all = self.names.forms.iter().flat_map(|forms| forms.renamed);
+        all.find(|it| it.from == name && it.arguments.iter().any(fits))
+    }
+}
+
+/// The path of a name that has to be imported, if it is one of these.
+fn imported(imports: &[Import], name: &str) -> Option<&'static str> {
+    imports
+        .iter()
+        .find(|import| import.name == name)
+        .map(|import| import.path)
 }

@@ -3,7 +3,7 @@
 use crate::edit::{edited, Change, Edit};
 use crate::items::Scope;
 use crate::source::{Fault, Source};
-use crate::walk::{Names, Walk, KIT};
+use crate::walk::{Names, Walk};
 
 /// The result of a source: the same without what is ghost, with its clauses as comments.
 ///
@@ -31,10 +31,7 @@ pub fn header(path: &str) -> String {
 
 /// The imports from the kit, before the first import of the source or its first item.
 fn imports(walk: &Walk<'_>) -> Option<Edit> {
-    let lines = walk.imports.iter().map(|(module, name)| match *module {
-        "" => format!("use {KIT}::{name};\n"),
-        module => format!("use {KIT}::{module}::{name};\n"),
-    });
+    let lines = walk.imports.iter().map(|path| format!("use {path};\n"));
     let mut text: String = lines.collect();
     let at = walk.first_use.or(walk.first_item)?;
     if text.is_empty() {

@@ -25,10 +25,12 @@ pub const GHOST_MEMBERS: &[&str] = &[
     "partial_cmp",
     "remaining",
     "right",
+    "shared_of",
     "spent",
     "then",
     "total",
     "view",
+    "world_of",
 ];
 
 /// The words that begin a clause of a contract. A clause with a star is one too.
@@ -82,69 +84,144 @@ pub const KEPT_TRAITS: &[&str] = &[
     "Iterator",
     "Join",
     "Ord",
+    "Eq",
+    "PartialEq",
     "PartialOrd",
     "Play",
     "Split",
     "TableRule",
 ];
 
-/// Where a path leads that isn't the crate's own.
-#[derive(Clone, Copy, Debug, PartialEq, Eq)]
-pub enum Target {
-    /// To this path of Rust's `core` or `alloc`.
-    Rust(&'static str),
-    /// To this module of the kit of the package.
-    Kit(&'static str),
-    /// Nowhere: the names are ghost.
-    Gone,
-}
-
 /// A module of the kit's std, or a crate of the kit's.
 pub struct Module {
     /// Its path in the sources.
     pub path: &'static str,
-    /// Where it leads.
-    pub target: Target,
-    /// The names in it that are known. Their contracts are those of the target's.
+    /// Its path in the results: in Rust's `core` or `alloc`, or in the package's kit.
+    pub to: &'static str,
+    /// The names in it that are known. Their contracts are those of what the path leads to.
     pub names: &'static [&'static str],
+    /// The names in it that are ghost, so that their imports go.
+    pub ghost: &'static [&'static str],
 }
 
-/// All modules that are known.
-pub const MODULES: &[Module] = &[
-    module("atomic_table", Target::Kit("atomic_table"), TABLE),
-    module(
-        "either",
-        Target::Kit("either"),
-        &["Either", "Left", "Right"],
-    ),
-    module("itoa", Target::Kit("itoa"), &["Buffer"]),
-    module("smallvec", Target::Kit("smallvec"), &["SmallVec"]),
+/// A name that has to be imported, and what is imported.
+pub struct Import {
+    /// The name.
+    pub name: &'static str,
+    /// Its path in the results.
+    pub path: &'static str,
+}
+
+/// A method that the kit hands more than Rust does. A trait has it by another name.
+pub struct Renamed {
+    /// Its name in the sources.
+    pub from: &'static str,
+    /// How its arguments may begin, each as tokens. A quote stands for any text.
+    pub arguments: &'static [&'static [&'static str]],
+    /// Its name in the result.
+    pub to: &'static str,
+    /// The path of the trait.
+    pub import: &'static str,
+}
+
+/// A type or a module of std, and what may be called by a path that begins with it.
+pub type Associated = (&'static str, &'static [&'static str]);
+
+/// Names that are known together.
+pub struct Forms {
+    /// Modules. Of two with one path the later one counts.
+    pub modules: &'static [Module],
+    /// Names of the kit's prelude that Rust's has otherwise or not at all.
+    pub prelude: &'static [Import],
+    /// Macros that Rust has otherwise or not at all.
+    pub macros: &'static [Import],
+    /// Macros that are Rust's.
+    pub kept_macros: &'static [&'static str],
+    /// Methods that are renamed.
+    pub renamed: &'static [Renamed],
+    /// Methods of std and of the kit's crates that are in Rust, or in the package's kit, as in the kit
+    /// of the proofs. The methods of the sources themselves are known too.
+    pub methods: &'static [&'static str],
+    /// What may be called by a path.
+    pub associated: &'static [Associated],
+    /// The type that a test is handed as `rt`. Rust hands a test nothing, so it makes one.
+    pub runtime: Option<&'static str>,
+}
+
+/// A module that leads to this path, without ghost names.
+pub const fn module(
+    path: &'static str,
+    to: &'static str,
+    names: &'static [&'static str],
+) -> Module {
+    Module {
+        path,
+        to,
+        names,
+        ghost: &[],
+    }
+}
+
+/// What the crates of the package may use.
+pub static PACKAGE: Forms = Forms {
+    modules: MODULES,
+    prelude: &[Import {
+        name: "Vec",
+        path: "crate::kit::vec::Vec",
+    }],
+    macros: &[Import {
+        name: "prove_eq",
+        path: "crate::kit::prove_eq",
+    }],
+    kept_macros: &["matches", "unreachable", "write"],
+    renamed: &[Renamed {
+        from: "collect",
+        arguments: &[&["alloc"]],
+        to: "collect_in",
+        import: "crate::kit::vec::CollectIn",
+    }],
+    methods: METHODS,
+    associated: ASSOCIATED,
+    runtime: None,
+};
+
+const MODULES: &[Module] = &[
+    module("atomic_table", "crate::kit::atomic_table", TABLE),
+    module("either", "crate::kit::either", &["Either", "Left", "Right"]),
+    module("itoa", "crate::kit::itoa", &["Buffer"]),
+    module("smallvec", "crate::kit::smallvec", &["SmallVec"]),
     module(
         "std::alloc",
-        Target::Kit("alloc"),
+        "crate::kit::alloc",
         &["AllocError", "AllocFailed", "Global"],
     ),
+    module("std::cmp", "core::cmp", &["Ordering", "Reverse"]),
+    module("std::collections", "alloc::collections", &["LinkedList"]),
+    module("std::error", "core::error", &["Error"]),
     module(
-        "std::cmp",
-        Target::Rust("core::cmp"),
-        &["Ordering", "Reverse"],
+        "std::fmt",
+        "core::fmt",
+        &["Debug", "Display", "Formatter", "Result", "Write"],
     ),
-    module(
-        "std::collections",
-        Target::Rust("alloc::collections"),
-        &["LinkedList"],
-    ),
-    module("std::error", Target::Rust("core::error"), &["Error"]),
-    module("std::fmt", Target::Rust("core::fmt"), FMT),
-    module("std::marker", Target::Gone, GHOST_TRAITS),
-    module("std::mem", Target::Rust("core::mem"), &["replace", "swap"]),
-    module("std::sync", Target::Kit("sync"), &["Arc"]),
+    Module {
+        path: "std::marker",
+        to: "core::marker",
+        names: &["PhantomData"],
+        ghost: GHOST_TRAITS,
+    },
+    module("std::mem", "core::mem", &["replace", "swap"]),
+    module("std::sync", "crate::kit::sync", &["Arc"]),
     module(
         "std::thread",
-        Target::Kit("thread"),
+        "crate::kit::thread",
         &["Threads", "for_each_mut"],
     ),
-    module("thiserror", Target::Gone, &[ERROR_DERIVE]),
+    Module {
+        path: "thiserror",
+        to: "",
+        names: &[],
+        ghost: &[ERROR_DERIVE],
+    },
 ];
 
 const TABLE: &[&str] = &[
@@ -157,53 +234,7 @@ const TABLE: &[&str] = &[
     "TableRule",
 ];
 
-const FMT: &[&str] = &["Debug", "Display", "Formatter", "Result", "Write"];
-
-const fn module(path: &'static str, target: Target, names: &'static [&'static str]) -> Module {
-    Module {
-        path,
-        target,
-        names,
-    }
-}
-
-/// Names of the kit's prelude that Rust's prelude has otherwise, or that are in the kit alone, with
-/// their modules of the kit.
-pub const PRELUDE: &[(&str, &str)] = &[("Vec", "vec")];
-
-/// Names that the kit's prelude has and no source may use yet: the kit of the package lacks them.
-pub const REFUSED_NAMES: &[&str] = &["Box", "HostRuntime", "Rc", "String"];
-
-/// Macros that are Rust's.
-pub const KEPT_MACROS: &[&str] = &["matches", "unreachable", "write"];
-
-/// Macros that the kit of the package has.
-pub const KIT_MACROS: &[&str] = &["prove_eq"];
-
-/// A method that the kit hands more than Rust does. A trait of the package's kit has it by another
-/// name.
-pub struct Renamed {
-    /// Its name in the sources.
-    pub from: &'static str,
-    /// How its arguments begin.
-    pub argument: &'static str,
-    /// Its name in the result.
-    pub to: &'static str,
-    /// The trait, with its module of the kit.
-    pub import: (&'static str, &'static str),
-}
-
-/// All methods that are renamed.
-pub const RENAMED: &[Renamed] = &[Renamed {
-    from: "collect",
-    argument: "alloc",
-    to: "collect_in",
-    import: ("CollectIn", "vec"),
-}];
-
-/// Methods of std and of the kit's crates that are in Rust, or in the package's kit, as in the kit of
-/// the proofs. The methods of the sources themselves are known too.
-pub const METHODS: &[&str] = &[
+const METHODS: &[&str] = &[
     "all",
     "and_then",
     "any",
@@ -290,8 +321,8 @@ pub const METHODS: &[&str] = &[
     "zip",
 ];
 
-/// What may be called by a path that begins with a type or a module of std.
-pub const ASSOCIATED: &[(&str, &[&str])] = &[
+const ASSOCIATED: &[Associated] = &[
+    ("Arc", &["new", "ptr_eq", "try_clone", "try_unwrap"]),
     ("Table", &["of_words"]),
     ("Badge", &["blank"]),
     ("Buffer", &["new"]),
@@ -305,6 +336,9 @@ pub const ASSOCIATED: &[(&str, &[&str])] = &[
     ("u64", &["MAX", "from", "from_le_bytes", "try_from"]),
     ("usize", &["MAX", "from", "try_from"]),
 ];
+
+/// Names that the kit's prelude has and that a source may use only where they are known.
+pub const REFUSED_NAMES: &[&str] = &["AllocGlobal", "Box", "HostRuntime", "Rc", "String"];
 
 /// Words of Rust that the sources don't use, and of which the eraser knows no form.
 pub const REFUSED_WORDS: &[&str] = &[

@@ -56,7 +56,9 @@ impl Walk<'_> {
         }
         self.expect(next, "(")?;
         let close = self.source.partner(next);
-        self.code(next + 1, close)?;
+        if !self.test_runtime(start, visible, next)? {
+            self.code(next + 1, close)?;
+        }
         let end = self.rest_of_function(close + 1)?;
         let has_body = self.source.before(end) == "}";
         if has_body && scope != Scope::Trait && !self.has_inline(start, visible) {
@@ -64,6 +66,23 @@ impl Walk<'_> {
             self.insert(visible, format!("#[inline]\n{indent}"));
         }
         Ok(end)
+    }
+
+    /// If the function is a test that is handed the runtime, it makes one instead.
+    fn test_runtime(&mut self, start: usize, visible: usize, open: usize) -> Result<bool, Fault> {
+        let mut runtimes = self.names.forms.iter().filter_map(|forms| forms.runtime);
+        let fits = |runtime: &&str| self.source.has(open, &["(", "rt", ":", runtime, ")"]);
+        let is_test = (start..visible).any(|at| self.source.has(at, &["#", "[", "test", "]"]));
+        let Some(runtime) = runtimes.find(fits).filter(|_| is_test) else {
+            return Ok(false);
+        };
+        let body = self.source.find(open + 5, self.source.len(), &["{", ";"]);
+        let body = body.ok_or_else(|| self.source.fault(open, "a body is missing"))?;
+        let indent = self.indent(visible)?;
+        self.need(open + 3)?;
+        self.take_out(open + 1, open + 4);
+        self.insert_after(body, format!("\n{indent}    let rt = {runtime};"));
+        Ok(true)
     }
 
     /// Whether one of these attributes says what is to be inlined, or the function is a test.
@@ -110,7 +129,14 @@ impl Walk<'_> {
             if self.source.is_word(at) && token != "where" && self.is_after_type(at) {
                 return Err(self.unknown_clause(at));
             }
-            at = self.code_token(at)?;
+            at = match token {
+                "(" | "[" => {
+                    let close = self.source.partner(at);
+                    self.code(at + 1, close)?;
+                    close + 1
+                }
+                _ => self.code_token(at)?,
+            };
         }
     }
 

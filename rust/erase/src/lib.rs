@@ -10,12 +10,14 @@
 
 mod attributes;
 pub mod audit;
+mod clauses;
 mod code;
 pub mod crates;
 pub mod edit;
 mod erase;
 pub mod forms;
 mod functions;
+pub mod host;
 mod items;
 pub mod lex;
 mod messages;

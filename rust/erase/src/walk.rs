@@ -1,6 +1,7 @@
 //! A walk through the code of one source, which collects what has to change.
 
 use crate::edit::{Change, Edit};
+use crate::forms::Forms;
 use crate::lex::Kind;
 use crate::source::{Fault, Source};
 use std::collections::{BTreeMap, BTreeSet};
@@ -14,10 +15,9 @@ pub struct Names {
     pub functions: BTreeSet<String>,
     /// Their traits.
     pub traits: BTreeSet<String>,
+    /// The names of std and of the kit that they may use.
+    pub forms: Vec<&'static Forms>,
 }
-
-/// The path of the package's kit.
-pub const KIT: &str = "crate::kit";
 
 /// What `pub(crate)` becomes in a file of a crate that is a module: the crate's module sees it, and
 /// nothing else does.
@@ -30,8 +30,8 @@ pub struct Walk<'a> {
     pub(crate) krate: &'a str,
     pub(crate) names: &'a Names,
     pub(crate) edits: Vec<Edit>,
-    /// The names of the kit that have to be imported, with their modules.
-    pub(crate) imports: BTreeSet<(&'static str, &'static str)>,
+    /// The paths that have to be imported.
+    pub(crate) imports: BTreeSet<&'static str>,
     /// Modules of std that are imported, by the names that they have here, with the names in them
     /// that are known.
     pub(crate) modules: BTreeMap<&'a str, &'static [&'static str]>,

@@ -257,6 +257,7 @@ const REFUSED: &[(&str, usize, &str)] = &[
         "an unknown path: `either::IterEither`",
     ),
     ("use rayon::join;\n", 1, "an unknown crate: `rayon`"),
+    ("type A = std::marker::Model;\n", 1, "a ghost path in code"),
     (
         "fn a() {\n    Vec::from_array(b);\n}\n",
         2,
@@ -290,27 +291,27 @@ const REFUSED: &[(&str, usize, &str)] = &[
     (
         "fn a() {\n    b.collect(rt.alloc())\n}\n",
         2,
-        "an unknown form of the kit's `collect`",
+        "an unknown method, or form of it: `collect`",
     ),
     (
         "fn a() {\n    b.iter().collect::<C>()\n}\n",
         2,
-        "an unknown form of the kit's `collect`",
+        "an unknown method, or form of it: `collect`",
     ),
     (
         "fn a() {\n    b.to_vec(alloc)\n}\n",
         2,
-        "an unknown method: `to_vec`",
+        "an unknown method, or form of it: `to_vec`",
     ),
     (
         "fn a() {\n    b.clone()\n}\n",
         2,
-        "an unknown method: `clone`",
+        "an unknown method, or form of it: `clone`",
     ),
     (
         "fn a() {\n    b.expect(rt, \"c\")\n}\n",
         2,
-        "an unknown method: `expect`",
+        "an unknown method, or form of it: `expect`",
     ),
     (
         "fn fmt<W: Write>(&self) {}\n",

@@ -2,6 +2,7 @@
 #![allow(dead_code)]
 
 use erase::audit::audit;
+use erase::forms::PACKAGE;
 use erase::source::{Fault, Source};
 use erase::{erase, Names};
 
@@ -10,7 +11,10 @@ pub const PATH: &str = "crates/ent_here/src/here.rt";
 
 /// The crates `ent_here`, of which the source is, and `ent_other`.
 pub fn names() -> Names {
-    let mut names = Names::default();
+    let mut names = Names {
+        forms: vec![&PACKAGE],
+        ..Names::default()
+    };
     for name in ["ent_here", "ent_other"] {
         let path = format!("crate::proved::{name}");
         names.crates.insert(name.to_owned(), path);

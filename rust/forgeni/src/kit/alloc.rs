@@ -7,11 +7,6 @@ use core::fmt;
 #[derive(Clone, Copy, Debug, Default, PartialEq, Eq)]
 pub struct Global;
 
-/// An allocator. There is only one here.
-pub trait Allocator {}
-
-impl Allocator for Global {}
-
 /// Memory was refused.
 ///
 /// The contract: a call that returns it has changed nothing that its caller can see.
@@ -31,6 +26,14 @@ impl fmt::Display for AllocError {
 }
 
 impl core::error::Error for AllocError {}
+
+impl<T> fmt::Display for AllocFailed<T> {
+    fn fmt(&self, f: &mut fmt::Formatter<'_>) -> fmt::Result {
+        AllocError.fmt(f)
+    }
+}
+
+impl<T: fmt::Debug> core::error::Error for AllocFailed<T> {}
 
 impl From<TryReserveError> for AllocError {
     fn from(_refused: TryReserveError) -> Self {

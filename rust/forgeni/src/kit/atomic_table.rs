@@ -140,3 +140,69 @@ impl Closed {
     #[inline]
     pub fn free(self) {}
 }
+
+#[cfg(test)]
+mod tests {
+    use super::*;
+
+    /// A rule, a play, and ways to cut records and to join them: all of them ghost.
+    struct Nothing;
+
+    impl TableRule<(), (), ()> for Nothing {}
+    impl Play<(), ()> for Nothing {}
+    impl Split<()> for Nothing {}
+    impl Join<()> for Nothing {}
+
+    type Word = Table<(), (), (), Nothing, Global>;
+
+    fn word(first: u64) -> (Word, Seat<(), ()>) {
+        Table::of_words(Global, &[first], &()).expect("it takes no memory")
+    }
+
+    #[test]
+    fn a_step_returns_what_it_found() {
+        let (table, mut seat) = word(5);
+        assert_eq!(table.shared.fetch_add::<Nothing>(&mut seat, 0, 3), 5);
+        assert_eq!(table.shared.fetch_sub::<Nothing>(&mut seat, 0, 10), 8);
+        // Below 0 it is read as signed.
+        let (found, _other) = table.shared.load_new_seat::<Nothing>(0);
+        assert_eq!(found as i64, -2);
+        assert_eq!(table.shared.fetch_add::<Nothing>(&mut seat, 0, 2), found);
+        let closed = table.close_with(seat);
+        assert_eq!(closed.word(0), 0);
+        closed.free();
+    }
+
+    #[test]
+    fn seats_that_come_and_go_change_nothing() {
+        let (table, mut seat) = word(u64::MAX);
+        let other = table.shared.split_seat::<Nothing>(&mut seat);
+        let other = other.into_badge().into_seat::<()>();
+        table.shared.join_seat::<Nothing>(&mut seat, other);
+        assert_eq!(table.close_with(seat).word(0), u64::MAX);
+    }
+
+    #[test]
+    fn tokens_have_no_bytes() {
+        assert_eq!(size_of::<Seat<(), std::string::String>>(), 0);
+        assert_eq!(size_of::<Badge<std::string::String>>(), 0);
+        assert_eq!(size_of::<Word>(), size_of::<u64>());
+    }
+
+    #[test]
+    #[cfg(feature = "std")]
+    fn steps_of_many_threads_are_each_made_once() {
+        let (table, seat) = word(0);
+        std::thread::scope(|scope| {
+            for _ in 0..4 {
+                scope.spawn(|| {
+                    let (_, mut seat) = table.shared.load_new_seat::<Nothing>(0);
+                    for _ in 0..10_000 {
+                        table.shared.fetch_add::<Nothing>(&mut seat, 0, 1);
+                    }
+                });
+            }
+        });
+        assert_eq!(table.close_with(seat).word(0), 40_000);
+    }
+}

@@ -28,6 +28,7 @@ impl Buffer {
 #[cfg(test)]
 mod tests {
     use super::Buffer;
+    use ::alloc::string::ToString;
 
     #[test]
     fn decimals_are_those_of_rust() {

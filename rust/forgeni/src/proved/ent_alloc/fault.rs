@@ -1,6 +1,8 @@
 // Made of crates/ent_alloc/src/fault.rt by rust/erase. It isn't edited by hand.
 
 use crate::proved::ent_handle::{Handle, Memory};
+use core::error::Error;
+use core::fmt;
 
 /// Why `Entities::alloc` gave no handle. Nothing has changed.
 #[derive(Clone, Copy, Debug, PartialEq, Eq)]
@@ -13,17 +15,18 @@ pub enum AllocFault {
     Memory,
 }
 
-impl core::fmt::Display for AllocFault {
-    fn fmt(&self, f: &mut core::fmt::Formatter<'_>) -> core::fmt::Result {
+impl fmt::Display for AllocFault {
+    #[inline]
+    fn fmt(&self, f: &mut fmt::Formatter<'_>) -> fmt::Result {
         match self {
-            AllocFault::NeedsFlush => write!(f, "a flush is needed first"),
-            AllocFault::Space => write!(f, "no slot is free"),
-            AllocFault::Memory => write!(f, "out of memory"),
+            AllocFault::NeedsFlush => f.write_str("a flush is needed first"),
+            AllocFault::Space => f.write_str("no slot is free"),
+            AllocFault::Memory => f.write_str("out of memory"),
         }
     }
 }
 
-impl core::error::Error for AllocFault {}
+impl Error for AllocFault {}
 
 impl From<Memory> for AllocFault {
     #[inline]
@@ -43,17 +46,18 @@ pub enum FreeFault {
     Memory,
 }
 
-impl core::fmt::Display for FreeFault {
-    fn fmt(&self, f: &mut core::fmt::Formatter<'_>) -> core::fmt::Result {
+impl fmt::Display for FreeFault {
+    #[inline]
+    fn fmt(&self, f: &mut fmt::Formatter<'_>) -> fmt::Result {
         match self {
-            FreeFault::NeedsFlush => write!(f, "a flush is needed first"),
-            FreeFault::NotAlive => write!(f, "the entity is not alive"),
-            FreeFault::Memory => write!(f, "out of memory"),
+            FreeFault::NeedsFlush => f.write_str("a flush is needed first"),
+            FreeFault::NotAlive => f.write_str("the entity is not alive"),
+            FreeFault::Memory => f.write_str("out of memory"),
         }
     }
 }
 
-impl core::error::Error for FreeFault {}
+impl Error for FreeFault {}
 
 impl From<Memory> for FreeFault {
     #[inline]

@@ -37,6 +37,7 @@ impl Entities {
         //     let asked = asked_at (top start) cursor in
         //     self.new.allocator ≡ after_take (after_take start given) (asked - given) }
         // ensures rows { self.new.rows ≡ self.old.rows }
+        // ensures rows_of_living { HasRowsOfLiving self.new }
     {
         let waiting = self.slots.waiting();
         self.requests = Requests {
@@ -60,6 +61,7 @@ impl Entities {
         //     result ≡ record { high = high; low = high -ℤ pos n } }
         // ensures step { self.new.allocator ≡ after_take self.old.allocator n }
         // ensures rows { self.new.rows ≡ self.old.rows }
+        // ensures rows_of_living { HasRowsOfLiving self.new }
 
         // `reply` takes the span.
         // ensures valid { IsSpanOf self.new.allocator result }

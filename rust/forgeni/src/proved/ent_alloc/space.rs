@@ -1,5 +1,8 @@
 // Made of crates/ent_alloc/src/space.rt by rust/erase. It isn't edited by hand.
 
+use core::error::Error;
+use core::fmt;
+
 /// The refusal of a request for which too few handles were left.
 #[derive(Clone, Copy, Debug, PartialEq, Eq)]
 pub struct Space {
@@ -9,11 +12,13 @@ pub struct Space {
     pub left: u32,
 }
 
-impl core::fmt::Display for Space {
-    fn fmt(&self, f: &mut core::fmt::Formatter<'_>) -> core::fmt::Result {
-        let Space { wanted, left } = self;
+impl fmt::Display for Space {
+    #[inline]
+    fn fmt(&self, f: &mut fmt::Formatter<'_>) -> fmt::Result {
+        let wanted = self.wanted;
+        let left = self.left;
         write!(f, "{wanted} wanted and {left} left")
     }
 }
 
-impl core::error::Error for Space {}
+impl Error for Space {}

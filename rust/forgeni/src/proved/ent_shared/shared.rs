@@ -156,6 +156,7 @@ impl Shared {
         // ensures after { result.allocator
         //     ≡ after_history self.start (history_of (records_of reservers.items)) }
         // ensures rows { result.rows ≡ self.rows }
+        // ensures rows_of_living { HasRowsOfLiving result }
 
         // Each reservation stands once, where its step came: the cursor falls with each.
         // ensures falls { AllPairs (λ earlier later. later.high <ℤ earlier.high)
@@ -194,6 +195,7 @@ impl Shared {
         // requires own { All (IsOf self) reservers.items }
         // ensures after { result.allocator ≡ after_loss self.start result.allocator.asked }
         // ensures rows { result.rows ≡ self.rows }
+        // ensures rows_of_living { HasRowsOfLiving result }
 
         // It counts what the reservers that are here have requested, and of the others no more than
         // their credit.

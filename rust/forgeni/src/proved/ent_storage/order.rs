@@ -6,14 +6,18 @@ use super::living::Resident;
 use crate::proved::ent_handle::{Birth, Handle};
 use crate::kit::alloc::{AllocError, Global};
 
-/// The handles, by birth and then by handle.
+/// The handles, by birth and then by handle. It takes no memory for nobody.
 #[inline]
 pub fn handles_in_order(
     alloc: Global,
     mut births: Vec<(Birth, Handle)>,
 ) -> Result<Vec<Handle>, AllocError>
-    // ensures { IfOk result (λ handles. IsInOrder births.items handles.items) }
+    // ensures ok { IfOk result (λ handles. IsInOrder births.items handles.items) }
+    // ensures memory { OnErr result (0 < length births.items) }
 {
+    if births.is_empty() {
+        return Ok(Vec::new(alloc));
+    }
     gather(&mut births);
     births.sort_unstable();
     handles(alloc, &births)
@@ -34,7 +38,7 @@ fn gather(births: &mut Vec<(Birth, Handle)>)
 
 #[inline]
 fn handles(alloc: Global, births: &[(Birth, Handle)]) -> Result<Vec<Handle>, AllocError>
-    // ensures { IfOk result (λ handles. handles.items ≡ map (λ pair. pair.1) births.now) }
+    // ensures ok { IfOk result (λ handles. handles.items ≡ map (λ pair. pair.1) births.now) }
 {
     births.iter().map(|pair| pair.1).collect_in(alloc)
 }

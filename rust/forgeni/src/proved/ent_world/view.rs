@@ -46,10 +46,12 @@ impl<'a> View<'a> {
     ///
     /// # Errors
     ///
-    /// `Memory`: there is no memory for the list.
+    /// `Memory`: there is no memory for the list. It never comes if no entity has the component.
     #[inline]
     pub fn with(&self, id: ComponentId) -> Result<Vec<Handle>, Memory>
-        // ensures { IfOk result (λ handles. ListsWith id self.now.entities handles.items) }
+        // ensures ok { IfOk result (λ handles. ListsWith id self.now.entities handles.items) }
+        // ensures memory { OnErr result
+        //     ((handle : HandleValue) × IsSome (value_of self.now.entities handle id)) }
     {
         self.storage.with(id)
     }
@@ -58,10 +60,11 @@ impl<'a> View<'a> {
     ///
     /// # Errors
     ///
-    /// `Memory`: there is no memory for the list.
+    /// `Memory`: there is no memory for the list. It never comes if there are no entities.
     #[inline]
     pub fn by_birth(&self) -> Result<Vec<Handle>, Memory>
-        // ensures { IfOk result (λ handles. ListsAll self.now.entities handles.items) }
+        // ensures ok { IfOk result (λ handles. ListsAll self.now.entities handles.items) }
+        // ensures memory { OnErr result (self.now.entities ≢ map.empty) }
     {
         self.storage.by_birth()
     }
