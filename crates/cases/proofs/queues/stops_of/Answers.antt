@@ -6,7 +6,7 @@ use Rattle.ent_queue.specs.Entry.{command_of}
 use Rattle.ent_queue.specs.declared.entry.Entry.{Entry}
 use Rattle.ent_world.specs.Sync.{stops}
 use Rattle.ent_world.proofs.Left.{some_stop}
-use Rattle.ent_world_tests.proofs.going_on.stops_of.Goals as goal
+use Rattle.cases.proofs.queues.stops_of.Goals as goal
 
 for_each : (cs rest : List Command) (hs : List Handle) (items : Bundle)
     → cs ≡ SpawnMany hs items ∷ rest → length hs ≤ stops cs

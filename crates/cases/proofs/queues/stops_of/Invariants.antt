@@ -1,5 +1,5 @@
 use Rattle.std.proofs.Common.{◌≡◌, drop}
-use Rattle.ent_world_tests.proofs.going_on.stops_of.Given as goal
+use Rattle.cases.proofs.queues.stops_of.Given as goal
 
 -- the first ones were yielded
 abbrev pub invariant-loop-number : goal.invariant-loop-number
