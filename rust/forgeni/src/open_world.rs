@@ -153,7 +153,7 @@ impl OpenWorld {
     /// As of [`close`](Self::close), without `Missing`. With [`InUse`](FinishError::InUse) the
     /// `Commands` or the queue of a system exists that wasn't handed in. The phase keeps those that
     /// were, and they stay before those that the next close is given. One that was given to
-    /// [`std::mem::forget`] exists for good.
+    /// [`core::mem::forget`] exists for good.
     pub fn close_lost(self, queues: Vec<CommandQueue>) -> Result<(World, Queues), Unfinished> {
         Self::ended(self.proved.close_lost(issued(queues)))
     }

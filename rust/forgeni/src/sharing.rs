@@ -144,7 +144,7 @@ impl Shared {
     /// # Errors
     ///
     /// [`Unclosed`] says why. As long as a reserver that wasn't handed in exists, it is `InUse`.
-    /// One that was given to [`std::mem::forget`] exists for good.
+    /// One that was given to [`core::mem::forget`] exists for good.
     #[doc = include_str!("proved/ent_total/closing.close_lost.md")]
     pub fn close_lost(self, reservers: Vec<Reserver>) -> Result<Entities, Unclosed> {
         self.end(reservers, Phase::close_lost)
