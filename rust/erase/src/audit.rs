@@ -106,8 +106,7 @@ impl Audit<'_> {
             }
             "impl" => self.ghost_impl_end(),
             "#" => self.ghost_attribute_end(),
-            "use" if starts(&["use", "std", "::", "marker", "::", "Model", ";"]) => Some(at + 7),
-            "use" if starts(&["use", "thiserror", "::", "Error", ";"]) => Some(at + 5),
+            "use" => self.ghost_import_end(),
             ":" if starts(&[":", "Drop", "+"]) => None,
             ":" | "+" if starts(&[":", "Drop"]) || starts(&["+", "Drop"]) => Some(at + 2),
             "Drop" if starts(&["Drop", "+"]) => Some(at + 2),
@@ -119,6 +118,16 @@ impl Audit<'_> {
     fn ghost_item_end(&self) -> Option<usize> {
         let end = self.source.find(self.at, self.source.len(), &[";", ","])?;
         Some(end + 1)
+    }
+
+    /// The end of an import of one ghost name.
+    fn ghost_import_end(&self) -> Option<usize> {
+        let modules = self.names.forms.iter().flat_map(|forms| forms.modules);
+        let names = modules.flat_map(|module| module.ghost.iter().map(|name| (module.path, name)));
+        names
+            .map(|(path, name)| pieces(&format!("use {path}::{name};")))
+            .find(|import| has(self.source, self.at, import))
+            .map(|import| self.at + import.len())
     }
 
     /// The end of an `impl` of a ghost trait.

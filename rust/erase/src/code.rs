@@ -50,8 +50,12 @@ impl Walk<'_> {
     /// Whether the `..` here begins a range that counts on without an end. That of a slice has one, and
     /// in a pattern `..` is no range.
     fn is_open_range(&self, at: usize) -> bool {
+        let after = self.source.at(at + 1);
+        if after == ")" && self.source.before(self.source.partner(at + 1)) == "get" {
+            return false;
+        }
         let has_begin = !["(", "[", "{", ",", "@", "|"].contains(&self.source.before(at));
-        has_begin && [")", "{", ",", ";"].contains(&self.source.at(at + 1))
+        has_begin && [")", "{", ",", ";"].contains(&after)
     }
 
     fn word(&mut self, at: usize) -> Next {

@@ -25,10 +25,12 @@ pub const GHOST_MEMBERS: &[&str] = &[
     "partial_cmp",
     "remaining",
     "right",
+    "shared_of",
     "spent",
     "then",
     "total",
     "view",
+    "world_of",
 ];
 
 /// The words that begin a clause of a contract. A clause with a star is one too.
@@ -82,6 +84,8 @@ pub const KEPT_TRAITS: &[&str] = &[
     "Iterator",
     "Join",
     "Ord",
+    "Eq",
+    "PartialEq",
     "PartialOrd",
     "Play",
     "Split",
@@ -92,11 +96,12 @@ pub const KEPT_TRAITS: &[&str] = &[
 pub struct Module {
     /// Its path in the sources.
     pub path: &'static str,
-    /// Its path in the results: in Rust's `core` or `alloc`, or in the package's kit. None if its names
-    /// are ghost.
-    pub to: Option<&'static str>,
+    /// Its path in the results: in Rust's `core` or `alloc`, or in the package's kit.
+    pub to: &'static str,
     /// The names in it that are known. Their contracts are those of what the path leads to.
     pub names: &'static [&'static str],
+    /// The names in it that are ghost, so that their imports go.
+    pub ghost: &'static [&'static str],
 }
 
 /// A name that has to be imported, and what is imported.
@@ -143,7 +148,7 @@ pub struct Forms {
     pub runtime: Option<&'static str>,
 }
 
-/// A module that leads to this path.
+/// A module that leads to this path, without ghost names.
 pub const fn module(
     path: &'static str,
     to: &'static str,
@@ -151,17 +156,9 @@ pub const fn module(
 ) -> Module {
     Module {
         path,
-        to: Some(to),
+        to,
         names,
-    }
-}
-
-/// A module of which all known names are ghost.
-const fn gone(path: &'static str, names: &'static [&'static str]) -> Module {
-    Module {
-        path,
-        to: None,
-        names,
+        ghost: &[],
     }
 }
 
@@ -206,7 +203,12 @@ const MODULES: &[Module] = &[
         "core::fmt",
         &["Debug", "Display", "Formatter", "Result", "Write"],
     ),
-    gone("std::marker", GHOST_TRAITS),
+    Module {
+        path: "std::marker",
+        to: "core::marker",
+        names: &["PhantomData"],
+        ghost: GHOST_TRAITS,
+    },
     module("std::mem", "core::mem", &["replace", "swap"]),
     module("std::sync", "crate::kit::sync", &["Arc"]),
     module(
@@ -214,7 +216,12 @@ const MODULES: &[Module] = &[
         "crate::kit::thread",
         &["Threads", "for_each_mut"],
     ),
-    gone("thiserror", &[ERROR_DERIVE]),
+    Module {
+        path: "thiserror",
+        to: "",
+        names: &[],
+        ghost: &[ERROR_DERIVE],
+    },
 ];
 
 const TABLE: &[&str] = &[

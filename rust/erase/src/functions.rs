@@ -129,7 +129,14 @@ impl Walk<'_> {
             if self.source.is_word(at) && token != "where" && self.is_after_type(at) {
                 return Err(self.unknown_clause(at));
             }
-            at = self.code_token(at)?;
+            at = match token {
+                "(" | "[" => {
+                    let close = self.source.partner(at);
+                    self.code(at + 1, close)?;
+                    close + 1
+                }
+                _ => self.code_token(at)?,
+            };
         }
     }
 

@@ -1,20 +1,22 @@
 //! Erases the proved crates into the package, at the top of the repository.
 //!
 //! `erase` writes the results. `erase --check` compares them with those that are there, and fails if
-//! one byte differs.
+//! one byte differs. `erase --tests` writes the tests of those crates for `rust/erased_tests`.
 
-use erase::plan::{folder, package, Files};
+use erase::plan::{package, tests, Files, Target, PROVED, TESTED};
 use std::error::Error;
 use std::path::{Path, PathBuf};
 use std::process::ExitCode;
 use std::{env, fs, io};
 
 fn main() -> ExitCode {
+    let repository = Path::new(".");
     let arguments: Vec<String> = env::args().skip(1).collect();
     let done = match arguments.iter().map(String::as_str).collect::<Vec<_>>()[..] {
-        [] => make(),
-        ["--check"] => check(),
-        _ => Err("erase, or erase --check, at the top of the repository".into()),
+        [] => package(repository).and_then(|files| make(repository, &files, &PROVED)),
+        ["--check"] => package(repository).and_then(|files| check(repository, &files)),
+        ["--tests"] => tests(repository).and_then(|files| make(repository, &files, &TESTED)),
+        _ => Err("erase, erase --check or erase --tests, at the top of the repository".into()),
     };
     match done {
         Ok(said) => {
@@ -29,10 +31,8 @@ fn main() -> ExitCode {
 }
 
 /// Writes what differs, and takes away what no source makes any more.
-fn make() -> Result<String, Box<dyn Error>> {
-    let repository = Path::new(".");
-    let files = package(repository)?;
-    let differing = differing(repository, &files)?;
+fn make(repository: &Path, files: &Files, target: &Target) -> Result<String, Box<dyn Error>> {
+    let differing = differing(repository, files, target)?;
     for path in &differing {
         match files.get(path) {
             Some(text) => {
@@ -50,9 +50,8 @@ fn make() -> Result<String, Box<dyn Error>> {
 }
 
 /// Fails if a result differs from what is there.
-fn check() -> Result<String, Box<dyn Error>> {
-    let files = package(Path::new("."))?;
-    let differing = differing(Path::new("."), &files)?;
+fn check(repository: &Path, files: &Files) -> Result<String, Box<dyn Error>> {
+    let differing = differing(repository, files, &PROVED)?;
     if differing.is_empty() {
         return Ok(format!(
             "{} erased sources are those of crates/",
@@ -71,7 +70,8 @@ fn check() -> Result<String, Box<dyn Error>> {
 }
 
 /// The files that are not as they are to be, or are there and not to be.
-fn differing(repository: &Path, files: &Files) -> io::Result<Vec<PathBuf>> {
+fn differing(repository: &Path, files: &Files, target: &Target) -> io::Result<Vec<PathBuf>> {
+    let folder = Path::new(target.folder);
     let is_other = |path: &Path, text: &str| match fs::read_to_string(repository.join(path)) {
         Ok(there) => there != text,
         Err(_) => true,
@@ -79,8 +79,8 @@ fn differing(repository: &Path, files: &Files) -> io::Result<Vec<PathBuf>> {
     let others = files.iter().filter(|(path, text)| is_other(path, text));
     let mut differing: Vec<PathBuf> = others.map(|(path, _)| path.clone()).collect();
     let mut there = Vec::new();
-    if repository.join(folder()).is_dir() {
-        list(repository, folder(), &mut there)?;
+    if repository.join(folder).is_dir() {
+        list(repository, folder, &mut there)?;
     }
     differing.extend(there.into_iter().filter(|path| !files.contains_key(path)));
     Ok(differing)

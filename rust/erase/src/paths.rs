@@ -5,21 +5,31 @@ use crate::items::Scope;
 use crate::source::Fault;
 use crate::walk::{Next, Walk};
 
-impl Walk<'_> {
+/// What is taken from a module.
+#[derive(Default)]
+struct Taken<'a> {
+    /// The names that stay.
+    kept: Vec<&'a str>,
+    /// Whether there are others, which are ghost.
+    has_ghosts: bool,
+}
+
+impl<'a> Walk<'a> {
     /// An import whose `use` stands at `at`, and its attributes before it.
     pub(crate) fn use_item(&mut self, start: usize, at: usize, scope: Scope) -> Next {
         let end = self.source.find(at, self.source.len(), &[";"]);
         let end = end.ok_or_else(|| self.source.fault(at, "`;` is missing"))? + 1;
         let first = self.source.at(at + 1);
-        let module = self.module_at(at + 1)?;
-        if module.is_some_and(|module| module.to.is_none()) {
-            self.names_of(at + 1, module)?;
-            self.cut_item(start, end)?;
-            return Ok(end);
-        }
-        if module.is_some() {
-            self.names_of(at + 1, module)?;
-            self.lead(at + 1, module)?;
+        if let Some(module) = self.module_at(at + 1)? {
+            let taken = self.taken(at + 1, module)?;
+            if taken.has_ghosts && taken.kept.is_empty() {
+                self.cut_item(start, end)?;
+                return Ok(end);
+            }
+            self.lead(at + 1, module);
+            if taken.has_ghosts {
+                self.keep_names(at + 2 + length(module), &taken.kept);
+            }
         } else if first == "crate" || self.names.crates.contains_key(first) {
             self.lead_to_crate(at + 1);
         } else if !["super", "self"].contains(&first) && !self.declared.contains(first) {
@@ -39,8 +49,10 @@ impl Walk<'_> {
     pub(crate) fn path(&mut self, at: usize) -> Next {
         let first = self.source.at(at);
         if let Some(module) = self.module_at(at)? {
-            self.names_of(at, Some(module))?;
-            self.lead(at, Some(module))?;
+            if self.taken(at, module)?.has_ghosts {
+                return Err(self.source.fault(at, "a ghost path in code"));
+            }
+            self.lead(at, module);
             return Ok(at + length(module));
         }
         if first == "crate" || self.names.crates.contains_key(first) {
@@ -68,8 +80,8 @@ impl Walk<'_> {
     /// What may be called by a path that begins with this type or module.
     fn associated(&self, first: &str) -> Option<&'static [&'static str]> {
         let all = self.names.forms.iter().flat_map(|forms| forms.associated);
-        all.filter(|known| known.0 == first)
-            .last()
+        all.rev()
+            .find(|known| known.0 == first)
             .map(|known| known.1)
     }
 
@@ -92,43 +104,47 @@ impl Walk<'_> {
         Ok(longest)
     }
 
-    /// Tests the names that are taken from the module at this place. If the path ends with the module,
-    /// it is known by its name from here on.
-    fn names_of(&mut self, at: usize, module: Option<&'static Module>) -> Result<(), Fault> {
-        let Some(module) = module else {
-            return Ok(());
-        };
+    /// The names that are taken from the module at this place. If the path ends with the module, it is
+    /// known by its name from here on.
+    fn taken(&mut self, at: usize, module: &'static Module) -> Result<Taken<'a>, Fault> {
         let end = at + length(module);
+        let mut taken = Taken::default();
         if self.source.at(end) != "::" {
             let alias = self.source.at(end) == "as";
             let name = if alias { end + 1 } else { end - 1 };
             self.modules.insert(self.source.at(name), module.names);
-            return Ok(());
+            return Ok(taken);
         }
-        let names = match self.source.at(end + 1) {
-            "{" => (end + 2..self.source.partner(end + 1)).collect(),
-            _ => vec![end + 1],
+        let places = match self.source.at(end + 1) {
+            "{" => end + 2..self.source.partner(end + 1),
+            _ => end + 1..end + 2,
         };
-        for at in names {
+        for at in places {
             let name = self.source.at(at);
-            if name != "," && !module.names.contains(&name) {
+            if module.ghost.contains(&name) {
+                taken.has_ghosts = true;
+            } else if module.names.contains(&name) {
+                taken.kept.push(name);
+            } else if name != "," {
                 let what = format!("an unknown path: `{}::{name}`", module.path);
                 return Err(self.source.fault(at, what));
             }
         }
-        Ok(())
+        Ok(taken)
     }
 
     /// Puts what the module leads to in the place of its path.
-    fn lead(&mut self, at: usize, module: Option<&'static Module>) -> Result<(), Fault> {
-        let Some(module) = module else {
-            return Ok(());
+    fn lead(&mut self, at: usize, module: &Module) {
+        self.replace(at, at + length(module), module.to);
+    }
+
+    /// Puts these names in the place of the list of names that begins here.
+    fn keep_names(&mut self, open: usize, names: &[&str]) {
+        let text = match names {
+            [name] => (*name).to_owned(),
+            _ => format!("{{{}}}", names.join(", ")),
         };
-        let Some(path) = module.to else {
-            return Err(self.source.fault(at, "a ghost path in code"));
-        };
-        self.replace(at, at + length(module), path);
-        Ok(())
+        self.replace(open, self.source.partner(open) + 1, text);
     }
 
     /// Puts the crate's path in the result in the place of its name.

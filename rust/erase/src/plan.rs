@@ -2,9 +2,10 @@
 
 use crate::audit::audit;
 use crate::clauses::shown;
-use crate::crates::{add_names, below, read, Crate};
+use crate::crates::{add_names, below, read, Crate, File};
 use crate::erase;
 use crate::forms::PACKAGE;
+use crate::host::HOST;
 use crate::source::{Fault, Source};
 use crate::walk::Names;
 use std::collections::BTreeMap;
@@ -15,11 +16,34 @@ use std::path::{Path, PathBuf};
 /// The crates that the package's face calls. They are erased with all that they stand on.
 const TOPS: &[&str] = &["ent_runner"];
 
-/// The folder of the results in the repository, and its path in the package.
-const PROVED: (&str, &str) = ("rust/forgeni/src/proved", "crate::proved");
+/// The tests of those crates, and what tests alone use.
+const TESTS: &[&str] = &[
+    "ent_alloc_tests",
+    "ent_claims_tests",
+    "ent_handle_tests",
+    "ent_queue_tests",
+    "ent_replay_tests",
+    "ent_runner_tests",
+    "ent_shared_tests",
+    "ent_storage_tests",
+    "ent_world_tests",
+];
 
-/// The head of the file that has the crates as modules.
-const HEAD: &str = "\
+/// A folder of results in the repository. Nothing else stands in it.
+pub struct Target {
+    /// The folder.
+    pub folder: &'static str,
+    /// Its path in the package that it is of.
+    path: &'static str,
+    /// The head of the file that has the crates as modules.
+    head: &'static str,
+}
+
+/// The results of the package.
+pub static PROVED: Target = Target {
+    folder: "rust/forgeni/src/proved",
+    path: "crate::proved",
+    head: "\
 //! The proved crates of this repository as plain Rust, each a module.
 //!
 //! `rust/erase` makes all files here of the sources below `crates/`. What is ghost is taken out, and the
@@ -31,7 +55,20 @@ const HEAD: &str = "\
 // What a clause alone reads isn't used here, and the package doesn't call all that is proved. How the
 // sources are written is up to them.
 #![allow(dead_code, unused_imports, unused_variables, clippy::all)]
-";
+",
+};
+
+/// The results of the tests.
+pub static TESTED: Target = Target {
+    folder: "rust/erased_tests/src/made",
+    path: "crate::made",
+    head: "\
+//! The repository's own tests of the proved crates as plain Rust, each crate a module.
+//!
+//! `rust/erase --tests` makes all files here.
+#![allow(dead_code, unused_imports, unused_variables, clippy::all)]
+",
+};
 
 /// The texts of the files that are to be, by their paths in the repository.
 pub type Files = BTreeMap<PathBuf, String>;
@@ -43,51 +80,78 @@ pub type Files = BTreeMap<PathBuf, String>;
 /// A file can't be read, a source has an unknown form, a result isn't its source, or the face shows
 /// clauses that aren't there.
 pub fn package(repository: &Path) -> Result<Files, Box<dyn Error>> {
-    let (folder, path) = PROVED;
-    let listed = fs::read_to_string(repository.join("crates.txt"))?;
-    let tops: Vec<String> = TOPS.iter().map(|top| (*top).to_owned()).collect();
-    let names = below(&listed, &tops)?;
-    let crates = names.iter().map(|name| read(repository, name));
-    let crates = crates.collect::<Result<Vec<_>, _>>()?;
+    let crates = crates_below(repository, TOPS)?;
     let mut names = Names {
         forms: vec![&PACKAGE],
         ..Names::default()
     };
-    add_names(&mut names, &crates, path)?;
-    let mut files = erased(&crates, Path::new(folder), &names)?;
-    let mut names: Vec<&str> = crates.iter().map(|it| it.name.as_str()).collect();
-    names.sort_unstable();
-    let modules: String = names
-        .iter()
-        .map(|name| format!("pub mod {name};\n"))
-        .collect();
-    files.insert(
-        Path::new(folder).join("mod.rs"),
-        format!("{HEAD}\n{modules}"),
-    );
-    let clauses = shown(repository, Path::new(folder), &files)?;
+    add_names(&mut names, &crates, PROVED.path)?;
+    let mut files = erased(&crates, &PROVED, &names)?;
+    let clauses = shown(repository, Path::new(PROVED.folder), &files)?;
     files.extend(clauses);
     Ok(files)
 }
 
-/// The results of the crates, each in a folder of its own, each audited.
-fn erased(crates: &[Crate], folder: &Path, names: &Names) -> Result<Files, Fault> {
+/// Erases the tests of those crates.
+///
+/// # Errors
+///
+/// As of [`package`].
+pub fn tests(repository: &Path) -> Result<Files, Box<dyn Error>> {
+    let crates = crates_below(repository, TOPS)?;
+    let mut tests = crates_below(repository, TESTS)?;
+    tests.retain(|test| crates.iter().all(|krate| krate.name != test.name));
+    let mut names = Names {
+        forms: vec![&PACKAGE, &HOST],
+        ..Names::default()
+    };
+    add_names(&mut names, &crates, PROVED.path)?;
+    add_names(&mut names, &tests, TESTED.path)?;
+    erased(&tests, &TESTED, &names)
+}
+
+/// These crates and all of the repository's that they stand on.
+fn crates_below(repository: &Path, tops: &[&str]) -> Result<Vec<Crate>, Box<dyn Error>> {
+    let listed = fs::read_to_string(repository.join("crates.txt"))?;
+    let tops: Vec<String> = tops.iter().map(|top| (*top).to_owned()).collect();
+    let names = below(&listed, &tops)?;
+    let crates = names.iter().map(|name| read(repository, name));
+    Ok(crates.collect::<Result<_, _>>()?)
+}
+
+/// The results of the crates, each audited, and the file that has them as modules.
+fn erased(crates: &[Crate], target: &Target, names: &Names) -> Result<Files, Box<dyn Error>> {
+    let folder = Path::new(target.folder);
     let mut files = Files::new();
+    let mut faults = Vec::new();
     for krate in crates {
         for file in &krate.files {
-            let source = Source::read(&file.path, &file.text)?;
-            let text = erase(&source, &krate.name, names)?;
             let path = folder.join(&krate.name).join(&file.result);
-            let shown = path.display().to_string();
-            let result = Source::read(&shown, &text)?;
-            audit(&source, &result, &krate.name, names)?;
-            files.insert(path, text);
+            match audited(krate, file, &path, names) {
+                Ok(text) => drop(files.insert(path, text)),
+                Err(fault) => faults.push(fault.to_string()),
+            }
         }
     }
+    if !faults.is_empty() {
+        return Err(faults.join("\n").into());
+    }
+    let mut modules: Vec<&str> = crates.iter().map(|it| it.name.as_str()).collect();
+    modules.sort_unstable();
+    let modules: String = modules
+        .iter()
+        .map(|name| format!("pub mod {name};\n"))
+        .collect();
+    files.insert(folder.join("mod.rs"), format!("{}\n{modules}", target.head));
     Ok(files)
 }
 
-/// The folder that has the results of the package and nothing else.
-pub fn folder() -> &'static Path {
-    Path::new(PROVED.0)
+/// The result of a source, after its audit.
+fn audited(krate: &Crate, file: &File, path: &Path, names: &Names) -> Result<String, Fault> {
+    let source = Source::read(&file.path, &file.text)?;
+    let text = erase(&source, &krate.name, names)?;
+    let path = path.display().to_string();
+    let result = Source::read(&path, &text)?;
+    audit(&source, &result, &krate.name, names)?;
+    Ok(text)
 }

@@ -69,6 +69,14 @@ fn models() {
 }
 
 #[test]
+fn imports_of_which_a_part_is_ghost() {
+    gives(
+        "use std::marker::{Model, PhantomData};\n\nstruct A<B>(PhantomData<B>);\n",
+        "use core::marker::PhantomData;\n\nstruct A<B>(PhantomData<B>);\n",
+    );
+}
+
+#[test]
 fn clauses_become_comments() {
     gives(
         "fn a(b: u8) -> Option<u8>\n    requires b { b ≡ { 1 } }\n    // Why.\n    ensures { IfSome result\n        \
@@ -258,6 +266,11 @@ fn what_only_looks_ghost_stays() {
          /* ghost a = { b }; */\nconst C: [char; 2] = ['{', '\\''];\n\n// #[tactic(auto)]\nconst D: &[u8] = b\"}\";\n\
          const E: &str = r#\"\"ensures { \"#;\nconst F: char = '\"';\n",
     );
+}
+
+#[test]
+fn types_and_ranges_of_slices() {
+    stays("type A = [u8; 2];\n\n#[inline]\nfn b() -> ([u8; 2], &[u8]) {\n    c.get(1..)\n}\n");
 }
 
 #[test]

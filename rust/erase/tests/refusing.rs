@@ -257,6 +257,7 @@ const REFUSED: &[(&str, usize, &str)] = &[
         "an unknown path: `either::IterEither`",
     ),
     ("use rayon::join;\n", 1, "an unknown crate: `rayon`"),
+    ("type A = std::marker::Model;\n", 1, "a ghost path in code"),
     (
         "fn a() {\n    Vec::from_array(b);\n}\n",
         2,

@@ -29,8 +29,14 @@ pub(super) fn changes(krate: &str, names: &Names) -> Vec<Change> {
     }
     for forms in &names.forms {
         for module in forms.modules {
-            let to = module.to.map(|to| change(true, module.path, to));
-            changes.extend(to);
+            changes.push(change(true, module.path, module.to));
+            // A list of names of which some are ghost.
+            for name in module.names {
+                for ghost in module.ghost {
+                    let from = format!("{}::{{{ghost}, {name}}}", module.path);
+                    changes.push(change(true, &from, &format!("{}::{name}", module.to)));
+                }
+            }
         }
         for renamed in forms.renamed {
             for argument in renamed.arguments {

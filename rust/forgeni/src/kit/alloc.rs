@@ -32,6 +32,14 @@ impl fmt::Display for AllocError {
 
 impl core::error::Error for AllocError {}
 
+impl<T> fmt::Display for AllocFailed<T> {
+    fn fmt(&self, f: &mut fmt::Formatter<'_>) -> fmt::Result {
+        AllocError.fmt(f)
+    }
+}
+
+impl<T: fmt::Debug> core::error::Error for AllocFailed<T> {}
+
 impl From<TryReserveError> for AllocError {
     fn from(_refused: TryReserveError) -> Self {
         AllocError

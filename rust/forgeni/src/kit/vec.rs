@@ -159,6 +159,35 @@ impl<T> Vec<T> {
     }
 }
 
+/// What the repository's own tests call, and the package doesn't.
+#[cfg(test)]
+impl<T> Vec<T> {
+    /// The contract: the items of the array.
+    pub fn from_array<const N: usize>(alloc: Global, items: [T; N]) -> Result<Self, AllocError> {
+        let mut list = Vec::with_capacity(alloc, N)?;
+        list.0.extend(items);
+        Ok(list)
+    }
+
+    /// The contract: copies of the items.
+    pub fn from_slice(alloc: Global, items: &[T]) -> Result<Self, AllocError>
+    where
+        T: Copy,
+    {
+        let mut list = Vec::with_capacity(alloc, items.len())?;
+        list.extend_from_slice(items)?;
+        Ok(list)
+    }
+
+    /// The contract: the items rise, and equal ones keep their order.
+    pub fn sort(&mut self) -> Result<(), AllocError>
+    where
+        T: Ord + Copy,
+    {
+        self.sort_by_key(|item| *item)
+    }
+}
+
 /// In tests, whether a growth is to be refused now. Else it is up to the allocator alone.
 #[inline]
 fn allow_growth() -> Result<(), AllocError> {
