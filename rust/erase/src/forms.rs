@@ -214,7 +214,7 @@ const MODULES: &[Module] = &[
     module(
         "std::thread",
         "crate::kit::thread",
-        &["Threads", "for_each_mut"],
+        &["Threads", "join_mut"],
     ),
     Module {
         path: "thiserror",
@@ -306,6 +306,7 @@ const METHODS: &[&str] = &[
     "sort_by_key",
     "sort_unstable",
     "split_at",
+    "split_at_mut",
     "split_first",
     "split_first_chunk",
     "split_last",

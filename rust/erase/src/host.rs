@@ -85,6 +85,7 @@ const METHODS: &[&str] = &[
     "bytes",
     "checked_rem",
     "copied",
+    "ends_with",
     "eq",
     "err",
     "load",

@@ -52,6 +52,13 @@
 //! While the allocator is shared it is inside the [`Shared`], so nothing but reservations can
 //! happen: `alloc`, `free` and `state` don't compile.
 //!
+//! # Worlds and frames
+//!
+//! A [`World`] has the allocator and what entities are made of. `run_frame` runs systems on workers.
+//! Each reads the world and issues commands, and the commands take effect in the order of the
+//! systems. Who has threads of its own uses [`World::open`], [`Commands`], [`OpenWorld::close`] and
+//! [`World::apply`].
+//!
 //! # What may go wrong
 //!
 //! - An `Entities` that is used while it is shared, a `Reserver` after its phase was closed, or one
@@ -62,15 +69,41 @@
 //! - A thread panics, and its reserver is dropped: `close` says what is missing, and
 //!   [`close_lost`](Shared::close_lost) ends the phase. The handles of the lost reserver come to
 //!   life too. [`OpenWorld::close_lost`] does the same for a world, with the queues of the others.
-//! - A reserver that is forgotten ([`std::mem::forget`]) counts as in use for good. The phase goes
+//! - A system panics in `run_frame`: its panic is handed on, and the world is as before but for what
+//!   was reserved.
+//! - A reserver that is forgotten ([`core::mem::forget`]) counts as in use for good. The phase goes
 //!   on, and can't be closed.
 //! - The `Shared` is dropped: its reservers still reserve, and the allocator goes with the last of
 //!   them.
 //! - Queues are applied to another world than that of their phase: [`SyncError::OtherWorld`].
 //! - Memory runs out: an `Err`. Nothing has changed then, but where a sync point stopped
-//!   ([`Stopped`]).
+//!   ([`Stopped`]) or a frame is lost.
 //!
-//! MEMORY
+//! Nothing panics. Where Rust has no form that can be refused memory, the process ends, as it does
+//! of `Vec` and `Arc`:
+//!
+//! - [`Report::born`], [`Report::faults`], [`Storage::items`] and [`World::items`] make a list.
+//! - [`Entities::share`] and [`World::open`] make an `Arc`. They ask for as much memory before, and
+//!   say so if it is refused. So only another thread can take it in between.
+//! - A close after one that was refused with [`CloseError::InUse`] may make a list.
+//! - `run_frame` with more than one worker starts threads.
+//!
+//! # Proved, trusted, tested
+//!
+//! Proved is the source, call by call. Below the docs of a call stand the clauses of its contract,
+//! with the words of the folders `specs/` of this repository. The proofs are made by Rattle's kit,
+//! before what is ghost is taken out of the source.
+//!
+//! Trusted are the program that takes it out (`rust/erase`), the module `kit`, which has Rust's own
+//! types in place of those of Rattle's kit, rustc and its libraries, and that no number is given to
+//! two phases or worlds. The proofs know no unwinding: trusted is that none goes through a call.
+//!
+//! Tested is the rest: what a caller sees of each call, beside models in plain Rust.
+//!
+//! # Features
+//!
+//! `std`, which is on by default: `run_frame` and its systems, since they start threads. Without it
+//! the package is `no_std` with `alloc`.
 #![cfg_attr(not(test), no_std)]
 #![forbid(unsafe_code)]
 #![deny(missing_docs)]

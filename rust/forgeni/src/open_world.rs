@@ -59,7 +59,7 @@ impl OpenWorld {
     /// for them.
     fn give_all(mut self, mut all: Vec<Commands>) -> Result<(Self, Vec<Commands>), Unopened> {
         loop {
-            match self.proved.issuer(Global) {
+            match self.proved.issuer() {
                 Ok(Some(issuer)) => all.push(Commands::of(issuer)),
                 Ok(None) => break,
                 Err(_) => {
@@ -85,6 +85,7 @@ impl OpenWorld {
     }
 
     /// The value of the entity's component, if the entity is alive and has it.
+    #[doc = include_str!("proved/ent_world/view.get.md")]
     #[inline]
     #[must_use]
     pub fn get(&self, handle: Handle, id: ComponentId) -> Option<i64> {
@@ -92,6 +93,7 @@ impl OpenWorld {
     }
 
     /// When and by whom the entity was brought to life, if it is alive.
+    #[doc = include_str!("proved/ent_world/view.birth.md")]
     #[inline]
     #[must_use]
     pub fn birth(&self, handle: Handle) -> Option<Birth> {
@@ -99,6 +101,7 @@ impl OpenWorld {
     }
 
     /// Whether the entity is alive. What the systems spawn isn't yet.
+    #[doc = include_str!("proved/ent_world/view.contains.md")]
     #[inline]
     #[must_use]
     pub fn contains(&self, handle: Handle) -> bool {
@@ -110,17 +113,20 @@ impl OpenWorld {
     /// # Errors
     ///
     /// `OutOfMemory`: there is no memory for the list.
+    #[doc = include_str!("proved/ent_world/view.by_birth.md")]
     pub fn by_birth(&self) -> Result<Vec<Handle>, OutOfMemory> {
         Ok(all_handles(self.proved.world().view().by_birth()?))
     }
 
     /// How many systems the phase has.
+    #[doc = include_str!("proved/ent_total/world_phase.count.md")]
     #[must_use]
     pub fn count(&self) -> usize {
         self.proved.count()
     }
 
     /// How many queues it has already: a close that was refused took them.
+    #[doc = include_str!("proved/ent_total/world_phase.at_home.md")]
     #[must_use]
     pub fn at_home(&self) -> usize {
         self.proved.at_home()
@@ -136,6 +142,7 @@ impl OpenWorld {
     /// [`Missing`](FinishError::Missing) and [`Memory`](FinishError::Memory) all queues come back,
     /// in their order. With [`InUse`](FinishError::InUse) the phase keeps them, as
     /// [`close_lost`](Self::close_lost) does.
+    #[doc = include_str!("proved/ent_total/finishing.close.md")]
     pub fn close(self, queues: Vec<CommandQueue>) -> Result<(World, Queues), Unfinished> {
         Self::ended(self.proved.close(issued(queues)))
     }
@@ -153,7 +160,8 @@ impl OpenWorld {
     /// As of [`close`](Self::close), without `Missing`. With [`InUse`](FinishError::InUse) the
     /// `Commands` or the queue of a system exists that wasn't handed in. The phase keeps those that
     /// were, and they stay before those that the next close is given. One that was given to
-    /// [`std::mem::forget`] exists for good.
+    /// [`core::mem::forget`] exists for good.
+    #[doc = include_str!("proved/ent_total/finishing.close_lost.md")]
     pub fn close_lost(self, queues: Vec<CommandQueue>) -> Result<(World, Queues), Unfinished> {
         Self::ended(self.proved.close_lost(issued(queues)))
     }

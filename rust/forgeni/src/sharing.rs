@@ -5,8 +5,9 @@ use crate::errors::{CloseError, OtherPhase, OutOfMemory, Refused, ShareError, Un
 use crate::handle::Handle;
 use crate::kit::alloc::Global;
 use crate::kit::vec::Vec as List;
+use crate::lists::all_handles;
 use crate::numbers::{next_number, Numbers};
-use crate::proved::{ent_alloc, ent_total};
+use crate::proved::{ent_alloc, ent_handle, ent_total};
 use crate::unsync::Unsync;
 use alloc::vec::Vec;
 use core::fmt;
@@ -144,7 +145,7 @@ impl Shared {
     /// # Errors
     ///
     /// [`Unclosed`] says why. As long as a reserver that wasn't handed in exists, it is `InUse`.
-    /// One that was given to [`std::mem::forget`] exists for good.
+    /// One that was given to [`core::mem::forget`] exists for good.
     #[doc = include_str!("proved/ent_total/closing.close_lost.md")]
     pub fn close_lost(self, reservers: Vec<Reserver>) -> Result<Entities, Unclosed> {
         self.end(reservers, Phase::close_lost)
@@ -214,6 +215,8 @@ impl fmt::Debug for Shared {
 #[repr(align(128))]
 pub struct Reserver {
     proved: Caller,
+    /// Room for what the proved code gives, which is used again.
+    given: List<ent_handle::Handle>,
     _unsync: Unsync,
 }
 
@@ -221,6 +224,7 @@ impl Reserver {
     pub(crate) fn of(proved: Caller) -> Self {
         Self {
             proved,
+            given: List::new(Global),
             _unsync: Unsync::NEW,
         }
     }
@@ -246,14 +250,15 @@ impl Reserver {
     /// `Space` if the pool has fewer than `n` handles, which is taken from the quota too, and the
     /// pool gives no more until the next flush. `Quota` if `n` is above what is left of it, and
     /// `Memory` if there is none for the list: then nothing has changed.
+    #[doc = include_str!("proved/ent_total/caller.reserve_into.md")]
     pub fn reserve_many(&mut self, n: u32) -> Result<Vec<Handle>, Refused> {
-        let mut handles = Vec::new();
-        self.reserve_into(&mut handles, n)?;
-        Ok(handles)
+        let mut given = List::new(Global);
+        self.proved.reserve_into(&mut given, n)?;
+        Ok(all_handles(given))
     }
 
     /// [`reserve_many`](Self::reserve_many), which appends the handles to this list. With a list
-    /// that has room it takes no memory.
+    /// that has room it takes memory only where `n` is above that of each earlier call.
     ///
     /// # Errors
     ///
@@ -261,10 +266,11 @@ impl Reserver {
     #[doc = include_str!("proved/ent_total/caller.reserve_into.md")]
     #[inline]
     pub fn reserve_into(&mut self, handles: &mut Vec<Handle>, n: u32) -> Result<(), Refused> {
-        handles
-            .try_reserve(n as usize)
-            .map_err(|_| Refused::Memory)?;
-        handles.extend(self.proved.reserve_many(n)?.map(Handle::of));
+        let room = handles.try_reserve(n as usize);
+        room.map_err(|_| Refused::Memory)?;
+        self.given.clear();
+        self.proved.reserve_into(&mut self.given, n)?;
+        handles.extend(self.given.iter().map(|one| Handle::of(*one)));
         Ok(())
     }
 

@@ -162,6 +162,7 @@ impl Stopped {
     ///   changed.
     /// - [`GoOnError::Memory`]: nothing has changed.
     /// - [`GoOnError::Stopped`]: it stopped again, there or later, and can go on from there.
+    #[doc = include_str!("proved/ent_total/applying.go_on.md")]
     pub fn go_on(self, world: &mut World) -> Result<Report, GoOnError> {
         let so_far = self.so_far;
         match self.proved.go_on(&mut world.proved) {

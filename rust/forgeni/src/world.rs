@@ -231,6 +231,7 @@ impl World {
     /// let (open, systems) = world.open(1).unwrap();
     /// world.spawn(&[]);
     /// ```
+    #[doc = include_str!("proved/ent_total/world_opening.open.md")]
     pub fn open(self, count: usize) -> Result<(OpenWorld, Vec<Commands>), Unopened> {
         OpenWorld::open(self.proved, count)
     }
@@ -245,6 +246,7 @@ impl World {
     /// - [`SyncError::Memory`]: nothing was done, and the call may be made again with the queues.
     /// - [`SyncError::Stopped`]: memory ran out at a command. All births stand, and of the commands
     ///   just those before. It may [go on](crate::Stopped::go_on).
+    #[doc = include_str!("proved/ent_total/applying.apply.md")]
     pub fn apply(&mut self, queues: Queues) -> Result<Report, SyncError> {
         Ok(Report::of(self.proved.apply(queues.proved())?))
     }

@@ -19,4 +19,5 @@ pub mod ent_seats;
 pub mod ent_shared;
 pub mod ent_sorted;
 pub mod ent_storage;
+pub mod ent_total;
 pub mod ent_world;

@@ -1,0 +1,3 @@
+pub mod OneHandle
+pub mod Unused
+pub mod Walking

@@ -1,0 +1,16 @@
+use Rattle.std.proofs.Common.{◌≡◌, ◌≤◌, ◌+◌, ◌++◌, length, vec_len}
+use Rattle.std.specs.Prelude.{All, vec_capacity}
+use Rattle.ent_shared.specs.Phase.{IsOf}
+use Rattle.ent_total.specs.Sharing.{AreOf, reservers_of}
+use Rattle.ent_total.proofs.homecoming.bring_home.Given as goal
+
+-- those that came so far
+abbrev pub invariant-loop-caller : goal.invariant-loop-caller
+invariant-loop-caller g l = record {
+  all : l.yielded ++ l.caller-iterator.rest.items ≡ l.fn.callers.items;
+  items : l.home.items ≡ l.initial.home.items ++ reservers_of l.yielded;
+  own : All (IsOf l.fn.shared) l.home.items;
+  of : AreOf l.fn.number l.caller-iterator.rest.items;
+  room : vec_len l.home + length l.caller-iterator.rest.items ≤ vec_capacity l.home;
+  capacity : vec_capacity l.home ≡ vec_capacity l.initial.home;
+}

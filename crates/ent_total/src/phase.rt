@@ -1,0 +1,155 @@
+ghost use Rattle.std.specs.Prelude.{◌≡◌, ◌<◌, ◌≤◌, ◌∷◌, [], ◌++◌, All, IfOk, IfErr, OnErr, IsTrue, length};
+ghost use Rattle.std.specs.Prelude.{IfSome, IfNone};
+ghost use Rattle.std.specs.Vec.{vec_capacity, vec_len};
+ghost use Rattle.std.specs.Arc.{arc_value};
+ghost use Rattle.ent_shared.specs.Phase.{IsOf};
+ghost use Rattle.ent_total.specs.Sharing.{AreOf, all_home};
+
+use crate::caller::Caller;
+use crate::homecoming::bring_home;
+use crate::numbering::Numbering;
+use ent_handle::Memory;
+use ent_shared::{Reserver, Shared};
+use std::alloc::Global;
+use std::marker::{Model, PhantomData};
+use std::sync::Arc;
+
+/// An allocator that is shared, with the reservers that no caller has.
+#[derive(Drop)]
+pub struct Phase<J: Numbering> {
+    alloc: Global,
+    shared: Arc<Shared, Global>,
+    home: Vec<Reserver>,
+    number: u64,
+    of: PhantomData<J>,
+}
+
+impl<J: Numbering> Model for Phase<J> {
+    ghost use Rattle.std.specs.Prelude.{All, ◌≤◌, ◌≡◌};
+    ghost use Rattle.std.specs.Vec.{vec_capacity};
+    ghost use Rattle.std.specs.Arc.{arc_value};
+    ghost use Rattle.ent_shared.specs.Phase.{IsOf};
+    ghost use Rattle.ent_total.specs.Sharing.{Phase, phase_code};
+
+    ghost Value = { Phase };
+
+    ghost coded = { phase_code };
+
+    ghost view = { λ p. record {
+      number = p.number;
+      shared = arc_value p.shared;
+      home = p.home.items;
+    } };
+
+    // The number stands for this allocator, the reservers at home came with it, and there is room
+    // for all of them.
+    ghost invariant = { λ p. (J.shared_of p.number ≡ arc_value p.shared)
+        × All (IsOf (arc_value p.shared)) p.home.items
+        × ((arc_value p.shared).count ≤ vec_capacity p.home) };
+}
+
+impl<J: Numbering> Phase<J> {
+    pub(crate) fn new(
+        alloc: Global,
+        shared: Arc<Shared, Global>,
+        home: Vec<Reserver>,
+        number: u64,
+    ) -> Self
+        requires stands_for { J.shared_of number ≡ arc_value shared }
+        requires own { All (IsOf (arc_value shared)) home.items }
+        requires room { (arc_value shared).count ≤ vec_capacity home }
+        ensures { result
+            ≡ record { number = number; shared = arc_value shared; home = home.items } }
+    {
+        Phase {
+            alloc,
+            shared,
+            home,
+            number,
+            of: PhantomData,
+        }
+    }
+
+    /// How many callers it has, whether they exist, are at home or were lost.
+    pub fn count(&self) -> usize
+        ensures { result ≡ self.now.shared.count }
+    {
+        self.shared.count()
+    }
+
+    /// How many of them are at home.
+    pub fn at_home(&self) -> usize
+        ensures { result ≡ length self.now.home }
+    {
+        self.home.len()
+    }
+
+    pub(crate) fn number(&self) -> u64
+        ensures number { result ≡ self.now.number }
+        ensures stands_for { J.shared_of result ≡ self.now.shared }
+    {
+        self.number
+    }
+
+    /// A caller with the last of the reservers at home, or `None` if none is.
+    ///
+    /// # Errors
+    ///
+    /// `Memory` if the phase can't have one more owner. Nothing has changed then.
+    pub fn caller(&mut self) -> Result<Option<Caller<J>>, Memory>
+        ensures given { IfOk result (λ found. IfSome found (λ c.
+            (c.number ≡ self.old.number) × (c.shared ≡ self.old.shared)
+            × (self.old ≡ record self.new { home = self.new.home ++ c.reserver ∷ [] }))) }
+        ensures none { IfOk result (λ found. IfNone found
+            ((self.old.home ≡ []) × (self.new ≡ self.old))) }
+        ensures err { OnErr result (self.new ≡ self.old) }
+    {
+        let Ok(shared) = Arc::try_clone(&self.shared) else {
+            return Err(Memory);
+        };
+        let Some(reserver) = self.home.pop() else {
+            return Ok(None);
+        };
+        Ok(Some(Caller {
+            shared,
+            reserver,
+            number: self.number,
+            of: PhantomData,
+        }))
+    }
+
+    /// Takes callers home, which needs no memory.
+    pub(crate) fn take_home(&mut self, callers: Vec<Caller<J>>)
+        requires own { AreOf self.old.number callers.items }
+        requires few { length (all_home self.old callers.items) ≤ self.old.shared.count }
+        ensures { self.new ≡ record self.old { home = all_home self.old callers.items } }
+    {
+        bring_home(&mut self.home, &self.shared, self.number, callers);
+    }
+
+    /// The allocator with the reservers that are at home, if no caller owns it too.
+    pub(crate) fn end(self) -> Result<(Shared, Vec<Reserver>), Self>
+        ensures ok { IfOk result (λ parts. (parts.0 ≡ self.shared) × (parts.1.items ≡ self.home)) }
+        ensures own { IfOk result (λ parts. All (IsOf parts.0) parts.1.items) }
+        ensures err { IfErr result (λ phase. phase ≡ self) }
+    {
+        let Phase {
+            alloc,
+            shared,
+            home,
+            number,
+            of: _,
+        } = self;
+        match Arc::try_unwrap(shared) {
+            Ok(shared) => Ok((shared, home)),
+            Err(shared) => Err(Phase::new(alloc, shared, home, number)),
+        }
+    }
+
+    /// A list without callers.
+    pub(crate) fn no_callers(&self) -> Vec<Caller<J>>
+        ensures { result.items ≡ [] }
+    {
+        Vec::new(self.alloc)
+    }
+}
