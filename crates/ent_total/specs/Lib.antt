@@ -1,4 +1,8 @@
+pub mod Applying
+pub mod Batch
 pub mod Closing
 pub mod Faults
+pub mod Finishing
+pub mod Issuing
 pub mod Refusals
 pub mod Sharing
