@@ -1,6 +1,6 @@
 #!/bin/sh
-# Runs the program with each of its allocations refused in turn: schedules, scripts on one worker and on eight, and a script that is
-# refused. Each run must end as an undisturbed one does (the program may do without that piece of memory), or with status 3, `memory` on
+# Runs the program with each of its allocations refused in turn: schedules, scripts on one worker and on eight, with a bundle that takes
+# memory and with many births as targets, and a script that is refused. Each run must end as an undisturbed one does (the program may do without that piece of memory), or with status 3, `memory` on
 # standard error and nothing else. Then it runs each test of refused memory in the same way: it must pass, whichever allocation is
 # refused. It needs `cc` on the path, and the program and the tests as `.ci/run` built them. If the program wasn't built, `rt`, which
 # then proves it first; tests that weren't built are left out.
@@ -56,6 +56,11 @@ cat >"$room/targets.json" <<'END'
   [[{"spawn_many":2,"with":{"hp":1},"as":"g"},{"insert":{"mp":4},"on":{"name":"g"}}]],
   [[{"remove":"hp","on":{"each":"hp"}}],[{"insert":{"hp":8},"on":{"each":"mp"}}]]]}
 END
+cat >"$room/bundle.json" <<'END'
+{"components":["a","b","c","d","e"],"frames":[
+  [[{"spawn":{"e":5,"d":4,"c":3,"b":2,"a":1},"as":"x"},{"spawn_many":1,"as":"y"},{"insert":{"c":9},"on":{"name":"x"}}]],
+  [[{"remove":"e","on":{"each":"d"}},{"despawn":{"handle":"1v1"}}]]]}
+END
 # So many births are looked up that all entities are listed for it.
 awk 'BEGIN {
     printf "{\"format\":2,\"components\":[\"hp\"],\"frames\":[[[{\"spawn_many\":40}]],[["
@@ -65,6 +70,7 @@ awk 'BEGIN {
 each "$here/one_caller.txt" replay
 each "$here/two_callers.txt" replay
 each "$room/targets.json" run --show handles
+each "$room/bundle.json" run --show handles
 each "$room/births.json" run
 each "$scripts/reuse.json" run --show handles
 each "$scripts/spawners.json" run --workers 8

@@ -2,9 +2,11 @@ use ent_handle::{Birth, ComponentId, Handle, Memory};
 use std::alloc::Global;
 
 /// A call: its name, and what it is given. Each word tells by its form what it is: `0v1` is a
-/// handle, `0.0.2` a birth, `0=10` a component with its value, and `7` a number.
+/// handle, `0.0.2` a birth, `0=10` a component with its value, and `7` a number. The words of a
+/// `system` are calls.
 #[derive(Drop)]
 pub struct Call<'a> {
+    pub line: &'a str,
     /// It is empty if a word has none of these forms.
     pub name: &'a str,
     /// Whose call it is: `0: spawn` is a call of system 0.
@@ -23,7 +25,10 @@ impl<'a> Call<'a> {
     /// The call of a line.
     pub fn read(alloc: Global, line: &'a str) -> Result<Self, Memory> {
         let mut words = line.split_whitespace();
-        let mut call = Call::of(alloc, words.next().unwrap_or(""));
+        let mut call = Call::of(alloc, line, words.next().unwrap_or(""));
+        if call.name == "system" {
+            return Ok(call);
+        }
         if let Some(system) = call.name.strip_suffix(':') {
             call.system = system.parse().ok();
             call.name = words.next().unwrap_or("");
@@ -36,8 +41,9 @@ impl<'a> Call<'a> {
         Ok(call)
     }
 
-    fn of(alloc: Global, name: &'a str) -> Self {
+    fn of(alloc: Global, line: &'a str, name: &'a str) -> Self {
         Call {
+            line,
             name,
             system: None,
             handle: Handle::from_parts(0, 1),

@@ -9,11 +9,12 @@ use crate::writing::Out;
 use anyhow::Result;
 use ent_handle::Memory;
 use std::alloc::Global;
+use std::thread::Threads;
 
 /// What the calls are made of.
 pub trait Layer {
     /// Makes the call, and writes what it returned.
-    fn answer(&mut self, call: &Call<'_>, out: &mut Out);
+    fn answer<R: Threads + Sync>(&mut self, rt: &R, call: &Call<'_>, out: &mut Out);
 }
 
 /// How far a file has been run.
@@ -38,7 +39,7 @@ impl<'a> Case<'a> {
     }
 
     /// Makes all calls of the text.
-    pub fn run<L: Layer>(&mut self, rt: &impl Print, layer: &mut L, text: &str) -> Result<()> {
+    pub fn run<L: Layer>(&mut self, rt: &(impl Print + Threads + Sync), layer: &mut L, text: &str) -> Result<()> {
         let lines = lines_of(self.alloc, text)?;
         let mut next = 0;
         for (at, line) in lines.iter().enumerate() {
@@ -58,7 +59,7 @@ impl<'a> Case<'a> {
     /// Makes the calls of these lines once for each number. The first line tells the numbers.
     fn run_rounds<L: Layer>(
         &mut self,
-        rt: &impl Print,
+        rt: &(impl Print + Threads + Sync),
         layer: &mut L,
         numbers: Numbers,
         lines: &[&str],
@@ -74,7 +75,7 @@ impl<'a> Case<'a> {
     /// Makes the call of a line, or those of its own rounds.
     fn run_line<L: Layer>(
         &mut self,
-        rt: &impl Print,
+        rt: &(impl Print + Threads + Sync),
         layer: &mut L,
         line: &str,
         n: u32,
@@ -92,7 +93,7 @@ impl<'a> Case<'a> {
     /// Makes the call of a line, if it has one.
     fn run_call<L: Layer>(
         &mut self,
-        rt: &impl Print,
+        rt: &(impl Print + Threads + Sync),
         layer: &mut L,
         line: &str,
         round: Round,
@@ -109,13 +110,13 @@ impl<'a> Case<'a> {
     /// Makes one call, and compares.
     fn make<L: Layer>(
         &mut self,
-        rt: &impl Print,
+        rt: &(impl Print + Threads + Sync),
         layer: &mut L,
         call: &str,
         wanted: &str,
     ) -> Result<()> {
         let mut out = Out::new(self.alloc);
-        layer.answer(&Call::read(self.alloc, call)?, &mut out);
+        layer.answer(rt, &Call::read(self.alloc, call)?, &mut out);
         self.calls = self.calls.saturating_add(1);
         if out.is_cut || out.text.trim() != wanted {
             self.differ = self.differ.saturating_add(1);

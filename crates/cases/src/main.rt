@@ -7,6 +7,7 @@
 mod call;
 mod case;
 mod filling;
+mod frames;
 mod numbers;
 mod phase;
 mod queues;
@@ -20,6 +21,7 @@ use case::Case;
 use std::env;
 use std::fs;
 use std::rt::Files;
+use std::thread::Threads;
 use storing::Storing;
 use worlding::Worlding;
 
@@ -37,7 +39,7 @@ fn main(rt: HostRuntime) -> Result<()> {
 /// Runs the calls of one file, and tells how many of them return something else than it says.
 fn compare<R>(rt: &R, name: &str) -> Result<u64>
 where
-    R: Files + Print + AllocGlobal,
+    R: Files + Print + Threads + Sync + AllocGlobal,
 {
     let text = fs::read_to_string(rt, name)?;
     let mut case = Case::new(rt.alloc(), name);

@@ -1,6 +1,6 @@
 //! A phase of a world, and what its systems issue.
 ghost use Rattle.std.specs.Prelude.{◌≡◌, ◌<◌, ◌≤◌};
-ghost use Rattle.ent_queue.specs.Commands.{IsReady, shared_of};
+ghost use Rattle.ent_queue.specs.Commands.{IsReady, Extends};
 ghost use Rattle.ent_shared.specs.Phase.{IsOf};
 
 use crate::call::Call;
@@ -19,9 +19,10 @@ pub struct Phase {
 }
 
 impl Model for Phase {
-    ghost use Rattle.std.specs.Prelude.{Unit, tt, All, length};
+    ghost use Rattle.std.specs.Prelude.{◌≡◌, All, length};
+    ghost use Rattle.ent_shared.specs.Phase.{IsOf};
 
-    ghost Value = { Unit };
+    ghost Value = { Unit {0} };
 
     ghost view = { λ _. tt };
 
@@ -106,11 +107,11 @@ fn answer(
     }
 }
 
-fn issue(alloc: Global, commands: &mut Commands<'_>, call: &Call<'_>, out: &mut Out)
+/// Issues a call of `Commands`.
+#[tactic(auto, using(ent_queue::proofs::Extending::extends_nothing, ent_queue::proofs::Extending::extends_then))]
+pub fn issue(alloc: Global, commands: &mut Commands<'_>, call: &Call<'_>, out: &mut Out)
     requires { IsReady commands.old }
-    ensures ready { IsReady commands.new }
-    ensures same { commands.new.reserver.ghost_name ≡ commands.old.reserver.ghost_name }
-    ensures shared { shared_of commands.new ≡ shared_of commands.old }
+    ensures { Extends commands.old commands.new }
 {
     let Ok(bundle) = Bundle::of(alloc, &call.items) else {
         return out.word("out of memory");

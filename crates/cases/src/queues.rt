@@ -39,11 +39,11 @@ pub fn write_queue(queue: &CommandQueue, out: &mut Out) {
     if queue.is_empty() {
         out.word("empty");
     }
-    for (number, entry) in queue.entries().enumerate() {
-        if number > 0 {
-            out.word("; ");
-        }
+    let mut between = "";
+    for entry in queue.entries() {
+        out.word(between);
         write_entry(&entry, out);
+        between = "; ";
     }
 }
 

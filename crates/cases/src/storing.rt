@@ -5,6 +5,7 @@ use crate::case::Layer;
 use crate::writing::Out;
 use ent_storage::{Storage, StorageFault};
 use std::alloc::Global;
+use std::thread::Threads;
 
 /// A storage, as calls change it.
 #[derive(Drop)]
@@ -26,7 +27,7 @@ impl Storing {
 }
 
 impl Layer for Storing {
-    fn answer(&mut self, call: &Call<'_>, out: &mut Out) {
+    fn answer<R: Threads + Sync>(&mut self, _rt: &R, call: &Call<'_>, out: &mut Out) {
         match call.name {
             "new" => {
                 self.storage = Storage::new(self.alloc);

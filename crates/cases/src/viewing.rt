@@ -2,7 +2,6 @@
 
 use crate::call::Call;
 use crate::writing::Out;
-use ent_handle::Handle;
 use ent_world::{View, World};
 
 /// A call of a world that is in no phase.
@@ -13,10 +12,9 @@ pub fn look(world: &World, call: &Call<'_>, out: &mut Out) {
         "birth" => out.birth(world.birth(call.handle)),
         "items" => out.entity(world.items(call.handle)),
         "by_birth" => out.list(world.by_birth()),
-        "entities" => match world.by_birth() {
-            Ok(handles) => write_entities(world, &handles, out),
-            Err(fault) => out.show(&fault),
-        },
+        "entities" => write_entities(world, true, out),
+        // The same without handles.
+        "births" => write_entities(world, false, out),
         _ => look_at_all(world, call, out),
     }
 }
@@ -32,8 +30,11 @@ fn look_at_all(world: &World, call: &Call<'_>, out: &mut Out) {
     }
 }
 
-/// Each entity with its birth, its handle and its components.
-fn write_entities(world: &World, handles: &[Handle], out: &mut Out) {
+/// Each entity with its birth, its handle if that is wanted, and its components.
+fn write_entities(world: &World, has_handles: bool, out: &mut Out) {
+    let Ok(handles) = world.by_birth() else {
+        return out.word("out of memory");
+    };
     if handles.is_empty() {
         out.word("empty");
     }
@@ -42,8 +43,10 @@ fn write_entities(world: &World, handles: &[Handle], out: &mut Out) {
             out.word("; ");
         }
         out.birth(world.birth(*handle));
-        out.word(" ");
-        out.show(handle);
+        if has_handles {
+            out.word(" ");
+            out.show(handle);
+        }
         if let Some(items) = world.items(*handle) {
             out.items(items);
         }

@@ -2,6 +2,7 @@
 
 use crate::call::Call;
 use crate::case::Layer;
+use crate::frames::Listed;
 use crate::phase::Phase;
 use crate::queues::{stops_at, write_queue};
 use crate::viewing::{look, view};
@@ -9,8 +10,10 @@ use crate::writing::Out;
 use ent_alloc::Limits;
 use ent_handle::{Handle, Memory};
 use ent_queue::{Bundle, CommandQueue};
+use ent_runner::{FrameFault, FrameReport, NoGate, run_frame};
 use ent_world::{Fault, SyncFault, SyncReport, World};
 use std::alloc::Global;
+use std::thread::Threads;
 
 /// A world, as calls change it.
 #[derive(Drop)]
@@ -18,8 +21,10 @@ pub struct Worlding {
     /// It is there unless a phase is open.
     world: Option<World>,
     phase: Option<Phase>,
-    /// The queues of the last phase.
+    /// The queues of the last phase or frame.
     queues: Vec<CommandQueue>,
+    /// The systems of the next frame.
+    systems: Vec<Listed>,
     /// Who was born at the last sync point.
     born: Vec<Handle>,
     /// The faults of the last sync point.
@@ -33,6 +38,7 @@ impl Worlding {
             world: Some(World::new(alloc, Limits::default_limits())),
             phase: None,
             queues: Vec::new(alloc),
+            systems: Vec::new(alloc),
             born: Vec::new(alloc),
             faults: Vec::new(alloc),
             alloc,
@@ -46,6 +52,7 @@ impl Worlding {
         };
         self.phase = None;
         self.queues.clear();
+        self.systems.clear();
         self.world = Some(World::new(self.alloc, limits));
         "done"
     }
@@ -131,6 +138,8 @@ impl Worlding {
     fn tell(&mut self, call: &Call<'_>, out: &mut Out) {
         match call.name {
             "born" => out.handles(&self.born),
+            "born_len" => out.show(&self.born.len()),
+            "queues_len" => out.show(&self.queues.len()),
             "faults" => out.faults(&self.faults),
             "bundle" => write_put(self.alloc, call, out),
             "bundle_of" => write_list(self.alloc, call, out),
@@ -154,6 +163,36 @@ impl Worlding {
         }
     }
 
+    /// One more system, with the calls of this line.
+    fn add_system(&mut self, line: &str) -> &'static str {
+        let calls = line.strip_prefix("system").unwrap_or("");
+        let Ok(calls) = String::from_str(self.alloc, calls) else {
+            return "out of memory";
+        };
+        match self.systems.push(Listed { calls }) {
+            Ok(()) => "done",
+            Err(_) => "out of memory",
+        }
+    }
+
+    fn frame<R: Threads + Sync>(&mut self, rt: &R, workers: usize) -> &'static str {
+        let Some(world) = &mut self.world else {
+            return "a phase is open";
+        };
+        if world.needs_flush() || self.systems.len() > 65_536 || workers < 1 || workers > 64 {
+            return "refused";
+        }
+        match run_frame(rt, self.alloc, world, &self.systems, workers, &NoGate) {
+            Ok(FrameReport { queues, sync }) => {
+                self.queues = queues;
+                self.keep(Ok(sync))
+            }
+            Err(FrameFault::Memory) => "out of memory before any system ran",
+            Err(FrameFault::Lost) => "out of memory while the systems ran",
+            Err(FrameFault::Sync { .. }) => "the sync point stopped",
+        }
+    }
+
     fn keep(&mut self, applied: Result<SyncReport, SyncFault>) -> &'static str {
         match applied {
             Ok(SyncReport { born, faults }) => {
@@ -167,7 +206,7 @@ impl Worlding {
 }
 
 impl Layer for Worlding {
-    fn answer(&mut self, call: &Call<'_>, out: &mut Out) {
+    fn answer<R: Threads + Sync>(&mut self, rt: &R, call: &Call<'_>, out: &mut Out) {
         let [first, second, _] = call.numbers;
         let done = match (call.system, call.name) {
             (Some(system), _) => return self.in_phase(system, call, out),
@@ -178,6 +217,12 @@ impl Layer for Worlding {
             (None, "flush") => self.flush(),
             (None, "apply") => self.apply(),
             (None, "apply_from") => self.apply_from(call.numbers),
+            (None, "frame") => self.frame(rt, first as usize),
+            (None, "system") => self.add_system(call.line),
+            (None, "no_systems") => {
+                self.systems.clear();
+                "done"
+            }
             _ => return self.tell(call, out),
         };
         out.word(done);

@@ -1,5 +1,5 @@
-//! Tests of `ent_runner`, over its public calls: what no clause says, worked frames, and systems
-//! that really run side by side.
+//! Tests of `ent_runner`: what no clause says, systems that really run side by side, and memory that
+//! is refused. Worked frames, and frames of many systems, stand in `cases`.
 #![tactic(auto)]
 
 #[cfg(test)]
@@ -17,8 +17,6 @@ mod going_on;
 #[cfg(test)]
 mod leaks;
 #[cfg(test)]
-mod limits;
-#[cfg(test)]
 mod memory;
 #[cfg(test)]
 mod rendezvous;
@@ -27,4 +25,4 @@ mod shown;
 #[cfg(test)]
 mod texts;
 #[cfg(test)]
-mod worked;
+mod workers;

@@ -33,17 +33,6 @@ pub fn births(rt: &impl Abort, alloc: Global, world: &World) -> String {
     text
 }
 
-/// The entities by birth, a line each: birth, handle and components.
-pub fn handles(rt: &impl Abort, alloc: Global, world: &World) -> String {
-    let mut text = text(rt, alloc);
-    for handle in by_birth(rt, world) {
-        write_birth(rt, &mut text, world, handle).expect(rt, "room");
-        write!(text, " {handle}").expect(rt, "room");
-        write_items(rt, &mut text, world, handle).expect(rt, "room");
-    }
-    text
-}
-
 fn write_birth(
     rt: &impl Abort,
     text: &mut String,

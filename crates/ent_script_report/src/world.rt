@@ -1,5 +1,6 @@
-ghost use Rattle.std.specs.Prelude.{◌≡◌, ◌++◌, ℕ, List, map, take, string_bytes};
-ghost use Rattle.std.specs.Prelude.{OnOk, OnErr, vec_len, codes};
+ghost use Rattle.std.specs.Prelude.{◌≡◌, ◌≢◌, ◌⊎◌, ◌+◌, ◌<◌, ◌≤◌, ◌++◌, ℕ, List, length, map, take};
+ghost use Rattle.std.specs.Prelude.{OnOk, OnErr, vec_len, vec_capacity, codes, string_bytes};
+ghost use Rattle.std.specs.FinMap as finite;
 ghost use Rattle.std.specs.List.{flat_map};
 ghost use Rattle.ent_script_report.specs.WorldText.{within_frame_text, birth_text, component_name};
 ghost use Rattle.ent_script_report.specs.WorldText.{item_text};
@@ -15,6 +16,9 @@ use ent_world::World;
 fn append_within_frame(out: &mut Vec<u8>, birth: Birth) -> Result<(), Memory>
     ensures ok { OnOk result (out.new.items ≡ out.old.items ++ within_frame_text birth) }
     ensures kept { OnErr result (take (vec_len out.old) out.new.items ≡ out.old.items) }
+    ensures full { OnErr result (vec_capacity out.old
+        < vec_len out.old + length (within_frame_text birth)) }
+    ensures capacity { vec_capacity out.old ≤ vec_capacity out.new }
 {
     append_labelled(out, b".", birth.system)?;
     append_labelled(out, b".", birth.ordinal)
@@ -23,6 +27,9 @@ fn append_within_frame(out: &mut Vec<u8>, birth: Birth) -> Result<(), Memory>
 fn append_birth(out: &mut Vec<u8>, birth: Birth) -> Result<(), Memory>
     ensures ok { OnOk result (out.new.items ≡ out.old.items ++ birth_text birth) }
     ensures kept { OnErr result (take (vec_len out.old) out.new.items ≡ out.old.items) }
+    ensures full { OnErr result (vec_capacity out.old
+        < vec_len out.old + length (birth_text birth)) }
+    ensures capacity { vec_capacity out.old ≤ vec_capacity out.new }
 {
     append_number(out, birth.frame)?;
     append_within_frame(out, birth)
@@ -33,6 +40,9 @@ fn append_name(out: &mut Vec<u8>, names: &[String], id: ComponentId) -> Result<(
     ensures ok { OnOk result (out.new.items
         ≡ out.old.items ++ codes " " ++ component_name (map string_bytes names.now) id) }
     ensures kept { OnErr result (take (vec_len out.old) out.new.items ≡ out.old.items) }
+    ensures full { OnErr result (vec_capacity out.old
+        < vec_len out.old + length (codes " " ++ component_name (map string_bytes names.now) id)) }
+    ensures capacity { vec_capacity out.old ≤ vec_capacity out.new }
 {
     append(out, b" ")?;
     match names.get(id.0 as usize) {
@@ -45,6 +55,9 @@ fn append_item(out: &mut Vec<u8>, names: &[String], item: (ComponentId, i64)) ->
     ensures ok { OnOk result (out.new.items
         ≡ out.old.items ++ item_text (map string_bytes names.now) item) }
     ensures kept { OnErr result (take (vec_len out.old) out.new.items ≡ out.old.items) }
+    ensures full { OnErr result (vec_capacity out.old
+        < vec_len out.old + length (item_text (map string_bytes names.now) item)) }
+    ensures capacity { vec_capacity out.old ≤ vec_capacity out.new }
 {
     append_name(out, names, item.0)?;
     append_labelled(out, b"=", item.1)
@@ -54,6 +67,9 @@ fn append_items(out: &mut Vec<u8>, names: &[String], items: Items<'_>) -> Result
     ensures ok { OnOk result (out.new.items
         ≡ out.old.items ++ flat_map (item_text (map string_bytes names.now)) items.entry) }
     ensures kept { OnErr result (take (vec_len out.old) out.new.items ≡ out.old.items) }
+    ensures full { OnErr result (vec_capacity out.old < vec_len out.old + length
+        (flat_map (item_text (map string_bytes names.now)) items.entry)) }
+    ensures capacity { vec_capacity out.old ≤ vec_capacity out.new }
 {
     for item in items {
         append_item(out, names, item)?;
@@ -72,6 +88,9 @@ fn append_line(
         ≡ out.old.items ++ entity_line (map string_bytes names.now) show named.0 named.1
         items.entry) }
     ensures kept { OnErr result (take (vec_len out.old) out.new.items ≡ out.old.items) }
+    ensures full { OnErr result (vec_capacity out.old < vec_len out.old + length
+        (entity_line (map string_bytes names.now) show named.0 named.1 items.entry)) }
+    ensures capacity { vec_capacity out.old ≤ vec_capacity out.new }
 {
     let (handle, birth) = named;
     append_birth(out, birth)?;
@@ -91,6 +110,9 @@ fn append_entity(
     ensures ok { OnOk result (out.new.items
         ≡ out.old.items ++ line_in (map string_bytes names.now) show world.now.entities handle) }
     ensures kept { OnErr result (take (vec_len out.old) out.new.items ≡ out.old.items) }
+    ensures full { OnErr result (vec_capacity out.old < vec_len out.old + length
+        (line_in (map string_bytes names.now) show world.now.entities handle)) }
+    ensures capacity { vec_capacity out.old ≤ vec_capacity out.new }
 {
     let Some(birth) = world.birth(handle) else {
         return Ok(());
@@ -111,6 +133,9 @@ fn append_entities(
     ensures ok { OnOk result (out.new.items ≡ out.old.items
         ++ flat_map (line_in (map string_bytes names.now) show world.now.entities) handles.now) }
     ensures kept { OnErr result (take (vec_len out.old) out.new.items ≡ out.old.items) }
+    ensures full { OnErr result (vec_capacity out.old < vec_len out.old + length
+        (flat_map (line_in (map string_bytes names.now) show world.now.entities) handles.now)) }
+    ensures capacity { vec_capacity out.old ≤ vec_capacity out.new }
 {
     for handle in handles {
         append_entity(out, names, show, world, *handle)?;
@@ -121,6 +146,9 @@ fn append_entities(
 fn append_alive(out: &mut Vec<u8>, count: usize) -> Result<(), Memory>
     ensures ok { OnOk result (out.new.items ≡ out.old.items ++ alive_line count) }
     ensures kept { OnErr result (take (vec_len out.old) out.new.items ≡ out.old.items) }
+    ensures full { OnErr result (vec_capacity out.old
+        < vec_len out.old + length (alive_line count)) }
+    ensures capacity { vec_capacity out.old ≤ vec_capacity out.new }
 {
     append_labelled(out, b"alive ", count)?;
     append(out, b"\n")
@@ -136,6 +164,11 @@ fn append_world(
         × IsWorldText (map string_bytes names.now) show world.now.entities text
         × (out.new.items ≡ out.old.items ++ text)) }
     ensures kept { OnErr result (take (vec_len out.old) out.new.items ≡ out.old.items) }
+    ensures full { (text : List ℕ)
+        → IsWorldText (map string_bytes names.now) show world.now.entities text
+        → OnErr result ((world.now.entities ≢ finite.empty)
+        ⊎ (vec_capacity out.old < vec_len out.old + length text)) }
+    ensures capacity { vec_capacity out.old ≤ vec_capacity out.new }
 {
     let handles = world.by_birth()?;
     append_entities(out, names, show, world, &handles)?;
@@ -153,7 +186,7 @@ fn append_world(
 /// # Errors
 ///
 /// `Memory` if there is no memory for the list of the entities, or no room for all of the text.
-/// `out` keeps its items then.
+/// `out` keeps its items then. It never comes if nobody lives and `out` has room for the text.
 pub fn write_world(
     world: &World,
     names: &[String],
@@ -168,6 +201,13 @@ pub fn write_world(
         → IsWorldText (map string_bytes names.now) show world.now.entities text
         → out.new.items ≡ out.old.items ++ text) }
     ensures err { OnErr result (out.new.items ≡ out.old.items) }
+
+    // Memory runs out only for the list of somebody, or for a text that lacks room.
+    ensures full { (text : List ℕ)
+        → IsWorldText (map string_bytes names.now) show world.now.entities text
+        → OnErr result ((world.now.entities ≢ finite.empty)
+        ⊎ (vec_capacity out.old < vec_len out.old + length text)) }
+    ensures capacity { vec_capacity out.old ≤ vec_capacity out.new }
 {
     let len = out.len();
     let written = append_world(out, world, names, show);

@@ -1,4 +1,5 @@
-ghost use Rattle.std.specs.Prelude.{◌≡◌, ◌∷◌, [], IfOk, IfSome, IfNone};
+ghost use Rattle.std.specs.Prelude.{◌≡◌, ◌≢◌, ◌∷◌, [], IfOk, IfSome, IfNone, OnErr};
+ghost use Rattle.std.specs.FinMap as map;
 ghost use Rattle.ent_storage.specs.BirthOrder.{ListsAll};
 ghost use Rattle.ent_script_system.specs.Issuing.{IsOfBirth};
 ghost use Rattle.ent_script_system.specs.Rolls.{IsRollOf, is_before, IsFirstFrom};
@@ -46,6 +47,9 @@ impl Roll {
         ensures found { IfOk result (λ found.
             IfSome found (λ handle. IsOfBirth view.now birth (handle ∷ []))) }
         ensures none { IfOk result (λ found. IfNone found (IsOfBirth view.now birth [])) }
+
+        // Memory is wanted for the list alone, and not for a list of nobody.
+        ensures memory { OnErr result (view.now.entities ≢ map.empty) }
     {
         if self.looks < LOOKS {
             self.looks += 1;

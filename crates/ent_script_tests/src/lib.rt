@@ -4,10 +4,6 @@
 #![tactic(auto)]
 
 #[cfg(test)]
-mod frames;
-#[cfg(test)]
-mod queues;
-#[cfg(test)]
 mod read;
 #[cfg(test)]
 mod reading;

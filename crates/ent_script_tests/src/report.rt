@@ -1,56 +1,31 @@
-//! Reports of what no script does, while memory is refused.
+//! Reports of what no script does, while memory is refused. Each test passes whichever single
+//! allocation is refused: `rt try --test --fail-alloc N -- refused_memory` refuses the Nth.
 use ent_alloc::Limits;
 use ent_handle::{Birth, ComponentId, Handle, Memory};
 use ent_queue::Bundle;
 use ent_script_report::{Show, write_frame, write_world};
 use ent_world::{Fault, FaultKind, SyncReport, World};
 use std::alloc::Global;
-use std::test::Fail;
 
 // The greatest number of a frame, a handle whose numbers are long, and a credit that is used up.
 const FRAME: &[u8] = b"frame 18446744073709551615 born 1 faults 2\n\
     fault 3 70 not alive 1234567v89\nfault 255 9999 quota left 1099511627776\n";
 
-// A component beyond the names, and the greatest birth.
-const WORLD: &[u8] = b"0.0.0 1v1 mp=123456 =5\n\
-    18446744073709551615.4294967295.4294967295 0v1 hp=-7\nalive 2\n";
-
-// Passes whichever single allocation is refused: `rt try --test --fail-alloc N -- refused_memory`
-// refuses the Nth. What was there before stands after a refusal, and the call is made again.
 #[test]
-fn refused_memory_of_reports(rt: HostRuntime) -> Result<(), Fail> {
+fn refused_memory_of_a_frame(rt: HostRuntime) {
     let mut out = Vec::new(rt.alloc());
-    assert!(rt; has_frame(rt.alloc(), &mut out)? || has_frame(rt.alloc(), &mut out)?);
+    if !has_written_frame(rt.alloc(), &mut out) {
+        assert!(rt; out.is_empty() && has_written_frame(rt.alloc(), &mut out));
+    }
     assert!(rt; out.as_slice() == FRAME);
-    assert!(rt; has_world(rt.alloc(), &mut out)? || has_world(rt.alloc(), &mut out)?);
-    assert!(rt; out.get(FRAME.len()..) == Some(WORLD));
-    Ok(())
 }
 
-// Appends a frame, unless memory is refused. Then nothing is appended.
-fn has_frame(alloc: Global, out: &mut Vec<u8>) -> Result<bool, Fail> {
-    let Ok(report) = report(alloc) else {
-        return Ok(false);
-    };
-    let before = out.len();
-    let is_written = write_frame(u64::MAX, &report, Show::Handles, out).is_ok();
-    if !is_written && out.len() != before {
-        return Err(Fail::new("a refused frame was written"));
+// Appends the frame, unless memory is refused.
+fn has_written_frame(alloc: Global, out: &mut Vec<u8>) -> bool {
+    match report(alloc) {
+        Ok(report) => write_frame(u64::MAX, &report, Show::Handles, out).is_ok(),
+        Err(_) => false,
     }
-    Ok(is_written)
-}
-
-// Appends a world, unless memory is refused. Then nothing is appended.
-fn has_world(alloc: Global, out: &mut Vec<u8>) -> Result<bool, Fail> {
-    let (Ok(names), Ok(world)) = (names(alloc), world(alloc)) else {
-        return Ok(false);
-    };
-    let before = out.len();
-    let is_written = write_world(&world, &names, Show::Handles, out).is_ok();
-    if !is_written && out.len() != before {
-        return Err(Fail::new("a refused world was written"));
-    }
-    Ok(is_written)
 }
 
 fn report(alloc: Global) -> Result<SyncReport, Memory> {
@@ -75,40 +50,36 @@ fn report(alloc: Global) -> Result<SyncReport, Memory> {
     })
 }
 
-fn names(alloc: Global) -> Result<Vec<String>, Memory> {
-    let mut names = Vec::new(alloc);
-    names.push(String::from_str(alloc, "hp")?)?;
-    names.push(String::from_str(alloc, "mp")?)?;
-    Ok(names)
+// The greatest birth, and a component beyond the names.
+const WORLD: &[u8] = b"18446744073709551615.4294967295.4294967295 0v1 hp=-7 =123456\nalive 1\n";
+
+#[test]
+fn refused_memory_of_a_world(rt: HostRuntime) {
+    let mut out = Vec::new(rt.alloc());
+    if !has_written_world(rt.alloc(), &mut out) {
+        assert!(rt; out.is_empty() && has_written_world(rt.alloc(), &mut out));
+    }
+    assert!(rt; out.as_slice() == WORLD);
+}
+
+// Appends the world, unless memory is refused.
+fn has_written_world(alloc: Global, out: &mut Vec<u8>) -> bool {
+    match (world(alloc), String::from_str(alloc, "hp")) {
+        (Ok(world), Ok(name)) => write_world(&world, &[name], Show::Handles, out).is_ok(),
+        _ => false,
+    }
 }
 
 fn world(alloc: Global) -> Result<World, Memory> {
-    let mut world = World::new(alloc, Limits::default_limits());
-    let last = Birth {
+    let birth = Birth {
         frame: u64::MAX,
         system: u32::MAX,
         ordinal: u32::MAX,
     };
-    spawn(alloc, &mut world, last, &[(ComponentId(0), -7)])?;
-    let first = Birth {
-        frame: 0,
-        system: 0,
-        ordinal: 0,
-    };
-    let items = [(ComponentId(1), 123_456), (ComponentId(2), 5)];
-    spawn(alloc, &mut world, first, &items)?;
-    Ok(world)
-}
-
-fn spawn(
-    alloc: Global,
-    world: &mut World,
-    birth: Birth,
-    items: &[(ComponentId, i64)],
-) -> Result<(), Memory> {
-    let items = Bundle::of(alloc, items)?;
+    let items = Bundle::of(alloc, &[(ComponentId(0), -7), (ComponentId(1), 123_456)])?;
+    let mut world = World::new(alloc, Limits::default_limits());
     match world.spawn(birth, &items) {
-        Ok(_) => Ok(()),
+        Ok(_) => Ok(world),
         Err(_) => Err(Memory),
     }
 }

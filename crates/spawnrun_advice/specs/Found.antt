@@ -1,15 +1,23 @@
 -- What the tests of an input found, and where.
-use Rattle.std.specs.Prelude.{◌≡◌, ℕ, ◌≤◌, ◌⊎◌, List, [], ◌++◌, length, codes}
+use Rattle.std.specs.Prelude.{◌≡◌, ℕ, ◌-◌, ◌≤◌, ◌⊎◌, List, [], ◌++◌, length, codes, slice_index_or, MatchOption}
 use Rattle.std.specs.Fmt.{decimal}
+use Rattle.std.specs.List.{flat_map}
+use Rattle.ent_replay.specs.ScheduleText.{lines_of}
 use Rattle.ent_script.specs.declared.ReadFault.{ReadFault}
 use Rattle.ent_script.specs.declared.ReadFault.TheVariants as fault
+use Rattle.ent_script.specs.Reading.{json_of}
+use Rattle.spawnrun_advice.specs.Place.{Place, Shows}
+use Rattle.spawnrun_advice.specs.Shown.{byte_text, front, plain}
 
--- a line of a schedule: at most 60 characters of it, and its number
-pub record TellsOfLine (line : ℕ) (found : List ℕ) : Type 0 where
-  pub shown : List ℕ
-  pub short : length shown ≤ 60
-  pub is : found ≡ codes "; found \"" ++ shown ++ codes "\" at line " ++ decimal line
-      ++ codes " (counted from 1)"
+-- the line of this number, from 1; empty if there is none
+abbrev pub line_at : List ℕ → ℕ → List ℕ
+line_at text line = slice_index_or (lines_of text) (line - 1) []
+
+-- a line of a schedule and its number
+abbrev pub line_found : List ℕ → ℕ → List ℕ
+line_found text line =
+    codes "; found \"" ++ front (flat_map byte_text (line_at text line)) ++ codes "\" at line "
+    ++ decimal line ++ codes " (counted from 1)"
 
 -- where a test of a script failed; nothing unless it is in a frame
 abbrev pub position_text : ReadFault → List ℕ
@@ -22,12 +30,18 @@ position_text (fault.Operation f s o c) =
     ++ codes ", operation " ++ decimal o ++ codes " (counted from 0)"
 position_text other = []
 
--- a value of a script: at most 60 characters of it, and where it stands
-pub record TellsOfValue (e : ReadFault) (found : List ℕ) : Type 0 where
+-- what is shown of a script: what stands at a place, or of a text that is no JSON some words
+abbrev pub ShowsValue : List ℕ → ReadFault → List ℕ → Type 0
+ShowsValue text e shown =
+    MatchOption (json_of text) ((words : List ℕ) × (shown ≡ front (plain words)))
+    (λ d. (place : Place) × Shows place shown)
+
+-- that, and where it stands
+pub record TellsOfValue (text : List ℕ) (e : ReadFault) (found : List ℕ) : Type 0 where
   pub shown : List ℕ
-  pub short : length shown ≤ 60
+  pub shows : ShowsValue text e shown
   pub is : found ≡ codes "; found " ++ shown ++ position_text e
 
 -- that, or only where it stands: if there was no memory for the value, or if the text is long
-abbrev pub TellsOfScript : ReadFault → List ℕ → Type 0
-TellsOfScript e found = TellsOfValue e found ⊎ (found ≡ position_text e)
+abbrev pub TellsOfScript : List ℕ → ReadFault → List ℕ → Type 0
+TellsOfScript text e found = TellsOfValue text e found ⊎ (found ≡ position_text e)

@@ -1,2 +1,4 @@
 pub mod Wants
+pub mod Shown
+pub mod Place
 pub mod Found

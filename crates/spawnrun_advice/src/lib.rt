@@ -4,9 +4,9 @@
 
 mod found;
 mod part;
-mod plain;
 mod schedule;
 mod script;
+mod shown;
 mod wants;
 
 pub use found::Found;

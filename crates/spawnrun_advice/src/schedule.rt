@@ -1,16 +1,21 @@
+ghost use Rattle.std.specs.Prelude.{◌≡◌};
 ghost use Rattle.std.specs.Fmt.InlineText.{inline_text};
-ghost use Rattle.spawnrun_advice.specs.Found.{TellsOfLine};
+ghost use Rattle.spawnrun_advice.specs.Found.{line_at, line_found};
+ghost use Rattle.spawnrun_advice.specs.Shown.{ArePrintable};
 
 use crate::found::{Found, with, with_number};
-use crate::plain::SHOWN;
-use std::fmt;
-use std::fmt::{InlineText, Write};
+use crate::shown::line_shown;
+use ent_handle::split_once;
 
 /// What a schedule has at its line of this number, from 1.
+///
+/// It is printable ASCII, whatever the line has. A line that takes more than 60 characters is cut,
+/// and ends in three dots.
 pub fn schedule_found(text: &[u8], line: usize) -> Found
-    ensures found { TellsOfLine line (inline_text result) }
+    ensures found { inline_text result ≡ line_found text.now line }
+    ensures printable { ArePrintable (inline_text result) }
 {
-    let shown = shown(line_of(text, line));
+    let shown = line_shown(line_of(text, line));
     let found = with(Found::new(), "; found \"");
     let found = with(found, shown.as_str());
     let found = with(found, "\" at line ");
@@ -19,27 +24,20 @@ pub fn schedule_found(text: &[u8], line: usize) -> Found
 }
 
 // The line of this number, or an empty one.
-fn line_of(text: &[u8], line: usize) -> &[u8] {
-    text.split(|byte| *byte == b'\n')
-        .nth(line.saturating_sub(1))
-        .unwrap_or(b"")
-}
-
-// The front of a line, in printable ASCII.
-fn shown(line: &[u8]) -> InlineText<SHOWN> {
-    let mut shown = InlineText::new();
-    // It fails where the text is cut, which shows.
-    let _ = show(line, &mut shown);
-    shown
-}
-
-fn show<W: Write>(line: &[u8], out: &mut W) -> fmt::Result {
-    for byte in line {
-        if (b' '..=b'~').contains(byte) {
-            out.write_char(char::from(*byte))?;
-        } else {
-            write!(out, "\\x{byte:02x}")?;
-        }
+fn line_of(text: &[u8], line: usize) -> &[u8]
+    ensures { result.now ≡ line_at text.now line }
+{
+    let mut rest = text;
+    let mut before = line.saturating_sub(1);
+    while 0 < before {
+        let Some((_, following)) = split_once(rest, b'\n') else {
+            return b"";
+        };
+        rest = following;
+        before -= 1;
     }
-    Ok(())
+    match split_once(rest, b'\n') {
+        Some((line, _)) => line,
+        None => rest,
+    }
 }

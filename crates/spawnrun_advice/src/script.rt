@@ -1,53 +1,72 @@
-ghost use Rattle.std.specs.Prelude.{◌≡◌, ◌+◌, ◌≤◌, ◌++◌, length, codes};
+ghost use Rattle.std.specs.Prelude.{◌≡◌, ◌≢◌, ◌+◌, ◌<◌, ◌≤◌, ◌++◌, ℕ, List, length, codes};
+ghost use Rattle.std.specs.Prelude.{IfSome, OnSome};
 ghost use Rattle.std.specs.Fmt.{decimal};
 ghost use Rattle.std.specs.Fmt.InlineText.{inline_text};
-ghost use Rattle.spawnrun_advice.specs.Found.{position_text, TellsOfScript, TellsOfValue};
+ghost use Rattle.spawnrun_advice.specs.Found.{position_text, ShowsValue, TellsOfScript};
+ghost use Rattle.spawnrun_advice.specs.Shown.{ArePrintable, front, plain};
 
 use crate::found::{Found, with, with_number};
 use crate::part::Part;
-use crate::plain::Plain;
+use crate::shown::{Shown, text_shown};
 use ent_script::{Cause, ReadFault, ScriptCause};
-use serde_json::{Map, Value};
+use serde_json::{Error, Map, Value};
 use std::alloc::Global;
-use std::fmt;
+use std::fmt::InlineText;
 
 // The longest text that is read once more, in bytes. A value takes up to 173 times its text.
 const LONGEST: usize = 65_536;
 
 /// What a text has instead of what a test of scripts wants, and where.
 ///
+/// It is printable ASCII, whatever the text has. A value of more than 60 characters is cut, and ends
+/// in three dots.
+///
 /// The text is read as JSON once more, so this is for a text that is refused. If there is no memory
 /// for that, or the text is longer than 65,536 bytes, where it stands is all that is said.
 pub fn script_found(alloc: Global, text: &[u8], fault: ReadFault) -> Found
-    ensures found { TellsOfScript fault (inline_text result) }
+    ensures found { TellsOfScript text.now fault (inline_text result) }
+    ensures long { 65536 < length text.now → inline_text result ≡ position_text fault }
+    ensures printable { ArePrintable (inline_text result) }
 {
-    if fault == ReadFault::Memory {
-        return Found::new();
-    }
-    if text.len() > LONGEST {
-        return with_position(Found::new(), fault);
-    }
-    match Value::from_slice(alloc, text) {
-        Ok(script) => found(part(&script, fault), fault),
-        Err(error) if error.is_memory() => with_position(Found::new(), fault),
-        Err(error) => found(error, fault),
+    match shown(alloc, text, fault) {
+        Some(shown) => {
+            let found = with(Found::new(), "; found ");
+            with_position(with(found, shown.as_str()), fault)
+        }
+        None => with_position(Found::new(), fault),
     }
 }
 
-// A value, and where it stands.
-fn found<D: fmt::Display + Drop>(value: D, fault: ReadFault) -> Found
-    ensures { TellsOfValue fault (inline_text result) }
+// The front of the value that failed the test, or of the words of the reader of JSON.
+fn shown(alloc: Global, text: &[u8], fault: ReadFault) -> Option<Shown>
+    ensures shows { IfSome result (λ shown. ShowsValue text.now fault (inline_text shown)) }
+    ensures short { OnSome result ((length text.now ≤ 65536) × (fault ≢ ReadFault.Memory)) }
+    ensures printable { IfSome result (λ shown. ArePrintable (inline_text shown)) }
 {
-    let shown = Plain::of(value);
-    let found = with(Found::new(), "; found ");
-    let found = with(found, shown.as_str());
-    with_position(found, fault)
+    if fault == ReadFault::Memory || text.len() > LONGEST {
+        return None;
+    }
+    match Value::from_slice(alloc, text) {
+        Ok(script) => part(&script, fault).shown(alloc),
+        Err(error) if !error.is_memory() => Some(words_shown(error)),
+        Err(_) => None,
+    }
+}
+
+// The front of the words for an error.
+fn words_shown(error: Error) -> Shown
+    ensures text { (words : List ℕ) × (inline_text result ≡ front (plain words)) }
+    ensures printable { ArePrintable (inline_text result) }
+{
+    let words: InlineText<256> = InlineText::of(error);
+    text_shown(words.as_str())
 }
 
 // Appends where the test failed.
 fn with_position(found: Found, fault: ReadFault) -> Found
     requires { length (inline_text found) ≤ 68 }
-    ensures { inline_text result ≡ inline_text found ++ position_text fault }
+    ensures text { inline_text result ≡ inline_text found ++ position_text fault }
+    ensures printable { ArePrintable (inline_text found) → ArePrintable (inline_text result) }
 {
     match fault {
         ReadFault::Frame { frame } => {
@@ -77,6 +96,7 @@ fn with_frame(found: Found, frame: usize) -> Found
     ensures text { inline_text result
         ≡ inline_text found ++ codes " at frame " ++ decimal frame }
     ensures len { length (inline_text result) ≤ length (inline_text found) + 30 }
+    ensures printable { ArePrintable (inline_text found) → ArePrintable (inline_text result) }
 {
     let found = with(found, " at frame ");
     with_number(found, frame)
@@ -88,6 +108,7 @@ fn with_system(found: Found, frame: usize, system: usize) -> Found
     ensures text { inline_text result ≡ inline_text found ++ codes " at frame " ++ decimal frame
         ++ codes ", system " ++ decimal system }
     ensures len { length (inline_text result) ≤ length (inline_text found) + 59 }
+    ensures printable { ArePrintable (inline_text found) → ArePrintable (inline_text result) }
 {
     let found = with_frame(found, frame);
     let found = with(found, ", system ");
@@ -100,6 +121,7 @@ fn with_operation(found: Found, frame: usize, system: usize, operation: usize) -
     ensures text { inline_text result ≡ inline_text found ++ codes " at frame " ++ decimal frame
         ++ codes ", system " ++ decimal system ++ codes ", operation " ++ decimal operation }
     ensures len { length (inline_text result) ≤ length (inline_text found) + 91 }
+    ensures printable { ArePrintable (inline_text found) → ArePrintable (inline_text result) }
 {
     let found = with_system(found, frame, system);
     let found = with(found, ", operation ");

@@ -1,6 +1,7 @@
 //! What may stand in the result in place of what.
 
 use super::{has, pieces, Audit};
+use crate::forms::{Module, Renamed};
 use crate::walk::{Names, OWN_ONLY};
 
 /// Tokens that stand in the result in place of those of the source.
@@ -11,49 +12,76 @@ pub(super) struct Change {
     to: Vec<String>,
 }
 
+impl Change {
+    fn new(from: &str, to: &str) -> Self {
+        Change {
+            is_path: false,
+            from: pieces(from),
+            to: pieces(to),
+        }
+    }
+
+    fn of_path(from: &str, to: &str) -> Self {
+        Change {
+            is_path: true,
+            ..Change::new(from, to)
+        }
+    }
+}
+
 /// The list of all that may stand in the result in place of what, but for derives.
 pub(super) fn changes(krate: &str, names: &Names) -> Vec<Change> {
-    let change = |is_path, from: &str, to: &str| Change {
-        is_path,
-        from: pieces(from),
-        to: pieces(to),
-    };
     let mut changes = vec![
-        change(false, "pub(crate)", OWN_ONLY),
-        change(false, "fmt<W: fmt::Write>(", "fmt("),
-        change(false, "fmt::Formatter<W>", "fmt::Formatter<'_>"),
-        change(true, "crate::", &format!("{}::", names.crates[krate])),
+        Change::new("pub(crate)", OWN_ONLY),
+        Change::new("fmt<W: fmt::Write>(", "fmt("),
+        Change::new("fmt::Formatter<W>", "fmt::Formatter<'_>"),
+        Change::of_path("crate::", &format!("{}::", names.crates[krate])),
     ];
     for (name, path) in &names.crates {
-        changes.push(change(true, &format!("{name}::"), &format!("{path}::")));
+        changes.push(Change::of_path(&format!("{name}::"), &format!("{path}::")));
     }
     for forms in &names.forms {
-        for module in forms.modules {
-            changes.push(change(true, module.path, module.to));
-            // A list of names of which some are ghost.
-            for name in module.names {
-                for ghost in module.ghost {
-                    let from = format!("{}::{{{ghost}, {name}}}", module.path);
-                    changes.push(change(true, &from, &format!("{}::{name}", module.to)));
-                }
-            }
+        for module in forms
+            .modules
+            .iter()
+            .filter(|module| !module.names.is_empty())
+        {
+            changes.push(Change::of_path(module.path, module.to));
+            changes.extend(lists_with_ghosts(module));
         }
         for renamed in forms.renamed {
-            for argument in renamed.arguments {
-                let argument = if *argument == ["\""] {
-                    String::new()
-                } else {
-                    argument.concat()
-                };
-                let from = format!(".{}({argument}", renamed.from);
-                changes.push(change(false, &from, &format!(".{}({argument}", renamed.to)));
-            }
+            changes.extend(renamings(renamed));
         }
-        if let Some(runtime) = forms.runtime {
-            changes.push(change(false, &format!("(rt: {runtime})"), "()"));
-        }
+        let makes = |runtime| Change::new(&format!("(rt: {runtime})"), "()");
+        changes.extend(forms.runtime.map(makes));
     }
     changes
+}
+
+/// Of a list of two names one is ghost, so the other one is left.
+fn lists_with_ghosts(module: &Module) -> impl Iterator<Item = Change> + '_ {
+    let pairs = module
+        .names
+        .iter()
+        .flat_map(|name| module.ghost.iter().map(move |it| (it, name)));
+    pairs.map(|(ghost, name)| {
+        let from = format!("{}::{{{ghost}, {name}}}", module.path);
+        Change::of_path(&from, &format!("{}::{name}", module.to))
+    })
+}
+
+/// A method by its other name, before each of its arguments.
+fn renamings(renamed: &Renamed) -> impl Iterator<Item = Change> + '_ {
+    renamed.arguments.iter().map(|argument| {
+        let is_any_text = *argument == ["\""];
+        let argument = if is_any_text {
+            String::new()
+        } else {
+            argument.concat()
+        };
+        let from = format!(".{}({argument}", renamed.from);
+        Change::new(&from, &format!(".{}({argument}", renamed.to))
+    })
 }
 
 impl Audit<'_> {

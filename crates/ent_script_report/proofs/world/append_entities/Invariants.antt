@@ -1,4 +1,5 @@
-use Rattle.std.proofs.Common.{◌≡◌, ◌++◌, map, string_bytes, take, drop, vec_len}
+use Rattle.std.proofs.Common.{◌≡◌, ◌≤◌, ◌++◌, map, string_bytes, take, drop, vec_len}
+use Rattle.std.specs.Prelude.{vec_capacity}
 use Rattle.std.specs.List.{flat_map}
 use Rattle.ent_script_report.specs.WorldText.{line_in}
 use Rattle.ent_script_report.proofs.world.append_entities.Given as goal
@@ -9,4 +10,5 @@ invariant-loop-handle l = record {
       (drop l.handle-index l.handles) ≡ l.fn.out.items
       ++ flat_map (line_in (map string_bytes l.names) l.show l.world.entities) l.handles;
   kept : take (vec_len l.fn.out) l.out.items ≡ l.fn.out.items;
+  capacity : vec_capacity l.fn.out ≤ vec_capacity l.out;
 }

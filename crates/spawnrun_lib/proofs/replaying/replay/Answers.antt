@@ -1,11 +1,12 @@
-use Rattle.std.proofs.Common.{◌≡◌, ◌≤◌, ◌∙◌, ap, subst, sym, arith, length, IfSome, ◌<◌}
+use Rattle.std.proofs.Common.{◌≡◌, ◌≤◌, ◌∙◌, List, ℕ, ap, subst, sym, arith, length, IfSome, ◌<◌}
 use Rattle.std.specs.Prelude.{Ok, Err}
 use Rattle.spawnrun_lib.specs.declared.status.Status.TheVariants.{Done, Refused}
 use Rattle.spawnrun_lib.specs.declared.input.InputFault.{InputFault}
 use Rattle.ent_replay.specs.declared.ReadFault.TheVariants.{Line}
 use Rattle.ent_replay.specs.ScheduleText.{schedule_of}
 use Rattle.ent_replay.specs.Schedule.{outcomes_of, starting}
-use Rattle.spawnrun_advice.specs.Found.{TellsOfLine}
+use Rattle.spawnrun_advice.specs.Found.{line_found}
+use Rattle.spawnrun_advice.specs.Shown.{ArePrintable}
 use Rattle.spawnrun_lib.specs.Advice.{AdvisesOnSchedule, schedule_long, schedule_none}
 use Rattle.spawnrun_lib.specs.Replay.{ReplayEnds, runs, is_too_long, spells_none, input_limit}
 use Rattle.spawnrun_lib.specs.Replay.{outcome_lines, refused_line}
@@ -75,13 +76,17 @@ returns-in-Err-Line-clause-advised g c = λ refused same.
     let fault = rw c.in-Err-Line.field-0-is at c.in-Err-Line.ensures.exact in
     let spelled : schedule_of c.in-Ok.bytes.items ≡ Err (Line line cause) =
     ap schedule_of (sym c.deref.ensures.value) ∙ fault in
-    let tells : TellsOfLine line c.as_str.result.now =
-    subst (TellsOfLine line) (sym c.as_str.ensures.value)
-    (rw c.in-Err-Line.line-is at c.schedule_found-found.ensures.found) in
+    let found = c.as_str.result.now in
+    let tells : found ≡ line_found c.in-Ok.bytes.items line =
+    c.as_str.ensures.value ∙ c.schedule_found-found.ensures.found
+    ∙ ap (λ (known : List ℕ). line_found known line) c.deref-in-Err-Line.ensures.value in
+    let plain : ArePrintable found =
+    subst ArePrintable (sym c.as_str.ensures.value) c.schedule_found-found.ensures.printable in
     advised AdvisesOnSchedule input _ _ _
     (λ bytes told. let is = told_is input c.in-Ok.bytes.items bytes c.in-Ok.ensures.whole told in
     schedule_none line cause _ (subst (λ known. length known ≤ input_limit) is fits)
-    (subst (λ known. schedule_of known ≡ Err (Line line cause)) is spelled) tells)
+    (subst (λ known. schedule_of known ≡ Err (Line line cause)) is spelled)
+    (subst (λ known. found ≡ line_found known line) is tells) plain)
     (rw (c.line_wants.ensures, c.in-Err-Line.cause-is) at c.refuse.ensures.advised refused same)
 
 pub returns-in-Err-TooLong-clause-advised : goal.returns-in-Err-TooLong-clause-advised

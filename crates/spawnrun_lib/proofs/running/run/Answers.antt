@@ -4,6 +4,7 @@ use Rattle.ent_script.specs.Reading.{ReadsAs, script_of_text}
 use Rattle.spawnrun_lib.specs.declared.status.Status.TheVariants.{Done, Refused}
 use Rattle.spawnrun_lib.specs.declared.input.InputFault.{InputFault}
 use Rattle.spawnrun_advice.specs.Found.{TellsOfScript}
+use Rattle.spawnrun_advice.specs.Shown.{ArePrintable}
 use Rattle.spawnrun_lib.specs.Advice.{AdvisesOnScript, script_long, script_none}
 use Rattle.spawnrun_lib.specs.Replay.{input_limit}
 use Rattle.spawnrun_lib.specs.Running.{RunEnds, IsScriptReport, runs, is_too_long, means_none}
@@ -77,12 +78,18 @@ returns-in-Err-clause-advised g c = λ refused same.
     let read = fault_met g (goal.at.returns-in-Err-clause-advised g c).In-Err in
     let other = had_memory _ _ Refused c.refuse.result c.refusal_line-line.result (λ e. cc)
     c.refusal_line-line.ensures.refused c.refuse.ensures.memory refused in
-    let tells : TellsOfScript fault c.as_str.result.now =
-    subst (TellsOfScript fault) (sym c.as_str.ensures.value) c.script_found-found.ensures.found in
+    let found = c.as_str.result.now in
+    let tells : TellsOfScript c.in-Ok.bytes.items fault found =
+    subst (λ known. TellsOfScript known fault found) c.deref-in-Err.ensures.value
+    (subst (TellsOfScript c.deref-in-Err.result.now fault) (sym c.as_str.ensures.value)
+    c.script_found-found.ensures.found) in
+    let plain : ArePrintable found =
+    subst ArePrintable (sym c.as_str.ensures.value) c.script_found-found.ensures.printable in
     advised AdvisesOnScript input _ _ _
     (λ bytes told. let is = told_is input c.in-Ok.bytes.items bytes c.in-Ok.ensures.whole told in
     script_none fault _ (subst (λ known. length known ≤ input_limit) is fits)
-    (subst (λ known. script_of_text known ≡ Err fault) is (fault_read fault _ other read)) tells)
+    (subst (λ known. script_of_text known ≡ Err fault) is (fault_read fault _ other read))
+    (subst (λ known. TellsOfScript known fault found) is tells) plain)
     (rw c.script_wants.ensures at c.refuse.ensures.advised refused same)
 
 pub returns-in-Err-TooLong-clause-refused : goal.returns-in-Err-TooLong-clause-refused

@@ -23,7 +23,7 @@ listed c =
     subst (λ (on : Target). IsTargeted c.args.view.now (names_of c.args.names.now) on
     c.deref.result.now) (sym c.in-Each.is)
     (subst (λ (hs : List Handle). ListsWith c.in-Each.id c.args.view.now.entities hs)
-    (sym c.deref.ensures.value) c.in_ok-with-in-Each.ensures)
+    (sym c.deref.ensures.value) c.in_ok-with-in-Each.ensures.ok)
 
 pub returns-in_ok-with-in-Each-clause-issued : goal.returns-in_ok-with-in-Each-clause-issued
 returns-in_ok-with-in-Each-clause-issued c =

@@ -1,0 +1,19 @@
+-- The value that bytes are read as.
+use Rattle.std.proofs.Common.{◌≡◌, true, false, cond, List, ℕ, Some, None, refl, ◌∙◌, IsUtf8}
+use Rattle.std.specs.Prelude.{Option}
+use Rattle.std.specs.Str.{is_utf8}
+use Rattle.std.proofs.lemmas.Bool.{cond-true}
+use Rattle.std.proofs.lemmas.Str.{IsUtf8-from_is_utf8, is_utf8-from_IsUtf8}
+use Rattle.serde_json.specs.Data.{Data}
+use Rattle.serde_json.specs.Read.{read}
+use Rattle.ent_script.specs.Reading.{json_of}
+
+pub json_some : (text : List ℕ) (d : Data) → IsUtf8 text → read text ≡ Some d
+    → json_of text ≡ Some d
+json_some text d utf8 e =
+    cond-true (is_utf8 text) (read text) None (is_utf8-from_IsUtf8 text utf8) ∙ e
+
+pub json_none : (text : List ℕ) → (IsUtf8 text → read text ≡ None) → json_of text ≡ None
+json_none text h =
+    elim (is_utf8 text) as (λ b. is_utf8 text ≡ b → cond b (read text) None ≡ None)
+    [ true ↦ λ e. h (IsUtf8-from_is_utf8 text e) | false ↦ λ e. refl ] refl
