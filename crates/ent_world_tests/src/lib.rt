@@ -8,6 +8,8 @@ mod going_on;
 #[cfg(test)]
 mod limits;
 #[cfg(test)]
+mod making;
+#[cfg(test)]
 mod memory;
 #[cfg(test)]
 mod scene;
