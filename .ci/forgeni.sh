@@ -1,17 +1,13 @@
 #!/usr/bin/env bash
-# The package in plain Rust, over the library that the gate has built: its tests, the same under valgrind on fewer seeds, its docs and its
-# lints, and each example, which must print what its first comment says.
+# The package in plain Rust: its tests, its docs and its lints, each example, which must print what its first comment says, the package
+# without the standard library, and the archive of it, which must build by itself in an empty folder.
 set -eu
 cd "$(dirname "$0")/../rust/forgeni"
-cargo test --offline
-if command -v valgrind >/dev/null; then
-    # Rust's standard library keeps a handle of the main thread, of which valgrind says that it may be lost. So only what is lost for sure
-    # counts.
-    FORGENI_SEEDS=15 CARGO_TARGET_X86_64_UNKNOWN_LINUX_GNU_RUNNER="valgrind -q --error-exitcode=1 --leak-check=full \
-        --show-leak-kinds=definite --errors-for-leak-kinds=definite" cargo test --offline --tests
-else
-    echo "rust/forgeni: not run under valgrind, which isn't there"
+if grep -rnw unsafe --include=*.rs .. | grep -v "forbid(unsafe_code)"; then
+    echo "rust: unsafe code"
+    exit 1
 fi
+cargo test --offline
 RUSTDOCFLAGS="-D warnings" cargo doc --offline --no-deps
 if cargo clippy --version >/dev/null 2>&1; then
     cargo clippy --offline --all-targets -- -D warnings
@@ -22,3 +18,10 @@ for example in examples/*.rs; do
         <(cargo run --quiet --offline --example "$name")
     echo "rust/forgeni: the example $name prints what its comment says"
 done
+cargo build --offline --no-default-features
+empty=$(mktemp -d)
+trap 'rm -rf "$empty"' EXIT
+cargo package --offline --no-verify --allow-dirty --quiet --target-dir "$empty/packed"
+tar -xzf "$empty"/packed/package/forgeni-*.crate -C "$empty"
+(cd "$empty"/forgeni-* && cargo build --offline --release --quiet)
+echo "rust/forgeni: its archive builds by itself"

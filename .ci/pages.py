@@ -10,7 +10,7 @@ Above each fenced block stands a line that says what the block is:
     <!-- picture -->         a drawing
 
 A block without such a line is refused, so nothing that a page quotes goes uncompared. Two tables are compared too: the steps of
-README's schedule with what the program prints, and the refusals of docs/SCRIPTS.md, script by script.
+docs/SCHEDULES.md with what the program prints, and the refusals of docs/SCRIPTS.md, script by script.
 """
 
 import pathlib
@@ -95,14 +95,14 @@ def cells_of(page, head):
 
 
 def faults_of_schedule():
-    """The steps of README's schedule are the lines of its file, each with the line that it prints."""
-    cells = cells_of(pathlib.Path("README.md"), "| Line | Prints | |")
+    """The steps of the page's schedule are the lines of its file, each with the line that it prints."""
+    cells = cells_of(pathlib.Path("docs/SCHEDULES.md"), "| Line | Prints | |")
     steps, said = [it[0].strip("`") for it in cells], [it[1].strip("`") for it in cells]
     file = "examples/two_callers.txt"
     if steps != pathlib.Path(file).read_text().splitlines():
-        yield f"README.md: its schedule is not {file}"
+        yield f"docs/SCHEDULES.md: its schedule is not {file}"
     if said != printed(f"{PROGRAM} replay < {file}"):
-        yield "README.md: its schedule doesn't print what it says"
+        yield "docs/SCHEDULES.md: its schedule doesn't print what it says"
 
 
 def faults_of_refusals():

@@ -174,7 +174,7 @@ def of_clause_first(goals):
 
 
 def enclosing(edit):
-    """The functions whose text an edit changes, by the names that the prover gives them, or none where they can't be told."""
+    """The functions whose text an edit changes, by the ends of the names that the prover gives them, or none where they can't be told."""
     found = []
     for file, old, _ in edit.pairs:
         text = pathlib.Path("crates", edit.crate, file).read_text()
@@ -188,12 +188,19 @@ def enclosing(edit):
             owner = (said[said.index("for") + 1] + said[0].split("::")[-1] if "for" in said else said[0]) + "::"
         if not name:
             return []
-        found.append("::".join(it for it in (module, owner + name[-1]) if it))
+        # A method has the name of its type's module, wherever it stands.
+        found.append(owner + name[-1] if owner else "::".join(it for it in (module, name[-1]) if it))
     return list(dict.fromkeys(found))
 
 
 # What a try comes to.
 REFUSED, OTHERWISE, LET_THROUGH, UNKNOWN = "refused", "refused otherwise", "LET THROUGH", "NOT TRIED"
+
+
+def goals_of(edit, found):
+    """The functions of the edit among those that a check doesn't prove, where it names a goal of theirs."""
+    ends = tuple(f"::{it}" for it in edit.functions())
+    return {it: goals for it, goals in found.items() if goals and f"::{it}".endswith(ends)}
 
 
 def verdict(edit, status, said, names):
@@ -209,10 +216,10 @@ def verdict(edit, status, said, names):
         if goals[0] in found.get(function, []):
             return REFUSED, f"by {function}: {goals[0]}"
         return OTHERWISE, "; ".join(f"{it}: {', '.join(goals[:6])}" for it, goals in found.items())
-    own = [it for it in edit.functions() if found.get(it)] or [it for it in found if found[it]]
+    own = goals_of(edit, found) or {it: goals for it, goals in found.items() if goals}
     if not own:
         return UNKNOWN, f"no goal is named: {', '.join(found)}"
-    function, goal = min(((it, of_clause_first(found[it])) for it in own), key=lambda it: not it[1].startswith("returns"))
+    function, goal = min(((it, of_clause_first(own[it])) for it in own), key=lambda it: not it[1].startswith("returns"))
     goals = [goal, first_printed(said)] if edit.is_must_fail else [goal]
     if names:
         text = edit.path.read_text().rstrip("\n")
@@ -257,7 +264,7 @@ def together(prover, crate, group, functions, texts, kept, names):
         status, said = prover.check(crate, texts, sorted(functions), kept)
         found = refusals(crate, said) if status == 1 and not re.search(r"\berror\[[\w-]+\]", said) else {}
         for edit in group:
-            if any(found.get(it) for it in edit.functions()):
+            if goals_of(edit, found):
                 mine = verdict(edit, status, said, names)
                 settled.update({edit: mine} if mine[0] == REFUSED else {})
     return [(it, settled.get(it) or alone(prover, it, kept, names)) for it in group]

@@ -56,9 +56,16 @@ cat >"$room/targets.json" <<'END'
   [[{"spawn_many":2,"with":{"hp":1},"as":"g"},{"insert":{"mp":4},"on":{"name":"g"}}]],
   [[{"remove":"hp","on":{"each":"hp"}}],[{"insert":{"hp":8},"on":{"each":"mp"}}]]]}
 END
+# So many births are looked up that all entities are listed for it.
+awk 'BEGIN {
+    printf "{\"format\":2,\"components\":[\"hp\"],\"frames\":[[[{\"spawn_many\":40}]],[["
+    for (i = 0; i < 50; i++) printf "%s{\"insert\":{\"hp\":%d},\"on\":{\"birth\":\"0.0.%d\"}}", i ? "," : "", i, i
+    print "]]]}"
+}' >"$room/births.json"
 each "$here/one_caller.txt" replay
 each "$here/two_callers.txt" replay
 each "$room/targets.json" run --show handles
+each "$room/births.json" run
 each "$scripts/reuse.json" run --show handles
 each "$scripts/spawners.json" run --workers 8
 each "$room/no_script.json" run

@@ -29,3 +29,4 @@ pub mod MeaningOfReplies
 pub mod OneReply
 pub mod Looked
 pub mod Histories
+pub mod RowsOfLiving

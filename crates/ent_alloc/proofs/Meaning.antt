@@ -16,7 +16,8 @@ use Rattle.ent_alloc.specs.Roster.{Roster}
 use Rattle.ent_alloc.specs.Sequential.{Allocator, opening, fresh, is_old, available, top, asked_at}
 use Rattle.ent_alloc.specs.Sequential.{pool_at}
 use Rattle.ent_alloc.specs.Sound.{IsSound}
-use Rattle.ent_alloc.specs.Entities.{Entities, idle, allocator_of, beneath, AreReserved}
+use Rattle.ent_alloc.specs.Entities.{Entities, idle, allocator_of, entities_of, beneath}
+use Rattle.ent_alloc.specs.Entities.{AreReserved, HasRowsOfLiving}
 use Rattle.ent_alloc.proofs.FreshHandles.{length-fresh}
 use Rattle.ent_alloc.proofs.LaidOut.{old_ones_below}
 
@@ -81,13 +82,15 @@ flushed r asked given none within =
     λ i. allocator_of r (none i) (no_given i)
 
 -- where nothing is reserved, both counts are 0
-pub AreReserved-flushed : (r : Roster) → IsSound (allocator_of r 0 0) → AreReserved r 0 0
-AreReserved-flushed r sound = record {
+pub AreReserved-flushed : (r : Roster) → IsSound (allocator_of r 0 0)
+    → HasRowsOfLiving (entities_of r 0 0) → AreReserved r 0 0
+AreReserved-flushed r sound rows = record {
   sound = sound;
   asked_in = omega arith;
   given_in = omega arith;
   given_least = omega arith;
   given_all = λ _. refl;
+  rows = rows;
 }
 
 pub opening_is : (limits : Limits)
@@ -164,12 +167,14 @@ pub record StandFor (r : Roster) (requests : Requests) (s : Allocator) : Type 0 
   pub reserved : AreReserved r requests.asked requests.served
 
 pub closed : (r r' : Roster) (requests : Requests) (s : Allocator) → r ≡ r' → requests ≡ none
-    → allocator_of r' 0 0 ≡ s → IsSound s → StandFor r requests s
-closed r r' requests s same rest is sound = record {
+    → allocator_of r' 0 0 ≡ s → IsSound s → HasRowsOfLiving (entities_of r' 0 0)
+    → StandFor r requests s
+closed r r' requests s same rest is sound rows = record {
   view = (λ i. allocator_of (same i) (rest i).asked (rest i).served) ∙ is;
   reserved = subst (λ (q : Requests). AreReserved r q.asked q.served) (sym rest)
       (AreReserved-flushed r
-      (subst IsSound (sym (ap (λ (x : Roster). allocator_of x 0 0) same ∙ is)) sound));
+      (subst IsSound (sym (ap (λ (x : Roster). allocator_of x 0 0) same ∙ is)) sound)
+      (subst (λ (x : Roster). HasRowsOfLiving (entities_of x 0 0)) (sym same) rows));
 }
 
 -- a test that no request was made
@@ -186,6 +191,7 @@ pub record IsAtRest (r : Roster) (requests : Requests) (s : Allocator) : Type 0 
   pub requests_is : requests ≡ none
   pub view : allocator_of r 0 0 ≡ s
   pub sound : IsSound s
+  pub rows : HasRowsOfLiving (entities_of r 0 0)
 
 pub at_rest : (r : Roster) (requests : Requests) (s : Allocator) (b : Bool) → AreReserved r
     requests.asked requests.served → allocator_of r requests.asked requests.served ≡ s
@@ -197,4 +203,5 @@ at_rest r requests s b reserved view tells is =
       requests_is = none_is r requests s reserved view asked;
       view = rest_is r requests.asked requests.served s reserved view asked;
       sound = subst IsSound view reserved.sound;
+      rows = reserved.rows;
     }

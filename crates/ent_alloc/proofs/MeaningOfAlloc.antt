@@ -1,7 +1,7 @@
 -- What `alloc` and `free` make of the roster is the allocator's step.
 use Rattle.std.proofs.Common.{◌≡◌, ◌≢◌, ◌+◌, ◌-◌, ◌<◌, true, false, cond, ◌||◌, List, [], ◌∷◌, ◌++◌}
 use Rattle.std.proofs.Common.{length, take, drop, reverse, sym, ap, ◌∙◌, arith, suc, slice_get}
-use Rattle.std.proofs.Common.{Some, subst, All}
+use Rattle.std.proofs.Common.{Some, None, subst, All, refl}
 use Rattle.std.specs.Ordering.{eq_by_cmp}
 use Rattle.std.specs.FinSet as sets
 use Rattle.std.specs.FinMap as maps
@@ -17,8 +17,9 @@ use Rattle.ent_alloc.specs.declared.requests.Requests.{Requests}
 use Rattle.ent_alloc.specs.Sequential.{Allocator, fresh, is_old, after_alloc, after_free, next}
 use Rattle.ent_alloc.specs.Sequential.{following, in_front}
 use Rattle.ent_alloc.specs.Sound.{IsSound}
-use Rattle.ent_alloc.specs.Entities.{idle, allocator_of}
+use Rattle.ent_alloc.specs.Entities.{idle, allocator_of, entities_of, HasRowsOfLiving}
 use Rattle.ent_alloc.proofs.FreshHandles.{fresh-next}
+use Rattle.ent_alloc.proofs.RowsOfLiving.{rows-joined, front-no_row}
 use Rattle.ent_alloc.proofs.HandleSets.{contains-union_list}
 use Rattle.ent_alloc.proofs.Soundness.{after_alloc-sound, next-last, next-later}
 use Rattle.ent_alloc.proofs.Meaning.{pending_below, length-idle, IsAtRest, StandFor, closed}
@@ -112,6 +113,7 @@ alloc_fresh_is r h none room first =
 pub record IsGiven (requests : Requests) (s : Allocator) (h : Handle) (new : Roster) : Type 0 where
   pub front : slice_get s.pool 0 ≡ Some h
   pub stands : StandFor new requests (after_alloc s h)
+  pub no_row : maps.get new.rows h ≡ None
 
 module _ (r : Roster) (requests : Requests) (s : Allocator) (rest : IsAtRest r requests s) where
   pool_is : idle r ≡ s.pool
@@ -122,12 +124,16 @@ module _ (r : Roster) (requests : Requests) (s : Allocator) (rest : IsAtRest r r
 
   -- the first handle of the pool is given, and the slots are left so
   given : (h : Handle) (left : Roster) (others : List Handle) → s.pool ≡ h ∷ others
-      → allocator_of left 0 0 ≡ after_alloc s h → (new : Roster) → new ≡ left
+      → allocator_of left 0 0 ≡ after_alloc s h → left.rows ≡ r.rows
+      → HasRowsOfLiving (entities_of left 0 0) → (new : Roster) → new ≡ left
       → IsGiven requests s h new
-  given h left others front is new same = record {
+  given h left others front is row rows new same = record {
     front = ap (λ (hs : List Handle). slice_get hs 0) front;
     stands = closed new left requests (after_alloc s h) same rest.requests_is is
-        (after_alloc-sound s h others rest.sound rest.asked front);
+        (after_alloc-sound s h others rest.sound rest.asked front) rows;
+    no_row = ap (λ (x : Roster). maps.get x.rows h) same ∙ ap (λ rows. maps.get rows h) row
+        ∙ front-no_row (entities_of r 0 0) h rest.rows (subst IsSound (sym rest.view) rest.sound)
+        (ap (λ (hs : List Handle). slice_get hs 0) (pool_is ∙ front));
   }
 
   -- the slot that waits last gets its next occupant
@@ -139,6 +145,7 @@ module _ (r : Roster) (requests : Requests) (s : Allocator) (rest : IsAtRest r r
       given h (reused_roster r h) _ (sym pool_is ∙ alloc_old_front r h some last)
       (alloc_old_is r h (subst IsSound (sym rest.view) rest.sound) some last
       ∙ ap (λ t. after_alloc t h) rest.view)
+      refl (rows-joined r.live (h ∷ []) r.rows rest.rows)
 
   -- no slot waits, and one is made
   pub made_given : (h : Handle) → length r.pending ≡ 0 → r.made < r.limits.slots
@@ -149,6 +156,7 @@ module _ (r : Roster) (requests : Requests) (s : Allocator) (rest : IsAtRest r r
       (sym pool_is ∙ alloc_fresh_front r none room
       ∙ ap (λ (x : Handle). x ∷ fresh (r.made + 1) (r.limits.slots - (r.made + 1))) (sym first))
       (alloc_fresh_is r h none room first ∙ ap (λ t. after_alloc t h) rest.view)
+      refl (rows-joined r.live (h ∷ []) r.rows rest.rows)
 
 -- ---- free
 

@@ -100,6 +100,7 @@ module _ (r : Roster) (asked given n : ℕ) (s : Allocator) (reserved : AreReser
     given_in = enough;
     given_least = omega arith;
     given_all = λ _. refl;
+    rows = reserved.rows;
   }
 
   pub refused_view : length r.pending + (r.limits.slots - r.made) < asked + n
@@ -119,6 +120,7 @@ module _ (r : Roster) (asked given n : ℕ) (s : Allocator) (reserved : AreReser
         given_in = reserved.given_in;
         given_least = omega arith;
         given_all = λ within. absurd (omega arith);
+        rows = reserved.rows;
       }
 
 -- ---- settle
@@ -153,4 +155,5 @@ module _ (r : Roster) (was_asked was_given : ℕ) (s : Allocator) (reserved : Ar
         given_in = reachable;
         given_least = ordered;
         given_all = all;
+        rows = reserved.rows;
       }

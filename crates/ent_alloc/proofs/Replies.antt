@@ -77,7 +77,7 @@ pub distinct_from_apart : (handles : List Handle) → AllPairs AreApart handles
 distinct_from_apart handles h i j d lt within same = h i j d lt within (ap (λ x. x.index) same)
 
 -- what holds of all that may be given holds of the pool
-of_pool : (P : Handle → Type 0) (s : Allocator) → All P (available s) → All P s.pool
+pub of_pool : (P : Handle → Type 0) (s : Allocator) → All P (available s) → All P s.pool
 of_pool P s all = All-right P s.aside s.pool (All-right P s.taken (s.aside ++ s.pool) all)
 
 -- what is taken is of other slots than what is in the pool

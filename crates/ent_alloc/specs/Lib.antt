@@ -6,5 +6,6 @@ pub mod Slots
 pub mod Sound
 pub mod Reserved
 pub mod Entities
+pub mod Fault
 pub mod Spent
 pub mod History

@@ -1,6 +1,6 @@
 ghost use Rattle.std.specs.Prelude.{◌≡◌, ◌≢◌, ◌+◌, ◌-◌, ◌^◌, ◌<◌, ◌≤◌, ◌↔◌, ◌⊎◌};
-ghost use Rattle.std.specs.Prelude.{IsTrue, IfOk, OnOk, OnSome, OnErr, IsErrOf, Some, true, false};
-ghost use Rattle.std.specs.Prelude.{[], ◌++◌, length, slice_get, vec_len, vec_capacity};
+ghost use Rattle.std.specs.Prelude.{IsTrue, IfOk, OnOk, OnSome, OnErr, IsErrOf, Some, None, true, false};
+ghost use Rattle.std.specs.Prelude.{[], ◌++◌, All, length, slice_get, vec_len, vec_capacity};
 ghost use Rattle.std.specs.FinSet as set;
 ghost use Rattle.std.specs.FinMap as map;
 ghost use Rattle.ent_alloc.specs.Sequential.{opening, top, cursor};
@@ -8,6 +8,7 @@ ghost use Rattle.ent_alloc.specs.Sequential.{born, made_at_flush, next};
 ghost use Rattle.ent_alloc.specs.Sequential.{state_of, retired, after_flush};
 ghost use Rattle.ent_alloc.specs.Sequential.{after_alloc, after_free};
 ghost use Rattle.ent_alloc.specs.Sound.{IsSound};
+ghost use Rattle.ent_alloc.specs.Entities.{HasRowsOfLiving};
 
 use crate::fault::{AllocFault, FreeFault, Freed};
 use crate::limits::Limits;
@@ -50,6 +51,7 @@ impl Entities {
     pub fn new(alloc: Global, limits: Limits) -> Self
         ensures allocator { result.allocator ≡ opening limits }
         ensures rows { result.rows ≡ map.empty }
+        ensures rows_of_living { HasRowsOfLiving result }
     {
         Entities {
             slots: Slots::new(alloc, limits),
@@ -151,6 +153,8 @@ impl Entities {
         ensures front { IfOk result (λ h. slice_get self.old.allocator.pool 0 ≡ Some h) }
         ensures ok { IfOk result (λ h. self.new.allocator ≡ after_alloc self.old.allocator h) }
         ensures rows { self.new.rows ≡ self.old.rows }
+        ensures no_row { IfOk result (λ h. map.get self.new.rows h ≡ None) }
+        ensures rows_of_living { HasRowsOfLiving self.new }
         ensures needs_flush { IsErrOf result AllocFault.NeedsFlush
             ↔ (0 < self.old.allocator.asked) }
         ensures space { IsErrOf result AllocFault.Space
@@ -183,6 +187,7 @@ impl Entities {
     pub fn free(&mut self, handle: Handle) -> Result<Freed, FreeFault>
         ensures ok { OnOk result (self.new.allocator ≡ after_free self.old.allocator handle) }
         ensures row { OnOk result (self.new.rows ≡ map.remove self.old.rows handle) }
+        ensures rows_of_living { HasRowsOfLiving self.new }
         ensures next { IfOk result (λ freed. freed.next ≡ next self.old.allocator.limits handle) }
         ensures lived { OnOk result (set.contains self.old.allocator.live handle ≡ true) }
         ensures needs_flush { IsErrOf result FreeFault.NeedsFlush
@@ -223,6 +228,9 @@ impl Entities {
         ensures ok { OnOk result (self.new.allocator ≡ after_flush self.old.allocator) }
         ensures rows { self.new.rows ≡ self.old.rows }
         ensures born { OnOk result (out.new.items ≡ out.old.items ++ born self.old.allocator) }
+        ensures no_rows { OnOk result
+            (All (λ h. map.get self.new.rows h ≡ None) (born self.old.allocator)) }
+        ensures rows_of_living { HasRowsOfLiving self.new }
         ensures err { OnErr result (self.new ≡ self.old) }
         ensures unchanged { OnErr result (out.new.items ≡ out.old.items) }
         ensures capacity { OnErr result (vec_capacity out.new ≡ vec_capacity out.old) }
@@ -274,6 +282,7 @@ impl Entities {
     pub fn set_row(&mut self, handle: Handle, row: u32)
         requires { set.contains self.old.allocator.live handle ≡ true }
         ensures row { self.new.rows ≡ map.insert self.old.rows handle row }
+        ensures rows_of_living { HasRowsOfLiving self.new }
         ensures allocator { self.new.allocator ≡ self.old.allocator }
     {
         self.slots.set_row(handle, row);

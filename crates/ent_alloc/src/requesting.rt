@@ -5,6 +5,7 @@ ghost use Rattle.std.specs.Prelude.{◌≤ℤ◌, neg_ℤ, length};
 ghost use Rattle.ent_alloc.specs.Sequential.{top, cursor, available, asked_at, pool_at};
 ghost use Rattle.ent_alloc.specs.Sequential.{reply_from, listed_alone, settled, after_take};
 ghost use Rattle.ent_alloc.specs.Span.{IsSpanOf};
+ghost use Rattle.ent_alloc.specs.Entities.{HasRowsOfLiving};
 
 use crate::entities::Entities;
 use crate::requests::Requests;
@@ -39,6 +40,7 @@ impl Entities {
             let asked = asked_at (top start) cursor in
             self.new.allocator ≡ after_take (after_take start given) (asked - given) }
         ensures rows { self.new.rows ≡ self.old.rows }
+        ensures rows_of_living { HasRowsOfLiving self.new }
     {
         let waiting = self.slots.waiting();
         self.requests = Requests {
@@ -61,6 +63,7 @@ impl Entities {
             result ≡ record { high = high; low = high -ℤ pos n } }
         ensures step { self.new.allocator ≡ after_take self.old.allocator n }
         ensures rows { self.new.rows ≡ self.old.rows }
+        ensures rows_of_living { HasRowsOfLiving self.new }
 
         // `reply` takes the span.
         ensures valid { IsSpanOf self.new.allocator result }

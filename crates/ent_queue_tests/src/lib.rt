@@ -1,4 +1,5 @@
-//! Tests of `ent_queue`, over its public calls.
+//! Tests of `ent_queue` with memory that is refused, and of its faults. What its calls return if there
+//! is memory stands in `cases`.
 #![tactic(auto)]
 
 #[cfg(test)]
@@ -8,12 +9,8 @@ mod call;
 #[cfg(test)]
 mod faults;
 #[cfg(test)]
-mod long;
-#[cfg(test)]
 mod memory;
 #[cfg(test)]
 mod phase;
-#[cfg(test)]
-mod queues;
 #[cfg(test)]
 mod shown;

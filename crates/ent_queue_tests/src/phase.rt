@@ -3,7 +3,7 @@ ghost use Rattle.std.specs.Prelude.{◌≡◌, All, IfOk};
 ghost use Rattle.ent_shared.specs.Phase.{IsOf};
 
 use crate::call::{Call, issue};
-use crate::shown::{text, write_queue, write_result};
+use crate::shown::write_result;
 use ent_alloc::{Entities, Limits};
 use ent_handle::Memory;
 use ent_queue::{CommandQueue, Commands, QueueFault};
@@ -59,30 +59,4 @@ pub fn issued(
         write_result(results, &returned).expect(rt, "room for the results");
     }
     commands.finish()
-}
-
-/// Issues the calls, and compares their results and their entries with the texts.
-pub fn assert_issues(
-    rt: &impl Abort,
-    alloc: Global,
-    shared: &Shared,
-    reserver: &mut Reserver,
-    calls: &[Call],
-    results: &str,
-    entries: &str,
-)
-    requires { IsOf shared.now reserver.old }
-{
-    let mut returned = text(rt, alloc);
-    let queue = issued(rt, alloc, shared, reserver, calls, &mut returned);
-    assert_eq!(rt; returned.as_str(), results);
-    assert_eq!(rt; queue.len(), calls.len());
-    assert_entries(rt, alloc, &queue, entries);
-}
-
-/// Compares the commands of a queue with the text.
-pub fn assert_entries(rt: &impl Abort, alloc: Global, queue: &CommandQueue, want: &str) {
-    let mut entries = text(rt, alloc);
-    write_queue(&mut entries, queue).expect(rt, "room for the entries");
-    assert_eq!(rt; entries.as_str(), want);
 }

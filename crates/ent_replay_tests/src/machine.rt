@@ -27,31 +27,34 @@ fn write(outcome: &Result<Outcome, ReplayFault>, out: &mut Vec<u8>) -> Result<()
     Ok(())
 }
 
-// The lines of a schedule, as `run` gives them.
-fn lines_by_run(alloc: Global, limits: Limits, schedule: &[u8]) -> Result<Vec<u8>, Fail> {
-    let events = read_schedule(alloc, schedule)?;
+// Whether these are the lines of a schedule, as `step` gives them.
+fn has_lines(
+    alloc: Global,
+    limits: Limits,
+    schedule: &[u8],
+    lines: &[u8],
+) -> Result<bool, Fail> {
     let mut machine = Machine::new(alloc, limits)?;
-    let mut lines = Vec::new(alloc);
-    for outcome in &machine.run(&events)? {
-        write(outcome, &mut lines)?;
-    }
-    Ok(lines)
+    let mut written = Vec::new(alloc);
+    step_through(alloc, &mut machine, schedule, &mut written)?;
+    Ok(written.as_slice() == lines)
 }
 
-// The lines of a schedule, as `step` gives them.
-fn lines_by_step(alloc: Global, limits: Limits, schedule: &[u8]) -> Result<Vec<u8>, Fail> {
-    let events = read_schedule(alloc, schedule)?;
-    let mut machine = Machine::new(alloc, limits)?;
-    let mut lines = Vec::new(alloc);
-    for event in &events {
-        write(&machine.step(*event), &mut lines)?;
+fn step_through(
+    alloc: Global,
+    machine: &mut Machine,
+    schedule: &[u8],
+    written: &mut Vec<u8>,
+) -> Result<(), Fail> {
+    for event in read_schedule(alloc, schedule)? {
+        write(&machine.step(event), written)?;
     }
-    Ok(lines)
+    Ok(())
 }
 
 // The generation limit, a schedule over 3 slots, and its lines. Each outcome and fault stands here
-// once at least, but for `Quota`: it takes hundreds of calls, and the tests of the program have it.
-const SCHEDULES: [(u32, &[u8], &[u8]); 6] = [
+// once at least, but for `Quota`: it takes hundreds of calls, and the cases of the program have it.
+const SCHEDULES: &[(u32, &[u8], &[u8])] = &[
     // It begins with the events of a call that was never begun.
     (
         9,
@@ -97,34 +100,8 @@ const SCHEDULES: [(u32, &[u8], &[u8]); 6] = [
 #[test]
 fn schedules(rt: HostRuntime) -> Result<(), Fail> {
     for (generations, schedule, lines) in SCHEDULES {
-        let limits = Limits::new(3, generations).ok_or("limits")?;
-        let by_run = lines_by_run(rt.alloc(), limits, schedule)?;
-        assert_eq!(rt; by_run.as_slice(), lines);
-        let by_step = lines_by_step(rt.alloc(), limits, schedule)?;
-        assert_eq!(rt; by_step.as_slice(), lines);
-    }
-    Ok(())
-}
-
-// A reply of more than 65,536 handles.
-#[test]
-fn a_long_reply(rt: HostRuntime) -> Result<(), Fail> {
-    let mut machine = Machine::new(rt.alloc(), Limits::default_limits())?;
-    let events = [
-        Event::Begin {
-            caller: 1,
-            n: 70_000,
-        },
-        Event::Step(1),
-        Event::Answer(1),
-    ];
-    let outcomes = machine.run(&events)?;
-    let Some(Ok(Outcome::Handles(handles))) = outcomes.last() else {
-        return Err(Fail::new("no reply"));
-    };
-    assert_eq!(rt; (handles.len(), handles.is_empty()), (70_000, false));
-    for (index, handle) in (0..70_000u32).zip(handles.as_slice()) {
-        assert!(rt; Handle::new(index, 1) == Some(*handle), "at {index}");
+        let limits = Limits::new(3, *generations).ok_or("limits")?;
+        assert!(rt; has_lines(rt.alloc(), limits, schedule, lines)?);
     }
     Ok(())
 }
@@ -136,32 +113,40 @@ const BULK: [Event; 4] = [
     Event::Flush,
 ];
 
-// Passes whichever single allocation fails: a second run goes on after the events that are done.
+// Passes whichever single allocation is refused: a second run goes on after the events that are done.
+// `rt try --test --fail-alloc N -- refused_memory` refuses the Nth.
 #[test]
-fn a_run_goes_on_where_it_was_cut(rt: HostRuntime) -> Result<(), Fail> {
+fn refused_memory_cuts_a_run(rt: HostRuntime) -> Result<(), Fail> {
     let mut machine = Machine::new(rt.alloc(), Limits::default_limits())?;
-    let done = match machine.run(&BULK) {
-        Ok(outcomes) => outcomes.len(),
-        Err(RunMemory { done }) => {
-            let left = BULK.get(done..).ok_or("more events than there are")?;
-            let outcomes = machine.run(left)?;
-            done.saturating_add(outcomes.len())
-        }
-    };
-    assert_eq!(rt; done, 4);
+    assert!(rt; is_run_at_last(&mut machine));
     Ok(())
+}
+
+fn is_run_at_last(machine: &mut Machine) -> bool {
+    let done = events_done(machine, &BULK);
+    match BULK.get(done..) {
+        Some(left) => events_done(machine, left) == left.len(),
+        None => false,
+    }
+}
+
+// How many of the events a run has done.
+fn events_done(machine: &mut Machine, events: &[Event]) -> usize {
+    match machine.run(events) {
+        Ok(outcomes) => outcomes.len(),
+        Err(RunMemory { done }) => done,
+    }
 }
 
 #[test]
 fn lists_of_handles(rt: HostRuntime) -> Result<(), Fail> {
     let handle = Handle::new(2, 1).ok_or("handle")?;
     let list = HandleList::new(Vec::from_slice(rt.alloc(), &[handle, handle])?);
-    let none = HandleList::new(Vec::new(rt.alloc()));
-    assert_eq!(rt;
-        (list.len(), list.is_empty(), none.is_empty()),
-        (2, false, true)
-    );
-    assert!(rt; list != none);
-    assert_eq!(rt; list.into_vec().as_slice(), [handle, handle].as_slice());
+    assert!(rt; is_of_two(&list, HandleList::new(Vec::new(rt.alloc()))));
+    assert!(rt; list.into_vec().as_slice() == [handle, handle].as_slice());
     Ok(())
+}
+
+fn is_of_two(list: &HandleList, none: HandleList) -> bool {
+    (list.len(), list.is_empty(), none.is_empty()) == (2, false, true) && *list != none
 }

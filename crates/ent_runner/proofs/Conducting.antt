@@ -2,11 +2,11 @@
 use Rattle.std.proofs.Common.{◌≡◌, ℕ, zero, suc, ◌+◌, ◌<◌, ◌≤◌, List, [], ◌∷◌, ◌++◌, length, map}
 use Rattle.std.proofs.Common.{get_or, refl, ap, sym, ◌∙◌, arith, subst, Option, Some, None, true}
 use Rattle.std.proofs.Common.{Bool, false, take, drop, reverse}
-use Rattle.std.specs.Prelude.{slice_get, replicate, IsSome, IfSome}
+use Rattle.std.specs.Prelude.{slice_get, replicate, IsSome, IfSome, IfNone, Any}
 use Rattle.std.proofs.Common.{Vec, Global}
 use Rattle.std.specs.List.{All, AllPairs, flat_map, range_with_len}
 use Rattle.std.specs.List.Sorted.{IsPermutation}
-use Rattle.std.proofs.lemmas.Option.{slice_get_within, get_or_from_slice_get}
+use Rattle.std.proofs.lemmas.Option.{slice_get_within, get_or_from_slice_get, slice_get-get_or}
 use Rattle.std.proofs.lemmas.List.{length-map, length-append, get_or-map}
 use Rattle.std.proofs.lemmas.List.Folds.{flat_map-map}
 use Rattle.std.proofs.lemmas.List.Sorted.{All-permutation, IsPermutation-reverse}
@@ -98,6 +98,16 @@ module _ {S : Type 0} (may leave : S → View → List Command → Type 0) (syst
         (get_or_from_slice_get team k w w at) (each k w within)));
   }
 
+  -- a worker that has stopped has run a system
+  pub some_systems : (team : List Worker) → HaveWorked may leave systems world claims team
+      → Any (λ (w : Worker). w.stopped ≡ true) team → 0 < length systems
+  some_systems team done (k, w, within, at, stopped) =
+      let has = done.each k w (slice_get-get_or team k w within ∙ ap Some at) in
+      let some = has.some stopped in
+      let d : SystemQueue = record { system = 0; queue = [] } in
+      let first = has.inside 0 d some in
+      omega arith
+
   module _ (team : List Worker) (done : HaveWorked may leave systems world claims team)
       (numbers : claims.numbers ≡ length systems) where
     pub all_claimed : All (HasClaimed world.shared claims) team
@@ -185,6 +195,11 @@ module _ {S : Type 0} (may leave : S → View → List Command → Type 0) (syst
           (done.each k there.0 there.1).ran_some.ended)
           (subst (λ ns. IsPermutation ns (range_with_len 0 first.count)) (sym systems_flat)
           first.once)
+
+-- what follows if there is none, follows if there is none
+pub none_weaker : {X P Q : Type 0} (o : Option X) → (P → Q) → IfNone o P → IfNone o Q
+none_weaker None follows p = follows p
+none_weaker (Some x) follows p = tt
 
 -- What is known once all claims are closed.
 module _ (shared : Shared) (claims : Claims) (team : List Worker)

@@ -8,4 +8,5 @@ pub mod ListedOnce
 pub mod ListedBirths
 pub mod Conducting
 pub mod Running
+pub mod Halves
 pub mod Disbanding

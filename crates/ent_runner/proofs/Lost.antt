@@ -7,7 +7,7 @@ use Rattle.ent_alloc.specs.Sequential.{Allocator, available}
 use Rattle.ent_alloc.specs.Sound.{IsSound}
 use Rattle.ent_alloc.specs.History.{Call, after_history, requests_of}
 use Rattle.ent_alloc.proofs.PoolLaw.{after_takes, after_takes-sound, available-after_takes}
-use Rattle.ent_alloc.proofs.PoolLaw.{live-after_takes, made-after_takes, length-taken}
+use Rattle.ent_alloc.proofs.PoolLaw.{limits-after_takes, live-after_takes, made-after_takes, length-taken}
 use Rattle.ent_alloc.proofs.Histories.{after_history-takes}
 use Rattle.ent_queue.specs.Command.{Command}
 use Rattle.ent_world.specs.World.{World}
@@ -31,6 +31,8 @@ lost_after before s after sound flushed is requests taken w changed =
     (record {
       phase = refl;
       entities = refl;
+      limits = ap (λ (a : Allocator). a.limits) taken
+          ∙ (limits-after_takes s requests ∙ sym (ap (λ (a : Allocator). a.limits) is));
       live = ap (λ (a : Allocator). a.live) taken
           ∙ (live-after_takes s requests ∙ sym (ap (λ (a : Allocator). a.live) is));
       made = ap (λ (a : Allocator). a.made) taken

@@ -1,22 +1,23 @@
 -- A worker runs one system after the other.
 use Rattle.std.proofs.Common.{◌≡◌, ℕ, ◌<◌, List, [], ◌∷◌, ◌++◌, length, ap, sym, ◌∙◌, subst}
-use Rattle.std.proofs.Common.{append-nil, inl, inr, arith, get_or}
+use Rattle.std.proofs.Common.{append-nil, inl, inr, arith, get_or, Vec, Global, slice_get, Some, ◌-◌}
 use Rattle.std.specs.Prelude.{Result, Ok, Err, OnOk, OnErr}
-use Rattle.std.proofs.lemmas.Option.{get_or_from_slice_get}
+use Rattle.std.proofs.lemmas.Option.{get_or_from_slice_get, slice_get-get_or}
+use Rattle.std.proofs.Math.Seq.{get_or-append_seam}
 use Rattle.std.specs.List.{All, AllPairs}
 use Rattle.std.proofs.lemmas.List.Quantifiers.{all_pairs_push}
-use Rattle.std.proofs.lemmas.List.{map-append}
+use Rattle.std.proofs.lemmas.List.{map-append, length-append}
 use Rattle.std.proofs.lemmas.Grind.{flat_map-append}
 use Rattle.std.proofs.lemmas.List.Elements.{All-nil, All-cons, All-append, All-weaker}
 use Rattle.ent_shared.specs.declared.record.Record.{Record}
 use Rattle.ent_queue.specs.Command.{Command}
 use Rattle.ent_queue.specs.Reserving.{Gains}
-use Rattle.ent_queue.proofs.Gaining.{gains_nothing, gains_then}
+use Rattle.ent_queue.proofs.Gaining.{gains_then}
 use Rattle.ent_world.specs.OpenWorld.{View}
 use Rattle.ent_claims.specs.declared.record.ClaimRecord.{ClaimRecord as Claimed}
 use Rattle.ent_runner.specs.declared.worker.SystemQueue.{SystemQueue}
 use Rattle.ent_runner.specs.Frame.{SystemMayIssue, SystemMayHaveIssued}
-use Rattle.ent_runner.specs.Worker.{HasRun, HasRunSome, commands_issued, systems_of}
+use Rattle.ent_runner.specs.Worker.{HasRun, HasRunSome, WasRefused, commands_issued, systems_of}
 
 -- the queues are those so far and one more
 queues_more : (issued next : List SystemQueue) (i : SystemQueue) → next ≡ issued ++ i ∷ []
@@ -120,6 +121,29 @@ of_ok X r a is on = subst (λ r. OnOk r X) is on
 
 pub of_err : {A E : Type 0} (X : Type 0) (r : Result A E) (e : E) → r ≡ Err e → OnErr r X → X
 of_err X r e is on = subst (λ r. OnErr r X) is on
+
+pub on_err : {A E : Type 0} {P : Type 0} (r : Result A E) → P → OnErr r P
+on_err (Ok a) p = tt
+on_err (Err e) p = p
+
+last_pushed : {X : Type 0} (xs : List X) (y : X)
+    → slice_get (xs ++ y ∷ []) (length (xs ++ y ∷ []) - 1) ≡ Some y
+last_pushed xs y =
+    let long = length-append xs (y ∷ []) in
+    let at : length (xs ++ y ∷ []) - 1 ≡ length xs = omega arith in
+    rw at (slice_get-get_or (xs ++ y ∷ []) (length xs) y (omega arith)
+    ∙ ap Some (get_or-append_seam xs y [] y))
+
+-- the system that stopped is the last one
+pub left_last : {S : Type 0} (leave : S → View → List Command → Type 0) (systems : List S)
+    (view : View) (before : List SystemQueue) (issued : Vec SystemQueue Global) (last : SystemQueue)
+    → issued.items ≡ before ++ last ∷ [] → SystemMayIssue leave systems view last.system last.queue
+    → WasRefused leave systems view issued
+left_last leave systems view before issued last pushed left = inl (
+  last,
+  rw pushed (last_pushed before last),
+  left,
+)
 
 pub inside_more : {S : Type 0} (systems : List S) (issued next : List SystemQueue) (i : SystemQueue)
     → All (λ (i : SystemQueue). i.system < length systems) issued → i.system < length systems → next

@@ -150,6 +150,7 @@ pub record EndsInOrder (before : World) (queues : List (List Command)) (after : 
 pub record IsLost (before after : World) : Type 0 where
   pub phase : after.phase ≡ before.phase
   pub entities : after.entities ≡ before.entities
+  pub limits : after.allocator.limits ≡ before.allocator.limits
   pub live : after.allocator.live ≡ before.allocator.live
   pub made : after.allocator.made ≡ before.allocator.made
   pub available : available after.allocator ≡ before.allocator.pool

@@ -1,7 +1,7 @@
 -- For private contracts and proofs: what one worker has done in a frame, and all of them.
 use Rattle.std.specs.Prelude.{◌≡◌, ◌<◌, ◌≤◌, ℕ, List, [], length, map, replicate, None, Some, true}
 use Rattle.std.specs.Prelude.{false}
-use Rattle.std.specs.Prelude.{vec_capacity, slice_get}
+use Rattle.std.specs.Prelude.{◌-◌, ◌⊎◌, vec_len, vec_capacity, slice_get, slice_index_or}
 use Rattle.std.proofs.Common.{Vec, Global}
 use Rattle.std.specs.List.{All, AllPairs, flat_map, range_with_len}
 use Rattle.std.specs.List.Sorted.{IsPermutation}
@@ -49,6 +49,15 @@ pub record HasRunSome {S : Type 0} (may leave : S → View → List Command → 
   pub ended : AllPairs (λ (i later : SystemQueue). SystemMayIssue may systems view i.system i.queue)
       issued
 
+-- Memory was refused to the last of these systems, which left its queue so, or there is no room for
+-- one queue more.
+abbrev pub WasRefused : {S : Type 0} → (S → View → List Command → Type 0) → List S → View
+    → Vec SystemQueue Global → Type 0
+WasRefused leave systems view issued =
+    ((last : SystemQueue) × (slice_get issued.items (length issued.items - 1) ≡ Some last)
+    × SystemMayIssue leave systems view last.system last.queue)
+    ⊎ (vec_capacity issued ≤ vec_len issued)
+
 -- It has claimed nothing yet.
 abbrev pub IsUnused : Claimer → Type 0
 IsUnused c = (c.own.claims ≡ []) × (c.own.ended ≡ false)
@@ -77,6 +86,22 @@ pub record HasWorked {S : Type 0} (may leave : S → View → List Command → T
       w.claimer.own.claims w.issued.items
   pub ended : w.stopped ≡ false → w.claimer.own.ended ≡ true
   pub some : w.stopped ≡ true → 0 < length w.issued.items
+  pub refused : w.stopped ≡ true → WasRefused leave systems view w.issued
+
+-- These workers can begin: there is at least one, and each has claimed and issued nothing yet.
+pub record AreReady (shared : Shared) (claims : Claims) (team : List Worker) : Type 0 where
+  pub some : 0 < length team
+  pub each : All (λ (w : Worker). IsOf shared w.reserver × IsClaimerOf claims w.claimer
+      × IsNewWorker w) team
+
+-- Each of these workers has worked.
+pub record HaveAllWorked {S : Type 0} (may leave : S → View → List Command → Type 0)
+    (shared : Shared) (claims : Claims) (systems : List S) (view : View)
+    (before after : List Worker) : Type 0 where
+  pub count : length after ≡ length before
+  pub each : (k : ℕ) (d : Worker) → k < length before
+      → HasWorked may leave shared claims systems view (slice_index_or before k d).reserver.own
+      (slice_index_or after k d)
 
 -- the same without what its systems may issue
 pub record HasClaimed (shared : Shared) (claims : Claims) (w : Worker) : Type 0 where

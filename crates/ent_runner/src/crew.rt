@@ -1,7 +1,7 @@
 //! The workers of a frame are made before it and taken apart after it, in room that was asked for
 //! before the phase was opened.
-ghost use Rattle.std.specs.Prelude.{◌≡◌, ◌<◌, ◌≤◌, ◌^◌, [], length, map, reverse, replicate, All};
-ghost use Rattle.std.specs.Prelude.{IfOk, None, false, flat_map, vec_capacity};
+ghost use Rattle.std.specs.Prelude.{◌≡◌, ◌<◌, ◌≤◌, ◌^◌, [], length, map, reverse, replicate, All, Any};
+ghost use Rattle.std.specs.Prelude.{IfOk, None, true, false, flat_map, vec_capacity};
 ghost use Rattle.ent_runner.specs.Collecting.{queues_put};
 ghost use Rattle.ent_runner.specs.Worker.{IsRoomFor, IsRoomForOne, HasReturns};
 
@@ -123,9 +123,15 @@ pub(crate) fn recruit(
 
 /// Whether a worker has stopped for want of memory.
 pub(crate) fn some_stopped(workers: &[Worker]) -> bool
-    ensures { result ≡ false → All (λ w. w.stopped ≡ false) workers.now }
+    ensures going { result ≡ false → All (λ w. w.stopped ≡ false) workers.now }
+    ensures some { result ≡ true → Any (λ w. w.stopped ≡ true) workers.now }
 {
-    workers.iter().any(|worker| worker.stopped)
+    for worker in workers {
+        if worker.stopped {
+            return true;
+        }
+    }
+    false
 }
 
 /// Takes the workers apart, and puts the queues at the numbers of their systems.

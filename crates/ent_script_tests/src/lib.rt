@@ -1,14 +1,15 @@
-//! Tests of what no clause of `ent_script` says, in a crate of their own, so that the library is
-//! proved once.
+//! Tests of what no clause of the script crates says and no run of the program shows, in a crate of
+//! their own, so that each library is proved once. What a run shows is a case of the program
+//! (`crates/spawnrun/cases`).
 #![tactic(auto)]
 
 #[cfg(test)]
-mod hostile;
+mod frames;
 #[cfg(test)]
-mod line;
-#[cfg(test)]
-mod memory;
+mod queues;
 #[cfg(test)]
 mod read;
 #[cfg(test)]
-mod refused;
+mod reading;
+#[cfg(test)]
+mod report;

@@ -1,6 +1,6 @@
+//! The values of a script.
 use ent_handle::{Birth, ComponentId, Handle};
 use ent_script::{Bundle, Operation, Script, Target, read_script};
-use std::alloc::Global;
 use std::test::Fail;
 
 // Each operation, each target, and names that are bound twice.
@@ -14,6 +14,48 @@ const SCRIPT: &[u8] =
     {\"despawn\":{\"each\":\"mp\"}},\
     {\"despawn\":{\"name\":\"b\"}},\
     {\"spawn\":{}}],[]]]}";
+
+#[test]
+fn values_of_a_script(rt: HostRuntime) -> Result<(), Fail> {
+    let script = read_script(rt.alloc(), SCRIPT)?;
+    assert!(rt; has_parts(&script) && has_operations(&script));
+    Ok(())
+}
+
+fn has_parts(script: &Script) -> bool {
+    let limits = script.limits();
+    let [first, second] = script.components() else {
+        return false;
+    };
+    let [empty, full] = script.frames() else {
+        return false;
+    };
+    let [_, last] = full.systems() else {
+        return false;
+    };
+    (limits.slots(), limits.generations()) == (3, 9)
+        && (first.as_str(), second.as_str()) == ("mp", "hp")
+        && empty.systems().is_empty()
+        && last.operations().is_empty()
+}
+
+// Components stand by their numbers, and names are numbered as they are bound first.
+fn has_operations(script: &Script) -> bool {
+    let Some(system) = script.frames().last().and_then(|it| it.systems().first()) else {
+        return false;
+    };
+    let [a, b, c, d, e, f, g, h] = system.operations() else {
+        return false;
+    };
+    is_spawn(a, Some((0, -6)), Some((1, 5)), Some(0))
+        && is_spawn_many(b, 3, None, Some(1))
+        && is_spawn_many(c, 4, Some((1, 0)), Some(0))
+        && is_insert(d, (0, 1), Target::Name(1))
+        && is_remove(e, 1, Handle::new(7, 8))
+        && is_despawn(f, Target::Each(ComponentId(0)))
+        && is_despawn(g, Target::Name(0))
+        && is_spawn(h, None, None, None)
+}
 
 // Whether these are the components and values of a bundle.
 fn has(bundle: &Bundle, first: Option<(u8, i64)>, second: Option<(u8, i64)>) -> bool {
@@ -64,9 +106,11 @@ fn is_insert(operation: &Operation, item: (u8, i64), on: Target) -> bool {
     }
 }
 
-fn is_remove(operation: &Operation, number: u8, on: Target) -> bool {
+fn is_remove(operation: &Operation, number: u8, on: Option<Handle>) -> bool {
     match operation {
-        Operation::Remove { component, target } => component.0 == number && *target == on,
+        Operation::Remove { component, target } => {
+            component.0 == number && Some(*target) == on.map(Target::Handle)
+        }
         _ => false,
     }
 }
@@ -78,60 +122,18 @@ fn is_despawn(operation: &Operation, on: Target) -> bool {
     }
 }
 
-fn read(alloc: Global) -> Result<Script, Fail> {
-    Ok(read_script(alloc, SCRIPT)?)
-}
-
-#[test]
-fn parts_of_a_script(rt: HostRuntime) -> Result<(), Fail> {
-    let script = read(rt.alloc())?;
-    assert!(rt; script.limits().slots() == 3);
-    assert!(rt; script.limits().generations() == 9);
-    let [first, second] = script.components() else {
-        return Err(Fail::new("components"));
-    };
-    assert!(rt; first.as_str() == "mp");
-    assert!(rt; second.as_str() == "hp");
-    let [empty, full] = script.frames() else {
-        return Err(Fail::new("frames"));
-    };
-    assert!(rt; empty.systems().is_empty());
-    let [_, last] = full.systems() else {
-        return Err(Fail::new("systems"));
-    };
-    assert!(rt; last.operations().is_empty());
-    Ok(())
-}
-
-#[test]
-fn operations_of_a_script(rt: HostRuntime) -> Result<(), Fail> {
-    let script = read(rt.alloc())?;
-    let frame = script.frames().last().ok_or("frame")?;
-    let system = frame.systems().first().ok_or("system")?;
-    let [a, b, c, d, e, f, g, h] = system.operations() else {
-        return Err(Fail::new("operations"));
-    };
-    // Components stand by their numbers, and names are numbered as they are bound first.
-    assert!(rt; is_spawn(a, Some((0, -6)), Some((1, 5)), Some(0)));
-    assert!(rt; is_spawn_many(b, 3, None, Some(1)));
-    assert!(rt; is_spawn_many(c, 4, Some((1, 0)), Some(0)));
-    assert!(rt; is_insert(d, (0, 1), Target::Name(1)));
-    let handle = Handle::new(7, 8).ok_or("handle")?;
-    assert!(rt; is_remove(e, 1, Target::Handle(handle)));
-    assert!(rt; is_despawn(f, Target::Each(ComponentId(0))));
-    assert!(rt; is_despawn(g, Target::Name(0)));
-    assert!(rt; is_spawn(h, None, None, None));
-    Ok(())
-}
-
 #[test]
 fn limits_that_are_absent(rt: HostRuntime) -> Result<(), Fail> {
     let script = read_script(rt.alloc(), b"{\"components\":[],\"frames\":[]}")?;
-    assert!(rt; script.limits().slots() == 4_294_967_295);
-    assert!(rt; script.limits().generations() == 2_147_483_647);
-    assert!(rt; script.components().is_empty());
-    assert!(rt; script.frames().is_empty());
+    assert!(rt; has_default_limits(&script));
     Ok(())
+}
+
+fn has_default_limits(script: &Script) -> bool {
+    let limits = script.limits();
+    (limits.slots(), limits.generations()) == (4_294_967_295, 2_147_483_647)
+        && script.components().is_empty()
+        && script.frames().is_empty()
 }
 
 const BIRTHS: &[u8] = b"{\"format\":2,\"components\":[],\"frames\":[[],[],[[\
@@ -140,22 +142,24 @@ const BIRTHS: &[u8] = b"{\"format\":2,\"components\":[],\"frames\":[[],[],[[\
 #[test]
 fn births_of_targets(rt: HostRuntime) -> Result<(), Fail> {
     let script = read_script(rt.alloc(), BIRTHS)?;
-    let frame = script.frames().last().ok_or("frame")?;
-    let system = frame.systems().first().ok_or("system")?;
-    let [first, second] = system.operations() else {
-        return Err(Fail::new("operations"));
-    };
-    let least = Birth {
-        frame: 0,
-        system: 0,
-        ordinal: 0,
-    };
-    assert!(rt; is_despawn(first, Target::Birth(least)));
-    let greatest = Birth {
-        frame: 1,
-        system: 255,
-        ordinal: 4_294_967_295,
-    };
-    assert!(rt; is_despawn(second, Target::Birth(greatest)));
+    assert!(rt; has_births(&script));
     Ok(())
+}
+
+fn has_births(script: &Script) -> bool {
+    let Some(system) = script.frames().last().and_then(|it| it.systems().first()) else {
+        return false;
+    };
+    let [least, greatest] = system.operations() else {
+        return false;
+    };
+    is_despawn(least, birth(0, 0, 0)) && is_despawn(greatest, birth(1, 255, 4_294_967_295))
+}
+
+fn birth(frame: u64, system: u32, ordinal: u32) -> Target {
+    Target::Birth(Birth {
+        frame,
+        system,
+        ordinal,
+    })
 }

@@ -6,6 +6,7 @@ ghost use Rattle.ent_alloc.specs.Limits.{credit};
 ghost use Rattle.ent_alloc.specs.Sequential.{cursor, after_flush};
 ghost use Rattle.ent_alloc.specs.History.{IsLegal, after_history, given_in};
 ghost use Rattle.ent_alloc.specs.Sound.{IsLive};
+ghost use Rattle.ent_alloc.specs.Entities.{HasRowsOfLiving};
 ghost use Rattle.ent_shared.specs.Record.{requested_by};
 ghost use Rattle.ent_shared.specs.Moves.{after_meeting};
 ghost use Rattle.ent_shared.specs.Phase.{IsPhase, records_of};
@@ -185,6 +186,7 @@ impl Shared {
         ensures after { result.allocator
             ≡ after_history self.start (history_of (records_of reservers.items)) }
         ensures rows { result.rows ≡ self.rows }
+        ensures rows_of_living { HasRowsOfLiving result }
 
         // Each reservation stands once, where its step came: the cursor falls with each.
         ensures falls { AllPairs (λ earlier later. later.high <ℤ earlier.high)
@@ -222,6 +224,7 @@ impl Shared {
         requires own { All (IsOf self) reservers.items }
         ensures after { result.allocator ≡ after_loss self.start result.allocator.asked }
         ensures rows { result.rows ≡ self.rows }
+        ensures rows_of_living { HasRowsOfLiving result }
 
         // It counts what the reservers that are here have requested, and of the others no more than
         // their credit.

@@ -1,6 +1,6 @@
 -- The entities that have a component, by the pairs of its dense vector.
 use Rattle.std.proofs.Common.{◌≡◌, ◌≢◌, ℕ, ℤ, ◌<◌, ◌≤◌, Bool, true, List, length, get_or, map}
-use Rattle.std.proofs.Common.{Option}
+use Rattle.std.proofs.Common.{Option, IsSome, [], ◌∷◌}
 use Rattle.std.proofs.Common.{Some, None, slice_get, is_some, pos, Contains, option_and_then, ◌⊎◌}
 use Rattle.std.proofs.Common.{inl, inr}
 use Rattle.std.proofs.Common.{refl, sym, ap, subst, ◌∙◌, arith}
@@ -17,7 +17,7 @@ use Rattle.ent_handle.specs.declared.birth.Birth.{Birth}
 use Rattle.ent_handle.specs.declared.component.ComponentId.{ComponentId}
 use Rattle.ent_handle.specs.Handle.{Handle, handle_cmp, handle_cmp_total}
 use Rattle.ent_handle.specs.Handle.{handle_cmp-IsAntisymmetric}
-use Rattle.ent_storage.specs.EntityMap.{Entity, value_of}
+use Rattle.ent_storage.specs.EntityMap.{Entity, EntityMap, value_of}
 use Rattle.ent_storage.specs.BirthOrder.{ListsWith, IsInOrder}
 use Rattle.ent_storage.specs.Living.{LivingEntity, IsValueAt, born_at}
 use Rattle.ent_storage.specs.Indexed.{entity_of, map_of, handles_by_place, IsIndexed}
@@ -81,6 +81,14 @@ some_value : (o : Option ℤ) → is_some o ≡ true → (v : ℤ) × (o ≡ Som
 some_value None e = absurd (false≢true e)
 some_value (Some v) e = (v, refl)
 
+-- there are as many births as pairs
+pub as_many : (living : List LivingEntity) (births : List (Birth × Handle)) (pairs : List (ℕ × ℤ))
+    → map {B = Option (Birth × Handle)} Some births
+    ≡ map (λ (pair : ℕ × ℤ). born_at living pair.0) pairs → length births ≡ length pairs
+as_many living births pairs are =
+    sym (length-map {B = Option (Birth × Handle)} births Some) ∙ ap length are
+    ∙ length-map pairs (λ (pair : ℕ × ℤ). born_at living pair.0)
+
 module _ (living : List LivingEntity) (index : FinMap handle_cmp ℕ)
     (indexed : IsIndexed living index) (id : ComponentId)
     (pairs : List (ℕ × ℤ)) (births : List (Birth × Handle)) (are : map {B = Option (Birth × Handle)}
@@ -90,11 +98,6 @@ module _ (living : List LivingEntity) (index : FinMap handle_cmp ℕ)
     (once : AllPairs (λ a b. a.0 ≢ b.0) pairs) where
   abbrev passes : Entity → Bool
   passes e = finite.contains_key e.components id
-
-  as_many : length births ≡ length pairs
-  as_many =
-      sym (length-map {B = Option (Birth × Handle)} births Some) ∙ ap length are
-      ∙ length-map pairs (λ (pair : ℕ × ℤ). born_at living pair.0)
 
   born_pair : (k : ℕ) (d : ℕ × ℤ) → k < length pairs → slice_get births k
       ≡ born_at living (get_or pairs k d).0
@@ -116,7 +119,7 @@ module _ (living : List LivingEntity) (index : FinMap handle_cmp ℕ)
   all_born k b l =
       let d : ℕ × ℤ = (0, pos 0) in
       let r : LivingEntity = some_entity b.1 in
-      let below : k < length pairs = omega (arith, as_many) in
+      let below : k < length pairs = omega (arith, as_many living births pairs are) in
       let pair = get_or pairs k d in
       let inside = pair_inside living id pairs has k d below in
       let at = get_or_from_slice_get births k _ b (birth_is k d r below) in
@@ -134,7 +137,7 @@ module _ (living : List LivingEntity) (index : FinMap handle_cmp ℕ)
   births_apart = IsDistinct-from_apart (alike living index indexed passes) births (λ i j b l k.
       let d : ℕ × ℤ = (0, pos 0) in
       let r : LivingEntity = some_entity b.1 in
-      let below : j < length pairs = omega (arith, as_many) in
+      let below : j < length pairs = omega (arith, as_many living births pairs are) in
       let at_i = get_or_from_slice_get births i _ b (birth_is i d r (omega arith)) in
       let at_j = get_or_from_slice_get births j _ b (birth_is j d r below) in
       let inside_i = pair_inside living id pairs has i d (omega arith) in
@@ -156,7 +159,7 @@ module _ (living : List LivingEntity) (index : FinMap handle_cmp ℕ)
       at.2 ∙ ap (option_map {U = Birth × Handle} (λ (e : LivingEntity). (e.birth, e.handle)))
       (slice_get-get_or living i r l) in (
         at.0,
-        omega (arith, as_many, at.1),
+        omega (arith, as_many living births pairs are, at.1),
         get_or_from_slice_get births at.0 _
             (born_of (get_or living i r)) born,
       )
@@ -164,3 +167,22 @@ module _ (living : List LivingEntity) (index : FinMap handle_cmp ℕ)
   pub lists_with : (handles : List Handle) → IsInOrder births handles
       → ListsWith id (map_of living) handles
   lists_with = lists_of living index indexed passes births all_born births_apart complete
+
+-- ---- who has it, if anybody does
+
+valued : (m : EntityMap) (id : ComponentId) (o : Option Handle) (v : ℤ)
+    → option_and_then (λ (h : Handle). value_of m h id) o ≡ Some v
+    → (h : Handle) × IsSome (value_of m h id)
+valued m id None v is = absurd (none-some v is)
+valued m id (Some h) v is = (h, subst IsSome (sym is) refl)
+
+-- an entity has the component if there is a pair
+pub some_with : (living : List LivingEntity) (index : FinMap handle_cmp ℕ)
+    → IsIndexed living index → (id : ComponentId) (pairs : List (ℕ × ℤ))
+    → ((p : ℕ) (v : ℤ) → Contains pairs (p, v) → IsValueAt living p id v) → 0 < length pairs
+    → (h : Handle) × IsSome (value_of (map_of living) h id)
+some_with living index indexed id [] has some = absurd (omega arith)
+some_with living index indexed id (pair ∷ pairs) has some =
+    valued (map_of living) id (slice_get (handles_by_place living) pair.0) pair.1
+    (sym (same_value living index indexed id pair.0)
+    ∙ has pair.0 pair.1 (0, omega arith, refl))

@@ -197,10 +197,11 @@ impl Living {
         columns::remove(&mut self.columns, place, id)
     }
 
-    /// The birth and the handle of each entity.
+    /// The birth and the handle of each entity. It takes no memory if there is none.
     pub fn births(&self, alloc: Global) -> Result<Vec<(Birth, Handle)>, AllocError>
-        ensures { IfOk result (λ births. births.items
+        ensures ok { IfOk result (λ births. births.items
             ≡ map (λ entity. (entity.birth, entity.handle)) self.now.entities) }
+        ensures memory { OnErr result (0 < length self.now.entities) }
     {
         births(alloc, &self.residents)
     }
@@ -213,15 +214,17 @@ impl Living {
         least_of_birth(&self.residents, birth)
     }
 
-    /// The birth and the handle of the entity at the place of each pair.
+    /// The birth and the handle of the entity at the place of each pair. It takes no memory for
+    /// none.
     pub fn births_at(
         &self,
         alloc: Global,
         pairs: &[(usize, i64)],
     ) -> Result<Vec<(Birth, Handle)>, AllocError>
         requires { All (λ pair. pair.0 < length self.now.entities) pairs.now }
-        ensures { IfOk result (λ births. map Some births.items
+        ensures ok { IfOk result (λ births. map Some births.items
             ≡ map (λ pair. born_at self.now.entities pair.0) pairs.now) }
+        ensures memory { OnErr result (0 < length pairs.now) }
     {
         let mut births = Vec::new(alloc);
         for pair in pairs {
@@ -248,9 +251,13 @@ impl Living {
 
 /// The birth and the handle of each resident.
 fn births(alloc: Global, residents: &[Resident]) -> Result<Vec<(Birth, Handle)>, AllocError>
-    ensures { IfOk result (λ births.
+    ensures ok { IfOk result (λ births.
         births.items ≡ map (λ resident. (resident.birth, resident.handle)) residents.now) }
+    ensures memory { OnErr result (0 < length residents.now) }
 {
+    if residents.is_empty() {
+        return Ok(Vec::new(alloc));
+    }
     residents
         .iter()
         .map(|resident| (resident.birth, resident.handle))

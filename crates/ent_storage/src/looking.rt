@@ -1,6 +1,6 @@
 //! What a storage has: the look-ups, which change nothing.
 ghost use Rattle.std.specs.Prelude.{◌≡◌, ◌<◌, ◌↔◌, IfOk, IfSome};
-ghost use Rattle.std.specs.Prelude.{Contains, ◌≢◌, ℤ};
+ghost use Rattle.std.specs.Prelude.{Contains, ◌≢◌, ℤ, OnErr, IsSome};
 ghost use Rattle.std.specs.Prelude.{Some, ℕ, is_some};
 ghost use Rattle.std.specs.Prelude.{slice_get, IfNone};
 ghost use Rattle.std.specs.declared.cmp.Ordering.TheVariants.{Greater};
@@ -90,9 +90,10 @@ impl Storage {
     ///
     /// # Errors
     ///
-    /// `Memory`: there is no memory for the list.
+    /// `Memory`: there is no memory for the list. It never comes if there are no entities.
     pub fn by_birth(&self) -> Result<Vec<Handle>, Memory>
-        ensures { IfOk result (λ handles. ListsAll self.now.entities handles.items) }
+        ensures ok { IfOk result (λ handles. ListsAll self.now.entities handles.items) }
+        ensures memory { OnErr result (self.now.entities ≢ map.empty) }
     {
         let births = self.living.births(self.alloc)?;
         Ok(handles_in_order(self.alloc, births)?)
@@ -129,9 +130,11 @@ impl Storage {
     ///
     /// # Errors
     ///
-    /// `Memory`: there is no memory for the list.
+    /// `Memory`: there is no memory for the list. It never comes if no entity has the component.
     pub fn with(&self, id: ComponentId) -> Result<Vec<Handle>, Memory>
-        ensures { IfOk result (λ handles. ListsWith id self.now.entities handles.items) }
+        ensures ok { IfOk result (λ handles. ListsWith id self.now.entities handles.items) }
+        ensures memory { OnErr result
+            ((handle : Handle) × IsSome (value_of self.now.entities handle id)) }
     {
         let births = self.living.births_at(self.alloc, self.living.pairs(id))?;
         Ok(handles_in_order(self.alloc, births)?)

@@ -1,4 +1,4 @@
-ghost use Rattle.std.specs.Prelude.{◌≡◌, ◌≢◌, ◌⊎◌, IfOk, IfSome, Some, map};
+ghost use Rattle.std.specs.Prelude.{◌≡◌, ◌≢◌, ◌⊎◌, ◌<◌, IfOk, IfSome, OnErr, Some, map, length};
 ghost use Rattle.std.specs.List.Sorted.{IsPermutation};
 ghost use Rattle.std.specs.declared.cmp.Ordering.TheVariants.{Greater};
 ghost use Rattle.ent_handle.specs.Handle.{handle_cmp};
@@ -8,13 +8,17 @@ use super::living::Resident;
 use ent_handle::{Birth, Handle};
 use std::alloc::{AllocError, Global};
 
-/// The handles, by birth and then by handle.
+/// The handles, by birth and then by handle. It takes no memory for nobody.
 pub fn handles_in_order(
     alloc: Global,
     mut births: Vec<(Birth, Handle)>,
 ) -> Result<Vec<Handle>, AllocError>
-    ensures { IfOk result (λ handles. IsInOrder births.items handles.items) }
+    ensures ok { IfOk result (λ handles. IsInOrder births.items handles.items) }
+    ensures memory { OnErr result (0 < length births.items) }
 {
+    if births.is_empty() {
+        return Ok(Vec::new(alloc));
+    }
     gather(&mut births);
     births.sort_unstable();
     handles(alloc, &births)
@@ -33,7 +37,7 @@ fn gather(births: &mut Vec<(Birth, Handle)>)
 }
 
 fn handles(alloc: Global, births: &[(Birth, Handle)]) -> Result<Vec<Handle>, AllocError>
-    ensures { IfOk result (λ handles. handles.items ≡ map (λ pair. pair.1) births.now) }
+    ensures ok { IfOk result (λ handles. handles.items ≡ map (λ pair. pair.1) births.now) }
 {
     births.iter().map(|pair| pair.1).collect(alloc)
 }

@@ -1,15 +1,6 @@
-//! Tests of `ent_storage`, over its public calls.
+//! Tests of `ent_storage` with memory that is refused. What its calls return if there is memory
+//! stands in `cases`.
 #![tactic(auto)]
 
 #[cfg(test)]
-mod components;
-#[cfg(test)]
-mod entities;
-#[cfg(test)]
-mod places;
-#[cfg(test)]
 mod refused;
-#[cfg(test)]
-mod sizes;
-#[cfg(test)]
-mod slots;

@@ -1,11 +1,20 @@
 //! Refused memory.
 
-use crate::entities::{HEALTH, MANA, assert_absent, assert_items, birth, entity, handle};
-use ent_handle::{ComponentId, Handle};
+use ent_handle::{Birth, ComponentId, Handle};
 use ent_storage::{Storage, StorageFault};
 use std::alloc::Global;
 use std::process::Abort;
 use std::test::Fail;
+
+const HEALTH: ComponentId = ComponentId(0);
+
+const MANA: ComponentId = ComponentId(1);
+
+const BIRTH: Birth = Birth {
+    frame: 0,
+    system: 0,
+    ordinal: 0,
+};
 
 // What an entity is given at first, and then what replaces it and needs more room.
 const FEW: [(ComponentId, i64); 2] = [(HEALTH, 1), (MANA, 2)];
@@ -47,11 +56,11 @@ fn assert_each_call_keeps(rt: &impl Abort, storage: &mut Storage, size: u32) -> 
 
 fn born_at_last(rt: &impl Abort, storage: &mut Storage, entity: Handle) -> Result<(), Fail> {
     let len = storage.len();
-    if storage.born(entity, birth(0)) == Err(StorageFault::Memory) {
+    if storage.born(entity, BIRTH) == Err(StorageFault::Memory) {
         assert!(rt; (storage.len(), storage.spare(), storage.contains(entity)) == (len, 0, false));
-        storage.born(entity, birth(0))?;
+        storage.born(entity, BIRTH)?;
     }
-    assert!(rt; storage.birth(entity) == Some(birth(0)));
+    assert!(rt; storage.birth(entity) == Some(BIRTH));
     Ok(())
 }
 
@@ -114,4 +123,31 @@ fn assert_taken_apart(rt: &impl Abort, storage: &mut Storage, entity: Handle) {
     assert!(rt; storage.get(entity, HEALTH) == None);
     assert!(rt; storage.despawn(entity) == Ok(()));
     assert_absent(rt, storage, entity);
+}
+
+fn assert_absent(rt: &impl Abort, storage: &mut Storage, gone: Handle) {
+    assert!(rt; !storage.contains(gone));
+    assert!(rt; storage.birth(gone) == None);
+    assert!(rt; storage.get(gone, MANA) == None);
+    assert!(rt; storage.items(gone).is_none());
+    let absent = Err(StorageFault::Absent);
+    assert!(rt; storage.insert(gone, &[(HEALTH, 1)]) == absent);
+    assert!(rt; storage.remove(gone, HEALTH) == Err(StorageFault::Absent));
+    assert!(rt; storage.despawn(gone) == absent);
+}
+
+fn assert_items(
+    rt: &impl Abort,
+    storage: &Storage,
+    entity: Handle,
+    want: &[(ComponentId, i64)],
+) -> Result<(), Fail> {
+    let items = storage.items(entity).ok_or("absent")?;
+    assert!(rt; items.len() == want.len(), "of {entity:?}");
+    assert!(rt; items.eq(want.iter().copied()), "of {entity:?}");
+    Ok(())
+}
+
+fn handle(index: u32) -> Result<Handle, Fail> {
+    Ok(Handle::new(index, 1).ok_or("no handle")?)
 }

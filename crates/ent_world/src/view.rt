@@ -1,4 +1,4 @@
-ghost use Rattle.std.specs.Prelude.{◌≡◌, ◌≢◌, IfOk, IfSome, IfNone, Some};
+ghost use Rattle.std.specs.Prelude.{◌≡◌, ◌≢◌, IfOk, IfSome, IfNone, IsSome, OnErr, Some};
 ghost use Rattle.std.specs.FinMap as map;
 ghost use Rattle.std.specs.declared.cmp.Ordering.TheVariants.{Greater};
 ghost use Rattle.ent_handle.specs.Handle.{Handle as HandleValue, handle_cmp};
@@ -58,9 +58,11 @@ impl<'a> View<'a> {
     ///
     /// # Errors
     ///
-    /// `Memory`: there is no memory for the list.
+    /// `Memory`: there is no memory for the list. It never comes if no entity has the component.
     pub fn with(&self, id: ComponentId) -> Result<Vec<Handle>, Memory>
-        ensures { IfOk result (λ handles. ListsWith id self.now.entities handles.items) }
+        ensures ok { IfOk result (λ handles. ListsWith id self.now.entities handles.items) }
+        ensures memory { OnErr result
+            ((handle : HandleValue) × IsSome (value_of self.now.entities handle id)) }
     {
         self.storage.with(id)
     }
@@ -69,9 +71,10 @@ impl<'a> View<'a> {
     ///
     /// # Errors
     ///
-    /// `Memory`: there is no memory for the list.
+    /// `Memory`: there is no memory for the list. It never comes if there are no entities.
     pub fn by_birth(&self) -> Result<Vec<Handle>, Memory>
-        ensures { IfOk result (λ handles. ListsAll self.now.entities handles.items) }
+        ensures ok { IfOk result (λ handles. ListsAll self.now.entities handles.items) }
+        ensures memory { OnErr result (self.now.entities ≢ map.empty) }
     {
         self.storage.by_birth()
     }

@@ -140,9 +140,10 @@ impl World {
     ///
     /// # Errors
     ///
-    /// `Memory`: there is no memory for the list.
+    /// `Memory`: there is no memory for the list. It never comes if there are no entities.
     pub fn by_birth(&self) -> Result<Vec<Handle>, Memory>
-        ensures { IfOk result (λ handles. ListsAll self.now.entities handles.items) }
+        ensures ok { IfOk result (λ handles. ListsAll self.now.entities handles.items) }
+        ensures memory { OnErr result (self.now.entities ≢ map.empty) }
     {
         self.storage.by_birth()
     }

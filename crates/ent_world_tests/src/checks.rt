@@ -2,10 +2,10 @@
 //! stays short.
 use crate::scene::{Entity, handle};
 use crate::shown::{shown, shown_faults};
-use ent_alloc::{AllocFault, FreeFault, Freed};
-use ent_handle::{Birth, ComponentId, Handle};
-use ent_queue::{Bundle, CommandQueue};
-use ent_world::{Fault, SyncFault, SyncReport, World};
+use ent_alloc::AllocFault;
+use ent_handle::{Birth, Handle};
+use ent_queue::Bundle;
+use ent_world::{Fault, World};
 use std::alloc::Global;
 use std::process::Abort;
 
@@ -20,24 +20,6 @@ pub fn birth(ordinal: u32) -> Birth {
 
 pub fn spawn(world: &mut World, ordinal: u32, items: &Bundle) -> Result<Handle, AllocFault> {
     world.spawn(birth(ordinal), items)
-}
-
-pub fn despawn(world: &mut World, handle: Handle) -> Result<Freed, FreeFault> {
-    world.despawn(handle)
-}
-
-pub fn apply(
-    rt: &impl Abort,
-    world: &mut World,
-    queues: &[CommandQueue],
-) -> Result<SyncReport, SyncFault> {
-    assert!(rt; queues.len() <= 65_536);
-    world.apply(queues)
-}
-
-/// Applies queues for which there is memory.
-pub fn applied(rt: &impl Abort, world: &mut World, queues: &[CommandQueue]) -> SyncReport {
-    apply(rt, world, queues).expect(rt, "memory for the commands")
 }
 
 pub fn assert_born(rt: &impl Abort, born: &[Handle], wanted: &[Entity]) {
@@ -55,20 +37,12 @@ pub fn assert_shown(rt: &impl Abort, alloc: Global, world: &World, wanted: &str)
     assert!(rt; shown(rt, alloc, world).as_str() == wanted);
 }
 
-pub fn assert_retired(rt: &impl Abort, world: &World, slots: u32) {
-    assert!(rt; world.retired() == slots);
-}
-
 pub fn assert_phase(rt: &impl Abort, world: &World, phase: u64) {
     assert!(rt; world.phase() == phase);
 }
 
 pub fn assert_len(rt: &impl Abort, world: &World, len: usize) {
     assert!(rt; world.len() == len);
-}
-
-pub fn assert_value(rt: &impl Abort, world: &World, handle: Handle, id: ComponentId, value: i64) {
-    assert!(rt; world.get(handle, id) == Some(value));
 }
 
 /// Something was reserved since the last flush.

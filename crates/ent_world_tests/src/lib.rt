@@ -1,12 +1,11 @@
-//! Tests of `ent_world`, over its public calls.
+//! Tests of `ent_world` with memory that is refused, and of the texts of its faults. What its calls
+//! return if there is memory stands in `cases`.
 #![tactic(auto)]
 
 #[cfg(test)]
 mod checks;
 #[cfg(test)]
-mod going_on;
-#[cfg(test)]
-mod limits;
+mod faults;
 #[cfg(test)]
 mod memory;
 #[cfg(test)]
@@ -15,9 +14,3 @@ mod scene;
 mod shown;
 #[cfg(test)]
 mod stop_at;
-#[cfg(test)]
-mod turns;
-#[cfg(test)]
-mod views;
-#[cfg(test)]
-mod worked_syncs;

@@ -7,7 +7,6 @@ use crate::checks::{
 };
 use crate::scene::{Call, bundle, handle, opened, pair, queue};
 use crate::stop_at::StopAt;
-use crate::worked_syncs::after_second_and_first;
 use ent_alloc::{AllocFault, Limits};
 use ent_handle::{Handle, Memory};
 use ent_queue::{Bundle, CommandQueue};
@@ -100,7 +99,7 @@ fn with_two(rt: &impl Abort, alloc: Global) -> World {
 }
 
 /// A world after a phase in which two systems wrote their commands.
-pub fn with_queues(rt: &impl Abort, alloc: Global) -> (World, Vec<CommandQueue>) {
+fn with_queues(rt: &impl Abort, alloc: Global) -> (World, Vec<CommandQueue>) {
     let world = with_two(rt, alloc);
     assert!(rt; !world.needs_flush());
     let (open, mut one, mut other) = opened(rt, world);
@@ -118,6 +117,18 @@ pub fn with_queues(rt: &impl Abort, alloc: Global) -> (World, Vec<CommandQueue>)
         open.close(pair(rt, alloc, one, other)),
         pair(rt, alloc, first, second),
     )
+}
+
+/// A new world after a phase in which each of two systems spawned, the second one first.
+fn after_second_and_first(rt: &impl Abort, alloc: Global) -> (World, Vec<CommandQueue>) {
+    let world = World::new(alloc, Limits::default_limits());
+    let (open, mut first, mut second) = opened(rt, world);
+    let calls = [Call::Spawn(&[(0, 7)])];
+    let later = queue(rt, alloc, open.shared(), &mut second, &calls);
+    let calls = [Call::Spawn(&[(0, 5)])];
+    let earlier = queue(rt, alloc, open.shared(), &mut first, &calls);
+    let world = open.close(pair(rt, alloc, first, second));
+    (world, pair(rt, alloc, earlier, later))
 }
 
 /// The flush is still to come, and the world is as it was before.

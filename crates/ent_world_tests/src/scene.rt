@@ -4,7 +4,6 @@ ghost use Rattle.std.specs.Prelude.{◌≡◌, [], ◌∷◌, All, IfOk, length}
 ghost use Rattle.ent_queue.specs.Commands.{IsReady, shared_of};
 ghost use Rattle.ent_shared.specs.Phase.{IsOf};
 
-use ent_alloc::Limits;
 use ent_handle::{ComponentId, Handle, Memory};
 use ent_queue::{Bundle, CommandQueue, Commands, QueueFault};
 use ent_shared::{Reserver, Shared};
@@ -24,23 +23,12 @@ pub enum Call {
     Spawn(Items),
     SpawnMany(u32, Items),
     Insert(Entity, Items),
-    /// A spawn with all components, a spawn of many, and an insertion of them.
-    SpawnFull,
-    SpawnManyFull(u32),
-    InsertFull(Entity),
     Remove(Entity, u8),
     Despawn(Entity),
 }
 
 pub fn handle(rt: &impl Abort, (index, generation): Entity) -> Handle {
     Handle::new(index, generation).expect(rt, "a handle in range")
-}
-
-/// A world of that many slots.
-pub fn with_slots(rt: &impl Abort, alloc: Global, slots: u32) -> World
-    ensures { result.allocator.asked ≡ 0 }
-{
-    World::new(alloc, Limits::new(slots, 7).expect(rt, "limits"))
 }
 
 /// A bundle into which the components were put one by one.
@@ -53,22 +41,6 @@ pub fn bundle(rt: &impl Abort, alloc: Global, items: &[(u8, i64)]) -> Bundle {
         }
     }
     bundle
-}
-
-/// A bundle of all 256 components.
-pub fn full_bundle(rt: &impl Abort, alloc: Global) -> Bundle {
-    let mut bundle = Bundle::new(alloc);
-    for number in 0..=u8::MAX {
-        bundle
-            .put(ComponentId(number), full_value(number))
-            .expect(rt, "memory for a bundle");
-    }
-    bundle
-}
-
-/// The value of a component in a bundle of all of them.
-pub fn full_value(number: u8) -> i64 {
-    i64::from(number) * 3 - 100
 }
 
 /// The world in a phase, with two reservers.
@@ -152,15 +124,6 @@ fn issue(
         Call::Insert(entity, items) => {
             let inserted = commands.insert(handle(rt, entity), bundle(rt, alloc, items));
             return done(inserted);
-        }
-        Call::SpawnFull => {
-            let _ = commands.spawn(full_bundle(rt, alloc))?;
-        }
-        Call::SpawnManyFull(n) => {
-            let _ = commands.spawn_many(n, full_bundle(rt, alloc))?;
-        }
-        Call::InsertFull(entity) => {
-            return done(commands.insert(handle(rt, entity), full_bundle(rt, alloc)));
         }
         Call::Remove(entity, id) => {
             return done(commands.remove(handle(rt, entity), ComponentId(id)));

@@ -7,12 +7,3 @@ pub struct StopAt {
     /// How many handles of the command are done.
     pub done: usize,
 }
-
-/// Before that handle of that command of that system.
-pub fn at(system: usize, command: usize, done: usize) -> StopAt {
-    StopAt {
-        system,
-        command,
-        done,
-    }
-}

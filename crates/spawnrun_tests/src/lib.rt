@@ -1,9 +1,8 @@
-//! Tests of what no clause of `spawnrun_lib` says, in a crate of their own, so that the library is
-//! proved once.
+//! Tests of what no clause of `spawnrun_lib` says and no run of the program shows, in a crate of
+//! their own, so that the library is proved once: devices that fail, memory that is refused, and
+//! values of single calls. What a run shows is a case of the program (`crates/spawnrun/cases`).
 #![tactic(auto)]
 
-#[cfg(test)]
-mod advice;
 #[cfg(test)]
 mod counted;
 #[cfg(test)]
@@ -14,11 +13,5 @@ mod inputs;
 mod memory;
 #[cfg(test)]
 mod program;
-#[cfg(test)]
-mod runs;
-#[cfg(test)]
-mod schedules;
-#[cfg(test)]
-mod scripts;
 #[cfg(test)]
 mod words;

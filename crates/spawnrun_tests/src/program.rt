@@ -1,151 +1,105 @@
-use crate::memory::{MemorySink, MemorySource, NEVER};
-use spawnrun_lib::{execute, refuse_words};
+//! The program between devices that fail, and with memory that is refused.
+use crate::memory::{EndlessSource, MemorySink, MemorySource, NEVER};
+use spawnrun_lib::{Source, execute, refuse_words};
 use std::io;
 use std::io::ErrorKind;
 use std::process::Abort;
 use std::thread::Threads;
 
-// How the program ends: its exit status, what it writes, and what it says on the error stream.
-#[derive(Clone, Copy)]
-struct Ending<'a> {
-    status: u8,
-    output: &'a str,
-    errors: &'a str,
+const SCHEDULE: &str = "alloc\nalloc\nfree 0v1\nflush\n";
+
+// Two systems that spawn in one frame.
+const SCRIPT: &str =
+    "{\"components\":[\"hp\"],\"frames\":[[[{\"spawn\":{\"hp\":5}}],[{\"spawn\":{\"hp\":7}}]]]}";
+
+// How the program ends: its exit status, whether it has written nothing, and whether `device` is all
+// that it has said on the error stream.
+type Ending = (u8, bool, bool);
+
+// Runs the program on these words. Its output fails after `puts` calls that succeed, and its error
+// stream after `says` calls.
+fn ending<I: Source>(
+    rt: &(impl Threads + Sync + AllocGlobal),
+    words: &[&str],
+    source: &mut I,
+    puts: u64,
+    says: u64,
+) -> Ending {
+    let mut sink = MemorySink::new(rt.alloc(), puts);
+    let mut errors = MemorySink::new(rt.alloc(), says);
+    let status = execute(rt, rt.alloc(), words, source, &mut sink, &mut errors);
+    let has_said_device = errors.bytes.as_slice() == b"device\n".as_slice();
+    (status, sink.bytes.is_empty(), has_said_device)
 }
 
-const RUN_HELP: &str = "Runs the script of frames on standard input\n\n\
-     Usage: spawnrun run [OPTIONS]\n\nOptions:\n      \
-     --workers <N>  How many workers run the systems of a frame [default: 1]\n      \
-     --show <WHAT>  What names an entity [default: births] [possible values: births, handles]\n  \
-     -h, --help         Print help\n\n\
-     A script of one line:\n  \
-     {\"components\":[\"hp\"],\"frames\":[[[{\"spawn\":{\"hp\":20}}]]]}\n\n\
-     'spawnrun --help' names the exit statuses.\n";
-
-const REPLAY_HELP: &str = "Runs the schedule of allocator events on standard input\n\n\
-     Usage: spawnrun replay [OPTIONS]\n\nOptions:\n      \
-     --slots <N>        How many slots may be made [default: 4294967295]\n      \
-     --generations <N>  The last generation of a slot [default: 2147483647]\n  \
-     -h, --help             Print help\n\n\
-     A schedule of one line:\n  alloc\n\n'spawnrun --help' names the exit statuses.\n";
-
-const HELP: &str = "Runs schedules and scripts over Bevy's entity allocator\n\n\
-     Usage: spawnrun <COMMAND>\n\nCommands:\n  \
-     replay  Runs the schedule of allocator events on standard input\n  \
-     run     Runs the script of frames on standard input\n\nOptions:\n  \
-     -h, --help  Print help\n\n\
-     A script of one line, for 'spawnrun run':\n  \
-     {\"components\":[\"hp\"],\"frames\":[[[{\"spawn\":{\"hp\":20}}]]]}\n\n\
-     Exit status:\n  \
-     0  the input was accepted, and all of the output was written\n  \
-     1  the input was refused: one line of output names the test that it fails\n  \
-     2  the words are no command line, or ask for help\n  \
-     3  memory ran out, and nothing was written\n  \
-     4  reading or writing failed\n";
-
-// Runs the program on these words and this input, and compares how it ends. Its output fails after
-// `puts` calls that succeed.
-fn ends(
-    rt: &(impl Threads + Sync + Abort + AllocGlobal),
+// The same of an input that comes in pieces of 7 bytes, and fails after `takes` calls that succeed.
+fn ending_of(
+    rt: &(impl Threads + Sync + AllocGlobal),
     words: &[&str],
     input: &str,
+    takes: u64,
     puts: u64,
-    ending: Ending,
-) {
-    let mut source = MemorySource::new(input.as_bytes(), 7, NEVER);
-    let mut sink = MemorySink::new(rt.alloc(), puts);
-    let mut errors = MemorySink::new(rt.alloc(), NEVER);
-    let status = execute(rt, rt.alloc(), words, &mut source, &mut sink, &mut errors);
-    assert!(rt; status == ending.status);
-    assert!(rt; sink.bytes.as_slice() == ending.output.as_bytes());
-    assert!(rt; errors.bytes.as_slice() == ending.errors.as_bytes());
+) -> Ending {
+    let mut source = MemorySource::new(input.as_bytes(), 7, takes);
+    ending(rt, words, &mut source, puts, NEVER)
 }
 
-#[test]
-fn tasks_are_done(rt: HostRuntime) {
-    let done = Ending {
-        status: 0,
-        output: "0v1\nspace wanted 1 left 0\n",
-        errors: "",
-    };
-    ends(
-        &rt,
-        &["replay", "--slots", "1"],
-        "alloc\nalloc\n",
-        NEVER,
-        done,
-    );
-    let refused = Ending {
-        status: 1,
-        output: "refused line 1 word\n",
-        errors: "a line must be alloc, free H, flush, begin C N, step C or answer C, for a handle H, \
-                 a caller C and a count N; found \"alloc_\" at line 1 (counted from 1)\n",
-    };
-    ends(&rt, &["replay"], "alloc_\n", NEVER, refused);
-    let failed = Ending {
-        status: 4,
-        output: "",
-        errors: "device\n",
-    };
-    ends(&rt, &["replay"], "alloc\n", 0, failed);
-}
+// A task, its input, and how many reads there are, the last one at the end.
+const READ: &[(&str, &str, u64)] = &[("replay", SCHEDULE, 5), ("run", SCRIPT, 12)];
 
 #[test]
-fn scripts_are_run(rt: HostRuntime) {
-    let script = "{\"components\":[\"hp\"],\"frames\":[[[{\"spawn\":{\"hp\":5}}]]]}";
-    let births = Ending {
-        status: 0,
-        output: "frame 0 born 1 faults 0\n0.0.0 hp=5\nalive 1\n",
-        errors: "",
-    };
-    ends(&rt, &["run", "--workers", "2"], script, NEVER, births);
-    let handles = Ending {
-        status: 0,
-        output: "frame 0 born 1 faults 0\n0.0.0 0v1 hp=5\nalive 1\n",
-        errors: "",
-    };
-    ends(&rt, &["run", "--show", "handles"], script, NEVER, handles);
-    let refused = Ending {
-        status: 1,
-        output: "refused script top\n",
-        errors: "a script must be an object with the keys 'components' and 'frames'; found []\n",
-    };
-    ends(&rt, &["run"], "[]", NEVER, refused);
-    let failed = Ending {
-        status: 4,
-        output: "",
-        errors: "device\n",
-    };
-    ends(&rt, &["run"], script, 0, failed);
-}
-
-// Words that ask for no task, and clap's text on them.
-const NO_TASK: [(&[&str], &str); 4] = [
-    (
-        &[],
-        "error: 'spawnrun' requires a subcommand but one was not provided\n  \
-         [subcommands: replay, run]\n\nUsage: spawnrun <COMMAND>\n\n\
-         For more information, try '--help'.\n",
-    ),
-    (&["--help"], HELP),
-    (&["run", "--help"], RUN_HELP),
-    (&["replay", "--help"], REPLAY_HELP),
-];
-
-#[test]
-fn words_that_ask_for_no_task_use_no_device(rt: HostRuntime) {
-    for (words, errors) in NO_TASK {
-        let ending = Ending {
-            status: 2,
-            output: "",
-            errors,
-        };
-        ends(&rt, words, "alloc\n", 0, ending);
+fn each_read_fails_in_turn(rt: HostRuntime) {
+    for (task, input, reads) in READ {
+        for takes in 0..*reads {
+            let ended = ending_of(&rt, &[*task], input, takes, NEVER);
+            assert!(rt; ended == (4, true, true), "{task} after {takes} reads");
+        }
+        let ended = ending_of(&rt, &[*task], input, *reads, NEVER);
+        assert!(rt; ended == (0, false, false), "{task}");
     }
 }
 
-// The exit status on these words and this input, if the error stream fails. The output fails after
-// `puts` calls that succeed.
+// A task, its input, and the exit status if nothing fails.
+const WRITTEN: &[(&str, &str, u8)] = &[
+    ("replay", SCHEDULE, 0),
+    ("replay", "al\n", 1),
+    ("run", SCRIPT, 0),
+    ("run", "[]", 1),
+];
+
+// There is one write.
+#[test]
+fn each_write_fails_in_turn(rt: HostRuntime) {
+    for (task, input, status) in WRITTEN {
+        let failed = ending_of(&rt, &[*task], input, NEVER, 0);
+        assert!(rt; failed == (4, true, true), "{task} to {status}");
+        let written = ending_of(&rt, &[*task], input, NEVER, 1);
+        assert!(rt; written == (*status, false, false), "{task} to {status}");
+    }
+}
+
+// Such an input is refused, and that is what can't be written.
+#[test]
+fn the_write_after_an_input_without_end_fails(rt: HostRuntime) {
+    for task in ["replay", "run"] {
+        let failed = ending(&rt, &[task], &mut EndlessSource, 0, NEVER);
+        assert!(rt; failed == (4, true, true), "{task}");
+    }
+}
+
+// Words that ask for no task.
+const NO_TASK: &[&[&str]] = &[&[], &["--help"], &["run", "--help"], &["replay", "--help"]];
+
+// A call of the output would fail, and change the status.
+#[test]
+fn words_that_ask_for_no_task_use_no_device(rt: HostRuntime) {
+    for words in NO_TASK {
+        let ended = ending_of(&rt, words, "alloc\n", NEVER, 0);
+        assert!(rt; ended == (2, true, false), "at {words:?}");
+    }
+}
+
+// The exit status if the error stream fails.
 fn status_unheard(
     rt: &(impl Threads + Sync + AllocGlobal),
     words: &[&str],
@@ -153,63 +107,105 @@ fn status_unheard(
     puts: u64,
 ) -> u8 {
     let mut source = MemorySource::new(input.as_bytes(), 7, NEVER);
-    let mut sink = MemorySink::new(rt.alloc(), puts);
-    let mut errors = MemorySink::new(rt.alloc(), 0);
-    execute(rt, rt.alloc(), words, &mut source, &mut sink, &mut errors)
+    ending(rt, words, &mut source, puts, 0).0
 }
 
 #[test]
 fn a_failing_error_stream_changes_no_status(rt: HostRuntime) {
-    for (words, _) in NO_TASK {
-        assert!(rt; status_unheard(&rt, words, "", 0) == 2);
+    for words in NO_TASK {
+        assert!(rt; status_unheard(&rt, words, "", 0) == 2, "at {words:?}");
     }
-    let cases = [
-        ("alloc\n", NEVER, 0),
-        ("alloc_\n", NEVER, 1),
-        ("alloc\n", 0, 4),
-    ];
-    for (schedule, puts, status) in cases {
-        assert!(rt;
-            status_unheard(&rt, &["replay"], schedule, puts) == status,
-            "at {status}"
-        );
+    for (input, puts, status) in [("alloc\n", NEVER, 0), ("alloc_\n", NEVER, 1), ("alloc\n", 0, 4)] {
+        assert!(rt; status_unheard(&rt, &["replay"], input, puts) == status, "at {status}");
     }
 }
 
+const UNREAD: &[(ErrorKind, u8, &str)] = &[
+    (ErrorKind::OutOfMemory, 3, "memory\n"),
+    (
+        ErrorKind::InvalidData,
+        2,
+        "error: invalid UTF-8 was detected in one or more arguments\n",
+    ),
+    (ErrorKind::Other, 4, "device\n"),
+];
+
 #[test]
 fn words_that_cannot_be_read(rt: HostRuntime) {
-    let cases = [
-        (ErrorKind::OutOfMemory, 3, "memory\n"),
-        (
-            ErrorKind::InvalidData,
-            2,
-            "error: invalid UTF-8 was detected in one or more arguments\n",
-        ),
-        (ErrorKind::Other, 4, "device\n"),
-    ];
-    for (kind, status, text) in cases {
+    for (kind, status, text) in UNREAD {
         let mut errors = MemorySink::new(rt.alloc(), NEVER);
-        assert!(rt; refuse_words(&io::Error::from(kind), &mut errors) == status);
+        assert!(rt; refuse_words(&io::Error::from(*kind), &mut errors) == *status);
         assert!(rt; errors.bytes.as_slice() == text.as_bytes());
     }
 }
 
-/// Passes whichever single allocation is refused: what asks for help gets all of its text, or hears
-/// of the memory.
+// A schedule of each kind of event, scripts with all ways to name entities, an input that is
+// refused and a request for help: the words, the input and the exit status, the output, and how what
+// is said begins.
+const UNDISTURBED: &[(&[&str], &str, u8, &str, &str)] = &[
+    (
+        &["replay"],
+        "alloc\nalloc\nfree 0v1\nbegin 1 2\nstep 1\nanswer 1\nflush\n",
+        0,
+        "0v1\n1v1\nfreed 0v1 next 0v2\nopen\ncursor -1\n0v2 2v1\nborn 2v1 0v2\n",
+        "",
+    ),
+    (
+        &["run", "--show", "handles"],
+        TARGETS,
+        0,
+        "frame 0 born 2 faults 0\nframe 1 born 0 faults 0\n\
+         0.0.0 0v1 hp=8 mp=4\n0.0.1 1v1 hp=8 mp=4\nalive 2\n",
+        "",
+    ),
+    (
+        &["run", "--workers", "2"],
+        TARGETS,
+        0,
+        "frame 0 born 2 faults 0\nframe 1 born 0 faults 0\n\
+         0.0.0 hp=8 mp=4\n0.0.1 hp=8 mp=4\nalive 2\n",
+        "",
+    ),
+    (
+        &["run"],
+        "{\"components\":[],\"frames\":1}",
+        1,
+        "refused script frames\n",
+        "'frames' must be a list of at most 1000 frames",
+    ),
+    (&["replay", "--help"], "", 2, "", "Runs the schedule of allocator events on standard input\n"),
+];
+
+const TARGETS: &str =
+    "{\"components\":[\"hp\",\"mp\"],\"frames\":[[[{\"spawn_many\":2,\"with\":{\"hp\":1},\
+    \"as\":\"g\"},{\"insert\":{\"mp\":4},\"on\":{\"name\":\"g\"}}]],[[{\"remove\":\"hp\",\
+    \"on\":{\"each\":\"hp\"}}],[{\"insert\":{\"hp\":8},\"on\":{\"each\":\"mp\"}}]]]}";
+
+/// Passes whichever single allocation is refused: `rt try --test --fail-alloc N -- refused_memory`
+/// refuses the Nth. A run does without it, or writes nothing and says `memory`.
 #[test]
-fn refused_memory_is_told_instead_of_help(rt: HostRuntime) {
-    let mut source = MemorySource::new(b"alloc\n", 7, NEVER);
-    let mut sink = MemorySink::new(rt.alloc(), NEVER);
-    let mut errors = MemorySink::new(rt.alloc(), NEVER);
-    // With this room the devices take no memory.
-    if errors.bytes.reserve(2_000).is_err() {
-        return;
+fn refused_memory_writes_nothing(rt: HostRuntime) {
+    for (words, input, status, output, said) in UNDISTURBED {
+        let mut sink = MemorySink::with_room(&rt, rt.alloc(), 1_000);
+        let mut errors = MemorySink::with_room(&rt, rt.alloc(), 2_000);
+        let ended = status_between(&rt, words, input, &mut sink, &mut errors);
+        let (written, heard) = (sink.bytes.as_slice(), errors.bytes.as_slice());
+        let is_undisturbed = ended == *status
+            && written == output.as_bytes()
+            && heard.starts_with(said.as_bytes())
+            && heard.is_empty() == said.is_empty();
+        let is_refused = ended == 3 && written.is_empty() && heard == b"memory\n".as_slice();
+        assert!(rt; is_undisturbed || is_refused, "at {words:?}");
     }
-    let words = ["replay", "--help"];
-    let status = execute(&rt, rt.alloc(), &words, &mut source, &mut sink, &mut errors);
-    let said = errors.bytes.as_slice();
-    assert!(rt;
-        (status, said) == (2, REPLAY_HELP.as_bytes()) || (status, said) == (3, b"memory\n")
-    );
-    assert!(rt; sink.bytes.is_empty());
+}
+
+fn status_between(
+    rt: &(impl Threads + Sync + AllocGlobal),
+    words: &[&str],
+    input: &str,
+    sink: &mut MemorySink,
+    errors: &mut MemorySink,
+) -> u8 {
+    let mut source = MemorySource::new(input.as_bytes(), 7, NEVER);
+    execute(rt, rt.alloc(), words, &mut source, sink, errors)
 }

@@ -1,15 +1,16 @@
 //! The allocator.
 
-use crate::errors::{AllocError, FreeError, OutOfMemory, RequestError, ShareError, Unshared};
-use crate::ffi::{self, unknown, Counts, Object, Pair};
+use crate::errors::{AllocError, FreeError, OutOfMemory, RequestError, Unshared};
 use crate::handle::Handle;
+use crate::kit::alloc::Global;
+use crate::kit::vec::Vec as List;
 use crate::limits::Limits;
+use crate::lists::all_handles;
+use crate::proved::{ent_alloc, ent_total};
 use crate::sharing::{Reserver, Shared};
-use std::alloc::{handle_alloc_error, Layout};
-use std::fmt;
-
-/// How many callers an allocator may be shared among.
-const MOST_CALLERS: usize = 1024;
+use crate::unsync::Unsync;
+use alloc::vec::Vec;
+use core::fmt;
 
 /// What became of a handle.
 #[derive(Clone, Copy, Debug, PartialEq, Eq, Hash)]
@@ -22,12 +23,32 @@ pub enum State {
     Gone,
 }
 
+impl State {
+    #[inline]
+    fn of(proved: ent_alloc::State) -> Self {
+        match proved {
+            ent_alloc::State::Alive => Self::Alive,
+            ent_alloc::State::Reserved => Self::Reserved,
+            ent_alloc::State::Gone => Self::Gone,
+        }
+    }
+}
+
 /// What [`Entities::free`] returns.
 #[derive(Clone, Copy, Debug, PartialEq, Eq, Hash)]
 pub struct Freed {
     /// The handle that the slot gives next. `None` if the freed one was of the last generation: the
     /// slot is retired then, and gives no handle any more.
     pub next: Option<Handle>,
+}
+
+impl Freed {
+    #[inline]
+    pub(crate) fn of(proved: ent_alloc::Freed) -> Self {
+        Self {
+            next: proved.next.map(Handle::of),
+        }
+    }
 }
 
 /// Gives out the handles of entities and knows which are alive.
@@ -40,39 +61,37 @@ pub struct Freed {
 /// syncs::<forgeni::Entities>();
 /// ```
 pub struct Entities {
-    pub(crate) object: Object,
+    proved: ent_alloc::Entities,
+    _unsync: Unsync,
 }
 
 impl Entities {
-    /// An allocator with no entities and the greatest limits.
-    ///
-    /// Where memory runs out, it ends as `Box::new` does.
+    /// An allocator with no entities and the greatest limits. It takes no memory.
     #[must_use]
     pub fn new() -> Self {
         Self::with_limits(Limits::default())
     }
 
-    /// An allocator with no entities and these limits.
-    ///
-    /// Where memory runs out, it ends as `Box::new` does.
+    /// An allocator with no entities and these limits. It takes no memory.
     #[must_use]
     pub fn with_limits(limits: Limits) -> Self {
-        match Self::try_with_limits(limits) {
-            Ok(entities) => entities,
-            Err(OutOfMemory) => handle_alloc_error(Layout::new::<[usize; 16]>()),
-        }
+        Self::of(ent_alloc::Entities::new(Global, limits.proved()))
     }
 
-    /// An allocator with no entities and these limits.
+    /// An allocator with no entities and these limits, as [`with_limits`](Self::with_limits) makes
+    /// it.
     ///
     /// # Errors
     ///
-    /// `OutOfMemory` if there is no memory for the empty allocator.
+    /// None: an empty allocator takes no memory.
     pub fn try_with_limits(limits: Limits) -> Result<Self, OutOfMemory> {
-        match Object::entities(limits.slots(), limits.generations()) {
-            Ok(object) => Ok(Self { object }),
-            Err(ffi::NO_MEMORY) => Err(OutOfMemory),
-            Err(code) => unknown(code),
+        Ok(Self::with_limits(limits))
+    }
+
+    pub(crate) fn of(proved: ent_alloc::Entities) -> Self {
+        Self {
+            proved,
+            _unsync: Unsync::NEW,
         }
     }
 
@@ -82,15 +101,10 @@ impl Entities {
     /// # Errors
     ///
     /// `NeedsFlush`, `Space` or `Memory`, and then nothing has changed.
+    #[doc = include_str!("proved/ent_alloc/entities.alloc.md")]
+    #[inline]
     pub fn alloc(&mut self) -> Result<Handle, AllocError> {
-        let answer = self.object.alloc();
-        match answer.code {
-            ffi::DONE => Ok(Handle::answered(answer.index, answer.generation)),
-            ffi::NEEDS_FLUSH => Err(AllocError::NeedsFlush),
-            ffi::NO_SPACE => Err(AllocError::Space),
-            ffi::NO_MEMORY => Err(AllocError::Memory),
-            code => unknown(code),
-        }
+        Ok(Handle::of(self.proved.alloc()?))
     }
 
     /// Takes a living entity out. Its slot is the first to be given again, with the next
@@ -99,18 +113,10 @@ impl Entities {
     /// # Errors
     ///
     /// `NeedsFlush`, `NotAlive` or `Memory`, and then nothing has changed.
+    #[doc = include_str!("proved/ent_alloc/entities.free.md")]
+    #[inline]
     pub fn free(&mut self, handle: Handle) -> Result<Freed, FreeError> {
-        let answer = self.object.free(handle.index(), handle.generation());
-        match answer.code {
-            ffi::DONE => Ok(Freed {
-                next: Some(Handle::answered(answer.index, answer.generation)),
-            }),
-            ffi::DONE_AND_RETIRED => Ok(Freed { next: None }),
-            ffi::NEEDS_FLUSH => Err(FreeError::NeedsFlush),
-            ffi::NOT_ALIVE => Err(FreeError::NotAlive),
-            ffi::NO_MEMORY => Err(FreeError::Memory),
-            code => unknown(code),
-        }
+        Ok(Freed::of(self.proved.free(handle.proved())?))
     }
 
     /// Requests a handle, which the next [`flush`](Self::flush) brings to life. Until then `alloc`
@@ -120,14 +126,9 @@ impl Entities {
     ///
     /// `Space` if no handle is left: every request is refused then until the next flush. `Credit`
     /// if 2^50 were requested since the last flush.
+    #[doc = include_str!("proved/ent_total/requesting.request.md")]
     pub fn request(&mut self) -> Result<Handle, RequestError> {
-        let answer = self.object.request();
-        match answer.code {
-            ffi::DONE => Ok(Handle::answered(answer.index, answer.generation)),
-            ffi::NO_SPACE => Err(RequestError::Space),
-            ffi::NO_CREDIT => Err(RequestError::Credit),
-            code => unknown(code),
-        }
+        Ok(Handle::of(ent_total::request(&mut self.proved)?))
     }
 
     /// Brings to life what was requested, and lists it: first the handles of new slots, then the
@@ -136,24 +137,11 @@ impl Entities {
     /// # Errors
     ///
     /// `OutOfMemory`, and then nothing has changed.
+    #[doc = include_str!("proved/ent_alloc/entities.flush.md")]
     pub fn flush(&mut self) -> Result<Vec<Handle>, OutOfMemory> {
-        let reserved = self.counts().reserved as usize;
-        let mut list = Vec::new();
-        let mut born = Vec::new();
-        list.try_reserve_exact(reserved).map_err(|_| OutOfMemory)?;
-        born.try_reserve_exact(reserved).map_err(|_| OutOfMemory)?;
-        list.resize(reserved, Pair::BLANK);
-        match self.object.flush(&mut list) {
-            ffi::DONE => {
-                born.extend(
-                    list.iter()
-                        .map(|pair| Handle::answered(pair.index, pair.generation)),
-                );
-                Ok(born)
-            }
-            ffi::NO_MEMORY => Err(OutOfMemory),
-            code => unknown(code),
-        }
+        let mut born = List::new(Global);
+        self.proved.flush(&mut born)?;
+        Ok(all_handles(born))
     }
 
     /// Shares the allocator among `callers` reservers, 1 to 1,024, each of which may go to a thread
@@ -184,107 +172,96 @@ impl Entities {
     /// # Errors
     ///
     /// [`Unshared`] says why, and has the allocator as it was.
-    pub fn share(mut self, callers: usize) -> Result<(Shared, Vec<Reserver>), Unshared> {
-        let mut reservers = Vec::new();
-        if reservers
-            .try_reserve_exact(callers.min(MOST_CALLERS))
-            .is_err()
-        {
-            return Err(Unshared {
-                entities: self,
-                error: ShareError::Memory,
-            });
-        }
-        let error = match self.object.share(callers) {
-            Ok(phase) => return Shared::new(self.object, phase).give_all(reservers),
-            Err(ffi::NEEDS_FLUSH) => ShareError::NeedsFlush,
-            Err(ffi::NO_COUNT) => ShareError::Count,
-            Err(ffi::NO_MEMORY) => ShareError::Memory,
-            Err(code) => unknown(code),
-        };
-        Err(Unshared {
-            entities: self,
-            error,
-        })
+    #[doc = include_str!("proved/ent_total/opening.share.md")]
+    pub fn share(self, callers: usize) -> Result<(Shared, Vec<Reserver>), Unshared> {
+        Shared::open(self.proved, callers)
     }
 
     /// What became of a handle. It takes constant time.
+    #[doc = include_str!("proved/ent_alloc/entities.state.md")]
+    #[inline]
     #[must_use]
     pub fn state(&self, handle: Handle) -> State {
-        match self.object.state(handle.index(), handle.generation()) {
-            ffi::IS_ALIVE => State::Alive,
-            ffi::IS_RESERVED => State::Reserved,
-            ffi::IS_GONE => State::Gone,
-            code => unknown(code),
-        }
+        State::of(self.proved.state(handle.proved()))
     }
 
-    /// Whether the entity is alive.
+    /// Whether the entity is alive. It takes constant time.
+    #[inline]
     #[must_use]
     pub fn contains(&self, handle: Handle) -> bool {
         self.state(handle) == State::Alive
     }
 
     /// How many entities are alive.
+    #[doc = include_str!("proved/ent_alloc/entities.len.md")]
+    #[inline]
     #[must_use]
     pub fn len(&self) -> u32 {
-        self.counts().len
+        self.proved.len()
     }
 
     /// Whether no entity is alive.
+    #[doc = include_str!("proved/ent_alloc/entities.is_empty.md")]
+    #[inline]
     #[must_use]
     pub fn is_empty(&self) -> bool {
         self.len() == 0
     }
 
     /// How many slots were made. A retired slot counts for good.
+    #[doc = include_str!("proved/ent_alloc/entities.total.md")]
+    #[inline]
     #[must_use]
     pub fn total(&self) -> u32 {
-        self.counts().total
+        self.proved.total()
     }
 
     /// How many slots can still be made.
+    #[doc = include_str!("proved/ent_alloc/entities.room.md")]
+    #[inline]
     #[must_use]
     pub fn room(&self) -> u32 {
-        self.counts().room
+        self.proved.room()
     }
 
     /// How many old slots wait for their next entity.
+    #[doc = include_str!("proved/ent_alloc/entities.top.md")]
+    #[inline]
     #[must_use]
     pub fn waiting(&self) -> u32 {
-        self.counts().top
+        self.proved.top()
     }
 
     /// How many handles were requested since the last flush, served or refused.
+    #[doc = include_str!("proved/ent_alloc/entities.asked.md")]
+    #[inline]
     #[must_use]
     pub fn asked(&self) -> u64 {
-        self.counts().asked
+        self.proved.asked()
     }
 
     /// How many handles the next flush brings to life.
+    #[doc = include_str!("proved/ent_alloc/entities.reserved.md")]
+    #[inline]
     #[must_use]
     pub fn reserved(&self) -> u32 {
-        self.counts().reserved
+        self.proved.reserved()
     }
 
     /// Whether any handle was requested since the last flush.
+    #[doc = include_str!("proved/ent_alloc/entities.needs_flush.md")]
+    #[inline]
     #[must_use]
     pub fn needs_flush(&self) -> bool {
         self.asked() > 0
     }
 
     /// How many slots are retired: they give no handle any more.
+    #[doc = include_str!("proved/ent_alloc/entities.retired.md")]
+    #[inline]
     #[must_use]
     pub fn retired(&self) -> u32 {
-        self.counts().retired
-    }
-
-    fn counts(&self) -> Counts {
-        let counts = self.object.counts();
-        match counts.code {
-            ffi::DONE => counts,
-            code => unknown(code),
-        }
+        self.proved.retired()
     }
 }
 
@@ -296,13 +273,12 @@ impl Default for Entities {
 
 impl fmt::Debug for Entities {
     fn fmt(&self, out: &mut fmt::Formatter<'_>) -> fmt::Result {
-        let counts = self.counts();
         out.debug_struct("Entities")
-            .field("len", &counts.len)
-            .field("total", &counts.total)
-            .field("waiting", &counts.top)
-            .field("retired", &counts.retired)
-            .field("reserved", &counts.reserved)
+            .field("len", &self.len())
+            .field("total", &self.total())
+            .field("waiting", &self.waiting())
+            .field("retired", &self.retired())
+            .field("reserved", &self.reserved())
             .finish_non_exhaustive()
     }
 }

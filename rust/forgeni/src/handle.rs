@@ -1,7 +1,8 @@
 //! Handles of entities.
 
-use std::fmt;
-use std::num::NonZeroU32;
+use crate::proved::ent_handle;
+use core::fmt;
+use core::num::NonZeroU32;
 
 /// The name of an entity: the index of its slot, and the generation that tells the slot's occupants
 /// apart.
@@ -29,6 +30,7 @@ impl Handle {
     /// assert_eq!(Handle::new(0, 1).unwrap().to_string(), "0v1");
     /// assert_eq!(Handle::new(0, 0), None);
     /// ```
+    #[inline]
     #[must_use]
     pub const fn new(index: u32, generation: u32) -> Option<Self> {
         if index == u32::MAX || generation > GENERATIONS {
@@ -40,21 +42,31 @@ impl Handle {
         }
     }
 
-    /// The handle of an answer. The library answers one only with its two numbers in range.
-    pub(crate) fn answered(index: u32, generation: u32) -> Self {
-        match Self::new(index, generation) {
-            Some(handle) => handle,
-            None => unreachable!("the library answered {index}v{generation}"),
+    /// The handle that the proved code gives. Its generation is at least 1, so the other number is
+    /// never taken; that costs less than a test whether it is.
+    #[inline]
+    pub(crate) fn of(proved: ent_handle::Handle) -> Self {
+        Self {
+            index: proved.index(),
+            generation: NonZeroU32::new(proved.generation()).unwrap_or(NonZeroU32::MIN),
         }
     }
 
+    /// The handle as the proved code takes it, which wants both numbers in their range.
+    #[inline]
+    pub(crate) fn proved(self) -> ent_handle::Handle {
+        ent_handle::Handle::from_parts(self.index, self.generation.get())
+    }
+
     /// The index of its slot.
+    #[inline]
     #[must_use]
     pub const fn index(self) -> u32 {
         self.index
     }
 
     /// Its generation.
+    #[inline]
     #[must_use]
     pub const fn generation(self) -> u32 {
         self.generation.get()
@@ -67,6 +79,7 @@ impl Handle {
     /// let handle = Handle::new(7, 2).unwrap();
     /// assert_eq!(Handle::from_bits(handle.to_bits()), Some(handle));
     /// ```
+    #[inline]
     #[must_use]
     pub const fn to_bits(self) -> u64 {
         ((self.generation.get() as u64) << 32) | self.index as u64
@@ -74,6 +87,7 @@ impl Handle {
 
     /// The handle that [`to_bits`](Self::to_bits) packed into these bits. `None` if they are the
     /// bits of no handle.
+    #[inline]
     #[must_use]
     pub const fn from_bits(bits: u64) -> Option<Self> {
         Self::new(bits as u32, (bits >> 32) as u32)

@@ -1,9 +1,9 @@
 //! Entity handles from a proved allocator.
 //!
 //! [`Entities`] gives out the handles of entities and knows which are alive, like the allocators of
-//! Bevy and hecs. Each call of it goes to a library that was proved in Rattle: what a call does to
-//! the allocator's state is a theorem about its source. This package declares the calls and makes
-//! them safe: what it adds is one module with `unsafe` code.
+//! Bevy and hecs. Each call of it goes to code that was proved in Rattle: what a call does to the
+//! allocator's state is a theorem about its source. That source is Rust with contracts, and stands
+//! in this package without them, as plain Rust.
 //!
 //! ```
 //! use forgeni::Entities;
@@ -67,46 +67,73 @@
 //! - The `Shared` is dropped: its reservers still reserve, and the allocator goes with the last of
 //!   them.
 //! - Queues are applied to another world than that of their phase: [`SyncError::OtherWorld`].
-//! - Memory runs out in the library: an `Err`. Nothing has changed then, but where a sync point
-//!   stopped ([`Stopped`]), and where a phase that wasn't closed keeps the queues that it took
-//!   ([`Unfinished`]). Where this package makes an object or a list of its own, it ends the
-//!   process, as `Box::new` and `Vec` do: [`new`](Entities::new) and
-//!   [`with_limits`](Entities::with_limits), the lists of a [`Report`], the items of an entity, a
-//!   call with more than 8 components, and [`World::open`] if memory runs out again on its way back.
+//! - Memory runs out: an `Err`. Nothing has changed then, but where a sync point stopped
+//!   ([`Stopped`]).
 //!
-//! Nothing panics, unless the library broke its contracts ("the library answered .."). One thing no
-//! contract says: where [`Entities::share`] runs out of memory on its way, it closes the phase that
-//! it has begun, of which nobody else has a part, and takes for granted that this isn't refused.
-#![deny(unsafe_code, missing_docs)]
+//! MEMORY
+#![cfg_attr(not(test), no_std)]
+#![forbid(unsafe_code)]
+#![deny(missing_docs)]
 
+// The proofs are of sources whose `usize` has 64 bits.
+#[cfg(not(target_pointer_width = "64"))]
+compile_error!(
+    "forgeni is for targets whose usize has 64 bits: its sources are proved for those alone"
+);
+
+extern crate alloc;
+#[cfg(any(feature = "std", test))]
+extern crate std;
+
+mod commands;
 mod component;
 mod entities;
 mod errors;
-#[allow(unsafe_code)]
-mod ffi;
+#[cfg(feature = "std")]
+mod frames;
 mod handle;
+#[allow(dead_code, missing_docs, unreachable_pub)]
+mod kit;
 mod limits;
+mod lists;
+mod numbers;
 mod open_world;
-mod reading;
+#[rustfmt::skip]
+#[allow(missing_docs)]
+mod proved;
 mod report;
 mod sharing;
 mod storage;
 mod sync;
+#[cfg(feature = "std")]
+mod system;
+#[cfg(feature = "std")]
+mod system_commands;
+mod unsync;
+#[cfg(feature = "std")]
+mod view;
 mod world;
 
+pub use commands::{CommandQueue, Commands, SpawnError};
 pub use component::{Birth, ComponentId};
 pub use entities::{Entities, Freed, State};
 pub use errors::{Absent, BornError, InsertError, ShareError, Unclosed, Unshared};
 pub use errors::{
     AllocError, CloseError, FreeError, OtherPhase, OutOfMemory, Refused, RequestError,
 };
+#[cfg(feature = "std")]
+pub use frames::{run_frame, FrameError};
 pub use handle::Handle;
 pub use limits::Limits;
-pub use open_world::{
-    CommandQueue, Commands, FinishError, OpenError, OpenWorld, SpawnError, Unfinished, Unopened,
-};
+pub use open_world::{FinishError, OpenError, OpenWorld, Unfinished, Unopened};
 pub use report::{Fault, FaultKind, Report};
 pub use sharing::{Reserver, Shared};
 pub use storage::Storage;
 pub use sync::{GoOnError, Queues, Stopped, SyncError, SyncErrorKind};
+#[cfg(feature = "std")]
+pub use system::System;
+#[cfg(feature = "std")]
+pub use system_commands::SystemCommands;
+#[cfg(feature = "std")]
+pub use view::View;
 pub use world::World;

@@ -1,9 +1,9 @@
 //! What a sync point has done.
 
-use crate::ffi::world::{FaultRow, ReportCounts};
-use crate::ffi::{self, unknown, Object, Pair};
 use crate::handle::Handle;
-use std::fmt;
+use crate::proved::ent_world;
+use alloc::vec::Vec;
+use core::fmt;
 
 /// Why a command had no effect.
 #[derive(Clone, Copy, Debug, PartialEq, Eq, Hash)]
@@ -24,6 +24,16 @@ pub enum FaultKind {
     },
 }
 
+impl From<ent_world::FaultKind> for FaultKind {
+    fn from(kind: ent_world::FaultKind) -> Self {
+        match kind {
+            ent_world::FaultKind::NotAlive(handle) => Self::NotAlive(Handle::of(handle)),
+            ent_world::FaultKind::Space { wanted, left } => Self::Space { wanted, left },
+            ent_world::FaultKind::Quota { left } => Self::Credit { left },
+        }
+    }
+}
+
 /// A command that had no effect, or one handle of it.
 #[derive(Clone, Copy, Debug, PartialEq, Eq, Hash)]
 pub struct Fault {
@@ -35,62 +45,38 @@ pub struct Fault {
     pub kind: FaultKind,
 }
 
-impl Fault {
-    fn of(row: &FaultRow) -> Self {
-        let kind = match row.kind {
-            0 => FaultKind::NotAlive(Handle::answered(row.index, row.generation)),
-            1 => FaultKind::Space {
-                wanted: row.wanted,
-                left: row.left as u32,
-            },
-            2 => FaultKind::Credit { left: row.left },
-            kind => unknown(kind),
-        };
+impl From<&ent_world::Fault> for Fault {
+    fn from(fault: &ent_world::Fault) -> Self {
         Self {
-            system: row.system as usize,
-            command: row.command as usize,
-            kind,
+            system: fault.system,
+            command: fault.command,
+            kind: fault.kind.into(),
         }
     }
 }
 
 /// What a sync point has done: who was born, and which commands had no effect.
 ///
-/// The library keeps it. Where memory runs out for a list, `born` and `faults` end as `Vec` does.
+/// Where memory runs out for a list, `born` and `faults` end as `Vec` does.
 pub struct Report {
-    pub(crate) kept: Object,
+    proved: ent_world::SyncReport,
 }
 
 impl Report {
+    pub(crate) fn of(proved: ent_world::SyncReport) -> Self {
+        Self { proved }
+    }
+
     /// The handles that came to life, in the order of the flush.
     #[must_use]
     pub fn born(&self) -> Vec<Handle> {
-        let mut list = vec![Pair::BLANK; self.counts().born as usize];
-        match self.kept.report_born(&mut list) {
-            ffi::DONE => list
-                .iter()
-                .map(|pair| Handle::answered(pair.index, pair.generation))
-                .collect(),
-            code => unknown(code),
-        }
+        self.proved.born.iter().copied().map(Handle::of).collect()
     }
 
     /// The commands without effect, in their order.
     #[must_use]
     pub fn faults(&self) -> Vec<Fault> {
-        let mut list = vec![FaultRow::ZERO; self.counts().faults as usize];
-        match self.kept.report_faults(&mut list) {
-            ffi::DONE => list.iter().map(Fault::of).collect(),
-            code => unknown(code),
-        }
-    }
-
-    fn counts(&self) -> ReportCounts {
-        let counts = self.kept.report_counts();
-        match counts.code {
-            ffi::DONE => counts,
-            code => unknown(code),
-        }
+        self.proved.faults.iter().map(Fault::from).collect()
     }
 }
 

@@ -1,11 +1,21 @@
 //! An allocator that many threads reserve from at once.
 
 use crate::entities::Entities;
-use crate::errors::{CloseError, OtherPhase, OutOfMemory, Refused, ShareError};
-use crate::errors::{Unclosed, Unshared};
-use crate::ffi::{self, unknown, Object, Pair};
+use crate::errors::{CloseError, OtherPhase, OutOfMemory, Refused, ShareError, Unclosed, Unshared};
 use crate::handle::Handle;
-use std::fmt;
+use crate::kit::alloc::Global;
+use crate::kit::vec::Vec as List;
+use crate::numbers::{next_number, Numbers};
+use crate::proved::{ent_alloc, ent_total};
+use crate::unsync::Unsync;
+use alloc::vec::Vec;
+use core::fmt;
+
+/// How many callers an allocator may be shared among.
+const MOST_CALLERS: usize = 1024;
+
+type Phase = ent_total::Phase<Numbers>;
+type Caller = ent_total::Caller<Numbers>;
 
 /// An allocator while it is shared: [`Entities::share`] made it, with its reservers.
 ///
@@ -19,75 +29,90 @@ use std::fmt;
 /// syncs::<forgeni::Shared>();
 /// ```
 pub struct Shared {
-    object: Object,
-    phase: u64,
+    proved: Phase,
+    /// Room for the callers on their way home, so that a close takes no memory.
+    room: Vec<Caller>,
+    _unsync: Unsync,
 }
 
 impl Shared {
-    pub(crate) fn new(object: Object, phase: u64) -> Self {
-        Self { object, phase }
+    /// Shares the allocator, and gives out all its reservers.
+    pub(crate) fn open(
+        entities: ent_alloc::Entities,
+        callers: usize,
+    ) -> Result<(Self, Vec<Reserver>), Unshared> {
+        let Ok((reservers, room)) = Self::rooms(callers.min(MOST_CALLERS)) else {
+            return Err(Unshared {
+                entities: Entities::of(entities),
+                error: ShareError::Memory,
+            });
+        };
+        let opening = ent_total::share(Global, entities, callers)?;
+        let shared = Self {
+            proved: opening.numbered(next_number()),
+            room,
+            _unsync: Unsync::NEW,
+        };
+        shared.give_all(reservers)
     }
 
-    /// Gives out all reservers, in the order of their numbers. The list has room for them.
-    pub(crate) fn give_all(
-        mut self,
-        mut reservers: Vec<Reserver>,
-    ) -> Result<(Self, Vec<Reserver>), Unshared> {
+    /// A list for the reservers, and room for their way home.
+    fn rooms(callers: usize) -> Result<(Vec<Reserver>, Vec<Caller>), OutOfMemory> {
+        let (mut reservers, mut room) = (Vec::new(), Vec::new());
+        reservers.try_reserve_exact(callers)?;
+        room.try_reserve_exact(callers)?;
+        Ok((reservers, room))
+    }
+
+    /// Gives out all reservers, in the order of their numbers, into a list with room for them.
+    fn give_all(mut self, mut reservers: Vec<Reserver>) -> Result<(Self, Vec<Reserver>), Unshared> {
         loop {
             match self.reserver() {
                 Ok(Some(reserver)) => reservers.push(reserver),
                 Ok(None) => break,
-                Err(OutOfMemory) => return Err(self.undo(reservers)),
+                Err(OutOfMemory) => {
+                    drop(reservers);
+                    return Err(Self::undo(self.proved));
+                }
             }
         }
-        // The library gives the last one first.
+        // The last one is given first.
         reservers.reverse();
         Ok((self, reservers))
     }
 
     /// Memory ran out on the way, and nobody has reserved: the allocator is as it was.
-    ///
-    /// Nobody else has a part of the phase, so the close isn't refused. That much no contract says.
-    fn undo(self, mut reservers: Vec<Reserver>) -> Unshared {
-        let mut object = self.object;
-        for reserver in &mut reservers {
-            expect_done(object.come_home(&mut reserver.object));
-        }
-        expect_done(object.close());
-        Unshared {
-            entities: Entities { object },
-            error: ShareError::Memory,
+    fn undo(phase: Phase) -> Unshared {
+        match phase.close_lost(List::new(Global)) {
+            Ok(entities) => Unshared {
+                entities: Entities::of(entities),
+                error: ShareError::Memory,
+            },
+            Err(_) => unreachable!("nobody else has a part of the phase"),
         }
     }
 
     /// How many reservers it has, whether they exist, are at home or were lost.
     #[must_use]
     pub fn count(&self) -> usize {
-        self.numbers().count
+        self.proved.count()
     }
 
     /// How many reservers are at home: a close that was refused took them.
+    #[doc = include_str!("proved/ent_total/phase.at_home.md")]
     #[must_use]
     pub fn at_home(&self) -> usize {
-        self.numbers().home
+        self.proved.at_home()
     }
 
-    /// One of the reservers that are at home, or `None` if none is.
+    /// One of the reservers that are at home, or `None` if none is. It takes no memory.
     ///
     /// # Errors
     ///
-    /// `OutOfMemory`, and then nothing has changed.
+    /// `OutOfMemory` if the phase can't count one more owner, and then nothing has changed.
+    #[doc = include_str!("proved/ent_total/phase.caller.md")]
     pub fn reserver(&mut self) -> Result<Option<Reserver>, OutOfMemory> {
-        match self.object.caller() {
-            Ok(object) => Ok(Some(Reserver {
-                object,
-                phase: self.phase,
-                list: Vec::new(),
-            })),
-            Err(ffi::NONE_HOME) => Ok(None),
-            Err(ffi::NO_MEMORY) => Err(OutOfMemory),
-            Err(code) => unknown(code),
-        }
+        Ok(self.proved.caller()?.map(Reserver::of))
     }
 
     /// Ends the phase with all its reservers. The allocator is as if their reservations had been
@@ -102,23 +127,11 @@ impl Shared {
     ///
     /// # Errors
     ///
-    /// [`Unclosed`] says why, and has the `Shared` and the reservers.
-    pub fn close(mut self, reservers: Vec<Reserver>) -> Result<Entities, Unclosed> {
-        if let Err(error) = self.own(&reservers) {
-            return Err(self.unclosed(reservers, error));
-        }
-        let missing = self.count() - self.at_home() - reservers.len();
-        if missing > 0 {
-            return Err(self.unclosed(reservers, CloseError::Missing { count: missing }));
-        }
-        self.take_home(reservers);
-        match self.object.close() {
-            ffi::DONE => Ok(Entities {
-                object: self.object,
-            }),
-            ffi::IN_USE => Err(self.unclosed(Vec::new(), CloseError::InUse)),
-            code => unknown(code),
-        }
+    /// [`Unclosed`] says why, and has the `Shared` and the reservers. It takes no memory, unless a
+    /// close before was refused with [`InUse`](CloseError::InUse): then it may end as `Vec` does.
+    #[doc = include_str!("proved/ent_total/closing.close.md")]
+    pub fn close(self, reservers: Vec<Reserver>) -> Result<Entities, Unclosed> {
+        self.end(reservers, Phase::close)
     }
 
     /// Ends the phase although some reservers are lost: they were dropped, as by a thread that
@@ -132,57 +145,57 @@ impl Shared {
     ///
     /// [`Unclosed`] says why. As long as a reserver that wasn't handed in exists, it is `InUse`.
     /// One that was given to [`std::mem::forget`] exists for good.
-    pub fn close_lost(mut self, reservers: Vec<Reserver>) -> Result<Entities, Unclosed> {
-        if let Err(error) = self.own(&reservers) {
-            return Err(self.unclosed(reservers, error));
+    #[doc = include_str!("proved/ent_total/closing.close_lost.md")]
+    pub fn close_lost(self, reservers: Vec<Reserver>) -> Result<Entities, Unclosed> {
+        self.end(reservers, Phase::close_lost)
+    }
+
+    /// Ends the phase with these reservers by one of the two ways.
+    fn end(
+        self,
+        mut reservers: Vec<Reserver>,
+        close: fn(Phase, List<Caller>) -> Result<ent_alloc::Entities, ent_total::Unclosed<Numbers>>,
+    ) -> Result<Entities, Unclosed> {
+        // There is room for those of this phase alone.
+        if !reservers.iter().all(|one| one.is_of(&self)) {
+            return Err(Unclosed {
+                shared: self,
+                reservers,
+                error: CloseError::OtherPhase,
+            });
         }
-        self.take_home(reservers);
-        match self.object.close_lost() {
-            ffi::DONE => Ok(Entities {
-                object: self.object,
-            }),
-            ffi::IN_USE => Err(self.unclosed(Vec::new(), CloseError::InUse)),
-            code => unknown(code),
+        let mut callers = self.room;
+        callers.extend(reservers.drain(..).map(|one| one.proved));
+        match close(self.proved, callers.into()) {
+            Ok(entities) => Ok(Entities::of(entities)),
+            Err(refused) => Err(Self::unclosed(refused, reservers)),
         }
     }
 
-    /// Whether all these reservers are of this phase.
-    fn own(&self, reservers: &[Reserver]) -> Result<(), CloseError> {
-        if reservers.iter().all(|one| one.phase == self.phase) {
-            Ok(())
-        } else {
-            Err(CloseError::OtherPhase)
-        }
-    }
-
-    /// Takes these reservers home, which are of this phase. None of them is at home already.
-    fn take_home(&mut self, reservers: Vec<Reserver>) {
-        for mut reserver in reservers {
-            expect_done(self.object.come_home(&mut reserver.object));
-        }
-    }
-
-    fn unclosed(self, reservers: Vec<Reserver>, error: CloseError) -> Unclosed {
+    /// The phase goes on, and the reservers are handed back in the list in which they came.
+    fn unclosed(refused: ent_total::Unclosed<Numbers>, mut reservers: Vec<Reserver>) -> Unclosed {
+        let mut room: Vec<Caller> = refused.callers.into();
+        reservers.extend(room.drain(..).map(Reserver::of));
+        // The room is gone with those that are at home now. Where there is none, the next close asks
+        // again.
+        let _ = room.try_reserve_exact(refused.phase.count());
         Unclosed {
-            shared: self,
+            shared: Self {
+                proved: refused.phase,
+                room,
+                _unsync: Unsync::NEW,
+            },
             reservers,
-            error,
+            error: refused.why.into(),
         }
-    }
-
-    fn numbers(&self) -> ffi::PhaseNumbers {
-        let numbers = self.object.phase_numbers();
-        expect_done(numbers.code);
-        numbers
     }
 }
 
 impl fmt::Debug for Shared {
     fn fmt(&self, out: &mut fmt::Formatter<'_>) -> fmt::Result {
-        let numbers = self.numbers();
         out.debug_struct("Shared")
-            .field("count", &numbers.count)
-            .field("at_home", &numbers.home)
+            .field("count", &self.count())
+            .field("at_home", &self.at_home())
             .finish_non_exhaustive()
     }
 }
@@ -200,27 +213,28 @@ impl fmt::Debug for Shared {
 // A call writes the object, so two of them in a list share no line of a processor's cache.
 #[repr(align(128))]
 pub struct Reserver {
-    object: Object,
-    phase: u64,
-    /// Room for the answers of the library, which is used again.
-    list: Vec<Pair>,
+    proved: Caller,
+    _unsync: Unsync,
 }
 
 impl Reserver {
+    pub(crate) fn of(proved: Caller) -> Self {
+        Self {
+            proved,
+            _unsync: Unsync::NEW,
+        }
+    }
+
     /// Reserves one handle, by one atomic step. It takes no memory.
     ///
     /// # Errors
     ///
     /// `Space` if the pool is empty, which is taken from the quota too. `Quota` if nothing is left
     /// of it, and then nothing has changed.
+    #[doc = include_str!("proved/ent_total/caller.reserve.md")]
+    #[inline]
     pub fn reserve(&mut self) -> Result<Handle, Refused> {
-        let answer = self.object.reserve();
-        match answer.code {
-            ffi::DONE => Ok(Handle::answered(answer.index, answer.generation)),
-            ffi::NO_SPACE => Err(Refused::Space { wanted: 1, left: 0 }),
-            ffi::NO_CREDIT => Err(Refused::Quota { left: 0 }),
-            code => unknown(code),
-        }
+        Ok(Handle::of(self.proved.reserve()?))
     }
 
     /// Reserves `n` handles at once, by one atomic step: all of them or none. They stand in the
@@ -239,32 +253,19 @@ impl Reserver {
     }
 
     /// [`reserve_many`](Self::reserve_many), which appends the handles to this list. With a list
-    /// that has room it takes memory only where `n` is above that of each earlier call.
+    /// that has room it takes no memory.
     ///
     /// # Errors
     ///
     /// As of [`reserve_many`](Self::reserve_many), and then the list is as it was.
+    #[doc = include_str!("proved/ent_total/caller.reserve_into.md")]
+    #[inline]
     pub fn reserve_into(&mut self, handles: &mut Vec<Handle>, n: u32) -> Result<(), Refused> {
-        let count = n as usize;
-        self.list.clear();
-        handles.try_reserve(count).map_err(|_| Refused::Memory)?;
-        self.list.try_reserve(count).map_err(|_| Refused::Memory)?;
-        self.list.resize(count, Pair::BLANK);
-        let answer = self.object.reserve_many(&mut self.list);
-        match answer.code {
-            ffi::DONE => {
-                let given = self.list.iter();
-                handles.extend(given.map(|pair| Handle::answered(pair.index, pair.generation)));
-                Ok(())
-            }
-            ffi::NO_SPACE => Err(Refused::Space {
-                wanted: n,
-                // Less than was wanted.
-                left: answer.left as u32,
-            }),
-            ffi::NO_CREDIT => Err(Refused::Quota { left: answer.left }),
-            code => unknown(code),
-        }
+        handles
+            .try_reserve(n as usize)
+            .map_err(|_| Refused::Memory)?;
+        handles.extend(self.proved.reserve_many(n)?.map(Handle::of));
+        Ok(())
     }
 
     /// Each later reservation of this one comes after everything that the other one has reserved or
@@ -273,61 +274,49 @@ impl Reserver {
     /// # Errors
     ///
     /// [`OtherPhase`] if they are not of one phase, and then nothing has changed.
+    #[doc = include_str!("proved/ent_total/caller.meet.md")]
     pub fn meet(&mut self, other: &mut Reserver) -> Result<(), OtherPhase> {
-        match self.object.meet(&mut other.object) {
-            ffi::DONE => Ok(()),
-            ffi::OTHER_PHASE => Err(OtherPhase),
-            code => unknown(code),
-        }
+        self.proved.meet(&mut other.proved).map_err(|_| OtherPhase)
     }
 
     /// Which of the reservers it is: its position in the list that [`Entities::share`] gave, from
     /// 0.
+    #[doc = include_str!("proved/ent_total/caller.number.md")]
+    #[inline]
     #[must_use]
     pub fn number(&self) -> usize {
-        self.numbers().number
+        self.proved.number()
     }
 
     /// How many handles it may still request in this phase: 2^40 less what it has requested, served
     /// or not.
+    #[doc = include_str!("proved/ent_total/caller.left.md")]
+    #[inline]
     #[must_use]
     pub fn quota_left(&self) -> u64 {
-        self.numbers().left
+        self.proved.left()
     }
 
     /// How many reservers the phase has.
     #[must_use]
     pub fn count(&self) -> usize {
-        self.numbers().count
+        self.proved.count()
     }
 
     /// Whether it is of this phase.
+    #[doc = include_str!("proved/ent_total/caller.is_of.md")]
+    #[inline]
     #[must_use]
     pub fn is_of(&self, shared: &Shared) -> bool {
-        self.phase == shared.phase
-    }
-
-    fn numbers(&self) -> ffi::CallerNumbers {
-        let numbers = self.object.caller_numbers();
-        expect_done(numbers.code);
-        numbers
+        self.proved.is_of(&shared.proved)
     }
 }
 
 impl fmt::Debug for Reserver {
     fn fmt(&self, out: &mut fmt::Formatter<'_>) -> fmt::Result {
-        let numbers = self.numbers();
         out.debug_struct("Reserver")
-            .field("number", &numbers.number)
-            .field("quota_left", &numbers.left)
+            .field("number", &self.number())
+            .field("quota_left", &self.quota_left())
             .finish_non_exhaustive()
-    }
-}
-
-/// The library's contracts rule out each other code where this is called.
-fn expect_done(code: u32) {
-    match code {
-        ffi::DONE => {}
-        code => unknown(code),
     }
 }

@@ -1,12 +1,14 @@
 //! A storage beside an allocator.
 
-use crate::component::{with_items, Birth, ComponentId};
+use crate::component::{Birth, ComponentId};
 use crate::errors::{Absent, BornError, InsertError, OutOfMemory};
-use crate::ffi::{self, unknown, Object};
 use crate::handle::Handle;
-use crate::reading;
-use std::alloc::{handle_alloc_error, Layout};
-use std::fmt;
+use crate::kit::alloc::Global;
+use crate::lists::all_handles;
+use crate::proved::ent_storage;
+use crate::unsync::Unsync;
+use alloc::vec::Vec;
+use core::fmt;
 
 /// What living entities are made of: for each handle its birth, and a value for each component that
 /// the entity has.
@@ -30,32 +32,27 @@ use std::fmt;
 ///
 /// It may go to another thread, and one thread has it at a time: it is `Send` and not `Sync`.
 pub struct Storage {
-    kept: Object,
+    proved: ent_storage::Storage,
+    _unsync: Unsync,
 }
 
 impl Storage {
-    /// A storage without entities.
-    ///
-    /// Where memory runs out, it ends as `Box::new` does.
+    /// A storage without entities. It takes no memory.
     #[must_use]
     pub fn new() -> Self {
-        match Self::try_new() {
-            Ok(storage) => storage,
-            Err(OutOfMemory) => handle_alloc_error(Layout::new::<[usize; 16]>()),
+        Self {
+            proved: ent_storage::Storage::new(Global),
+            _unsync: Unsync::NEW,
         }
     }
 
-    /// A storage without entities.
+    /// A storage without entities, as [`new`](Self::new) makes it.
     ///
     /// # Errors
     ///
-    /// `OutOfMemory` if there is no memory for the empty storage.
+    /// None: an empty storage takes no memory.
     pub fn try_new() -> Result<Self, OutOfMemory> {
-        match Object::new_storage() {
-            Ok(kept) => Ok(Self { kept }),
-            Err(ffi::NO_MEMORY) => Err(OutOfMemory),
-            Err(code) => unknown(code),
-        }
+        Ok(Self::new())
     }
 
     /// Adds an entity without components.
@@ -63,16 +60,10 @@ impl Storage {
     /// # Errors
     ///
     /// `Present` or `Memory`, and then nothing has changed.
+    #[doc = include_str!("proved/ent_storage/storage.born.md")]
+    #[inline]
     pub fn born(&mut self, handle: Handle, birth: Birth) -> Result<(), BornError> {
-        let code = self
-            .kept
-            .storage_born(handle.index(), handle.generation(), birth.numbers());
-        match code {
-            ffi::DONE => Ok(()),
-            ffi::IS_PRESENT => Err(BornError::Present),
-            ffi::NO_MEMORY => Err(BornError::Memory),
-            code => unknown(code),
-        }
+        Ok(self.proved.born(handle.proved(), birth)?)
     }
 
     /// Takes the entity out, with all its components. It takes no memory.
@@ -80,15 +71,10 @@ impl Storage {
     /// # Errors
     ///
     /// `Absent`, and then nothing has changed.
+    #[doc = include_str!("proved/ent_storage/storage.despawn.md")]
+    #[inline]
     pub fn despawn(&mut self, handle: Handle) -> Result<(), Absent> {
-        match self
-            .kept
-            .storage_despawn(handle.index(), handle.generation())
-        {
-            ffi::DONE => Ok(()),
-            ffi::IS_ABSENT => Err(Absent),
-            code => unknown(code),
-        }
+        self.proved.despawn(handle.proved()).map_err(|_| Absent)
     }
 
     /// Sets each of the components, and leaves the entity's others as they are. If a component
@@ -97,21 +83,14 @@ impl Storage {
     /// # Errors
     ///
     /// `Absent` or `Memory`, and then nothing has changed.
+    #[doc = include_str!("proved/ent_storage/storage.insert.md")]
+    #[inline]
     pub fn insert(
         &mut self,
         handle: Handle,
         components: &[(ComponentId, i64)],
     ) -> Result<(), InsertError> {
-        let code = with_items(components, |items| {
-            self.kept
-                .storage_insert(handle.index(), handle.generation(), items)
-        });
-        match code {
-            ffi::DONE => Ok(()),
-            ffi::IS_ABSENT => Err(InsertError::Absent),
-            ffi::NO_MEMORY => Err(InsertError::Memory),
-            code => unknown(code),
-        }
+        Ok(self.proved.insert(handle.proved(), components)?)
     }
 
     /// Takes the component out of the entity, and returns the value that it had, or `None` if the
@@ -120,40 +99,43 @@ impl Storage {
     /// # Errors
     ///
     /// `Absent`, and then nothing has changed.
+    #[doc = include_str!("proved/ent_storage/storage.remove.md")]
+    #[inline]
     pub fn remove(&mut self, handle: Handle, id: ComponentId) -> Result<Option<i64>, Absent> {
-        let answer = self
-            .kept
-            .storage_remove(handle.index(), handle.generation(), id.0);
-        match answer.code {
-            ffi::DONE => Ok(Some(answer.value)),
-            ffi::NO_VALUE => Ok(None),
-            ffi::IS_ABSENT => Err(Absent),
-            code => unknown(code),
-        }
+        self.proved.remove(handle.proved(), id).map_err(|_| Absent)
     }
 
     /// The value of the entity's component, if the entity is there and has it.
+    #[doc = include_str!("proved/ent_storage/looking.get.md")]
+    #[inline]
     #[must_use]
     pub fn get(&self, handle: Handle, id: ComponentId) -> Option<i64> {
-        reading::get(&self.kept, handle, id)
+        self.proved.get(handle.proved(), id)
     }
 
     /// When and by whom the entity was brought to life, if it is there.
+    #[doc = include_str!("proved/ent_storage/looking.birth.md")]
+    #[inline]
     #[must_use]
     pub fn birth(&self, handle: Handle) -> Option<Birth> {
-        reading::birth(&self.kept, handle)
+        self.proved.birth(handle.proved())
     }
 
     /// Whether the entity is there.
+    #[doc = include_str!("proved/ent_storage/looking.contains.md")]
+    #[inline]
     #[must_use]
     pub fn contains(&self, handle: Handle) -> bool {
-        self.birth(handle).is_some()
+        self.proved.contains(handle.proved())
     }
 
     /// The entity's components and their values, by rising number, if the entity is there.
+    ///
+    /// Where memory runs out for the list, it ends as `Vec` does.
+    #[doc = include_str!("proved/ent_storage/looking.items.md")]
     #[must_use]
     pub fn items(&self, handle: Handle) -> Option<Vec<(ComponentId, i64)>> {
-        reading::items(&self.kept, handle)
+        self.proved.items(handle.proved()).map(Iterator::collect)
     }
 
     /// The handles of all entities, by birth and then by handle. The time is that of two sorts.
@@ -161,20 +143,25 @@ impl Storage {
     /// # Errors
     ///
     /// `OutOfMemory`: there is no memory for the list.
+    #[doc = include_str!("proved/ent_storage/looking.by_birth.md")]
     pub fn by_birth(&self) -> Result<Vec<Handle>, OutOfMemory> {
-        reading::by_birth(&self.kept)
+        Ok(all_handles(self.proved.by_birth()?))
     }
 
     /// How many entities there are.
+    #[doc = include_str!("proved/ent_storage/storage.len.md")]
+    #[inline]
     #[must_use]
     pub fn len(&self) -> usize {
-        reading::len(&self.kept)
+        self.proved.len()
     }
 
     /// Whether there are none.
+    #[doc = include_str!("proved/ent_storage/storage.is_empty.md")]
+    #[inline]
     #[must_use]
     pub fn is_empty(&self) -> bool {
-        self.len() == 0
+        self.proved.is_empty()
     }
 }
 

@@ -1,23 +1,29 @@
 //! What a sync point is given, and where one stops for want of memory.
 
-use crate::ffi::world::SyncAnswer;
-use crate::ffi::{self, unknown, Object};
+use crate::proved::ent_total::{self, Unapplied, Ungone};
 use crate::report::Report;
+use crate::unsync::Unsync;
 use crate::world::World;
-use std::error::Error;
-use std::fmt;
+use core::error::Error;
+use core::fmt;
 
 /// The queues of a phase, in the order in which they were handed in, for one [`World::apply`] of
 /// the world whose phase it was.
 pub struct Queues {
-    pub(crate) kept: Object,
-    /// The number of the world.
-    pub(crate) world: u64,
+    proved: ent_total::Queues,
+    _unsync: Unsync,
 }
 
 impl Queues {
-    pub(crate) fn of(kept: Object, world: u64) -> Self {
-        Self { kept, world }
+    pub(crate) fn of(proved: ent_total::Queues) -> Self {
+        Self {
+            proved,
+            _unsync: Unsync::NEW,
+        }
+    }
+
+    pub(crate) fn proved(self) -> ent_total::Queues {
+        self.proved
     }
 }
 
@@ -94,9 +100,23 @@ impl fmt::Display for SyncError {
 
 impl Error for SyncError {}
 
+impl From<Unapplied> for SyncError {
+    fn from(refused: Unapplied) -> Self {
+        match refused {
+            Unapplied::OtherWorld(queues) => Self::OtherWorld(Queues::of(queues)),
+            // A phase has 1,024 queues at most, so there are never too many.
+            Unapplied::Memory(queues) | Unapplied::TooMany(queues) => {
+                Self::Memory(Queues::of(queues))
+            }
+            Unapplied::Stopped(stopped, so_far) => {
+                Self::Stopped(Stopped::at(stopped, Report::of(so_far)))
+            }
+        }
+    }
+}
+
 /// Where a sync point stopped for want of memory. All births stand, and of the commands just those
 /// before the one that is named.
-#[derive(Debug)]
 pub struct Stopped {
     /// The number of the queue at whose command it stopped, among those that are applied, from 0.
     pub system: usize,
@@ -108,17 +128,19 @@ pub struct Stopped {
     /// [`GoOnError::OtherWorld`], [`GoOnError::NeedsFlush`] and [`GoOnError::Memory`] it is the same
     /// report again.
     pub so_far: Report,
-    queues: Queues,
+    proved: ent_total::Stopped,
 }
 
 impl Stopped {
-    pub(crate) fn at(answer: &SyncAnswer, report: Object, queues: Queues) -> Self {
+    /// The place where it stopped, with the report so far.
+    fn at(proved: ent_total::Stopped, so_far: Report) -> Self {
+        let stop = proved.stop();
         Self {
-            system: answer.system as usize,
-            command: answer.command as usize,
-            done: answer.done as usize,
-            so_far: Report { kept: report },
-            queues,
+            system: stop.system,
+            command: stop.command,
+            done: stop.done,
+            so_far,
+            proved,
         }
     }
 
@@ -140,18 +162,23 @@ impl Stopped {
     ///   changed.
     /// - [`GoOnError::Memory`]: nothing has changed.
     /// - [`GoOnError::Stopped`]: it stopped again, there or later, and can go on from there.
-    pub fn go_on(mut self, world: &mut World) -> Result<Report, GoOnError> {
-        if !world.owns(&self.queues) {
-            return Err(GoOnError::OtherWorld(self));
+    pub fn go_on(self, world: &mut World) -> Result<Report, GoOnError> {
+        let so_far = self.so_far;
+        match self.proved.go_on(&mut world.proved) {
+            Ok(report) => Ok(Report::of(report)),
+            Err(refused) => Err(GoOnError::of(refused, so_far)),
         }
-        let (answer, report) = world.kept.go_on(&mut self.queues.kept);
-        match answer.code {
-            ffi::DONE => Ok(Report { kept: report }),
-            ffi::NEEDS_FLUSH => Err(GoOnError::NeedsFlush(self)),
-            ffi::NO_MEMORY => Err(GoOnError::Memory(self)),
-            ffi::IS_STOPPED => Err(GoOnError::Stopped(Self::at(&answer, report, self.queues))),
-            code => unknown(code),
-        }
+    }
+}
+
+impl fmt::Debug for Stopped {
+    fn fmt(&self, out: &mut fmt::Formatter<'_>) -> fmt::Result {
+        out.debug_struct("Stopped")
+            .field("system", &self.system)
+            .field("command", &self.command)
+            .field("done", &self.done)
+            .field("so_far", &self.so_far)
+            .finish_non_exhaustive()
     }
 }
 
@@ -171,6 +198,17 @@ pub enum GoOnError {
 }
 
 impl GoOnError {
+    /// With `so_far` again, if it did nothing.
+    fn of(refused: Ungone, so_far: Report) -> Self {
+        match refused {
+            Ungone::OtherWorld(stopped) => Self::OtherWorld(Stopped::at(stopped, so_far)),
+            Ungone::NeedsFlush(stopped) => Self::NeedsFlush(Stopped::at(stopped, so_far)),
+            Ungone::Stopped(stopped, report) => {
+                Self::Stopped(Stopped::at(stopped, Report::of(report)))
+            }
+        }
+    }
+
     /// Which of them it is.
     #[must_use]
     pub fn kind(&self) -> SyncErrorKind {

@@ -1,28 +1,23 @@
 //! A world and its sync point.
 
-use crate::component::{with_items, Birth, ComponentId};
+use crate::commands::Commands;
+use crate::component::{Birth, ComponentId};
 use crate::entities::Freed;
 use crate::errors::{AllocError, FreeError, OutOfMemory};
-use crate::ffi::{self, unknown, Object};
 use crate::handle::Handle;
+use crate::kit::alloc::Global;
 use crate::limits::Limits;
-use crate::open_world::{Commands, OpenError, OpenWorld, Unopened};
-use crate::reading;
+use crate::lists::all_handles;
+use crate::numbers::next_number;
+use crate::open_world::{OpenWorld, Unopened};
+use crate::proved::ent_queue::Bundle;
+use crate::proved::ent_total::NumberedWorld;
+use crate::proved::ent_world;
 use crate::report::Report;
-use crate::sync::{Queues, Stopped, SyncError};
-use std::alloc::{handle_alloc_error, Layout};
-use std::fmt;
-use std::hint::black_box;
-use std::sync::atomic::{AtomicU64, Ordering};
-
-/// The greatest number of systems of a phase.
-const SYSTEMS: usize = 1024;
-
-/// How many bytes [`World::open`] keeps free for the way back, should memory run out on its way.
-const SPARE: usize = 1 << 16;
-
-/// The number of the next world. It tells whose queues are applied.
-static NEXT_WORLD: AtomicU64 = AtomicU64::new(0);
+use crate::sync::{Queues, SyncError};
+use crate::unsync::Unsync;
+use alloc::vec::Vec;
+use core::fmt;
 
 /// Who is alive, and what each entity is made of.
 ///
@@ -56,51 +51,40 @@ static NEXT_WORLD: AtomicU64 = AtomicU64::new(0);
 ///
 /// It may go to another thread, and one thread has it at a time: it is `Send` and not `Sync`.
 pub struct World {
-    pub(crate) kept: Object,
-    number: u64,
+    pub(crate) proved: NumberedWorld,
+    _unsync: Unsync,
 }
 
 impl World {
-    /// The world of this number, with what it keeps.
-    pub(crate) fn of(kept: Object, number: u64) -> Self {
-        Self { kept, number }
+    pub(crate) fn of(proved: NumberedWorld) -> Self {
+        Self {
+            proved,
+            _unsync: Unsync::NEW,
+        }
     }
 
-    /// Whether a phase of this world made the queues.
-    pub(crate) fn owns(&self, queues: &Queues) -> bool {
-        queues.world == self.number
-    }
-
-    /// A world without entities, with the greatest limits.
-    ///
-    /// Where memory runs out, it ends as `Box::new` does.
+    /// A world without entities, with the greatest limits. It takes no memory.
     #[must_use]
     pub fn new() -> Self {
         Self::with_limits(Limits::default())
     }
 
-    /// A world without entities, with these limits.
-    ///
-    /// Where memory runs out, it ends as `Box::new` does.
+    /// A world without entities, with these limits. It takes no memory.
     #[must_use]
     pub fn with_limits(limits: Limits) -> Self {
-        match Self::try_with_limits(limits) {
-            Ok(world) => world,
-            Err(OutOfMemory) => handle_alloc_error(Layout::new::<[usize; 32]>()),
-        }
+        Self::of(NumberedWorld {
+            world: ent_world::World::new(Global, limits.proved()),
+            number: next_number(),
+        })
     }
 
-    /// A world without entities, with these limits.
+    /// A world without entities, with these limits, as [`with_limits`](Self::with_limits) makes it.
     ///
     /// # Errors
     ///
-    /// `OutOfMemory` if there is no memory for the empty world.
+    /// None: an empty world takes no memory.
     pub fn try_with_limits(limits: Limits) -> Result<Self, OutOfMemory> {
-        match Object::new_world(limits.slots(), limits.generations()) {
-            Ok(kept) => Ok(Self::of(kept, NEXT_WORLD.fetch_add(1, Ordering::Relaxed))),
-            Err(ffi::NO_MEMORY) => Err(OutOfMemory),
-            Err(code) => unknown(code),
-        }
+        Ok(Self::with_limits(limits))
     }
 
     /// Brings an entity to life at once, with these components. If one stands twice in the list,
@@ -124,21 +108,14 @@ impl World {
     /// # Errors
     ///
     /// As `spawn`.
+    #[doc = include_str!("proved/ent_world/world.spawn.md")]
     pub fn spawn_with_birth(
         &mut self,
         birth: Birth,
         components: &[(ComponentId, i64)],
     ) -> Result<Handle, AllocError> {
-        let answer = with_items(components, |items| {
-            self.kept.world_spawn(birth.numbers(), items)
-        });
-        match answer.code {
-            ffi::DONE => Ok(Handle::answered(answer.index, answer.generation)),
-            ffi::NEEDS_FLUSH => Err(AllocError::NeedsFlush),
-            ffi::NO_SPACE => Err(AllocError::Space),
-            ffi::NO_MEMORY => Err(AllocError::Memory),
-            code => unknown(code),
-        }
+        let bundle = Bundle::of(Global, components)?;
+        Ok(Handle::of(self.proved.world.spawn(birth, &bundle)?))
     }
 
     /// Takes a living entity out, with all its components.
@@ -146,42 +123,38 @@ impl World {
     /// # Errors
     ///
     /// `NeedsFlush`, `NotAlive` or `Memory`, and then nothing has changed.
+    #[doc = include_str!("proved/ent_world/world.despawn.md")]
     pub fn despawn(&mut self, handle: Handle) -> Result<Freed, FreeError> {
-        let answer = self.kept.world_despawn(handle.index(), handle.generation());
-        match answer.code {
-            ffi::DONE => Ok(Freed {
-                next: Some(Handle::answered(answer.index, answer.generation)),
-            }),
-            ffi::DONE_AND_RETIRED => Ok(Freed { next: None }),
-            ffi::NEEDS_FLUSH => Err(FreeError::NeedsFlush),
-            ffi::NOT_ALIVE => Err(FreeError::NotAlive),
-            ffi::NO_MEMORY => Err(FreeError::Memory),
-            code => unknown(code),
-        }
+        Ok(Freed::of(self.proved.world.despawn(handle.proved())?))
     }
 
     /// The value of the entity's component, if the entity is alive and has it.
+    #[doc = include_str!("proved/ent_world/world.get.md")]
     #[must_use]
     pub fn get(&self, handle: Handle, id: ComponentId) -> Option<i64> {
-        reading::get(&self.kept, handle, id)
+        self.proved.world.get(handle.proved(), id)
     }
 
     /// When and by whom the entity was brought to life, if it is alive.
+    #[doc = include_str!("proved/ent_world/world.birth.md")]
     #[must_use]
     pub fn birth(&self, handle: Handle) -> Option<Birth> {
-        reading::birth(&self.kept, handle)
+        self.proved.world.birth(handle.proved())
     }
 
     /// Whether the entity is alive.
+    #[doc = include_str!("proved/ent_world/world.contains.md")]
     #[must_use]
     pub fn contains(&self, handle: Handle) -> bool {
-        self.birth(handle).is_some()
+        self.proved.world.contains(handle.proved())
     }
 
     /// The entity's components and their values, by rising number, if it is alive.
+    #[doc = include_str!("proved/ent_world/world.items.md")]
     #[must_use]
     pub fn items(&self, handle: Handle) -> Option<Vec<(ComponentId, i64)>> {
-        reading::items(&self.kept, handle)
+        let items = self.proved.world.items(handle.proved())?;
+        Some(items.collect())
     }
 
     /// The handles of all entities, by birth and then by handle. The time is that of two sorts.
@@ -189,39 +162,45 @@ impl World {
     /// # Errors
     ///
     /// `OutOfMemory`: there is no memory for the list.
+    #[doc = include_str!("proved/ent_world/world.by_birth.md")]
     pub fn by_birth(&self) -> Result<Vec<Handle>, OutOfMemory> {
-        reading::by_birth(&self.kept)
+        Ok(all_handles(self.proved.world.by_birth()?))
     }
 
     /// How many entities are alive.
+    #[doc = include_str!("proved/ent_world/world.len.md")]
     #[must_use]
     pub fn len(&self) -> usize {
-        reading::len(&self.kept)
+        self.proved.world.len()
     }
 
     /// Whether no entity is alive.
+    #[doc = include_str!("proved/ent_world/world.is_empty.md")]
     #[must_use]
     pub fn is_empty(&self) -> bool {
-        self.len() == 0
+        self.proved.world.is_empty()
     }
 
     /// How often the world was flushed. It stays at 2^64 - 1.
+    #[doc = include_str!("proved/ent_world/world.phase.md")]
     #[must_use]
     pub fn phase(&self) -> u64 {
-        self.counts().phase
+        self.proved.world.phase()
     }
 
     /// How many slots are retired: they give no handle any more.
+    #[doc = include_str!("proved/ent_world/world.retired.md")]
     #[must_use]
     pub fn retired(&self) -> u32 {
-        self.counts().retired
+        self.proved.world.retired()
     }
 
     /// Whether any handle was requested since the last flush. It is so between
     /// [`OpenWorld::close`] and [`apply`](Self::apply), if a system has spawned.
+    #[doc = include_str!("proved/ent_world/world.needs_flush.md")]
     #[must_use]
     pub fn needs_flush(&self) -> bool {
-        self.counts().needs_flush
+        self.proved.world.needs_flush()
     }
 
     /// Brings to life what is reserved, without components: what the systems of a phase had
@@ -232,12 +211,9 @@ impl World {
     /// # Errors
     ///
     /// `OutOfMemory`, and then nothing has changed.
+    #[doc = include_str!("proved/ent_world/world.flush.md")]
     pub fn flush(&mut self) -> Result<(), OutOfMemory> {
-        match self.kept.world_flush() {
-            ffi::DONE => Ok(()),
-            ffi::NO_MEMORY => Err(OutOfMemory),
-            code => unknown(code),
-        }
+        Ok(self.proved.world.flush()?)
     }
 
     /// Opens the world for `count` systems, 1 to 1,024, each with its [`Commands`]. They may be
@@ -248,9 +224,6 @@ impl World {
     /// The world comes back as it was. `NeedsFlush` if handles were requested since the last flush;
     /// `Count` if the number of systems is out of its range; `Memory`.
     ///
-    /// If memory runs out for the commands of a system, and then again on the way back, it ends as
-    /// `Box::new` does.
-    ///
     /// A world that is open can't be changed:
     ///
     /// ```compile_fail
@@ -258,27 +231,8 @@ impl World {
     /// let (open, systems) = world.open(1).unwrap();
     /// world.spawn(&[]);
     /// ```
-    pub fn open(mut self, count: usize) -> Result<(OpenWorld, Vec<Commands>), Unopened> {
-        let mut all = Vec::new();
-        let mut spare = Vec::new();
-        if all.try_reserve_exact(count.min(SYSTEMS)).is_err()
-            || spare.try_reserve_exact(SPARE).is_err()
-        {
-            let error = OpenError::Memory;
-            return Err(Unopened { world: self, error });
-        }
-        let error = match self.kept.world_open(count) {
-            Ok(phase) => {
-                let open = OpenWorld::new(self.kept, self.number, phase, count);
-                // The compiler may not leave memory out that is only dropped.
-                return open.with_commands(all, black_box(spare));
-            }
-            Err(ffi::NEEDS_FLUSH) => OpenError::NeedsFlush,
-            Err(ffi::NO_COUNT) => OpenError::Count,
-            Err(ffi::NO_MEMORY) => OpenError::Memory,
-            Err(code) => unknown(code),
-        };
-        Err(Unopened { world: self, error })
+    pub fn open(self, count: usize) -> Result<(OpenWorld, Vec<Commands>), Unopened> {
+        OpenWorld::open(self.proved, count)
     }
 
     /// The sync point: brings to life what is reserved, and then lets the queues take effect, one
@@ -290,26 +244,9 @@ impl World {
     /// - [`SyncError::OtherWorld`]: the queues are of a phase of another world. Nothing was done.
     /// - [`SyncError::Memory`]: nothing was done, and the call may be made again with the queues.
     /// - [`SyncError::Stopped`]: memory ran out at a command. All births stand, and of the commands
-    ///   just those before. It may [go on](Stopped::go_on).
-    pub fn apply(&mut self, mut queues: Queues) -> Result<Report, SyncError> {
-        if !self.owns(&queues) {
-            return Err(SyncError::OtherWorld(queues));
-        }
-        let (answer, report) = self.kept.apply(&mut queues.kept);
-        match answer.code {
-            ffi::DONE => Ok(Report { kept: report }),
-            ffi::NO_MEMORY => Err(SyncError::Memory(queues)),
-            ffi::IS_STOPPED => Err(SyncError::Stopped(Stopped::at(&answer, report, queues))),
-            code => unknown(code),
-        }
-    }
-
-    fn counts(&self) -> ffi::world::WorldCounts {
-        let counts = self.kept.world_counts();
-        match counts.code {
-            ffi::DONE => counts,
-            code => unknown(code),
-        }
+    ///   just those before. It may [go on](crate::Stopped::go_on).
+    pub fn apply(&mut self, queues: Queues) -> Result<Report, SyncError> {
+        Ok(Report::of(self.proved.apply(queues.proved())?))
     }
 }
 

@@ -1,6 +1,6 @@
-use Rattle.std.proofs.Common.{◌≡◌, ◌∙◌, ap, sym, subst, arith, List, All}
+use Rattle.std.proofs.Common.{◌≡◌, ◌∙◌, ap, sym, subst, arith, List, All, true}
 use Rattle.ent_runner.specs.Collecting.{queues_put}
-use Rattle.std.specs.Prelude.{IsSome, flat_map}
+use Rattle.std.specs.Prelude.{IsSome, flat_map, Any}
 use Rattle.ent_shared.specs.Phase.{IsOf, records_of}
 use Rattle.ent_shared.specs.Order.{history_of, reservations_of, Respects}
 use Rattle.ent_shared.specs.declared.record.Record.{Record}
@@ -64,13 +64,13 @@ collect-requires-clause-full c =
     c.deref_mut.ensures.value)))
     (all_full c.args.claims c.args.workers.items (once_closed c.args.opened.shared c.args.claims
     c.args.workers.items c.requires.each c.deref.result.now c.deref.ensures.value
-    (c.some_stopped-stopped.ensures c.if-stopped.false) c.disband.new.claimers.items
+    (c.some_stopped-stopped.ensures.going c.if-stopped.false) c.disband.new.claimers.items
     c.disband.ensures.claimers c.close.ensures.once))
 
 pub returns-clause-once : goal.returns-clause-once
 returns-clause-once c = once_closed c.args.opened.shared c.args.claims c.args.workers.items
     c.requires.each c.deref.result.now c.deref.ensures.value
-    (c.some_stopped-stopped.ensures c.if-stopped.false) c.disband.new.claimers.items
+    (c.some_stopped-stopped.ensures.going c.if-stopped.false) c.disband.new.claimers.items
     c.disband.ensures.claimers c.close.ensures.once
 
 pub returns-clause-queues : goal.returns-clause-queues
@@ -109,3 +109,7 @@ returns-clause-respects c = respects (goal.at.returns-clause-respects c).After-c
 
 pub returns-clause-first : goal.returns-clause-first
 returns-clause-first c = first (goal.at.returns-clause-first c).After-close-world
+
+pub returns-then-stopped-clause-lost : goal.returns-then-stopped-clause-lost
+returns-then-stopped-clause-lost c = subst (Any (λ (w : Worker). w.stopped ≡ true))
+    c.deref.ensures.value (c.some_stopped-stopped.ensures.some c.if-stopped.true)

@@ -23,7 +23,7 @@ returns-in-Ok-apply-clause-alone g c one =
     (ends g.S.System.may_issue g.S.System.may_leave c.args.systems.now c.args.workers
     c.args.world.now c.in-Ok-open.made.0 c.run_open-closed.result.0 c.apply.new.self
     c.run_open-closed.result.1 c.in-Some.queues c.deref.result.now c.in-Ok-apply.sync.born.items
-    c.in-Ok-apply.sync.faults.items c.run_open-closed.ensures c.in-Some.is
+    c.in-Ok-apply.sync.faults.items c.run_open-closed.ensures.closed c.in-Some.is
     (same g (goal.at.returns-in-Ok-apply-clause-alone g c).In-Ok-open)
     c.in-Ok-open.ensures.shared.1 c.deref.ensures.value a.ok a.born a.faults)
 
@@ -32,11 +32,11 @@ returns-in_default-queues-clause-still g c lost =
     lost_again g.S.System.may_issue g.S.System.may_leave c.args.systems.now c.args.world.now
     c.run_open-closed.result.0 c.in-Ok-open.made.0 c.run_open-closed.result.1
     (same g (goal.at.returns-in_default-queues-clause-still g c).In-Ok-open)
-    c.run_open-closed.ensures c.in-Ok-open.ensures.sound c.requires.flushed
+    c.run_open-closed.ensures.closed c.in-Ok-open.ensures.sound c.requires.flushed
 
 pub returns-in_default-queues-clause-lost : goal.returns-in_default-queues-clause-lost
 returns-in_default-queues-clause-lost g c lost =
     broken_again g.S.System.may_issue g.S.System.may_leave c.args.systems.now c.args.world.now
     c.run_open-closed.result.0 c.in-Ok-open.made.0 c.run_open-closed.result.1
     (same g (goal.at.returns-in_default-queues-clause-lost g c).In-Ok-open)
-    c.run_open-closed.ensures c.args.workers c.in-Ok-open.ensures.shared.1
+    c.run_open-closed.ensures.closed c.args.workers c.in-Ok-open.ensures.shared.1

@@ -3,6 +3,7 @@ use Rattle.ent_shared.specs.Phase.{records_of}
 use Rattle.ent_shared.specs.Order.{history_of}
 use Rattle.ent_runner.specs.Worker.{all_records}
 use Rattle.ent_runner.proofs.Conducting.{all_ready, all_claimed, framed, is_broken_off, records_are}
+use Rattle.ent_runner.proofs.Conducting.{some_systems, none_weaker}
 use Rattle.ent_runner.proofs.frame.run_open.Goals as goal
 
 pub work-requires-clause-ready : goal.work-requires-clause-ready
@@ -22,8 +23,8 @@ finish-requires-clause-each g c = all_claimed g.S.System.may_issue g.S.System.ma
     c.args.systems.now c.args.opened c.args.room.claims c.work.new.workers.items c.work.ensures
     c.requires.room.numbers
 
-pub returns : goal.returns
-returns g c =
+pub returns-clause-closed : goal.returns-clause-closed
+returns-clause-closed g c =
     let f = c.finish.ensures in (
       history_of (all_records c.work.new.workers.items),
       is_broken_off g.S.System.may_issue g.S.System.may_leave c.args.systems.now c.args.opened
@@ -34,3 +35,9 @@ returns g c =
           c.args.room.claims c.work.new.workers.items c.work.ensures c.requires.room.numbers
           c.finish.result.1 f.legal f.respects f.going f.once f.queues,
     )
+
+pub returns-clause-lost : goal.returns-clause-lost
+returns-clause-lost g c =
+    none_weaker c.finish.result.1 (some_systems g.S.System.may_issue g.S.System.may_leave
+    c.args.systems.now c.args.opened c.args.room.claims c.work.new.workers.items c.work.ensures)
+    c.finish.ensures.lost

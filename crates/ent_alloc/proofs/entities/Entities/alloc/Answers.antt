@@ -128,3 +128,25 @@ returns-else-room-gt0-clause-space c =
     let long = length_pool c.self.inside.slots c.self.inside.requests c.args.self.now.allocator rest
     in
     (λ _. (rest.asked, nil_from_length c.args.self.now.allocator.pool (omega arith)), λ _. refl)
+
+pub returns-in-Some-clause-no_row : goal.returns-in-Some-clause-no_row
+returns-in-Some-clause-no_row c =
+    let at = goal.at.returns-in-Some-clause-no_row c in
+    (reused at.In-Some (rest at.Else-needs_flush)).no_row
+
+pub returns-in-Some-clause-rows_of_living : goal.returns-in-Some-clause-rows_of_living
+returns-in-Some-clause-rows_of_living c =
+    let at = goal.at.returns-in-Some-clause-rows_of_living c in
+    (reused at.In-Some (rest at.Else-needs_flush)).stands.reserved.rows
+
+pub returns-in_ok-make_one-clause-no_row : goal.returns-in_ok-make_one-clause-no_row
+returns-in_ok-make_one-clause-no_row c =
+    let at = goal.at.returns-in_ok-make_one-clause-no_row c in
+    (made at.In_ok-make_one (rest at.Else-needs_flush) (some_room at.Then-room-gt0)).no_row
+
+pub returns-in_ok-make_one-clause-rows_of_living :
+    goal.returns-in_ok-make_one-clause-rows_of_living
+returns-in_ok-make_one-clause-rows_of_living c =
+    let at = goal.at.returns-in_ok-make_one-clause-rows_of_living c in
+    let given = made at.In_ok-make_one (rest at.Else-needs_flush) (some_room at.Then-room-gt0) in
+    given.stands.reserved.rows

@@ -1,15 +1,19 @@
 use Rattle.std.specs.Prelude.{vec_capacity}
 use Rattle.std.proofs.Common.{◌≡◌, ◌<◌, ◌⊎◌, inl, inr, vec_len, Result, Ok, Err, OnErr, ◌+◌, ◌-◌}
-use Rattle.std.proofs.Common.{◌++◌, List, ℕ, length, drop, sym, ap, subst, ◌∙◌, arith}
+use Rattle.std.proofs.Common.{◌++◌, List, ℕ, length, drop, get_or, sym, ap, subst, ◌∙◌, arith}
 use Rattle.std.proofs.lemmas.List.{length-take-le}
 use Rattle.ent_handle.specs.Handle.{Handle}
+use Rattle.std.specs.FinSet as sets
+use Rattle.std.specs.FinMap as maps
 use Rattle.ent_alloc.specs.Sequential.{Allocator, made_at_flush, after_flush, born, fresh}
 use Rattle.ent_alloc.specs.Sound.{IsSound}
-use Rattle.ent_alloc.specs.Entities.{idle}
+use Rattle.ent_alloc.specs.Roster.{Roster}
+use Rattle.ent_alloc.specs.Entities.{Entities, idle, HasRowsOfLiving}
 use Rattle.ent_alloc.proofs.Soundness.{after_flush-sound}
 use Rattle.ent_alloc.proofs.Meaning.{allocator_is, length-idle, closed, StandFor}
 use Rattle.ent_alloc.proofs.MeaningOfFlush.{flushed_roster, made_at_flush_is, flush_is}
 use Rattle.ent_alloc.proofs.MeaningOfFlush.{born_is_listed}
+use Rattle.ent_alloc.proofs.RowsOfLiving.{rows-joined, born-no_row}
 use Rattle.ent_alloc.proofs.entities.Entities.flush.Goals.{After-fresh-fresh}
 use Rattle.ent_alloc.proofs.entities.Entities.flush.Goals.{After-none-self-inside}
 use Rattle.ent_alloc.proofs.entities.Entities.flush.Goals as goal
@@ -43,8 +47,9 @@ left c counts =
     let s = c.args.self.now.allocator in
     let view = allocator_is c.self.view_is in
     let inv = c.self.invariant in
-    closed c.bring_to_life.new.self (flushed_roster r (length r.pending
-    - c.self.inside.requests.served) (c.self.inside.requests.served - length r.pending))
+    let kept = length r.pending - c.self.inside.requests.served in
+    let news = c.self.inside.requests.served - length r.pending in
+    closed c.bring_to_life.new.self (flushed_roster r kept news)
     c.none-self-inside.result (after_flush s)
     (c.in_ok-bring_to_life.ensures.ok
     ∙ (λ i. flushed_roster r (counts.kept_is i) (counts.news_is i)))
@@ -52,6 +57,8 @@ left c counts =
     (flush_is r c.self.inside.requests.asked c.self.inside.requests.served inv.given_least
     inv.given_in inv.sound ∙ ap after_flush view)
     (after_flush-sound s (subst IsSound view inv.sound))
+    (rows-joined (sets.union r.live (sets.from_list (fresh r.made news)))
+    (drop kept r.pending) r.rows (rows-joined r.live (fresh r.made news) r.rows inv.rows))
 
 pub returns-in_err-bring_to_life-clause-memory : goal.returns-in_err-bring_to_life-clause-memory
 returns-in_err-bring_to_life-clause-memory c =
@@ -96,3 +103,18 @@ returns-clause-born c =
     ∙ sym (born_is_listed r e.requests.asked e.requests.served inv.given_least inv.given_in
     inv.sound)
     ∙ ap born (allocator_is c.self.view_is))
+
+pub returns-clause-no_rows : goal.returns-clause-no_rows
+returns-clause-no_rows c k d below =
+    let view = c.self.view_is in
+    let inv = c.self.invariant in
+    ap (λ (r : Roster). maps.get r.rows (get_or (born c.args.self.now.allocator) k d))
+    c.in_ok-bring_to_life.ensures.ok
+    ∙ ap (λ (e : Entities). maps.get e.rows (get_or (born c.args.self.now.allocator) k d)) view
+    ∙ born-no_row c.args.self.now (subst HasRowsOfLiving view inv.rows)
+    (subst (λ (e : Entities). IsSound e.allocator) view inv.sound) k d below
+
+pub returns-clause-rows_of_living : goal.returns-clause-rows_of_living
+returns-clause-rows_of_living c =
+    let at = goal.at.returns-clause-rows_of_living c in
+    (left at.After-none-self-inside (counted at.After-fresh-fresh)).reserved.rows

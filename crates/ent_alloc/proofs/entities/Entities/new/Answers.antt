@@ -7,6 +7,7 @@ use Rattle.ent_alloc.specs.Sound.{IsSound}
 use Rattle.ent_alloc.specs.Entities.{AreReserved}
 use Rattle.ent_alloc.proofs.Soundness.{opening-sound}
 use Rattle.ent_alloc.proofs.Meaning.{AreReserved-flushed, opening_is}
+use Rattle.ent_alloc.proofs.RowsOfLiving.{no_rows}
 use Rattle.ent_alloc.proofs.entities.Entities.new.Goals as goal
 
 pub invariant_of-result : goal.invariant_of-result
@@ -23,4 +24,7 @@ invariant_of-result c =
     let P : Roster × Requests → Type 0 = λ p. AreReserved p.0 p.1.asked p.1.served in
     subst P (λ i. (sym c.new.ensures.value i, sym c.none.ensures i))
     (AreReserved-flushed empty (subst IsSound (sym (opening_is limits))
-    (opening-sound limits c.new.ensures.limited)))
+    (opening-sound limits c.new.ensures.limited)) (no_rows sets.empty))
+
+pub returns-clause-rows_of_living : goal.returns-clause-rows_of_living
+returns-clause-rows_of_living c = (invariant_of-result c).rows

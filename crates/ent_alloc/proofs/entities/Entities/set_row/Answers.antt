@@ -1,23 +1,38 @@
-use Rattle.std.proofs.Common.{ℕ, sym, subst}
+use Rattle.std.proofs.Common.{◌≡◌, ℕ, true, sym, ap, subst, ◌∙◌}
+use Rattle.std.specs.FinSet as sets
 use Rattle.std.specs.FinMap as maps
 use Rattle.ent_handle.specs.Handle.{Handle}
 use Rattle.ent_alloc.specs.Roster.{Roster}
+use Rattle.ent_alloc.specs.Sequential.{Allocator}
 use Rattle.ent_alloc.specs.Entities.{AreReserved}
+use Rattle.ent_alloc.proofs.Meaning.{allocator_is}
+use Rattle.ent_alloc.proofs.RowsOfLiving.{rows-inserted}
+use Rattle.ent_alloc.proofs.entities.Entities.set_row.Goals.{After-set_row}
 use Rattle.ent_alloc.proofs.entities.Entities.set_row.Goals as goal
 
 -- a row changes nothing that the requests speak of
-with_row : (r : Roster) (asked given : ℕ) (h : Handle) (row : ℕ) → AreReserved r asked given
+with_row : (r : Roster) (asked given : ℕ) (h : Handle) (row : ℕ)
+    → sets.contains r.live h ≡ true → AreReserved r asked given
     → AreReserved (record r { rows = maps.insert r.rows h row }) asked given
-with_row r asked given h row reserved = record {
+with_row r asked given h row lives reserved = record {
   sound = reserved.sound;
   asked_in = reserved.asked_in;
   given_in = reserved.given_in;
   given_least = reserved.given_least;
   given_all = reserved.given_all;
+  rows = rows-inserted r.live h row r.rows lives reserved.rows;
 }
+
+lives : (c : After-set_row) → sets.contains c.self.inside.slots.live c.args.handle ≡ true
+lives c = ap (λ (s : Allocator). sets.contains s.live c.args.handle) (allocator_is c.self.view_is)
+    ∙ c.requires
 
 pub invariant_of-self : goal.invariant_of-self
 invariant_of-self c =
     let e = c.self.inside in
     subst (λ (r : Roster). AreReserved r e.requests.asked e.requests.served) (sym c.set_row.ensures)
-    (with_row e.slots e.requests.asked e.requests.served c.args.handle c.args.row c.self.invariant)
+    (with_row e.slots e.requests.asked e.requests.served c.args.handle c.args.row
+    (lives (goal.at.invariant_of-self c).After-set_row) c.self.invariant)
+
+pub returns-clause-rows_of_living : goal.returns-clause-rows_of_living
+returns-clause-rows_of_living c = (invariant_of-self c).rows

@@ -2,7 +2,7 @@ use Rattle.std.proofs.Common.{◌<◌, ◌∙◌, List, length, subst, arith}
 use Rattle.ent_runner.specs.declared.worker.SystemQueue.{SystemQueue}
 use Rattle.ent_runner.specs.Frame.{SystemMayIssue}
 use Rattle.ent_runner.proofs.Running.{ran_more, ran_some, ran_last, of_ok, of_err, inside_more}
-use Rattle.ent_runner.proofs.Running.{claims_more}
+use Rattle.ent_runner.proofs.Running.{claims_more, left_last, on_err}
 use Rattle.ent_runner.proofs.worker.Worker.work.Goals as goal
 
 pub loop-system-preserved : goal.loop-system-preserved
@@ -63,3 +63,12 @@ returns-in_err-reserve-clause-ran_some g c =
     c.args.stage.now.view c.in-Some.system c.issue-queue.result.0) _ _ c.in_ok-ran.was
     c.issue-queue.ensures.may) (claims_more c.loop-system.self.claimer.own
     c.next.new.claimer.own c.in-Some.system c.in-Some.ensures.claims) issued)
+
+pub returns-in_err-ran-clause-refused : goal.returns-in_err-ran-clause-refused
+returns-in_err-ran-clause-refused g c =
+    on_err c.from_residual.result (left_last g.S.System.may_leave c.args.stage.now.systems.now
+    c.args.stage.now.view c.loop-system.self.issued.items c.push_reserved.new.self _
+    c.push_reserved.ensures.items
+    (of_err (SystemMayIssue g.S.System.may_leave c.args.stage.now.systems.now
+    c.args.stage.now.view c.in-Some.system c.issue-queue.result.0) _ _ c.in_err-ran.was
+    c.issue-queue.ensures.leaves))

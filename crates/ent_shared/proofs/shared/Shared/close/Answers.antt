@@ -45,6 +45,7 @@ returns c =
       respects = end.respects;
       after = settled;
       rows = c.settle.ensures.rows ∙ ap (λ (s : Shared). s.rows) c.self.view_is;
+      rows_of_living = c.settle.ensures.rows_of_living;
       falls = end.all_fall;
       numbers = end.all_numbers;
       distinct = end.all_distinct;

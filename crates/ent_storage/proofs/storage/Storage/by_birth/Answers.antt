@@ -1,18 +1,53 @@
-use Rattle.std.proofs.Common.{true, map, ap, sym, ◌∙◌}
+use Rattle.std.proofs.Common.{◌≡◌, ◌≢◌, ◌<◌, ℕ, List, length, true, map as mapped, ap, sym, ◌∙◌}
+use Rattle.std.proofs.Common.{subst, arith}
+use Rattle.std.proofs.lemmas.List.{length-map}
+use Rattle.std.specs.FinMap as map
+use Rattle.ent_handle.specs.Handle.{handle_cmp}
+use Rattle.ent_storage.proofs.Missing.{on_err}
+use Rattle.ent_storage.proofs.Indexed.{len_living}
 use Rattle.ent_storage.specs.Living.{LivingEntity}
-use Rattle.ent_storage.specs.EntityMap.{Store}
+use Rattle.ent_storage.specs.EntityMap.{Entity, EntityMap, Store}
 use Rattle.ent_storage.proofs.ByBirth.{filter-all, lists}
-use Rattle.ent_storage.specs.Indexed.{counted}
+use Rattle.ent_storage.specs.Indexed.{counted, map_of, IsIndexed}
 use Rattle.ent_storage.proofs.storage.Storage.by_birth.Goals as goal
 
 -- every entity passes
-pub returns : goal.returns
-returns c =
+pub returns-clause-ok : goal.returns-clause-ok
+returns-clause-ok c =
     let living = c.self.inside.living.entities in
-    let births = c.in_ok-births.ensures
-    ∙ ap (map (λ (entity : LivingEntity). (entity.birth, entity.handle)))
+    let births = c.in_ok-births.ensures.ok
+    ∙ ap (mapped (λ (entity : LivingEntity). (entity.birth, entity.handle)))
     (sym (filter-all living)) in
-    let ordered = rw births at c.in_ok-handles_in_order.ensures in
+    let ordered = rw births at c.in_ok-handles_in_order.ensures.ok in
     let are = ap (λ (s : Store). s.entities) c.self.view_is in
     rw (← are) (lists living (counted c.self.inside.living.entities c.self.inside.index.by_handle)
     c.self.invariant.indexed (λ _. true) _ ordered)
+
+-- a map of somebody is not the empty one
+not_empty : (living : List LivingEntity) (index : map.FinMap handle_cmp ℕ)
+    → IsIndexed living index → (m : EntityMap) → map_of living ≡ m → 0 < length living → m
+    ≢ map.empty
+not_empty living index indexed m view some none =
+    let len : map.len m ≡ 0 = ap map.len none ∙ map.len-empty handle_cmp Entity in
+    let same = ap map.len view in
+    absurd (omega (arith, len_living living index indexed, len, same, some))
+
+pub returns-in_err-births-clause-memory : goal.returns-in_err-births-clause-memory
+returns-in_err-births-clause-memory c =
+    let living = c.self.inside.living.entities in
+    on_err {P = c.args.self.now.entities ≢ map.empty} c.from_residual.result
+    (not_empty living (counted living c.self.inside.index.by_handle) c.self.invariant.indexed
+    c.args.self.now.entities (ap (λ (s : Store). s.entities) c.self.view_is)
+    c.in_err-births.ensures.memory)
+
+pub returns-in_err-handles_in_order-clause-memory :
+    goal.returns-in_err-handles_in_order-clause-memory
+returns-in_err-handles_in_order-clause-memory c =
+    let living = c.self.inside.living.entities in
+    let many = ap length c.in_ok-births.ensures.ok
+    ∙ length-map living (λ (entity : LivingEntity). (entity.birth, entity.handle)) in
+    let some : 0 < length living = subst (λ n. 0 < n) many c.in_err-handles_in_order.ensures.memory
+    in
+    on_err {P = c.args.self.now.entities ≢ map.empty} c.from_residual-in_err-handles_in_order.result
+    (not_empty living (counted living c.self.inside.index.by_handle) c.self.invariant.indexed
+    c.args.self.now.entities (ap (λ (s : Store). s.entities) c.self.view_is) some)

@@ -1,0 +1,202 @@
+#!/usr/bin/env python3
+"""Runs the program on the cases of crates/spawnrun/cases and compares what it prints, what it says and how it ends.
+
+    cases.py [--program FILE].. [CASES..]
+
+Without `--program` it runs the program as each compiler of the gate has built it. Without files it runs all cases. The page of
+crates/spawnrun says how a case is written. It runs at the top of the repository.
+"""
+
+import argparse
+import concurrent.futures
+import dataclasses
+import os
+import pathlib
+import re
+import subprocess
+import sys
+
+FOLDER = pathlib.Path("crates/spawnrun/cases")
+BUILT = [pathlib.Path("crates/spawnrun/out/spawnrun"), pathlib.Path("crates/spawnrun/out/spawnrun.by-rattle")]
+SECONDS = 120
+BETWEEN = {"*": b"", "*,": b",", "*_": b" "}
+ESCAPES = {"n": b"\n", "r": b"\r", "t": b"\t", "\\": b"\\"}
+
+
+@dataclasses.dataclass
+class Case:
+    """One case: the words of each of its runs, and what goes in and comes out of all of them."""
+
+    file: pathlib.Path
+    line: int
+    words: list = dataclasses.field(default_factory=list)
+    around: bytes = b"@"
+    source: str = ""
+    input: bytes = b""
+    output: bytes = b""
+    errors: bytes = b""
+    status: int = None
+    is_cut: bool = False
+    says: bool = False
+    marks: int = 0
+
+    def inputs(self):
+        """What is given to the program: the input in its frame, or each beginning of it."""
+        whole = self.input
+        if self.around != b"@":
+            whole = self.around.replace(b"@", whole.removesuffix(b"\n")) + b"\n"
+        return [whole[:end] for end in range(len(whole))] if self.is_cut else [whole]
+
+    def wanted_status(self):
+        if self.status is not None:
+            return self.status
+        return 1 if self.output.startswith(b"refused ") else 0
+
+
+def unescaped(text):
+    """The bytes of a text, in which a backslash begins one byte."""
+    parts = re.split(r"\\(x[0-9a-f]{2}|.)", text)
+    for at in range(1, len(parts), 2):
+        parts[at] = bytes([int(parts[at][1:], 16)]) if parts[at][0] == "x" else ESCAPES[parts[at]]
+    return b"".join(it if isinstance(it, bytes) else it.encode() for it in parts)
+
+
+def many(text, between):
+    """A pattern once for each number of a range, with the number, or a multiple of it, in its place."""
+    numbers, _, pattern = text.partition(" ")
+    first, last = map(int, numbers.split(".."))
+    pieces = re.split(rb"#(\*[0-9]+)?", unescaped(pattern))
+    texts, factors = pieces[::2], [int(it[1:]) if it else 1 for it in pieces[1::2]]
+    if not factors:
+        return between.join([texts[0]] * (last + 1 - first))
+    each = (b"".join([texts[0], *(b"%d%b" % (at * it, text) for it, text in zip(factors, texts[1:]))]) for at in range(first, last + 1))
+    return between.join(each)
+
+
+def bytes_of(kind, text):
+    """What a line of input or output stands for, by the rest of its mark."""
+    if kind == "":
+        return text.encode() + b"\n"
+    if kind == "\\":
+        return unescaped(text)
+    return many(text, BETWEEN[kind])
+
+
+def take(case, mark, text):
+    """Adds one line to its case."""
+    case.marks += 1
+    kind = mark[1:]
+    if mark == "$":
+        case.words.append(text.split())
+    elif mark == "~":
+        case.around = text.encode()
+    elif mark == "=":
+        case.status = int(text)
+    elif mark == "<<":
+        case.source = text
+    elif mark == "<^":
+        case.input = b",".join([case.input] * int(text))
+    elif mark == "<|":
+        case.input, case.is_cut = case.input + unescaped(text), True
+    elif mark[0] == "<":
+        case.input += bytes_of(kind, text)
+    elif mark[0] == ">":
+        case.output += bytes_of(kind, text)
+    else:
+        case.errors, case.says = case.errors + bytes_of(kind, text), True
+
+
+def cases_of(file):
+    """The cases of a file. Words and frame hold for those below too, until others stand there."""
+    cases, words, around, case = [], [], b"@", None
+    for number, line in enumerate(file.read_text().splitlines() + [""], 1):
+        if line.startswith("#"):
+            continue
+        if not line:
+            if case and case.words:
+                words = case.words
+            if case:
+                around = case.around
+                case.words = words
+                cases += [case] if case.marks > case.settings else []
+            case = None
+            continue
+        mark, _, text = line.partition(" ")
+        if not re.fullmatch(r"[$~=]|[<>!](\\|\*[,_]?)?|<[<^|]", mark):
+            sys.exit(f"{file}:{number}: {mark} is no mark of a case")
+        if case is None:
+            case = Case(file, number, around=around)
+            case.settings = 0
+        case.settings += mark in "$~"
+        take(case, mark, text)
+    return cases
+
+
+def fault_of(case, program, words, given):
+    """What is wrong with a run, or None."""
+    how = {"stdout": subprocess.PIPE, "stderr": subprocess.PIPE, "timeout": SECONDS}
+    try:
+        if case.source:
+            with open(case.source, "rb") as source:
+                ran = subprocess.run([program, *words], stdin=source, **how)
+        else:
+            ran = subprocess.run([program, *words], input=given, **how)
+    except subprocess.TimeoutExpired:
+        return f"does not end in {SECONDS} seconds"
+    wanted = case.wanted_status()
+    if ran.returncode != wanted:
+        return f"ends with {ran.returncode}, and not with {wanted}: {shown(ran.stdout + ran.stderr)}"
+    if ran.stdout != case.output:
+        return f"prints {differing(ran.stdout, case.output)}"
+    if case.says or wanted != 1:
+        return None if ran.stderr == case.errors else f"says {differing(ran.stderr, case.errors)}"
+    return None if re.fullmatch(rb"[ -~]+\n", ran.stderr) else f"says no line of printable ASCII: {shown(ran.stderr)}"
+
+
+def shown(text):
+    return repr(text[:300])
+
+
+def differing(found, wanted):
+    """Both texts from the first line on in which they differ."""
+    pairs = zip(found.splitlines(True) + [b""], wanted.splitlines(True) + [b""])
+    at = next((at for at, (one, other) in enumerate(pairs) if one != other), 0)
+    return "{}, and not {}, at line {}".format(*(shown(b"".join(it.splitlines(True)[at:])) for it in (found, wanted)), at + 1)
+
+
+def faults_of(case, program):
+    """The runs of a case that don't go as it says, and how many runs there are."""
+    runs = [(words, given) for words in case.words for given in case.inputs()]
+    faults = []
+    for words, given in runs:
+        fault = fault_of(case, program, words, given)
+        if fault:
+            on = f" on {shown(given)}" if case.is_cut else ""
+            faults.append(f"{case.file}:{case.line}: {program.name} {' '.join(words)}{on} {fault}")
+    return faults, len(runs)
+
+
+def main():
+    parser = argparse.ArgumentParser(description=__doc__.splitlines()[0])
+    parser.add_argument("--program", action="append", type=pathlib.Path)
+    parser.add_argument("files", nargs="*", type=pathlib.Path)
+    given = parser.parse_args()
+    programs = given.program or [it for it in BUILT if it.exists()]
+    if not programs:
+        sys.exit(f"{BUILT[0]} isn't built: .ci/run or ./prove.sh builds it")
+    files = given.files or sorted(FOLDER.glob("*.cases"))
+    cases = [(file, cases_of(file)) for file in files]
+    failed = False
+    with concurrent.futures.ThreadPoolExecutor(os.cpu_count()) as pool:
+        for file, those in cases:
+            ended = [*pool.map(lambda it: faults_of(*it), [(case, it.absolute()) for case in those for it in programs])]
+            faults = [it for some, _ in ended for it in some]
+            print(*faults, f"{file.name}: {len(those)} cases, {sum(it for _, it in ended)} runs, {len(faults)} faults", sep="\n")
+            failed = failed or bool(faults)
+    names = " and ".join(it.name for it in programs)
+    print(f"cases: {sum(len(it) for _, it in cases)} run by {names}")
+    return 1 if failed else 0
+
+
+if __name__ == "__main__":
+    sys.exit(main())

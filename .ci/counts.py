@@ -1,0 +1,71 @@
+#!/usr/bin/env python3
+"""Counts what the repository promises and shows: clauses, expectations, wrong bodies, tests. None of them may fall.
+
+    .ci/counts.py [REV..]     a column for each of these commits, and one for what stands here
+
+- clauses: lines with `ensures` in the sources of crates, but for tests, examples and benchmarks;
+- expectations of tests: the comparisons and the rows of tables in crates/*_tests and in the tests of rust/;
+- expectations of cases: the answers, outputs, messages and exit statuses in the files of cases;
+- wrong bodies in the gate, and all of them.
+
+It runs at the top of the repository.
+"""
+
+import pathlib
+import re
+import subprocess
+import sys
+import tempfile
+
+
+def lines(folder, patterns):
+    for pattern in patterns:
+        for path in sorted(pathlib.Path(folder).glob(pattern)):
+            if path.is_file() and "/target/" not in str(path) and "/out/" not in str(path):
+                yield from path.read_text(errors="replace").splitlines()
+
+
+def is_library(path):
+    return not path.name.endswith("_tests") and not path.name.startswith(("bench_", "example_", "cases"))
+
+
+def counts(top):
+    """The counts of a tree, by name."""
+    top = pathlib.Path(top)
+    crates = [it for it in top.glob("crates/*") if (it / "src").is_dir()]
+    clauses = sum("ensures" in it.split("//")[0] for crate in crates if is_library(crate) for it in lines(crate, ["src/**/*.rt"]))
+    tests = [*lines(top, ["crates/*_tests/src/**/*.rt"]), *lines(top, ["rust/*/tests/**/*.rs"])]
+    compared = r"\b(assert|assert_eq|assert_ne|prove|prove_eq)!\(|\bexpect\(|^\s*\(\s*(b?r?#*\"|&)"
+    cases = [*lines(top, ["crates/*/cases/*", "crates/cases*/data/*"])]
+    answers = sum(" => " in it or it.startswith(("> ", ">\\ ", "! ", "= ")) or it == ">" for it in cases)
+    edits = [it for it in top.glob("crates/*/*/*.edit")]
+    of_gate = sum(it.parent.name == "must-fail" or "\ngate\n" in it.read_text() for it in edits)
+    return {
+        "crates": len(crates),
+        "clauses (lines with `ensures`)": clauses,
+        "tests": sum("#[test]" in it for it in tests),
+        "expectations of tests": sum(bool(re.search(compared, it)) for it in tests),
+        "expectations of cases": answers,
+        "wrong bodies": len(edits),
+        "of them in the gate": of_gate,
+    }
+
+
+def at(revision):
+    """The counts of a commit."""
+    with tempfile.TemporaryDirectory() as room:
+        archive = subprocess.run(["git", "archive", revision], capture_output=True, check=True).stdout
+        subprocess.run(["tar", "-x", "-C", room], input=archive, check=True)
+        return counts(room)
+
+
+def main():
+    columns = [*((it, at(it)) for it in sys.argv[1:]), ("here", counts("."))]
+    print("| | " + " | ".join(name for name, _ in columns) + " |")
+    print("|---|" + "---|" * len(columns))
+    for what in columns[-1][1]:
+        print(f"| {what} | " + " | ".join(str(found[what]) for _, found in columns) + " |")
+
+
+if __name__ == "__main__":
+    main()

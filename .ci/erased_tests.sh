@@ -1,0 +1,15 @@
+#!/bin/sh
+# The repository's own tests of the proved crates, on the erased sources, in debug and in release; and 20,000 random schedules, which the
+# erased code and the program of crates/spawnrun have to replay to the same bytes. The gate has built the program before.
+set -eu
+cd "$(dirname "$0")/.."
+SPAWNRUN=$PWD/crates/spawnrun/out/spawnrun
+[ -x "$SPAWNRUN" ] || { echo "$SPAWNRUN isn't there: rt ci, or rt run in its folder, makes it"; exit 1; }
+export SPAWNRUN
+cargo run --offline --quiet --manifest-path rust/erase/Cargo.toml -- --tests
+cd rust/erased_tests
+# Some tests look at how much memory the process has, which other tests change.
+export RUST_TEST_THREADS=1
+cargo test --offline --quiet
+cargo test --offline --quiet --release
+cargo test --offline --quiet --release -- --ignored

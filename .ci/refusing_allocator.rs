@@ -1,0 +1,94 @@
+//! An allocator that refuses. The tests of `rust/forgeni` include this file, and are programs whose memory
+//! comes from it. It is the one file with `unsafe` code: Rust's trait of allocators wants it.
+//!
+//! What is refused is said by each thread for itself, so a test that runs beside others doesn't touch them.
+
+use std::alloc::{GlobalAlloc, Layout, System};
+use std::cell::Cell;
+
+/// What a thread is refused.
+#[derive(Clone, Copy)]
+pub enum Refusal {
+    /// Nothing.
+    None,
+    /// One request, after so many more.
+    One { after: usize },
+    /// All requests, after so many more.
+    All { after: usize },
+    /// Each request while so many more blocks are there than at the beginning.
+    Above { blocks: isize },
+}
+
+thread_local! {
+    static REFUSAL: Cell<Refusal> = const { Cell::new(Refusal::None) };
+    static REFUSED: Cell<usize> = const { Cell::new(0) };
+    static BLOCKS: Cell<isize> = const { Cell::new(0) };
+}
+
+/// Does this while memory is refused so. Also returns how often it was refused.
+pub fn refusing<T>(refusal: Refusal, work: impl FnOnce() -> T) -> (T, usize) {
+    REFUSED.set(0);
+    BLOCKS.set(0);
+    let reset = Reset(REFUSAL.replace(refusal));
+    let done = work();
+    drop(reset);
+    (done, REFUSED.get())
+}
+
+/// Sets the refusal back, also if the work panics.
+struct Reset(Refusal);
+
+impl Drop for Reset {
+    fn drop(&mut self) {
+        REFUSAL.set(self.0);
+    }
+}
+
+/// Whether the next request is refused.
+fn is_refused() -> bool {
+    let (refused, left) = match REFUSAL.get() {
+        Refusal::None => (false, Refusal::None),
+        Refusal::One { after: 0 } => (true, Refusal::None),
+        Refusal::One { after } => (false, Refusal::One { after: after - 1 }),
+        Refusal::All { after: 0 } => (true, Refusal::All { after: 0 }),
+        Refusal::All { after } => (false, Refusal::All { after: after - 1 }),
+        above @ Refusal::Above { blocks } => (BLOCKS.get() >= blocks, above),
+    };
+    REFUSAL.set(left);
+    if refused {
+        REFUSED.set(REFUSED.get() + 1);
+    }
+    refused
+}
+
+/// Rust's allocator, but for what is refused.
+pub struct Refusing;
+
+// SAFETY: each call is handed on to the allocator of the system, or is refused, which is its right.
+unsafe impl GlobalAlloc for Refusing {
+    unsafe fn alloc(&self, layout: Layout) -> *mut u8 {
+        if is_refused() {
+            return std::ptr::null_mut();
+        }
+        BLOCKS.set(BLOCKS.get() + 1);
+        // SAFETY: as the caller of this.
+        unsafe { System.alloc(layout) }
+    }
+
+    unsafe fn dealloc(&self, block: *mut u8, layout: Layout) {
+        BLOCKS.set(BLOCKS.get() - 1);
+        // SAFETY: as the caller of this.
+        unsafe { System.dealloc(block, layout) }
+    }
+
+    unsafe fn realloc(&self, block: *mut u8, layout: Layout, size: usize) -> *mut u8 {
+        if is_refused() {
+            return std::ptr::null_mut();
+        }
+        // SAFETY: as the caller of this.
+        unsafe { System.realloc(block, layout, size) }
+    }
+}
+
+#[global_allocator]
+static REFUSING: Refusing = Refusing;

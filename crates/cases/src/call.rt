@@ -1,0 +1,102 @@
+use ent_handle::{Birth, ComponentId, Handle, Memory};
+use std::alloc::Global;
+
+/// A call: its name, and what it is given. Each word tells by its form what it is: `0v1` is a
+/// handle, `0.0.2` a birth, `0=10` a component with its value, and `7` a number.
+#[derive(Drop)]
+pub struct Call<'a> {
+    /// It is empty if a word has none of these forms.
+    pub name: &'a str,
+    /// Whose call it is: `0: spawn` is a call of system 0.
+    pub system: Option<usize>,
+    /// 0v1 if none is given.
+    pub handle: Handle,
+    /// 0.0.0 if none is given.
+    pub birth: Birth,
+    pub items: Vec<(ComponentId, i64)>,
+    /// 0 where none is given.
+    pub numbers: [u32; 3],
+    given: usize,
+}
+
+impl<'a> Call<'a> {
+    /// The call of a line.
+    pub fn read(alloc: Global, line: &'a str) -> Result<Self, Memory> {
+        let mut words = line.split_whitespace();
+        let mut call = Call::of(alloc, words.next().unwrap_or(""));
+        if let Some(system) = call.name.strip_suffix(':') {
+            call.system = system.parse().ok();
+            call.name = words.next().unwrap_or("");
+        }
+        for word in words {
+            if call.take(word)?.is_none() {
+                call.name = "";
+            }
+        }
+        Ok(call)
+    }
+
+    fn of(alloc: Global, name: &'a str) -> Self {
+        Call {
+            name,
+            system: None,
+            handle: Handle::from_parts(0, 1),
+            birth: Birth {
+                frame: 0,
+                system: 0,
+                ordinal: 0,
+            },
+            items: Vec::new(alloc),
+            numbers: [0; 3],
+            given: 0,
+        }
+    }
+
+    /// Takes the word as what its form tells. `None` if it has no such form.
+    fn take(&mut self, word: &str) -> Result<Option<()>, Memory> {
+        if let Some((id, value)) = word.split_once('=') {
+            return self.put(id, value);
+        }
+        Ok(self.set(word))
+    }
+
+    fn put(&mut self, id: &str, value: &str) -> Result<Option<()>, Memory> {
+        if let (Ok(id), Ok(value)) = (id.parse(), value.parse()) {
+            self.items.push((ComponentId(id), value))?;
+            return Ok(Some(()));
+        }
+        Ok(None)
+    }
+
+    fn set(&mut self, word: &str) -> Option<()> {
+        if word.contains('v') {
+            self.handle = Handle::read_text(word.as_bytes()).ok()?;
+        } else if word.contains('.') {
+            self.birth = birth_of(word)?;
+        } else {
+            *self.numbers.get_mut(self.given)? = word.parse().ok()?;
+            self.given = self.given.saturating_add(1);
+        }
+        Some(())
+    }
+
+    /// The first number.
+    pub fn number(&self) -> u32 {
+        self.numbers[0]
+    }
+
+    /// The component of that number. The greatest is 255, and stands for what is greater.
+    pub fn id(&self) -> ComponentId {
+        ComponentId(self.number().min(255) as u8)
+    }
+}
+
+fn birth_of(word: &str) -> Option<Birth> {
+    let (frame, others) = word.split_once('.')?;
+    let (system, ordinal) = others.split_once('.')?;
+    Some(Birth {
+        frame: frame.parse().ok()?,
+        system: system.parse().ok()?,
+        ordinal: ordinal.parse().ok()?,
+    })
+}

@@ -1,0 +1,160 @@
+//! A file of calls, each with what it has to return.
+
+ghost use Rattle.std.specs.Prelude.{◌≤◌, length};
+
+use crate::call::Call;
+use crate::filling::{Round, filled};
+use crate::numbers::Numbers;
+use crate::writing::Out;
+use anyhow::Result;
+use ent_handle::Memory;
+use std::alloc::Global;
+
+/// What the calls are made of.
+pub trait Layer {
+    /// Makes the call, and writes what it returned.
+    fn answer(&mut self, call: &Call<'_>, out: &mut Out);
+}
+
+/// How far a file has been run.
+#[derive(Drop)]
+pub struct Case<'a> {
+    alloc: Global,
+    name: &'a str,
+    /// How many calls were made.
+    pub calls: u64,
+    /// How many of them did not return what the file says.
+    pub differ: u64,
+}
+
+impl<'a> Case<'a> {
+    pub fn new(alloc: Global, name: &'a str) -> Self {
+        Case {
+            alloc,
+            name,
+            calls: 0,
+            differ: 0,
+        }
+    }
+
+    /// Makes all calls of the text.
+    pub fn run<L: Layer>(&mut self, rt: &impl Print, layer: &mut L, text: &str) -> Result<()> {
+        let lines = lines_of(self.alloc, text)?;
+        let mut next = 0;
+        for (at, line) in lines.iter().enumerate() {
+            if at >= next {
+                match rounds_of(line) {
+                    Some(numbers) => {
+                        next = end_of(&lines, at);
+                        self.run_rounds(rt, layer, numbers, &lines[at..next])?;
+                    }
+                    None => self.run_line(rt, layer, line, 0)?,
+                }
+            }
+        }
+        Ok(())
+    }
+
+    /// Makes the calls of these lines once for each number. The first line tells the numbers.
+    fn run_rounds<L: Layer>(
+        &mut self,
+        rt: &impl Print,
+        layer: &mut L,
+        numbers: Numbers,
+        lines: &[&str],
+    ) -> Result<()> {
+        for round in 0..numbers.count {
+            for line in lines.iter().skip(1) {
+                self.run_line(rt, layer, line, numbers.at(round))?;
+            }
+        }
+        Ok(())
+    }
+
+    /// Makes the call of a line, or those of its own rounds.
+    fn run_line<L: Layer>(
+        &mut self,
+        rt: &impl Print,
+        layer: &mut L,
+        line: &str,
+        n: u32,
+    ) -> Result<()> {
+        let Some((numbers, line)) = own_rounds_of(line) else {
+            return self.run_call(rt, layer, line, Round { n, m: 0 });
+        };
+        for round in 0..numbers.count {
+            let m = numbers.at(round);
+            self.run_call(rt, layer, line, Round { n, m })?;
+        }
+        Ok(())
+    }
+
+    /// Makes the call of a line, if it has one.
+    fn run_call<L: Layer>(
+        &mut self,
+        rt: &impl Print,
+        layer: &mut L,
+        line: &str,
+        round: Round,
+    ) -> Result<()> {
+        if line.is_empty() || line.starts_with('#') || line == "end" {
+            return Ok(());
+        }
+        let (call, answer) = line.split_once("=>").unwrap_or((line, "an answer"));
+        let call = filled(self.alloc, call.trim(), round)?;
+        let answer = filled(self.alloc, answer.trim(), round)?;
+        self.make(rt, layer, call.as_str(), answer.as_str())
+    }
+
+    /// Makes one call, and compares.
+    fn make<L: Layer>(
+        &mut self,
+        rt: &impl Print,
+        layer: &mut L,
+        call: &str,
+        wanted: &str,
+    ) -> Result<()> {
+        let mut out = Out::new(self.alloc);
+        layer.answer(&Call::read(self.alloc, call)?, &mut out);
+        self.calls = self.calls.saturating_add(1);
+        if out.is_cut || out.text.trim() != wanted {
+            self.differ = self.differ.saturating_add(1);
+            let (name, found) = (self.name, out.text.as_str());
+            println!(rt; "{name}: {call} =>{found}, where {wanted} is wanted")?;
+        }
+        Ok(())
+    }
+}
+
+fn lines_of(alloc: Global, text: &str) -> Result<Vec<&str>, Memory> {
+    let mut lines = Vec::new(alloc);
+    for line in text.lines() {
+        lines.push(line.trim())?;
+    }
+    Ok(lines)
+}
+
+/// The numbers of the rounds that the line begins: `for n in 0..3`.
+fn rounds_of(line: &str) -> Option<Numbers> {
+    Numbers::read(line.strip_prefix("for n in ")?)
+}
+
+/// The numbers of the rounds of this line alone, and what stands there: `for m in 0..3: CALL`.
+fn own_rounds_of(line: &str) -> Option<(Numbers, &str)> {
+    let (range, line) = line.strip_prefix("for m in ")?.split_once(": ")?;
+    Some((Numbers::read(range)?, line))
+}
+
+/// The first `end` of these lines from that one on, or how many they are.
+fn end_of(lines: &[&str], from: usize) -> usize
+    requires { from ≤ length lines.now }
+    ensures first { from ≤ result }
+    ensures within { result ≤ length lines.now }
+{
+    for (at, line) in lines.iter().enumerate() {
+        if at >= from && *line == "end" {
+            return at;
+        }
+    }
+    lines.len()
+}

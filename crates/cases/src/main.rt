@@ -1,0 +1,52 @@
+//! Runs the cases of `data/`: calls, each with what it has to return. It fails if any returns
+//! something else.
+//!
+//! The files lie in the folder that the program runs in. Its words name them.
+#![tactic(auto)]
+
+mod call;
+mod case;
+mod filling;
+mod numbers;
+mod phase;
+mod queues;
+mod storing;
+mod viewing;
+mod worlding;
+mod writing;
+
+use anyhow::{Result, ensure};
+use case::Case;
+use std::env;
+use std::fs;
+use std::rt::Files;
+use storing::Storing;
+use worlding::Worlding;
+
+fn main(rt: HostRuntime) -> Result<()> {
+    let mut words = env::args(&rt)?;
+    let _ = words.next();
+    let mut differ = 0;
+    for name in words {
+        differ = differ.max(compare(&rt, name.as_str())?);
+    }
+    ensure!(differ == 0, "answers differ");
+    Ok(())
+}
+
+/// Runs the calls of one file, and tells how many of them return something else than it says.
+fn compare<R>(rt: &R, name: &str) -> Result<u64>
+where
+    R: Files + Print + AllocGlobal,
+{
+    let text = fs::read_to_string(rt, name)?;
+    let mut case = Case::new(rt.alloc(), name);
+    if name.starts_with("storage") {
+        case.run(rt, &mut Storing::new(rt.alloc()), text.as_str())?;
+    } else {
+        case.run(rt, &mut Worlding::new(rt.alloc()), text.as_str())?;
+    }
+    let (calls, differ) = (case.calls, case.differ);
+    println!(rt; "{name}: {calls} calls, {differ} differ")?;
+    Ok(differ)
+}

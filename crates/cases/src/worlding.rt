@@ -1,0 +1,235 @@
+//! Calls of a world, of its phases, and of the queues that are issued in them.
+
+use crate::call::Call;
+use crate::case::Layer;
+use crate::phase::Phase;
+use crate::queues::{stops_at, write_queue};
+use crate::viewing::{look, view};
+use crate::writing::Out;
+use ent_alloc::Limits;
+use ent_handle::{Handle, Memory};
+use ent_queue::{Bundle, CommandQueue};
+use ent_world::{Fault, SyncFault, SyncReport, World};
+use std::alloc::Global;
+
+/// A world, as calls change it.
+#[derive(Drop)]
+pub struct Worlding {
+    /// It is there unless a phase is open.
+    world: Option<World>,
+    phase: Option<Phase>,
+    /// The queues of the last phase.
+    queues: Vec<CommandQueue>,
+    /// Who was born at the last sync point.
+    born: Vec<Handle>,
+    /// The faults of the last sync point.
+    faults: Vec<Fault>,
+    alloc: Global,
+}
+
+impl Worlding {
+    pub fn new(alloc: Global) -> Self {
+        Worlding {
+            world: Some(World::new(alloc, Limits::default_limits())),
+            phase: None,
+            queues: Vec::new(alloc),
+            born: Vec::new(alloc),
+            faults: Vec::new(alloc),
+            alloc,
+        }
+    }
+
+    /// A world of so many slots and generations.
+    fn renew(&mut self, slots: u32, generations: u32) -> &'static str {
+        let Some(limits) = Limits::new(slots, generations) else {
+            return "no limits";
+        };
+        self.phase = None;
+        self.queues.clear();
+        self.world = Some(World::new(self.alloc, limits));
+        "done"
+    }
+
+    fn open(&mut self, reservers: usize) -> &'static str {
+        self.queues.clear();
+        match self.world.take() {
+            Some(world) => self.open_world(world, reservers),
+            None => "a phase is open",
+        }
+    }
+
+    fn open_world(&mut self, world: World, reservers: usize) -> &'static str {
+        if world.needs_flush() || reservers < 1 || reservers > 1024 {
+            self.world = Some(world);
+            return "refused";
+        }
+        match Phase::open(world, reservers) {
+            Ok(phase) => {
+                self.phase = Some(phase);
+                "done"
+            }
+            Err(world) => {
+                self.world = Some(world);
+                "out of memory"
+            }
+        }
+    }
+
+    fn close(&mut self, is_lost: bool) -> &'static str {
+        match self.phase.take() {
+            Some(phase) => {
+                self.world = Some(phase.close(is_lost));
+                "done"
+            }
+            None => "no phase is open",
+        }
+    }
+
+    fn flush(&mut self) -> &'static str {
+        match &mut self.world {
+            Some(world) => match world.flush() {
+                Ok(()) => "done",
+                Err(Memory) => "out of memory",
+            },
+            None => "a phase is open",
+        }
+    }
+
+    fn apply(&mut self) -> &'static str {
+        let Some(world) = &mut self.world else {
+            return "a phase is open";
+        };
+        if self.queues.len() > 65_536 {
+            return "too many queues";
+        }
+        let applied = world.apply(&self.queues);
+        self.keep(applied)
+    }
+
+    /// Goes on with the queues at that handle of that command of that system.
+    fn apply_from(&mut self, [system, command, done]: [u32; 3]) -> &'static str {
+        let (system, command, done) = (system as usize, command as usize, done as usize);
+        let Some(world) = &mut self.world else {
+            return "a phase is open";
+        };
+        if world.needs_flush() || done >= stops_at(&self.queues, system, command) {
+            return "no such command";
+        }
+        let applied = world.apply_from(&self.queues, system, command, done);
+        self.keep(applied)
+    }
+
+    /// A call of one of the systems.
+    fn in_phase(&mut self, system: usize, call: &Call<'_>, out: &mut Out) {
+        match &mut self.phase {
+            Some(phase) => phase.answer(self.alloc, &mut self.queues, system, call, out),
+            None => out.word("no phase is open"),
+        }
+    }
+
+    /// A call that is no system's and that leaves the phase.
+    fn tell(&mut self, call: &Call<'_>, out: &mut Out) {
+        match call.name {
+            "born" => out.handles(&self.born),
+            "faults" => out.faults(&self.faults),
+            "bundle" => write_put(self.alloc, call, out),
+            "bundle_of" => write_list(self.alloc, call, out),
+            "queue" | "queue_len" | "bytes" => match self.queues.get(call.number() as usize) {
+                Some(queue) => look_at_queue(queue, call, out),
+                None => out.word("no queue"),
+            },
+            _ => self.tell_world(call, out),
+        }
+    }
+
+    fn tell_world(&mut self, call: &Call<'_>, out: &mut Out) {
+        match (&mut self.world, &self.phase) {
+            (Some(world), _) => match call.name {
+                "spawn" => spawn(world, self.alloc, call, out),
+                "despawn" => despawn(world, call, out),
+                _ => look(world, call, out),
+            },
+            (None, Some(phase)) => view(&phase.view(), call, out),
+            (None, None) => out.word("no world"),
+        }
+    }
+
+    fn keep(&mut self, applied: Result<SyncReport, SyncFault>) -> &'static str {
+        match applied {
+            Ok(SyncReport { born, faults }) => {
+                self.born = born;
+                self.faults = faults;
+                "done"
+            }
+            Err(_) => "out of memory",
+        }
+    }
+}
+
+impl Layer for Worlding {
+    fn answer(&mut self, call: &Call<'_>, out: &mut Out) {
+        let [first, second, _] = call.numbers;
+        let done = match (call.system, call.name) {
+            (Some(system), _) => return self.in_phase(system, call, out),
+            (None, "world") => self.renew(first, second),
+            (None, "open") => self.open(first as usize),
+            (None, "close") => self.close(false),
+            (None, "close_lost") => self.close(true),
+            (None, "flush") => self.flush(),
+            (None, "apply") => self.apply(),
+            (None, "apply_from") => self.apply_from(call.numbers),
+            _ => return self.tell(call, out),
+        };
+        out.word(done);
+    }
+}
+
+fn spawn(world: &mut World, alloc: Global, call: &Call<'_>, out: &mut Out) {
+    match Bundle::of(alloc, &call.items) {
+        Ok(bundle) => out.given(world.spawn(call.birth, &bundle)),
+        Err(fault) => out.show(&fault),
+    }
+}
+
+fn despawn(world: &mut World, call: &Call<'_>, out: &mut Out) {
+    match world.despawn(call.handle) {
+        Ok(freed) => out.value(freed.next),
+        Err(fault) => out.show(&fault),
+    }
+}
+
+fn write_list(alloc: Global, call: &Call<'_>, out: &mut Out) {
+    match Bundle::of(alloc, &call.items) {
+        Ok(bundle) => out.bundle(bundle.items()),
+        Err(fault) => out.show(&fault),
+    }
+}
+
+/// The bundle into which the components were put one by one.
+fn write_put(alloc: Global, call: &Call<'_>, out: &mut Out) {
+    let mut bundle = Bundle::new(alloc);
+    for (id, value) in &call.items {
+        if bundle.put(*id, *value).is_err() {
+            out.word("out of memory");
+        }
+    }
+    out.bundle(bundle.items());
+}
+
+fn look_at_queue(queue: &CommandQueue, call: &Call<'_>, out: &mut Out) {
+    match call.name {
+        "queue" => write_queue(queue, out),
+        "queue_len" => out.show(&queue.len()),
+        _ => write_bytes(queue.bytes(), out),
+    }
+}
+
+fn write_bytes(bytes: &[u8], out: &mut Out) {
+    if bytes.is_empty() {
+        out.word("empty");
+    }
+    for byte in bytes {
+        out.word(" ");
+        out.show(byte);
+    }
+}

@@ -1,0 +1,74 @@
+-- Rows are kept of the living alone, whatever a call does.
+use Rattle.std.proofs.Common.{◌≡◌, true, false, cond, not, ◌&&◌, ℕ, List, refl, ap, ◌∙◌}
+use Rattle.std.proofs.Common.{None, Some, IsTrue, All, get_or, slice_get, subst}
+use Rattle.std.specs.Ordering.{eq_by_cmp}
+use Rattle.std.proofs.lemmas.Option.{get_or_from_slice_get, slice_get_within}
+use Rattle.std.specs.FinSet as sets
+use Rattle.std.specs.FinMap as maps
+use Rattle.ent_handle.specs.Handle.{Handle, handle_cmp, handle_cmp_total}
+use Rattle.ent_alloc.specs.Sequential.{Allocator, available, born}
+use Rattle.ent_alloc.specs.Sound.{IsSound, IsLive}
+use Rattle.ent_alloc.specs.Entities.{Entities, HasRowsOfLiving}
+use Rattle.ent_alloc.proofs.HandleSets.{union_list_keeps, same_handle}
+use Rattle.ent_alloc.proofs.Replies.{not_apart, of_pool}
+use Rattle.ent_alloc.proofs.Flushes.{born-not_live}
+
+-- a set and rows of its handles alone
+abbrev pub AreOf : sets.FinSet handle_cmp → maps.FinMap handle_cmp ℕ → Type 0
+AreOf live rows = (h : Handle) → ¬ (IsTrue (sets.contains live h)) → maps.get rows h ≡ None
+
+pub no_rows : (live : sets.FinSet handle_cmp) → AreOf live maps.empty
+no_rows live h gone = maps.get-empty handle_cmp h
+
+-- more come to life
+pub rows-joined : (live : sets.FinSet handle_cmp) (more : List Handle)
+    (rows : maps.FinMap handle_cmp ℕ) → AreOf live rows
+    → AreOf (sets.union live (sets.from_list more)) rows
+rows-joined live more rows kept h gone =
+    kept h (λ alive. gone (union_list_keeps live more h alive))
+
+-- one goes, with its row
+pub rows-removed : (live : sets.FinSet handle_cmp) (x : Handle) (rows : maps.FinMap handle_cmp ℕ)
+    → AreOf live rows → AreOf (sets.remove live x) (maps.remove rows x)
+rows-removed live x rows kept h gone =
+    maps.get-remove handle_cmp_total rows x h
+    ∙ elim (eq_by_cmp handle_cmp h x) as (λ b. eq_by_cmp handle_cmp h x ≡ b
+    → cond b None (maps.get rows h) ≡ None) [
+      | true ↦ λ _. refl
+      | false ↦ λ other. kept h (λ alive. gone (sets.contains-remove handle_cmp_total live x h
+          ∙ (λ i. not (other i) && alive i)))
+    ] refl
+
+-- one that lives gets a row
+pub rows-inserted : (live : sets.FinSet handle_cmp) (x : Handle) (row : ℕ)
+    (rows : maps.FinMap handle_cmp ℕ) → IsTrue (sets.contains live x) → AreOf live rows
+    → AreOf live (maps.insert rows x row)
+rows-inserted live x row rows lives kept h gone =
+    maps.get-insert handle_cmp_total rows x row h
+    ∙ elim (eq_by_cmp handle_cmp h x) as (λ b. eq_by_cmp handle_cmp h x ≡ b
+    → cond b (Some row) (maps.get rows h) ≡ None) [
+      | true ↦ λ same. absurd (gone (ap (sets.contains live) (same_handle h x same) ∙ lives))
+      | false ↦ λ _. kept h gone
+    ] refl
+
+-- ---- who has just come to life
+
+-- what is in the pool is not alive
+pool-not_live : (s : Allocator) → IsSound s → All (λ x. ¬ (IsLive s x)) s.pool
+pool-not_live s h = of_pool (λ x. ¬ (IsLive s x)) s (λ k d lt alive. not_apart
+    (get_or (available s) k d) ((h.live (get_or (available s) k d) alive).apart k d lt))
+
+-- so the front of the pool has no row
+pub front-no_row : (e : Entities) (h : Handle) → HasRowsOfLiving e → IsSound e.allocator
+    → slice_get e.allocator.pool 0 ≡ Some h → maps.get e.rows h ≡ None
+front-no_row e h kept sound front =
+    let within = slice_get_within e.allocator.pool 0 h front in
+    kept h (subst (λ x. ¬ (IsLive e.allocator x))
+    (get_or_from_slice_get e.allocator.pool 0 h h front)
+    (pool-not_live e.allocator sound 0 h within))
+
+-- nor has what a flush brings to life
+pub born-no_row : (e : Entities) → HasRowsOfLiving e → IsSound e.allocator
+    → All (λ h. maps.get e.rows h ≡ None) (born e.allocator)
+born-no_row e kept sound k d lt =
+    kept (get_or (born e.allocator) k d) (born-not_live e.allocator sound k d lt)

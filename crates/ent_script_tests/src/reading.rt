@@ -1,0 +1,41 @@
+//! Scripts that are read, and refusals that are written, while memory is refused.
+use ent_script::{ReadFault, read_script, write_refusal};
+use std::alloc::Global;
+use std::test::Fail;
+
+const SCRIPT: &[u8] =
+    b"{\"components\":[\"hp\",\"mp\"],\"frames\":[[[{\"spawn\":{\"mp\":1,\"hp\":2},\
+    \"as\":\"a\"},{\"despawn\":{\"name\":\"a\"}}]]]}";
+
+// How many frames are read.
+fn frames_read(alloc: Global) -> Result<usize, ReadFault> {
+    let script = read_script(alloc, SCRIPT)?;
+    Ok(script.frames().len())
+}
+
+// Passes whichever single allocation is refused: `rt try --test --fail-alloc N -- refused_memory`
+// refuses the Nth. Where memory ran out, it is read a second time.
+#[test]
+fn refused_memory_of_reading(rt: HostRuntime) {
+    let read = match frames_read(rt.alloc()) {
+        Err(ReadFault::Memory) => frames_read(rt.alloc()),
+        read => read,
+    };
+    assert!(rt; read == Ok(1));
+}
+
+// The same of the line of a refusal. A refused call appends nothing.
+#[test]
+fn refused_memory_of_a_refusal(rt: HostRuntime) -> Result<(), Fail> {
+    let mut out = Vec::new(rt.alloc());
+    let fault = ReadFault::System {
+        frame: 7,
+        system: 8,
+    };
+    if write_refusal(fault, &mut out).is_err() {
+        assert!(rt; out.is_empty());
+        write_refusal(fault, &mut out)?;
+    }
+    assert!(rt; out.as_slice() == b"refused system 7 8\n".as_slice());
+    Ok(())
+}

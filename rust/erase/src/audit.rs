@@ -1,0 +1,219 @@
+//! Tests of a result that it is the source less what is ghost.
+//!
+//! It knows nothing of how the result was written. It goes through the tokens of both texts side by
+//! side. Where they differ, the source's have to be ghost, or one of the two has to be in the short
+//! list of what is put in place of what. So nothing can be lost, as code that went into a comment,
+//! nor be added. Then it does the same with the comments: those of the result are those of the source,
+//! but for what stood at ghost items, and the clauses.
+
+mod changes;
+mod comments;
+mod messages;
+
+use crate::forms;
+use crate::lex::Kind;
+use crate::source::{Fault, Source};
+use crate::walk::Names;
+use changes::{changes, Change};
+
+/// Tests a result.
+///
+/// # Errors
+///
+/// The first place of the source at which the result is another one.
+pub fn audit(
+    source: &Source<'_>,
+    result: &Source<'_>,
+    krate: &str,
+    names: &Names,
+) -> Result<(), Fault> {
+    let mut audit = Audit {
+        source,
+        result,
+        krate,
+        names,
+        changes: changes(krate, names),
+        at: 0,
+        out: 0,
+        is_ghost: vec![false; source.len()],
+        is_clause: vec![false; source.len()],
+    };
+    while audit.at < source.len() || audit.out < result.len() {
+        audit.step()?;
+    }
+    audit.comments()
+}
+
+struct Audit<'a> {
+    source: &'a Source<'a>,
+    result: &'a Source<'a>,
+    krate: &'a str,
+    names: &'a Names,
+    /// All that may stand in the result in place of what.
+    changes: Vec<Change>,
+    /// The next token of the source.
+    at: usize,
+    /// The next token of the result.
+    out: usize,
+    /// The tokens of the source before which a comment is ghost too.
+    is_ghost: Vec<bool>,
+    /// Those of them that are clauses.
+    is_clause: Vec<bool>,
+}
+
+impl Audit<'_> {
+    /// Goes on in one of the texts or in both.
+    fn step(&mut self) -> Result<(), Fault> {
+        if let Some(end) = self.ghost_end() {
+            // Comments above an attribute or a clause stay.
+            let stay = self.source.at(self.at) == "#" || self.is_clause[self.at];
+            self.is_ghost[self.at..end].fill(true);
+            self.is_ghost[self.at] = !stay;
+            self.at = end;
+            return Ok(());
+        }
+        if let Some(end) = self.added_end()? {
+            self.out = end;
+            return Ok(());
+        }
+        if let Some((from, to)) = self.changed() {
+            self.at += from;
+            self.out += to;
+            return Ok(());
+        }
+        let (from, to) = (self.source.at(self.at), self.result.at(self.out));
+        if from == to {
+            self.at += 1;
+            self.out += 1;
+            return Ok(());
+        }
+        let what = format!("the result has `{to}` where the source has `{from}`");
+        Err(self.source.fault(self.at, what))
+    }
+
+    /// The end of what is ghost in the source here, if something is.
+    fn ghost_end(&mut self) -> Option<usize> {
+        let (source, at) = (self.source, self.at);
+        let starts = |tokens: &[&str]| source.has(at, tokens);
+        match source.at(at) {
+            "pub" if starts(&["pub", "ghost"]) => self.ghost_item_end(),
+            "ghost" => self.ghost_item_end(),
+            word if forms::CLAUSES.contains(&word) => {
+                let open = source.find(at, source.len(), &["{"])?;
+                let end = source.partner(open) + 1;
+                self.is_clause[at..end].fill(true);
+                Some(end)
+            }
+            "impl" => self.ghost_impl_end(),
+            "#" => self.ghost_attribute_end(),
+            "use" => self.ghost_import_end(),
+            ":" if starts(&[":", "Drop", "+"]) => None,
+            ":" | "+" if starts(&[":", "Drop"]) || starts(&["+", "Drop"]) => Some(at + 2),
+            "Drop" if starts(&["Drop", "+"]) => Some(at + 2),
+            _ => None,
+        }
+    }
+
+    /// The end of an import, a member or a field.
+    fn ghost_item_end(&self) -> Option<usize> {
+        let end = self.source.find(self.at, self.source.len(), &[";", ","])?;
+        Some(end + 1)
+    }
+
+    /// The end of an import of one ghost name.
+    fn ghost_import_end(&self) -> Option<usize> {
+        let modules = self.names.forms.iter().flat_map(|forms| forms.modules);
+        let names = modules.flat_map(|module| module.ghost.iter().map(|name| (module.path, name)));
+        names
+            .map(|(path, name)| pieces(&format!("use {path}::{name};")))
+            .find(|import| has(self.source, self.at, import))
+            .map(|import| self.at + import.len())
+    }
+
+    /// The end of an `impl` of a ghost trait.
+    fn ghost_impl_end(&self) -> Option<usize> {
+        let open = self.source.find(self.at, self.source.len(), &["{"])?;
+        let header = self.at..open;
+        let is_of = |at: usize| {
+            forms::GHOST_TRAITS.contains(&self.source.at(at)) && self.source.at(at + 1) == "for"
+        };
+        header
+            .into_iter()
+            .any(is_of)
+            .then(|| self.source.partner(open) + 1)
+    }
+
+    /// The end of an attribute for the prover, of a message, or of a derive of which nothing stays.
+    fn ghost_attribute_end(&self) -> Option<usize> {
+        let open = self.at + 1 + usize::from(self.source.at(self.at + 1) == "!");
+        let word = self.source.at(open + 1);
+        let is_ghost = match word {
+            "derive" => self.kept_derives(open).is_empty(),
+            "error" => true,
+            _ => forms::GHOST_ATTRIBUTES.contains(&word),
+        };
+        is_ghost.then(|| self.source.partner(open) + 1)
+    }
+
+    /// What stays of the derive whose `[` stands here in the source.
+    fn kept_derives(&self, open: usize) -> Vec<&str> {
+        let names = (open + 3..self.source.partner(open)).map(|at| self.source.at(at));
+        names
+            .filter(|name| forms::KEPT_DERIVES.contains(name))
+            .collect()
+    }
+
+    /// The end of what was added to the result here, if something was.
+    fn added_end(&self) -> Result<Option<usize>, Fault> {
+        let (result, out) = (self.result, self.out);
+        let inline = ["#", "[", "inline", "]"];
+        if result.has(out, &inline) && !self.source.has(self.at, &inline) {
+            let heads = ["pub", "(", "super", "crate", ")", "const"];
+            let next = (out + 4..result.len()).find(|at| !heads.contains(&result.at(*at)));
+            let is_function = next.is_some_and(|at| result.at(at) == "fn");
+            return Ok(is_function.then_some(out + 4));
+        }
+        if let Some(len) = self.added_import() {
+            return Ok(Some(out + len));
+        }
+        let runtimes = self.names.forms.iter().filter_map(|forms| forms.runtime);
+        let mut made = runtimes.map(|runtime| pieces(&format!("let rt = {runtime};")));
+        if let Some(made) = made.find(|made| has(result, out, made)) {
+            return Ok((result.before(out) == "{").then_some(out + made.len()));
+        }
+        if result.has(out, &["impl", "core", "::", "fmt", "::", "Display", "for"]) {
+            return self.added_messages().map(Some);
+        }
+        Ok(None)
+    }
+
+    /// The length of an import from the kit that the result has here.
+    fn added_import(&self) -> Option<usize> {
+        let imports = self.names.forms.iter().flat_map(|forms| {
+            let named = forms
+                .prelude
+                .iter()
+                .chain(forms.macros)
+                .map(|import| import.path);
+            named.chain(forms.renamed.iter().map(|renamed| renamed.import))
+        });
+        imports
+            .map(|path| pieces(&format!("use {path};")))
+            .find(|line| has(self.result, self.out, line))
+            .map(|line| line.len())
+    }
+}
+
+/// The tokens of a text without blanks and comments.
+fn pieces(text: &str) -> Vec<String> {
+    let tokens = crate::lex::tokens(text).unwrap_or_default();
+    let code = tokens
+        .iter()
+        .filter(|it| !matches!(it.kind, Kind::Blank | Kind::Comment));
+    code.map(|it| text[it.from..it.to].to_owned()).collect()
+}
+
+/// Whether the code goes on with these tokens.
+fn has(source: &Source<'_>, at: usize, tokens: &[String]) -> bool {
+    (at..).zip(tokens).all(|(at, token)| source.at(at) == token)
+}

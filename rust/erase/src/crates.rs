@@ -1,0 +1,146 @@
+//! Which crates are erased, and their sources.
+
+use crate::source::{Fault, Source};
+use crate::walk::Names;
+use std::collections::BTreeSet;
+use std::path::{Path, PathBuf};
+use std::{fs, io};
+
+/// A source of a crate.
+pub struct File {
+    /// Its path from the top of the repository, as `crates/ent_alloc/src/slots.rt`.
+    pub path: String,
+    /// Its path in the result of its crate, as `slots.rs`. That of `lib.rt` is `mod.rs`.
+    pub result: PathBuf,
+    /// Its text.
+    pub text: String,
+}
+
+/// A crate with its sources, in the order of their names.
+pub struct Crate {
+    /// Its name.
+    pub name: String,
+    /// Its sources.
+    pub files: Vec<File>,
+}
+
+/// The crates of this repository that these ones stand on, with themselves, in the order of
+/// `crates.txt`: a crate comes after those that it uses.
+///
+/// # Errors
+///
+/// A crate isn't listed.
+pub fn below(listed: &str, tops: &[String]) -> Result<Vec<String>, String> {
+    let lines = listed.lines().filter(|line| !line.starts_with('#'));
+    let crates: Vec<(&str, Vec<&str>)> = lines
+        .filter_map(|line| line.split_once(':'))
+        .map(|(head, uses)| {
+            let name = head.split_whitespace().next().unwrap_or("");
+            (name, uses.split_whitespace().collect())
+        })
+        .collect();
+    let mut wanted: BTreeSet<&str> = tops.iter().map(String::as_str).collect();
+    for (name, uses) in crates.iter().rev() {
+        if wanted.contains(name) {
+            wanted.extend(uses);
+        }
+    }
+    let is_listed = |name: &str| crates.iter().any(|(listed, _)| *listed == name);
+    if let Some(missing) = tops.iter().find(|name| !is_listed(name)) {
+        return Err(format!("crates.txt doesn't list {missing}"));
+    }
+    let chosen = crates.iter().filter(|(name, _)| wanted.contains(name));
+    Ok(chosen.map(|(name, _)| (*name).to_owned()).collect())
+}
+
+/// Reads the sources of a crate.
+///
+/// # Errors
+///
+/// A file can't be read.
+pub fn read(repository: &Path, name: &str) -> io::Result<Crate> {
+    let folder = repository.join("crates").join(name).join("src");
+    let mut paths = Vec::new();
+    collect(&folder, &mut paths)?;
+    paths.sort();
+    let file = |path: PathBuf| -> io::Result<File> {
+        let local = path
+            .strip_prefix(&folder)
+            .expect("a path in the folder")
+            .to_owned();
+        let is_root = local == Path::new("lib.rt");
+        Ok(File {
+            path: format!("crates/{name}/src/{}", local.display()),
+            result: if is_root {
+                PathBuf::from("mod.rs")
+            } else {
+                local.with_extension("rs")
+            },
+            text: fs::read_to_string(&path)?,
+        })
+    };
+    Ok(Crate {
+        name: name.to_owned(),
+        files: paths.into_iter().map(file).collect::<io::Result<_>>()?,
+    })
+}
+
+fn collect(folder: &Path, paths: &mut Vec<PathBuf>) -> io::Result<()> {
+    for entry in fs::read_dir(folder)? {
+        let path = entry?.path();
+        if path.is_dir() {
+            collect(&path, paths)?;
+        } else if path.extension().is_some_and(|extension| extension == "rt") {
+            paths.push(path);
+        }
+    }
+    Ok(())
+}
+
+/// Adds what the crates declare. They are modules below `path`.
+///
+/// # Errors
+///
+/// A source can't be cut into tokens.
+pub fn add_names(names: &mut Names, crates: &[Crate], path: &str) -> Result<(), Fault> {
+    for krate in crates {
+        names
+            .crates
+            .insert(krate.name.clone(), format!("{path}::{}", krate.name));
+        for file in &krate.files {
+            let source = Source::read(&file.path, &file.text)?;
+            for at in 0..source.len().saturating_sub(1) {
+                let declared = || source.at(at + 1).to_owned();
+                match source.at(at) {
+                    "fn" if source.is_word(at + 1) => names.functions.insert(declared()),
+                    "trait" => names.traits.insert(declared()),
+                    _ => false,
+                };
+            }
+        }
+    }
+    Ok(())
+}
+
+#[cfg(test)]
+mod tests {
+    use super::below;
+
+    const LISTED: &str =
+        "# A comment: with a colon.\n\na: itoa\nb staticlib: a\nc:\nd: b c\ne: a\n";
+
+    fn names(tops: &[&str]) -> Result<Vec<String>, String> {
+        let tops: Vec<String> = tops.iter().map(|top| (*top).to_owned()).collect();
+        below(LISTED, &tops)
+    }
+
+    #[test]
+    fn what_a_crate_stands_on_comes_before_it() {
+        assert_eq!(names(&["d"]).expect("crates"), ["a", "b", "c", "d"]);
+        assert_eq!(names(&["e", "c"]).expect("crates"), ["a", "c", "e"]);
+        assert_eq!(
+            names(&["f"]).expect_err("no f"),
+            "crates.txt doesn't list f"
+        );
+    }
+}

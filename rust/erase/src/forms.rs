@@ -1,0 +1,356 @@
+//! The forms that are known: what is taken out, what is rewritten, and what stays. Whatever is in no
+//! list here is refused.
+
+/// Members of traits and `impl` blocks that are terms for proofs alone.
+pub const GHOST_MEMBERS: &[&str] = &[
+    "Value",
+    "both",
+    "cmp",
+    "coded",
+    "eq",
+    "first",
+    "from_gives",
+    "holds",
+    "invariant",
+    "inverse",
+    "is_default",
+    "laws",
+    "left",
+    "matches_eq",
+    "matches_partial_cmp",
+    "may_issue",
+    "may_leave",
+    "next_gives",
+    "output",
+    "partial_cmp",
+    "remaining",
+    "right",
+    "shared_of",
+    "spent",
+    "then",
+    "total",
+    "view",
+    "world_of",
+];
+
+/// The words that begin a clause of a contract. A clause with a star is one too.
+pub const CLAUSES: &[&str] = &["requires", "ensures"];
+
+/// Traits of which each `impl` is ghost as a whole.
+pub const GHOST_TRAITS: &[&str] = &["Model"];
+
+/// A type that isn't `Drop` has to be used up. Rust knows no such types, so the name goes, from
+/// derives and from bounds.
+pub const DROP: &str = "Drop";
+
+/// Attributes that speak to the prover.
+pub const GHOST_ATTRIBUTES: &[&str] = &["tactic", "cycle"];
+
+/// Attributes that stay as they are.
+pub const KEPT_ATTRIBUTES: &[&str] = &[
+    "cfg(test)",
+    "cold",
+    "inline",
+    "inline(always)",
+    "inline(never)",
+    "must_use",
+    "test",
+];
+
+/// Derives that stay. `Clone` does only beside `Copy`: else it may fail where Rust's may not.
+pub const KEPT_DERIVES: &[&str] = &[
+    "Clone",
+    "Copy",
+    "Debug",
+    "Default",
+    "Eq",
+    "Hash",
+    "Ord",
+    "PartialEq",
+    "PartialOrd",
+];
+
+/// The derive that is written out: `Display` by the messages of `#[error("..")]`, and `Error`.
+pub const ERROR_DERIVE: &str = "Error";
+
+/// Traits of std of which an `impl` says in Rust what it says in the kit. The traits of the sources are
+/// known too.
+pub const KEPT_TRAITS: &[&str] = &[
+    "Default",
+    "Display",
+    "Error",
+    "ExactSizeIterator",
+    "From",
+    "Iterator",
+    "Join",
+    "Ord",
+    "Eq",
+    "PartialEq",
+    "PartialOrd",
+    "Play",
+    "Split",
+    "TableRule",
+];
+
+/// A module of the kit's std, or a crate of the kit's.
+pub struct Module {
+    /// Its path in the sources.
+    pub path: &'static str,
+    /// Its path in the results: in Rust's `core` or `alloc`, or in the package's kit.
+    pub to: &'static str,
+    /// The names in it that are known. Their contracts are those of what the path leads to.
+    pub names: &'static [&'static str],
+    /// The names in it that are ghost, so that their imports go.
+    pub ghost: &'static [&'static str],
+}
+
+/// A name that has to be imported, and what is imported.
+pub struct Import {
+    /// The name.
+    pub name: &'static str,
+    /// Its path in the results.
+    pub path: &'static str,
+}
+
+/// A method that the kit hands more than Rust does. A trait has it by another name.
+pub struct Renamed {
+    /// Its name in the sources.
+    pub from: &'static str,
+    /// How its arguments may begin, each as tokens. A quote stands for any text.
+    pub arguments: &'static [&'static [&'static str]],
+    /// Its name in the result.
+    pub to: &'static str,
+    /// The path of the trait.
+    pub import: &'static str,
+}
+
+/// A type or a module of std, and what may be called by a path that begins with it.
+pub type Associated = (&'static str, &'static [&'static str]);
+
+/// Names that are known together.
+pub struct Forms {
+    /// Modules. Of two with one path the later one counts.
+    pub modules: &'static [Module],
+    /// Names of the kit's prelude that Rust's has otherwise or not at all.
+    pub prelude: &'static [Import],
+    /// Macros that Rust has otherwise or not at all.
+    pub macros: &'static [Import],
+    /// Macros that are Rust's.
+    pub kept_macros: &'static [&'static str],
+    /// Methods that are renamed.
+    pub renamed: &'static [Renamed],
+    /// Methods of std and of the kit's crates that are in Rust, or in the package's kit, as in the kit
+    /// of the proofs. The methods of the sources themselves are known too.
+    pub methods: &'static [&'static str],
+    /// What may be called by a path.
+    pub associated: &'static [Associated],
+    /// The type that a test is handed as `rt`. Rust hands a test nothing, so it makes one.
+    pub runtime: Option<&'static str>,
+}
+
+/// A module that leads to this path, without ghost names.
+pub const fn module(
+    path: &'static str,
+    to: &'static str,
+    names: &'static [&'static str],
+) -> Module {
+    Module {
+        path,
+        to,
+        names,
+        ghost: &[],
+    }
+}
+
+/// What the crates of the package may use.
+pub static PACKAGE: Forms = Forms {
+    modules: MODULES,
+    prelude: &[Import {
+        name: "Vec",
+        path: "crate::kit::vec::Vec",
+    }],
+    macros: &[Import {
+        name: "prove_eq",
+        path: "crate::kit::prove_eq",
+    }],
+    kept_macros: &["matches", "unreachable", "write"],
+    renamed: &[Renamed {
+        from: "collect",
+        arguments: &[&["alloc"]],
+        to: "collect_in",
+        import: "crate::kit::vec::CollectIn",
+    }],
+    methods: METHODS,
+    associated: ASSOCIATED,
+    runtime: None,
+};
+
+const MODULES: &[Module] = &[
+    module("atomic_table", "crate::kit::atomic_table", TABLE),
+    module("either", "crate::kit::either", &["Either", "Left", "Right"]),
+    module("itoa", "crate::kit::itoa", &["Buffer"]),
+    module("smallvec", "crate::kit::smallvec", &["SmallVec"]),
+    module(
+        "std::alloc",
+        "crate::kit::alloc",
+        &["AllocError", "AllocFailed", "Global"],
+    ),
+    module("std::cmp", "core::cmp", &["Ordering", "Reverse"]),
+    module("std::collections", "alloc::collections", &["LinkedList"]),
+    module("std::error", "core::error", &["Error"]),
+    module(
+        "std::fmt",
+        "core::fmt",
+        &["Debug", "Display", "Formatter", "Result", "Write"],
+    ),
+    Module {
+        path: "std::marker",
+        to: "core::marker",
+        names: &["PhantomData"],
+        ghost: GHOST_TRAITS,
+    },
+    module("std::mem", "core::mem", &["replace", "swap"]),
+    module("std::sync", "crate::kit::sync", &["Arc"]),
+    module(
+        "std::thread",
+        "crate::kit::thread",
+        &["Threads", "for_each_mut"],
+    ),
+    Module {
+        path: "thiserror",
+        to: "",
+        names: &[],
+        ghost: &[ERROR_DERIVE],
+    },
+];
+
+const TABLE: &[&str] = &[
+    "Badge",
+    "Join",
+    "Play",
+    "Seat",
+    "Split",
+    "Table",
+    "TableRule",
+];
+
+const METHODS: &[&str] = &[
+    "all",
+    "and_then",
+    "any",
+    "as_bytes",
+    "as_chunks",
+    "as_ref",
+    "as_slice",
+    "binary_search",
+    "binary_search_by_key",
+    "capacity",
+    "cast_signed",
+    "cast_unsigned",
+    "checked_add",
+    "checked_sub",
+    "clear",
+    "close_with",
+    "cmp",
+    "contains",
+    "count",
+    "enumerate",
+    "extend_from_slice",
+    "fetch_add",
+    "fetch_sub",
+    "filter",
+    "find",
+    "first",
+    "format",
+    "free",
+    "get",
+    "get_mut",
+    "insert",
+    "into",
+    "into_badge",
+    "into_iter",
+    "into_seat",
+    "is_ascii_digit",
+    "is_empty",
+    "is_err",
+    "is_none",
+    "is_ok",
+    "is_some",
+    "iter",
+    "iter_mut",
+    "join_seat",
+    "last",
+    "len",
+    "load_new_seat",
+    "map",
+    "map_err",
+    "max",
+    "min",
+    "next",
+    "ok",
+    "ok_or",
+    "parse",
+    "pop",
+    "position",
+    "push",
+    "push_reserved",
+    "remove",
+    "reserve",
+    "resize",
+    "retain",
+    "rev",
+    "saturating_add",
+    "saturating_mul",
+    "saturating_sub",
+    "size_hint",
+    "sort_by_key",
+    "sort_unstable",
+    "split_at",
+    "split_first",
+    "split_first_chunk",
+    "split_last",
+    "split_seat",
+    "swap_remove",
+    "take",
+    "then",
+    "to_le_bytes",
+    "truncate",
+    "unwrap",
+    "word",
+    "write_str",
+    "zip",
+];
+
+const ASSOCIATED: &[Associated] = &[
+    ("Arc", &["new", "ptr_eq", "try_clone", "try_unwrap"]),
+    ("Table", &["of_words"]),
+    ("Badge", &["blank"]),
+    ("Buffer", &["new"]),
+    ("SmallVec", &["new"]),
+    ("Vec", &["new", "with_capacity"]),
+    ("str", &["from_utf8"]),
+    ("i64", &["MAX", "MIN", "from"]),
+    ("u8", &["MAX", "from"]),
+    ("u16", &["MAX", "from", "from_le_bytes", "try_from"]),
+    ("u32", &["MAX", "from", "from_le_bytes", "try_from"]),
+    ("u64", &["MAX", "from", "from_le_bytes", "try_from"]),
+    ("usize", &["MAX", "from", "try_from"]),
+];
+
+/// Names that the kit's prelude has and that a source may use only where they are known.
+pub const REFUSED_NAMES: &[&str] = &["AllocGlobal", "Box", "HostRuntime", "Rc", "String"];
+
+/// Words of Rust that the sources don't use, and of which the eraser knows no form.
+pub const REFUSED_WORDS: &[&str] = &[
+    "async",
+    "await",
+    "extern",
+    "macro_rules",
+    "static",
+    "union",
+    "unsafe",
+    "yield",
+];
+
+/// Words after which a block may stand at the beginning of a statement.
+pub const BLOCK_WORDS: &[&str] = &["const", "else", "loop", "move"];

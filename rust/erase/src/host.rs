@@ -1,0 +1,114 @@
+//! What the repository's own tests may use beside the forms of the package: the runtime that the kit
+//! hands a test, and the calls that take it. `rust/erased_tests` has them below `crate::host`.
+
+use crate::forms::{module, Associated, Forms, Import, Module, Renamed};
+
+/// The names.
+pub static HOST: Forms = Forms {
+    modules: MODULES,
+    prelude: &[
+        import("AllocGlobal", "crate::host::rt::AllocGlobal"),
+        import("HostRuntime", "crate::host::rt::HostRuntime"),
+        import("String", "crate::host::string::String"),
+    ],
+    macros: &[
+        import("assert", "crate::host::assert"),
+        import("assert_eq", "crate::host::assert_eq"),
+        import("format", "crate::host::format"),
+        import("panic", "crate::host::panic"),
+        import("vec", "crate::host::vec"),
+    ],
+    kept_macros: &["writeln"],
+    renamed: RENAMED,
+    methods: METHODS,
+    associated: ASSOCIATED,
+    runtime: Some("HostRuntime"),
+};
+
+const fn import(name: &'static str, path: &'static str) -> Import {
+    Import { name, path }
+}
+
+const MODULES: &[Module] = &[
+    module("itoa", "crate::host::itoa", &["Buffer", "Integer"]),
+    module(
+        "std::collections",
+        "crate::host::collections",
+        &["BTreeMap", "HashMap"],
+    ),
+    module("std::fs", "crate::host::fs", &["read_to_string"]),
+    module("std::process", "crate::host::rt", &["Abort"]),
+    module("std::rt", "crate::host::rt", &["Files"]),
+    module(
+        "std::sync::atomic",
+        "core::sync::atomic",
+        &["AtomicBool", "AtomicU32", "AtomicU64", "Ordering"],
+    ),
+    module("std::test", "crate::host::test", &["Fail"]),
+    module(
+        "std::thread",
+        "crate::host::thread",
+        &["Threads", "join_mut", "map_vec", "yield_now"],
+    ),
+];
+
+const RENAMED: &[Renamed] = &[
+    Renamed {
+        from: "expect",
+        arguments: &[&["rt", ","], &["&", "rt", ","]],
+        to: "expect_in",
+        import: "crate::host::rt::ExpectIn",
+    },
+    Renamed {
+        from: "ok_or",
+        arguments: &[&["\""]],
+        to: "ok_or_text",
+        import: "crate::host::test::OkOrText",
+    },
+    Renamed {
+        from: "to_string",
+        arguments: &[&["alloc", ")"]],
+        to: "to_string_in",
+        import: "crate::host::string::ToStringIn",
+    },
+    Renamed {
+        from: "to_vec",
+        arguments: &[&["alloc", ")"]],
+        to: "to_kit_vec",
+        import: "crate::host::slice::ToKitVec",
+    },
+];
+
+const METHODS: &[&str] = &[
+    "alloc",
+    "as_str",
+    "bytes",
+    "checked_rem",
+    "copied",
+    "eq",
+    "err",
+    "load",
+    "map_or",
+    "nth",
+    "skip",
+    "skip_while",
+    "sort",
+    "split_whitespace",
+    "step_by",
+    "store",
+    "unwrap_or",
+    "wrapping_add",
+    "wrapping_mul",
+    "write_text",
+];
+
+const ASSOCIATED: &[Associated] = &[
+    ("AtomicBool", &["new"]),
+    ("AtomicU32", &["new"]),
+    ("BTreeMap", &["new"]),
+    ("Fail", &["new"]),
+    ("HashMap", &["new"]),
+    ("Ordering", &["Equal", "Greater", "Less", "SeqCst"]),
+    ("String", &["new", "with_capacity"]),
+    ("Vec", &["from_array", "from_slice", "new", "with_capacity"]),
+];

@@ -1,0 +1,280 @@
+//! Items: what stands in a file, in an `impl` block and in a trait.
+
+use crate::forms;
+use crate::source::Fault;
+use crate::walk::{Next, Walk};
+
+/// Where an item stands.
+#[derive(Clone, Copy, Debug, PartialEq, Eq)]
+pub(crate) enum Scope {
+    /// In a file.
+    File,
+    /// In a module within a file.
+    Module,
+    /// In an `impl` block.
+    Impl,
+    /// In a trait.
+    Trait,
+}
+
+impl Walk<'_> {
+    /// The items from this place of the code up to, not including, `end`.
+    pub(crate) fn items(&mut self, at: usize, end: usize, scope: Scope) -> Result<(), Fault> {
+        let mut at = at;
+        while at < end {
+            at = self.item(at, scope)?;
+        }
+        Ok(())
+    }
+
+    fn item(&mut self, start: usize, scope: Scope) -> Next {
+        if self.source.has(start, &["#", "!"]) {
+            let end = self.after_attribute(start)?;
+            self.attribute(start, end, false)?;
+            return Ok(end);
+        }
+        let mut at = start;
+        while self.source.at(at) == "#" {
+            at = self.after_attribute(at)?;
+        }
+        let visible = at;
+        if self.source.at(at) == "pub" {
+            at = self.after_visibility(at)?;
+        }
+        if let Some(end) = self.ghost_item(at, scope)? {
+            self.cut_item(start, end)?;
+            return Ok(end);
+        }
+        let derives_error = self.attributes(start, visible)?;
+        self.visibility(visible, scope)?;
+        let end = match self.source.at(at) {
+            "use" => return self.use_item(start, at, scope),
+            "mod" => self.module(at)?,
+            "const" if self.source.at(at + 1) == "fn" => {
+                self.function(start, visible, at + 1, scope)?
+            }
+            "const" | "type" => self.declaration(at)?,
+            "fn" => self.function(start, visible, at, scope)?,
+            "struct" | "enum" => self.type_item(start, at, derives_error)?,
+            "trait" => self.block_item(at, Scope::Trait)?,
+            "impl" => self.block_item(at, Scope::Impl)?,
+            other => return Err(self.source.fault(at, format!("an unknown item: `{other}`"))),
+        };
+        if scope == Scope::File {
+            let begin = self.begin_of_item(start)?;
+            self.first_item.get_or_insert(begin);
+        }
+        Ok(end)
+    }
+
+    /// The place after the item that stands here, after its attributes, if it is ghost.
+    fn ghost_item(&self, at: usize, scope: Scope) -> Result<Option<usize>, Fault> {
+        match self.source.at(at) {
+            "ghost" => self.ghost(at, scope).map(Some),
+            "impl" => {
+                let body = self.body_of(at)?;
+                let of = self.trait_of(at, body)?;
+                let is_ghost = of.is_some_and(|name| forms::GHOST_TRAITS.contains(&name));
+                Ok(is_ghost.then(|| self.source.partner(body) + 1))
+            }
+            _ => Ok(None),
+        }
+    }
+
+    /// A ghost import or a ghost member.
+    fn ghost(&self, at: usize, scope: Scope) -> Next {
+        let name = self.source.at(at + 1);
+        if name == "use" {
+            return self.after_ghost_use(at + 2);
+        }
+        let unknown = || {
+            self.source
+                .fault(at, format!("an unknown ghost form: `ghost {name}`"))
+        };
+        let is_member = matches!(scope, Scope::Impl | Scope::Trait);
+        if !is_member || !forms::GHOST_MEMBERS.contains(&name) {
+            return Err(unknown());
+        }
+        let mut at = at + 2;
+        if scope == Scope::Trait && self.source.has(at, &[":", "{"]) {
+            at = self.source.partner(at + 1) + 1;
+            if self.source.at(at) == ";" {
+                return Ok(at + 1);
+            }
+        }
+        if self.source.has(at, &["=", "{"]) {
+            return self.expect(self.source.partner(at + 1) + 1, ";");
+        }
+        Err(unknown())
+    }
+
+    /// `ghost use PATH.{NAMES};` or `ghost use PATH as NAME;`.
+    fn after_ghost_use(&self, at: usize) -> Next {
+        let end = self.source.find(at, self.source.len(), &[";"]);
+        let end = end.ok_or_else(|| self.source.fault(at, "`;` is missing"))?;
+        let is_path = |at: usize| self.source.is_word(at) || self.source.at(at) == ".";
+        let names = (at..end).find(|at| !is_path(*at)).unwrap_or(end);
+        let is_known =
+            names == end || self.source.has(names, &["{"]) && self.source.partner(names) + 1 == end;
+        if is_known {
+            return Ok(end + 1);
+        }
+        Err(self.source.fault(names, "an unknown form of `ghost use`"))
+    }
+
+    /// The place of the `{` that begins the block of the item here.
+    fn body_of(&self, at: usize) -> Next {
+        let body = self.source.find(at, self.source.len(), &["{", ";"]);
+        match body {
+            Some(body) if self.source.at(body) == "{" => Ok(body),
+            _ => Err(self.source.fault(at, "a block is missing")),
+        }
+    }
+
+    /// The last name of the trait that an `impl` is of, if it is of one.
+    fn trait_of(&self, at: usize, body: usize) -> Result<Option<&str>, Fault> {
+        let mut next = at + 1;
+        let mut last = None;
+        while next < body {
+            match self.source.at(next) {
+                "<" => {
+                    next = self.after_angles(next)?;
+                    continue;
+                }
+                "for" => return Ok(last),
+                "where" => return Ok(None),
+                word if self.source.is_word(next) => last = Some(word),
+                _ => {}
+            }
+            next += 1;
+        }
+        Ok(None)
+    }
+
+    /// A module of a file of its own, or within this file.
+    fn module(&mut self, at: usize) -> Next {
+        if self.source.at(at + 2) == ";" {
+            return Ok(at + 3);
+        }
+        let body = self.expect(at + 2, "{")? - 1;
+        let end = self.source.partner(body);
+        self.items(body + 1, end, Scope::Module)?;
+        Ok(end + 1)
+    }
+
+    /// A constant or another name of a type.
+    fn declaration(&mut self, at: usize) -> Next {
+        let end = self.source.find(at, self.source.len(), &[";"]);
+        let end = end.ok_or_else(|| self.source.fault(at, "`;` is missing"))?;
+        self.code(at + 1, end)?;
+        Ok(end + 1)
+    }
+
+    /// A trait, or an `impl` of one or of a type.
+    fn block_item(&mut self, at: usize, scope: Scope) -> Next {
+        let body = self.body_of(at)?;
+        if scope == Scope::Impl {
+            if let Some(name) = self.trait_of(at, body)? {
+                let is_known =
+                    forms::KEPT_TRAITS.contains(&name) || self.names.traits.contains(name);
+                if !is_known {
+                    let what = format!("an impl of an unknown trait: `{name}`");
+                    return Err(self.source.fault(at, what));
+                }
+            }
+        }
+        self.code(at + 1, body)?;
+        let end = self.source.partner(body);
+        self.items(body + 1, end, scope)?;
+        Ok(end + 1)
+    }
+
+    /// A struct or an enum.
+    fn type_item(&mut self, start: usize, at: usize, derives_error: bool) -> Next {
+        let is_enum = self.source.at(at) == "enum";
+        let body = self.source.find(at, self.source.len(), &["{", "(", ";"]);
+        let body = body.ok_or_else(|| self.source.fault(at, "a body is missing"))?;
+        self.code(at + 1, body)?;
+        let close = self.source.partner(body);
+        let end = match self.source.at(body) {
+            "{" if is_enum => {
+                self.variants(body + 1, close, derives_error)?;
+                close + 1
+            }
+            "{" => {
+                self.fields(body + 1, close)?;
+                close + 1
+            }
+            "(" => {
+                self.fields(body + 1, close)?;
+                self.expect(close + 1, ";")?
+            }
+            _ => body + 1,
+        };
+        if derives_error {
+            let text = self.error_impls(start, at, body, end)?;
+            self.insert_after(end - 1, text);
+        }
+        Ok(end)
+    }
+
+    /// Fields, with names or without.
+    fn fields(&mut self, at: usize, end: usize) -> Result<(), Fault> {
+        let mut at = at;
+        while at < end {
+            let comma = self.source.find(at, end, &[","]).unwrap_or(end);
+            let start = at;
+            while self.source.at(at) == "#" {
+                at = self.after_attribute(at)?;
+            }
+            let visible = at;
+            if self.source.at(at) == "pub" {
+                at = self.after_visibility(at)?;
+            }
+            if self.source.at(at) == "ghost" {
+                self.ghost_field(at, comma)?;
+                self.cut_item(start, (comma + 1).min(end))?;
+            } else {
+                self.attributes(start, visible)?;
+                self.visibility(visible, Scope::File)?;
+                self.code(at, comma)?;
+            }
+            at = comma + 1;
+        }
+        Ok(())
+    }
+
+    /// `ghost NAME: { .. }` or `ghost NAME: { .. } by { .. }`, up to the comma.
+    fn ghost_field(&self, at: usize, comma: usize) -> Result<(), Fault> {
+        let unknown = || self.source.fault(at, "an unknown form of a ghost field");
+        if !self.source.is_word(at + 1) || !self.source.has(at + 2, &[":", "{"]) {
+            return Err(unknown());
+        }
+        let mut next = self.source.partner(at + 3) + 1;
+        if self.source.has(next, &["by", "{"]) {
+            next = self.source.partner(next + 1) + 1;
+        }
+        if next == comma {
+            return Ok(());
+        }
+        Err(unknown())
+    }
+
+    fn variants(&mut self, at: usize, end: usize, derives_error: bool) -> Result<(), Fault> {
+        let mut at = at;
+        while at < end {
+            let start = at;
+            while self.source.at(at) == "#" {
+                at = self.after_attribute(at)?;
+            }
+            self.variant_attributes(start, at, derives_error)?;
+            let comma = self.source.find(at, end, &[","]).unwrap_or(end);
+            match self.source.at(at + 1) {
+                "{" | "(" => self.fields(at + 2, self.source.partner(at + 1))?,
+                _ => self.code(at + 1, comma)?,
+            }
+            at = comma + 1;
+        }
+        Ok(())
+    }
+}

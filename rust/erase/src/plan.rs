@@ -1,0 +1,157 @@
+//! What is erased, and where the results go.
+
+use crate::audit::audit;
+use crate::clauses::shown;
+use crate::crates::{add_names, below, read, Crate, File};
+use crate::erase;
+use crate::forms::PACKAGE;
+use crate::host::HOST;
+use crate::source::{Fault, Source};
+use crate::walk::Names;
+use std::collections::BTreeMap;
+use std::error::Error;
+use std::fs;
+use std::path::{Path, PathBuf};
+
+/// The crates that the package's face calls. They are erased with all that they stand on.
+const TOPS: &[&str] = &["ent_runner"];
+
+/// The tests of those crates, and what tests alone use.
+const TESTS: &[&str] = &[
+    "ent_alloc_tests",
+    "ent_claims_tests",
+    "ent_handle_tests",
+    "ent_queue_tests",
+    "ent_replay_tests",
+    "ent_runner_tests",
+    "ent_shared_tests",
+    "ent_storage_tests",
+    "ent_world_tests",
+];
+
+/// A folder of results in the repository. Nothing else stands in it.
+pub struct Target {
+    /// The folder.
+    pub folder: &'static str,
+    /// Its path in the package that it is of.
+    path: &'static str,
+    /// The head of the file that has the crates as modules.
+    head: &'static str,
+}
+
+/// The results of the package.
+pub static PROVED: Target = Target {
+    folder: "rust/forgeni/src/proved",
+    path: "crate::proved",
+    head: "\
+//! The proved crates of this repository as plain Rust, each a module.
+//!
+//! `rust/erase` makes all files here of the sources below `crates/`. What is ghost is taken out, and the
+//! clauses of each contract stay below its signature as comments. None of these files is edited by
+//! hand: the gate makes them anew and compares.
+//!
+//! The proofs are of the sources, before that.
+
+// What a clause alone reads isn't used here, and the package doesn't call all that is proved. How the
+// sources are written is up to them.
+#![allow(dead_code, unused_imports, unused_variables, clippy::all)]
+",
+};
+
+/// The results of the tests.
+pub static TESTED: Target = Target {
+    folder: "rust/erased_tests/src/made",
+    path: "crate::made",
+    head: "\
+//! The repository's own tests of the proved crates as plain Rust, each crate a module.
+//!
+//! `rust/erase --tests` makes all files here.
+#![allow(dead_code, unused_imports, unused_variables, clippy::all)]
+",
+};
+
+/// The texts of the files that are to be, by their paths in the repository.
+pub type Files = BTreeMap<PathBuf, String>;
+
+/// Erases the crates of the package. The repository is the folder of `crates.txt`.
+///
+/// # Errors
+///
+/// A file can't be read, a source has an unknown form, a result isn't its source, or the face shows
+/// clauses that aren't there.
+pub fn package(repository: &Path) -> Result<Files, Box<dyn Error>> {
+    let crates = crates_below(repository, TOPS)?;
+    let mut names = Names {
+        forms: vec![&PACKAGE],
+        ..Names::default()
+    };
+    add_names(&mut names, &crates, PROVED.path)?;
+    let mut files = erased(&crates, &PROVED, &names)?;
+    let clauses = shown(repository, Path::new(PROVED.folder), &files)?;
+    files.extend(clauses);
+    Ok(files)
+}
+
+/// Erases the tests of those crates.
+///
+/// # Errors
+///
+/// As of [`package`].
+pub fn tests(repository: &Path) -> Result<Files, Box<dyn Error>> {
+    let crates = crates_below(repository, TOPS)?;
+    let mut tests = crates_below(repository, TESTS)?;
+    tests.retain(|test| crates.iter().all(|krate| krate.name != test.name));
+    let mut names = Names {
+        forms: vec![&PACKAGE, &HOST],
+        ..Names::default()
+    };
+    add_names(&mut names, &crates, PROVED.path)?;
+    add_names(&mut names, &tests, TESTED.path)?;
+    erased(&tests, &TESTED, &names)
+}
+
+/// These crates and all of the repository's that they stand on.
+fn crates_below(repository: &Path, tops: &[&str]) -> Result<Vec<Crate>, Box<dyn Error>> {
+    let listed = fs::read_to_string(repository.join("crates.txt"))?;
+    let tops: Vec<String> = tops.iter().map(|top| (*top).to_owned()).collect();
+    let names = below(&listed, &tops)?;
+    let crates = names.iter().map(|name| read(repository, name));
+    Ok(crates.collect::<Result<_, _>>()?)
+}
+
+/// The results of the crates, each audited, and the file that has them as modules.
+fn erased(crates: &[Crate], target: &Target, names: &Names) -> Result<Files, Box<dyn Error>> {
+    let folder = Path::new(target.folder);
+    let mut files = Files::new();
+    let mut faults = Vec::new();
+    for krate in crates {
+        for file in &krate.files {
+            let path = folder.join(&krate.name).join(&file.result);
+            match audited(krate, file, &path, names) {
+                Ok(text) => drop(files.insert(path, text)),
+                Err(fault) => faults.push(fault.to_string()),
+            }
+        }
+    }
+    if !faults.is_empty() {
+        return Err(faults.join("\n").into());
+    }
+    let mut modules: Vec<&str> = crates.iter().map(|it| it.name.as_str()).collect();
+    modules.sort_unstable();
+    let modules: String = modules
+        .iter()
+        .map(|name| format!("pub mod {name};\n"))
+        .collect();
+    files.insert(folder.join("mod.rs"), format!("{}\n{modules}", target.head));
+    Ok(files)
+}
+
+/// The result of a source, after its audit.
+fn audited(krate: &Crate, file: &File, path: &Path, names: &Names) -> Result<String, Fault> {
+    let source = Source::read(&file.path, &file.text)?;
+    let text = erase(&source, &krate.name, names)?;
+    let path = path.display().to_string();
+    let result = Source::read(&path, &text)?;
+    audit(&source, &result, &krate.name, names)?;
+    Ok(text)
+}

@@ -1,0 +1,150 @@
+//! Results that are not their source. The audit finds each.
+
+mod common;
+use common::{audited, erased};
+use erase::lex::{tokens, Kind};
+
+/// A source with most forms.
+const SOURCE: &str = "\
+//! Of a file.
+ghost use A.b.{◌≡◌};
+
+use crate::c::D;
+use ent_other::E;
+use std::alloc::Global;
+use std::fmt;
+use std::marker::Model;
+use thiserror::Error;
+
+/// Of F.
+#[derive(Drop, Debug, Error)]
+pub(crate) enum F {
+    /// Of G.
+    #[error(\"{h} of f\")]
+    G { h: u8 },
+    #[error(\"no i\")]
+    I,
+}
+
+/// Of its model.
+impl Model for F {
+    ghost view = { λ f. f };
+}
+
+impl<T: Drop + Copy> From<T> for F {
+    ghost from_gives = { j };
+
+    /// Of k.
+    fn from(k: T) -> Self
+        // Of l.
+        requires l { k ≡ m }
+
+        ensures { result ≡ n
+            k }
+    {
+        // Of o.
+        let p: Vec<u8> = k.iter().collect(alloc);
+        F::I
+    }
+}
+
+impl fmt::Display for E {
+    fn fmt<W: fmt::Write>(&self, f: &mut fmt::Formatter<W>) -> fmt::Result {
+        write!(f, \"e\")
+    }
+}
+";
+
+fn result() -> String {
+    erased(SOURCE).expect("known forms")
+}
+
+#[test]
+fn the_result_of_the_eraser_is_its_source() {
+    assert_eq!(audited(SOURCE, &result()), Ok(()));
+}
+
+/// The result with each of its tokens changed by `change`, which says what stands in its place.
+fn each_token(change: impl Fn(&str) -> String) -> Vec<(String, String)> {
+    let result = result();
+    let head = result.find('\n').expect("a first line");
+    let tokens = tokens(&result).expect("tokens");
+    let real = tokens
+        .iter()
+        .filter(|token| token.kind != Kind::Blank && token.from > head);
+    real.map(|token| {
+        let old = &result[token.from..token.to];
+        let new = format!(
+            "{}{}{}",
+            &result[..token.from],
+            change(old),
+            &result[token.to..]
+        );
+        (old.to_owned(), new)
+    })
+    .collect()
+}
+
+#[test]
+fn no_token_may_be_missing() {
+    for (token, other) in each_token(|_| String::new()) {
+        // An empty line in place of a comma is all the same to Rust.
+        assert!(
+            audited(SOURCE, &other).is_err(),
+            "without `{token}`:\n{other}"
+        );
+    }
+}
+
+#[test]
+fn no_token_may_stand_twice() {
+    for (token, other) in each_token(|token| format!("{token}\n{token}")) {
+        assert!(
+            audited(SOURCE, &other).is_err(),
+            "`{token}` twice:\n{other}"
+        );
+    }
+}
+
+#[test]
+fn no_token_may_be_another_one() {
+    for (token, other) in each_token(|token| match token.strip_prefix("//") {
+        Some(rest) => format!("// x {rest}"),
+        None => "x".to_owned(),
+    }) {
+        assert!(
+            audited(SOURCE, &other).is_err(),
+            "another one than `{token}`:\n{other}"
+        );
+    }
+}
+
+#[test]
+fn no_code_may_go_into_a_comment() {
+    for (token, other) in each_token(|token| format!("// {token}\n")) {
+        let is_same = token.starts_with("//");
+        assert!(
+            is_same || audited(SOURCE, &other).is_err(),
+            "`{token}` in a comment:\n{other}"
+        );
+    }
+}
+
+#[test]
+fn messages_may_not_be_exchanged() {
+    let other = result().replace("write!(f, \"no i\")", "write!(f, \"{h} of f\")");
+    assert!(audited(SOURCE, &other).is_err());
+}
+
+#[test]
+fn clauses_may_not_be_lost() {
+    let lines = result();
+    for line in lines
+        .lines()
+        .filter(|line| line.trim_start().starts_with("//"))
+        .skip(1)
+    {
+        let other = lines.replace(&format!("{line}\n"), "");
+        assert!(audited(SOURCE, &other).is_err(), "without {line}");
+    }
+}

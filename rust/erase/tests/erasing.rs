@@ -1,0 +1,284 @@
+//! Each form in a small source, with the result that is wanted.
+
+mod common;
+use common::erased;
+
+/// The result of the source has to be this one, after its first line.
+#[track_caller]
+fn gives(source: &str, wanted: &str) {
+    let result = erased(source).expect("known forms");
+    let head = "// Made of crates/ent_here/src/here.rt by rust/erase. It isn't edited by hand.\n\n";
+    assert_eq!(result.strip_prefix(head), Some(wanted));
+}
+
+/// The source has nothing that is ghost, so it stays as it is.
+#[track_caller]
+fn stays(source: &str) {
+    gives(source, source);
+}
+
+#[test]
+fn ghost_imports() {
+    gives(
+        "//! What it is.\nghost use A.b.{◌≡◌, [], c as d};\nghost use A.e as f;\n\nuse super::g;\n",
+        "//! What it is.\n\nuse super::g;\n",
+    );
+    gives(
+        "ghost use A.b.{◌≡◌};\n\nconst A: u8 = 1;\n",
+        "const A: u8 = 1;\n",
+    );
+    gives(
+        "impl A {\n    ghost use B.{c};\n\n    /// Why.\n    const D: u8 = 1;\n}\n",
+        "impl A {\n    /// Why.\n    const D: u8 = 1;\n}\n",
+    );
+}
+
+#[test]
+fn ghost_members() {
+    gives(
+        "impl From<B> for A {\n    /// Ghost.\n    // Too.\n    ghost from_gives = { λ _ a. a ≡ { b } };\n\n    \
+         fn from(b: B) -> Self {\n        A\n    }\n}\n",
+        "impl From<B> for A {\n    #[inline]\n    fn from(b: B) -> Self {\n        A\n    }\n}\n",
+    );
+    gives(
+        "impl Join<V> for A {\n    ghost both = { b };\n\n    ghost spent = { [] };\n}\n",
+        "impl Join<V> for A {}\n",
+    );
+    gives(
+        "trait A {\n    ghost may_issue: { Self → Type 0 };\n    ghost may_leave: { A } = { λ _. b };\n\n    \
+         type B;\n}\n",
+        "trait A {\n    type B;\n}\n",
+    );
+}
+
+#[test]
+fn ghost_fields() {
+    gives(
+        "struct A {\n    a: u8,\n    /// Ghost.\n    pub ghost in_range: { a ≤ 100 },\n    ghost b: { B } by { c },\n}\n",
+        "struct A {\n    a: u8,\n}\n",
+    );
+}
+
+#[test]
+fn models() {
+    gives(
+        "use std::marker::Model;\n\nstruct A<'a>(&'a u8);\n\n/// Of A.\nimpl<'a> Model for A<'a> {\n    \
+         ghost use B.{c};\n\n    ghost view = { λ a. record { b = a.0 } };\n}\n\nimpl A<'_> {}\n",
+        "struct A<'a>(&'a u8);\n\nimpl A<'_> {}\n",
+    );
+}
+
+#[test]
+fn imports_of_which_a_part_is_ghost() {
+    gives(
+        "use std::marker::{Model, PhantomData};\n\nstruct A<B>(PhantomData<B>);\n",
+        "use core::marker::PhantomData;\n\nstruct A<B>(PhantomData<B>);\n",
+    );
+}
+
+#[test]
+fn clauses_become_comments() {
+    gives(
+        "fn a(b: u8) -> Option<u8>\n    requires b { b ≡ { 1 } }\n    // Why.\n    ensures { IfSome result\n        \
+         (λ c. c) }\n\n    ensures* d { e ∗ f }\n{\n    None\n}\n",
+        "#[inline]\nfn a(b: u8) -> Option<u8>\n    // requires b { b ≡ { 1 } }\n    // Why.\n    \
+         // ensures { IfSome result\n    //     (λ c. c) }\n\n    // ensures* d { e ∗ f }\n{\n    None\n}\n",
+    );
+}
+
+#[test]
+fn clauses_after_bounds() {
+    gives(
+        "pub fn a<R>(b: &R)\nwhere\n    R: Clone,\n    requires { c }\n{\n}\n",
+        "#[inline]\npub fn a<R>(b: &R)\nwhere\n    R: Clone,\n    // requires { c }\n{\n}\n",
+    );
+}
+
+#[test]
+fn clauses_in_the_signature_s_line() {
+    gives(
+        "impl A {\n    fn a() requires { b } {\n        c()\n    }\n}\n",
+        "impl A {\n    #[inline]\n    fn a()\n    // requires { b }\n    {\n        c()\n    }\n}\n",
+    );
+}
+
+#[test]
+fn a_method_without_a_body_ends_above_its_clauses() {
+    gives(
+        "trait A {\n    /// Why.\n    fn a(&self) -> u8\n        requires { b }\n        ensures { c };\n\n    \
+         fn d(&self);\n}\n",
+        "trait A {\n    /// Why.\n    fn a(&self) -> u8;\n        // requires { b }\n        // ensures { c }\n\n    \
+         fn d(&self);\n}\n",
+    );
+}
+
+#[test]
+fn clauses_of_closures() {
+    gives(
+        "fn a() {\n    b(\n        &mut |c: &u8| -> u8\n            requires { d }\n            ensures e { f }\n        \
+         { *c },\n    );\n}\n",
+        "#[inline]\nfn a() {\n    b(\n        &mut |c: &u8| -> u8\n            // requires { d }\n            \
+         // ensures e { f }\n        { *c },\n    );\n}\n",
+    );
+}
+
+#[test]
+fn attributes_for_the_prover() {
+    gives(
+        "//! A.\n#![tactic(auto)]\n\nmod b;\n\n/// C.\n#[tactic(auto, using(crate::d::e))]\nfn c() {\n    \
+         #[tactic(none)]\n    let f = 1;\n}\n\n#[cycle(g)]\nfn h() {}\n",
+        "//! A.\n\nmod b;\n\n/// C.\n#[inline]\nfn c() {\n    let f = 1;\n}\n\n#[inline]\nfn h() {}\n",
+    );
+}
+
+#[test]
+fn drop_in_derives() {
+    gives(
+        "/// A.\n#[derive(Drop)]\nstruct A;\n",
+        "/// A.\nstruct A;\n",
+    );
+    gives(
+        "#[derive(Drop, Debug)]\nstruct A;\n",
+        "#[derive(Debug)]\nstruct A;\n",
+    );
+    stays("#[derive(Clone, Copy, Debug, Default, PartialEq, Eq, Hash)]\nstruct A;\n");
+}
+
+#[test]
+fn drop_in_bounds() {
+    gives("impl<T: Drop> A<T> {}\n", "impl<T> A<T> {}\n");
+    gives("impl<T: Drop + Copy> A<T> {}\n", "impl<T: Copy> A<T> {}\n");
+    gives(
+        "impl<T: Copy + Drop, U> A<T> {}\n",
+        "impl<T: Copy, U> A<T> {}\n",
+    );
+    gives(
+        "struct A<T: B + Drop + C>(T);\n",
+        "struct A<T: B + C>(T);\n",
+    );
+}
+
+#[test]
+fn paths() {
+    gives(
+        "use crate::a::B;\nuse ent_here::{C, d};\nuse ent_other::E;\nuse std::alloc::{AllocError, Global};\n\
+         use std::cmp::Ordering;\nuse std::fmt;\nuse thiserror::Error;\npub use either::{Either, Left};\n\n\
+         type F = Result<ent_other::E, std::cmp::Ordering>;\ntype G = crate::a::H<fmt::Result>;\n",
+        "use crate::proved::ent_here::a::B;\nuse crate::proved::ent_here::{C, d};\n\
+         use crate::proved::ent_other::E;\nuse crate::kit::alloc::{AllocError, Global};\n\
+         use core::cmp::Ordering;\nuse core::fmt;\npub use crate::kit::either::{Either, Left};\n\n\
+         type F = Result<crate::proved::ent_other::E, core::cmp::Ordering>;\n\
+         type G = crate::proved::ent_here::a::H<fmt::Result>;\n",
+    );
+}
+
+#[test]
+fn links_of_docs() {
+    gives(
+        "/// [`A`](crate::A), [`B`](ent_other::B), [`C`] of `crate::C`.\nstruct D;\n",
+        "/// [`A`](crate::proved::ent_here::A), [`B`](crate::proved::ent_other::B), [`C`] of `crate::C`.\nstruct D;\n",
+    );
+}
+
+#[test]
+fn what_the_crate_alone_sees() {
+    gives(
+        "pub(crate) struct A {\n    pub(crate) b: u8,\n    pub c: u8,\n}\n\npub(crate) fn d() {}\n",
+        "pub(super) struct A {\n    pub(super) b: u8,\n    pub c: u8,\n}\n\n#[inline]\npub(super) fn d() {}\n",
+    );
+}
+
+#[test]
+fn names_of_the_kit_are_imported() {
+    gives(
+        "//! A.\n\nuse super::b;\n\nfn c(d: Vec<u8>) -> Vec<u8> {\n    prove_eq!(1, 1);\n    \
+         d.iter().collect(alloc)\n}\n",
+        "//! A.\n\nuse crate::kit::prove_eq;\nuse crate::kit::vec::CollectIn;\nuse crate::kit::vec::Vec;\n\
+         use super::b;\n\n#[inline]\nfn c(d: Vec<u8>) -> Vec<u8> {\n    prove_eq!(1, 1);\n    \
+         d.iter().collect_in(alloc)\n}\n",
+    );
+    gives(
+        "ghost use A.{b};\n\n/// C.\n#[derive(Drop)]\nstruct C(Vec<u8>);\n",
+        "use crate::kit::vec::Vec;\n\n/// C.\nstruct C(Vec<u8>);\n",
+    );
+}
+
+#[test]
+fn what_is_inlined() {
+    gives("fn a() {}\n", "#[inline]\nfn a() {}\n");
+    gives("pub const fn a() {}\n", "#[inline]\npub const fn a() {}\n");
+    for attribute in ["inline", "inline(never)", "inline(always)", "cold", "test"] {
+        stays(&format!("/// A.\n#[{attribute}]\nfn a() {{}}\n"));
+    }
+    stays("type A = fn(u8) -> u8;\n");
+    stays("trait A {\n    fn a();\n    fn b() {}\n}\n");
+}
+
+#[test]
+fn the_kit_s_fmt() {
+    gives(
+        "use std::fmt;\n\nimpl fmt::Display for A {\n    ghost output = { λ a. b };\n\n    \
+         fn fmt<W: fmt::Write>(&self, f: &mut fmt::Formatter<W>) -> fmt::Result {\n        \
+         write!(f, \"{} {{\", 1)\n    }\n}\n",
+        "use core::fmt;\n\nimpl fmt::Display for A {\n    #[inline]\n    \
+         fn fmt(&self, f: &mut fmt::Formatter<'_>) -> fmt::Result {\n        \
+         write!(f, \"{} {{\", 1)\n    }\n}\n",
+    );
+}
+
+#[test]
+fn messages_of_an_enum() {
+    gives(
+        "use thiserror::Error;\n\n/// A.\n#[derive(Debug, Error)]\npub enum A {\n    /// B.\n    \
+         #[error(\"no b\")]\n    B,\n    #[error(\"{c} of {d:?}\")]\n    C { c: u8, d: E },\n    \
+         #[error(\"{c}\")]\n    F {\n        /// C.\n        c: u8,\n        d: Vec<u8>,\n    },\n    \
+         #[error(\"{{g}}\")]\n    G(u8),\n}\n\nstruct H;\n",
+        "use crate::kit::vec::Vec;\n\n/// A.\n#[derive(Debug)]\npub enum A {\n    /// B.\n    B,\n    \
+         C { c: u8, d: E },\n    F {\n        /// C.\n        c: u8,\n        d: Vec<u8>,\n    },\n    G(u8),\n}\n\n\
+         impl core::fmt::Display for A {\n    \
+         fn fmt(&self, f: &mut core::fmt::Formatter<'_>) -> core::fmt::Result {\n        match self {\n            \
+         A::B => write!(f, \"no b\"),\n            A::C { c, d } => write!(f, \"{c} of {d:?}\"),\n            \
+         A::F { c, .. } => write!(f, \"{c}\"),\n            A::G(..) => write!(f, \"{{g}}\"),\n        }\n    }\n}\n\n\
+         impl core::error::Error for A {}\n\nstruct H;\n",
+    );
+}
+
+#[test]
+fn messages_of_a_struct() {
+    gives(
+        "#[derive(Clone, Copy, Error)]\n#[error(\"no a\")]\nstruct A;\n",
+        "#[derive(Clone, Copy)]\nstruct A;\n\nimpl core::fmt::Display for A {\n    \
+         fn fmt(&self, f: &mut core::fmt::Formatter<'_>) -> core::fmt::Result {\n        \
+         write!(f, \"no a\")\n    }\n}\n\nimpl core::error::Error for A {}\n",
+    );
+    gives(
+        "#[derive(Error)]\n#[error(\"{b} and {a}\")]\nstruct A {\n    pub a: u8,\n    b: u8,\n    c: u8,\n}\n",
+        "struct A {\n    pub a: u8,\n    b: u8,\n    c: u8,\n}\n\nimpl core::fmt::Display for A {\n    \
+         fn fmt(&self, f: &mut core::fmt::Formatter<'_>) -> core::fmt::Result {\n        \
+         let A { b, a, .. } = self;\n        write!(f, \"{b} and {a}\")\n    }\n}\n\nimpl core::error::Error for A {}\n",
+    );
+}
+
+#[test]
+fn what_only_looks_ghost_stays() {
+    stays(
+        "/// It requires { x } and ensures { y }; `ghost use`.\nconst A: &str = \"ghost use B; requires { }\";\n\n\
+         /* ghost a = { b }; */\nconst C: [char; 2] = ['{', '\\''];\n\n// #[tactic(auto)]\nconst D: &[u8] = b\"}\";\n\
+         const E: &str = r#\"\"ensures { \"#;\nconst F: char = '\"';\n",
+    );
+}
+
+#[test]
+fn types_and_ranges_of_slices() {
+    stays("type A = [u8; 2];\n\n#[inline]\nfn b() -> ([u8; 2], &[u8]) {\n    c.get(1..)\n}\n");
+}
+
+#[test]
+fn code_stays_as_it_is_laid_out() {
+    stays(
+        "use super::a;\n\n\n/// B.\n#[inline]\npub fn b<'a, T>(c: &'a [T], d: impl Fn(u8) -> u8) -> Option<&'a T>\n\
+         where\n    T: Ord + 'a,\n{\n    // Why.\n    let [first, others @ ..] = c else {\n        return None;\n    };\n    \
+         if first < &c[1]  && others[..1] > c[1..] { return Some(first); }\n    for _ in 0..=9 { loop { break; } }\n    \
+         match a::e(x.0.1) {\n        F::G { h, .. } | F::H(h, ..) => Some(h),\n        _ => unreachable!(),\n    }\n}\n",
+    );
+}

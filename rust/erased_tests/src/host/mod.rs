@@ -1,0 +1,48 @@
+//! What the kit hands a test, for tests in plain Rust: the runtime, and the calls that take it.
+
+pub mod collections;
+pub mod fs;
+pub mod itoa;
+pub mod rt;
+pub mod slice;
+pub mod string;
+pub mod test;
+pub mod thread;
+
+/// `assert!` that is handed the runtime. So are the ones below.
+macro_rules! assert {
+    ($rt:expr; $($part:tt)*) => {
+        ::std::assert!($($part)*)
+    };
+}
+pub(crate) use assert;
+
+macro_rules! assert_eq {
+    ($rt:expr; $($part:tt)*) => {
+        ::std::assert_eq!($($part)*)
+    };
+}
+pub(crate) use assert_eq;
+
+macro_rules! panic {
+    ($rt:expr; $($part:tt)*) => {
+        ::std::panic!($($part)*)
+    };
+}
+pub(crate) use panic;
+
+/// `format!` that is handed the right to allocate.
+macro_rules! format {
+    (in $alloc:expr; $($part:tt)*) => {
+        $crate::host::string::String::of($alloc, ::std::format!($($part)*))
+    };
+}
+pub(crate) use format;
+
+/// A list of copies of a value.
+macro_rules! vec {
+    (in $alloc:expr; $value:expr; $count:expr) => {
+        $crate::host::slice::copies($alloc, $value, $count)
+    };
+}
+pub(crate) use vec;

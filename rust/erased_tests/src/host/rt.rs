@@ -1,0 +1,62 @@
+//! The runtime that a test is handed.
+
+use crate::kit::alloc::Global;
+use crate::kit::thread::Threads;
+
+/// The right to end the process.
+pub trait Abort {}
+
+/// The right to read files.
+pub trait Files {}
+
+/// The right to allocate.
+pub trait AllocGlobal {
+    fn alloc(&self) -> Global {
+        Global
+    }
+}
+
+/// All of these rights, and that to start threads.
+#[derive(Clone, Copy, Debug, Default)]
+pub struct HostRuntime;
+
+impl Abort for HostRuntime {}
+
+impl AllocGlobal for HostRuntime {}
+
+impl Files for HostRuntime {}
+
+impl Threads for HostRuntime {}
+
+impl<R: Abort> Abort for &R {}
+
+impl HostRuntime {
+    pub fn alloc(&self) -> Global {
+        Global
+    }
+}
+
+/// `expect` that is handed the right to end the process.
+pub trait ExpectIn {
+    type Item;
+
+    fn expect_in(self, rt: impl Abort, text: &str) -> Self::Item;
+}
+
+impl<T> ExpectIn for Option<T> {
+    type Item = T;
+
+    #[track_caller]
+    fn expect_in(self, _rt: impl Abort, text: &str) -> T {
+        self.expect(text)
+    }
+}
+
+impl<T, E> ExpectIn for Result<T, E> {
+    type Item = T;
+
+    #[track_caller]
+    fn expect_in(self, _rt: impl Abort, text: &str) -> T {
+        self.ok().expect(text)
+    }
+}

@@ -1,0 +1,55 @@
+//! The kit's `String`: each call that may grow it returns a `Result`.
+
+use crate::kit::alloc::{AllocError, Global};
+use std::fmt;
+use std::ops::Deref;
+
+/// A text.
+#[derive(PartialEq, Eq, PartialOrd, Ord, Hash)]
+pub struct String(std::string::String);
+
+impl String {
+    pub fn with_capacity(_alloc: Global, count: usize) -> Result<Self, AllocError> {
+        let mut text = std::string::String::new();
+        text.try_reserve(count)?;
+        Ok(String(text))
+    }
+
+    pub fn of(_alloc: Global, text: std::string::String) -> Result<Self, AllocError> {
+        Ok(String(text))
+    }
+
+    /// What `write!` calls.
+    pub fn write_fmt(&mut self, what: fmt::Arguments<'_>) -> Result<(), AllocError> {
+        fmt::Write::write_fmt(&mut self.0, what).map_err(|_| AllocError)
+    }
+
+    pub fn as_str(&self) -> &str {
+        &self.0
+    }
+}
+
+impl Deref for String {
+    type Target = str;
+
+    fn deref(&self) -> &str {
+        &self.0
+    }
+}
+
+impl fmt::Debug for String {
+    fn fmt(&self, f: &mut fmt::Formatter<'_>) -> fmt::Result {
+        self.0.fmt(f)
+    }
+}
+
+/// `to_string` that is handed the right to allocate.
+pub trait ToStringIn {
+    fn to_string_in(&self, alloc: Global) -> Result<String, AllocError>;
+}
+
+impl<D: fmt::Display> ToStringIn for D {
+    fn to_string_in(&self, alloc: Global) -> Result<String, AllocError> {
+        String::of(alloc, self.to_string())
+    }
+}

@@ -1,0 +1,16 @@
+//! The repository's own tests of its proved crates, on their sources in plain Rust.
+//!
+//! The crates and their kit are those of the package, by path. `rust/erase --tests` makes the tests.
+#![cfg(test)]
+
+extern crate alloc;
+
+mod host;
+#[path = "../../forgeni/src/kit/mod.rs"]
+mod kit;
+#[rustfmt::skip]
+mod made;
+#[rustfmt::skip]
+#[path = "../../forgeni/src/proved/mod.rs"]
+mod proved;
+mod side_by_side;

@@ -1,0 +1,10 @@
+//! One of two types, as the crate `either` has it.
+
+pub use Either::{Left, Right};
+
+/// A value of the one type or of the other.
+#[derive(Clone, Copy, Debug, PartialEq, Eq, Hash)]
+pub enum Either<L, R> {
+    Left(L),
+    Right(R),
+}

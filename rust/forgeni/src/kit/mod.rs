@@ -1,0 +1,32 @@
+//! What the proved sources use of their kit's std and crates, for plain Rust.
+//!
+//! The sources below [`proved`](crate::proved) were proved against contracts of the kit: its `Vec`
+//! whose growth can fail, its atomic words, its threads. Here stand types of the same names over
+//! Rust's own `core` and `alloc`, without `unsafe`. Nothing here is proved. So each item says which
+//! contract it has to keep, and its tests go to the edges of it.
+//!
+//! There is no dependency in place of these lines. For the atomic word, the failing `Vec` and the
+//! small vector without `unsafe` no crate has these calls, so there would be a wrapper all the same.
+//! `itoa` and `either` would serve, but what the sources use of them is 20 lines and 5, and a
+//! package without dependencies is built offline and audited by reading it.
+
+pub mod alloc;
+pub mod atomic_table;
+pub mod either;
+pub mod itoa;
+#[cfg(test)]
+mod refusing;
+pub mod smallvec;
+mod sorting;
+pub mod sync;
+pub mod thread;
+pub mod vec;
+
+/// Two values of which the kit has proved that they are equal. Where debug assertions are on, it is
+/// tested.
+macro_rules! prove_eq {
+    ($($part:tt)*) => {
+        debug_assert_eq!($($part)*)
+    };
+}
+pub(crate) use prove_eq;

@@ -1,0 +1,411 @@
+//! The kit's `Vec`: each call that may grow it returns a `Result`.
+
+use super::alloc::{AllocError, AllocFailed, Global};
+use super::sorting::merge_sort;
+use core::fmt;
+use core::ops::{Deref, DerefMut};
+use core::slice;
+
+/// A list whose growth may be refused. It is Rust's, and is made of it and turned into it for nothing.
+///
+/// The contract of each call that returns an `Err`: the items and the capacity are as before, and it
+/// never comes if there was room already. The capacity never shrinks.
+#[derive(PartialEq, Eq, PartialOrd, Ord, Hash)]
+pub struct Vec<T>(::alloc::vec::Vec<T>);
+
+impl<T> Vec<T> {
+    /// The contract: no items, and no room. It takes no memory.
+    #[inline]
+    pub const fn new(_alloc: Global) -> Self {
+        Vec(::alloc::vec::Vec::new())
+    }
+
+    /// The contract: no items, and room for that many, of which none is too much. It succeeds if
+    /// `count` is 0.
+    #[inline]
+    pub fn with_capacity(alloc: Global, count: usize) -> Result<Self, AllocError> {
+        let mut list = Vec::new(alloc);
+        if count > 0 {
+            allow_growth()?;
+            list.0.try_reserve_exact(count)?;
+        }
+        Ok(list)
+    }
+
+    #[inline]
+    pub fn capacity(&self) -> usize {
+        self.0.capacity()
+    }
+
+    #[inline]
+    pub fn as_slice(&self) -> &[T] {
+        &self.0
+    }
+
+    /// The contract: after an `Ok` there is room for that many more.
+    #[inline]
+    pub fn reserve(&mut self, additional: usize) -> Result<(), AllocError> {
+        if additional <= self.0.capacity() - self.0.len() {
+            return Ok(());
+        }
+        self.grow(additional)
+    }
+
+    /// It is apart, so that where there is room only the test stands.
+    #[cold]
+    #[inline(never)]
+    fn grow(&mut self, additional: usize) -> Result<(), AllocError> {
+        allow_growth()?;
+        Ok(self.0.try_reserve(additional)?)
+    }
+
+    /// The contract: the value stands at the end, or comes back.
+    #[inline]
+    pub fn push(&mut self, value: T) -> Result<(), AllocFailed<T>> {
+        if self.reserve(1).is_err() {
+            return Err(AllocFailed { value });
+        }
+        self.0.push(value);
+        Ok(())
+    }
+
+    /// The contract: there is room, and the value stands at the end. Who calls it has asked for room.
+    #[inline]
+    pub fn push_reserved(&mut self, value: T) {
+        debug_assert!(self.0.len() < self.0.capacity(), "no room was asked for");
+        self.0.push(value);
+    }
+
+    /// The contract: the value stands at `at`, which is at most the length, and the later items after
+    /// it; or it comes back.
+    #[inline]
+    pub fn insert(&mut self, at: usize, value: T) -> Result<(), AllocFailed<T>> {
+        if self.reserve(1).is_err() {
+            return Err(AllocFailed { value });
+        }
+        self.0.insert(at, value);
+        Ok(())
+    }
+
+    /// The contract: copies of the items stand at the end, in their order.
+    #[inline]
+    pub fn extend_from_slice(&mut self, items: &[T]) -> Result<(), AllocError>
+    where
+        T: Copy,
+    {
+        self.reserve(items.len())?;
+        self.0.extend_from_slice(items);
+        Ok(())
+    }
+
+    /// The contract: the length is `count`. Items beyond it are gone, or those that were missing are
+    /// the value.
+    #[inline]
+    pub fn resize(&mut self, count: usize, value: T) -> Result<(), AllocError>
+    where
+        T: Copy,
+    {
+        self.reserve(count.saturating_sub(self.len()))?;
+        self.0.resize(count, value);
+        Ok(())
+    }
+
+    /// The contract: the last item is taken, if there is one.
+    #[inline]
+    pub fn pop(&mut self) -> Option<T> {
+        self.0.pop()
+    }
+
+    /// The contract: the first `count` items stay, or all if there are fewer.
+    #[inline]
+    pub fn truncate(&mut self, count: usize) {
+        self.0.truncate(count);
+    }
+
+    /// The contract: no item stays, and the room does.
+    #[inline]
+    pub fn clear(&mut self) {
+        self.0.clear();
+    }
+
+    /// The contract: the item at `at`, which is below the length, is taken, and the last one stands
+    /// there.
+    #[inline]
+    pub fn swap_remove(&mut self, at: usize) -> T {
+        self.0.swap_remove(at)
+    }
+
+    /// The contract: the item at `at`, which is below the length, is taken, and the later ones move
+    /// down.
+    #[inline]
+    pub fn remove(&mut self, at: usize) -> T {
+        self.0.remove(at)
+    }
+
+    /// The contract: the items of which `keeps` says so stay, in their order.
+    #[inline]
+    pub fn retain(&mut self, keeps: impl FnMut(&T) -> bool) {
+        self.0.retain(keeps);
+    }
+
+    /// The contract: the items rise by their keys, and those of one key keep their order. All memory
+    /// is asked for before an item moves, and none for 20 items or fewer. `sort_by_key` of Rust's
+    /// slices ends the program instead.
+    pub fn sort_by_key<K: Ord>(&mut self, key: impl Fn(&T) -> K) -> Result<(), AllocError>
+    where
+        T: Copy,
+    {
+        merge_sort(&mut self.0, &key)
+    }
+}
+
+/// What the repository's own tests call, and the package doesn't.
+#[cfg(test)]
+impl<T> Vec<T> {
+    /// The contract: the items of the array.
+    pub fn from_array<const N: usize>(alloc: Global, items: [T; N]) -> Result<Self, AllocError> {
+        let mut list = Vec::with_capacity(alloc, N)?;
+        list.0.extend(items);
+        Ok(list)
+    }
+
+    /// The contract: copies of the items.
+    pub fn from_slice(alloc: Global, items: &[T]) -> Result<Self, AllocError>
+    where
+        T: Copy,
+    {
+        let mut list = Vec::with_capacity(alloc, items.len())?;
+        list.extend_from_slice(items)?;
+        Ok(list)
+    }
+
+    /// The contract: the items rise, and equal ones keep their order.
+    pub fn sort(&mut self) -> Result<(), AllocError>
+    where
+        T: Ord + Copy,
+    {
+        self.sort_by_key(|item| *item)
+    }
+}
+
+/// In tests, whether a growth is to be refused now. Else it is up to the allocator alone.
+#[inline]
+fn allow_growth() -> Result<(), AllocError> {
+    #[cfg(test)]
+    super::refusing::ask()?;
+    Ok(())
+}
+
+impl<T> From<::alloc::vec::Vec<T>> for Vec<T> {
+    #[inline]
+    fn from(list: ::alloc::vec::Vec<T>) -> Self {
+        Vec(list)
+    }
+}
+
+impl<T> From<Vec<T>> for ::alloc::vec::Vec<T> {
+    #[inline]
+    fn from(list: Vec<T>) -> Self {
+        list.0
+    }
+}
+
+impl<T: fmt::Debug> fmt::Debug for Vec<T> {
+    fn fmt(&self, f: &mut fmt::Formatter<'_>) -> fmt::Result {
+        self.0.fmt(f)
+    }
+}
+
+impl<T> Deref for Vec<T> {
+    type Target = [T];
+
+    #[inline]
+    fn deref(&self) -> &[T] {
+        &self.0
+    }
+}
+
+impl<T> DerefMut for Vec<T> {
+    #[inline]
+    fn deref_mut(&mut self) -> &mut [T] {
+        &mut self.0
+    }
+}
+
+impl<T> IntoIterator for Vec<T> {
+    type Item = T;
+    type IntoIter = ::alloc::vec::IntoIter<T>;
+
+    #[inline]
+    fn into_iter(self) -> Self::IntoIter {
+        self.0.into_iter()
+    }
+}
+
+impl<'a, T> IntoIterator for &'a Vec<T> {
+    type Item = &'a T;
+    type IntoIter = slice::Iter<'a, T>;
+
+    #[inline]
+    fn into_iter(self) -> Self::IntoIter {
+        self.0.iter()
+    }
+}
+
+impl<'a, T> IntoIterator for &'a mut Vec<T> {
+    type Item = &'a mut T;
+    type IntoIter = slice::IterMut<'a, T>;
+
+    #[inline]
+    fn into_iter(self) -> Self::IntoIter {
+        self.0.iter_mut()
+    }
+}
+
+/// The kit's `collect`, which is handed the right to allocate.
+pub trait CollectIn: Iterator + Sized {
+    /// The contract: all that the iterator yields, in its order. What it says of its length is asked
+    /// for at once.
+    #[inline]
+    fn collect_in(self, alloc: Global) -> Result<Vec<Self::Item>, AllocError> {
+        let mut list = Vec::with_capacity(alloc, self.size_hint().0)?;
+        for item in self {
+            list.push(item)?;
+        }
+        Ok(list)
+    }
+}
+
+impl<I: Iterator> CollectIn for I {}
+
+#[cfg(test)]
+mod tests {
+    use super::super::refusing::refuse;
+    use super::*;
+
+    fn list(items: &[u32]) -> Vec<u32> {
+        Vec::from(items.to_vec())
+    }
+
+    #[test]
+    fn new_has_no_room_and_room_for_none_is_never_refused() {
+        assert_eq!(Vec::<u32>::new(Global).capacity(), 0);
+        let list = refuse(|| Vec::<u32>::with_capacity(Global, 0)).expect("nothing is asked for");
+        assert_eq!((list.len(), list.capacity()), (0, 0));
+    }
+
+    #[test]
+    fn capacity_is_what_was_asked_for() {
+        for count in [1, 3, 1000] {
+            let list = Vec::<u64>::with_capacity(Global, count).expect("memory");
+            assert_eq!((list.len(), list.capacity()), (0, count));
+        }
+    }
+
+    #[test]
+    fn more_than_there_can_be_is_refused() {
+        assert_eq!(
+            Vec::<u32>::with_capacity(Global, usize::MAX),
+            Err(AllocError)
+        );
+        let mut three = list(&[1, 2, 3]);
+        let capacity = three.capacity();
+        assert_eq!(three.reserve(usize::MAX), Err(AllocError));
+        assert_eq!((&three[..], three.capacity()), (&[1, 2, 3][..], capacity));
+    }
+
+    #[test]
+    fn push_at_capacity_grows_or_gives_the_value_back() {
+        let mut list = Vec::with_capacity(Global, 2).expect("memory");
+        list.push_reserved(1);
+        refuse(|| list.push(2)).expect("there is room");
+        assert_eq!(refuse(|| list.push(3)), Err(AllocFailed { value: 3 }));
+        assert_eq!((&list[..], list.capacity()), (&[1, 2][..], 2));
+        list.push(3).expect("memory");
+        assert_eq!(&list[..], &[1, 2, 3]);
+    }
+
+    #[test]
+    #[should_panic(expected = "no room was asked for")]
+    #[cfg(debug_assertions)]
+    fn push_reserved_without_room_is_found_out() {
+        Vec::new(Global).push_reserved(1);
+    }
+
+    #[test]
+    fn insert_at_both_ends() {
+        let mut list = Vec::with_capacity(Global, 1).expect("memory");
+        refuse(|| list.insert(0, 2)).expect("there is room");
+        assert_eq!(refuse(|| list.insert(1, 3)), Err(AllocFailed { value: 3 }));
+        assert_eq!(&list[..], &[2]);
+        list.insert(1, 3).expect("memory");
+        list.insert(0, 1).expect("memory");
+        assert_eq!(&list[..], &[1, 2, 3]);
+    }
+
+    #[test]
+    fn extending_by_nothing_asks_for_nothing() {
+        let mut list = list(&[1]);
+        refuse(|| list.extend_from_slice(&[])).expect("nothing is asked for");
+        let more = std::vec![2; list.capacity()];
+        assert_eq!(refuse(|| list.extend_from_slice(&more)), Err(AllocError));
+        assert_eq!(&list[..], &[1]);
+        list.extend_from_slice(&[2, 3]).expect("memory");
+        assert_eq!(&list[..], &[1, 2, 3]);
+    }
+
+    #[test]
+    fn resize_shrinks_and_grows() {
+        let mut list = list(&[1, 2, 3]);
+        refuse(|| list.resize(1, 9)).expect("it shrinks");
+        assert_eq!(&list[..], &[1]);
+        let beyond = list.capacity() + 1;
+        assert_eq!(refuse(|| list.resize(beyond, 9)), Err(AllocError));
+        list.resize(3, 9).expect("memory");
+        assert_eq!(&list[..], &[1, 9, 9]);
+        list.resize(0, 9).expect("it shrinks");
+        assert_eq!(&list[..], &[0; 0]);
+    }
+
+    #[test]
+    fn taking_items() {
+        let mut list = list(&[1, 2, 3, 4, 5]);
+        assert_eq!(list.swap_remove(0), 1);
+        assert_eq!(list.swap_remove(3), 4);
+        assert_eq!(list.remove(0), 5);
+        assert_eq!(&list[..], &[2, 3]);
+        assert_eq!(
+            (list.pop(), list.pop(), list.pop()),
+            (Some(3), Some(2), None)
+        );
+    }
+
+    #[test]
+    fn what_shrinks_a_list_keeps_its_room() {
+        let mut list = list(&[1, 2, 3, 4]);
+        let capacity = list.capacity();
+        list.retain(|item| item % 2 == 0);
+        assert_eq!(&list[..], &[2, 4]);
+        list.truncate(3);
+        assert_eq!(&list[..], &[2, 4]);
+        list.truncate(1);
+        assert_eq!(&list[..], &[2]);
+        list.clear();
+        assert_eq!((list.len(), list.capacity()), (0, capacity));
+    }
+
+    #[test]
+    fn collecting_keeps_the_order_and_asks_first() {
+        let numbers = || 0..100;
+        assert_eq!(refuse(|| numbers().collect_in(Global)), Err(AllocError));
+        let list = numbers().collect_in(Global).expect("memory");
+        assert!(numbers().eq(list));
+        let odd = numbers()
+            .filter(|n| n % 2 == 1)
+            .collect_in(Global)
+            .expect("memory");
+        assert_eq!((odd.len(), odd[0], odd[49]), (50, 1, 99));
+        let none = refuse(|| (0..0).collect_in(Global)).expect("nothing is asked for");
+        assert!(none.is_empty());
+    }
+}

@@ -1,0 +1,13 @@
+//! Lists of the proved code as lists of this package.
+
+use crate::handle::Handle;
+use crate::kit::vec::Vec as List;
+use crate::proved::ent_handle;
+use alloc::vec::Vec;
+
+/// The handles of a list, in its memory: the two kinds of handles have one layout, so `collect` asks
+/// for none.
+pub(crate) fn all_handles(list: List<ent_handle::Handle>) -> Vec<Handle> {
+    let list: Vec<ent_handle::Handle> = list.into();
+    list.into_iter().map(Handle::of).collect()
+}

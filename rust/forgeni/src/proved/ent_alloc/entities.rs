@@ -1,0 +1,282 @@
+// Made of crates/ent_alloc/src/entities.rt by rust/erase. It isn't edited by hand.
+
+use crate::kit::vec::Vec;
+use crate::proved::ent_alloc::fault::{AllocFault, FreeFault, Freed};
+use crate::proved::ent_alloc::limits::Limits;
+use crate::proved::ent_alloc::requests::Requests;
+use crate::proved::ent_alloc::slot_record::Occupancy;
+use crate::proved::ent_alloc::slots::Slots;
+use crate::proved::ent_alloc::state::State;
+use crate::proved::ent_handle::{Handle, Memory};
+use crate::kit::alloc::Global;
+
+/// Gives out the handles of entities and knows which are alive, as Bevy's `Entities` does.
+///
+/// Contracts see it as a state of the sequential allocator (`specs/Sequential`): the living
+/// handles, the pool of those that can be given, those that are reserved, and those that a refused
+/// request passed over. Beside it they see the rows that a program keeps with living handles
+/// (`specs/Entities`).
+pub struct Entities {
+    pub(super) slots: Slots,
+    pub(super) requests: Requests,
+}
+
+impl Entities {
+    /// An allocator with no entities. It takes no memory, whatever the limits are.
+    #[inline]
+    pub fn new(alloc: Global, limits: Limits) -> Self
+        // ensures allocator { result.allocator ≡ opening limits }
+        // ensures rows { result.rows ≡ map.empty }
+        // ensures rows_of_living { HasRowsOfLiving result }
+    {
+        Entities {
+            slots: Slots::new(alloc, limits),
+            requests: Requests::none(),
+        }
+    }
+
+    /// How many entities are alive.
+    #[inline]
+    pub fn len(&self) -> u32
+        // ensures { result ≡ set.len self.now.allocator.live }
+    {
+        self.slots.live()
+    }
+
+    /// Whether no entity is alive.
+    #[inline]
+    pub fn is_empty(&self) -> bool
+        // ensures { IsTrue result ↔ (set.len self.now.allocator.live ≡ 0) }
+    {
+        self.len() == 0
+    }
+
+    /// How many slots were made: each has or had an occupant. A retired slot counts for good.
+    #[inline]
+    pub fn total(&self) -> u32
+        // ensures { result ≡ self.now.allocator.made }
+    {
+        self.slots.made()
+    }
+
+    /// How many slots can still be made.
+    #[inline]
+    pub fn room(&self) -> u32
+        // ensures { result ≡ self.now.allocator.limits.slots - self.now.allocator.made }
+    {
+        self.slots.limits().slots() - self.slots.made()
+    }
+
+    /// How many old slots waited for their next occupant at the last `flush`, `alloc` or `free`.
+    /// Requests don't change it.
+    #[inline]
+    pub fn top(&self) -> u32
+        // ensures { result ≡ top self.now.allocator }
+    {
+        self.slots.waiting()
+    }
+
+    /// How many slots are retired: they were made, and give no handle any more. It takes constant
+    /// time.
+    #[inline]
+    pub fn retired(&self) -> u32
+        // ensures value { result ≡ retired self.now.allocator }
+
+        // Each slot that was made has a living occupant, waits for the next one, or is retired.
+        // ensures rest { set.len self.now.allocator.live + top self.now.allocator + result
+        //     ≡ self.now.allocator.made }
+    {
+        self.total() - self.slots.live() - self.slots.waiting()
+    }
+
+    /// The number that each request lowers by its count. It is `top` if nothing was requested since
+    /// the last flush; below 0 it counts fresh slots.
+    #[inline]
+    pub fn cursor(&self) -> i64
+        // ensures value { result ≡ cursor self.now.allocator }
+
+        // What is true of every state, as that no slot has two handles among the living and those
+        // to be given.
+        // ensures sound { IsSound self.now.allocator }
+    {
+        self.slots.top() - self.asked() as i64
+    }
+
+    /// How many handles were requested since the last flush, at most 2^50.
+    #[inline]
+    pub fn asked(&self) -> u64
+        // ensures value { result ≡ self.now.allocator.asked }
+        // ensures within { result ≤ 2 ^ 50 }
+    {
+        self.requests.asked
+    }
+
+    /// Whether any handle was requested since the last flush.
+    #[inline]
+    pub fn needs_flush(&self) -> bool
+        // ensures { IsTrue result ↔ (0 < self.now.allocator.asked) }
+    {
+        self.asked() > 0
+    }
+
+    /// How many handles the next flush brings to life.
+    #[inline]
+    pub fn reserved(&self) -> u32
+        // ensures { result ≡ length self.now.allocator.taken }
+    {
+        self.requests.served
+    }
+
+    /// Gives a handle that is alive at once: the next one of the slot that was freed last, or the
+    /// first one of a new slot if none waits.
+    ///
+    /// # Errors
+    ///
+    /// Nothing changes. `NeedsFlush` if handles were requested since the last flush, even if the
+    /// request was refused. `Space` if every slot has a living occupant or is retired. `Memory`
+    /// only if no old slot waits.
+    #[inline]
+    pub fn alloc(&mut self) -> Result<Handle, AllocFault>
+        // ensures front { IfOk result (λ h. slice_get self.old.allocator.pool 0 ≡ Some h) }
+        // ensures ok { IfOk result (λ h. self.new.allocator ≡ after_alloc self.old.allocator h) }
+        // ensures rows { self.new.rows ≡ self.old.rows }
+        // ensures no_row { IfOk result (λ h. map.get self.new.rows h ≡ None) }
+        // ensures rows_of_living { HasRowsOfLiving self.new }
+        // ensures needs_flush { IsErrOf result AllocFault.NeedsFlush
+        //     ↔ (0 < self.old.allocator.asked) }
+        // ensures space { IsErrOf result AllocFault.Space
+        //     ↔ ((self.old.allocator.asked ≡ 0) × (self.old.allocator.pool ≡ [])) }
+        // ensures memory { IsErrOf result AllocFault.Memory → top self.old.allocator ≡ 0 }
+        // ensures err { OnErr result (self.new ≡ self.old) }
+    {
+        if self.needs_flush() {
+            Err(AllocFault::NeedsFlush)
+        } else if let Some(handle) = self.slots.reuse_last() {
+            Ok(handle)
+        } else if self.room() > 0 {
+            Ok(self.slots.make_one()?)
+        } else {
+            Err(AllocFault::Space)
+        }
+    }
+
+    /// Takes a living entity out. Its slot is the first to be given again, with the next
+    /// generation.
+    ///
+    /// After the last generation the slot is retired: it is never given again, and `Freed::next` is
+    /// `None`. So no handle is ever given twice. Bevy begins anew there and warns of it.
+    ///
+    /// # Errors
+    ///
+    /// Nothing changes. `NeedsFlush` if handles were requested since the last flush, even if the
+    /// request was refused; then `NotAlive`; then `Memory`, which never comes if the slot is
+    /// retired.
+    #[inline]
+    pub fn free(&mut self, handle: Handle) -> Result<Freed, FreeFault>
+        // ensures ok { OnOk result (self.new.allocator ≡ after_free self.old.allocator handle) }
+        // ensures row { OnOk result (self.new.rows ≡ map.remove self.old.rows handle) }
+        // ensures rows_of_living { HasRowsOfLiving self.new }
+        // ensures next { IfOk result (λ freed. freed.next ≡ next self.old.allocator.limits handle) }
+        // ensures lived { OnOk result (set.contains self.old.allocator.live handle ≡ true) }
+        // ensures needs_flush { IsErrOf result FreeFault.NeedsFlush
+        //     ↔ (0 < self.old.allocator.asked) }
+        // ensures not_alive { IsErrOf result FreeFault.NotAlive
+        //     ↔ ((self.old.allocator.asked ≡ 0)
+        //     × (set.contains self.old.allocator.live handle ≡ false)) }
+
+        // The slot of a handle of the last generation is retired, which takes no memory.
+        // ensures memory { IsErrOf result FreeFault.Memory
+        //     → handle.generation ≢ self.old.allocator.limits.generations }
+        // ensures err { OnErr result (self.new ≡ self.old) }
+    {
+        if self.needs_flush() {
+            return Err(FreeFault::NeedsFlush);
+        }
+        if !self.slots.is_alive(handle) {
+            return Err(FreeFault::NotAlive);
+        }
+        if handle.generation() == self.slots.limits().generations() {
+            self.slots.retire(handle);
+            return Ok(Freed { next: None });
+        }
+        let next = self.slots.release(handle)?;
+        Ok(Freed { next: Some(next) })
+    }
+
+    /// Brings to life what is reserved, and appends it to `out`: first the fresh handles, then the
+    /// old ones. What a refused request passed over can be given again. If nothing is reserved
+    /// it appends nothing.
+    ///
+    /// # Errors
+    ///
+    /// `Memory`, and then nothing has changed, neither here nor in `out`. All room is asked for
+    /// before the first handle is listed. It never comes if `out` has room for `reserved` more
+    /// handles and all of them are of old slots.
+    #[inline]
+    pub fn flush(&mut self, out: &mut Vec<Handle>) -> Result<(), Memory>
+        // ensures ok { OnOk result (self.new.allocator ≡ after_flush self.old.allocator) }
+        // ensures rows { self.new.rows ≡ self.old.rows }
+        // ensures born { OnOk result (out.new.items ≡ out.old.items ++ born self.old.allocator) }
+        // ensures no_rows { OnOk result
+        //     (All (λ h. map.get self.new.rows h ≡ None) (born self.old.allocator)) }
+        // ensures rows_of_living { HasRowsOfLiving self.new }
+        // ensures err { OnErr result (self.new ≡ self.old) }
+        // ensures unchanged { OnErr result (out.new.items ≡ out.old.items) }
+        // ensures capacity { OnErr result (vec_capacity out.new ≡ vec_capacity out.old) }
+
+        // Memory runs out only for new slots, or for a list that lacks room.
+        // ensures memory { OnErr result ((0 < made_at_flush self.old.allocator)
+        //     ⊎ (vec_capacity out.old < vec_len out.old + length self.old.allocator.taken)) }
+    {
+        let waiting = self.slots.waiting();
+        let kept = self.requests.kept(waiting);
+        let fresh = self.requests.fresh(waiting);
+        self.slots.bring_to_life(kept, fresh, out)?;
+        self.requests = Requests::none();
+        Ok(())
+    }
+
+    /// What became of a handle. It takes constant time.
+    #[inline]
+    pub fn state(&self, handle: Handle) -> State
+        // ensures { result ≡ state_of self.now.allocator handle }
+    {
+        let waiting = self.slots.waiting();
+        let reserved = match self.slots.occupancy_of(handle) {
+            Some(Occupancy::Alive | Occupancy::AliveWithRow { .. }) => return State::Alive,
+            Some(Occupancy::Pending { position }) => {
+                self.requests.kept(waiting) <= position as usize
+            }
+            Some(Occupancy::Retired) => false,
+            None if self.slots.is_made(handle) => false,
+            None => self.slots.is_next(handle, self.requests.fresh(waiting)),
+        };
+        if reserved {
+            State::Reserved
+        } else {
+            State::Gone
+        }
+    }
+
+    /// The row that a program keeps with a living entity. `None` if the handle isn't alive, or if
+    /// no row was set since it came to life.
+    #[inline]
+    pub fn row(&self, handle: Handle) -> Option<u32>
+        // ensures value { result ≡ map.get self.now.rows handle }
+        // ensures alive { OnSome result (set.contains self.now.allocator.live handle ≡ true) }
+    {
+        self.slots.row(handle)
+    }
+
+    /// Keeps a row with a living entity until the entity is freed. It takes the place of the row
+    /// that was set before.
+    #[inline]
+    pub fn set_row(&mut self, handle: Handle, row: u32)
+        // requires { set.contains self.old.allocator.live handle ≡ true }
+        // ensures row { self.new.rows ≡ map.insert self.old.rows handle row }
+        // ensures rows_of_living { HasRowsOfLiving self.new }
+        // ensures allocator { self.new.allocator ≡ self.old.allocator }
+    {
+        self.slots.set_row(handle, row);
+    }
+}

@@ -1,0 +1,66 @@
+// Made of crates/ent_alloc/src/limits.rt by rust/erase. It isn't edited by hand.
+
+/// How many handles one caller may request between two flushes. It is this project's own limit:
+/// with it 1,024 callers together stay within the 2^50 that an allocator can count.
+pub const CREDIT: u64 = 1 << 40;
+
+/// How many slots an allocator may make, and the last generation of a slot.
+///
+/// Limits are this project's own: Bevy always has the greatest ones, which are the default.
+#[derive(Clone, Copy, Debug, PartialEq, Eq)]
+pub struct Limits {
+    slots: u32,
+    generations: u32,
+}
+
+impl Limits {
+    /// The limits of these numbers: slots from 1 to 4,294,967,295, generations from 1 to
+    /// 2,147,483,647. `None` if one of them is out of its range.
+    #[inline]
+    pub fn new(slots: u32, generations: u32) -> Option<Self>
+        // ensures in_range { IsSome result
+        //     ↔ AreLimits (record { slots = slots; generations = generations }) }
+        // ensures value { IfSome result (λ limits.
+        //     limits ≡ record { slots = slots; generations = generations }) }
+    {
+        if 1 <= slots && 1 <= generations && generations < 1 << 31 {
+            Some(Limits { slots, generations })
+        } else {
+            None
+        }
+    }
+
+    /// The greatest limits, which are Bevy's.
+    #[inline]
+    pub fn default_limits() -> Self
+        // ensures { result ≡ record { slots = 2 ^ 32 - 1; generations = 2 ^ 31 - 1 } }
+    {
+        Limits {
+            slots: u32::MAX,
+            generations: (1 << 31) - 1,
+        }
+    }
+
+    /// How many slots may be made. Every index is below it.
+    #[inline]
+    pub fn slots(self) -> u32
+        // ensures { result ≡ self.slots }
+    {
+        self.slots
+    }
+
+    /// The last generation of a slot.
+    #[inline]
+    pub fn generations(self) -> u32
+        // ensures { result ≡ self.generations }
+    {
+        self.generations
+    }
+}
+
+impl Default for Limits {
+    #[inline]
+    fn default() -> Self {
+        Limits::default_limits()
+    }
+}

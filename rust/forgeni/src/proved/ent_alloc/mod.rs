@@ -1,0 +1,24 @@
+// Made of crates/ent_alloc/src/lib.rt by rust/erase. It isn't edited by hand.
+
+//! Bevy's entity allocator for one caller: its exclusive calls, and the arithmetic by which many
+//! callers reserve.
+
+mod entities;
+mod fault;
+mod limits;
+mod requesting;
+mod requests;
+mod reserved;
+mod slot_record;
+mod slots;
+mod space;
+mod span;
+mod state;
+
+pub use entities::Entities;
+pub use fault::{AllocFault, FreeFault, Freed};
+pub use limits::{CREDIT, Limits};
+pub use reserved::Reserved;
+pub use space::Space;
+pub use span::Span;
+pub use state::State;

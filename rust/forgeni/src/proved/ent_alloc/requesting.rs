@@ -1,0 +1,171 @@
+// Made of crates/ent_alloc/src/requesting.rt by rust/erase. It isn't edited by hand.
+
+//! What callers request, one or many of them: a step lowers the cursor, and what it gives follows
+//! from the cursor that it found.
+
+use crate::proved::ent_alloc::entities::Entities;
+use crate::proved::ent_alloc::requests::Requests;
+use crate::proved::ent_alloc::reserved::Reserved;
+use crate::proved::ent_alloc::slot_record::first_occupant;
+use crate::proved::ent_alloc::space::Space;
+use crate::proved::ent_alloc::span::Span;
+use crate::proved::ent_handle::Handle;
+
+impl Entities {
+    /// Sets the state to the one after requests that leave the cursor and the floor at these
+    /// positions. What is reserved is all from the top down to the floor. It is also the state
+    /// after one request down to the floor, which was served, and one for the rest down to the
+    /// cursor, which was refused if there is a rest.
+    ///
+    /// Nothing may have been requested since the last flush. The cursor is at most 2^50 below the
+    /// top. The floor is from the cursor to the top, at least `-room`, and equal to the cursor if
+    /// the cursor is at least `-room`.
+    #[inline]
+    pub fn settle(&mut self, cursor: i64, floor: i64)
+        // requires flushed { self.old.allocator.asked ≡ 0 }
+        // requires least { pos (top self.old.allocator) ≤ℤ (cursor +ℤ pos (2 ^ 50)) }
+        // requires greatest { floor ≤ℤ pos (top self.old.allocator) }
+        // requires ordered { cursor ≤ℤ floor }
+        // requires reachable { let start = self.old.allocator in
+        //     pos 0 ≤ℤ (floor +ℤ pos (start.limits.slots - start.made)) }
+        // requires all_given { let start = self.old.allocator in
+        //     pos 0 ≤ℤ (cursor +ℤ pos (start.limits.slots - start.made)) → floor ≡ cursor }
+        // ensures settled { let start = self.old.allocator in self.new.allocator
+        //     ≡ settled start (asked_at (top start) floor) (asked_at (top start) cursor) }
+        // ensures requests { let start = self.old.allocator in
+        //     let given = asked_at (top start) floor in
+        //     let asked = asked_at (top start) cursor in
+        //     self.new.allocator ≡ after_take (after_take start given) (asked - given) }
+        // ensures rows { self.new.rows ≡ self.old.rows }
+        // ensures rows_of_living { HasRowsOfLiving self.new }
+    {
+        let waiting = self.slots.waiting();
+        self.requests = Requests {
+            asked: distance(waiting, cursor),
+            served: distance(waiting, floor) as u32,
+        };
+    }
+
+    /// Requests `n` handles: lowers the cursor by `n`, and returns the positions that it passed.
+    /// `reply` tells what the request is given.
+    ///
+    /// If fewer than `n` handles are left, the request is refused, and the pool is shut: the cursor
+    /// stays lowered, and every later request above 0 is refused until the next flush. A request
+    /// for 0 handles is always served.
+    ///
+    /// At most 2^50 handles may be requested between two flushes.
+    #[inline]
+    pub fn lower(&mut self, n: u32) -> Span
+        // requires { self.old.allocator.asked + n ≤ 2 ^ 50 }
+        // ensures span { let high = cursor self.old.allocator in
+        //     result ≡ record { high = high; low = high -ℤ pos n } }
+        // ensures step { self.new.allocator ≡ after_take self.old.allocator n }
+        // ensures rows { self.new.rows ≡ self.old.rows }
+        // ensures rows_of_living { HasRowsOfLiving self.new }
+
+        // `reply` takes the span.
+        // ensures valid { IsSpanOf self.new.allocator result }
+    {
+        let available = self.available();
+        let span = Span::new(self.cursor(), n);
+        self.requests = self.requests.and(n, available);
+        span
+    }
+
+    /// What the request that passed these positions was given: the old handles first, in the order
+    /// of their positions, then the fresh ones. It may be asked at any time until the next flush,
+    /// also after later requests.
+    ///
+    /// The span is one that `lower` returned, if no `flush` or `alloc` came since. Any other one
+    /// will do with `high` from -2^60 to the top, and `low` from `high - (2^32 - 1)` to `high`.
+    ///
+    /// # Errors
+    ///
+    /// `Space`, with how many were left, if the positions reach past the last slot.
+    #[inline]
+    pub fn reply(&self, span: Span) -> Result<Reserved<'_>, Space>
+        // requires { IsSpanOf self.now.allocator span }
+        // ensures { let here = self.now.allocator in
+        //     (n : ℕ) → span.low ≡ span.high -ℤ pos n
+        //     → result ≡ reply_from here.made (pool_at here span.high) n }
+    {
+        let Span { high, low } = span;
+        if low == high {
+            return Ok(Reserved::new(&self.slots, 0, 0, 0, 0, 0));
+        }
+        let count = (high - low) as usize;
+        let made = self.slots.made();
+        if low >= 0 {
+            return Ok(Reserved::new(&self.slots, low as usize, high as usize, made, made, count));
+        }
+        let index_end = u64::from(made) + (-low) as u64;
+        if index_end > u64::from(self.slots.limits().slots()) {
+            return Err(Space {
+                wanted: (high - low) as u32,
+                left: self.left_below(high),
+            });
+        }
+        let index_end = index_end as u32;
+        if high > 0 {
+            return Ok(Reserved::new(&self.slots, 0, high as usize, made, index_end, count));
+        }
+        let index = made + (-high) as u32;
+        Ok(Reserved::new(&self.slots, 0, 0, index, index_end, count))
+    }
+
+    /// What a request for one handle gets if it found the cursor at `high`: the only handle of the
+    /// list that `reply` gives for that span. It is faster than `reply`, since it makes no list.
+    ///
+    /// `high` is from -2^60 to the top.
+    ///
+    /// # Errors
+    ///
+    /// `Space`, with 1 wanted and 0 left, if the position is that of no slot.
+    #[inline]
+    pub fn reply_one(&self, high: i64) -> Result<Handle, Space>
+        // requires least { neg_ℤ (pos (2 ^ 60)) ≤ℤ high }
+        // requires passed { high ≤ℤ pos (top self.now.allocator) }
+        // ensures { let here = self.now.allocator in
+        //     listed_alone result ≡ reply_from here.made (pool_at here high) 1 }
+    {
+        if high > 0 {
+            return Ok(self.slots.pending_at(high as usize - 1));
+        }
+        let index = u64::from(self.slots.made()) + (-high) as u64;
+        if index < u64::from(self.slots.limits().slots()) {
+            Ok(first_occupant(index as u32))
+        } else {
+            Err(Space { wanted: 1, left: 0 })
+        }
+    }
+
+    /// How many handles a request finds that finds the cursor at `high`.
+    #[inline]
+    fn left_below(&self, high: i64) -> u32
+        // requires least { neg_ℤ (pos (2 ^ 61)) ≤ℤ high }
+        // requires passed { high ≤ℤ pos (top self.now.allocator) }
+        // ensures { result ≡ length (pool_at self.now.allocator high) }
+    {
+        let before = distance(self.slots.waiting(), high);
+        self.available().saturating_sub(before) as u32
+    }
+
+    /// How many handles there were to give when nothing was requested yet.
+    #[inline]
+    pub(super) fn available(&self) -> u64
+        // ensures value { result ≡ length (available self.now.allocator) }
+        // ensures fits { result < 2 ^ 32 }
+    {
+        u64::from(self.slots.waiting()) + u64::from(self.room())
+    }
+}
+
+/// How far a position is below the top.
+#[inline]
+fn distance(top: u32, position: i64) -> u64
+    // requires least { neg_ℤ (pos (2 ^ 61)) ≤ℤ position }
+    // requires passed { position ≤ℤ pos top }
+    // ensures { result ≡ asked_at top position }
+{
+    (i64::from(top) - position) as u64
+}

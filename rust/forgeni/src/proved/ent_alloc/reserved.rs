@@ -1,0 +1,84 @@
+// Made of crates/ent_alloc/src/reserved.rt by rust/erase. It isn't edited by hand.
+
+use crate::proved::ent_alloc::slot_record::first_occupant;
+use crate::proved::ent_alloc::slots::Slots;
+use crate::proved::ent_handle::Handle;
+
+/// The handles that one request was given, in the order of the reply: those of old slots, then the
+/// fresh ones.
+///
+/// It borrows the allocator and copies nothing. Each handle is looked up when it is yielded, in
+/// constant time.
+pub struct Reserved<'a> {
+    slots: &'a Slots,
+    position: usize,
+    end: usize,
+    index: u32,
+    index_end: u32,
+    left: usize,
+}
+
+impl<'a> Reserved<'a> {
+    /// The handles that wait from `position` up to, not including, `end`, and the first occupants
+    /// of the slots from `index` up to, not including, `index_end`: `left` in all. Who asks for the
+    /// number alone then waits for none of the ends.
+    #[inline]
+    pub(super) fn new(
+        slots: &'a Slots,
+        position: usize,
+        end: usize,
+        index: u32,
+        index_end: u32,
+        left: usize,
+    ) -> Self
+        // requires { IsInRange slots.now position end index index_end left }
+        // ensures { result ≡ reserved_handles slots.now position end index index_end }
+    {
+        Reserved {
+            slots,
+            position,
+            end,
+            index,
+            index_end,
+            left,
+        }
+    }
+}
+
+impl Iterator for Reserved<'_> {
+    type Item = Handle;
+
+    #[inline]
+    fn next(&mut self) -> Option<Handle> {
+        if self.position < self.end {
+            let handle = self.slots.pending_at(self.position);
+            self.position += 1;
+            self.left -= 1;
+            return Some(handle);
+        }
+        if self.index < self.index_end {
+            let handle = first_occupant(self.index);
+            self.index += 1;
+            self.left -= 1;
+            return Some(handle);
+        }
+        None
+    }
+
+    #[inline]
+    fn size_hint(&self) -> (usize, Option<usize>)
+        // ensures lower { IsWithinCount result.0 (item_count (λ handles. handles) self.now) }
+        // ensures upper { IfSome result.1 (UpTo (item_count (λ handles. handles) self.now)) }
+        // ensures exact { result ≡ (length self.now, Some (length self.now)) }
+    {
+        let left = self.len();
+        (left, Some(left))
+    }
+}
+
+impl ExactSizeIterator for Reserved<'_> {
+    #[inline]
+    fn len(&self) -> usize {
+        self.left
+    }
+}

@@ -1,0 +1,97 @@
+// Made of crates/ent_alloc/src/slot_record.rt by rust/erase. It isn't edited by hand.
+
+use crate::kit::vec::Vec;
+use crate::proved::ent_handle::Handle;
+
+/// Who has a slot.
+#[derive(Clone, Copy)]
+pub(super) enum Occupancy {
+    /// A living entity.
+    Alive,
+    /// A living entity, and the row that a program keeps with it.
+    AliveWithRow { row: u32 },
+    /// Nobody: the slot waits at this position of the pending list.
+    Pending { position: u32 },
+    /// Nobody: the last generation was freed, and the slot is not given again.
+    Retired,
+}
+
+/// One slot that was made.
+///
+/// The generation is that of the living occupant, of the next one if the slot waits, or of the last
+/// one if the slot is retired.
+#[derive(Clone, Copy)]
+pub(super) struct SlotRecord {
+    pub(super) generation: u32,
+    pub(super) occupancy: Occupancy,
+}
+
+impl SlotRecord {
+    /// A new slot, with its first occupant.
+    #[inline]
+    pub(super) fn new() -> Self
+        // ensures { result ≡ new_record }
+    {
+        SlotRecord {
+            generation: 1,
+            occupancy: Occupancy::Alive,
+        }
+    }
+}
+
+/// Who has the handle's slot; `None` if the slot wasn't made or is at another generation.
+#[inline]
+pub(super) fn occupancy_of(records: &[SlotRecord], handle: Handle) -> Option<Occupancy>
+    // ensures { result ≡ occupancy_of records.now handle }
+{
+    let index = handle.index() as usize;
+    if index < records.len() && records[index].generation == handle.generation() {
+        Some(records[index].occupancy)
+    } else {
+        None
+    }
+}
+
+/// The first occupant of a slot.
+#[inline]
+pub(super) fn first_occupant(index: u32) -> Handle
+    // requires { index < 2 ^ 32 - 1 }
+    // ensures { result ≡ record { index = index; generation = 1 } }
+{
+    Handle::from_parts(index, 1)
+}
+
+/// Makes `count` slots, and appends their first occupants to a list. There is room in both.
+#[inline]
+pub(super) fn make_all(records: &mut Vec<SlotRecord>, count: u32, out: &mut Vec<Handle>)
+    // requires room { vec_len records.old + count ≤ vec_capacity records.old }
+    // requires list_room { vec_len out.old + count ≤ vec_capacity out.old }
+    // requires indices { vec_len records.old + count < 2 ^ 32 }
+    // ensures records { records.new.items ≡ records.old.items ++ replicate count new_record }
+    // ensures listed { out.new.items ≡ out.old.items ++ fresh (vec_len records.old) count }
+    // ensures len { vec_len out.new ≡ vec_len out.old + count }
+    // ensures capacity { vec_capacity out.new ≡ vec_capacity out.old }
+{
+    let made = records.len() as u32;
+    for index in made..made + count {
+        records.push_reserved(SlotRecord::new());
+        out.push_reserved(first_occupant(index));
+    }
+}
+
+/// Gives each of these slots its next occupant, and appends the occupants to a list that has room
+/// for them.
+#[inline]
+pub(super) fn reuse_all(records: &mut [SlotRecord], indices: &[u32], out: &mut Vec<Handle>)
+    // requires made { All (λ index. index < length records.old) indices.now }
+    // requires handles { All (λ index. IsHandle (handle_at records.old index)) indices.now }
+    // requires room { vec_len out.old + length indices.now ≤ vec_capacity out.old }
+    // ensures records { records.new ≡ reused records.old indices.now }
+    // ensures listed { out.new.items ≡ out.old.items ++ map (handle_at records.old) indices.now }
+{
+    for index in indices {
+        let record = &mut records[*index as usize];
+        record.occupancy = Occupancy::Alive;
+        out.push_reserved(Handle::from_parts(*index, record.generation));
+    }
+}

@@ -1,0 +1,268 @@
+// Made of crates/ent_alloc/src/slots.rt by rust/erase. It isn't edited by hand.
+
+use crate::kit::vec::Vec;
+use crate::proved::ent_alloc::limits::Limits;
+use crate::proved::ent_alloc::slot_record;
+use crate::proved::ent_alloc::slot_record::{Occupancy, SlotRecord, first_occupant, make_all, reuse_all};
+use crate::proved::ent_handle::{Handle, Memory};
+use crate::kit::alloc::Global;
+
+/// The slots that were made, and those of them that wait for their next occupant.
+pub(super) struct Slots {
+    limits: Limits,
+    records: Vec<SlotRecord>,
+    pending: Vec<u32>,
+    live: u32,
+}
+
+impl Slots {
+    #[inline]
+    pub(super) fn new(alloc: Global, limits: Limits) -> Self
+        // ensures value { result ≡ record {
+        //   limits = limits;
+        //   live = set.empty;
+        //   rows = maps.empty;
+        //   pending = [];
+        //   made = 0;
+        // } }
+        // ensures limited { AreLimits limits }
+    {
+        Slots {
+            limits,
+            records: Vec::new(alloc),
+            pending: Vec::new(alloc),
+            live: 0,
+        }
+    }
+
+    #[inline]
+    pub(super) fn limits(&self) -> Limits
+        // ensures { result ≡ self.now.limits }
+    {
+        self.limits
+    }
+
+    /// How many slots were made.
+    #[inline]
+    pub(super) fn made(&self) -> u32
+        // ensures value { result ≡ self.now.made }
+        // ensures within { result ≤ self.now.limits.slots }
+        // ensures fits { self.now.limits.slots < 2 ^ 32 }
+    {
+        self.records.len() as u32
+    }
+
+    /// How many slots wait for their next occupant.
+    #[inline]
+    pub(super) fn waiting(&self) -> u32
+        // ensures value { result ≡ length self.now.pending }
+        // ensures within { result ≤ self.now.made }
+        // ensures few { self.now.made ≤ self.now.limits.slots }
+        // ensures fits { self.now.limits.slots < 2 ^ 32 }
+    {
+        self.pending.len() as u32
+    }
+
+    /// The position after the last slot that waits.
+    #[inline]
+    pub(super) fn top(&self) -> i64
+        // ensures value { result ≡ pos (length self.now.pending) }
+        // ensures within { length self.now.pending ≤ self.now.made }
+        // ensures few { self.now.made ≤ self.now.limits.slots }
+        // ensures fits { self.now.limits.slots < 2 ^ 32 }
+    {
+        self.pending.len() as i64
+    }
+
+    /// How many occupants live.
+    #[inline]
+    pub(super) fn live(&self) -> u32
+        // ensures { result ≡ set.len self.now.live }
+    {
+        self.live
+    }
+
+    /// Who has the handle's slot; `None` if the slot wasn't made or is at another generation.
+    #[inline]
+    pub(super) fn occupancy_of(&self, handle: Handle) -> Option<Occupancy>
+        // ensures lives { set.contains self.now.live handle ≡ lives result }
+        // ensures row { maps.get self.now.rows handle ≡ row_kept result }
+        // ensures waits { (from : ℕ)
+        //     → stands_in (drop from self.now.pending) handle ≡ waits_from result from }
+        // ensures made { OnSome result (handle.index < self.now.made) }
+    {
+        slot_record::occupancy_of(&self.records, handle)
+    }
+
+    #[inline]
+    pub(super) fn is_alive(&self, handle: Handle) -> bool
+        // ensures { result ≡ set.contains self.now.live handle }
+    {
+        match self.occupancy_of(handle) {
+            Some(Occupancy::Alive | Occupancy::AliveWithRow { .. }) => true,
+            Some(Occupancy::Pending { .. } | Occupancy::Retired) | None => false,
+        }
+    }
+
+    /// The row that is kept with an occupant.
+    #[inline]
+    pub(super) fn row(&self, handle: Handle) -> Option<u32>
+        // ensures value { result ≡ maps.get self.now.rows handle }
+        // ensures alive { OnSome result (set.contains self.now.live handle ≡ true) }
+    {
+        match self.occupancy_of(handle) {
+            Some(Occupancy::AliveWithRow { row }) => Some(row),
+            Some(Occupancy::Alive | Occupancy::Pending { .. } | Occupancy::Retired) | None => None,
+        }
+    }
+
+    /// Whether the handle's slot was made.
+    #[inline]
+    pub(super) fn is_made(&self, handle: Handle) -> bool
+        // ensures { IsTrue result ↔ (handle.index < self.now.made) }
+    {
+        (handle.index() as usize) < self.records.len()
+    }
+
+    /// Whether the handle is the first occupant of one of the next `count` slots to be made.
+    #[inline]
+    pub(super) fn is_next(&self, handle: Handle, count: u32) -> bool
+        // requires { self.now.made ≤ handle.index }
+        // ensures { result ≡ stands_in (fresh_handles self.now.made count) handle }
+    {
+        handle.generation() == 1 && handle.index() - self.made() < count
+    }
+
+    /// Keeps a row with an occupant.
+    #[inline]
+    pub(super) fn set_row(&mut self, handle: Handle, row: u32)
+        // requires { set.contains self.old.live handle ≡ true }
+        // ensures { self.new ≡ record self.old { rows = maps.insert self.old.rows handle row } }
+    {
+        self.records[handle.index() as usize].occupancy = Occupancy::AliveWithRow { row };
+    }
+
+    /// The handle that waits at a position.
+    #[inline]
+    pub(super) fn pending_at(&self, position: usize) -> Handle
+        // requires { position < length self.now.pending }
+        // ensures { slice_get self.now.pending position ≡ Some result }
+    {
+        let index = self.pending[position];
+        Handle::from_parts(index, self.records[index as usize].generation)
+    }
+
+    /// Gives the slot that waits last its next occupant. `None` if no slot waits, and nothing
+    /// changes then.
+    #[inline]
+    pub(super) fn reuse_last(&mut self) -> Option<Handle>
+        // ensures last { IfSome result (λ h.
+        //     slice_get self.old.pending (length self.old.pending - 1) ≡ Some h) }
+        // ensures some { IfSome result (λ h. self.new ≡ record self.old {
+        //   live = set.union self.old.live (set.from_list (h ∷ []));
+        //   pending = take (length self.old.pending - 1) self.old.pending;
+        // }) }
+        // ensures none { IfNone result (self.old.pending ≡ []) }
+        // ensures unchanged { IfNone result (self.new ≡ self.old) }
+    {
+        let index = self.pending.pop()?;
+        let record = &mut self.records[index as usize];
+        record.occupancy = Occupancy::Alive;
+        let generation = record.generation;
+        self.live += 1;
+        Some(Handle::from_parts(index, generation))
+    }
+
+    /// Makes one slot, with its first occupant.
+    #[inline]
+    pub(super) fn make_one(&mut self) -> Result<Handle, Memory>
+        // requires { self.old.made < self.old.limits.slots }
+        // ensures first { IfOk result (λ h. h ≡ record { index = self.old.made; generation = 1 }) }
+        // ensures ok { IfOk result (λ h. self.new ≡ record self.old {
+        //   live = set.union self.old.live (set.from_list (h ∷ []));
+        //   made = self.old.made + 1;
+        // }) }
+        // ensures err { OnErr result (self.new ≡ self.old) }
+    {
+        let handle = first_occupant(self.made());
+        self.records.push(SlotRecord::new())?;
+        self.live += 1;
+        Ok(handle)
+    }
+
+    /// Brings to life the first occupants of `fresh` new slots and the handles that wait from the
+    /// position `kept` on, and appends them. All room is asked for first: if memory runs out,
+    /// nothing has changed.
+    #[inline]
+    pub(super) fn bring_to_life(
+        &mut self,
+        kept: usize,
+        fresh: u32,
+        out: &mut Vec<Handle>,
+    ) -> Result<(), Memory>
+        // requires waiting { kept ≤ length self.old.pending }
+        // requires room { self.old.made + fresh ≤ self.old.limits.slots }
+        // ensures ok { OnOk result (self.new ≡ record self.old {
+        //   live = set.union
+        //       (set.union self.old.live (set.from_list (fresh_handles self.old.made fresh)))
+        //       (set.from_list (drop kept self.old.pending));
+        //   pending = take kept self.old.pending;
+        //   made = self.old.made + fresh;
+        // }) }
+        // ensures born { OnOk result (out.new.items ≡ out.old.items
+        //     ++ (fresh_handles self.old.made fresh ++ drop kept self.old.pending)) }
+        // ensures err { OnErr result (self.new ≡ self.old) }
+        // ensures unchanged { OnErr result (out.new.items ≡ out.old.items) }
+        // ensures capacity { OnErr result (vec_capacity out.new ≡ vec_capacity out.old) }
+        // ensures memory { OnErr result ((0 < fresh)
+        //     ⊎ (vec_capacity out.old < vec_len out.old + (length self.old.pending - kept))) }
+    {
+        let reused = self.pending.len() - kept;
+        self.records.reserve(fresh as usize)?;
+        out.reserve(fresh as usize + reused)?;
+        make_all(&mut self.records, fresh, out);
+        reuse_all(&mut self.records, &self.pending[kept..], out);
+        self.pending.truncate(kept);
+        self.live += fresh + reused as u32;
+        Ok(())
+    }
+
+    /// Takes an occupant out of its slot, which then waits after all others for the next one.
+    #[inline]
+    pub(super) fn release(&mut self, handle: Handle) -> Result<Handle, Memory>
+        // requires lives { set.contains self.old.live handle ≡ true }
+        // requires not_last { handle.generation ≢ self.old.limits.generations }
+        // ensures ok { OnOk result (self.new ≡ record self.old {
+        //   live = set.remove self.old.live handle;
+        //   rows = maps.remove self.old.rows handle;
+        //   pending = self.old.pending ++ following handle ∷ [];
+        // }) }
+        // ensures next { IfOk result (λ h. h ≡ following handle) }
+        // ensures err { OnErr result (self.new ≡ self.old) }
+    {
+        let index = handle.index();
+        let generation = handle.generation() + 1;
+        let position = self.pending.len() as u32;
+        self.pending.push(index)?;
+        self.records[index as usize] = SlotRecord {
+            generation,
+            occupancy: Occupancy::Pending { position },
+        };
+        self.live -= 1;
+        Ok(Handle::from_parts(index, generation))
+    }
+
+    /// Takes an occupant out of its slot, which is not given again.
+    #[inline]
+    pub(super) fn retire(&mut self, handle: Handle)
+        // requires { set.contains self.old.live handle ≡ true }
+        // ensures { self.new ≡ record self.old {
+        //   live = set.remove self.old.live handle;
+        //   rows = maps.remove self.old.rows handle;
+        // } }
+    {
+        let index = handle.index();
+        self.records[index as usize].occupancy = Occupancy::Retired;
+        self.live -= 1;
+    }
+}

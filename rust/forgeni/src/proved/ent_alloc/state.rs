@@ -1,0 +1,12 @@
+// Made of crates/ent_alloc/src/state.rt by rust/erase. It isn't edited by hand.
+
+/// What became of a handle.
+#[derive(Clone, Copy, Debug, PartialEq, Eq)]
+pub enum State {
+    /// It is alive.
+    Alive,
+    /// A request was given it, and the next flush brings it to life.
+    Reserved,
+    /// Neither: it was freed, or it was never given.
+    Gone,
+}

@@ -1,0 +1,37 @@
+// Made of crates/ent_handle/src/birth.rt by rust/erase. It isn't edited by hand.
+
+use core::cmp::Ordering;
+
+/// When and by whom an entity was brought to life. Of what the systems of a world spawn it is a
+/// name of the entity that needs no handle.
+///
+/// The order is by frame, then by system, then by ordinal. Births and their order are this
+/// project's own. The fields say what a sync point gives; who spawns without one chooses them.
+#[derive(Clone, Copy, Debug, PartialEq, Eq, Hash)]
+pub struct Birth {
+    /// The number of the phase that brought it to life.
+    pub frame: u64,
+    /// The first system whose queue lists the entity, counted from 0; 4,294,967,295 if none does.
+    pub system: u32,
+    /// How many handles that queue lists before it. If no queue lists the entity: how many that no
+    /// queue lists stand before it in the order of the flush. The greatest is 4,294,967,295, which
+    /// all later ones have too.
+    pub ordinal: u32,
+}
+
+impl Ord for Birth {
+    #[inline]
+    fn cmp(&self, other: &Self) -> Ordering {
+        self.frame
+            .cmp(&other.frame)
+            .then(self.system.cmp(&other.system))
+            .then(self.ordinal.cmp(&other.ordinal))
+    }
+}
+
+impl PartialOrd for Birth {
+    #[inline]
+    fn partial_cmp(&self, other: &Self) -> Option<Ordering> {
+        Some(self.cmp(other))
+    }
+}

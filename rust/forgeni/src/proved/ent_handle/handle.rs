@@ -1,0 +1,94 @@
+// Made of crates/ent_handle/src/handle.rt by rust/erase. It isn't edited by hand.
+
+use core::cmp::Ordering;
+
+/// Names one occupant of one slot: the slot's index, and a generation that tells the slot's
+/// occupants apart.
+///
+/// An index is 0 to 4,294,967,294, and a generation 1 to 2,147,483,647: Bevy's ranges without the
+/// index that its placeholder has. As in Bevy, each occupant of a slot has the generation after
+/// that of the one before it, so that an earlier handle does not name a later occupant. After the
+/// last generation a slot has no more occupants, where in Bevy the first one comes again. The order
+/// is this project's own: by index, then by generation. Bevy's is by generation first.
+#[derive(Clone, Copy, Debug, PartialEq, Eq, Hash)]
+pub struct Handle {
+    index: u32,
+    generation: u32,
+}
+
+impl Handle {
+    /// The handle of these numbers, or `None` if one of them is out of range.
+    #[inline]
+    pub fn new(index: u32, generation: u32) -> Option<Self>
+        // ensures in_range { IsSome result
+        //     ↔ IsHandle (record { index = index; generation = generation }) }
+        // ensures value { IfSome result (λ h. h ≡ record { index = index; generation = generation }) }
+    {
+        if index < u32::MAX && 1 <= generation && generation < 1 << 31 {
+            Some(Handle::from_parts(index, generation))
+        } else {
+            None
+        }
+    }
+
+    /// The handle of these numbers, which have to be in range: the index is 0 to 4,294,967,294, the
+    /// generation 1 to 2,147,483,647. It tests nothing when it runs, so it is for a caller that
+    /// keeps such numbers. `new` tests them.
+    #[inline]
+    pub fn from_parts(index: u32, generation: u32) -> Self
+        // requires { IsHandle (record { index = index; generation = generation }) }
+        // ensures { result ≡ record { index = index; generation = generation } }
+    {
+        Handle { index, generation }
+    }
+
+    /// Which slot it is: 0 to 4,294,967,294.
+    #[inline]
+    pub fn index(self) -> u32
+        // ensures { result ≡ self.index }
+    {
+        self.index
+    }
+
+    /// Which occupant of the slot it is: 1 to 2,147,483,647.
+    #[inline]
+    pub fn generation(self) -> u32
+        // ensures { result ≡ self.generation }
+    {
+        self.generation
+    }
+
+    /// The handle as one number: the generation times 2^32, plus the index.
+    #[inline]
+    pub fn to_bits(self) -> u64
+        // ensures bits { result ≡ bits self }
+        // ensures in_range { IsHandle self }
+    {
+        (u64::from(self.generation) << 32) + u64::from(self.index)
+    }
+
+    /// The handle that has these bits, or `None` if no handle has them.
+    #[inline]
+    pub fn from_bits(of: u64) -> Option<Self>
+        // ensures found { IfSome result (λ h. bits h ≡ of) }
+        // ensures in_range { IfSome result IsHandle }
+        // ensures none { IfNone result ((h : Handle) → IsHandle h → bits h ≢ of) }
+    {
+        Handle::new((of & 0xffff_ffff) as u32, (of >> 32) as u32)
+    }
+}
+
+impl Ord for Handle {
+    #[inline]
+    fn cmp(&self, other: &Self) -> Ordering {
+        let by_index = self.index.cmp(&other.index);
+        by_index.then(self.generation.cmp(&other.generation))
+    }
+}
+
+impl PartialOrd for Handle {
+    #[inline]
+    fn partial_cmp(&self, other: &Self) -> Option<Ordering> {
+        Some(self.cmp(other))
+    }
+}

@@ -1,0 +1,30 @@
+// Made of crates/ent_handle/src/memory.rt by rust/erase. It isn't edited by hand.
+
+use crate::kit::alloc::{AllocError, AllocFailed};
+
+/// Memory ran out: a growth was really refused, or a call says what else counts as such. It is the
+/// only error of a call that has no other.
+#[derive(Clone, Copy, Debug, PartialEq, Eq)]
+pub struct Memory;
+
+impl core::fmt::Display for Memory {
+    fn fmt(&self, f: &mut core::fmt::Formatter<'_>) -> core::fmt::Result {
+        write!(f, "out of memory")
+    }
+}
+
+impl core::error::Error for Memory {}
+
+impl From<AllocError> for Memory {
+    #[inline]
+    fn from(_refused: AllocError) -> Self {
+        Memory
+    }
+}
+
+impl<T> From<AllocFailed<T>> for Memory {
+    #[inline]
+    fn from(_refused: AllocFailed<T>) -> Self {
+        Memory
+    }
+}

@@ -1,0 +1,17 @@
+// Made of crates/ent_handle/src/lib.rt by rust/erase. It isn't edited by hand.
+
+//! Handles of entities and their text, and the small types that all crates above share.
+
+mod birth;
+mod component;
+mod decimal;
+mod handle;
+mod memory;
+mod text;
+
+pub use birth::Birth;
+pub use component::ComponentId;
+pub use decimal::read_decimal;
+pub use handle::Handle;
+pub use memory::Memory;
+pub use text::{TextFault, split_once};

@@ -1,0 +1,118 @@
+// Made of crates/ent_handle/src/text.rt by rust/erase. It isn't edited by hand.
+
+use crate::kit::vec::Vec;
+use crate::proved::ent_handle::decimal::{decimal_value, is_decimal};
+use crate::proved::ent_handle::handle::Handle;
+use crate::proved::ent_handle::memory::Memory;
+use crate::kit::itoa::Buffer;
+use core::fmt;
+
+/// Why a text is not a number, or not a handle.
+#[derive(Clone, Copy, Debug, PartialEq, Eq, Hash)]
+pub enum TextFault {
+    /// The text does not have the form.
+    Shape,
+    /// The text has the form, but a number in it is out of range.
+    Range,
+}
+
+impl core::fmt::Display for TextFault {
+    fn fmt(&self, f: &mut core::fmt::Formatter<'_>) -> core::fmt::Result {
+        match self {
+            TextFault::Shape => write!(f, "not of the form"),
+            TextFault::Range => write!(f, "a number out of range"),
+        }
+    }
+}
+
+impl core::error::Error for TextFault {}
+
+/// The bytes before the first separator and the bytes after it, or `None` if there is no separator.
+#[inline]
+pub fn split_once(bytes: &[u8], separator: u8) -> Option<(&[u8], &[u8])>
+    // ensures found { IfSome result (λ parts. bytes.now ≡ parts.0.now ++ separator ∷ parts.1.now) }
+    // ensures first { IfSome result (λ parts. All (λ byte. byte ≢ separator) parts.0.now) }
+    // ensures none { IfNone result (All (λ byte. byte ≢ separator) bytes.now) }
+{
+    let at = bytes.iter().position(|byte| *byte == separator)?;
+    Some((&bytes[..at], &bytes[at + 1..]))
+}
+
+impl Handle {
+    /// The handle of this text: the index in decimal, the letter `v`, the generation in decimal. A
+    /// decimal has no sign and no leading zero.
+    ///
+    /// It takes time linear in the length of the text, which may be any, and no memory.
+    ///
+    /// # Errors
+    ///
+    /// - `Shape`: the text does not have this form.
+    /// - `Range`: it has this form, and no handle has these numbers.
+    #[inline]
+    pub fn read_text(bytes: &[u8]) -> Result<Self, TextFault>
+        // The text is that of the handle that is read.
+        // ensures found { IfOk result (λ h. IsHandle h × (bytes.now ≡ handle_text h)) }
+        // The text of each handle is read as that handle.
+        // ensures only { (h : HandleValue) → IsHandle h → bytes.now ≡ handle_text h → result ≡ Ok h }
+
+        // ensures shape { IsErrOf result TextFault.Shape ↔ (¬ HasHandleForm bytes.now) }
+        // ensures range { IsErrOf result TextFault.Range ↔ (HasHandleForm bytes.now
+        //     × ((h : HandleValue) → IsHandle h → bytes.now ≢ handle_text h)) }
+
+        // The whole result, as a function of the text.
+        // ensures exact { result ≡ handle_of bytes.now }
+    {
+        let Some((index, generation)) = split_once(bytes, b'v') else {
+            return Err(TextFault::Shape);
+        };
+        if !is_decimal(index) || !is_decimal(generation) {
+            return Err(TextFault::Shape);
+        }
+        Handle::of_decimals(index, generation).ok_or(TextFault::Range)
+    }
+
+    #[inline]
+    fn of_decimals(index: &[u8], generation: &[u8]) -> Option<Self>
+        // requires index { IsDecimal index.now }
+        // requires generation { IsDecimal generation.now }
+        // ensures value { IfSome result (λ h. h ≡ written index.now generation.now) }
+        // ensures in_range { IsSome result ↔ IsHandle (written index.now generation.now) }
+    {
+        Handle::new(decimal_value(index)?, decimal_value(generation)?)
+    }
+
+    /// Appends the handle's text. It succeeds if `out` has room for the whole text.
+    ///
+    /// # Errors
+    ///
+    /// `Memory`: there is no memory for the text. `out` has the same items as before.
+    #[inline]
+    pub fn write_text(&self, out: &mut Vec<u8>) -> Result<(), Memory>
+        // ensures ok { OnOk result (out.new.items ≡ out.old.items ++ handle_text self.now) }
+        // ensures err { OnErr result (out.new.items ≡ out.old.items) }
+        // ensures full { OnErr result
+        //     (vec_capacity out.old < vec_len out.old + length (handle_text self.now)) }
+        // ensures capacity { vec_capacity out.old ≤ vec_capacity out.new }
+    {
+        let mut index = Buffer::new();
+        let index = index.format(self.index()).as_bytes();
+        let mut generation = Buffer::new();
+        let generation = generation.format(self.generation()).as_bytes();
+
+        out.reserve(index.len() + 1 + generation.len())?;
+        out.extend_from_slice(index).unwrap();
+        out.push_reserved(b'v');
+        out.extend_from_slice(generation).unwrap();
+        Ok(())
+    }
+}
+
+/// The handle's text, as `Handle::write_text` appends it.
+impl fmt::Display for Handle {
+    #[inline]
+    fn fmt(&self, f: &mut fmt::Formatter<'_>) -> fmt::Result {
+        let index = self.index();
+        let generation = self.generation();
+        write!(f, "{index}v{generation}")
+    }
+}

@@ -1,0 +1,96 @@
+// Made of crates/ent_queue/src/bundle_ref.rt by rust/erase. It isn't edited by hand.
+
+use crate::proved::ent_queue::reading::{read_u8, read_u16, read_u64};
+use crate::proved::ent_handle::ComponentId;
+
+/// How many bytes an item has: its component's number, and its value.
+const ITEM: usize = 9;
+
+/// The components of one command and their values, read in place.
+pub struct BundleRef<'a> {
+    items: &'a [[u8; ITEM]],
+}
+
+impl<'a> BundleRef<'a> {
+    /// The bundle at the front of the bytes, and the bytes after it.
+    #[inline]
+    pub(super) fn read(bytes: &'a [u8]) -> (Self, &'a [u8])
+        // requires header { 2 ≤ length bytes.now }
+        // requires items { 2 + 9 * number_2 bytes.now ≤ length bytes.now }
+        // requires is { IsBundle (unpacked_bundle bytes.now) }
+        // ensures value { result.0 ≡ unpacked_bundle bytes.now }
+        // ensures rest { result.1.now ≡ drop (9 * number_2 bytes.now) (drop 2 bytes.now) }
+    {
+        let (count, bytes) = read_u16(bytes);
+        let (items, rest) = bytes.split_at(ITEM * usize::from(count));
+        let (items, _) = items.as_chunks();
+        (BundleRef { items }, rest)
+    }
+
+    /// How many components there are.
+    #[inline]
+    pub fn len(&self) -> usize
+        // ensures { result ≡ length self.now }
+    {
+        self.items.len()
+    }
+
+    /// Whether there is none.
+    #[inline]
+    pub fn is_empty(&self) -> bool
+        // ensures { IsTrue result ↔ (self.now ≡ []) }
+    {
+        self.items.is_empty()
+    }
+
+    /// The components and their values, by strictly rising number.
+    #[inline]
+    pub fn iter(&self) -> BundleItems<'a>
+        // ensures items { result ≡ self.now }
+        // ensures rising { T (is_sorted component_cmp self.now) }
+    {
+        BundleItems { left: self.items }
+    }
+}
+
+/// Yields the components of one command and their values, by strictly rising number.
+pub struct BundleItems<'a> {
+    left: &'a [[u8; ITEM]],
+}
+
+impl Iterator for BundleItems<'_> {
+    type Item = (ComponentId, i64);
+
+    #[inline]
+    fn next(&mut self) -> Option<(ComponentId, i64)> {
+        let (first, others) = self.left.split_first()?;
+        self.left = others;
+        Some(item_of(first))
+    }
+
+    #[inline]
+    fn size_hint(&self) -> (usize, Option<usize>)
+        // ensures lower { IsWithinCount result.0 (item_count (λ items. items) self.now) }
+        // ensures upper { IfSome result.1 (UpTo (item_count (λ items. items) self.now)) }
+        // ensures exact { result ≡ (length self.now, Some (length self.now)) }
+    {
+        (self.left.len(), Some(self.left.len()))
+    }
+}
+
+impl ExactSizeIterator for BundleItems<'_> {
+    #[inline]
+    fn len(&self) -> usize {
+        self.left.len()
+    }
+}
+
+/// The component and its value.
+#[inline]
+fn item_of(bytes: &[u8; ITEM]) -> (ComponentId, i64)
+    // ensures { result ≡ unpacked_item bytes.now }
+{
+    let (id, value) = read_u8(bytes);
+    let (value, _) = read_u64(value);
+    (ComponentId(id), value.cast_signed())
+}

@@ -1,0 +1,178 @@
+// Made of crates/ent_queue/src/commands.rt by rust/erase. It isn't edited by hand.
+
+use crate::kit::vec::Vec;
+use crate::proved::ent_queue::bundle::Bundle;
+use crate::proved::ent_queue::fault::QueueFault;
+use crate::proved::ent_queue::queue::CommandQueue;
+use crate::proved::ent_handle::{ComponentId, Handle, Memory};
+use crate::proved::ent_shared::{Reserver, Shared};
+use crate::kit::alloc::Global;
+
+/// Issues the commands of one system. They take effect when the queue is applied.
+///
+/// A spawn reserves its handle at once, so a system knows what it will have spawned. `Q` is the
+/// queue that is filled.
+pub struct Commands<'a, Q = CommandQueue> {
+    reserver: &'a mut Reserver,
+    shared: &'a Shared,
+    queue: Q,
+    alloc: Global,
+}
+
+impl<'a> Commands<'a> {
+    /// Begins with an empty queue. The reserver is one of those that came with the allocator.
+    #[inline]
+    pub fn new(alloc: Global, shared: &'a Shared, reserver: &'a mut Reserver) -> Self
+        // requires { IsOf shared.now reserver.old }
+        // ensures same { result.reserver.ghost_name ≡ reserver.entry.ghost_name }
+        // ensures reserver { reserver_of result ≡ reserver.old }
+        // ensures shared { shared_of result ≡ shared.now }
+        // ensures queue { queue_of result ≡ [] }
+    {
+        Commands::resume(alloc, shared, reserver, CommandQueue::new(alloc))
+    }
+
+    /// Goes on with a queue that was begun before: what it has stays in front. The reserver may be
+    /// another one than before, of those that came with the allocator.
+    #[inline]
+    pub fn resume(
+        alloc: Global,
+        shared: &'a Shared,
+        reserver: &'a mut Reserver,
+        queue: CommandQueue,
+    ) -> Self
+        // requires { IsOf shared.now reserver.old }
+        // ensures same { result.reserver.ghost_name ≡ reserver.entry.ghost_name }
+        // ensures reserver { reserver_of result ≡ reserver.old }
+        // ensures shared { shared_of result ≡ shared.now }
+        // ensures queue { queue_of result ≡ queue }
+    {
+        Commands {
+            reserver,
+            shared,
+            queue,
+            alloc,
+        }
+    }
+
+    /// Reserves a handle, which is to have the components.
+    ///
+    /// # Errors
+    ///
+    /// [`QueueFault::Memory`], and then neither the queue nor the reserver has changed.
+    /// [`QueueFault::Space`] and [`QueueFault::Quota`] as [`Shared::reserve`] returns them; the
+    /// queue then keeps the refusal, and [`QueueFault::or_memory`] lets a system go on. After any
+    /// of them the bundle is dropped.
+    #[inline]
+    pub fn spawn(&mut self, bundle: Bundle) -> Result<Handle, QueueFault>
+        // requires { IsReady self.old }
+        // ensures extends { Extends self.old self.new }
+        // ensures ok { IfOk result (λ handle.
+        //     queue_of self.new ≡ queue_of self.old ++ Spawn handle bundle ∷ []) }
+        // ensures refused { IfErr result (λ fault.
+        //     queue_of self.new ≡ queue_of self.old ++ refused_by 1 fault) }
+        // ensures memory { IsErrOf result QueueFault.Memory
+        //     → reserver_of self.new ≡ reserver_of self.old }
+
+        // Anything but Memory is the result of a reservation.
+        // ensures replies { (reply : Result HandleValue Refusal) → result ≡ queued reply
+        //     → IsReturned (shared_of self.new) (reserver_of self.old) (reserver_of self.new) 1
+        //     (listed_alone reply) }
+    {
+        self.queue.spawn(self.shared, self.reserver, bundle.items())
+    }
+
+    /// Reserves `n` handles at once, each of which is to have the components.
+    ///
+    /// # Errors
+    ///
+    /// As [`Commands::spawn`], with [`Shared::reserve_many`] instead of [`Shared::reserve`].
+    #[inline]
+    pub fn spawn_many(&mut self, n: u32, bundle: Bundle) -> Result<Vec<Handle>, QueueFault>
+        // requires { IsReady self.old }
+        // ensures extends { Extends self.old self.new }
+        // ensures ok { IfOk result (λ handles.
+        //     queue_of self.new ≡ queue_of self.old ++ SpawnMany handles.items bundle ∷ []) }
+        // ensures length { IfOk result (λ handles. length handles.items ≡ n) }
+        // ensures refused { IfErr result (λ fault.
+        //     queue_of self.new ≡ queue_of self.old ++ refused_by n fault) }
+        // ensures memory { IsErrOf result QueueFault.Memory
+        //     → reserver_of self.new ≡ reserver_of self.old }
+
+        // Anything but Memory is the result of a reservation.
+        // ensures replies { (reply : Result (List HandleValue) Refusal)
+        //     → as_list result ≡ queued reply
+        //     → IsReturned (shared_of self.new) (reserver_of self.old) (reserver_of self.new) n
+        //     reply }
+    {
+        self.queue
+            .spawn_many(self.alloc, self.shared, self.reserver, n, bundle.items())
+    }
+
+    /// Gives the entity the components, instead of those that it has under the same numbers.
+    ///
+    /// # Errors
+    ///
+    /// `Memory`, and then nothing has changed. The bundle is dropped, and it has no `clone`: who
+    /// wants to try again keeps the list of its components, for [`Bundle::of`].
+    #[inline]
+    pub fn insert(&mut self, handle: Handle, bundle: Bundle) -> Result<(), Memory>
+        // requires { IsReady self.old }
+        // ensures extends { Extends self.old self.new }
+        // ensures reserver { reserver_of self.new ≡ reserver_of self.old }
+        // ensures ok { OnOk result
+        //     (queue_of self.new ≡ queue_of self.old ++ Insert handle bundle ∷ []) }
+        // ensures err { OnErr result (queue_of self.new ≡ queue_of self.old) }
+    {
+        self.queue.insert(handle, bundle.items())
+    }
+
+    /// Takes the component out of the entity, if it has it.
+    ///
+    /// # Errors
+    ///
+    /// `Memory`, and then nothing has changed.
+    #[inline]
+    pub fn remove(&mut self, handle: Handle, id: ComponentId) -> Result<(), Memory>
+        // requires { IsReady self.old }
+        // ensures extends { Extends self.old self.new }
+        // ensures reserver { reserver_of self.new ≡ reserver_of self.old }
+        // ensures ok { OnOk result (queue_of self.new ≡ queue_of self.old ++ Remove handle id ∷ []) }
+        // ensures err { OnErr result (queue_of self.new ≡ queue_of self.old) }
+    {
+        self.queue.remove(handle, id)
+    }
+
+    /// Takes the entity out of the world.
+    ///
+    /// # Errors
+    ///
+    /// `Memory`, and then nothing has changed.
+    #[inline]
+    pub fn despawn(&mut self, handle: Handle) -> Result<(), Memory>
+        // requires { IsReady self.old }
+        // ensures extends { Extends self.old self.new }
+        // ensures reserver { reserver_of self.new ≡ reserver_of self.old }
+        // ensures ok { OnOk result (queue_of self.new ≡ queue_of self.old ++ Despawn handle ∷ []) }
+        // ensures err { OnErr result (queue_of self.new ≡ queue_of self.old) }
+    {
+        self.queue.despawn(handle)
+    }
+}
+
+impl<Q> Commands<'_, Q> {
+    /// Gives the queue back, and the reserver to its owner.
+    #[inline]
+    pub fn finish(self) -> Q
+        // ensures reserver { self.exit.0.now ≡ self.entry.reserver.now }
+        // ensures queue { result ≡ self.entry.queue }
+    {
+        let Commands {
+            reserver: _,
+            shared: _,
+            queue,
+            alloc: _,
+        } = self;
+        queue
+    }
+}

@@ -1,0 +1,27 @@
+// Made of crates/ent_queue/src/entry.rt by rust/erase. It isn't edited by hand.
+
+use crate::proved::ent_queue::bundle_ref::BundleRef;
+use crate::proved::ent_queue::handles_ref::HandlesRef;
+use crate::proved::ent_handle::{ComponentId, Handle};
+use crate::proved::ent_shared::Refused;
+
+/// One command of a queue, read in place.
+pub enum Entry<'a> {
+    /// The handle was reserved, and is to have these components.
+    Spawn(Handle, BundleRef<'a>),
+    /// These handles were reserved, and each is to have these components.
+    SpawnMany(HandlesRef<'a>, BundleRef<'a>),
+    /// The entity gets these components, instead of those that it has under the same numbers.
+    Insert(Handle, BundleRef<'a>),
+    /// The entity loses the component, if it has it.
+    Remove(Handle, ComponentId),
+    /// The entity goes.
+    Despawn(Handle),
+    /// A spawn that was given no handle.
+    Refused {
+        /// How many handles were requested.
+        wanted: u32,
+        /// Why there are none.
+        why: Refused,
+    },
+}

@@ -1,0 +1,24 @@
+// Made of crates/ent_queue/src/lib.rt by rust/erase. It isn't edited by hand.
+
+//! Bundles of components, and queues of commands that systems write and a world applies.
+
+mod bundle;
+mod bundle_ref;
+mod commands;
+mod entries;
+mod entry;
+mod fault;
+mod handles_ref;
+mod kind;
+mod queue;
+mod reading;
+mod writing;
+
+pub use bundle::Bundle;
+pub use bundle_ref::{BundleItems, BundleRef};
+pub use commands::Commands;
+pub use entries::Entries;
+pub use entry::Entry;
+pub use fault::QueueFault;
+pub use handles_ref::{Handles, HandlesRef};
+pub use queue::CommandQueue;

@@ -1,0 +1,196 @@
+// Made of crates/ent_queue/src/queue.rt by rust/erase. It isn't edited by hand.
+
+use crate::kit::vec::Vec;
+use crate::proved::ent_queue::entries::Entries;
+use crate::proved::ent_queue::fault::QueueFault;
+use crate::proved::ent_queue::kind::{INSERT, SPAWN};
+use crate::proved::ent_queue::writing::{
+    write_bundle, write_despawn, write_many, write_refused, write_remove, write_with_bundle,
+};
+use crate::proved::ent_handle::{ComponentId, Handle, Memory};
+use crate::proved::ent_shared::{Reserver, Shared};
+use crate::kit::alloc::Global;
+
+/// How many bytes a refusal has.
+const REFUSAL: usize = 14;
+
+/// Commands in the order of issue, packed as bytes.
+///
+/// [`Commands`](crate::proved::ent_queue::Commands) makes it, and nothing else does.
+#[derive(Debug)]
+pub struct CommandQueue {
+    bytes: Vec<u8>,
+    count: usize,
+}
+
+impl CommandQueue {
+    #[inline]
+    pub(super) fn new(alloc: Global) -> Self
+        // ensures { result ≡ [] }
+    {
+        CommandQueue {
+            bytes: Vec::new(alloc),
+            count: 0,
+        }
+    }
+
+    /// How many commands there are.
+    #[inline]
+    pub fn len(&self) -> usize
+        // ensures { result ≡ length self.now }
+    {
+        self.entries().len()
+    }
+
+    /// Whether there is none.
+    #[inline]
+    pub fn is_empty(&self) -> bool
+        // ensures { IsTrue result ↔ (self.now ≡ []) }
+    {
+        self.count == 0
+    }
+
+    /// The commands, in the order of issue. They are read in place.
+    #[inline]
+    pub fn entries(&self) -> Entries<'_>
+        // ensures entries { result ≡ self.now }
+
+        // Each command is in its ranges. A refusal for want of slots says twice how many handles
+        // were wanted, and the two numbers are equal.
+        // ensures each { All IsCommand self.now }
+    {
+        Entries::new(self.count, &self.bytes)
+    }
+
+    /// The bytes of all commands, one after the other.
+    ///
+    /// Each begins with a byte for its kind. All numbers are little endian, a handle has its bits
+    /// in 8 bytes and a value 8 bytes in two's complement. A bundle is its count in 2 bytes, and
+    /// for each item its component's number in 1 byte and its value.
+    ///
+    /// | First byte | Rest |
+    /// |---|---|
+    /// | 0, a spawn | handle, bundle |
+    /// | 1, a spawn of many | count in 4 bytes, the handles, bundle |
+    /// | 2, an insertion | handle, bundle |
+    /// | 3, a removal | handle, component in 1 byte |
+    /// | 4, a despawn | handle |
+    /// | 5, a refusal | wanted in 4 bytes; 1 for `Space`, 2 for `Quota`; what was left in 8 bytes |
+    #[inline]
+    pub fn bytes(&self) -> &[u8]
+        // ensures { result.now ≡ queue_bytes self.now }
+    {
+        &self.bytes
+    }
+
+    /// Grows first, for the spawn and for a refusal alike, and then reserves.
+    #[inline]
+    pub(super) fn spawn(
+        &mut self,
+        shared: &Shared,
+        reserver: &mut Reserver,
+        items: &[(ComponentId, i64)],
+    ) -> Result<Handle, QueueFault>
+        // requires of { IsOf shared.now reserver.old }
+        // requires is { IsBundle items.now }
+        // ensures stays { IsOf shared.now reserver.new }
+        // ensures ok { IfOk result (λ handle. self.new ≡ self.old ++ Spawn handle items.now ∷ []) }
+        // ensures refused { IfErr result (λ fault. self.new ≡ self.old ++ refused_by 1 fault) }
+        // ensures memory { IsErrOf result QueueFault.Memory → reserver.new ≡ reserver.old }
+        // ensures replies { (reply : Result HandleValue Refusal) → result ≡ queued reply
+        //     → IsReturned shared.now reserver.old reserver.new 1 (listed_alone reply) }
+    {
+        let own = 11 + 9 * items.len();
+        self.bytes.reserve(own.max(REFUSAL))?;
+        match shared.reserve(reserver) {
+            Ok(handle) => {
+                write_with_bundle(&mut self.bytes, SPAWN, handle, items);
+                self.count += 1;
+                Ok(handle)
+            }
+            Err(why) => {
+                write_refused(&mut self.bytes, 1, why);
+                self.count += 1;
+                Err(QueueFault::from(why))
+            }
+        }
+    }
+
+    /// Grows first, for the spawn, for a refusal and for the list alike, and then reserves.
+    #[inline]
+    pub(super) fn spawn_many(
+        &mut self,
+        alloc: Global,
+        shared: &Shared,
+        reserver: &mut Reserver,
+        n: u32,
+        items: &[(ComponentId, i64)],
+    ) -> Result<Vec<Handle>, QueueFault>
+        // requires of { IsOf shared.now reserver.old }
+        // requires is { IsBundle items.now }
+        // ensures stays { IsOf shared.now reserver.new }
+        // ensures ok { IfOk result
+        //     (λ handles. self.new ≡ self.old ++ SpawnMany handles.items items.now ∷ []) }
+        // ensures length { IfOk result (λ handles. length handles.items ≡ n) }
+        // ensures refused { IfErr result (λ fault. self.new ≡ self.old ++ refused_by n fault) }
+        // ensures memory { IsErrOf result QueueFault.Memory → reserver.new ≡ reserver.old }
+        // ensures replies { (reply : Result (List HandleValue) Refusal)
+        //     → as_list result ≡ queued reply
+        //     → IsReturned shared.now reserver.old reserver.new n reply }
+    {
+        let mut handles = Vec::with_capacity(alloc, n as usize)?;
+        let own = 7 + 8 * n as usize + 9 * items.len();
+        self.bytes.reserve(own.max(REFUSAL))?;
+        match shared.reserve_many(reserver, n) {
+            Ok(given) => {
+                write_many(&mut self.bytes, &mut handles, n, given);
+                write_bundle(&mut self.bytes, items);
+                self.count += 1;
+                Ok(handles)
+            }
+            Err(why) => {
+                write_refused(&mut self.bytes, n, why);
+                self.count += 1;
+                Err(QueueFault::from(why))
+            }
+        }
+    }
+
+    #[inline]
+    pub(super) fn insert(
+        &mut self,
+        handle: Handle,
+        items: &[(ComponentId, i64)],
+    ) -> Result<(), Memory>
+        // requires { IsBundle items.now }
+        // ensures ok { OnOk result (self.new ≡ self.old ++ Insert handle items.now ∷ []) }
+        // ensures err { OnErr result (self.new ≡ self.old) }
+    {
+        self.bytes.reserve(11 + 9 * items.len())?;
+        write_with_bundle(&mut self.bytes, INSERT, handle, items);
+        self.count += 1;
+        Ok(())
+    }
+
+    #[inline]
+    pub(super) fn remove(&mut self, handle: Handle, id: ComponentId) -> Result<(), Memory>
+        // ensures ok { OnOk result (self.new ≡ self.old ++ Remove handle id ∷ []) }
+        // ensures err { OnErr result (self.new ≡ self.old) }
+    {
+        self.bytes.reserve(10)?;
+        write_remove(&mut self.bytes, handle, id);
+        self.count += 1;
+        Ok(())
+    }
+
+    #[inline]
+    pub(super) fn despawn(&mut self, handle: Handle) -> Result<(), Memory>
+        // ensures ok { OnOk result (self.new ≡ self.old ++ Despawn handle ∷ []) }
+        // ensures err { OnErr result (self.new ≡ self.old) }
+    {
+        self.bytes.reserve(9)?;
+        write_despawn(&mut self.bytes, handle);
+        self.count += 1;
+        Ok(())
+    }
+}

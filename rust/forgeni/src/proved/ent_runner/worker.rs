@@ -1,0 +1,132 @@
+// Made of crates/ent_runner/src/worker.rt by rust/erase. It isn't edited by hand.
+
+//! Workers: each claims systems, one after the other, runs them, and keeps their queues.
+
+use crate::kit::vec::Vec;
+use crate::proved::ent_runner::gate::Gate;
+use crate::proved::ent_runner::system::System;
+use crate::proved::ent_claims::{Claimer, Claims};
+use crate::proved::ent_handle::Memory;
+use crate::proved::ent_queue::{CommandQueue, Commands};
+use crate::proved::ent_shared::{Reserver, Shared};
+use crate::proved::ent_world::View;
+use crate::kit::alloc::Global;
+use crate::kit::thread::{Threads, for_each_mut};
+
+/// The queue that a system has issued.
+pub(super) struct SystemQueue {
+    pub(super) system: usize,
+    pub(super) queue: CommandQueue,
+}
+
+/// What the workers of a frame have in common.
+pub(super) struct Stage<'a, S, G> {
+    pub(super) alloc: Global,
+    pub(super) shared: &'a Shared,
+    pub(super) view: View<'a>,
+    pub(super) systems: &'a [S],
+    pub(super) claims: &'a Claims,
+    pub(super) gate: &'a G,
+}
+
+/// A worker, which reserves and claims for all systems that it runs.
+pub(super) struct Worker {
+    pub(super) reserver: Reserver,
+    pub(super) claimer: Claimer,
+    /// The queues of the systems that it ran, in the order of the claims. If a system stopped,
+    /// its queue is the last one.
+    pub(super) issued: Vec<SystemQueue>,
+    /// Memory was refused to it or to its last system, so it has claimed no more.
+    pub(super) stopped: bool,
+}
+
+impl<S: System, G: Gate> Stage<'_, S, G> {
+    /// Runs the system of this number. Its queue has what it issued, also if it stopped.
+    #[inline]
+    fn issue(&self, system: usize, reserver: &mut Reserver) -> (CommandQueue, Result<(), Memory>)
+        // requires system { system < length self.now.systems.now }
+        // requires reserver { IsOf self.now.shared.now reserver.old }
+        // ensures stays { IsOf self.now.shared.now reserver.new }
+        // ensures gains { Gains reserver.old.own result.0 reserver.new.own }
+        // ensures may { OnOk result.1
+        //     (SystemMayIssue S.may_issue self.now.systems.now self.now.view system result.0) }
+        // ensures leaves { OnErr result.1
+        //     (SystemMayIssue S.may_leave self.now.systems.now self.now.view system result.0) }
+    {
+        self.gate.entered(system);
+        let mut commands = Commands::new(self.alloc, self.shared, reserver);
+        let ran = self.systems[system].run(self.alloc, &self.view, &mut commands);
+        (commands.finish(), ran)
+    }
+}
+
+impl Worker {
+    /// Runs the systems that it claims, until none is left. It claims one only if there is room
+    /// for its queue, which there is for the first one.
+    #[inline]
+    fn work<S: System, G: Gate>(&mut self, stage: &Stage<'_, S, G>) -> Result<(), Memory>
+        // requires systems { stage.now.claims.now.numbers ≡ length stage.now.systems.now }
+        // requires reserver { IsOf stage.now.shared.now self.old.reserver }
+        // requires claimer { IsClaimerOf stage.now.claims.now self.old.claimer }
+        // requires fresh { IsNewWorker self.old }
+        // ensures reserver { IsOf stage.now.shared.now self.new.reserver }
+        // ensures claimer { IsClaimerOf stage.now.claims.now self.new.claimer }
+        // ensures inside { All (λ i. i.system < length stage.now.systems.now) self.new.issued.items }
+        // ensures ran_some { HasRunSome S.may_issue S.may_leave stage.now.systems.now stage.now.view
+        //     self.old.reserver.own self.new.reserver.own self.new.claimer.own.claims
+        //     self.new.issued.items }
+        // ensures ran { OnOk result (HasRun S.may_issue stage.now.systems.now stage.now.view
+        //     self.old.reserver.own self.new.reserver.own self.new.claimer.own.claims
+        //     self.new.issued.items) }
+        // ensures ended { OnOk result (self.new.claimer.own.ended ≡ true) }
+        // ensures some { OnErr result (0 < length self.new.issued.items) }
+        // ensures stopped { self.new.stopped ≡ self.old.stopped }
+    {
+        while let Some(system) = stage.claims.next(&mut self.claimer) {
+            let (queue, ran) = stage.issue(system, &mut self.reserver);
+            self.issued.push_reserved(SystemQueue { system, queue });
+            ran?;
+            self.issued.reserve(1)?;
+        }
+        Ok(())
+    }
+
+    /// Works, and remembers if memory was refused.
+    #[inline]
+    fn run<S: System, G: Gate>(&mut self, stage: &Stage<'_, S, G>)
+        // requires systems { stage.now.claims.now.numbers ≡ length stage.now.systems.now }
+        // requires reserver { IsOf stage.now.shared.now self.old.reserver }
+        // requires claimer { IsClaimerOf stage.now.claims.now self.old.claimer }
+        // requires fresh { IsNewWorker self.old }
+        // ensures { HasWorked S.may_issue S.may_leave stage.now.shared.now stage.now.claims.now
+        //     stage.now.systems.now stage.now.view self.old.reserver.own self.new }
+    {
+        self.stopped = self.work(stage).is_err();
+    }
+}
+
+/// All workers work side by side, each in a thread of its own if one can be started.
+#[inline]
+pub(super) fn run_all<R, S, G>(rt: &R, stage: &Stage<'_, S, G>, workers: &mut [Worker])
+where
+    R: Threads + Sync,
+    S: System + Sync,
+    G: Gate + Sync,
+    // requires systems { stage.now.claims.now.numbers ≡ length stage.now.systems.now }
+    // requires some { 0 < length workers.old }
+    // requires ready { All (λ w. IsOf stage.now.shared.now w.reserver
+    //     × IsClaimerOf stage.now.claims.now w.claimer × IsNewWorker w) workers.old }
+    // ensures count { length workers.new ≡ length workers.old }
+    // ensures each { (k : ℕ) (d : _) → k < length workers.old
+    //     → HasWorked S.may_issue S.may_leave stage.now.shared.now stage.now.claims.now
+    //     stage.now.systems.now stage.now.view (slice_index_or workers.old k d).reserver.own
+    //     (slice_index_or workers.new k d) }
+{
+    let threads = workers.len();
+    for_each_mut(
+        rt,
+        workers,
+        threads,
+        &|_, worker: &mut Worker| { worker.run(stage) },
+    );
+}

@@ -1,0 +1,18 @@
+// Made of crates/ent_shared/src/lib.rt by rust/erase. It isn't edited by hand.
+
+//! Reservation by many threads at once: one atomic word counts down, and each caller reserves from
+//! it through a shared reference.
+
+mod phase;
+mod record;
+mod refused;
+mod reserver;
+mod rule;
+mod shared;
+mod word;
+
+pub use phase::share;
+pub use record::{Record, RecordEntry, Reservation, Start};
+pub use refused::Refused;
+pub use reserver::Reserver;
+pub use shared::Shared;

@@ -1,0 +1,49 @@
+// Made of crates/ent_shared/src/reserver.rt by rust/erase. It isn't edited by hand.
+
+use crate::proved::ent_shared::record::Record;
+use crate::proved::ent_alloc::CREDIT;
+use crate::proved::ent_seats::RecordsBadge;
+
+/// The right of one caller to reserve from a shared allocator, and what is left of its credit.
+///
+/// [`share`](crate::proved::ent_shared::share) makes them, and [`Shared::close`](crate::proved::ent_shared::Shared::close) takes them back.
+/// A caller that reserves in a thread of its own takes one along.
+pub struct Reserver {
+    pub(super) badge: RecordsBadge<Record>,
+    pub(super) number: usize,
+    pub(super) left: u64,
+    pub(super) floor: i64,
+}
+
+impl Reserver {
+    #[inline]
+    pub(super) fn new(badge: RecordsBadge<Record>, number: usize, floor: i64) -> Self
+        // requires { IsSeated badge.views number credit floor }
+        // ensures { result ≡ record { word = badge.table_id; own = own_of badge.views } }
+    {
+        Reserver {
+            badge,
+            number,
+            left: CREDIT,
+            floor,
+        }
+    }
+
+    /// Which of the reservers it is: its position in the list that `share` gave, from 0.
+    #[inline]
+    pub fn number(&self) -> usize
+        // ensures { result ≡ self.now.own.number }
+    {
+        self.number
+    }
+
+    /// How many handles it may still request in this phase: [`CREDIT`] less what it has requested,
+    /// served or not.
+    #[inline]
+    pub fn left(&self) -> u64
+        // ensures left { result ≡ self.now.own.left }
+        // ensures credit { result + requested_by self.now.own ≡ credit }
+    {
+        self.left
+    }
+}

@@ -1,0 +1,33 @@
+// Made of crates/ent_shared/src/rule.rt by rust/erase. It isn't edited by hand.
+
+//! The rule over the cursor word and the records of all reservers, and what its steps tell.
+
+use crate::proved::ent_shared::record::Record;
+use crate::kit::atomic_table::{Join, Play, Split, TableRule};
+use crate::proved::ent_alloc::Entities;
+use crate::proved::ent_seats::SeatRecords;
+
+/// What a phase begins with.
+pub(super) struct Opening {
+    pub(super) entities: Entities,
+    pub(super) count: usize,
+}
+
+pub(super) struct Cursor;
+
+impl TableRule<(), SeatRecords<Record>, Opening> for Cursor {}
+
+/// A reservation.
+pub(super) struct Reserve;
+
+impl Play<(), SeatRecords<Record>> for Reserve {}
+
+/// The first reserver meets the second.
+pub(super) struct Meet;
+
+impl Join<SeatRecords<Record>> for Meet {}
+
+/// The reserver that was met goes back to a seat of its own.
+pub(super) struct SplitSecond;
+
+impl Split<SeatRecords<Record>> for SplitSecond {}

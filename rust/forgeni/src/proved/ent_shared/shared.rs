@@ -1,0 +1,247 @@
+// Made of crates/ent_shared/src/shared.rt by rust/erase. It isn't edited by hand.
+
+use crate::kit::vec::Vec;
+use crate::proved::ent_shared::refused::Refused;
+use crate::proved::ent_shared::reserver::Reserver;
+use crate::proved::ent_shared::word;
+use crate::proved::ent_shared::word::Word;
+use crate::proved::ent_alloc::{Entities, Reserved, Span};
+use crate::proved::ent_handle::Handle;
+use crate::proved::ent_seats::{merge, new_seat};
+
+/// An allocator that many callers reserve from at once, each with a [`Reserver`] of its own.
+pub struct Shared {
+    entities: Entities,
+    word: Word,
+    count: usize,
+}
+
+impl Shared {
+    #[inline]
+    pub(super) fn new(entities: Entities, word: Word, count: usize) -> Self
+        // requires { IsPhase entities count word.shared.key word.shared.table_id }
+        // ensures { result ≡ record {
+        //   word = word.shared.table_id;
+        //   start = entities.allocator;
+        //   rows = entities.rows;
+        //   count = count;
+        // } }
+    {
+        Shared {
+            entities,
+            word,
+            count,
+        }
+    }
+}
+
+impl Shared {
+    /// How many reservers `share` made for it.
+    #[inline]
+    pub fn count(&self) -> usize
+        // ensures { result ≡ self.now.count }
+    {
+        self.count
+    }
+
+    /// Reserves one handle, by one atomic step. It takes no memory and waits for nobody.
+    ///
+    /// The handle is what the allocator would have given to one caller at that moment.
+    ///
+    /// # Errors
+    ///
+    /// - [`Refused::Quota`] if no credit is left. Nothing has changed.
+    /// - [`Refused::Space`] if the pool is empty. The request is taken from the credit all the
+    ///   same.
+    #[inline]
+    pub fn reserve(&self, reserver: &mut Reserver) -> Result<Handle, Refused>
+        // requires { IsOf self.now reserver.old }
+        // ensures stays { IsOf self.now reserver.new }
+        // ensures quota { reserver.old.own.left ≡ 0
+        //     → (result ≡ Err (Quota 0)) × (reserver.new ≡ reserver.old) }
+        // ensures gains { 0 < reserver.old.own.left
+        //     → Reserves self.now reserver.old reserver.new 1 (listed_alone result) }
+
+        // What was given is recorded.
+        // ensures given { IfOk result (λ handle.
+        //     handles_given reserver.new.own ≡ handles_given reserver.old.own ++ handle ∷ []) }
+        // ensures refused { OnErr result
+        //     (handles_given reserver.new.own ≡ handles_given reserver.old.own) }
+    {
+        if reserver.left == 0 {
+            return Err(Refused::Quota { left: 0 });
+        }
+        let high = word::reserve(&self.word, &mut reserver.badge, 1);
+        reserver.left -= 1;
+        let handle = self.entities.reply_one(high)?;
+        reserver.floor = high - 1;
+        Ok(handle)
+    }
+
+    /// Reserves `n` handles at once, by one atomic step. It takes no memory and waits for nobody. A
+    /// request of 0 makes no step and is always served.
+    ///
+    /// The handles are what the allocator would have given to one caller at that moment, in the
+    /// order of [`Entities::reply`]. They borrow from the allocator.
+    ///
+    /// # Errors
+    ///
+    /// - [`Refused::Quota`] if `n` is above the credit that is left. Nothing has changed.
+    /// - [`Refused::Space`] if the pool has fewer than `n` handles. The request is taken from the
+    ///   credit all the same, and the pool gives no more until the next flush.
+    #[inline]
+    pub fn reserve_many(&self, reserver: &mut Reserver, n: u32) -> Result<Reserved<'_>, Refused>
+        // requires { IsOf self.now reserver.old }
+        // ensures stays { IsOf self.now reserver.new }
+        // ensures quota { reserver.old.own.left < n
+        //     → (result ≡ Err (Quota reserver.old.own.left)) × (reserver.new ≡ reserver.old) }
+        // ensures nothing { n ≡ 0 → (result ≡ Ok []) × (reserver.new ≡ reserver.old) }
+        // ensures gains { 0 < n → n ≤ reserver.old.own.left
+        //     → Reserves self.now reserver.old reserver.new n result }
+        // ensures length { IfOk result (λ handles. length handles ≡ n) }
+
+        // What was given is recorded.
+        // ensures given { IfOk result (λ handles.
+        //     handles_given reserver.new.own ≡ handles_given reserver.old.own ++ handles) }
+        // ensures refused { OnErr result
+        //     (handles_given reserver.new.own ≡ handles_given reserver.old.own) }
+    {
+        if u64::from(n) > reserver.left {
+            return Err(Refused::Quota {
+                left: reserver.left,
+            });
+        }
+        if n == 0 {
+            let top = i64::from(self.entities.top());
+            let Ok(nothing) = self.entities.reply(Span::new(top, 0)) else {
+                unreachable!()
+            };
+            return Ok(nothing);
+        }
+        let span = Span::new(word::reserve(&self.word, &mut reserver.badge, n), n);
+        reserver.left -= u64::from(n);
+        let handles = self.entities.reply(span)?;
+        reserver.floor = span.low;
+        Ok(handles)
+    }
+
+    /// Orders two reservers: every later reservation by `a` comes after everything that `b` has
+    /// reserved or learned of so far. It makes two atomic steps, takes no memory and waits for
+    /// nobody.
+    #[inline]
+    pub fn meet(&self, a: &mut Reserver, b: &mut Reserver)
+        // requires first { IsOf self.now a.old }
+        // requires second { IsOf self.now b.old }
+        // ensures meets { a.new ≡ record a.old { own = after_meeting a.old.own b.old.own } }
+        // ensures met { b.new ≡ b.old }
+        // ensures given { handles_given a.new.own ≡ handles_given a.old.own }
+        // ensures first { IsOf self.now a.new }
+        // ensures second { IsOf self.now b.new }
+
+        // Every reservation that b has made or learned of ends above where a's next one may begin.
+        // ensures mark { IsBelow a.new.own.mark b.old.own.entries }
+    {
+        word::meet(&self.word, &mut a.badge, &mut b.badge);
+    }
+
+    /// Ends the phase with all its reservers. The allocator is as if their reservations had been
+    /// made one by one, in the order of their atomic steps. It takes no memory.
+    #[inline]
+    pub fn close(self, reservers: Vec<Reserver>) -> Entities
+        // requires all { length reservers.items ≡ self.count }
+        // requires own { All (IsOf self) reservers.items }
+        // ensures legal { IsLegal self.start (history_of (records_of reservers.items)) }
+        // ensures respects { let records = records_of reservers.items in
+        //     All (Respects (reservations_of records)) records }
+        // ensures after { result.allocator
+        //     ≡ after_history self.start (history_of (records_of reservers.items)) }
+        // ensures rows { result.rows ≡ self.rows }
+        // ensures rows_of_living { HasRowsOfLiving result }
+
+        // Each reservation stands once, where its step came: the cursor falls with each.
+        // ensures falls { AllPairs (λ earlier later. later.high <ℤ earlier.high)
+        //     (reservations_of (records_of reservers.items)) }
+
+        // Each reserver has a number of its own.
+        // ensures numbers { AllPairs (λ r s. r.number ≢ s.number) (records_of reservers.items) }
+
+        // No handle was given twice, and none was alive.
+        // ensures distinct { AllPairs (λ g h. g ≢ h)
+        //     (given_in (history_of (records_of reservers.items))) }
+        // ensures not_live { All (λ h. ¬ (IsLive self.start h))
+        //     (given_in (history_of (records_of reservers.items))) }
+
+        // A flush brings to life exactly what was given.
+        // ensures brings_to_life { let given = given_in (history_of (records_of reservers.items)) in
+        //     (h : HandleValue) →
+        //     IsLive (after_flush result.allocator) h ↔ (IsLive self.start h ⊎ Contains given h) }
+    {
+        let Shared {
+            mut entities,
+            word,
+            ..
+        } = self;
+        let (cursor, floor) = end_phase(word, i64::from(entities.top()), reservers);
+        entities.settle(cursor, floor);
+        entities
+    }
+
+    /// Ends the phase although some reservers may be lost. The cursor tells how many handles were
+    /// requested in all, but not which of the lost reservers' requests were refused. So the front
+    /// of the pool counts as reserved, as far as it goes, also those handles that nobody got. It
+    /// takes no memory.
+    #[inline]
+    pub fn close_lost(self, reservers: Vec<Reserver>) -> Entities
+        // requires own { All (IsOf self) reservers.items }
+        // ensures after { result.allocator ≡ after_loss self.start result.allocator.asked }
+        // ensures rows { result.rows ≡ self.rows }
+        // ensures rows_of_living { HasRowsOfLiving result }
+
+        // It counts what the reservers that are here have requested, and of the others no more than
+        // their credit.
+        // ensures least { sum_by (λ r. requested_by r.own) reservers.items
+        //     ≤ result.allocator.asked }
+        // ensures most { sum_by (λ r. r.own.left) reservers.items + result.allocator.asked
+        //     ≤ self.count * credit }
+        // ensures reached { All (λ r. cursor result.allocator ≤ℤ r.own.mark) reservers.items }
+
+        // If all are here, it counts what they have requested, and the cursor is where `close`
+        // leaves it.
+        // ensures asked { length reservers.items ≡ self.count
+        //     → sum_by (λ r. requested_by r.own) reservers.items ≡ result.allocator.asked }
+        // ensures whole { length reservers.items ≡ self.count
+        //     → cursor result.allocator
+        //     ≡ cursor (after_history self.start (history_of (records_of reservers.items))) }
+
+        // What the reservers that are here were given is reserved.
+        // ensures given { All (λ r. All (Contains result.allocator.taken) (handles_given r.own))
+        //     reservers.items }
+    {
+        let Shared {
+            mut entities,
+            word,
+            ..
+        } = self;
+        let (cursor, _) = end_phase(word, i64::from(entities.top()), reservers);
+        entities.settle(cursor, cursor.max(-i64::from(entities.room())));
+        entities
+    }
+}
+
+/// The cursor at the end of a phase, and the least floor of the reservers that are here.
+#[inline]
+fn end_phase(word: Word, top: i64, reservers: Vec<Reserver>) -> (i64, i64)
+    // requires word { (word.shared.table_id.words ≡ 1) × (word.shared.table_id.slots ≡ 0) }
+    // requires own { All (λ r. r.word ≡ word.shared.table_id) reservers.items }
+    // ensures cursor { let opening = word.shared.key in
+    //     IsClosed opening.entities.allocator opening.count (records_of reservers.items) result.0 }
+    // ensures floor { result.1 ≡ least_floor top (records_of reservers.items) }
+{
+    let mut all = new_seat(&word);
+    let mut floor = top;
+    for reserver in reservers {
+        floor = floor.min(reserver.floor);
+        merge(&word, &mut all, reserver.badge);
+    }
+    (word::close(word, all), floor)
+}

@@ -1,0 +1,210 @@
+// Made of crates/ent_storage/src/columns.rt by rust/erase. It isn't edited by hand.
+
+use crate::kit::vec::Vec;
+use super::sparse_set::SparseSet;
+use crate::proved::ent_handle::ComponentId;
+use crate::kit::alloc::{AllocError, Global};
+
+/// The value of the component at the place, if the entity there has it.
+#[inline]
+pub fn value(columns: &[SparseSet], place: usize, id: ComponentId) -> Option<i64>
+    // ensures { result ≡ value_at columns.now place id }
+{
+    columns.get(id.0 as usize)?.get(place)
+}
+
+/// Makes room for the items at the place. After an `Err` all values are as before.
+#[inline(always)]
+pub fn reserve_all(
+    columns: &mut Vec<SparseSet>,
+    used: &mut Vec<u8>,
+    alloc: Global,
+    place: usize,
+    items: &[(ComponentId, i64)],
+) -> Result<(), AllocError>
+    // requires numbered { length columns.old.items ≤ 256 }
+    // requires in_use { AreInUse used.old.items columns.old.items }
+    // ensures in_use { AreInUse used.new.items columns.new.items }
+    // ensures values { (number : ℕ) → (column_at columns.new.items number).values
+    //     ≡ (column_at columns.old.items number).values }
+    // ensures ok { OnOk result
+    //     (All (λ item. HasRoomAt (column_at columns.new.items item.0.0) place) items.now) }
+    // ensures growing { OnErr result (0 < missing (components_at columns.old.items place) items.now) }
+    // ensures numbered { length columns.new.items ≤ 256 }
+{
+    for item in items {
+        reserve(columns, used, alloc, place, item.0)?;
+    }
+    Ok(())
+}
+
+/// Makes room for a value of the component at the place. It takes memory only if there is none.
+#[inline(always)]
+fn reserve(
+    columns: &mut Vec<SparseSet>,
+    used: &mut Vec<u8>,
+    alloc: Global,
+    place: usize,
+    id: ComponentId,
+) -> Result<(), AllocError>
+    // requires numbered { length columns.old.items ≤ 256 }
+    // requires in_use { AreInUse used.old.items columns.old.items }
+    // ensures in_use { AreInUse used.new.items columns.new.items }
+    // ensures values { (number : ℕ) → (column_at columns.new.items number).values
+    //     ≡ (column_at columns.old.items number).values }
+    // ensures ok { OnOk result (HasRoomAt (column_at columns.new.items id.0) place) }
+    // ensures kept { (number : ℕ) → HasRoomAt (column_at columns.old.items number) place
+    //     → HasRoomAt (column_at columns.new.items number) place }
+    // ensures growing { OnErr result (value_at columns.old.items place id ≡ None) }
+    // ensures numbered { length columns.new.items ≤ 256 }
+{
+    if has_room(columns, place, id) || value(columns, place, id).is_some() {
+        return Ok(());
+    }
+    put_in_use(columns, used, alloc, id)?;
+    columns[id.0 as usize].reserve(place)
+}
+
+/// Whether a value of the component can be set at the place without memory. It may say no of a
+/// place that has a value.
+#[inline]
+fn has_room(columns: &[SparseSet], place: usize, id: ComponentId) -> bool
+    // ensures { IsTrue result → HasRoomAt (column_at columns.now id.0) place }
+{
+    match columns.get(id.0 as usize) {
+        Some(column) => column.has_room(place),
+        None => false,
+    }
+}
+
+/// Makes the component's column one that is there and in use. All values are as before.
+#[inline(always)]
+fn put_in_use(
+    columns: &mut Vec<SparseSet>,
+    used: &mut Vec<u8>,
+    alloc: Global,
+    id: ComponentId,
+) -> Result<(), AllocError>
+    // requires numbered { length columns.old.items ≤ 256 }
+    // requires in_use { AreInUse used.old.items columns.old.items }
+    // ensures in_use { AreInUse used.new.items columns.new.items }
+    // ensures same { (number : ℕ) → column_at columns.new.items number
+    //     ≡ column_at columns.old.items number }
+    // ensures there { OnOk result (id.0 < length columns.new.items) }
+    // ensures ok { OnOk result (Contains used.new.items id.0) }
+    // ensures numbered { length columns.new.items ≤ 256 }
+{
+    if is_in_use(columns, id) {
+        return Ok(());
+    }
+    grow(columns, alloc, id.0 as usize + 1)?;
+    mark(used, id.0)
+}
+
+/// Whether the component's column has had room before, and so is there and in use.
+#[inline]
+fn is_in_use(columns: &[SparseSet], id: ComponentId) -> bool
+    // ensures there { IsTrue result → id.0 < length columns.now }
+    // ensures places { IsTrue result → 0 < (column_at columns.now id.0).places }
+{
+    match columns.get(id.0 as usize) {
+        Some(column) => column.has_places(),
+        None => false,
+    }
+}
+
+/// Writes down that the column of the number is in use. The numbers stay in rising order.
+#[inline(never)]
+fn mark(used: &mut Vec<u8>, number: u8) -> Result<(), AllocError>
+    // ensures in_use { (columns : List Column) → number < length columns
+    //     → AreInUse used.old.items columns → AreInUse used.new.items columns }
+    // ensures ok { OnOk result (Contains used.new.items number) }
+{
+    if let Err(gap) = used.binary_search(&number) {
+        used.insert(gap, number)?;
+    }
+    Ok(())
+}
+
+/// Adds columns without values until there are that many.
+#[inline(never)]
+fn grow(columns: &mut Vec<SparseSet>, alloc: Global, count: usize) -> Result<(), AllocError>
+    // requires numbered { length columns.old.items ≤ 256 }
+    // requires count { count ≤ 256 }
+    // ensures same { (number : ℕ) → column_at columns.new.items number
+    //     ≡ column_at columns.old.items number }
+    // ensures ok { OnOk result (count ≤ length columns.new.items) }
+    // ensures longer { length columns.old.items ≤ length columns.new.items }
+    // ensures numbered { length columns.new.items ≤ 256 }
+{
+    for _ in columns.len()..count {
+        columns.push(SparseSet::new(alloc))?;
+    }
+    Ok(())
+}
+
+/// Sets each of the items at the place. There has to be room for them.
+#[inline(always)]
+pub fn set_all(columns: &mut [SparseSet], place: usize, items: &[(ComponentId, i64)])
+    // requires { All (λ item. HasRoomAt (column_at columns.old item.0.0) place) items.now }
+    // ensures here { components_at columns.new place
+    //     ≡ with_items (components_at columns.old place) items.now }
+    // ensures others { (other : ℕ) (id : ComponentId) → other ≢ place
+    //     → value_at columns.new other id ≡ value_at columns.old other id }
+    // ensures rest { (number : ℕ) → column_at columns.old number ≡ no_column
+    //     → column_at columns.new number ≡ no_column }
+    // ensures len { length columns.new ≡ length columns.old }
+{
+    for item in items {
+        set(columns, place, *item);
+    }
+}
+
+/// Sets the value of one component at the place. There has to be room for it.
+#[inline]
+fn set(columns: &mut [SparseSet], place: usize, item: (ComponentId, i64))
+    // requires { HasRoomAt (column_at columns.old item.0.0) place }
+    // ensures set { (column_at columns.new item.0.0).values
+    //     ≡ map.insert (column_at columns.old item.0.0).values place item.1 }
+    // ensures others { (number : ℕ) → number ≢ item.0.0
+    //     → column_at columns.new number ≡ column_at columns.old number }
+    // ensures len { length columns.new ≡ length columns.old }
+{
+    columns[item.0.0 as usize].set(place, item.1);
+}
+
+/// Takes the value of one component at the place out, and returns it.
+#[inline(always)]
+pub fn remove(columns: &mut [SparseSet], place: usize, id: ComponentId) -> Option<i64>
+    // ensures value { result ≡ value_at columns.old place id }
+    // ensures here { components_at columns.new place
+    //     ≡ map.remove (components_at columns.old place) id }
+    // ensures others { (other : ℕ) (id : ComponentId) → other ≢ place
+    //     → value_at columns.new other id ≡ value_at columns.old other id }
+    // ensures rest { (number : ℕ) → column_at columns.old number ≡ no_column
+    //     → column_at columns.new number ≡ no_column }
+    // ensures len { length columns.new ≡ length columns.old }
+{
+    let number = id.0 as usize;
+    if number < columns.len() {
+        columns[number].remove(place)
+    } else {
+        None
+    }
+}
+
+/// Takes all values at the place out, and moves those at the last place there. Only the columns in
+/// use are looked at.
+#[inline(always)]
+pub fn swap_remove(columns: &mut [SparseSet], used: &[u8], place: usize, last: usize)
+    // requires before { place ≤ last }
+    // requires in_use { AreInUse used.now columns.old }
+    // ensures in_use { AreInUse used.now columns.new }
+    // ensures moved { (number : ℕ) → IsMovedDown place last (column_at columns.old number).values
+    //     (column_at columns.new number).values }
+    // ensures len { length columns.new ≡ length columns.old }
+{
+    for number in used {
+        columns[*number as usize].swap_remove(place, last);
+    }
+}

@@ -1,0 +1,36 @@
+// Made of crates/ent_storage/src/fault.rt by rust/erase. It isn't edited by hand.
+
+use core::error::Error;
+use core::fmt;
+
+/// Why a storage refused a call. The storage is as it was before.
+#[derive(Clone, Copy, Debug, PartialEq, Eq)]
+pub enum StorageFault {
+    /// No entity has that handle.
+    Absent,
+    /// An entity has that handle already.
+    Present,
+    /// Memory ran out: a growth was really refused, or there would be more than 4,294,967,296
+    /// entities.
+    Memory,
+}
+
+impl fmt::Display for StorageFault {
+    #[inline]
+    fn fmt(&self, f: &mut fmt::Formatter<'_>) -> fmt::Result {
+        match self {
+            StorageFault::Absent => f.write_str("no such entity"),
+            StorageFault::Present => f.write_str("the entity is there already"),
+            StorageFault::Memory => f.write_str("out of memory"),
+        }
+    }
+}
+
+impl Error for StorageFault {}
+
+impl From<crate::proved::ent_handle::Memory> for StorageFault {
+    #[inline]
+    fn from(_refused: crate::proved::ent_handle::Memory) -> Self {
+        StorageFault::Memory
+    }
+}

@@ -1,0 +1,274 @@
+// Made of crates/ent_storage/src/index.rt by rust/erase. It isn't edited by hand.
+
+use crate::kit::vec::Vec;
+use super::living::{Living, has_handle_at};
+use super::places::MOST_PLACES;
+use super::slot::search_slot;
+use crate::proved::ent_handle::Handle;
+use crate::kit::alloc::{AllocError, Global};
+
+/// The place of each entity, and places of entities that are gone. The pairs are in the order of
+/// handles, so that a look-up is a binary search at most. If each slot has one pair, as with an
+/// allocator's handles, the pair stands at the slot's number, where it is looked for first.
+///
+/// A pair counts only if its place has the pair's handle. So to take an entity out, nothing is
+/// moved here. The pair of the slot's next occupant takes over the one before it, because it comes
+/// next in the order.
+pub struct Index {
+    pairs: Vec<(Handle, u32)>,
+}
+
+impl Index {
+    /// An index of no entities, without room.
+    #[inline]
+    pub fn new(alloc: Global) -> Self
+        // ensures { result ≡ record { by_handle = map.empty; room = 0 } }
+    {
+        Index {
+            pairs: Vec::new(alloc),
+        }
+    }
+
+    /// The place of the entity, if it is among the living.
+    #[inline(always)]
+    pub fn place(&self, living: &Living, handle: Handle) -> Option<usize>
+        // ensures { result ≡ map.get (counted living.now.entities self.now.by_handle) handle }
+    {
+        let found = search_slot(&self.pairs, handle);
+        place_found(&self.pairs, living, handle, found)
+    }
+
+    /// Writes down that the entity has the next place, after all the living, and returns whether it
+    /// did: not if the living have the entity already. It takes no memory.
+    ///
+    /// The handle is looked for once, and once more only if pairs have to be dropped.
+    #[inline(always)]
+    pub fn put(&mut self, living: &Living, handle: Handle) -> bool
+        // requires room { length living.now.entities < self.old.room }
+        // ensures new { result
+        //     ≡ is_none (map.get (counted living.now.entities self.old.by_handle) handle) }
+        // ensures placed { IsTrue result
+        //     → map.get self.new.by_handle handle ≡ Some (length living.now.entities) }
+        // ensures kept { IsTrue result
+        //     → Keeps handle (counted living.now.entities self.old.by_handle) self.new.by_handle }
+        // ensures refused { ¬ (IsTrue result) → self.new ≡ self.old }
+        // ensures room { self.new.room ≡ self.old.room }
+    {
+        let found = search_slot(&self.pairs, handle);
+        if place_found(&self.pairs, living, handle, found).is_some() {
+            return false;
+        }
+        let place = living.len() as u32;
+        put_found(&mut self.pairs, living, found, (handle, place));
+        true
+    }
+
+    /// Changes the place of an entity that is there.
+    #[inline(always)]
+    pub fn set_place(&mut self, handle: Handle, place: usize)
+        // requires there { IsSome (map.get self.old.by_handle handle) }
+        // requires room { place < self.old.room }
+        // ensures { self.new
+        //     ≡ record self.old { by_handle = map.insert self.old.by_handle handle place } }
+    {
+        if let Ok(position) = search_slot(&self.pairs, handle) {
+            self.pairs[position] = (handle, place as u32);
+        }
+    }
+
+    /// For how many handles there is room in all.
+    #[inline]
+    pub fn room(&self) -> usize
+        // ensures { result ≡ self.now.room }
+    {
+        self.pairs.capacity().min(MOST_PLACES)
+    }
+
+    /// Makes room for `count` handles in all. After an `Err` nothing is changed.
+    #[inline]
+    pub fn reserve(&mut self, count: usize) -> Result<(), AllocError>
+        // ensures by_handle { self.new.by_handle ≡ self.old.by_handle }
+        // ensures ok { OnOk result (count ≤ self.new.room) }
+        // ensures err { OnErr result (self.new.room ≡ self.old.room) }
+        // ensures grows { self.old.room ≤ self.new.room }
+        // ensures succeeds { count ≤ self.old.room → IsOk result }
+    {
+        let additional = count.saturating_sub(self.pairs.len());
+        if count > MOST_PLACES {
+            return Err(AllocError);
+        }
+        self.pairs.reserve(additional)
+    }
+}
+
+/// The place in the pair that was found, if one was, and it counts.
+#[inline(always)]
+fn place_found(
+    pairs: &[(Handle, u32)],
+    living: &Living,
+    handle: Handle,
+    found: Result<usize, usize>,
+) -> Option<usize>
+    // requires sorted { T (map.is_sorted handle_cmp pairs.now) }
+    // requires found { IfOk found (IsAt handle_cmp pairs.now handle) }
+    // requires absent { IfErr found (IsGapFor handle_cmp pairs.now handle) }
+    // ensures { result ≡ map.get (counted living.now.entities (map.from_sorted pairs.now)) handle }
+{
+    let Ok(position) = found else {
+        return None;
+    };
+    let place = pairs[position].1 as usize;
+    if has_handle_at(living, handle, place) {
+        Some(place)
+    } else {
+        None
+    }
+}
+
+/// Drops the pairs that don't count. It takes no memory.
+#[inline(never)]
+fn sweep(pairs: &mut Vec<(Handle, u32)>, living: &Living)
+    // requires { T (map.is_sorted handle_cmp pairs.old.items) }
+    // ensures sorted { T (map.is_sorted handle_cmp pairs.new.items) }
+    // ensures counted { map.from_sorted pairs.new.items
+    //     ≡ counted living.now.entities (map.from_sorted pairs.old.items) }
+    // ensures len { vec_len pairs.new ≤ length living.now.entities }
+    // ensures capacity { vec_capacity pairs.new ≡ vec_capacity pairs.old }
+{
+    pairs.retain(|pair| has_handle_at(living, pair.0, pair.1 as usize));
+}
+
+/// Puts a pair where its handle was found, or into the gap for it. If there is no room for one pair
+/// more, some pairs don't count. Then it drops those, and looks for the handle again.
+#[inline(always)]
+fn put_found(
+    pairs: &mut Vec<(Handle, u32)>,
+    living: &Living,
+    found: Result<usize, usize>,
+    pair: (Handle, u32),
+)
+    // requires sorted { T (map.is_sorted handle_cmp pairs.old.items) }
+    // requires found { IfOk found (IsAt handle_cmp pairs.old.items pair.0) }
+    // requires absent { IfErr found (IsGapFor handle_cmp pairs.old.items pair.0) }
+    // requires room { length living.now.entities < vec_capacity pairs.old }
+    // ensures sorted { T (map.is_sorted handle_cmp pairs.new.items) }
+    // ensures placed { map.get (map.from_sorted {R = handle_cmp} pairs.new.items) pair.0
+    //     ≡ Some pair.1 }
+    // ensures kept { Keeps pair.0 (counted living.now.entities (map.from_sorted pairs.old.items))
+    //     (map.from_sorted pairs.new.items) }
+    // ensures capacity { vec_capacity pairs.new ≡ vec_capacity pairs.old }
+{
+    if pairs.len() < pairs.capacity() {
+        put_at(pairs, living, found, pair);
+    } else {
+        sweep(pairs, living);
+        let swept = search_slot(pairs, pair.0);
+        put_at(pairs, living, swept, pair);
+    }
+}
+
+/// Puts a pair where its handle was found, or into the gap for it.
+#[inline(always)]
+fn put_at(
+    pairs: &mut Vec<(Handle, u32)>,
+    living: &Living,
+    found: Result<usize, usize>,
+    pair: (Handle, u32),
+)
+    // requires sorted { T (map.is_sorted handle_cmp pairs.old.items) }
+    // requires found { IfOk found (IsAt handle_cmp pairs.old.items pair.0) }
+    // requires absent { IfErr found (IsGapFor handle_cmp pairs.old.items pair.0) }
+    // requires room { vec_len pairs.old < vec_capacity pairs.old }
+    // ensures sorted { T (map.is_sorted handle_cmp pairs.new.items) }
+    // ensures placed { map.get (map.from_sorted {R = handle_cmp} pairs.new.items) pair.0
+    //     ≡ Some pair.1 }
+    // ensures kept { Keeps pair.0 (counted living.now.entities (map.from_sorted pairs.old.items))
+    //     (map.from_sorted pairs.new.items) }
+    // ensures capacity { vec_capacity pairs.new ≡ vec_capacity pairs.old }
+{
+    match found {
+        Ok(position) => pairs[position] = pair,
+        Err(position) => put_in_gap(pairs, living, position, pair),
+    }
+}
+
+/// Puts a pair into the gap for it: over a pair beside the gap that doesn't count, or between the
+/// two.
+#[inline(always)]
+fn put_in_gap(pairs: &mut Vec<(Handle, u32)>, living: &Living, position: usize, pair: (Handle, u32))
+    // requires sorted { T (map.is_sorted handle_cmp pairs.old.items) }
+    // requires gap { IsGapFor handle_cmp pairs.old.items pair.0 position }
+    // requires room { vec_len pairs.old < vec_capacity pairs.old }
+    // ensures sorted { T (map.is_sorted handle_cmp pairs.new.items) }
+    // ensures placed { map.get (map.from_sorted {R = handle_cmp} pairs.new.items) pair.0
+    //     ≡ Some pair.1 }
+    // ensures kept { Keeps pair.0 (counted living.now.entities (map.from_sorted pairs.old.items))
+    //     (map.from_sorted pairs.new.items) }
+    // ensures capacity { vec_capacity pairs.new ≡ vec_capacity pairs.old }
+{
+    match taken_over(pairs, living, position, pair.0) {
+        Some(other) => pairs[other] = pair,
+        None if position == pairs.len() => pairs.push_reserved(pair),
+        None => {
+            let _ = pairs.insert(position, pair);
+        }
+    }
+}
+
+/// Where the pair stands that a new one takes over: beside the gap at the position, and it doesn't
+/// count.
+///
+/// The pair of the same slot comes first, so that the slots' pairs stay at their numbers. At the
+/// end a new pair moves nothing, so it takes over no other slot's.
+#[inline(always)]
+fn taken_over(
+    pairs: &[(Handle, u32)],
+    living: &Living,
+    position: usize,
+    handle: Handle,
+) -> Option<usize>
+    // ensures beside { IfSome result (λ other. (other ≤ position) × (position ≤ other + 1)) }
+    // ensures free { IfSome result (λ other. IsFree living.now.entities pairs.now other) }
+{
+    let before = position.saturating_sub(1);
+    if is_own(pairs, living, before, handle) {
+        return Some(before);
+    }
+    if position == pairs.len() {
+        return None;
+    }
+    if is_own(pairs, living, position, handle) {
+        return Some(position);
+    }
+    if is_free(pairs, living, before) {
+        return Some(before);
+    }
+    if is_free(pairs, living, position) {
+        Some(position)
+    } else {
+        None
+    }
+}
+
+/// Whether a pair of the handle's slot stands there that doesn't count. The slot is compared first,
+/// so that no entity of another slot is looked at.
+#[inline]
+fn is_own(pairs: &[(Handle, u32)], living: &Living, position: usize, handle: Handle) -> bool
+    // ensures { IsTrue result → IsFree living.now.entities pairs.now position }
+{
+    position < pairs.len()
+        && pairs[position].0.index() == handle.index()
+        && is_free(pairs, living, position)
+}
+
+/// Whether a pair stands there that doesn't count.
+#[inline]
+fn is_free(pairs: &[(Handle, u32)], living: &Living, position: usize) -> bool
+    // ensures { IsTrue result → IsFree living.now.entities pairs.now position }
+{
+    if position >= pairs.len() {
+        return false;
+    }
+    let (handle, place) = pairs[position];
+    !has_handle_at(living, handle, place as usize)
+}

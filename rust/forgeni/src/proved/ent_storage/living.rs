@@ -1,0 +1,265 @@
+// Made of crates/ent_storage/src/living.rt by rust/erase. It isn't edited by hand.
+
+use crate::kit::vec::CollectIn;
+use crate::kit::vec::Vec;
+use super::columns;
+use super::items::Items;
+use super::order::least_of_birth;
+use super::sparse_set::SparseSet;
+use crate::proved::ent_handle::{Birth, ComponentId, Handle};
+use crate::kit::alloc::{AllocError, Global};
+
+/// What an entity has besides its components.
+#[derive(Clone, Copy)]
+pub struct Resident {
+    pub handle: Handle,
+    pub birth: Birth,
+}
+
+/// The living entities, place by place.
+///
+/// The residents have the handle and the birth of each. The columns have the components: at a
+/// component's number the values of that component, by the places of the entities that have it. The
+/// columns that have ever had values are in use: their numbers stand in rising order, and a removal
+/// and `items` look at those alone.
+pub struct Living {
+    residents: Vec<Resident>,
+    columns: Vec<SparseSet>,
+    used: Vec<u8>,
+    alloc: Global,
+}
+
+impl Living {
+    /// No entities, without room.
+    #[inline]
+    pub fn new(alloc: Global) -> Self
+        // ensures { result ≡ record { entities = []; room = 0 } }
+    {
+        Living {
+            residents: Vec::new(alloc),
+            columns: Vec::new(alloc),
+            used: Vec::new(alloc),
+            alloc,
+        }
+    }
+
+    /// How many entities there are.
+    #[inline]
+    pub fn len(&self) -> usize
+        // ensures { result ≡ length self.now.entities }
+    {
+        self.residents.len()
+    }
+
+    /// Whether there are no entities.
+    #[inline]
+    pub fn is_empty(&self) -> bool
+        // ensures { result ≡ (length self.now.entities == 0) }
+    {
+        self.residents.is_empty()
+    }
+
+    /// For how many entities there is room in all.
+    #[inline]
+    pub fn capacity(&self) -> usize
+        // ensures { result ≡ self.now.room }
+    {
+        self.residents.capacity()
+    }
+
+    /// Makes room for `additional` more entities. After an `Err` nothing is changed.
+    #[inline]
+    pub fn reserve(&mut self, additional: usize) -> Result<(), AllocError>
+        // ensures entities { self.new.entities ≡ self.old.entities }
+        // ensures ok { OnOk result (length self.new.entities + additional ≤ self.new.room) }
+        // ensures grows { self.old.room ≤ self.new.room }
+        // ensures succeeds { length self.old.entities + additional ≤ self.old.room → IsOk result }
+        // ensures full { OnErr result (self.old.room < length self.old.entities + additional) }
+        // ensures err { OnErr result (self.new.room ≡ self.old.room) }
+    {
+        self.residents.reserve(additional)
+    }
+
+    /// The handle of the entity at the place.
+    #[inline]
+    pub fn handle(&self, place: usize) -> Handle
+        // requires { place < length self.now.entities }
+        // ensures { HoldsAt (λ entity. result ≡ entity.handle) self.now.entities place }
+    {
+        self.residents[place].handle
+    }
+
+    /// The birth of the entity at the place.
+    #[inline]
+    pub fn birth(&self, place: usize) -> Birth
+        // requires { place < length self.now.entities }
+        // ensures { HoldsAt (λ entity. result ≡ entity.birth) self.now.entities place }
+    {
+        self.residents[place].birth
+    }
+
+    /// Changes the birth of the entity at the place. It takes no memory.
+    #[inline]
+    pub fn set_birth(&mut self, place: usize, birth: Birth)
+        // requires { place < length self.old.entities }
+        // ensures entities { self.new.entities ≡ with_birth_at self.old.entities place birth }
+        // ensures room { self.new.room ≡ self.old.room }
+    {
+        self.residents[place].birth = birth;
+    }
+
+    /// The value of a component of the entity at the place, if it has the component.
+    #[inline]
+    pub fn value(&self, place: usize, id: ComponentId) -> Option<i64>
+        // requires { place < length self.now.entities }
+        // ensures { HoldsAt (λ entity. result ≡ finite.get entity.components id)
+        //     self.now.entities place }
+    {
+        columns::value(&self.columns, place, id)
+    }
+
+    /// The components of the entity at the place and their values, by rising number.
+    #[inline]
+    pub fn items(&self, place: usize) -> Items<'_>
+        // requires { place < length self.now.entities }
+        // ensures { HoldsAt (λ entity. result ≡ finite.entries entity.components)
+        //     self.now.entities place }
+    {
+        Items::new(&self.columns, &self.used, place)
+    }
+
+    /// Adds an entity without components. There has to be room for it.
+    #[inline]
+    pub fn push(&mut self, handle: Handle, birth: Birth)
+        // requires { length self.old.entities < self.old.room }
+        // ensures entities { self.new.entities ≡ self.old.entities
+        //     ++ record { handle = handle; birth = birth; components = finite.empty } ∷ [] }
+        // ensures room { self.new.room ≡ self.old.room }
+    {
+        self.residents.push_reserved(Resident { handle, birth });
+    }
+
+    /// Takes the entity at the place out, and moves the last one there. It takes no memory.
+    #[inline(always)]
+    pub fn swap_remove(&mut self, place: usize)
+        // requires { place < length self.old.entities }
+        // ensures entities { IsMovedInto self.old.entities place self.new.entities }
+        // ensures room { self.new.room ≡ self.old.room }
+    {
+        let last = self.residents.len() - 1;
+        columns::swap_remove(&mut self.columns, &self.used, place, last);
+        let _ = self.residents.swap_remove(place);
+    }
+
+    /// Sets each of the items of the entity at the place, the first item first. After an `Err`
+    /// nothing is changed.
+    #[inline(always)]
+    pub fn insert(&mut self, place: usize, items: &[(ComponentId, i64)]) -> Result<(), AllocError>
+        // requires { place < length self.old.entities }
+        // ensures ok { OnOk result (self.new.entities
+        //     ≡ change_at self.old.entities place (λ held. with_items held items.now)) }
+        // ensures room { self.new.room ≡ self.old.room }
+        // ensures err { OnErr result (self.new.entities ≡ self.old.entities) }
+        // ensures growing { OnErr result
+        //     (HoldsAt (λ entity. 0 < missing entity.components items.now) self.old.entities place) }
+    {
+        columns::reserve_all(&mut self.columns, &mut self.used, self.alloc, place, items)?;
+        columns::set_all(&mut self.columns, place, items);
+        Ok(())
+    }
+
+    /// Takes a component out of the entity at the place, and returns its value. It takes no memory.
+    #[inline]
+    pub fn remove(&mut self, place: usize, id: ComponentId) -> Option<i64>
+        // requires { place < length self.old.entities }
+        // ensures value { HoldsAt (λ entity. result ≡ finite.get entity.components id)
+        //     self.old.entities place }
+        // ensures entities { self.new.entities
+        //     ≡ change_at self.old.entities place (λ held. finite.remove held id) }
+        // ensures room { self.new.room ≡ self.old.room }
+    {
+        columns::remove(&mut self.columns, place, id)
+    }
+
+    /// The birth and the handle of each entity. It takes no memory if there is none.
+    #[inline]
+    pub fn births(&self, alloc: Global) -> Result<Vec<(Birth, Handle)>, AllocError>
+        // ensures ok { IfOk result (λ births. births.items
+        //     ≡ map (λ entity. (entity.birth, entity.handle)) self.now.entities) }
+        // ensures memory { OnErr result (0 < length self.now.entities) }
+    {
+        births(alloc, &self.residents)
+    }
+
+    /// The least handle of an entity with that birth, if there is one. It takes no memory.
+    #[inline]
+    pub fn of_birth(&self, birth: Birth) -> Option<Handle>
+        // ensures { IsLeastOf birth
+        //     (map (λ entity. (entity.birth, entity.handle)) self.now.entities) result }
+    {
+        least_of_birth(&self.residents, birth)
+    }
+
+    /// The birth and the handle of the entity at the place of each pair. It takes no memory for
+    /// none.
+    #[inline]
+    pub fn births_at(
+        &self,
+        alloc: Global,
+        pairs: &[(usize, i64)],
+    ) -> Result<Vec<(Birth, Handle)>, AllocError>
+        // requires { All (λ pair. pair.0 < length self.now.entities) pairs.now }
+        // ensures ok { IfOk result (λ births. map Some births.items
+        //     ≡ map (λ pair. born_at self.now.entities pair.0) pairs.now) }
+        // ensures memory { OnErr result (0 < length pairs.now) }
+    {
+        let mut births = Vec::new(alloc);
+        for pair in pairs {
+            let resident = self.residents[pair.0];
+            births.push((resident.birth, resident.handle))?;
+        }
+        Ok(births)
+    }
+
+    /// The place and the value of each entity that has the component.
+    #[inline]
+    pub fn pairs(&self, id: ComponentId) -> &[(usize, i64)]
+        // ensures has { (place : ℕ) (v : ℤ) → Contains result.now (place, v)
+        //     → IsValueAt self.now.entities place id v }
+        // ensures all { (place : ℕ) (v : ℤ) → IsValueAt self.now.entities place id v
+        //     → Contains result.now (place, v) }
+        // ensures once { AllPairs (λ a b. a.0 ≢ b.0) result.now }
+    {
+        match self.columns.get(id.0 as usize) {
+            Some(column) => column.pairs(),
+            None => &[],
+        }
+    }
+}
+
+/// The birth and the handle of each resident.
+#[inline]
+fn births(alloc: Global, residents: &[Resident]) -> Result<Vec<(Birth, Handle)>, AllocError>
+    // ensures ok { IfOk result (λ births.
+    //     births.items ≡ map (λ resident. (resident.birth, resident.handle)) residents.now) }
+    // ensures memory { OnErr result (0 < length residents.now) }
+{
+    if residents.is_empty() {
+        return Ok(Vec::new(alloc));
+    }
+    residents
+        .iter()
+        .map(|resident| (resident.birth, resident.handle))
+        .collect_in(alloc)
+}
+
+/// Whether the entity at the place has that handle.
+#[inline]
+pub fn has_handle_at(living: &Living, handle: Handle, place: usize) -> bool
+    // ensures { result ≡ has_handle_at living.now.entities handle (Some place) }
+{
+    match living.residents.get(place) {
+        Some(entity) => entity.handle == handle,
+        None => false,
+    }
+}

@@ -1,0 +1,23 @@
+// Made of crates/ent_storage/src/lib.rt by rust/erase. It isn't edited by hand.
+
+//! Birth and components of living entities: a finite map from handles.
+//!
+//! `Storage` keeps the entities in one vector. An entity's *place* is where it stands there. Beside
+//! the vector an index has the place of each handle, and for each component number a sparse set has
+//! the values, by places.
+
+mod columns;
+mod fault;
+mod index;
+mod items;
+mod living;
+mod looking;
+mod order;
+mod places;
+mod slot;
+mod sparse_set;
+mod storage;
+
+pub use fault::StorageFault;
+pub use items::Items;
+pub use storage::Storage;

@@ -1,0 +1,72 @@
+// Made of crates/ent_storage/src/order.rt by rust/erase. It isn't edited by hand.
+
+use crate::kit::vec::CollectIn;
+use crate::kit::vec::Vec;
+use super::living::Resident;
+use crate::proved::ent_handle::{Birth, Handle};
+use crate::kit::alloc::{AllocError, Global};
+
+/// The handles, by birth and then by handle. It takes no memory for nobody.
+#[inline]
+pub fn handles_in_order(
+    alloc: Global,
+    mut births: Vec<(Birth, Handle)>,
+) -> Result<Vec<Handle>, AllocError>
+    // ensures ok { IfOk result (λ handles. IsInOrder births.items handles.items) }
+    // ensures memory { OnErr result (0 < length births.items) }
+{
+    if births.is_empty() {
+        return Ok(Vec::new(alloc));
+    }
+    gather(&mut births);
+    births.sort_unstable();
+    handles(alloc, &births)
+}
+
+/// Brings the births of each system together and keeps their order among themselves, in which they
+/// mostly are already: the slots of one system rise, even if other systems reserved between them.
+/// So the sort that follows finds little left to do. If the systems are few, both together take a
+/// third to a half of what a sort alone takes.
+///
+/// Without memory for its buffer it changes nothing.
+#[inline]
+fn gather(births: &mut Vec<(Birth, Handle)>)
+    // ensures { IsPermutation births.old.items births.new.items }
+{
+    let _ = births.sort_by_key(|pair| (pair.0.frame, pair.0.system));
+}
+
+#[inline]
+fn handles(alloc: Global, births: &[(Birth, Handle)]) -> Result<Vec<Handle>, AllocError>
+    // ensures ok { IfOk result (λ handles. handles.items ≡ map (λ pair. pair.1) births.now) }
+{
+    births.iter().map(|pair| pair.1).collect_in(alloc)
+}
+
+/// The least handle of a resident with that birth, if there is one.
+#[inline]
+pub fn least_of_birth(residents: &[Resident], birth: Birth) -> Option<Handle>
+    // ensures { IsLeastOf birth (map (λ resident. (resident.birth, resident.handle)) residents.now)
+    //     result }
+{
+    let mut least = None;
+    for resident in residents {
+        if resident.birth == birth {
+            least = Some(lesser(least, resident.handle));
+        }
+    }
+    least
+}
+
+/// The lesser of the two handles, or the one if there is no other.
+#[inline]
+fn lesser(other: Option<Handle>, handle: Handle) -> Handle
+    // ensures one { (result ≡ handle) ⊎ (other ≡ Some result) }
+    // ensures handle { handle_cmp result handle ≢ Greater }
+    // ensures other { IfSome other (λ h. handle_cmp result h ≢ Greater) }
+{
+    match other {
+        Some(least) if least < handle => least,
+        _ => handle,
+    }
+}

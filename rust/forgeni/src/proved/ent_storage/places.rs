@@ -1,0 +1,6 @@
+// Made of crates/ent_storage/src/places.rt by rust/erase. It isn't edited by hand.
+
+//! How many places there are.
+
+/// How many entities a storage has at most: the places are numbered in 32 bits.
+pub const MOST_PLACES: usize = 4_294_967_296;

@@ -1,0 +1,164 @@
+// Made of crates/ent_storage/src/sparse_set.rt by rust/erase. It isn't edited by hand.
+
+use crate::kit::vec::Vec;
+use super::places::MOST_PLACES;
+use crate::kit::alloc::{AllocError, Global};
+
+/// The values of one component, by the places of the entities that have it.
+///
+/// The dense vector has a pair of place and value for each of these entities, in no order. The
+/// sparse vector has at a place the position of its pair. An entry counts only if the pair there
+/// has the place, so nothing is cleared when a pair is taken out.
+pub struct SparseSet {
+    dense: Vec<(usize, i64)>,
+    sparse: Vec<u32>,
+}
+
+impl SparseSet {
+    /// A set of no values, without room.
+    #[inline]
+    pub fn new(alloc: Global) -> Self
+        // ensures { result ≡ no_column }
+    {
+        SparseSet {
+            dense: Vec::new(alloc),
+            sparse: Vec::new(alloc),
+        }
+    }
+
+    /// The place and the value of each entity that has the component.
+    #[inline]
+    pub fn pairs(&self) -> &[(usize, i64)]
+        // ensures has { (p : ℕ) (v : ℤ) → Contains result.now (p, v)
+        //     → map.get self.now.values p ≡ Some v }
+        // ensures all { (p : ℕ) (v : ℤ) → map.get self.now.values p ≡ Some v
+        //     → Contains result.now (p, v) }
+        // ensures once { (j k p : ℕ) (v w : ℤ) → slice_get result.now j ≡ Some (p, v)
+        //     → slice_get result.now k ≡ Some (p, w) → j ≡ k }
+    {
+        &self.dense
+    }
+
+    /// The value of the place, if it has one.
+    #[inline]
+    pub fn get(&self, place: usize) -> Option<i64>
+        // ensures { result ≡ map.get self.now.values place }
+    {
+        let position = position_of(&self.dense, &self.sparse, place)?;
+        Some(self.dense[position as usize].1)
+    }
+
+    /// Sets the value of the place. There has to be room for it if it has none.
+    #[inline(always)]
+    pub fn set(&mut self, place: usize, value: i64)
+        // requires { HasRoomAt self.old place }
+        // ensures { self.new.values ≡ map.insert self.old.values place value }
+    {
+        match position_of(&self.dense, &self.sparse, place) {
+            Some(position) => self.dense[position as usize] = (place, value),
+            None => {
+                self.sparse[place] = self.dense.len() as u32;
+                self.dense.push_reserved((place, value));
+            }
+        }
+    }
+
+    /// Whether there is room for any place.
+    #[inline]
+    pub fn has_places(&self) -> bool
+        // ensures { IsTrue result → 0 < self.now.places }
+    {
+        !self.sparse.is_empty()
+    }
+
+    /// Whether there is room for one value more, and for one of the place.
+    #[inline]
+    pub fn has_room(&self, place: usize) -> bool
+        // ensures { IsTrue result → HasRoomAt self.now place }
+    {
+        self.dense.len() < self.dense.capacity().min(MOST_PLACES) && place < self.sparse.len()
+    }
+
+    /// Makes room for a value of the place. After an `Err` the values are as before.
+    #[inline]
+    pub fn reserve(&mut self, place: usize) -> Result<(), AllocError>
+        // ensures values { self.new.values ≡ self.old.values }
+        // ensures ok { OnOk result (HasRoomAt self.new place) }
+        // ensures kept { HasRoomAt self.old place → HasRoomAt self.new place }
+    {
+        if self.dense.len() >= MOST_PLACES {
+            return Err(AllocError);
+        }
+        self.dense.reserve(1)?;
+        if place < self.sparse.len() {
+            return Ok(());
+        }
+        if place == self.sparse.len() {
+            self.sparse.push(0)?;
+            return Ok(());
+        }
+        let places = place.checked_add(1).ok_or(AllocError)?;
+        self.sparse.resize(places, 0)
+    }
+
+    /// Takes the value of the place out, and returns it. It takes no memory.
+    #[inline(always)]
+    pub fn remove(&mut self, place: usize) -> Option<i64>
+        // ensures value { result ≡ map.get self.old.values place }
+        // ensures after { self.new.values ≡ map.remove self.old.values place }
+        // ensures absent { result ≡ None → self.new ≡ self.old }
+    {
+        let position = position_of(&self.dense, &self.sparse, place)?;
+        let (_, value) = self.dense.swap_remove(position as usize);
+        if (position as usize) < self.dense.len() {
+            self.sparse[self.dense[position as usize].0] = position;
+        }
+        Some(value)
+    }
+
+    /// Moves the value of the later place, if it has one, to the earlier place, which has none. It
+    /// takes no memory.
+    #[inline(always)]
+    fn relocate(&mut self, from: usize, to: usize)
+        // requires before { to < from }
+        // requires free { map.get self.old.values to ≡ None }
+        // ensures { IsMovedDown to from self.old.values self.new.values }
+    {
+        if let Some(position) = position_of(&self.dense, &self.sparse, from) {
+            self.dense[position as usize].0 = to;
+            self.sparse[to] = position;
+        }
+    }
+
+    /// Takes the value of the place out, and moves that of the last place there. It takes no
+    /// memory.
+    #[inline(always)]
+    pub fn swap_remove(&mut self, place: usize, last: usize)
+        // requires { place ≤ last }
+        // ensures { IsMovedDown place last self.old.values self.new.values }
+    {
+        let _ = self.remove(place);
+        if place < last {
+            self.relocate(last, place);
+        }
+    }
+}
+
+/// The position of the pair that the place has in the dense vector.
+#[inline]
+fn position_of(dense: &[(usize, i64)], sparse: &[u32], place: usize) -> Option<u32>
+    // requires { IsDense dense.now sparse.now }
+    // ensures found { IfSome result
+    //     (λ position. HoldsAt (λ pair. pair.0 ≡ place) dense.now position) }
+    // ensures inside { IfSome result (λ position. position < length dense.now) }
+    // ensures absent { result ≡ None
+    //     → map.get (map.from_entries {R = nat_cmp} dense.now) place ≡ None }
+{
+    let position = *sparse.get(place)?;
+    let pair = dense.get(position as usize)?;
+    if pair.0 == place {
+        Some(position)
+    } else {
+        None
+    }
+}

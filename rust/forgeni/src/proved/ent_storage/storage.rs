@@ -1,0 +1,329 @@
+// Made of crates/ent_storage/src/storage.rt by rust/erase. It isn't edited by hand.
+
+use super::fault::StorageFault;
+use super::index::Index;
+use super::living::Living;
+use crate::proved::ent_handle::{Birth, ComponentId, Handle, Memory};
+use crate::kit::alloc::Global;
+
+/// The living entities: a finite map from handles to births and components.
+///
+/// It also has the handle at each place, and a number, `spare`: for how many more entities there is
+/// room. It takes constant time to look an entity up by its handle if the handles are those of an
+/// allocator that has retired few slots, and else logarithmic time. Each component's values stand
+/// in a vector of their own.
+pub struct Storage {
+    pub(super) living: Living,
+    pub(super) index: Index,
+    pub(super) alloc: Global,
+}
+
+impl Storage {
+    /// A storage without entities. It takes no memory.
+    #[inline]
+    pub fn new(alloc: Global) -> Self
+        // ensures entities { result.entities ≡ map.empty }
+        // ensures spare { result.spare ≡ 0 }
+        // ensures places { result.places ≡ [] }
+    {
+        Storage {
+            living: Living::new(alloc),
+            index: Index::new(alloc),
+            alloc,
+        }
+    }
+
+    /// How many entities there are. That is also the place of the next one that is born.
+    #[inline]
+    pub fn len(&self) -> usize
+        // ensures value { result ≡ map.len self.now.entities }
+        // ensures places { result ≡ length self.now.places }
+    {
+        self.living.len()
+    }
+
+    /// Whether there are no entities.
+    #[inline]
+    pub fn is_empty(&self) -> bool
+        // ensures { IsTrue result ↔ (self.now.entities ≡ map.empty) }
+    {
+        self.living.is_empty()
+    }
+
+    /// Changes the birth of the entity at this place, which has to be that of the handle, and
+    /// leaves the rest. It takes no memory and constant time.
+    #[inline]
+    pub fn set_birth_at(&mut self, place: usize, handle: Handle, birth: Birth)
+        // requires { slice_get self.old.places place ≡ Some handle }
+        // ensures entities { self.new.entities ≡ with_birth self.old.entities handle birth }
+        // ensures spare { self.new.spare ≡ self.old.spare }
+        // ensures places { self.new.places ≡ self.old.places }
+    {
+        self.living.set_birth(place, birth);
+    }
+
+    /// For how many more entities there is room.
+    ///
+    /// `born` lowers it by 1, or makes more room if it is 0. `reserve` and `despawn` raise it.
+    /// Nothing else changes it.
+    #[inline]
+    pub fn spare(&self) -> usize
+        // ensures { result ≡ self.now.spare }
+    {
+        let room = self.living.capacity().min(self.index.room());
+        room - self.living.len()
+    }
+
+    /// Makes room for `additional` more entities, so that `born` takes no memory for them. If there
+    /// is room for that many already, it takes no memory and changes nothing.
+    ///
+    /// # Errors
+    ///
+    /// `Memory` if there is no memory for so many, or if they would be more than 4,294,967,296. The
+    /// entities are as before, and `spare` is below `additional`. It may have grown.
+    #[inline]
+    pub fn reserve(&mut self, additional: usize) -> Result<(), Memory>
+        // ensures entities { self.new.entities ≡ self.old.entities }
+        // ensures ok { OnOk result (additional ≤ self.new.spare) }
+        // ensures grows { self.old.spare ≤ self.new.spare }
+        // ensures places { self.new.places ≡ self.old.places }
+
+        // With room for that many, the call succeeds and changes nothing.
+        // ensures succeeds { additional ≤ self.old.spare → IsOk result }
+        // ensures in_place { additional ≤ self.old.spare → self.new ≡ self.old }
+
+        // ensures err { OnErr result (self.new.spare < additional) }
+    {
+        if additional <= self.spare() {
+            return Ok(());
+        }
+        self.living.reserve(additional)?;
+        // With twice the room, the index drops handles that are gone half of its length at a time.
+        let twice = self.living.capacity().saturating_mul(2);
+        if self.index.reserve(twice).is_err() {
+            self.index.reserve(self.living.len() + additional)?;
+        }
+        Ok(())
+    }
+
+    /// Adds an entity without components. With `spare` above 0 it takes no memory, and `spare` is
+    /// then less by 1.
+    ///
+    /// The time is that of one look-up, if the handle comes after all others, or if the pair of an
+    /// entity that is gone stands where the new pair goes, or beside it. With an allocator's
+    /// handles that is the pair of the slot's last occupant. Else the later pairs of the index move
+    /// up by one. If the index is full, the pairs of all that are gone are dropped first, in one
+    /// pass.
+    ///
+    /// # Errors
+    ///
+    /// After either of them nothing is changed.
+    ///
+    /// - `Present`: the entity is there already. This is tested first.
+    /// - `Memory`: `spare` is 0, and there is no memory for more, or there are 4,294,967,296
+    ///   entities, which is the most.
+    #[inline(always)]
+    pub fn born(&mut self, handle: Handle, birth: Birth) -> Result<(), StorageFault>
+        // ensures ok { OnOk result
+        //     (self.new.entities ≡ map.insert self.old.entities handle (newborn birth)) }
+        // ensures spare { OnOk result (0 < self.old.spare → self.new.spare + 1 ≡ self.old.spare) }
+        // ensures places { OnOk result (self.new.places ≡ self.old.places ++ handle ∷ []) }
+
+        // ensures present { IsErrOf result StorageFault.Present
+        //     ↔ IsTrue (map.contains_key self.old.entities handle) }
+        // ensures memory_without_room { IsErrOf result StorageFault.Memory → self.old.spare ≡ 0 }
+        // ensures never_absent { ¬ (IsErrOf result StorageFault.Absent) }
+        // ensures err { OnErr result (self.new ≡ self.old) }
+    {
+        if self.spare() == 0 {
+            if self.contains(handle) {
+                return Err(StorageFault::Present);
+            }
+            self.reserve(1)?;
+        }
+        self.born_within(handle, birth)
+    }
+
+    /// Adds an entity without components, if there is room for it. The index is searched once.
+    #[inline(always)]
+    fn born_within(&mut self, handle: Handle, birth: Birth) -> Result<(), StorageFault>
+        // requires room { 0 < self.old.spare }
+        // ensures ok { OnOk result
+        //     (self.new.entities ≡ map.insert self.old.entities handle (newborn birth)) }
+        // ensures spare { OnOk result (self.new.spare + 1 ≡ self.old.spare) }
+        // ensures places { OnOk result (self.new.places ≡ self.old.places ++ handle ∷ []) }
+        // ensures present { IsErrOf result StorageFault.Present
+        //     ↔ IsTrue (map.contains_key self.old.entities handle) }
+        // ensures only_present { IfErr result (λ fault. fault ≡ StorageFault.Present) }
+        // ensures err { OnErr result (self.new ≡ self.old) }
+    {
+        if self.index.put(&self.living, handle) {
+            self.living.push(handle, birth);
+            Ok(())
+        } else {
+            Err(StorageFault::Present)
+        }
+    }
+
+    /// Takes the entity out. It takes no memory, and `spare` is then greater by 1.
+    ///
+    /// The time is that of two look-ups, and of a look at each component that any entity has ever
+    /// had. The index stays as it is, but for the entity that moves.
+    ///
+    /// # Errors
+    ///
+    /// `Absent`: the entity is not there. Nothing is changed.
+    #[inline(always)]
+    pub fn despawn(&mut self, handle: Handle) -> Result<(), StorageFault>
+        // ensures ok { OnOk result (self.new.entities ≡ map.remove self.old.entities handle) }
+        // ensures spare { OnOk result (self.new.spare ≡ self.old.spare + 1) }
+        // ensures places { OnOk result (SomeIndex self.old.places (λ place.
+        //     (slice_get self.old.places place ≡ Some handle)
+        //     × AreWithout place self.old.places self.new.places)) }
+
+        // ensures absent { IsErrOf result StorageFault.Absent
+        //     ↔ (map.get self.old.entities handle ≡ None) }
+        // ensures only_absent { IfErr result (λ fault. fault ≡ StorageFault.Absent) }
+        // ensures err { OnErr result (self.new ≡ self.old) }
+    {
+        let Some(place) = self.place(handle) else {
+            return Err(StorageFault::Absent);
+        };
+        let _ = self.despawn_at(place, handle);
+        Ok(())
+    }
+
+    /// Takes out the entity at this place, which has to be that of the handle. Returns the handle
+    /// of the entity that has moved into the place, which was the last one; `None` if the entity
+    /// was the last one itself. It takes no memory, and `spare` is then greater by 1.
+    ///
+    /// The time is that of a look-up, for the entity that moves, and of a look at each component
+    /// that any entity has ever had.
+    #[inline(always)]
+    pub fn despawn_at(&mut self, place: usize, handle: Handle) -> Option<Handle>
+        // requires { slice_get self.old.places place ≡ Some handle }
+        // ensures entities { self.new.entities ≡ map.remove self.old.entities handle }
+        // ensures spare { self.new.spare ≡ self.old.spare + 1 }
+        // ensures places { AreWithout place self.old.places self.new.places }
+        // ensures moved { result ≡ slice_get self.new.places place }
+    {
+        self.living.swap_remove(place);
+        if place < self.living.len() {
+            let moved = self.living.handle(place);
+            self.index.set_place(moved, place);
+            Some(moved)
+        } else {
+            None
+        }
+    }
+
+    /// Sets each of the components, and leaves the entity's others as they are. If a component
+    /// stands twice among the items, its last value counts.
+    ///
+    /// It takes memory only for components that the entity does not have yet.
+    ///
+    /// # Errors
+    ///
+    /// After either of them nothing is changed.
+    ///
+    /// - `Absent`: the entity is not there.
+    /// - `Memory`: there is no memory for the components that the entity does not have yet.
+    #[inline(always)]
+    pub fn insert(
+        &mut self,
+        handle: Handle,
+        items: &[(ComponentId, i64)],
+    ) -> Result<(), StorageFault>
+        // ensures ok { OnOk result (self.new.entities
+        //     ≡ with_components self.old.entities handle (λ held. with_items held items.now)) }
+        // ensures spare { self.new.spare ≡ self.old.spare }
+        // ensures places { self.new.places ≡ self.old.places }
+
+        // ensures absent { IsErrOf result StorageFault.Absent
+        //     ↔ (map.get self.old.entities handle ≡ None) }
+        // ensures memory_to_grow { IsErrOf result StorageFault.Memory
+        //     → IfSome (components_of self.old.entities handle)
+        //     (λ held. 0 < missing held items.now) }
+        // ensures never_present { ¬ (IsErrOf result StorageFault.Present) }
+        // ensures err { OnErr result (self.new ≡ self.old) }
+    {
+        let Some(place) = self.place(handle) else {
+            return Err(StorageFault::Absent);
+        };
+        self.insert_at(place, handle, items)?;
+        Ok(())
+    }
+
+    /// Sets each of these components of the entity at this place, and leaves its others as they
+    /// are. The place has to be that of the handle. If a component stands twice among the items,
+    /// its last value counts.
+    ///
+    /// It takes memory only for components that the entity does not have yet. The index is not
+    /// searched.
+    ///
+    /// # Errors
+    ///
+    /// `Memory`: there is no memory for the components that the entity does not have yet. Nothing
+    /// is changed.
+    #[inline(always)]
+    pub fn insert_at(
+        &mut self,
+        place: usize,
+        handle: Handle,
+        items: &[(ComponentId, i64)],
+    ) -> Result<(), Memory>
+        // requires { slice_get self.old.places place ≡ Some handle }
+        // ensures ok { OnOk result (self.new.entities
+        //     ≡ with_components self.old.entities handle (λ held. with_items held items.now)) }
+        // ensures spare { self.new.spare ≡ self.old.spare }
+        // ensures places { self.new.places ≡ self.old.places }
+
+        // ensures memory_to_grow { OnErr result
+        //     (IfSome (components_of self.old.entities handle)
+        //     (λ held. 0 < missing held items.now)) }
+        // ensures err { OnErr result (self.new ≡ self.old) }
+    {
+        self.living.insert(place, items)?;
+        Ok(())
+    }
+
+    /// Takes the component out of the entity, and returns the value that it had, or `None` if the
+    /// entity does not have it. It takes no memory.
+    ///
+    /// # Errors
+    ///
+    /// `Absent`: the entity is not there. Nothing is changed.
+    #[inline]
+    pub fn remove(&mut self, handle: Handle, id: ComponentId) -> Result<Option<i64>, StorageFault>
+        // ensures value { IfOk result (λ value. value ≡ value_of self.old.entities handle id) }
+        // ensures ok { OnOk result (self.new.entities
+        //     ≡ with_components self.old.entities handle (λ held. map.remove held id)) }
+        // ensures spare { self.new.spare ≡ self.old.spare }
+        // ensures places { self.new.places ≡ self.old.places }
+
+        // ensures absent { IsErrOf result StorageFault.Absent
+        //     ↔ (map.get self.old.entities handle ≡ None) }
+        // ensures only_absent { IfErr result (λ fault. fault ≡ StorageFault.Absent) }
+        // ensures err { OnErr result (self.new ≡ self.old) }
+    {
+        let Some(place) = self.place(handle) else {
+            return Err(StorageFault::Absent);
+        };
+        Ok(self.remove_at(place, handle, id))
+    }
+
+    /// Takes the component out of the entity at this place, which has to be that of the handle.
+    /// Returns the value that it had, or `None` if the entity does not have it. It takes no memory
+    /// and constant time.
+    #[inline(always)]
+    pub fn remove_at(&mut self, place: usize, handle: Handle, id: ComponentId) -> Option<i64>
+        // requires { slice_get self.old.places place ≡ Some handle }
+        // ensures value { result ≡ value_of self.old.entities handle id }
+        // ensures entities { self.new.entities
+        //     ≡ with_components self.old.entities handle (λ held. map.remove held id) }
+        // ensures spare { self.new.spare ≡ self.old.spare }
+        // ensures places { self.new.places ≡ self.old.places }
+    {
+        self.living.remove(place, id)
+    }
+}

@@ -1,0 +1,72 @@
+// Made of crates/ent_world/src/fault.rt by rust/erase. It isn't edited by hand.
+
+use crate::kit::vec::Vec;
+use crate::proved::ent_handle::Handle;
+
+/// Why a command had no effect.
+#[derive(Clone, Copy, Debug, PartialEq, Eq)]
+pub enum FaultKind {
+    /// The entity was not alive when the command's turn came.
+    NotAlive(Handle),
+    /// The pool had fewer handles than were requested.
+    Space {
+        /// How many handles were requested.
+        wanted: u32,
+        /// How many the pool still had.
+        left: u32,
+    },
+    /// More handles were requested than the reserver had credit.
+    Quota {
+        /// The credit that was left.
+        left: u64,
+    },
+}
+
+/// A command that had no effect, or one handle of it.
+#[derive(Clone, Copy, Debug, PartialEq, Eq)]
+pub struct Fault {
+    /// The number of the system's queue among those that were applied, from 0.
+    pub system: usize,
+    /// The number of the command in that queue, from 0.
+    pub command: usize,
+    /// Why it had no effect.
+    pub kind: FaultKind,
+}
+
+/// What a sync point has done.
+#[derive(Debug)]
+pub struct SyncReport {
+    /// The handles that came to life, in the order of the flush.
+    pub born: Vec<Handle>,
+    /// The commands without effect, in their order.
+    pub faults: Vec<Fault>,
+}
+
+/// Why a sync point stopped.
+#[derive(Debug)]
+pub enum SyncFault {
+    /// Memory ran out before anything was done. The world is as it was.
+    FlushMemory,
+    /// Memory ran out at a command. All births stand, and of the commands just those before.
+    Memory {
+        /// The system at whose command it stopped.
+        system: usize,
+        /// The number of that command in its queue.
+        command: usize,
+        /// How many handles of that command are done. It is 0 except at a spawn of many.
+        done: usize,
+        /// What was done before.
+        so_far: SyncReport,
+    },
+}
+
+impl core::fmt::Display for SyncFault {
+    fn fmt(&self, f: &mut core::fmt::Formatter<'_>) -> core::fmt::Result {
+        match self {
+            SyncFault::FlushMemory => write!(f, "out of memory for the flush"),
+            SyncFault::Memory { command, system, .. } => write!(f, "out of memory at command {command} of system {system}"),
+        }
+    }
+}
+
+impl core::error::Error for SyncFault {}

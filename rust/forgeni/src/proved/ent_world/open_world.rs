@@ -1,0 +1,137 @@
+// Made of crates/ent_world/src/open_world.rt by rust/erase. It isn't edited by hand.
+
+use crate::kit::vec::Vec;
+use crate::proved::ent_world::view::View;
+use crate::proved::ent_world::world::World;
+use crate::proved::ent_shared::{Reserver, Shared};
+use crate::proved::ent_storage::Storage;
+use crate::kit::alloc::Global;
+
+/// A world in a phase: many callers reserve from its allocator at once, and read the rest of it.
+pub struct OpenWorld {
+    shared: Shared,
+    storage: Storage,
+    phase: u64,
+    alloc: Global,
+}
+
+impl OpenWorld {
+    #[inline]
+    pub(super) fn new(alloc: Global, shared: Shared, storage: Storage, phase: u64) -> Self
+        // requires world { IsOpenWorld
+        //     (record { shared = shared; phase = phase; entities = storage.entities }) }
+        // requires rows { AreRows shared.rows storage.places storage.entities }
+        // ensures { result
+        //     ≡ record { shared = shared; phase = phase; entities = storage.entities } }
+    {
+        OpenWorld {
+            shared,
+            storage,
+            phase,
+            alloc,
+        }
+    }
+
+    /// The allocator from which callers reserve, each with a [`Reserver`] of its own.
+    #[inline]
+    pub fn shared(&self) -> &Shared
+        // ensures { result.now ≡ self.now.shared }
+    {
+        &self.shared
+    }
+
+    /// The world as it was opened.
+    #[inline]
+    pub fn view(&self) -> View<'_>
+        // ensures phase { result.phase ≡ self.now.phase }
+        // ensures entities { result.entities ≡ self.now.entities }
+    {
+        View::new(&self.storage, self.phase)
+    }
+
+    /// Ends the phase with all its reservers, as [`Shared::close`] does. Nothing of the world but
+    /// its allocator changes. It takes no memory.
+    #[inline]
+    pub fn close(self, reservers: Vec<Reserver>) -> World
+        // requires all { length reservers.items ≡ self.shared.count }
+        // requires own { All (IsOf self.shared) reservers.items }
+        // ensures phase { result.phase ≡ self.phase }
+        // ensures entities { result.entities ≡ self.entities }
+        // ensures world { IsWorld result }
+
+        // All reservations stand in one history that is legal and respects every reserver.
+        // ensures legal { IsLegal self.shared.start (history_of (records_of reservers.items)) }
+        // ensures respects { let records = records_of reservers.items in
+        //     All (Respects (reservations_of records)) records }
+        // ensures after { result.allocator
+        //     ≡ after_history self.shared.start (history_of (records_of reservers.items)) }
+
+        // Each reservation stands once, where its step came: the cursor falls with each.
+        // ensures falls { AllPairs (λ earlier later. later.high <ℤ earlier.high)
+        //     (reservations_of (records_of reservers.items)) }
+        // ensures numbers { AllPairs (λ r s. r.number ≢ s.number) (records_of reservers.items) }
+
+        // No handle was given twice, and none was alive.
+        // ensures distinct { AllPairs (λ g h. g ≢ h)
+        //     (given_in (history_of (records_of reservers.items))) }
+        // ensures not_live { All (λ h. ¬ (IsLive self.shared.start h))
+        //     (given_in (history_of (records_of reservers.items))) }
+
+        // A flush brings to life exactly what was given.
+        // ensures brings_to_life { let given = given_in (history_of (records_of reservers.items)) in
+        //     (h : HandleValue) → IsLive (after_flush result.allocator) h
+        //     ↔ (IsLive self.shared.start h ⊎ Contains given h) }
+    {
+        let OpenWorld {
+            shared,
+            storage,
+            phase,
+            alloc,
+        } = self;
+        World {
+            entities: shared.close(reservers),
+            storage,
+            phase,
+            alloc,
+        }
+    }
+
+    /// Ends the phase although some reservers may be lost, as [`Shared::close_lost`] does. Nothing
+    /// of the world but its allocator changes. It takes no memory.
+    #[inline]
+    pub fn close_lost(self, reservers: Vec<Reserver>) -> World
+        // requires { All (IsOf self.shared) reservers.items }
+        // ensures phase { result.phase ≡ self.phase }
+        // ensures entities { result.entities ≡ self.entities }
+        // ensures world { IsWorld result }
+        // ensures after { result.allocator ≡ after_loss self.shared.start result.allocator.asked }
+
+        // It counts what the reservers that are here have requested, and of the others no more than
+        // their credit.
+        // ensures least { sum_by (λ r. requested_by r.own) reservers.items ≤ result.allocator.asked }
+        // ensures most { sum_by (λ r. r.own.left) reservers.items + result.allocator.asked
+        //     ≤ self.shared.count * credit }
+        // ensures reached { All (λ r. cursor result.allocator ≤ℤ r.own.mark) reservers.items }
+
+        // If all are here, the cursor is where `close` leaves it.
+        // ensures whole { length reservers.items ≡ self.shared.count → cursor result.allocator
+        //     ≡ cursor (after_history self.shared.start (history_of (records_of reservers.items))) }
+
+        // What the reservers that are here were given is reserved.
+        // ensures given { All (λ r. All (Contains result.allocator.taken) (handles_given r.own))
+        //     reservers.items }
+    {
+        let OpenWorld {
+            shared,
+            storage,
+            phase,
+            alloc,
+        } = self;
+        World {
+            entities: shared.close_lost(reservers),
+            storage,
+            phase,
+            alloc,
+        }
+    }
+}

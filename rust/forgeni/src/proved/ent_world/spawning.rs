@@ -1,0 +1,59 @@
+// Made of crates/ent_world/src/spawning.rt by rust/erase. It isn't edited by hand.
+
+//! What one spawn needs: the handle that the allocator gives next, and an entity that is made whole
+//! or not at all.
+
+use crate::proved::ent_alloc::{AllocFault, Entities, Span};
+use crate::proved::ent_handle::{Birth, ComponentId, Handle, Memory};
+use crate::proved::ent_storage::Storage;
+
+/// The handle that `alloc` gives next.
+#[inline]
+pub(super) fn next_handle(entities: &Entities) -> Result<Handle, AllocFault>
+    // ensures front { IfOk result (λ handle. slice_get entities.now.allocator.pool 0 ≡ Some handle) }
+    // ensures new { IfOk result (λ handle. set.contains entities.now.allocator.live handle ≡ false) }
+    // ensures flushed { OnOk result (entities.now.allocator.asked ≡ 0) }
+    // ensures needs_flush { IsErrOf result AllocFault.NeedsFlush ↔ (0 < entities.now.allocator.asked) }
+    // ensures space { IsErrOf result AllocFault.Space
+    //     ↔ ((entities.now.allocator.asked ≡ 0) × (entities.now.allocator.pool ≡ [])) }
+{
+    let top = i64::from(entities.top());
+    if entities.cursor() != top {
+        return Err(AllocFault::NeedsFlush);
+    }
+    let Ok(mut given) = entities.reply(Span::new(top, 1)) else {
+        return Err(AllocFault::Space);
+    };
+    let Some(handle) = given.next() else {
+        unreachable!()
+    };
+    Ok(handle)
+}
+
+/// Makes an entity that is not there, with all its components, at the next place. After an `Err` it
+/// is not there.
+#[inline]
+pub(super) fn make(
+    storage: &mut Storage,
+    place: usize,
+    handle: Handle,
+    birth: Birth,
+    items: &[(ComponentId, i64)],
+) -> Result<(), Memory>
+    // requires new { map.get storage.old.entities handle ≡ None }
+    // requires next { place ≡ length storage.old.places }
+    // ensures ok { OnOk result (storage.new.entities
+    //     ≡ map.insert storage.old.entities handle (spawned birth items.now)) }
+    // ensures placed { OnOk result (storage.new.places ≡ storage.old.places ++ handle ∷ []) }
+    // ensures err { OnErr result (storage.new.entities ≡ storage.old.entities) }
+    // ensures unplaced { OnErr result (storage.new.places ≡ storage.old.places) }
+{
+    if storage.born(handle, birth).is_err() {
+        return Err(Memory);
+    }
+    if storage.insert_at(place, handle, items).is_err() {
+        let _ = storage.despawn_at(place, handle);
+        return Err(Memory);
+    }
+    Ok(())
+}

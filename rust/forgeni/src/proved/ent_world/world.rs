@@ -1,0 +1,272 @@
+// Made of crates/ent_world/src/world.rt by rust/erase. It isn't edited by hand.
+
+use crate::kit::prove_eq;
+use crate::kit::vec::Vec;
+use crate::proved::ent_world::open_world::OpenWorld;
+use crate::proved::ent_world::rows::place_of;
+use crate::proved::ent_world::spawning::{make, next_handle};
+use crate::proved::ent_alloc::{AllocFault, Entities, FreeFault, Freed, Limits, State};
+use crate::proved::ent_handle::{Birth, ComponentId, Handle, Memory};
+use crate::proved::ent_queue::Bundle;
+use crate::proved::ent_shared::{Reserver, share};
+use crate::proved::ent_storage::{Items, Storage};
+use crate::kit::alloc::Global;
+
+/// Who is alive, and what each entity is made of.
+///
+/// Contracts see it as the state of its allocator, the number of its phase, and a finite map from
+/// the handles of the living entities to their births and components (`specs/World`).
+pub struct World {
+    pub(super) entities: Entities,
+    pub(super) storage: Storage,
+    pub(super) phase: u64,
+    pub(super) alloc: Global,
+}
+
+impl World {
+    /// A world without entities. It takes no memory, whatever the limits are.
+    #[inline]
+    pub fn new(alloc: Global, limits: Limits) -> Self
+        // ensures value { result ≡ first_world limits }
+        // ensures world { IsWorld result }
+    {
+        let entities = Entities::new(alloc, limits);
+        // Whatever the limits are, it begins in a sound state, as `cursor` promises.
+        prove_eq!(entities.cursor(), 0);
+        World {
+            entities,
+            storage: Storage::new(alloc),
+            phase: 0,
+            alloc,
+        }
+    }
+
+    /// How many entities are alive.
+    #[inline]
+    pub fn len(&self) -> usize
+        // ensures value { result ≡ map.len self.now.entities }
+
+        // A part of what is true of every world, for who was lent one.
+        // ensures living { AreLiving self.now.allocator self.now.entities }
+    {
+        self.storage.len()
+    }
+
+    /// Whether no entity is alive.
+    #[inline]
+    pub fn is_empty(&self) -> bool
+        // ensures { IsTrue result ↔ (self.now.entities ≡ map.empty) }
+    {
+        self.storage.is_empty()
+    }
+
+    /// How many slots are retired: they give no handle any more. It takes constant time.
+    #[inline]
+    pub fn retired(&self) -> u32
+        // ensures { result ≡ retired self.now.allocator }
+    {
+        self.entities.retired()
+    }
+
+    /// Whether the entity is alive. It takes constant time.
+    #[inline]
+    pub fn contains(&self, handle: Handle) -> bool
+        // ensures { result ≡ lives_in self.now handle }
+    {
+        match self.entities.state(handle) {
+            State::Alive => true,
+            State::Reserved | State::Gone => false,
+        }
+    }
+
+    /// The value of the entity's component, if the entity is alive and has it.
+    #[inline]
+    pub fn get(&self, handle: Handle, id: ComponentId) -> Option<i64>
+        // ensures { result ≡ value_of self.now.entities handle id }
+    {
+        let place = place_of(&self.entities, handle)?;
+        self.storage.get_at(place, handle, id)
+    }
+
+    /// When and by whom the entity was brought to life, if it is alive.
+    #[inline]
+    pub fn birth(&self, handle: Handle) -> Option<Birth>
+        // ensures { result ≡ birth_of self.now.entities handle }
+    {
+        let place = place_of(&self.entities, handle)?;
+        Some(self.storage.birth_at(place, handle))
+    }
+
+    /// The entity's components and their values, by rising number, if it is alive.
+    #[inline]
+    pub fn items(&self, handle: Handle) -> Option<Items<'_>>
+        // ensures { result ≡ option_map map.entries (components_of self.now.entities handle) }
+    {
+        let place = place_of(&self.entities, handle)?;
+        Some(self.storage.items_at(place, handle))
+    }
+
+    /// The handles of all entities, by birth and then by handle.
+    ///
+    /// # Errors
+    ///
+    /// `Memory`: there is no memory for the list. It never comes if there are no entities.
+    #[inline]
+    pub fn by_birth(&self) -> Result<Vec<Handle>, Memory>
+        // ensures ok { IfOk result (λ handles. ListsAll self.now.entities handles.items) }
+        // ensures memory { OnErr result (self.now.entities ≢ map.empty) }
+    {
+        self.storage.by_birth()
+    }
+
+    /// How often the world was flushed. It stays at 2^64 - 1.
+    #[inline]
+    pub fn phase(&self) -> u64
+        // ensures { result ≡ self.now.phase }
+    {
+        self.phase
+    }
+
+    /// Whether any handle was requested since the last flush.
+    #[inline]
+    pub fn needs_flush(&self) -> bool
+        // ensures { IsTrue result ↔ (0 < self.now.allocator.asked) }
+    {
+        self.entities.needs_flush()
+    }
+
+    /// Brings to life what is reserved, without components. The birth of each entity names the
+    /// phase that ends, no system, and the entity's number among those that are born.
+    ///
+    /// # Errors
+    ///
+    /// `Memory`, only if something is reserved. Nothing has changed then.
+    #[inline]
+    pub fn flush(&mut self) -> Result<(), Memory>
+        // ensures ok { OnOk result (self.new ≡ after_births [] self.old) }
+        // ensures flushed { OnOk result (self.new.allocator.asked ≡ 0) }
+        // ensures err { OnErr result (self.new ≡ self.old) }
+        // ensures memory { OnErr result (0 < length self.old.allocator.taken) }
+        // ensures world { IsWorld self.new }
+    {
+        let _ = self.bring_to_life(&[])?;
+        Ok(())
+    }
+
+    /// Brings an entity to life at once, with this birth and these components. Its handle is the
+    /// next one of the slot that was freed last of those that wait, or the first one of a new slot
+    /// if none waits.
+    ///
+    /// # Errors
+    ///
+    /// Nothing changes.
+    ///
+    /// - `NeedsFlush` if handles were requested since the last flush, even if the request was
+    ///   refused.
+    /// - `Space` if every slot has a living occupant or is retired.
+    /// - `Memory` if there is no memory for the entity, for a component or for a new slot.
+    #[inline]
+    pub fn spawn(&mut self, birth: Birth, bundle: &Bundle) -> Result<Handle, AllocFault>
+        // ensures front { IfOk result (λ handle.
+        //     slice_get self.old.allocator.pool 0 ≡ Some handle) }
+        // ensures ok { IfOk result (λ handle.
+        //     self.new ≡ after_spawn birth bundle.now handle self.old) }
+        // ensures needs_flush { IsErrOf result AllocFault.NeedsFlush
+        //     ↔ (0 < self.old.allocator.asked) }
+        // ensures space { IsErrOf result AllocFault.Space
+        //     ↔ ((self.old.allocator.asked ≡ 0) × (self.old.allocator.pool ≡ [])) }
+        // ensures err { OnErr result (self.new ≡ self.old) }
+        // ensures world { IsWorld self.new }
+    {
+        let handle = next_handle(&self.entities)?;
+        let row = self.entities.len();
+        let place = row as usize;
+        make(&mut self.storage, place, handle, birth, bundle.items())?;
+        if let Err(fault) = self.entities.alloc() {
+            let _ = self.storage.despawn_at(place, handle);
+            return Err(fault);
+        }
+        self.entities.set_row(handle, row);
+        Ok(handle)
+    }
+
+    /// Takes a living entity out, with all its components.
+    ///
+    /// # Errors
+    ///
+    /// Nothing changes. The first of these that holds:
+    ///
+    /// - `NeedsFlush` if handles were requested since the last flush, even if the request was
+    ///   refused.
+    /// - `NotAlive` if the handle names no living entity.
+    /// - `Memory` if there is no memory for the slot to wait in. The slot of the last generation
+    ///   never waits, so its entity is never refused for that.
+    #[inline]
+    pub fn despawn(&mut self, handle: Handle) -> Result<Freed, FreeFault>
+        // ensures ok { OnOk result (self.new ≡ after_despawn handle self.old) }
+        // ensures next { IfOk result (λ freed. freed.next ≡ next self.old.allocator.limits handle) }
+        // ensures lived { OnOk result (lives_in self.old handle ≡ true) }
+        // ensures needs_flush { IsErrOf result FreeFault.NeedsFlush ↔ (0 < self.old.allocator.asked) }
+        // ensures not_alive { IsErrOf result FreeFault.NotAlive
+        //     ↔ ((self.old.allocator.asked ≡ 0) × (lives_in self.old handle ≡ false)) }
+        // ensures memory { IsErrOf result FreeFault.Memory
+        //     → handle.generation ≢ self.old.allocator.limits.generations }
+        // ensures err { OnErr result (self.new ≡ self.old) }
+        // ensures world { IsWorld self.new }
+    {
+        let row = self.entities.row(handle);
+        let freed = self.entities.free(handle)?;
+        let Some(row) = row else { unreachable!() };
+        if let Some(moved) = self.storage.despawn_at(row as usize, handle) {
+            self.entities.set_row(moved, row);
+        }
+        Ok(freed)
+    }
+
+    /// Shares the world's allocator among `n` reservers, 1 to 1,024, as [`share`] does. Systems
+    /// read the rest of it by [`OpenWorld::view`].
+    ///
+    /// # Errors
+    ///
+    /// [`Memory`], with the world as it was.
+    #[inline]
+    pub fn open(self, n: usize) -> Result<(OpenWorld, Vec<Reserver>), (World, Memory)>
+        // requires flushed { self.allocator.asked ≡ 0 }
+        // requires some { 0 < n }
+        // requires few { n ≤ 1024 }
+        // ensures shared { IfOk result (λ made.
+        //     (made.0.shared.start ≡ self.allocator) × (made.0.shared.count ≡ n)) }
+        // ensures sound { IfOk result (λ made. IsSound made.0.shared.start) }
+        // ensures living { IfOk result (λ made. AreLiving made.0.shared.start made.0.entities) }
+        // ensures phase { IfOk result (λ made. made.0.phase ≡ self.phase) }
+        // ensures entities { IfOk result (λ made. made.0.entities ≡ self.entities) }
+        // ensures count { IfOk result (λ made. length made.1.items ≡ n) }
+        // ensures reservers { IfOk result (λ made.
+        //     records_of made.1.items ≡ opened_records self.allocator 0 n) }
+        // ensures unused { IfOk result (λ made. All (λ r. r.own.entries ≡ []) made.1.items) }
+        // ensures own { IfOk result (λ made. All (IsOf made.0.shared) made.1.items) }
+        // ensures err { IfErr result (λ refused. refused.0 ≡ self) }
+        // ensures world { IfErr result (λ refused. IsWorld refused.0) }
+    {
+        let World {
+            entities,
+            storage,
+            phase,
+            alloc,
+        } = self;
+        match share(alloc, entities, n) {
+            Ok((shared, reservers)) => {
+                Ok((OpenWorld::new(alloc, shared, storage, phase), reservers))
+            }
+            Err((entities, memory)) => Err((
+                World {
+                    entities,
+                    storage,
+                    phase,
+                    alloc,
+                },
+                memory,
+            )),
+        }
+    }
+}

@@ -1,0 +1,22 @@
+//! The proved crates of this repository as plain Rust, each a module.
+//!
+//! `rust/erase` makes all files here of the sources below `crates/`. What is ghost is taken out, and the
+//! clauses of each contract stay below its signature as comments. None of these files is edited by
+//! hand: the gate makes them anew and compares.
+//!
+//! The proofs are of the sources, before that.
+
+// What a clause alone reads isn't used here, and the package doesn't call all that is proved. How the
+// sources are written is up to them.
+#![allow(dead_code, unused_imports, unused_variables, clippy::all)]
+
+pub mod ent_alloc;
+pub mod ent_claims;
+pub mod ent_handle;
+pub mod ent_queue;
+pub mod ent_runner;
+pub mod ent_seats;
+pub mod ent_shared;
+pub mod ent_sorted;
+pub mod ent_storage;
+pub mod ent_world;

@@ -1,0 +1,334 @@
+//! Frames. What one makes doesn't depend on the number of its workers, and is what the same systems
+//! make one after the other by `World::open` and `World::apply`.
+
+mod common;
+
+use common::{handle, seeds, Numbers};
+use forgeni::{
+    run_frame, Birth, Commands, ComponentId, FaultKind, FrameError, Handle, Limits, OutOfMemory,
+    Report, SpawnError, System, SystemCommands, View, World,
+};
+use std::sync::atomic::{AtomicUsize, Ordering};
+use std::sync::Barrier;
+
+const HP: ComponentId = ComponentId(0);
+const AGE: ComponentId = ComponentId(1);
+
+/// What a system does to the living, who are counted by birth.
+#[derive(Clone, Copy, Debug)]
+enum Step {
+    Spawn(i64),
+    SpawnMany(u32),
+    /// Changes what it has spawned last.
+    InsertLast(i64),
+    Insert(usize, i64),
+    Remove(usize),
+    Despawn(usize),
+    /// Makes all that have an age older.
+    Age,
+}
+
+/// The two ways to issue commands.
+trait Issues {
+    fn spawn(&mut self, components: &[(ComponentId, i64)]) -> Result<Handle, SpawnError>;
+    fn spawn_many(&mut self, count: u32) -> Result<Vec<Handle>, SpawnError>;
+    fn insert(&mut self, handle: Handle, value: (ComponentId, i64));
+    fn remove(&mut self, handle: Handle);
+    fn despawn(&mut self, handle: Handle);
+}
+
+macro_rules! issues {
+    ($type:ty) => {
+        impl Issues for $type {
+            fn spawn(&mut self, components: &[(ComponentId, i64)]) -> Result<Handle, SpawnError> {
+                self.spawn(components)
+            }
+            fn spawn_many(&mut self, count: u32) -> Result<Vec<Handle>, SpawnError> {
+                self.spawn_many(count, &[(AGE, 0), (HP, 5)])
+            }
+            fn insert(&mut self, handle: Handle, value: (ComponentId, i64)) {
+                self.insert(handle, &[value]).expect("memory");
+            }
+            fn remove(&mut self, handle: Handle) {
+                self.remove(handle, HP).expect("memory");
+            }
+            fn despawn(&mut self, handle: Handle) {
+                self.despawn(handle).expect("memory");
+            }
+        }
+    };
+}
+
+issues!(Commands);
+issues!(SystemCommands<'_, '_>);
+
+/// The living when the phase began: by birth, and the age of each that has one.
+struct Living {
+    all: Vec<Handle>,
+    aged: Vec<(Handle, i64)>,
+}
+
+fn run_steps(steps: &[Step], living: &Living, commands: &mut impl Issues) {
+    let mut last = None;
+    for step in steps {
+        let at = |rank: &usize| living.all.get(rank % living.all.len().max(1)).copied();
+        match step {
+            Step::Spawn(value) => match commands.spawn(&[(AGE, 0), (HP, *value)]) {
+                Ok(one) => last = Some(one),
+                Err(refused) => refused.or_memory().expect("memory"),
+            },
+            Step::SpawnMany(count) => match commands.spawn_many(*count) {
+                Ok(all) => last = all.last().copied().or(last),
+                Err(refused) => refused.or_memory().expect("memory"),
+            },
+            Step::InsertLast(value) => {
+                if let Some(one) = last {
+                    commands.insert(one, (HP, *value));
+                }
+            }
+            Step::Insert(rank, value) => {
+                if let Some(one) = at(rank) {
+                    commands.insert(one, (HP, *value));
+                }
+            }
+            Step::Remove(rank) => {
+                if let Some(one) = at(rank) {
+                    commands.remove(one);
+                }
+            }
+            Step::Despawn(rank) => {
+                if let Some(one) = at(rank) {
+                    commands.despawn(one);
+                }
+            }
+            Step::Age => {
+                for (one, age) in &living.aged {
+                    commands.insert(*one, (AGE, age + 1));
+                }
+            }
+        }
+    }
+}
+
+struct Script(Vec<Step>);
+
+impl System for Script {
+    fn run(
+        &self,
+        view: View<'_>,
+        commands: &mut SystemCommands<'_, '_>,
+    ) -> Result<(), OutOfMemory> {
+        let all = view.by_birth()?;
+        let age = |one| (one, view.get(one, AGE).expect("it has one"));
+        let aged = view.with(AGE)?.into_iter().map(age).collect();
+        for one in &all {
+            let birth = view.birth(*one).expect("alive");
+            assert_eq!(view.of_birth(birth), Some(*one));
+            assert!(view.contains(*one));
+        }
+        run_steps(&self.0, &Living { all, aged }, commands);
+        Ok(())
+    }
+}
+
+fn any_step(numbers: &mut Numbers) -> Step {
+    let rank = numbers.below(50) as usize;
+    match numbers.below(9) {
+        0 | 1 => Step::Spawn(numbers.below(100) as i64),
+        2 => Step::SpawnMany(numbers.below(4) as u32),
+        3 => Step::InsertLast(numbers.below(100) as i64),
+        4 => Step::Insert(rank, numbers.below(100) as i64),
+        5 => Step::Remove(rank),
+        6 | 7 => Step::Despawn(rank),
+        _ => Step::Age,
+    }
+}
+
+fn any_scripts(numbers: &mut Numbers) -> Vec<Script> {
+    let script = |numbers: &mut Numbers| {
+        let steps = numbers.below(7);
+        Script((0..steps).map(|_| any_step(numbers)).collect())
+    };
+    (0..numbers.below(9)).map(|_| script(numbers)).collect()
+}
+
+/// What a world and a report say without handles: which system gets which is a matter of luck.
+type Story = (
+    Vec<(Birth, Vec<(ComponentId, i64)>)>,
+    usize,
+    Vec<(usize, usize, Option<FaultKind>)>,
+);
+
+fn story(world: &World, report: &Report) -> Story {
+    let living = world.by_birth().expect("memory");
+    let one = |one| {
+        let birth = world.birth(one).expect("alive");
+        (birth, world.items(one).expect("alive"))
+    };
+    let faults = report.faults().into_iter().map(|fault| {
+        let kind = match fault.kind {
+            FaultKind::NotAlive(_) => None,
+            refused => Some(refused),
+        };
+        (fault.system, fault.command, kind)
+    });
+    let told = living.into_iter().map(one).collect();
+    (told, report.born().len(), faults.collect())
+}
+
+/// The systems one after the other, without a frame.
+fn in_turn(world: World, scripts: &[Script]) -> (World, Report) {
+    if scripts.is_empty() {
+        let (open, systems) = world.open(1).expect("opened");
+        let queues = systems.into_iter().map(Commands::finish).collect();
+        let (mut world, queues) = open.close(queues).expect("closed");
+        let report = world.apply(queues).expect("memory");
+        return (world, report);
+    }
+    let (open, systems) = world.open(scripts.len()).expect("opened");
+    let all = open.by_birth().expect("memory");
+    let age = |one: &Handle| open.get(*one, AGE).map(|age| (*one, age));
+    let aged = all.iter().filter_map(age).collect();
+    let living = Living { all, aged };
+    let run = |(mut commands, script): (Commands, &Script)| {
+        run_steps(&script.0, &living, &mut commands);
+        commands.finish()
+    };
+    let queues = systems.into_iter().zip(scripts).map(run).collect();
+    let (mut world, queues) = open.close(queues).expect("closed");
+    let report = world.apply(queues).expect("memory");
+    (world, report)
+}
+
+fn play(seed: u64, workers: &[usize]) {
+    let mut numbers = Numbers::of(seed);
+    // Room for all that is spawned: which of two is refused would be a matter of luck.
+    let limits = Limits::new(1_000, 1 + numbers.below(3) as u32).expect("limits");
+    let mut wanted = World::with_limits(limits);
+    let mut worlds: Vec<World> = workers.iter().map(|_| World::with_limits(limits)).collect();
+    for frame in 0..6 {
+        let scripts = any_scripts(&mut numbers);
+        let (world, report) = in_turn(wanted, &scripts);
+        wanted = world;
+        for (world, workers) in worlds.iter_mut().zip(workers) {
+            let place = format!("seed {seed}, frame {frame}, {workers} workers");
+            let own = run_frame(world, &scripts, *workers).expect("memory");
+            assert_eq!(story(world, &own), story(&wanted, &report), "{place}");
+            assert_eq!(world.phase(), wanted.phase(), "{place}");
+            assert!(!world.needs_flush(), "{place}");
+            if *workers == 1 {
+                assert_eq!(own.born(), report.born(), "{place}");
+                assert_eq!(own.faults(), report.faults(), "{place}");
+            }
+        }
+    }
+}
+
+#[test]
+fn the_same_on_few_workers() {
+    seeds(300, |seed| play(seed, &[1, 2, 3, 4]));
+}
+
+#[test]
+fn the_same_on_many_workers() {
+    seeds(20, |seed| play(seed, &[1, 7, 16, 64]));
+}
+
+/// The pool has fewer handles than the systems want. One worker runs them in their order.
+#[test]
+fn refused_spawns_are_faults() {
+    let mut world = World::with_limits(Limits::new(3, 1).expect("limits"));
+    let scripts = [
+        Script(vec![Step::SpawnMany(2)]),
+        Script(vec![Step::SpawnMany(3)]),
+    ];
+    let report = run_frame(&mut world, &scripts, 1).expect("memory");
+    assert_eq!(report.born(), [handle(0, 1), handle(1, 1)]);
+    let faults: Vec<FaultKind> = report.faults().iter().map(|fault| fault.kind).collect();
+    assert_eq!(faults, [FaultKind::Space { wanted: 3, left: 1 }]);
+}
+
+/// As many systems run at once as there are workers.
+#[test]
+fn workers_overlap() {
+    for workers in [2, 4, 16] {
+        let together = Barrier::new(workers);
+        let system = |_: View<'_>, _: &mut SystemCommands<'_, '_>| {
+            together.wait();
+            Ok(())
+        };
+        let systems = vec![system; 3 * workers];
+        run_frame(&mut World::new(), &systems, workers).expect("memory");
+    }
+}
+
+#[test]
+fn each_system_runs_once() {
+    let runs: Vec<AtomicUsize> = (0..1_000).map(|_| AtomicUsize::new(0)).collect();
+    let system = |count| {
+        move |_: View<'_>, _: &mut SystemCommands<'_, '_>| {
+            let count: &AtomicUsize = count;
+            count.fetch_add(1, Ordering::Relaxed);
+            Ok(())
+        }
+    };
+    let systems: Vec<_> = runs.iter().map(system).collect();
+    for (round, workers) in [1, 2, 3, 8, 64].into_iter().enumerate() {
+        run_frame(&mut World::new(), &systems, workers).expect("memory");
+        let wrong = runs
+            .iter()
+            .position(|n| n.load(Ordering::Relaxed) != round + 1);
+        assert_eq!(wrong, None, "{workers} workers");
+    }
+}
+
+/// Systems of several types, as references and in boxes.
+#[test]
+fn systems_of_several_types() {
+    fn launch(_: View<'_>, commands: &mut SystemCommands<'_, '_>) -> Result<(), OutOfMemory> {
+        commands.spawn(&[(AGE, 3)]).expect("a handle");
+        Ok(())
+    }
+    let script = Script(vec![Step::Age]);
+    let mut world = World::new();
+    let systems: [&dyn System; 2] = [&launch, &script];
+    run_frame(&mut world, &systems, 2).expect("memory");
+    let boxed: Vec<Box<dyn System>> = vec![Box::new(launch), Box::new(script)];
+    run_frame(&mut world, &boxed, 2).expect("memory");
+    let ages = world.by_birth().expect("memory");
+    let ages: Vec<_> = ages.into_iter().map(|one| world.get(one, AGE)).collect();
+    assert_eq!(ages, [Some(4), Some(3)]);
+    // A list of one type needs neither.
+    run_frame(&mut world, &[launch], 1).expect("memory");
+    assert_eq!(world.len(), 3);
+}
+
+#[test]
+fn what_a_frame_wants() {
+    let nothing = |_: View<'_>, _: &mut SystemCommands<'_, '_>| Ok(());
+    let mut world = World::new();
+    for workers in [0, 65, usize::MAX] {
+        let refused = run_frame(&mut world, &[nothing], workers).expect_err("refused");
+        assert!(matches!(refused, FrameError::Workers), "{refused}");
+        assert_eq!(refused.to_string(), "a frame has 1 to 64 workers");
+    }
+    let most = vec![nothing; 65_536];
+    run_frame(&mut world, &most, 2).expect("memory");
+    let refused = run_frame(&mut world, &[nothing; 65_537], 2).expect_err("refused");
+    assert!(matches!(refused, FrameError::Systems), "{refused}");
+    assert_eq!((world.phase(), world.len()), (1, 0));
+
+    // A frame of nothing ends a phase too.
+    run_frame(&mut world, &most[..0], 64).expect("memory");
+    assert_eq!(world.phase(), 2);
+
+    let (open, mut systems) = world.open(1).expect("opened");
+    systems[0].spawn(&[]).expect("a handle");
+    let queues = systems.into_iter().map(Commands::finish).collect();
+    let (mut world, queues) = open.close(queues).expect("closed");
+    let refused = run_frame(&mut world, &[nothing], 1).expect_err("not flushed");
+    assert!(matches!(refused, FrameError::NeedsFlush), "{refused}");
+    world.apply(queues).expect("memory");
+    run_frame(&mut world, &[nothing], 1).expect("memory");
+    assert_eq!((world.phase(), world.len()), (4, 1));
+}

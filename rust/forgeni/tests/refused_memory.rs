@@ -1,0 +1,607 @@
+//! Each request for memory is refused in turn: the first one alone, the second one, and so on, and then
+//! all from the first one on, from the second one on. Each call says so, what it says of the state
+//! stands, and it does the same as with ample memory when it is made again.
+
+mod common;
+#[path = "../../../.ci/refusing_allocator.rs"]
+mod refusing;
+
+use common::handle;
+use forgeni::{
+    run_frame, AllocError, Birth, BornError, CommandQueue, Commands, ComponentId, Entities, Fault,
+    FinishError, FrameError, FreeError, GoOnError, Handle, InsertError, OpenError, OpenWorld,
+    OutOfMemory, Queues, Refused, Report, ShareError, SpawnError, State, Storage, SyncError,
+    SystemCommands, View, World,
+};
+use refusing::{refusing, Refusal};
+
+const HP: ComponentId = ComponentId(0);
+
+const BIRTH: Birth = Birth {
+    frame: 0,
+    system: 0,
+    ordinal: 0,
+};
+
+/// More components than lie in a bundle itself.
+const MANY: [(ComponentId, i64); 6] = [
+    (ComponentId(0), 10),
+    (ComponentId(1), 11),
+    (ComponentId(2), 12),
+    (ComponentId(3), 13),
+    (ComponentId(4), 14),
+    (ComponentId(5), 15),
+];
+
+/// Tries with each refusal until nothing is refused any more. An attempt returns how often it was
+/// refused.
+fn in_turn(refusal: fn(usize) -> Refusal, mut attempt: impl FnMut(Refusal) -> usize) {
+    for after in 0..10_000 {
+        if attempt(refusal(after)) == 0 {
+            assert!(after > 0, "it takes no memory");
+            return;
+        }
+    }
+    panic!("it is refused for good");
+}
+
+/// With one request refused, and with all from one on.
+fn each_in_turn(mut attempt: impl FnMut(Refusal) -> usize) {
+    in_turn(|after| Refusal::One { after }, &mut attempt);
+    in_turn(|after| Refusal::All { after }, &mut attempt);
+}
+
+/// With room for no more block, for one, and so on. Rust's `Arc` can't be refused its memory, so the
+/// package asks for as much before: that succeeds if there is room for the `Arc`.
+fn each_block_in_turn(attempt: impl FnMut(Refusal) -> usize) {
+    let above = |after: usize| Refusal::Above {
+        blocks: after as isize,
+    };
+    in_turn(above, attempt);
+}
+
+/// Makes a call while memory is refused. If it says so, it is made again without a refusal. Returns
+/// what it did in the end, and how often it was refused.
+///
+/// A call may do without memory that it was refused: a storage's index is one that may.
+fn insist<T, E: PartialEq + std::fmt::Debug>(
+    refusal: Refusal,
+    memory: E,
+    mut call: impl FnMut() -> Result<T, E>,
+) -> (T, usize) {
+    let (done, refused) = refusing(refusal, &mut call);
+    match done {
+        Ok(done) => (done, refused),
+        Err(error) => {
+            assert_eq!(error, memory);
+            assert!(refused > 0, "nothing was refused");
+            match call() {
+                Ok(done) => (done, refused),
+                Err(error) => panic!("{error:?} with ample memory"),
+            }
+        }
+    }
+}
+
+/// Two living entities, and a slot that waits.
+fn three() -> Entities {
+    let mut entities = Entities::new();
+    for _ in 0..3 {
+        entities.alloc().expect("memory");
+    }
+    entities.free(handle(1, 1)).expect("memory");
+    entities
+}
+
+#[test]
+fn alloc_and_free() {
+    each_in_turn(|refusal| {
+        let mut entities = Entities::new();
+        let (one, refused) = insist(refusal, AllocError::Memory, || entities.alloc());
+        assert_eq!(
+            (one, entities.len(), entities.total()),
+            (handle(0, 1), 1, 1)
+        );
+        refused
+    });
+    each_in_turn(|refusal| {
+        let mut entities = Entities::new();
+        let one = entities.alloc().expect("memory");
+        let (freed, refused) = insist(refusal, FreeError::Memory, || entities.free(one));
+        assert_eq!(freed.next, Some(handle(0, 2)));
+        assert_eq!((entities.len(), entities.waiting()), (0, 1));
+        refused
+    });
+}
+
+#[test]
+fn a_flush_of_requests() {
+    let wanted: Vec<Handle> = (3..100).map(|index| handle(index, 1)).collect();
+    each_in_turn(|refusal| {
+        let mut entities = three();
+        for _ in 0..98 {
+            entities.request().expect("a handle");
+        }
+        let (born, refused) = refusing(refusal, || entities.flush());
+        let born = born.unwrap_or_else(|OutOfMemory| {
+            assert!(refused > 0);
+            assert_eq!((entities.asked(), entities.reserved()), (98, 98));
+            assert_eq!(entities.state(handle(50, 1)), State::Reserved);
+            entities.flush().expect("memory")
+        });
+        assert_eq!(born[..97], wanted);
+        assert_eq!(born[97], handle(1, 2));
+        assert_eq!(entities.len(), 100);
+        refused
+    });
+}
+
+#[test]
+fn share_gives_the_allocator_back() {
+    each_block_in_turn(|refusal| {
+        let entities = three();
+        let (shared, refused) = refusing(refusal, || entities.share(5));
+        let (shared, mut reservers) = shared.unwrap_or_else(|unshared| {
+            assert!(refused > 0);
+            assert_eq!(unshared.error, ShareError::Memory);
+            let entities = unshared.entities;
+            assert_eq!((entities.len(), entities.waiting()), (2, 1));
+            assert!(!entities.needs_flush());
+            entities.share(5).expect("memory")
+        });
+        assert_eq!(reservers.len(), 5);
+        assert_eq!(reservers[4].reserve(), Ok(handle(1, 2)));
+        assert_eq!(shared.close(reservers).expect("closed").reserved(), 1);
+        refused
+    });
+}
+
+#[test]
+fn reserving_many() {
+    each_in_turn(|refusal| {
+        let (shared, mut reservers) = three().share(1).expect("shared");
+        let only = &mut reservers[0];
+        let (given, refused) = insist(refusal, Refused::Memory, || only.reserve_many(3));
+        assert_eq!(given, [handle(1, 2), handle(3, 1), handle(4, 1)]);
+        assert_eq!(only.quota_left(), (1 << 40) - 3);
+        shared.close(reservers).expect("closed");
+        refused
+    });
+}
+
+/// No close of a phase of an allocator takes memory, not even after one that was refused.
+#[test]
+fn closes_of_allocators_take_no_memory() {
+    let (shared, mut reservers) = three().share(9).expect("shared");
+    let away = reservers.pop().expect("nine");
+    reservers[0].reserve().expect("a handle");
+    let none = Refusal::All { after: 0 };
+    let (left, refused) = refusing(none, || shared.close(reservers).expect_err("missing"));
+    assert_eq!((refused, left.reservers.len()), (0, 8));
+    drop(away);
+    let closed = || left.shared.close_lost(left.reservers).expect("closed");
+    let (entities, refused) = refusing(none, closed);
+    assert_eq!((refused, entities.reserved()), (0, 1));
+}
+
+/// After a close that found one in use there may be no room for the others, until there is memory.
+#[test]
+fn a_close_after_one_in_use() {
+    let (shared, mut reservers) = three().share(9).expect("shared");
+    let away = reservers.pop().expect("nine");
+    let none = Refusal::All { after: 0 };
+    let (left, _) = refusing(none, || shared.close_lost(reservers).expect_err("in use"));
+    assert_eq!((left.reservers.len(), left.shared.at_home()), (0, 8));
+    let (shared, mut reservers) = (left.shared, vec![away]);
+    reservers[0].reserve().expect("a handle");
+    assert_eq!(shared.close(reservers).expect("closed").reserved(), 1);
+}
+
+#[test]
+fn calls_of_a_storage() {
+    each_in_turn(|refusal| {
+        let mut storage = Storage::new();
+        let one = handle(7, 1);
+        let (_, refused) = insist(refusal, BornError::Memory, || storage.born(one, BIRTH));
+        assert_eq!((storage.len(), storage.birth(one)), (1, Some(BIRTH)));
+        refused
+    });
+    each_in_turn(|refusal| {
+        let mut storage = Storage::new();
+        let one = handle(7, 1);
+        storage.born(one, BIRTH).expect("memory");
+        let (done, refused) = refusing(refusal, || storage.insert(one, &MANY));
+        if let Err(error) = done {
+            assert!(refused > 0);
+            assert_eq!(error, InsertError::Memory);
+            assert_eq!(storage.items(one), Some(vec![]));
+            storage.insert(one, &MANY).expect("memory");
+        }
+        assert_eq!(storage.items(one), Some(MANY.to_vec()));
+        let (removed, unasked) = refusing(Refusal::All { after: 0 }, || {
+            (storage.remove(one, HP), storage.despawn(one))
+        });
+        assert_eq!((removed, unasked), ((Ok(Some(10)), Ok(())), 0));
+        refused
+    });
+}
+
+/// A world with one entity that has all components, and one that has none.
+fn two() -> World {
+    let mut world = World::new();
+    world.spawn(&MANY).expect("memory");
+    world.spawn(&[]).expect("memory");
+    world
+}
+
+/// An entity with its birth and its components.
+type Told = (Handle, Birth, Vec<(ComponentId, i64)>);
+
+fn all(world: &World) -> Vec<Told> {
+    let living = world.by_birth().expect("memory");
+    let one = |one| {
+        let birth = world.birth(one).expect("alive");
+        (one, birth, world.items(one).expect("alive"))
+    };
+    living.into_iter().map(one).collect()
+}
+
+#[test]
+fn calls_of_a_world() {
+    let before = all(&two());
+    each_in_turn(|refusal| {
+        let mut world = two();
+        let (done, refused) = refusing(refusal, || world.spawn(&MANY));
+        let one = done.unwrap_or_else(|error| {
+            assert!(refused > 0);
+            assert_eq!((error, all(&world)), (AllocError::Memory, before.clone()));
+            world.spawn(&MANY).expect("memory")
+        });
+        assert_eq!((one, world.len()), (handle(2, 1), 3));
+        assert_eq!(world.items(one), Some(MANY.to_vec()));
+        refused
+    });
+    each_in_turn(|refusal| {
+        let mut world = two();
+        let (done, refused) = refusing(refusal, || world.despawn(handle(0, 1)));
+        let freed = done.unwrap_or_else(|error| {
+            assert!(refused > 0);
+            assert_eq!((error, all(&world)), (FreeError::Memory, before.clone()));
+            world.despawn(handle(0, 1)).expect("memory")
+        });
+        assert_eq!((freed.next, world.len()), (Some(handle(0, 2)), 1));
+        refused
+    });
+    each_in_turn(|refusal| {
+        let world = two();
+        let (list, refused) = insist(refusal, OutOfMemory, || world.by_birth());
+        assert_eq!(list, [handle(0, 1), handle(1, 1)]);
+        refused
+    });
+}
+
+#[test]
+fn open_gives_the_world_back() {
+    let before = all(&two());
+    each_block_in_turn(|refusal| {
+        let world = two();
+        let (opened, refused) = refusing(refusal, || world.open(3));
+        let (open, systems) = opened.unwrap_or_else(|unopened| {
+            assert!(refused > 0);
+            assert_eq!(unopened.error, OpenError::Memory);
+            assert_eq!(all(&unopened.world), before);
+            unopened.world.open(3).expect("memory")
+        });
+        let queues = systems.into_iter().map(Commands::finish).collect();
+        let (world, _) = open.close(queues).expect("closed");
+        assert_eq!(all(&world), before);
+        refused
+    });
+}
+
+/// A phase of one system of that world.
+fn phase() -> (OpenWorld, Commands) {
+    let (open, mut systems) = two().open(1).expect("opened");
+    (open, systems.pop().expect("a system"))
+}
+
+/// Ends the phase and lets its queue take effect. What every command has done, each of which was
+/// issued once.
+fn applied(open: OpenWorld, queue: CommandQueue) -> (World, Report) {
+    let (mut world, queues) = open.close(vec![queue]).expect("closed");
+    let report = world.apply(queues).expect("memory");
+    assert_eq!(report.faults(), []);
+    (world, report)
+}
+
+#[test]
+fn a_spawn_by_command_reserves_once() {
+    each_in_turn(|refusal| {
+        let (open, mut only) = phase();
+        let (one, refused) = insist(refusal, SpawnError::Memory, || only.spawn(&MANY));
+        let (world, report) = applied(open, only.finish());
+        assert_eq!(report.born(), [one]);
+        assert_eq!(world.items(one), Some(MANY.to_vec()));
+        refused
+    });
+    each_in_turn(|refusal| {
+        let (open, mut only) = phase();
+        let (all, refused) = insist(refusal, SpawnError::Memory, || only.spawn_many(50, &MANY));
+        let (world, report) = applied(open, only.finish());
+        assert_eq!((report.born(), world.len()), (all, 52));
+        refused
+    });
+}
+
+#[test]
+fn a_command_is_issued_once() {
+    let (first, second) = (handle(0, 1), handle(1, 1));
+    each_in_turn(|refusal| {
+        let (open, mut only) = phase();
+        let (_, refused) = insist(refusal, OutOfMemory, || only.insert(second, &MANY));
+        let (world, _) = applied(open, only.finish());
+        assert_eq!(world.items(second), Some(MANY.to_vec()));
+        refused
+    });
+    each_in_turn(|refusal| {
+        let (open, mut only) = phase();
+        let (_, refused) = insist(refusal, OutOfMemory, || only.remove(first, HP));
+        let (world, _) = applied(open, only.finish());
+        assert_eq!(world.items(first), Some(MANY[1..].to_vec()));
+        refused
+    });
+    // A second despawn would be a fault.
+    each_in_turn(|refusal| {
+        let (open, mut only) = phase();
+        let (_, refused) = insist(refusal, OutOfMemory, || only.despawn(first));
+        let (world, _) = applied(open, only.finish());
+        assert_eq!((world.len(), world.contains(first)), (1, false));
+        refused
+    });
+}
+
+#[test]
+fn a_close_hands_the_queues_back() {
+    each_in_turn(|refusal| {
+        let (open, mut systems) = two().open(3).expect("opened");
+        systems[2].insert(handle(1, 1), &[(HP, 2)]).expect("memory");
+        systems[1].insert(handle(1, 1), &[(HP, 1)]).expect("memory");
+        let queues = systems.into_iter().map(Commands::finish).collect();
+        let (closed, refused) = refusing(refusal, || open.close(queues));
+        let (mut world, queues) = closed.unwrap_or_else(|left| {
+            assert!(refused > 0);
+            assert_eq!((left.error, left.open.at_home()), (FinishError::Memory, 0));
+            let numbers: Vec<usize> = left.queues.iter().map(CommandQueue::number).collect();
+            assert_eq!(numbers, [0, 1, 2]);
+            left.open.close(left.queues).expect("memory")
+        });
+        world.apply(queues).expect("memory");
+        assert_eq!(world.get(handle(1, 1), HP), Some(2));
+        refused
+    });
+}
+
+/// A world, and the queues of two systems that spawn, change and despawn, also what isn't alive.
+fn with_queues() -> (World, Queues) {
+    let (open, mut systems) = two().open(2).expect("opened");
+    let new = systems[0].spawn_many(9, &MANY).expect("memory");
+    systems[1].spawn(&MANY[2..]).expect("memory");
+    systems[0].despawn(handle(0, 1)).expect("memory");
+    systems[1].insert(new[3], &[(HP, 99)]).expect("memory");
+    systems[1].remove(new[4], HP).expect("memory");
+    for one in &new[5..] {
+        systems[1].despawn(*one).expect("memory");
+        systems[1].insert(*one, &MANY).expect("memory");
+    }
+    let queues = systems.into_iter().map(Commands::finish).collect();
+    open.close(queues).expect("closed")
+}
+
+/// Ends a sync point that may have stopped, with ample memory. All faults.
+fn ended(world: &mut World, done: Result<Report, SyncError>) -> Vec<Fault> {
+    match done {
+        Ok(report) => report.faults(),
+        Err(SyncError::Memory(queues)) => world.apply(queues).expect("memory").faults(),
+        Err(SyncError::Stopped(stopped)) => {
+            let mut faults = stopped.so_far.faults();
+            faults.extend(stopped.go_on(world).expect("memory").faults());
+            faults
+        }
+        Err(other) => panic!("{other}"),
+    }
+}
+
+#[test]
+fn a_sync_point_goes_on_wherever_it_stopped() {
+    let (mut world, queues) = with_queues();
+    let wanted = world.apply(queues).expect("memory");
+    let (wanted, world) = (wanted.faults(), all(&world));
+    assert_eq!((wanted.len(), world.len()), (4, 7));
+    let mut stops = Vec::new();
+    each_in_turn(|refusal| {
+        let (mut world_2, queues) = with_queues();
+        let (done, refused) = refusing(refusal, || world_2.apply(queues));
+        assert!(done.is_ok() || refused > 0);
+        if let Err(SyncError::Stopped(stopped)) = &done {
+            stops.push((stopped.system, stopped.command, stopped.done));
+        }
+        assert_eq!(ended(&mut world_2, done), wanted);
+        assert_eq!(all(&world_2), world);
+        refused
+    });
+    // It stopped in the middle of the spawn of many too, and at a fault.
+    assert!(
+        stops.iter().any(|stop| stop.0 == 0 && stop.2 > 0),
+        "{stops:?}"
+    );
+    assert!(stops.iter().any(|stop| stop.0 == 1), "{stops:?}");
+}
+
+/// The refusal at which the sync point stops first.
+fn first_stop() -> Refusal {
+    (0..1_000)
+        .map(|after| Refusal::One { after })
+        .find(|refusal| {
+            let (mut world, queues) = with_queues();
+            let (done, _) = refusing(*refusal, || world.apply(queues));
+            matches!(done, Err(SyncError::Stopped(_)))
+        })
+        .expect("it stops")
+}
+
+/// It stops as early as it can, and what goes on is refused in turn too.
+#[test]
+fn what_goes_on_goes_on_again() {
+    let (mut world, queues) = with_queues();
+    let wanted = world.apply(queues).expect("memory").faults();
+    let world = all(&world);
+    let first = first_stop();
+    each_in_turn(|refusal| {
+        let (mut again, queues) = with_queues();
+        let (done, _) = refusing(first, || again.apply(queues));
+        let Err(SyncError::Stopped(stopped)) = done else {
+            panic!("it doesn't stop");
+        };
+        let mut faults = stopped.so_far.faults();
+        let (done, refused) = refusing(refusal, || stopped.go_on(&mut again));
+        match done {
+            Ok(report) => faults.extend(report.faults()),
+            Err(GoOnError::Stopped(stopped)) => {
+                faults.extend(stopped.so_far.faults());
+                faults.extend(stopped.go_on(&mut again).expect("memory").faults());
+            }
+            Err(GoOnError::Memory(stopped)) => {
+                faults.extend(stopped.go_on(&mut again).expect("memory").faults());
+            }
+            Err(other) => panic!("{other}"),
+        }
+        assert_eq!((faults, all(&again)), (wanted.clone(), world.clone()));
+        refused
+    });
+}
+
+#[test]
+fn a_flush_of_a_world() {
+    each_in_turn(|refusal| {
+        let (mut world, queues) = with_queues();
+        drop(queues);
+        let (_, refused) = insist(refusal, OutOfMemory, || world.flush());
+        assert_eq!((world.len(), world.phase()), (12, 1));
+        refused
+    });
+}
+
+type Systems = [fn(View<'_>, &mut SystemCommands<'_, '_>) -> Result<(), OutOfMemory>; 3];
+
+fn launch(_: View<'_>, commands: &mut SystemCommands<'_, '_>) -> Result<(), OutOfMemory> {
+    commands
+        .spawn_many(4, &MANY)
+        .map_or_else(SpawnError::or_memory, |_| Ok(()))
+}
+
+fn change(view: View<'_>, commands: &mut SystemCommands<'_, '_>) -> Result<(), OutOfMemory> {
+    for one in view.with(HP)? {
+        commands.insert(one, &MANY[1..])?;
+        commands.remove(one, HP)?;
+    }
+    Ok(())
+}
+
+/// Twice, so that there are faults.
+fn clear(view: View<'_>, commands: &mut SystemCommands<'_, '_>) -> Result<(), OutOfMemory> {
+    for one in view.by_birth()? {
+        commands.despawn(one)?;
+        commands.despawn(one)?;
+    }
+    Ok(())
+}
+
+const SYSTEMS: Systems = [launch, change, clear];
+
+/// What a frame with ample memory makes of that world.
+fn after_a_frame() -> (Vec<Fault>, Vec<Told>) {
+    let mut world = two();
+    let report = run_frame(&mut world, &SYSTEMS, 1).expect("memory");
+    assert_eq!(
+        (report.born().len(), report.faults().len(), world.len()),
+        (4, 2, 4)
+    );
+    (report.faults(), all(&world))
+}
+
+/// The world is the one before, but for what the systems that ran had reserved.
+fn expect_lost(mut world: World) {
+    assert_eq!(all(&world), all(&two()));
+    world.flush().expect("memory");
+    assert!(world.len() == 2 || world.len() == 6, "{}", world.len());
+    let born = world.by_birth().expect("memory");
+    let bare = |one: &Handle| world.items(*one) == Some(vec![]);
+    assert_eq!(born.iter().filter(|one| bare(one)).count(), world.len() - 1);
+}
+
+#[test]
+fn frames() {
+    let wanted = after_a_frame();
+    let (mut before, mut lost, mut synced) = (0, 0, 0);
+    each_in_turn(|refusal| {
+        let mut world = two();
+        let (done, refused) = refusing(refusal, || run_frame(&mut world, &SYSTEMS, 1));
+        let faults = match done {
+            Ok(report) => report.faults(),
+            Err(FrameError::Memory) => {
+                before += 1;
+                assert_eq!(all(&world), all(&two()));
+                assert!(!world.needs_flush());
+                let again = run_frame(&mut world, &SYSTEMS, 1);
+                again.expect("memory").faults()
+            }
+            Err(FrameError::Lost) => {
+                lost += 1;
+                expect_lost(world);
+                return refused;
+            }
+            Err(FrameError::Sync(error)) => {
+                synced += 1;
+                ended(&mut world, Err(error))
+            }
+            Err(other) => panic!("{other}"),
+        };
+        assert_eq!((faults, all(&world)), wanted);
+        refused
+    });
+    assert!(
+        before > 0 && lost > 0 && synced > 0,
+        "{before}, {lost}, {synced}"
+    );
+}
+
+/// Memory is refused on the worker that runs the system, and nowhere else: starting threads takes
+/// memory that can't be refused.
+#[test]
+fn frames_on_threads() {
+    for workers in [1, 2, 3] {
+        in_turn(
+            |after| Refusal::All { after },
+            |refusal| {
+                let mut world = two();
+                let refused = std::sync::atomic::AtomicUsize::new(0);
+                let system = |view: View<'_>, commands: &mut SystemCommands<'_, '_>| {
+                    let (ran, times) = refusing(refusal, || {
+                        launch(view, commands)?;
+                        change(view, commands)
+                    });
+                    refused.store(times, std::sync::atomic::Ordering::Relaxed);
+                    ran
+                };
+                let ran = run_frame(&mut world, &[system], workers);
+                let refused = refused.into_inner();
+                match ran {
+                    Ok(report) => assert_eq!((report.born().len(), refused), (4, 0)),
+                    Err(FrameError::Lost) => expect_lost(world),
+                    Err(other) => panic!("{other}"),
+                }
+                refused
+            },
+        );
+    }
+}
