@@ -167,12 +167,7 @@ fn system_of(script: &Value, frame: usize, system: usize) -> Option<&Value>
     frame_of(script, frame)?.get(system)
 }
 
-fn operation_of(
-    script: &Value,
-    frame: usize,
-    system: usize,
-    operation: usize,
-) -> Option<&Value>
+fn operation_of(script: &Value, frame: usize, system: usize, operation: usize) -> Option<&Value>
     ensures { option_map (λ v. view v.now) result
         ≡ operation_in (view script.now) frame system operation }
 {
