@@ -1,3 +1,4 @@
 pub mod OneHandle
+pub mod Replied
 pub mod Unused
 pub mod Walking

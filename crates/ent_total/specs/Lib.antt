@@ -1,4 +1,7 @@
+pub mod Applying
+pub mod Batch
 pub mod Closing
 pub mod Faults
-pub mod Refusals
+pub mod Finishing
+pub mod Issuing
 pub mod Sharing

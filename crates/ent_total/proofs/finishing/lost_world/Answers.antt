@@ -1,0 +1,16 @@
+use Rattle.ent_total.proofs.finishing.lost_world.Goals as goal
+
+pub returns : goal.returns
+returns c =
+    let ensured = c.close_lost.ensures in
+    record {
+      phase = ensured.phase;
+      entities = ensured.entities;
+      world = ensured.world;
+      allocator = ensured.after;
+      least = ensured.least;
+      most = ensured.most;
+      reached = ensured.reached;
+      whole = ensured.whole;
+      given = record { given = ensured.given };
+    }

@@ -1,0 +1,20 @@
+use Rattle.std.proofs.Common.{rules}
+use Rattle.ent_total.proofs.Replied.{given_one, refused_one}
+use Rattle.ent_total.proofs.issuer.Issuer.spawn.Goals as goal
+
+pub returns-clause-given : goal.returns-clause-given
+returns-clause-given g c =
+    search (
+      rules,
+      given_one c.spawn-spawned.new.self.shared.now c.resume-commands.result.reserver.now
+          c.spawn-spawned.new.self.reserver.now c.spawn-spawned.result c.spawn-spawned.ensures.replies,
+    )
+
+pub returns-clause-refusal : goal.returns-clause-refusal
+returns-clause-refusal g c =
+    search (
+      rules,
+      refused_one c.spawn-spawned.new.self.shared.now
+          c.resume-commands.result.reserver.now c.spawn-spawned.new.self.reserver.now
+          c.spawn-spawned.result c.spawn-spawned.ensures.replies,
+    )

@@ -1,0 +1,46 @@
+use Rattle.std.proofs.Common.{◌≡◌, ◌∙◌, [], ◌∷◌, ◌++◌, ap, sym, subst, arith}
+use Rattle.std.proofs.lemmas.List.Elements.{All-push, All-same}
+use Rattle.ent_shared.specs.Phase.{IsOf}
+use Rattle.ent_world.specs.OpenWorld.{OpenWorld}
+use Rattle.ent_total.specs.Issuing.{Issuer}
+use Rattle.ent_total.proofs.Walking.{stand_for_one, walked_on, first_has, left_have, one_less}
+use Rattle.ent_total.proofs.Walking.{moved_on}
+use Rattle.ent_total.proofs.world_homecoming.bring_home.Goals as goal
+
+pub loop-one-preserved : goal.loop-one-preserved
+loop-one-preserved g c =
+    let i = c.loop-one.invariant in
+    let front = c.in-Some.ensures.steps.0 in
+    let yielded = c.loop-one.yielded in
+    let old = c.loop-one.one-iterator.rest.items in
+    let rest = c.next.new.self.rest.items in
+    let x = c.in-Some.one in
+    let inside = c.one-inside.inside.0.0 in
+    let home = c.loop-one.home.items in
+    let next = c.push_reserved.new.self.items in
+    let queues = c.loop-one.queues_home.items in
+    let world = c.args.world.now in
+    let p = c.push_reserved.ensures in
+    let q = c.push_reserved-in-loop-one.ensures in
+    let view_is = ap (λ w. w.issuer) c.one-inside.view_is ∙ c.one.view_is in
+    let P = λ (i : Issuer). i.number ≡ c.args.number in
+    let same = stand_for_one g.J.Numbering.world_of c.args.number inside.number world _
+    c.requires.stands_for c.one-inside.invariant.0 (ap (λ (i : Issuer). i.number) view_is
+    ∙ first_has yielded old rest x front P i.of) in
+    let less = one_less yielded old rest x front in
+    record {
+      all = walked_on yielded old rest x front c.args.queues.items i.all;
+      home = moved_on yielded old rest x front (λ (i : Issuer). i.reserver)
+          c.args.home.now.items home next i.home
+          (p.items ∙ ap (λ (i : Issuer). home ++ i.reserver ∷ []) view_is);
+      queues = moved_on yielded old rest x front (λ (i : Issuer). i.queue)
+          c.args.queues_home.now.items queues c.push_reserved-in-loop-one.new.self.items i.queues
+          (q.items ∙ ap (λ (i : Issuer). queues ++ i.queue ∷ []) view_is);
+      own = All-same (IsOf world.shared) next (home ++ inside.reserver ∷ []) p.items
+          (All-push (IsOf world.shared) home inside.reserver i.own
+          (subst (λ (w : OpenWorld). IsOf w.shared inside.reserver) same
+          c.one-inside.invariant.1));
+      of = left_have yielded old rest x front P i.of;
+      room = omega (arith, less, p.len, p.capacity, i.room);
+      queue_room = omega (arith, less, q.len, q.capacity, i.queue_room);
+    }

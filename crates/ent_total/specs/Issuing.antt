@@ -1,0 +1,161 @@
+-- What contracts see of a world in a phase, and of a system that issues commands in it.
+use Rattle.std.specs.Prelude.{◌≡◌, ◌≢◌, ◌↔◌, ◌⊎◌, ◌+◌, ◌*◌, ◌≤◌, ◌≤ℤ◌, ◌<ℤ◌, ℕ, List, [], ◌∷◌, ◌++◌}
+use Rattle.std.specs.Prelude.{Err, refl, All, AllPairs, Contains, length, map, sum_by}
+use Rattle.std.specs.Coded.{Coded, code_by, coded×, coded_ℕ, coded_list}
+use Rattle.ent_handle.specs.Handle.{Handle}
+use Rattle.ent_alloc.specs.Limits.{credit}
+use Rattle.ent_alloc.specs.Sequential.{Allocator, cursor, after_flush}
+use Rattle.ent_alloc.specs.History.{IsLegal, after_history, given_in}
+use Rattle.ent_alloc.specs.Sound.{IsLive}
+use Rattle.ent_shared.specs.Order.{reservations_of, history_of, handles_given, Respects}
+use Rattle.ent_shared.specs.declared.refused.Refused.TheVariants.{Space, Quota}
+use Rattle.ent_shared.specs.Record.{requested_by}
+use Rattle.ent_shared.specs.Phase.{Shared, Reserver, reserver_code, IsOf, records_of, after_loss}
+use Rattle.ent_queue.specs.Command.{Command}
+use Rattle.ent_queue.specs.declared.fault.QueueFault.{QueueFault}
+use Rattle.ent_queue.specs.declared.fault.QueueFault.TheVariants as fault
+use Rattle.ent_queue.specs.Reserving.{Gains, IsReturned}
+use Rattle.ent_queue.specs.contracts.queue.CommandQueue as queued
+use Rattle.ent_world.specs.OpenWorld.{OpenWorld, open_world_code}
+use Rattle.ent_world.specs.World.{World, IsWorld}
+
+-- the number of the world, the world that is open, and all its reservers
+pub record WorldOpening : Type 0 where
+  pub of_world : ℕ
+  pub world : OpenWorld
+  pub home : List Reserver
+
+-- the number by which phases are told apart, the number of the world, the world that is open, the
+-- reservers that no issuer has, and the queues that came home
+pub record WorldPhase : Type 0 where
+  pub number : ℕ
+  pub of_world : ℕ
+  pub world : OpenWorld
+  pub home : List Reserver
+  pub queues : List (List Command)
+
+-- the number of its phase, the world that it views, its reserver, and its commands so far
+pub record Issuer : Type 0 where
+  pub number : ℕ
+  pub world : OpenWorld
+  pub reserver : Reserver
+  pub queue : List Command
+
+-- all of them are of the phase of this number
+abbrev pub AreIssuersOf : ℕ → List Issuer → Type 0
+AreIssuersOf number issuers = All (λ (i : Issuer). i.number ≡ number) issuers
+
+-- the reservers of these issuers, and their queues
+abbrev pub issuing : List Issuer → List Reserver
+issuing issuers = map (λ (i : Issuer). i.reserver) issuers
+
+abbrev pub issued : List Issuer → List (List Command)
+issued issuers = map (λ (i : Issuer). i.queue) issuers
+
+-- what is at home and what these bring, behind it
+abbrev pub reservers_home : WorldPhase → List Issuer → List Reserver
+reservers_home p issuers = p.home ++ issuing issuers
+
+abbrev pub queues_home : WorldPhase → List Issuer → List (List Command)
+queues_home p issuers = p.queues ++ issued issuers
+
+abbrev pub with_home : WorldPhase → List Issuer → WorldPhase
+with_home p issuers = record p {
+  home = reservers_home p issuers;
+  queues = queues_home p issuers;
+}
+
+-- Commands were added, and the reserver has gained their reservations and no others. Nothing else
+-- has changed.
+pub record Extends (before after : Issuer) : Type 0 where
+  pub number : after.number ≡ before.number
+  pub world : after.world ≡ before.world
+  pub ready : IsOf after.world.shared after.reserver
+  pub added : List Command
+  pub queue : after.queue ≡ before.queue ++ added
+  pub gains : Gains before.reserver.own added after.reserver.own
+
+-- A refusal is the result of a request for n handles, unless memory ran out before.
+abbrev pub IsRefused : Shared → Reserver → Reserver → ℕ → QueueFault → Type 0
+IsRefused shared before after n (fault.Space wanted left) =
+    IsReturned shared before after n (Err (Space wanted left))
+IsRefused shared before after n (fault.Quota left) =
+    IsReturned shared before after n (Err (Quota left))
+IsRefused shared before after n fault.Memory = Unit {0}
+
+-- A flush of this allocator brings to life these handles and no others: those live that lived at
+-- the start, and these.
+pub record BringsToLife (start after : Allocator) (given : List Handle) : Type 0 where
+  pub lives : (h : Handle) → IsLive (after_flush after) h ↔ (IsLive start h ⊎ Contains given h)
+
+-- What these reservers were given is reserved in the allocator.
+pub record AreTaken (a : Allocator) (reservers : List Reserver) : Type 0 where
+  pub given : All (λ (r : Reserver). All (Contains a.taken) (handles_given r.own)) reservers
+
+-- The phase ended with all its reservers: the world is the one that was opened, with all that was
+-- reserved. The reservations stand in one history that is legal and respects each reserver; each
+-- stands there once. No handle was given twice, and none was alive. A flush brings to life just
+-- what was given.
+pub record IsClosed (opened : OpenWorld) (home : List Reserver) (after : World) : Type 0 where
+  pub phase : after.phase ≡ opened.phase
+  pub entities : after.entities ≡ opened.entities
+  pub world : IsWorld after
+  pub allocator : after.allocator
+      ≡ after_history opened.shared.start (history_of (records_of home))
+  pub legal : IsLegal opened.shared.start (history_of (records_of home))
+  pub respects : All (Respects (reservations_of (records_of home))) (records_of home)
+  pub falls : AllPairs (λ earlier later. later.high <ℤ earlier.high)
+      (reservations_of (records_of home))
+  pub numbers : AllPairs (λ r s. r.number ≢ s.number) (records_of home)
+  pub distinct : AllPairs (λ g h. g ≢ h) (given_in (history_of (records_of home)))
+  pub not_live : All (λ h. ¬ (IsLive opened.shared.start h))
+      (given_in (history_of (records_of home)))
+  pub brings_to_life : BringsToLife opened.shared.start after.allocator
+      (given_in (history_of (records_of home)))
+
+-- The phase ended with those of its reservers that are at home: the world is the one that was
+-- opened, and a front of the pool is reserved. It counts what these have requested, and of the
+-- others no more than their credit. It has all that these were given. If all are at home, the
+-- cursor is where their history leaves it.
+pub record IsClosedLost (opened : OpenWorld) (home : List Reserver) (after : World) : Type 0 where
+  pub phase : after.phase ≡ opened.phase
+  pub entities : after.entities ≡ opened.entities
+  pub world : IsWorld after
+  pub allocator : after.allocator ≡ after_loss opened.shared.start after.allocator.asked
+  pub least : sum_by (λ (r : Reserver). requested_by r.own) home ≤ after.allocator.asked
+  pub most : sum_by (λ (r : Reserver). r.own.left) home + after.allocator.asked
+      ≤ opened.shared.count * credit
+  pub reached : All (λ (r : Reserver). cursor after.allocator ≤ℤ r.own.mark) home
+  pub whole : length home ≡ opened.shared.count
+      → cursor after.allocator
+      ≡ cursor (after_history opened.shared.start (history_of (records_of home)))
+  pub given : AreTaken after.allocator home
+
+-- each is stored as the tuple of its parts
+abbrev pub world_opening_code : Coded WorldOpening
+world_opening_code =
+    code_by (ℕ × (OpenWorld × List Reserver))
+    (coded× coded_ℕ (coded× open_world_code (coded_list reserver_code)))
+    (λ o. (o.of_world, (o.world, o.home)))
+    (λ t. record { of_world = t.0; world = t.1.0; home = t.1.1 }) (λ _. refl)
+
+abbrev pub world_phase_code : Coded WorldPhase
+world_phase_code =
+    code_by (ℕ × (ℕ × (OpenWorld × (List Reserver × List (List Command)))))
+    (coded× coded_ℕ (coded× coded_ℕ (coded× open_world_code
+    (coded× (coded_list reserver_code) (coded_list queued.the_row.coded)))))
+    (λ p. (p.number, (p.of_world, (p.world, (p.home, p.queues)))))
+    (λ t. record {
+      number = t.0;
+      of_world = t.1.0;
+      world = t.1.1.0;
+      home = t.1.1.1.0;
+      queues = t.1.1.1.1;
+    }) (λ _. refl)
+
+abbrev pub issuer_code : Coded Issuer
+issuer_code =
+    code_by (ℕ × (OpenWorld × (Reserver × List Command)))
+    (coded× coded_ℕ (coded× open_world_code (coded× reserver_code queued.the_row.coded)))
+    (λ i. (i.number, (i.world, (i.reserver, i.queue))))
+    (λ t. record { number = t.0; world = t.1.0; reserver = t.1.1.0; queue = t.1.1.1 }) (λ _. refl)
