@@ -114,12 +114,18 @@ pub fn add_names(names: &mut Names, crates: &[Crate], path: &str) -> Result<(), 
                 match source.at(at) {
                     "fn" if source.is_word(at + 1) => names.functions.insert(declared()),
                     "trait" => names.traits.insert(declared()),
+                    "ghost" if is_declared_member(&source, at) => names.members.insert(declared()),
                     _ => false,
                 };
             }
         }
     }
     Ok(())
+}
+
+/// Whether the `ghost` here begins `ghost NAME: { .. };`, or the same with a default, as in a trait.
+fn is_declared_member(source: &Source<'_>, at: usize) -> bool {
+    source.has(at + 2, &[":", "{"]) && [";", "="].contains(&source.at(source.partner(at + 3) + 1))
 }
 
 #[cfg(test)]

@@ -13,8 +13,9 @@ use crate::walk::{Names, Walk};
 pub fn erase(source: &Source<'_>, krate: &str, names: &Names) -> Result<String, Fault> {
     let mut walk = Walk::new(source, krate, names);
     walk.items(0, source.len(), Scope::File)?;
-    let mut edits = std::mem::take(&mut walk.edits);
-    edits.extend(imports(&walk));
+    // The imports come before all that is put to the same place.
+    let mut edits: Vec<Edit> = imports(&walk).into_iter().collect();
+    edits.append(&mut walk.edits);
     let text = edited(source.text, edits);
     let text = text.trim_start_matches('\n');
     Ok(format!(

@@ -1,7 +1,8 @@
 //! The forms that are known: what is taken out, what is rewritten, and what stays. Whatever is in no
 //! list here is refused.
 
-/// Members of traits and `impl` blocks that are terms for proofs alone.
+/// Members of `impl` blocks of the kit's traits that are terms for proofs alone. Those that the traits
+/// of the sources declare are known too.
 pub const GHOST_MEMBERS: &[&str] = &[
     "Value",
     "both",
@@ -18,19 +19,15 @@ pub const GHOST_MEMBERS: &[&str] = &[
     "left",
     "matches_eq",
     "matches_partial_cmp",
-    "may_issue",
-    "may_leave",
     "next_gives",
     "output",
     "partial_cmp",
     "remaining",
     "right",
-    "shared_of",
     "spent",
     "then",
     "total",
     "view",
-    "world_of",
 ];
 
 /// The words that begin a clause of a contract. A clause with a star is one too.

@@ -87,25 +87,35 @@ impl Walk<'_> {
         if name == "use" {
             return self.after_ghost_use(at + 2);
         }
-        let unknown = || {
-            self.source
-                .fault(at, format!("an unknown ghost form: `ghost {name}`"))
+        let is_known = forms::GHOST_MEMBERS.contains(&name) || self.names.members.contains(name);
+        let end = match scope {
+            Scope::Trait => self.after_declared_member(at + 2),
+            Scope::Impl if is_known => self.after_member_value(at + 2),
+            _ => None,
         };
-        let is_member = matches!(scope, Scope::Impl | Scope::Trait);
-        if !is_member || !forms::GHOST_MEMBERS.contains(&name) {
-            return Err(unknown());
+        let unknown = format!("an unknown ghost form: `ghost {name}`");
+        end.ok_or_else(|| self.source.fault(at, unknown))
+    }
+
+    /// `: { .. };`, or `: { .. } = { .. };` of a member with a default.
+    fn after_declared_member(&self, at: usize) -> Option<usize> {
+        if !self.source.has(at, &[":", "{"]) {
+            return None;
         }
-        let mut at = at + 2;
-        if scope == Scope::Trait && self.source.has(at, &[":", "{"]) {
-            at = self.source.partner(at + 1) + 1;
-            if self.source.at(at) == ";" {
-                return Ok(at + 1);
-            }
+        let end = self.source.partner(at + 1) + 1;
+        match self.source.at(end) {
+            ";" => Some(end + 1),
+            _ => self.after_member_value(end),
         }
-        if self.source.has(at, &["=", "{"]) {
-            return self.expect(self.source.partner(at + 1) + 1, ";");
+    }
+
+    /// `= { .. };`
+    fn after_member_value(&self, at: usize) -> Option<usize> {
+        if !self.source.has(at, &["=", "{"]) {
+            return None;
         }
-        Err(unknown())
+        let end = self.source.partner(at + 1) + 1;
+        (self.source.at(end) == ";").then_some(end + 1)
     }
 
     /// `ghost use PATH.{NAMES};` or `ghost use PATH as NAME;`.

@@ -15,6 +15,8 @@ pub struct Names {
     pub functions: BTreeSet<String>,
     /// Their traits.
     pub traits: BTreeSet<String>,
+    /// The ghost members that those traits declare.
+    pub members: BTreeSet<String>,
     /// The names of std and of the kit that they may use.
     pub forms: Vec<&'static Forms>,
 }

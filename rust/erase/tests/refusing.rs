@@ -63,6 +63,11 @@ const REFUSED: &[(&str, usize, &str)] = &[
         1,
         "an unknown form of a ghost field",
     ),
+    (
+        "trait A {\n    ghost a = { b };\n}\n",
+        2,
+        "an unknown ghost form: `ghost a`",
+    ),
     // Clauses.
     (
         "fn a()\n    promises { b }\n{}\n",

@@ -1,20 +1,19 @@
 #!/bin/sh
 # Prints the tables of `cargo bench`, beside the crates slotmap and sharded-slab. These are Debian's packages librust-slotmap-dev and
-# librust-sharded-slab-dev; one that is missing is left out. It needs `cargo` and `rustc` on the path, and what the package needs.
+# librust-sharded-slab-dev; one that is missing is left out. It needs `cargo` and `rustc` on the path.
 set -eu
 package=$(cd "$(dirname "$0")/.." && pwd)
 registry=/usr/share/cargo/registry
 out=$(mktemp -d)
 trap 'rm -rf "$out"' EXIT
 
-# The library is built for x86-64-v2, so all other sides are built for it too.
-flags="-C target-cpu=x86-64-v2 -L $out"
+flags="-L $out"
 
 # Builds the crate $1, whose source lies in the folder $2, with the words that follow.
 library() {
     name=$1 source=$2
     shift 2
-    rustc -C opt-level=3 -C target-cpu=x86-64-v2 --crate-type rlib --edition 2018 --cap-lints allow -L "$out" "$@" \
+    rustc -C opt-level=3 --crate-type rlib --edition 2018 --cap-lints allow -L "$out" "$@" \
         --crate-name "$name" -o "$out/lib$name.rlib" "$source/src/lib.rs"
     flags="$flags --extern $name=$out/lib$name.rlib"
 }

@@ -172,6 +172,11 @@ impl Entities {
     /// # Errors
     ///
     /// [`Unshared`] says why, and has the allocator as it was.
+    ///
+    /// # Aborts
+    ///
+    /// Rust's `Arc` can't be refused memory. As much is asked for before, so that the process ends
+    /// only if another thread takes it in between.
     #[doc = include_str!("proved/ent_total/opening.share.md")]
     pub fn share(self, callers: usize) -> Result<(Shared, Vec<Reserver>), Unshared> {
         Shared::open(self.proved, callers)

@@ -56,8 +56,6 @@ impl From<&ent_world::Fault> for Fault {
 }
 
 /// What a sync point has done: who was born, and which commands had no effect.
-///
-/// Where memory runs out for a list, `born` and `faults` end as `Vec` does.
 pub struct Report {
     proved: ent_world::SyncReport,
 }
@@ -68,12 +66,16 @@ impl Report {
     }
 
     /// The handles that came to life, in the order of the flush.
+    ///
+    /// Where memory runs out for the list, it ends as `Vec` does.
     #[must_use]
     pub fn born(&self) -> Vec<Handle> {
         self.proved.born.iter().copied().map(Handle::of).collect()
     }
 
     /// The commands without effect, in their order.
+    ///
+    /// Where memory runs out for the list, it ends as `Vec` does.
     #[must_use]
     pub fn faults(&self) -> Vec<Fault> {
         self.proved.faults.iter().map(Fault::from).collect()

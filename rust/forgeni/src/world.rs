@@ -150,6 +150,8 @@ impl World {
     }
 
     /// The entity's components and their values, by rising number, if it is alive.
+    ///
+    /// Where memory runs out for the list, it ends as `Vec` does.
     #[doc = include_str!("proved/ent_world/world.items.md")]
     #[must_use]
     pub fn items(&self, handle: Handle) -> Option<Vec<(ComponentId, i64)>> {
@@ -219,11 +221,6 @@ impl World {
     /// Opens the world for `count` systems, 1 to 1,024, each with its [`Commands`]. They may be
     /// sent to other threads.
     ///
-    /// # Errors
-    ///
-    /// The world comes back as it was. `NeedsFlush` if handles were requested since the last flush;
-    /// `Count` if the number of systems is out of its range; `Memory`.
-    ///
     /// A world that is open can't be changed:
     ///
     /// ```compile_fail
@@ -231,6 +228,16 @@ impl World {
     /// let (open, systems) = world.open(1).unwrap();
     /// world.spawn(&[]);
     /// ```
+    ///
+    /// # Errors
+    ///
+    /// The world comes back as it was. `NeedsFlush` if handles were requested since the last flush;
+    /// `Count` if the number of systems is out of its range; `Memory`.
+    ///
+    /// # Aborts
+    ///
+    /// Rust's `Arc` can't be refused memory. As much is asked for before, so that the process ends
+    /// only if another thread takes it in between.
     #[doc = include_str!("proved/ent_total/world_opening.open.md")]
     pub fn open(self, count: usize) -> Result<(OpenWorld, Vec<Commands>), Unopened> {
         OpenWorld::open(self.proved, count)

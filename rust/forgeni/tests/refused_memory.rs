@@ -605,3 +605,48 @@ fn frames_on_threads() {
         );
     }
 }
+
+/// Set in a process of its own: which request is refused there, and of which call.
+const ONE_REFUSED: &str = "FORGENI_ONE_REFUSED";
+
+/// Makes that call while one request is refused. It makes no more requests than a few.
+fn with_one_refused(call: &str, after: usize) {
+    let refusal = Refusal::One { after };
+    match call {
+        "share" => {
+            let entities = three();
+            let (shared, refused) = refusing(refusal, || entities.share(5));
+            assert_eq!(shared.is_err(), refused > 0);
+        }
+        _ => {
+            let world = two();
+            let (opened, refused) = refusing(refusal, || world.open(3));
+            assert_eq!(opened.is_err(), refused > 0);
+        }
+    }
+}
+
+/// Of all requests of `share` and `open` one can't be refused: that of the `Arc`, if another thread
+/// has taken the memory that was there for it. It ends the process, as the docs say.
+#[test]
+fn one_request_ends_the_process() {
+    let name = "one_request_ends_the_process";
+    if let Ok(set) = std::env::var(ONE_REFUSED) {
+        let (call, after) = set.split_once(' ').expect("two words");
+        return with_one_refused(call, after.parse().expect("a number"));
+    }
+    for call in ["share", "open"] {
+        let ends = |after: &usize| {
+            let run = std::process::Command::new(std::env::current_exe().expect("a path"))
+                .args(["--exact", name])
+                .env(ONE_REFUSED, format!("{call} {after}"))
+                .output()
+                .expect("a process");
+            let said = String::from_utf8_lossy(&run.stderr).into_owned();
+            let aborted = said.contains("memory allocation of") && said.contains("failed");
+            assert_eq!(run.status.success(), !aborted, "{call} {after}: {said}");
+            aborted
+        };
+        assert_eq!((0..12).filter(ends).count(), 1, "{call}");
+    }
+}

@@ -2,17 +2,18 @@
 #![allow(dead_code)]
 
 use erase::audit::audit;
-use erase::forms::PACKAGE;
+use erase::forms::{Forms, PACKAGE};
+use erase::host::HOST;
 use erase::source::{Fault, Source};
 use erase::{erase, Names};
 
 /// The path of the source.
 pub const PATH: &str = "crates/ent_here/src/here.rt";
 
-/// The crates `ent_here`, of which the source is, and `ent_other`.
-pub fn names() -> Names {
+/// The crates `ent_here`, of which the source is, and `ent_other`, which may use these forms.
+fn names(forms: Vec<&'static Forms>) -> Names {
     let mut names = Names {
-        forms: vec![&PACKAGE],
+        forms,
         ..Names::default()
     };
     for name in ["ent_here", "ent_other"] {
@@ -22,17 +23,29 @@ pub fn names() -> Names {
     names
 }
 
-/// The result of the source, if its audit agrees.
+/// The result of a source of the package, if its audit agrees.
 pub fn erased(text: &str) -> Result<String, Fault> {
+    erased_with(text, &names(vec![&PACKAGE]))
+}
+
+/// The result of a source of a test, if its audit agrees.
+pub fn erased_test(text: &str) -> Result<String, Fault> {
+    erased_with(text, &names(vec![&PACKAGE, &HOST]))
+}
+
+fn erased_with(text: &str, names: &Names) -> Result<String, Fault> {
     let source = Source::read(PATH, text)?;
-    let result = erase(&source, "ent_here", &names())?;
-    audited(text, &result)?;
+    let result = erase(&source, "ent_here", names)?;
+    audited_with(&source, &result, names)?;
     Ok(result)
 }
 
-/// What the audit says of a result.
+/// What the audit says of the result of a source of the package.
 pub fn audited(text: &str, result: &str) -> Result<(), Fault> {
-    let source = Source::read(PATH, text)?;
+    audited_with(&Source::read(PATH, text)?, result, &names(vec![&PACKAGE]))
+}
+
+fn audited_with(source: &Source<'_>, result: &str, names: &Names) -> Result<(), Fault> {
     let result = Source::read("here.rs", result)?;
-    audit(&source, &result, "ent_here", &names())
+    audit(source, &result, "ent_here", names)
 }

@@ -1,39 +1,63 @@
 //! The same work over the crates slotmap and sharded-slab, where `run.sh` found them.
 
+use crate::{Places, Run};
+
+/// What a slot map does.
+pub struct Slots {
+    pub alloc_free: Option<Places>,
+    pub fresh: Option<Places>,
+    pub contains: Option<Places>,
+    pub rising: Option<Places>,
+    pub scattered: Option<Places>,
+}
+
+#[cfg(not(slotmap))]
+pub const SLOTS: Slots = Slots {
+    alloc_free: None,
+    fresh: None,
+    contains: None,
+    rising: None,
+    scattered: None,
+};
+
 #[cfg(sharded_slab)]
-pub const SLAB: Option<fn(usize) -> f64> = Some(slab::living);
+pub const SLAB: Option<fn(usize) -> Run> = Some(slab::living);
 #[cfg(not(sharded_slab))]
-pub const SLAB: Option<fn(usize) -> f64> = None;
+pub const SLAB: Option<fn(usize) -> Run> = None;
 
 #[cfg(slotmap)]
-pub const ALLOC_FREE: Option<super::Work> = Some(slots::alloc_free);
-#[cfg(not(slotmap))]
-pub const ALLOC_FREE: Option<super::Work> = None;
-
-#[cfg(slotmap)]
-pub const STATE: Option<super::Work> = Some(slots::state);
-#[cfg(not(slotmap))]
-pub const STATE: Option<super::Work> = None;
+pub use slots::SLOTS;
 
 #[cfg(slotmap)]
 mod slots {
-    use crate::{timed, HANDLES};
-    use slotmap::{DefaultKey, Key, SlotMap};
+    use super::Slots;
+    use crate::entities::{by_step, READS, SCATTERED};
+    use crate::{places, shift, timed, Run, COUNT};
+    use slotmap::{DefaultKey, Key, SecondaryMap, SlotMap};
     use std::hint::black_box;
+
+    pub const SLOTS: Slots = Slots {
+        alloc_free: Some(places!(alloc_free)),
+        fresh: Some(places!(fresh)),
+        contains: Some(places!(contains)),
+        rising: Some(places!(rising)),
+        scattered: Some(places!(scattered)),
+    };
 
     fn full() -> (SlotMap<DefaultKey, ()>, Vec<DefaultKey>) {
         let mut slots = SlotMap::new();
-        let keys = (0..HANDLES).map(|_| slots.insert(())).collect();
+        let keys = (0..COUNT).map(|_| slots.insert(())).collect();
         (slots, keys)
     }
 
-    pub fn alloc_free() -> (f64, u64) {
+    fn alloc_free<const PLACE: usize>() -> Run {
+        shift::<PLACE>();
         let (mut slots, keys) = full();
         for key in keys {
             slots.remove(key).expect("alive");
         }
         timed(|| {
-            (0..HANDLES).fold(0, |sum, _| {
+            (0..COUNT).fold(0, |sum, _| {
                 let key = black_box(&mut slots).insert(());
                 slots.remove(key).expect("alive");
                 sum ^ key.data().as_ffi()
@@ -41,29 +65,78 @@ mod slots {
         })
     }
 
-    pub fn state() -> (f64, u64) {
-        let (slots, keys) = full();
+    fn fresh<const PLACE: usize>() -> Run {
+        shift::<PLACE>();
+        timed(|| {
+            let mut slots = SlotMap::new();
+            (0..COUNT).fold(0, |sum, _| sum ^ slots.insert(()).data().as_ffi())
+        })
+    }
+
+    fn contains<const PLACE: usize>() -> Run {
+        shift::<PLACE>();
+        let (mut slots, keys) = full();
+        for key in keys.iter().step_by(4) {
+            slots.remove(*key).expect("alive");
+        }
         timed(|| {
             let alive = |key: &&DefaultKey| black_box(&slots).contains_key(**key);
             keys.iter().filter(alive).count() as u64
+        })
+    }
+
+    fn rising<const PLACE: usize>() -> Run {
+        shift::<PLACE>();
+        turn(1)
+    }
+
+    fn scattered<const PLACE: usize>() -> Run {
+        shift::<PLACE>();
+        turn(SCATTERED)
+    }
+
+    /// A slot map of births, and a secondary map of one component's values.
+    #[inline(always)]
+    fn turn(step: u32) -> Run {
+        let mut all: Vec<DefaultKey> = Vec::with_capacity(COUNT as usize);
+        timed(|| {
+            let mut births = SlotMap::new();
+            let mut values = SecondaryMap::new();
+            for value in 0..COUNT {
+                let key = births.insert((0_u64, 0_u32, value));
+                values.insert(key, i64::from(value));
+                all.push(key);
+            }
+            let mut sum = 0;
+            for _ in 0..READS {
+                for at in by_step(step) {
+                    let value = black_box(&values).get(all[at as usize]);
+                    sum += *value.expect("it has one") as u64;
+                }
+            }
+            for at in by_step(step) {
+                let key = all[at as usize];
+                assert!(values.remove(key).is_some() && births.remove(key).is_some());
+            }
+            sum
         })
     }
 }
 
 #[cfg(sharded_slab)]
 mod slab {
-    use crate::{timed, HANDLES};
+    use crate::{timed, Run, COUNT};
     use sharded_slab::Slab;
     use std::hint::black_box;
     use std::thread;
 
-    pub fn living(threads: usize) -> f64 {
-        let (took, _) = timed(|| {
+    pub fn living(threads: usize) -> Run {
+        timed(|| {
             let slab = Slab::new();
             thread::scope(|scope| {
                 for _ in 0..threads {
                     scope.spawn(|| {
-                        for _ in 0..HANDLES {
+                        for _ in 0..COUNT {
                             black_box(slab.insert(()).expect("room"));
                         }
                     });
@@ -71,7 +144,6 @@ mod slab {
             });
             black_box(slab);
             0
-        });
-        took
+        })
     }
 }

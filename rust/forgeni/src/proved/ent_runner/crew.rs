@@ -126,9 +126,15 @@ pub(super) fn recruit(
 /// Whether a worker has stopped for want of memory.
 #[inline]
 pub(super) fn some_stopped(workers: &[Worker]) -> bool
-    // ensures { result ≡ false → All (λ w. w.stopped ≡ false) workers.now }
+    // ensures going { result ≡ false → All (λ w. w.stopped ≡ false) workers.now }
+    // ensures some { result ≡ true → Any (λ w. w.stopped ≡ true) workers.now }
 {
-    workers.iter().any(|worker| worker.stopped)
+    for worker in workers {
+        if worker.stopped {
+            return true;
+        }
+    }
+    false
 }
 
 /// Takes the workers apart, and puts the queues at the numbers of their systems.

@@ -66,6 +66,10 @@ where
     //     × IsBrokenOff S.may_issue S.may_leave systems.now workers world.old history
     //     × (world.new ≡ reserved_by history world.old) }
     // ensures still { IsErrOf result FrameFault.Lost → IsLost world.old world.new }
+
+    // Only a worker that has run a system, or the system, is refused memory so late.
+    // ensures lost_some { IsErrOf result FrameFault.Lost → 0 < length systems.now }
+
     // ensures stopped { IfSyncStopped result (λ fault queues.
     //     StopsAt S.may_issue systems.now workers world.old queues world.new fault) }
     // ensures stopped_flushed { IfSyncStopped result (λ fault _.
@@ -106,7 +110,7 @@ where
 }
 
 /// Runs the systems on the open world and closes it. There are no queues if a worker has stopped
-/// for want of memory. What is known of a frame that was broken off holds of a whole one too.
+/// for want of memory, and only then; so there are some systems then. What is known of a frame that was broken off holds of a whole one too.
 #[inline]
 fn run_open<R, S, G>(
     rt: &R,
@@ -127,13 +131,14 @@ where
     // requires own { All (IsOf opened.shared) reservers.items }
     // requires unused { records_of reservers.items
     //     ≡ opened_records opened.shared.start 0 opened.shared.count }
-    // ensures { (history : List Call)
+    // ensures closed { (history : List Call)
     //     × IsBrokenOff S.may_issue S.may_leave systems.now opened.shared.count
     //     (world_at_start opened)
     //     history
     //     × (result.0 ≡ reserved_by history (world_at_start opened))
     //     × IfSome result.1 (λ queues. IsFrame S.may_issue systems.now opened.shared.count
     //     (world_at_start opened) queues.items history) }
+    // ensures lost { IfNone result.1 (0 < length systems.now) }
 {
     let Room {
         claims,
@@ -184,6 +189,7 @@ where
 }
 
 /// Closes the world, and collects the queues unless a worker has stopped for want of memory.
+/// There are none only if one has.
 #[inline]
 fn finish(
     opened: OpenWorld,
@@ -203,6 +209,7 @@ fn finish(
     //     All (Respects (reservations_of records)) records }
     // ensures first { HaveRunFirst claims.numbers workers.items }
     // ensures going { IfSome result.1 (λ _. All (λ w. w.stopped ≡ false) workers.items) }
+    // ensures lost { IfNone result.1 (Any (λ w. w.stopped ≡ true) workers.items) }
     // ensures once { IfSome result.1 (λ _. IsPermutation
     //     (flat_map (λ w. systems_of w.issued.items) workers.items)
     //     (range_with_len 0 claims.numbers)) }

@@ -11,7 +11,7 @@ use crate::proved::ent_queue::{CommandQueue, Commands};
 use crate::proved::ent_shared::{Reserver, Shared};
 use crate::proved::ent_world::View;
 use crate::kit::alloc::Global;
-use crate::kit::thread::{Threads, for_each_mut};
+use crate::kit::thread::{Threads, join_mut};
 
 /// The queue that a system has issued.
 pub(super) struct SystemQueue {
@@ -80,6 +80,8 @@ impl Worker {
         //     self.new.issued.items) }
         // ensures ended { OnOk result (self.new.claimer.own.ended ≡ true) }
         // ensures some { OnErr result (0 < length self.new.issued.items) }
+        // ensures refused { OnErr result (WasRefused S.may_leave stage.now.systems.now stage.now.view
+        //     self.new.issued) }
         // ensures stopped { self.new.stopped ≡ self.old.stopped }
     {
         while let Some(system) = stage.claims.next(&mut self.claimer) {
@@ -105,7 +107,8 @@ impl Worker {
     }
 }
 
-/// All workers work side by side, each in a thread of its own if one can be started.
+/// All workers work side by side, each in a thread of its own if one can be started. One half of
+/// them goes to a new thread, again and again, so that no thread has to start all others.
 #[inline]
 pub(super) fn run_all<R, S, G>(rt: &R, stage: &Stage<'_, S, G>, workers: &mut [Worker])
 where
@@ -113,20 +116,48 @@ where
     S: System + Sync,
     G: Gate + Sync,
     // requires systems { stage.now.claims.now.numbers ≡ length stage.now.systems.now }
-    // requires some { 0 < length workers.old }
-    // requires ready { All (λ w. IsOf stage.now.shared.now w.reserver
-    //     × IsClaimerOf stage.now.claims.now w.claimer × IsNewWorker w) workers.old }
-    // ensures count { length workers.new ≡ length workers.old }
-    // ensures each { (k : ℕ) (d : _) → k < length workers.old
-    //     → HasWorked S.may_issue S.may_leave stage.now.shared.now stage.now.claims.now
-    //     stage.now.systems.now stage.now.view (slice_index_or workers.old k d).reserver.own
-    //     (slice_index_or workers.new k d) }
+    // requires ready { AreReady stage.now.shared.now stage.now.claims.now workers.old }
+    // ensures { HaveAllWorked S.may_issue S.may_leave stage.now.shared.now stage.now.claims.now
+    //     stage.now.systems.now stage.now.view workers.old workers.new }
 {
-    let threads = workers.len();
-    for_each_mut(
-        rt,
-        workers,
-        threads,
-        &|_, worker: &mut Worker| { worker.run(stage) },
-    );
+    if workers.len() == 1 {
+        workers[0].run(stage);
+        return;
+    }
+    let (front, back) = workers.split_at_mut(workers.len() / 2);
+    run_both(rt, stage, front, back);
+}
+
+/// Both parts of the workers work side by side.
+#[inline]
+fn run_both<R, S, G>(rt: &R, stage: &Stage<'_, S, G>, front: &mut [Worker], back: &mut [Worker])
+where
+    R: Threads + Sync,
+    S: System + Sync,
+    G: Gate + Sync,
+    // requires systems { stage.now.claims.now.numbers ≡ length stage.now.systems.now }
+    // requires front { AreReady stage.now.shared.now stage.now.claims.now front.old }
+    // requires back { AreReady stage.now.shared.now stage.now.claims.now back.old }
+    // ensures front { HaveAllWorked S.may_issue S.may_leave stage.now.shared.now
+    //     stage.now.claims.now stage.now.systems.now stage.now.view front.old front.new }
+    // ensures back { HaveAllWorked S.may_issue S.may_leave stage.now.shared.now
+    //     stage.now.claims.now stage.now.systems.now stage.now.view back.old back.new }
+{
+    let mut first = ||
+        // requires { IsSync R.row × IsSync S.row × IsSync G.row
+        //     × (stage.now.claims.now.numbers ≡ length stage.now.systems.now)
+        //     × AreReady stage.now.shared.now stage.now.claims.now front.now }
+        // ensures { HaveAllWorked S.may_issue S.may_leave stage.entry.now.shared.now
+        //     stage.entry.now.claims.now stage.entry.now.systems.now stage.entry.now.view
+        //     front.entry.now front.exit.now }
+    { run_all(rt, stage, front) };
+    let mut second = ||
+        // requires { IsSync R.row × IsSync S.row × IsSync G.row
+        //     × (stage.now.claims.now.numbers ≡ length stage.now.systems.now)
+        //     × AreReady stage.now.shared.now stage.now.claims.now back.now }
+        // ensures { HaveAllWorked S.may_issue S.may_leave stage.entry.now.shared.now
+        //     stage.entry.now.claims.now stage.entry.now.systems.now stage.entry.now.view
+        //     back.entry.now back.exit.now }
+    { run_all(rt, stage, back) };
+    join_mut(rt, &mut first, &mut second);
 }

@@ -1,0 +1,134 @@
+// Made of crates/ent_total/src/phase.rt by rust/erase. It isn't edited by hand.
+
+use crate::kit::vec::Vec;
+use crate::proved::ent_total::caller::Caller;
+use crate::proved::ent_total::homecoming::bring_home;
+use crate::proved::ent_total::numbering::Numbering;
+use crate::proved::ent_handle::Memory;
+use crate::proved::ent_shared::{Reserver, Shared};
+use crate::kit::alloc::Global;
+use core::marker::PhantomData;
+use crate::kit::sync::Arc;
+
+/// An allocator that is shared, with the reservers that no caller has.
+pub struct Phase<J: Numbering> {
+    alloc: Global,
+    shared: Arc<Shared, Global>,
+    home: Vec<Reserver>,
+    number: u64,
+    of: PhantomData<J>,
+}
+
+impl<J: Numbering> Phase<J> {
+    #[inline]
+    pub(super) fn new(
+        alloc: Global,
+        shared: Arc<Shared, Global>,
+        home: Vec<Reserver>,
+        number: u64,
+    ) -> Self
+        // requires stands_for { J.shared_of number ≡ arc_value shared }
+        // requires own { All (IsOf (arc_value shared)) home.items }
+        // requires room { (arc_value shared).count ≤ vec_capacity home }
+        // ensures { result
+        //     ≡ record { number = number; shared = arc_value shared; home = home.items } }
+    {
+        Phase {
+            alloc,
+            shared,
+            home,
+            number,
+            of: PhantomData,
+        }
+    }
+
+    /// How many callers it has, whether they exist, are at home or were lost.
+    #[inline]
+    pub fn count(&self) -> usize
+        // ensures { result ≡ self.now.shared.count }
+    {
+        self.shared.count()
+    }
+
+    /// How many of them are at home.
+    #[inline]
+    pub fn at_home(&self) -> usize
+        // ensures { result ≡ length self.now.home }
+    {
+        self.home.len()
+    }
+
+    #[inline]
+    pub(super) fn number(&self) -> u64
+        // ensures number { result ≡ self.now.number }
+        // ensures stands_for { J.shared_of result ≡ self.now.shared }
+    {
+        self.number
+    }
+
+    /// A caller with the last of the reservers at home, or `None` if none is.
+    ///
+    /// # Errors
+    ///
+    /// `Memory` if the phase can't have one more owner. Nothing has changed then.
+    #[inline]
+    pub fn caller(&mut self) -> Result<Option<Caller<J>>, Memory>
+        // ensures given { IfOk result (λ found. IfSome found (λ c.
+        //     (c.number ≡ self.old.number) × (c.shared ≡ self.old.shared)
+        //     × (self.old ≡ record self.new { home = self.new.home ++ c.reserver ∷ [] }))) }
+        // ensures none { IfOk result (λ found. IfNone found
+        //     ((self.old.home ≡ []) × (self.new ≡ self.old))) }
+        // ensures err { OnErr result (self.new ≡ self.old) }
+    {
+        let Ok(shared) = Arc::try_clone(&self.shared) else {
+            return Err(Memory);
+        };
+        let Some(reserver) = self.home.pop() else {
+            return Ok(None);
+        };
+        Ok(Some(Caller {
+            shared,
+            reserver,
+            number: self.number,
+            of: PhantomData,
+        }))
+    }
+
+    /// Takes callers home, which needs no memory.
+    #[inline]
+    pub(super) fn take_home(&mut self, callers: Vec<Caller<J>>)
+        // requires own { AreOf self.old.number callers.items }
+        // requires few { length (all_home self.old callers.items) ≤ self.old.shared.count }
+        // ensures { self.new ≡ record self.old { home = all_home self.old callers.items } }
+    {
+        bring_home(&mut self.home, &self.shared, self.number, callers);
+    }
+
+    /// The allocator with the reservers that are at home, if no caller owns it too.
+    #[inline]
+    pub(super) fn end(self) -> Result<(Shared, Vec<Reserver>), Self>
+        // ensures ok { IfOk result (λ parts. (parts.0 ≡ self.shared) × (parts.1.items ≡ self.home)) }
+        // ensures own { IfOk result (λ parts. All (IsOf parts.0) parts.1.items) }
+        // ensures err { IfErr result (λ phase. phase ≡ self) }
+    {
+        let Phase {
+            alloc,
+            shared,
+            home,
+            number,
+            of: _,
+        } = self;
+        match Arc::try_unwrap(shared) {
+            Ok(shared) => Ok((shared, home)),
+            Err(shared) => Err(Phase::new(alloc, shared, home, number)),
+        }
+    }
+
+    /// A list without callers.
+    #[inline]
+    pub(super) fn no_callers(&self) -> Vec<Caller<J>>
+        // ensures { result.items ≡ [] }
+    {
+        Vec::new(self.alloc)
+    }
+}

@@ -1,0 +1,50 @@
+// Made of crates/ent_total/src/world_homecoming.rt by rust/erase. It isn't edited by hand.
+
+//! Systems come home: their reservers and their queues go back to the phase.
+
+use crate::kit::vec::Vec;
+use crate::proved::ent_total::issued::Issued;
+use crate::proved::ent_total::issuer::Issuer;
+use crate::proved::ent_total::numbering::Numbering;
+use crate::proved::ent_queue::CommandQueue;
+use crate::proved::ent_shared::Reserver;
+use crate::proved::ent_world::OpenWorld;
+
+/// Whether all of them are of the phase of this number.
+#[inline]
+pub(super) fn are_of<J: Numbering>(number: u64, queues: &[Issued<J>]) -> bool
+    // ensures { IsTrue result ↔ AreIssuersOf number queues.now }
+{
+    for one in queues {
+        if one.issuer.number != number {
+            return false;
+        }
+    }
+    true
+}
+
+/// Adds the reservers and the queues to those at home, behind them. There is room for them.
+#[inline]
+pub(super) fn bring_home<J: Numbering>(
+    home: &mut Vec<Reserver>,
+    queues_home: &mut Vec<CommandQueue>,
+    world: &OpenWorld,
+    number: u64,
+    queues: Vec<Issued<J>>,
+)
+    // requires stands_for { J.world_of number ≡ world.now }
+    // requires of { AreIssuersOf number queues.items }
+    // requires own { All (IsOf world.now.shared) home.old.items }
+    // requires room { vec_len home.old + length queues.items ≤ vec_capacity home.old }
+    // requires queue_room { vec_len queues_home.old + length queues.items
+    //     ≤ vec_capacity queues_home.old }
+    // ensures home { home.new.items ≡ home.old.items ++ issuing queues.items }
+    // ensures queues { queues_home.new.items ≡ queues_home.old.items ++ issued queues.items }
+    // ensures own { All (IsOf world.now.shared) home.new.items }
+{
+    for one in queues {
+        let Issuer { reserver, queue, .. } = one.issuer;
+        home.push_reserved(reserver);
+        queues_home.push_reserved(queue);
+    }
+}

@@ -1,0 +1,181 @@
+// Made of crates/ent_total/src/world_phase.rt by rust/erase. It isn't edited by hand.
+
+use crate::kit::vec::Vec;
+use crate::proved::ent_total::issued::Issued;
+use crate::proved::ent_total::issuer::Issuer;
+use crate::proved::ent_total::numbering::Numbering;
+use crate::proved::ent_total::world_homecoming::bring_home;
+use crate::proved::ent_handle::Memory;
+use crate::proved::ent_queue::{CommandQueue, Commands};
+use crate::proved::ent_shared::Reserver;
+use crate::proved::ent_world::OpenWorld;
+use crate::kit::alloc::Global;
+use core::marker::PhantomData;
+use crate::kit::sync::Arc;
+
+/// A world in a phase, with the reservers that no issuer has, and the queues that came home.
+pub struct WorldPhase<J: Numbering> {
+    alloc: Global,
+    of_world: u64,
+    world: Arc<OpenWorld, Global>,
+    home: Vec<Reserver>,
+    queues: Vec<CommandQueue>,
+    number: u64,
+    of: PhantomData<J>,
+}
+
+/// What a phase of a world is made of, once nobody else has a part of it.
+pub(super) struct Parts {
+    pub(super) of_world: u64,
+    pub(super) world: OpenWorld,
+    pub(super) home: Vec<Reserver>,
+    pub(super) queues: Vec<CommandQueue>,
+}
+
+impl<J: Numbering> WorldPhase<J> {
+    #[inline]
+    pub(super) fn new(
+        alloc: Global,
+        of_world: u64,
+        world: Arc<OpenWorld, Global>,
+        home: Vec<Reserver>,
+        queues: Vec<CommandQueue>,
+        number: u64,
+    ) -> Self
+        // requires stands_for { J.world_of number ≡ arc_value world }
+        // requires own { All (IsOf (arc_value world).shared) home.items }
+        // ensures { result ≡ record {
+        //   number = number;
+        //   of_world = of_world;
+        //   world = arc_value world;
+        //   home = home.items;
+        //   queues = queues.items;
+        // } }
+    {
+        WorldPhase {
+            alloc,
+            of_world,
+            world,
+            home,
+            queues,
+            number,
+            of: PhantomData,
+        }
+    }
+
+    /// How many systems it has, whether they issue, are at home or were lost.
+    #[inline]
+    pub fn count(&self) -> usize
+        // ensures { result ≡ self.now.world.shared.count }
+    {
+        self.world.shared().count()
+    }
+
+    /// How many of them are at home.
+    #[inline]
+    pub fn at_home(&self) -> usize
+        // ensures { result ≡ length self.now.home }
+    {
+        self.home.len()
+    }
+
+    /// The world that is open. Its `view` shows it as it was opened.
+    #[inline]
+    pub fn world(&self) -> &OpenWorld
+        // ensures { result.now ≡ self.now.world }
+    {
+        &self.world
+    }
+
+    #[inline]
+    pub(super) fn number(&self) -> u64
+        // ensures number { result ≡ self.now.number }
+        // ensures stands_for { J.world_of result ≡ self.now.world }
+    {
+        self.number
+    }
+
+    /// An issuer with the last of the reservers at home and no commands, or `None` if none is at
+    /// home.
+    ///
+    /// # Errors
+    ///
+    /// `Memory` if the phase can't have one more owner. Nothing has changed then.
+    #[inline]
+    pub fn issuer(&mut self) -> Result<Option<Issuer<J>>, Memory>
+        // ensures given { IfOk result (λ found. IfSome found (λ i.
+        //     (i.number ≡ self.old.number) × (i.world ≡ self.old.world) × (i.queue ≡ [])
+        //     × (self.old ≡ record self.new { home = self.new.home ++ i.reserver ∷ [] }))) }
+        // ensures none { IfOk result (λ found. IfNone found
+        //     ((self.old.home ≡ []) × (self.new ≡ self.old))) }
+        // ensures err { OnErr result (self.new ≡ self.old) }
+    {
+        let Ok(world) = Arc::try_clone(&self.world) else {
+            return Err(Memory);
+        };
+        let Some(mut reserver) = self.home.pop() else {
+            return Ok(None);
+        };
+        let queue = Commands::new(self.alloc, world.shared(), &mut reserver).finish();
+        Ok(Some(Issuer {
+            world,
+            reserver,
+            queue,
+            number: self.number,
+            of: PhantomData,
+        }))
+    }
+
+    /// Takes systems home, in their order. If memory runs out, they are handed back.
+    #[inline]
+    pub(super) fn take_home(&mut self, queues: Vec<Issued<J>>) -> Result<(), Vec<Issued<J>>>
+        // requires own { AreIssuersOf self.old.number queues.items }
+        // ensures ok { OnOk result (self.new ≡ with_home self.old queues.items) }
+        // ensures err { IfErr result (λ back.
+        //     (back.items ≡ queues.items) × (self.new ≡ self.old)) }
+    {
+        if self.home.reserve(queues.len()).is_err() || self.queues.reserve(queues.len()).is_err() {
+            return Err(queues);
+        }
+        bring_home(&mut self.home, &mut self.queues, &self.world, self.number, queues);
+        Ok(())
+    }
+
+    /// What it is made of, if no issuer owns the world too.
+    #[inline]
+    pub(super) fn end(self) -> Result<Parts, Self>
+        // ensures world { IfOk result (λ parts. parts.world ≡ self.world) }
+        // ensures of_world { IfOk result (λ parts. parts.of_world ≡ self.of_world) }
+        // ensures home { IfOk result (λ parts. parts.home.items ≡ self.home) }
+        // ensures queues { IfOk result (λ parts. parts.queues.items ≡ self.queues) }
+        // ensures own { IfOk result (λ parts. All (IsOf parts.world.shared) parts.home.items) }
+        // ensures err { IfErr result (λ phase. phase ≡ self) }
+    {
+        let WorldPhase {
+            alloc,
+            of_world,
+            world,
+            home,
+            queues,
+            number,
+            of: _,
+        } = self;
+        match Arc::try_unwrap(world) {
+            Ok(world) => Ok(Parts {
+                of_world,
+                world,
+                home,
+                queues,
+            }),
+            Err(world) => Err(WorldPhase::new(alloc, of_world, world, home, queues, number)),
+        }
+    }
+
+    /// A list without systems.
+    #[inline]
+    pub(super) fn no_issued(&self) -> Vec<Issued<J>>
+        // ensures { result.items ≡ [] }
+    {
+        Vec::new(self.alloc)
+    }
+}
