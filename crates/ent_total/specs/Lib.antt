@@ -4,5 +4,4 @@ pub mod Closing
 pub mod Faults
 pub mod Finishing
 pub mod Issuing
-pub mod Refusals
 pub mod Sharing

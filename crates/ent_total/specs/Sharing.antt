@@ -43,10 +43,10 @@ pub record MakesReservation (before after : Caller) (n : ℕ)
   pub same : after ≡ record before { reserver = after.reserver }
   pub reserves : Reserves before.shared before.reserver after.reserver n returned
 
--- So many handles were reserved, and listed behind those that stood in the list.
-pub record ListsReply (before after : Caller) (n : ℕ) (old new : List Handle) : Type 0 where
+-- So many handles were reserved, and given to a sink behind those that it was given before.
+pub record GivesReply (before after : Caller) (n : ℕ) (old new : List Handle) : Type 0 where
   pub given : List Handle
-  pub listed : new ≡ old ++ given
+  pub behind : new ≡ old ++ given
   pub reserves : MakesReservation before after n (Ok given)
 
 -- each is stored as the tuple of its parts

@@ -5,7 +5,6 @@ use crate::errors::{CloseError, OtherPhase, OutOfMemory, Refused, ShareError, Un
 use crate::handle::Handle;
 use crate::kit::alloc::Global;
 use crate::kit::vec::Vec as List;
-use crate::lists::all_handles;
 use crate::numbers::{next_number, Numbers};
 use crate::proved::{ent_alloc, ent_handle, ent_total};
 use crate::unsync::Unsync;
@@ -201,6 +200,16 @@ impl fmt::Debug for Shared {
     }
 }
 
+/// Lists what a reservation gives. The list has room for it.
+struct Listing<'a>(&'a mut Vec<Handle>);
+
+impl ent_total::Sink for Listing<'_> {
+    #[inline]
+    fn take(&mut self, handle: ent_handle::Handle) {
+        self.0.push(Handle::of(handle));
+    }
+}
+
 /// The right of one caller to reserve from a shared allocator.
 ///
 /// It may go to a thread of its own. A reservation makes one atomic step and waits for nobody. The
@@ -215,8 +224,6 @@ impl fmt::Debug for Shared {
 #[repr(align(128))]
 pub struct Reserver {
     proved: Caller,
-    /// Room for what the proved code gives, which is used again.
-    given: List<ent_handle::Handle>,
     _unsync: Unsync,
 }
 
@@ -224,7 +231,6 @@ impl Reserver {
     pub(crate) fn of(proved: Caller) -> Self {
         Self {
             proved,
-            given: List::new(Global),
             _unsync: Unsync::NEW,
         }
     }
@@ -250,28 +256,26 @@ impl Reserver {
     /// `Space` if the pool has fewer than `n` handles, which is taken from the quota too, and the
     /// pool gives no more until the next flush. `Quota` if `n` is above what is left of it, and
     /// `Memory` if there is none for the list: then nothing has changed.
-    #[doc = include_str!("proved/ent_total/caller.reserve_into.md")]
+    #[doc = include_str!("proved/ent_total/caller.reserve_many.md")]
     pub fn reserve_many(&mut self, n: u32) -> Result<Vec<Handle>, Refused> {
-        let mut given = List::new(Global);
-        self.proved.reserve_into(&mut given, n)?;
-        Ok(all_handles(given))
+        let mut handles = Vec::new();
+        self.reserve_into(&mut handles, n)?;
+        Ok(handles)
     }
 
-    /// [`reserve_many`](Self::reserve_many), which appends the handles to this list. With a list
-    /// that has room it takes memory only where `n` is above that of each earlier call.
+    /// [`reserve_many`](Self::reserve_many), which appends the handles to this list. It takes no
+    /// memory if the list has room for them.
     ///
     /// # Errors
     ///
     /// As of [`reserve_many`](Self::reserve_many), and then the list is as it was.
-    #[doc = include_str!("proved/ent_total/caller.reserve_into.md")]
+    #[doc = include_str!("proved/ent_total/caller.reserve_many.md")]
     #[inline]
     pub fn reserve_into(&mut self, handles: &mut Vec<Handle>, n: u32) -> Result<(), Refused> {
-        let room = handles.try_reserve(n as usize);
-        room.map_err(|_| Refused::Memory)?;
-        self.given.clear();
-        self.proved.reserve_into(&mut self.given, n)?;
-        handles.extend(self.given.iter().map(|one| Handle::of(*one)));
-        Ok(())
+        if handles.try_reserve(n as usize).is_err() {
+            return Err(Refused::Memory);
+        }
+        Ok(self.proved.reserve_many(&mut Listing(handles), n)?)
     }
 
     /// Each later reservation of this one comes after everything that the other one has reserved or

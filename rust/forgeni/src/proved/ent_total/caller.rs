@@ -1,8 +1,8 @@
 // Made of crates/ent_total/src/caller.rt by rust/erase. It isn't edited by hand.
 
-use crate::kit::vec::Vec;
 use crate::proved::ent_total::numbering::Numbering;
 use crate::proved::ent_total::phase::Phase;
+use crate::proved::ent_total::sink::Sink;
 use crate::proved::ent_alloc::Reserved;
 use crate::proved::ent_handle::Handle;
 use crate::proved::ent_shared::{Refused, Reserver, Shared};
@@ -10,46 +10,13 @@ use crate::kit::alloc::Global;
 use core::marker::PhantomData;
 use crate::kit::sync::Arc;
 
-/// Why a request for several handles gave none.
-#[derive(Clone, Copy, Debug, PartialEq, Eq)]
-pub enum ReserveFault {
-    /// The pool had fewer handles than were requested. The request is taken from the caller's
-    /// credit, and the pool gives no more until the next flush.
-    Space {
-        /// How many handles were requested.
-        wanted: u32,
-        /// How many the pool still had.
-        left: u32,
-    },
-    /// The request was above the caller's credit. Nothing has changed.
-    Quota {
-        /// The credit that is left.
-        left: u64,
-    },
-    /// There was no memory for the list. Nothing has changed.
-    Memory,
-}
-
-impl core::fmt::Display for ReserveFault {
-    fn fmt(&self, f: &mut core::fmt::Formatter<'_>) -> core::fmt::Result {
-        match self {
-            ReserveFault::Space { wanted, left } => write!(f, "{wanted} wanted and {left} left"),
-            ReserveFault::Quota { left } => write!(f, "the credit left is {left}"),
-            ReserveFault::Memory => write!(f, "out of memory"),
-        }
-    }
-}
-
-impl core::error::Error for ReserveFault {}
-
-/// Appends the handles to a list that has room for them.
+/// Gives the handles to a sink.
 #[inline]
-fn list_all(list: &mut Vec<Handle>, given: Reserved<'_>)
-    // requires { vec_len list.old + length given ≤ vec_capacity list.old }
-    // ensures { list.new.items ≡ list.old.items ++ given.entry }
+fn give_all<S: Sink>(sink: &mut S, handles: Reserved<'_>)
+    // ensures { S.given sink.new ≡ S.given sink.old ++ handles.entry }
 {
-    for handle in given {
-        list.push_reserved(handle);
+    for handle in handles {
+        sink.take(handle);
     }
 }
 
@@ -83,7 +50,7 @@ impl<J: Numbering> Caller<J> {
     #[inline]
     pub fn reserve(&mut self) -> Result<Handle, Refused>
         // ensures quota { self.old.reserver.own.left ≡ 0
-        //     → (result ≡ Err (refused.Quota 0)) × (self.new ≡ self.old) }
+        //     → (result ≡ Err (Quota 0)) × (self.new ≡ self.old) }
         // ensures gains { 0 < self.old.reserver.own.left
         //     → MakesReservation self.old self.new 1 (listed_alone result) }
 
@@ -96,42 +63,30 @@ impl<J: Numbering> Caller<J> {
         self.shared.reserve(&mut self.reserver)
     }
 
-    /// Reserves `n` handles at once, by one atomic step, and appends them to the list. It waits for
-    /// nobody, and takes memory only where the list has no room for them. A request of 0 makes no
-    /// step and is always served.
+    /// Reserves `n` handles at once, by one atomic step, and gives them to the sink, in their order.
+    /// It takes no memory of its own and waits for nobody. A request of 0 makes no step and is
+    /// always served.
     ///
     /// # Errors
     ///
-    /// The list is as it was. It is the first of these that holds: [`ReserveFault::Quota`],
-    /// [`ReserveFault::Memory`], [`ReserveFault::Space`].
+    /// As [`Shared::reserve_many`]. The sink is given nothing then.
     #[inline]
-    pub fn reserve_into(&mut self, list: &mut Vec<Handle>, n: u32) -> Result<(), ReserveFault>
+    pub fn reserve_many<S: Sink>(&mut self, sink: &mut S, n: u32) -> Result<(), Refused>
         // ensures given { OnOk result
-        //     (0 < n → ListsReply self.old self.new n list.old.items list.new.items) }
+        //     (0 < n → GivesReply self.old self.new n (S.given sink.old) (S.given sink.new)) }
         // ensures nothing { n ≡ 0 → OnOk result
-        //     ((self.new ≡ self.old) × (list.new.items ≡ list.old.items)) }
-        // ensures space { IfErr result (λ fault. IfSpace fault (λ wanted left.
-        //     MakesReservation self.old self.new n (Err (refused.Space wanted left)))) }
-        // ensures quota { IsErrOf result (fault.Quota self.old.reserver.own.left)
+        //     ((self.new ≡ self.old) × (S.given sink.new ≡ S.given sink.old)) }
+        // ensures served { n ≡ 0 → IsOk result }
+        // ensures space { IfErr result (λ why. IfSpace why
+        //     (MakesReservation self.old self.new n (Err why))) }
+        // ensures quota { IsErrOf result (Quota self.old.reserver.own.left)
         //     ↔ (self.old.reserver.own.left < n) }
-        // ensures refused { IfErr result (λ fault. ¬ (IsSpace fault) → self.new ≡ self.old) }
-        // ensures unlisted { OnErr result (list.new.items ≡ list.old.items) }
+        // ensures unchanged { IfErr result (λ why. IfQuota why (λ _. self.new ≡ self.old)) }
+        // ensures unheard { OnErr result (S.given sink.new ≡ S.given sink.old) }
     {
-        let left = self.reserver.left();
-        if u64::from(n) > left {
-            return Err(ReserveFault::Quota { left });
-        }
-        if list.reserve(n as usize).is_err() {
-            return Err(ReserveFault::Memory);
-        }
-        match self.shared.reserve_many(&mut self.reserver, n) {
-            Ok(given) => {
-                list_all(list, given);
-                Ok(())
-            }
-            Err(Refused::Space { wanted, left }) => Err(ReserveFault::Space { wanted, left }),
-            Err(Refused::Quota { left }) => Err(ReserveFault::Quota { left }),
-        }
+        let given = self.shared.reserve_many(&mut self.reserver, n)?;
+        give_all(sink, given);
+        Ok(())
     }
 
     /// Orders two callers: every later reservation by this one comes after everything that the
