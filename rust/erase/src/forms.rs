@@ -346,7 +346,6 @@ pub const REFUSED_WORDS: &[&str] = &[
     "macro_rules",
     "static",
     "union",
-    "unsafe",
     "yield",
 ];
 
