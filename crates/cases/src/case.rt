@@ -116,15 +116,32 @@ impl<'a> Case<'a> {
         wanted: &str,
     ) -> Result<()> {
         let mut out = Out::new(self.alloc);
-        layer.answer(rt, &Call::read(self.alloc, call)?, &mut out);
+        make(rt, self.alloc, layer, call, &mut out)?;
+        self.compare(rt, call, &out, wanted)
+    }
+
+    fn compare(&mut self, rt: &impl Print, call: &str, out: &Out, wanted: &str) -> Result<()> {
         self.calls = self.calls.saturating_add(1);
-        if out.is_cut || out.text.trim() != wanted {
-            self.differ = self.differ.saturating_add(1);
-            let (name, found) = (self.name, out.text.as_str());
-            println!(rt; "{name}: {call} =>{found}, where {wanted} is wanted")?;
+        if !out.is_cut && out.text.trim() == wanted {
+            return Ok(());
         }
+        self.differ = self.differ.saturating_add(1);
+        let (name, found) = (self.name, out.text.as_str());
+        println!(rt; "{name}: {call} =>{found}, where {wanted} is wanted")?;
         Ok(())
     }
+}
+
+fn make<L: Layer>(
+    rt: &(impl Threads + Sync),
+    alloc: Global,
+    layer: &mut L,
+    line: &str,
+    out: &mut Out,
+) -> Result<(), Memory> {
+    let call = Call::read(alloc, line)?;
+    layer.answer(rt, &call, out);
+    Ok(())
 }
 
 fn lines_of(alloc: Global, text: &str) -> Result<Vec<&str>, Memory> {

@@ -42,13 +42,34 @@ where
     R: Files + Print + Threads + Sync + AllocGlobal,
 {
     let text = fs::read_to_string(rt, name)?;
+    run(rt, name, text.as_str())
+}
+
+fn run<R>(rt: &R, name: &str, text: &str) -> Result<u64>
+where
+    R: Print + Threads + Sync + AllocGlobal,
+{
     let mut case = Case::new(rt.alloc(), name);
     if name.starts_with("storage") {
-        case.run(rt, &mut Storing::new(rt.alloc()), text.as_str())?;
+        run_storage(rt, &mut case, text)?;
     } else {
-        case.run(rt, &mut Worlding::new(rt.alloc()), text.as_str())?;
+        run_world(rt, &mut case, text)?;
     }
     let (calls, differ) = (case.calls, case.differ);
     println!(rt; "{name}: {calls} calls, {differ} differ")?;
     Ok(differ)
+}
+
+fn run_storage<R>(rt: &R, case: &mut Case<'_>, text: &str) -> Result<()>
+where
+    R: Print + Threads + Sync + AllocGlobal,
+{
+    case.run(rt, &mut Storing::new(rt.alloc()), text)
+}
+
+fn run_world<R>(rt: &R, case: &mut Case<'_>, text: &str) -> Result<()>
+where
+    R: Print + Threads + Sync + AllocGlobal,
+{
+    case.run(rt, &mut Worlding::new(rt.alloc()), text)
 }

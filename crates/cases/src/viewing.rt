@@ -2,6 +2,7 @@
 
 use crate::call::Call;
 use crate::writing::Out;
+use ent_handle::Handle;
 use ent_world::{View, World};
 
 /// A call of a world that is in no phase.
@@ -47,8 +48,19 @@ fn write_entities(world: &World, has_handles: bool, out: &mut Out) {
             out.word(" ");
             out.show(handle);
         }
-        if let Some(items) = world.items(*handle) {
-            out.items(items);
+        write_components(world, *handle, out);
+    }
+}
+
+/// The components of an entity, each with its value. `get` has to return that too.
+fn write_components(world: &World, handle: Handle, out: &mut Out) {
+    let Some(items) = world.items(handle) else {
+        return out.word(" none");
+    };
+    for (id, value) in items {
+        out.item(id, value);
+        if world.get(handle, id) != Some(value) {
+            out.word(" and get differs");
         }
     }
 }
