@@ -4,9 +4,11 @@
 //! `NAME.handles.txt` has the handles too, as one worker gives them out.
 ghost use Rattle.std.specs.Prelude.{◌<◌, ◌≤◌};
 
-use crate::printing::printed;
 use anyhow::Result;
+use ent_handle::Memory;
+use ent_script::{Script, read_script};
 use ent_script_report::Show;
+use ent_script_run::run_script;
 use std::fs;
 use std::rt::Files;
 use std::thread::Threads;
@@ -16,33 +18,53 @@ pub fn compare<R>(rt: &R, folder: &str, name: &str) -> Result<()>
 where
     R: Files + Print + Threads + Sync + AllocGlobal,
 {
-    let runs = [
-        prints_as_shown(rt, folder, name, 1, Show::Handles)?,
-        prints_as_shown(rt, folder, name, 1, Show::Births)?,
-        prints_as_shown(rt, folder, name, 2, Show::Births)?,
-        prints_as_shown(rt, folder, name, 8, Show::Births)?,
-    ];
-    let count = runs.iter().filter(|is_same| **is_same).count();
+    let script = read_script(rt.alloc(), &file(rt, folder, name, "json")?)?;
+    let handles = file(rt, folder, name, "handles.txt")?;
+    let births = file(rt, folder, name, "births.txt")?;
+    let count = reports_as_printed(rt, &script, &handles, &births)?;
     println!(rt; "{name} {count} reports as printed")?;
     Ok(())
 }
 
-/// Whether that run prints what the file has. If not, it tells which one it was.
-fn prints_as_shown<R>(rt: &R, folder: &str, name: &str, workers: usize, show: Show) -> Result<bool>
+fn file<R>(rt: &R, folder: &str, name: &str, ending: &str) -> Result<Vec<u8>>
 where
-    R: Files + Print + Threads + Sync + AllocGlobal,
+    R: Files + AllocGlobal,
+{
+    Ok(fs::read(rt, format!(in rt.alloc(); "{folder}/{name}.{ending}")?)?)
+}
+
+/// How many of the four reports are these.
+fn reports_as_printed<R>(
+    rt: &R,
+    script: &Script,
+    handles: &[u8],
+    births: &[u8],
+) -> Result<usize, Memory>
+where
+    R: Threads + Sync + AllocGlobal,
+{
+    let runs = [
+        prints(rt, script, 1, Show::Handles, handles)?,
+        prints(rt, script, 1, Show::Births, births)?,
+        prints(rt, script, 2, Show::Births, births)?,
+        prints(rt, script, 8, Show::Births, births)?,
+    ];
+    Ok(runs.iter().filter(|is_same| **is_same).count())
+}
+
+/// Whether that is the report of the script.
+fn prints<R>(
+    rt: &R,
+    script: &Script,
+    workers: usize,
+    show: Show,
+    wanted: &[u8],
+) -> Result<bool, Memory>
+where
+    R: Threads + Sync + AllocGlobal,
     requires some { 0 < workers }
     requires few { workers ≤ 64 }
 {
-    let shown = match show {
-        Show::Births => "births",
-        Show::Handles => "handles",
-    };
-    let script = fs::read(rt, format!(in rt.alloc(); "{folder}/{name}.json")?)?;
-    let wanted = fs::read(rt, format!(in rt.alloc(); "{folder}/{name}.{shown}.txt")?)?;
-    let is_same = printed(rt, &script, workers, show)? == wanted;
-    if !is_same {
-        println!(rt; "{name}, workers {workers}: differs from {name}.{shown}.txt")?;
-    }
-    Ok(is_same)
+    let report = run_script(rt, rt.alloc(), script, workers, show)?;
+    Ok(report.as_slice() == wanted)
 }

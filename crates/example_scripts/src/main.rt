@@ -4,8 +4,6 @@
 #![tactic(auto)]
 
 mod example;
-mod printing;
-mod refusals;
 
 use anyhow::Result;
 use std::env;
@@ -31,5 +29,5 @@ fn main(rt: HostRuntime) -> Result<()> {
     for name in EXAMPLES {
         example::compare(&rt, folder.as_str(), name)?;
     }
-    refusals::compare(&rt, folder.as_str())
+    Ok(())
 }
