@@ -66,8 +66,8 @@ write("keys_of_5000_bytes", script('"a"', "[[%s]]" % keys))
 
 long = "a" * 30_000_000
 write("components_twice", '{"components":["%s"],"components":["%s"],"frames":[]}' % (long, long))
-# Texts of the same length with fewer operations would keep too little, and with more of them take too long.
-frames = listed(listed(listed(AWAY.ljust(149), 10000), 20), 1)
+# 50 bytes an operation are kept.
+frames = listed(listed(listed(AWAY.ljust(99), 1000), 150), 2)
 write("frames_twice", '{"components":["a"],"frames":%s,"frames":%s}' % (frames, frames))
 
 long = listed(listed(AWAY.ljust(249), 10000), 16)
@@ -101,7 +101,7 @@ takes bundles_of_one 45056 0 'alive 0'
 takes keys_of_5000_bytes 20480 1 'refused operation 0 0 0 component'
 # The text twice, with room to grow, and one of the two keys' values.
 takes components_twice 165888 1 'refused script components'
-takes frames_twice 165888 0 'alive 0'
+takes frames_twice 149504 0 'alive 0'
 # The text twice, and what it means. Then the text is given back, and the frames take as much again.
 takes script_of_40_MB 153600 0 'alive 917504'
 # The report, with room to grow, and 60 bytes an entity. Room for 1,000 bytes an entity would be 1 GB.
