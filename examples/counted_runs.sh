@@ -47,7 +47,7 @@ targets() {
     [ "$(grep -c ' hp=1$' "$out/printed")" = "$1" ] || { echo "$1 births: not all were found"; exit 1; }
 }
 
-# A look at each entity for each birth, or a list for each, would make it as dear for ten thousand as for a hundred.
+# A look at each entity for each birth, or a list made anew for each, would cost ten thousand as much a birth as a hundred.
 targets 0
 targets 100
 targets 10000

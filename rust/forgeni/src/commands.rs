@@ -54,6 +54,7 @@ impl Commands {
     ///
     /// As [`spawn`](Self::spawn).
     #[doc = include_str!("proved/ent_total/issuer.spawn_many.md")]
+    #[inline]
     pub fn spawn_many(
         &mut self,
         count: u32,
@@ -154,6 +155,7 @@ impl Commands {
     /// only.spawn(&[]);
     /// ```
     #[doc = include_str!("proved/ent_total/issuer.finish.md")]
+    #[inline]
     #[must_use]
     pub fn finish(self) -> CommandQueue {
         CommandQueue {
@@ -194,6 +196,7 @@ impl CommandQueue {
     /// The number of its [`Commands`]. Queues that came in any order are put back in order by it:
     /// `queues.sort_by_key(|one| one.number())`. A queue that a refused close kept stays where it
     /// is.
+    #[inline]
     #[must_use]
     pub fn number(&self) -> usize {
         self.proved.number()

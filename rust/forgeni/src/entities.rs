@@ -127,6 +127,7 @@ impl Entities {
     /// `Space` if no handle is left: every request is refused then until the next flush. `Credit`
     /// if 2^50 were requested since the last flush.
     #[doc = include_str!("proved/ent_total/requesting.request.md")]
+    #[inline]
     pub fn request(&mut self) -> Result<Handle, RequestError> {
         Ok(Handle::of(ent_total::request(&mut self.proved)?))
     }

@@ -120,6 +120,7 @@ impl OpenWorld {
 
     /// How many systems the phase has.
     #[doc = include_str!("proved/ent_total/world_phase.count.md")]
+    #[inline]
     #[must_use]
     pub fn count(&self) -> usize {
         self.proved.count()
@@ -127,6 +128,7 @@ impl OpenWorld {
 
     /// How many queues it has already: a close that was refused took them.
     #[doc = include_str!("proved/ent_total/world_phase.at_home.md")]
+    #[inline]
     #[must_use]
     pub fn at_home(&self) -> usize {
         self.proved.at_home()

@@ -93,6 +93,7 @@ impl Shared {
     }
 
     /// How many reservers it has, whether they exist, are at home or were lost.
+    #[inline]
     #[must_use]
     pub fn count(&self) -> usize {
         self.proved.count()
@@ -100,6 +101,7 @@ impl Shared {
 
     /// How many reservers are at home: a close that was refused took them.
     #[doc = include_str!("proved/ent_total/phase.at_home.md")]
+    #[inline]
     #[must_use]
     pub fn at_home(&self) -> usize {
         self.proved.at_home()
@@ -257,6 +259,7 @@ impl Reserver {
     /// pool gives no more until the next flush. `Quota` if `n` is above what is left of it, and
     /// `Memory` if there is none for the list: then nothing has changed.
     #[doc = include_str!("proved/ent_total/caller.reserve_many.md")]
+    #[inline]
     pub fn reserve_many(&mut self, n: u32) -> Result<Vec<Handle>, Refused> {
         let mut handles = Vec::new();
         self.reserve_into(&mut handles, n)?;
@@ -285,6 +288,7 @@ impl Reserver {
     ///
     /// [`OtherPhase`] if they are not of one phase, and then nothing has changed.
     #[doc = include_str!("proved/ent_total/caller.meet.md")]
+    #[inline]
     pub fn meet(&mut self, other: &mut Reserver) -> Result<(), OtherPhase> {
         self.proved.meet(&mut other.proved).map_err(|_| OtherPhase)
     }
@@ -308,6 +312,7 @@ impl Reserver {
     }
 
     /// How many reservers the phase has.
+    #[inline]
     #[must_use]
     pub fn count(&self) -> usize {
         self.proved.count()

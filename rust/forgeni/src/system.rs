@@ -9,8 +9,8 @@ use alloc::boxed::Box;
 /// frame's sync point.
 ///
 /// One value of it may run on any worker, so what it knows of the world is what the view says. A
-/// function is a system, and so is a closure. Systems of several types go into one list as
-/// `&dyn System` or in boxes.
+/// function is a system, and so is a closure that says the types of its parameters. Systems of
+/// several types go into one list as `&dyn System` or in boxes.
 pub trait System: Sync {
     /// Runs it once.
     ///

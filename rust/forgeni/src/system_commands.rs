@@ -43,6 +43,7 @@ impl<'a, 'w> SystemCommands<'a, 'w> {
     ///
     /// As [`spawn`](Self::spawn).
     #[doc = include_str!("proved/ent_queue/commands.spawn_many.md")]
+    #[inline]
     pub fn spawn_many(
         &mut self,
         count: u32,

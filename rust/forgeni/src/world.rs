@@ -94,6 +94,7 @@ impl World {
     /// # Errors
     ///
     /// `NeedsFlush`, `Space` or `Memory`, and then nothing has changed.
+    #[inline]
     pub fn spawn(&mut self, components: &[(ComponentId, i64)]) -> Result<Handle, AllocError> {
         let birth = Birth {
             frame: self.phase(),
@@ -109,6 +110,7 @@ impl World {
     ///
     /// As `spawn`.
     #[doc = include_str!("proved/ent_world/world.spawn.md")]
+    #[inline]
     pub fn spawn_with_birth(
         &mut self,
         birth: Birth,
@@ -124,12 +126,14 @@ impl World {
     ///
     /// `NeedsFlush`, `NotAlive` or `Memory`, and then nothing has changed.
     #[doc = include_str!("proved/ent_world/world.despawn.md")]
+    #[inline]
     pub fn despawn(&mut self, handle: Handle) -> Result<Freed, FreeError> {
         Ok(Freed::of(self.proved.world.despawn(handle.proved())?))
     }
 
     /// The value of the entity's component, if the entity is alive and has it.
     #[doc = include_str!("proved/ent_world/world.get.md")]
+    #[inline]
     #[must_use]
     pub fn get(&self, handle: Handle, id: ComponentId) -> Option<i64> {
         self.proved.world.get(handle.proved(), id)
@@ -137,6 +141,7 @@ impl World {
 
     /// When and by whom the entity was brought to life, if it is alive.
     #[doc = include_str!("proved/ent_world/world.birth.md")]
+    #[inline]
     #[must_use]
     pub fn birth(&self, handle: Handle) -> Option<Birth> {
         self.proved.world.birth(handle.proved())
@@ -144,6 +149,7 @@ impl World {
 
     /// Whether the entity is alive.
     #[doc = include_str!("proved/ent_world/world.contains.md")]
+    #[inline]
     #[must_use]
     pub fn contains(&self, handle: Handle) -> bool {
         self.proved.world.contains(handle.proved())
@@ -171,6 +177,7 @@ impl World {
 
     /// How many entities are alive.
     #[doc = include_str!("proved/ent_world/world.len.md")]
+    #[inline]
     #[must_use]
     pub fn len(&self) -> usize {
         self.proved.world.len()
@@ -178,6 +185,7 @@ impl World {
 
     /// Whether no entity is alive.
     #[doc = include_str!("proved/ent_world/world.is_empty.md")]
+    #[inline]
     #[must_use]
     pub fn is_empty(&self) -> bool {
         self.proved.world.is_empty()
@@ -185,6 +193,7 @@ impl World {
 
     /// How often the world was flushed. It stays at 2^64 - 1.
     #[doc = include_str!("proved/ent_world/world.phase.md")]
+    #[inline]
     #[must_use]
     pub fn phase(&self) -> u64 {
         self.proved.world.phase()
@@ -192,6 +201,7 @@ impl World {
 
     /// How many slots are retired: they give no handle any more.
     #[doc = include_str!("proved/ent_world/world.retired.md")]
+    #[inline]
     #[must_use]
     pub fn retired(&self) -> u32 {
         self.proved.world.retired()
@@ -200,6 +210,7 @@ impl World {
     /// Whether any handle was requested since the last flush. It is so between
     /// [`OpenWorld::close`] and [`apply`](Self::apply), if a system has spawned.
     #[doc = include_str!("proved/ent_world/world.needs_flush.md")]
+    #[inline]
     #[must_use]
     pub fn needs_flush(&self) -> bool {
         self.proved.world.needs_flush()
