@@ -76,6 +76,10 @@ full() {
 
 full "$here/one_caller.txt" replay
 full "$scripts/spawners.json" run
+full "$out/object" replay
+full "$out/object" run
+full /dev/zero replay
+full /dev/zero run
 
 # Each status is named by the help.
 "$program" --help 2>"$out/help" || true

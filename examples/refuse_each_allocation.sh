@@ -1,9 +1,10 @@
 #!/bin/sh
 # Runs the program with each of its allocations refused in turn: schedules, scripts on one worker and on eight, with a bundle that takes
-# memory and with many births as targets, and a script that is refused. Each run must end as an undisturbed one does (the program may do without that piece of memory), or with status 3, `memory` on
-# standard error and nothing else. Then it runs each test of refused memory in the same way: it must pass, whichever allocation is
-# refused. It needs `cc` on the path, and the program and the tests as `.ci/run` built them. If the program wasn't built, `rt`, which
-# then proves it first; tests that weren't built are left out.
+# memory and with many births as targets, and a script that is refused. Each run must end as an undisturbed one does (the program may do
+# without that piece of memory), or with status 3, `memory` on standard error and nothing else. Then it runs each test of refused memory in
+# the same way: it must pass, whichever allocation is refused. And it counts what tests of things that take no memory ask for. It needs `cc`
+# on the path, and the program and the tests as `.ci/run` built them. If the program wasn't built, `rt`, which then proves it first; tests
+# that weren't built are left out.
 set -eu
 here=$(cd "$(dirname "$0")" && pwd)
 top=$(cd "$here/.." && pwd)
@@ -103,6 +104,22 @@ tested() {
     done
 }
 
+# spared CRATE: each test of the crate that makes thousands of things without memory. It must not ask for so many as 1,000 pieces.
+spared() {
+    tests=$top/crates/$1/out/$1_tests
+    [ -x "$tests" ] || return 0
+    for test in $("$tests" --list 2>/dev/null | sed -n 's/: test$//p' | grep takes_no_memory); do
+        rm -f "$room/refused"
+        LD_PRELOAD=$room/refuse.so REFUSE=1000 REFUSED=$room/refused "$tests" "$test" >"$room/printed" 2>&1 || {
+            cat "$room/printed"
+            exit 1
+        }
+        [ ! -e "$room/refused" ] || { echo "$1 $test: it takes memory"; exit 1; }
+        echo "$1 $test: takes none"
+    done
+}
+
 for tests in "$top"/crates/*_tests; do
     tested "$(basename "$tests")"
+    spared "$(basename "$tests")"
 done

@@ -7,6 +7,8 @@ mod checks;
 #[cfg(test)]
 mod faults;
 #[cfg(test)]
+mod making;
+#[cfg(test)]
 mod memory;
 #[cfg(test)]
 mod scene;

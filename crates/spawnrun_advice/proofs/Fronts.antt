@@ -1,10 +1,10 @@
 -- Fronts of texts: of a text that is appended to, of one in printable ASCII, and of one of which
 -- only the first parts are looked at.
-use Rattle.std.proofs.Common.{◌≡◌, ℕ, suc, ◌+◌, ◌≤◌, ◌<◌, true, false, List, [], ◌∷◌, ◌++◌, length, take}
-use Rattle.std.proofs.Common.{refl, sym, ap, subst, ◌∙◌, arith, All, codes, append_assoc}
+use Rattle.std.proofs.Common.{◌≡◌, ℕ, suc, ◌+◌, ◌≤◌, ◌<◌, true, List, [], ◌∷◌, ◌++◌, length, take}
+use Rattle.std.proofs.Common.{sym, ap, subst, ◌∙◌, arith, codes, append_assoc}
 use Rattle.std.proofs.Common.{length-append, inl, inr, flat_map}
 use Rattle.std.proofs.lemmas.Grind.{flat_map-append, take_at_read}
-use Rattle.std.specs.Prelude.{nat_le, slice_index, slice_index_or}
+use Rattle.std.specs.Prelude.{nat_le, slice_index}
 use Rattle.std.specs.Fmt.Cut.{cut_to, floor_char_boundary}
 use Rattle.std.specs.Fmt.{is_char_start}
 use Rattle.std.proofs.lemmas.Bool.{cond-true, cond-false, cases_lt}
@@ -52,15 +52,15 @@ front-cut text (x ∷ xs) long =
 
 pub length-front : (text : List ℕ) → length (front text) ≤ 60
 length-front text = elim (cases_lt 60 (length text)) [
-    inl long ↦ omega (arith, ap length (front-long text long), length-cut text long)
+  | inl long ↦ omega (arith, ap length (front-long text long), length-cut text long)
   | inr short ↦ omega (arith, ap length (front-short text short), short)
 ]
 
 pub front-more : (text more : List ℕ) → front (front text ++ more) ≡ front (text ++ more)
 front-more text more = elim (cases_lt 60 (length text)) [
-    inl long ↦ ap (λ (kept : List ℕ). front (kept ++ more)) (front-long text long)
-    ∙ front-cut text more long
-    ∙ sym (front-past text more long ∙ front-long text long)
+  | inl long ↦ ap (λ (kept : List ℕ). front (kept ++ more)) (front-long text long)
+      ∙ front-cut text more long
+      ∙ sym (front-past text more long ∙ front-long text long)
   | inr short ↦ ap (λ (kept : List ℕ). front (kept ++ more)) (front-short text short)
 ]
 
@@ -75,9 +75,9 @@ dots-printable =
 
 pub front-printable : (text : List ℕ) → ArePrintable text → ArePrintable (front text)
 front-printable text h = elim (cases_lt 60 (length text)) [
-    inl long ↦ subst ArePrintable (sym (front-long text long))
-    (All-append IsPrintable (take 57 text) (codes "...") (All-take IsPrintable 57 text h)
-    dots-printable)
+  | inl long ↦ subst ArePrintable (sym (front-long text long))
+      (All-append IsPrintable (take 57 text) (codes "...") (All-take IsPrintable 57 text h)
+      dots-printable)
   | inr short ↦ subst ArePrintable (sym (front-short text short)) h
 ]
 
@@ -109,7 +109,7 @@ cut_to-long text long at =
 
 pub cut_is_front : (text : List ℕ) → ArePrintable text → cut_to 60 text ≡ front text
 cut_is_front text h = elim (cases_lt 60 (length text)) [
-    inl long ↦ cut_to-long text long (boundary text h long) ∙ sym (front-long text long)
+  | inl long ↦ cut_to-long text long (boundary text h long) ∙ sym (front-long text long)
   | inr short ↦ cut_to-short text short ∙ sym (front-short text short)
 ]
 

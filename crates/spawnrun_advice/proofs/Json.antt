@@ -1,6 +1,5 @@
 -- The value that bytes are read as.
 use Rattle.std.proofs.Common.{◌≡◌, true, false, cond, List, ℕ, Some, None, refl, ◌∙◌, IsUtf8}
-use Rattle.std.specs.Prelude.{Option}
 use Rattle.std.specs.Str.{is_utf8}
 use Rattle.std.proofs.lemmas.Bool.{cond-true}
 use Rattle.std.proofs.lemmas.Str.{IsUtf8-from_is_utf8, is_utf8-from_IsUtf8}

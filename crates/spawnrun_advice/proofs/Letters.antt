@@ -1,5 +1,5 @@
 -- A text letter after letter.
-use Rattle.std.proofs.Common.{◌≡◌, ℕ, ◌∷◌, ◌++◌, [], List, length, ap, ◌∙◌, IsUtf8, flat_map}
+use Rattle.std.proofs.Common.{◌≡◌, ℕ, ◌++◌, [], List, length, ap, ◌∙◌, IsUtf8, flat_map}
 use Rattle.std.proofs.lemmas.List.{nil_from_length}
 use Rattle.std.proofs.lemmas.Str.{chars-nil, chars_past_char}
 use Rattle.std.specs.Char.{encode_utf8}

@@ -1,5 +1,5 @@
 -- The line of a number in a text, line after line.
-use Rattle.std.proofs.Common.{◌≡◌, ℕ, zero, suc, ◌+◌, ◌-◌, ◌<◌, List, [], ◌∷◌, ◌++◌, length, refl, ap, ◌∙◌}
+use Rattle.std.proofs.Common.{◌≡◌, ℕ, zero, suc, ◌-◌, ◌<◌, List, [], ◌∷◌, ◌++◌, length, refl, ap, ◌∙◌}
 use Rattle.std.proofs.Common.{arith, inl, inr, sym}
 use Rattle.std.specs.Prelude.{slice_index_or}
 use Rattle.std.proofs.lemmas.Bool.{cases_lt}
@@ -29,9 +29,9 @@ nth_later n text line others some e h =
 
 pub nth_only : (text : List ℕ) → IsWithout 10 text → nth 0 text ≡ text
 nth_only text h = elim (cases_lt 0 (length text)) [
-    inl some ↦ ap (λ (lines : List (List ℕ)). slice_index_or lines 0 []) (lines_whole text some h)
+  | inl some ↦ ap (λ (lines : List (List ℕ)). slice_index_or lines 0 []) (lines_whole text some h)
   | inr none ↦ let empty = nil_from_length text (omega (arith, none)) in
-    ap (nth 0) empty ∙ sym empty
+      ap (nth 0) empty ∙ sym empty
 ]
 
 nth_of_none : (n : ℕ) → nth n [] ≡ []
@@ -44,7 +44,7 @@ none_left (suc n) = refl
 
 pub nth_past : (n : ℕ) (text : List ℕ) → 0 < n → IsWithout 10 text → nth n text ≡ []
 nth_past n text past h = elim (cases_lt 0 (length text)) [
-    inl some ↦ ap (λ (lines : List (List ℕ)). slice_index_or lines n []) (lines_whole text some h)
-    ∙ get_later n text [] past ∙ none_left (n - 1)
+  | inl some ↦ ap (λ (lines : List (List ℕ)). slice_index_or lines n []) (lines_whole text some h)
+      ∙ get_later n text [] past ∙ none_left (n - 1)
   | inr none ↦ ap (nth n) (nil_from_length text (omega (arith, none))) ∙ nth_of_none n
 ]

@@ -1,12 +1,12 @@
 -- What the tests of an input found, and where.
-use Rattle.std.specs.Prelude.{◌≡◌, ℕ, ◌-◌, ◌≤◌, ◌⊎◌, List, [], ◌++◌, length, codes, slice_index_or, MatchOption}
+use Rattle.std.specs.Prelude.{◌≡◌, ℕ, ◌-◌, ◌⊎◌, List, [], ◌++◌, codes, slice_index_or, MatchOption}
 use Rattle.std.specs.Fmt.{decimal}
 use Rattle.std.specs.List.{flat_map}
 use Rattle.ent_replay.specs.ScheduleText.{lines_of}
 use Rattle.ent_script.specs.declared.ReadFault.{ReadFault}
 use Rattle.ent_script.specs.declared.ReadFault.TheVariants as fault
 use Rattle.ent_script.specs.Reading.{json_of}
-use Rattle.spawnrun_advice.specs.Place.{Place, Shows}
+use Rattle.spawnrun_advice.specs.Place.{Place, IsPlaceOf, Shows}
 use Rattle.spawnrun_advice.specs.Shown.{byte_text, front, plain}
 
 -- the line of this number, from 1; empty if there is none
@@ -30,11 +30,12 @@ position_text (fault.Operation f s o c) =
     ++ codes ", operation " ++ decimal o ++ codes " (counted from 0)"
 position_text other = []
 
--- what is shown of a script: what stands at a place, or of a text that is no JSON some words
+-- what is shown of a script: what stands at the place of the fault, or of a text that is no JSON
+-- some words
 abbrev pub ShowsValue : List ℕ → ReadFault → List ℕ → Type 0
 ShowsValue text e shown =
     MatchOption (json_of text) ((words : List ℕ) × (shown ≡ front (plain words)))
-    (λ d. (place : Place) × Shows place shown)
+    (λ d. (place : Place) × IsPlaceOf d e place × Shows place shown)
 
 -- that, and where it stands
 pub record TellsOfValue (text : List ℕ) (e : ReadFault) (found : List ℕ) : Type 0 where

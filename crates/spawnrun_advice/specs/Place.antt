@@ -1,13 +1,23 @@
 -- What stands where a test of a script failed, and how it is shown.
 use Rattle.std.specs.Prelude.{◌≡◌, ℕ, ◌≤◌, false, ◌||◌, ◌==◌, List, [], ◌∷◌, ◌++◌, Some, codes}
-use Rattle.std.specs.Prelude.{if◌then◌else◌}
+use Rattle.std.specs.Prelude.{if◌then◌else◌, length, Option, None, IfSome, unwrap_or}
+use Rattle.std.specs.Prelude.{option_and_then, option_map}
+use Rattle.std.specs.Option.{option_or}
 use Rattle.std.specs.Fmt.{decimal}
 use Rattle.std.specs.List.{flat_map}
 use Rattle.std.specs.Str.{chars}
 use Rattle.serde_json.specs.Data.{Data, depth}
+use Rattle.serde_json.specs.Find.{at, get}
 use Rattle.serde_json.specs.Read.{read, max_depth}
 use Rattle.serde_json.specs.View.{view}
 use Rattle.serde_json.specs.Written.{compact_text, has_float}
+use Rattle.ent_script.specs.Json.{elements}
+use Rattle.ent_script.specs.declared.Cause.{Cause}
+use Rattle.ent_script.specs.declared.Cause.TheVariants as cause
+use Rattle.ent_script.specs.declared.ReadFault.{ReadFault}
+use Rattle.ent_script.specs.declared.ReadFault.TheVariants as fault
+use Rattle.ent_script.specs.declared.ScriptCause.{ScriptCause}
+use Rattle.ent_script.specs.declared.ScriptCause.TheVariants as script_cause
 use Rattle.spawnrun_advice.specs.Shown.{char_text, plain, front}
 use Rattle.spawnrun_advice.specs.declared.part.Part.{Part}
 use Rattle.spawnrun_advice.specs.declared.part.Part.TheVariants as part
@@ -56,3 +66,71 @@ place_of (part.Key k) = key k.now
 place_of (part.Member k value) = member k.now (view value.now)
 place_of (part.Twice name) = twice name.now
 place_of (part.Long count) = long count
+
+-- ---- which place it is
+
+abbrev pub at_place : Option Data → Place
+at_place None = absent
+at_place (Some d) = refused d
+
+-- a list that is too long, or what stands there instead of a list
+abbrev pub list_place : Option Data → Place
+list_place part =
+    unwrap_or (option_map (λ ds. long (length ds)) (option_and_then elements part)) (at_place part)
+
+abbrev pub frame_in : Data → ℕ → Option Data
+frame_in d frame = option_and_then (at frame) (get (codes "frames") d)
+
+abbrev pub system_in : Data → ℕ → ℕ → Option Data
+system_in d frame system = option_and_then (at system) (frame_in d frame)
+
+abbrev pub operation_in : Data → ℕ → ℕ → ℕ → Option Data
+operation_in d frame system operation =
+    option_and_then (at operation) (system_in d frame system)
+
+abbrev pub bundle_in : Data → Option Data
+bundle_in d =
+    option_or (option_or (get (codes "spawn") d) (get (codes "with") d)) (get (codes "insert") d)
+
+abbrev pub target_in : Data → Option Data
+target_in d = option_or (get (codes "on") d) (get (codes "despawn") d)
+
+-- what stands under a key of the target
+abbrev pub under : List ℕ → Data → Option Data
+under name d = option_and_then (get name) (target_in d)
+
+-- the place of a cause in an operation; none if the cause is that of one of several members
+abbrev pub operation_place : Data → Cause → Option Place
+operation_place d cause.Shape = Some (refused d)
+operation_place d cause.Bundle = Some (at_place (bundle_in d))
+operation_place d cause.Component = None
+operation_place d cause.Value = None
+operation_place d cause.Count = Some (at_place (get (codes "spawn_many") d))
+operation_place d cause.Name =
+    Some (at_place (option_or (get (codes "as") d) (under (codes "name") d)))
+operation_place d cause.Target = Some (at_place (target_in d))
+operation_place d cause.Handle = Some (at_place (under (codes "handle") d))
+operation_place d cause.Birth = Some (at_place (under (codes "birth") d))
+
+-- the place of a cause outside the frames; none if it is that of one of several keys or names
+abbrev pub script_place : Data → ScriptCause → Option Place
+script_place d script_cause.Top = Some (refused d)
+script_place d script_cause.Key = None
+script_place d script_cause.Format = Some (at_place (get (codes "format") d))
+script_place d script_cause.Slots = Some (at_place (get (codes "slots") d))
+script_place d script_cause.Generations = Some (at_place (get (codes "generations") d))
+script_place d script_cause.Components = None
+script_place d script_cause.Frames = Some (list_place (get (codes "frames") d))
+
+-- the place of a fault in a value, if the fault alone says which one it is
+abbrev pub place_in : Data → ReadFault → Option Place
+place_in d (fault.Script c) = script_place d c
+place_in d (fault.Frame f) = Some (list_place (frame_in d f))
+place_in d (fault.System f s) = Some (list_place (system_in d f s))
+place_in d (fault.Operation f s o c) =
+    option_and_then (λ op. operation_place op c) (operation_in d f s o)
+place_in d other = None
+
+-- it is at the place of this fault
+abbrev pub IsPlaceOf : Data → ReadFault → Place → Type 0
+IsPlaceOf d e place = IfSome (place_in d e) (λ known. place ≡ known)

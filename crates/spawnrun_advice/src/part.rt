@@ -1,9 +1,10 @@
-ghost use Rattle.std.specs.Prelude.{◌≡◌, ◌≤◌, ◌++◌, ℕ, List, length, IfSome};
+ghost use Rattle.std.specs.Prelude.{◌≡◌, ◌≤◌, ◌++◌, ℕ, List, length, IfSome, Some, option_map};
 ghost use Rattle.std.specs.Fmt.InlineText.{inline_text};
 ghost use Rattle.std.specs.List.{flat_map};
 ghost use Rattle.std.specs.Str.{chars};
 ghost use Rattle.serde_json.specs.View.{view};
-ghost use Rattle.spawnrun_advice.specs.Place.{IsJsonOf, Shows, key_char, place_of, quoted};
+ghost use Rattle.spawnrun_advice.specs.Place.{IsJsonOf, Shows, at_place, key_char, list_place};
+ghost use Rattle.spawnrun_advice.specs.Place.{place_of, quoted};
 ghost use Rattle.spawnrun_advice.specs.Shown.{ArePrintable, front, plain};
 
 use crate::shown::{Shown, with_char, with_letter, with_text};
@@ -31,7 +32,9 @@ pub(crate) enum Part<'a> {
 
 impl<'a> Part<'a> {
     /// A value that is refused, if it is there.
-    pub(crate) fn of(value: Option<&'a Value>) -> Part<'a> {
+    pub(crate) fn of(value: Option<&'a Value>) -> Part<'a>
+        ensures { place_of result ≡ at_place (option_map (λ v. view v.now) value.entry) }
+    {
         match value {
             Some(value) => Part::Refused(value),
             None => Part::Absent,
@@ -39,10 +42,21 @@ impl<'a> Part<'a> {
     }
 
     /// A list that is too long, or what stands there instead of a list.
-    pub(crate) fn instead_of_list(value: Option<&'a Value>) -> Part<'a> {
-        match value.and_then(Value::as_array) {
+    pub(crate) fn instead_of_list(value: Option<&'a Value>) -> Part<'a>
+        ensures { place_of result ≡ list_place (option_map (λ v. view v.now) value.entry) }
+    {
+        match value {
+            Some(value) => Part::of_list(value),
+            None => Part::Absent,
+        }
+    }
+
+    fn of_list(value: &'a Value) -> Part<'a>
+        ensures { place_of result ≡ list_place (Some (view value.now)) }
+    {
+        match value.as_array() {
             Some(list) => Part::Long(list.len()),
-            None => Part::of(value),
+            None => Part::Refused(value),
         }
     }
 

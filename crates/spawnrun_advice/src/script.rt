@@ -1,8 +1,12 @@
 ghost use Rattle.std.specs.Prelude.{◌≡◌, ◌≢◌, ◌+◌, ◌<◌, ◌≤◌, ◌++◌, ℕ, List, length, codes};
-ghost use Rattle.std.specs.Prelude.{IfSome, OnSome};
+ghost use Rattle.std.specs.Prelude.{IfSome, OnSome, option_map};
 ghost use Rattle.std.specs.Fmt.{decimal};
 ghost use Rattle.std.specs.Fmt.InlineText.{inline_text};
 ghost use Rattle.spawnrun_advice.specs.Found.{position_text, ShowsValue, TellsOfScript};
+ghost use Rattle.serde_json.specs.View.{view};
+ghost use Rattle.spawnrun_advice.specs.Place.{IsPlaceOf, bundle_in, frame_in, operation_in};
+ghost use Rattle.spawnrun_advice.specs.Place.{operation_place, place_of, script_place, system_in};
+ghost use Rattle.spawnrun_advice.specs.Place.{target_in, under};
 ghost use Rattle.spawnrun_advice.specs.Shown.{ArePrintable, front, plain};
 
 use crate::found::{Found, with, with_number};
@@ -129,7 +133,9 @@ fn with_operation(found: Found, frame: usize, system: usize, operation: usize) -
 }
 
 // What stands where the test failed.
-fn part(script: &Value, fault: ReadFault) -> Part<'_> {
+fn part(script: &Value, fault: ReadFault) -> Part<'_>
+    ensures { IsPlaceOf (view script.now) fault (place_of result) }
+{
     match fault {
         ReadFault::Script(cause) => script_part(script, cause),
         ReadFault::Frame { frame } => Part::instead_of_list(frame_of(script, frame)),
@@ -141,7 +147,7 @@ fn part(script: &Value, fault: ReadFault) -> Part<'_> {
             system,
             operation,
             cause,
-        } => match system_of(script, frame, system).and_then(|list| list.get(operation)) {
+        } => match operation_of(script, frame, system, operation) {
             Some(operation) => operation_part(script, operation, cause),
             None => Part::Absent,
         },
@@ -149,15 +155,28 @@ fn part(script: &Value, fault: ReadFault) -> Part<'_> {
     }
 }
 
-fn frame_of(script: &Value, frame: usize) -> Option<&Value> {
+fn frame_of(script: &Value, frame: usize) -> Option<&Value>
+    ensures { option_map (λ v. view v.now) result ≡ frame_in (view script.now) frame }
+{
     script.get("frames")?.get(frame)
 }
 
-fn system_of(script: &Value, frame: usize, system: usize) -> Option<&Value> {
+fn system_of(script: &Value, frame: usize, system: usize) -> Option<&Value>
+    ensures { option_map (λ v. view v.now) result ≡ system_in (view script.now) frame system }
+{
     frame_of(script, frame)?.get(system)
 }
 
-fn script_part(script: &Value, cause: ScriptCause) -> Part<'_> {
+fn operation_of(script: &Value, frame: usize, system: usize, operation: usize) -> Option<&Value>
+    ensures { option_map (λ v. view v.now) result
+        ≡ operation_in (view script.now) frame system operation }
+{
+    system_of(script, frame, system)?.get(operation)
+}
+
+fn script_part(script: &Value, cause: ScriptCause) -> Part<'_>
+    ensures { IfSome (script_place (view script.now) cause) (λ known. place_of result ≡ known) }
+{
     match cause {
         ScriptCause::Top => Part::Refused(script),
         ScriptCause::Key => unknown_key(script),
@@ -228,7 +247,10 @@ fn is_listed(values: &[Value], text: &str) -> bool {
 }
 
 // What stands where a test of this operation failed.
-fn operation_part<'a>(script: &'a Value, operation: &'a Value, cause: Cause) -> Part<'a> {
+fn operation_part<'a>(script: &'a Value, operation: &'a Value, cause: Cause) -> Part<'a>
+    ensures { IfSome (operation_place (view operation.now) cause)
+        (λ known. place_of result ≡ known) }
+{
     match cause {
         Cause::Shape => Part::Refused(operation),
         Cause::Count => Part::of(operation.get("spawn_many")),
@@ -242,18 +264,24 @@ fn operation_part<'a>(script: &'a Value, operation: &'a Value, cause: Cause) -> 
     }
 }
 
-fn bundle_part(operation: &Value) -> Option<&Value> {
+fn bundle_part(operation: &Value) -> Option<&Value>
+    ensures { option_map (λ v. view v.now) result ≡ bundle_in (view operation.now) }
+{
     operation
         .get("spawn")
         .or(operation.get("with"))
         .or(operation.get("insert"))
 }
 
-fn target_of(operation: &Value) -> Option<&Value> {
+fn target_of(operation: &Value) -> Option<&Value>
+    ensures { option_map (λ v. view v.now) result ≡ target_in (view operation.now) }
+{
     operation.get("on").or(operation.get("despawn"))
 }
 
-fn target_at<'a>(operation: &'a Value, key: &str) -> Option<&'a Value> {
+fn target_at<'a>(operation: &'a Value, key: &str) -> Option<&'a Value>
+    ensures { option_map (λ v. view v.now) result ≡ under key.now (view operation.now) }
+{
     target_of(operation)?.get(key)
 }
 

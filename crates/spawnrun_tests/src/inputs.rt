@@ -1,7 +1,6 @@
 use crate::memory::{EndlessSource, MemorySource, NEVER};
-use spawnrun_lib::{Counted, INPUT_LIMIT, InputFault, Source, read_all};
+use spawnrun_lib::{INPUT_LIMIT, InputFault, Source, read_all};
 use std::alloc::Global;
-use std::io::Cursor;
 use std::test::Fail;
 
 /// Why the source is not read, if it is not.
@@ -50,12 +49,4 @@ fn each_read_fails_in_turn(rt: HostRuntime) {
 fn ends_without_an_end(rt: HostRuntime) {
     let fault = fault_of(rt.alloc(), &mut EndlessSource, 100_000);
     assert!(rt; fault == Some(InputFault::TooLong));
-}
-
-#[test]
-fn reads_a_reader(rt: HostRuntime) -> Result<(), Fail> {
-    let mut source = Counted::new(Cursor::new(b"alloc\n"));
-    let bytes = read_all(rt.alloc(), &mut source, INPUT_LIMIT)?;
-    assert!(rt; bytes.as_slice() == b"alloc\n".as_slice());
-    Ok(())
 }

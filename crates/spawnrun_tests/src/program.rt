@@ -1,6 +1,6 @@
 //! The program between devices that fail, and with memory that is refused.
-use crate::memory::{EndlessSource, MemorySink, MemorySource, NEVER};
-use spawnrun_lib::{Source, execute, refuse_words};
+use crate::memory::{MemorySink, MemorySource, NEVER};
+use spawnrun_lib::{execute, refuse_words};
 use std::io;
 use std::io::ErrorKind;
 use std::process::Abort;
@@ -16,32 +16,33 @@ const SCRIPT: &str =
 // that it has said on the error stream.
 type Ending = (u8, bool, bool);
 
-// Runs the program on these words. Its output fails after `puts` calls that succeed, and its error
-// stream after `says` calls.
-fn ending<I: Source>(
-    rt: &(impl Threads + Sync + AllocGlobal),
-    words: &[&str],
-    source: &mut I,
+// How many calls of each device succeed before one fails.
+#[derive(Clone, Copy)]
+struct Calls {
+    takes: u64,
     puts: u64,
     says: u64,
-) -> Ending {
-    let mut sink = MemorySink::new(rt.alloc(), puts);
-    let mut errors = MemorySink::new(rt.alloc(), says);
-    let status = execute(rt, rt.alloc(), words, source, &mut sink, &mut errors);
-    let has_said_device = errors.bytes.as_slice() == b"device\n".as_slice();
-    (status, sink.bytes.is_empty(), has_said_device)
 }
 
-// The same of an input that comes in pieces of 7 bytes, and fails after `takes` calls that succeed.
-fn ending_of(
+const ALL: Calls = Calls {
+    takes: NEVER,
+    puts: NEVER,
+    says: NEVER,
+};
+
+// Runs the program on these words and this input, which comes in pieces of 7 bytes.
+fn ending(
     rt: &(impl Threads + Sync + AllocGlobal),
     words: &[&str],
     input: &str,
-    takes: u64,
-    puts: u64,
+    calls: Calls,
 ) -> Ending {
-    let mut source = MemorySource::new(input.as_bytes(), 7, takes);
-    ending(rt, words, &mut source, puts, NEVER)
+    let mut sink = MemorySink::new(rt.alloc(), calls.puts);
+    let mut errors = MemorySink::new(rt.alloc(), calls.says);
+    let mut source = MemorySource::new(input.as_bytes(), 7, calls.takes);
+    let status = execute(rt, rt.alloc(), words, &mut source, &mut sink, &mut errors);
+    let has_said_device = errors.bytes.as_slice() == b"device\n".as_slice();
+    (status, sink.bytes.is_empty(), has_said_device)
 }
 
 // A task, its input, and how many reads there are, the last one at the end.
@@ -51,11 +52,17 @@ const READ: &[(&str, &str, u64)] = &[("replay", SCHEDULE, 5), ("run", SCRIPT, 12
 fn each_read_fails_in_turn(rt: HostRuntime) {
     for (task, input, reads) in READ {
         for takes in 0..*reads {
-            let ended = ending_of(&rt, &[*task], input, takes, NEVER);
+            let ended = ending(&rt, &[*task], input, Calls { takes, ..ALL });
             assert!(rt; ended == (4, true, true), "{task} after {takes} reads");
         }
-        let ended = ending_of(&rt, &[*task], input, *reads, NEVER);
-        assert!(rt; ended == (0, false, false), "{task}");
+        let calls = Calls {
+            takes: *reads,
+            ..ALL
+        };
+        assert!(rt;
+            ending(&rt, &[*task], input, calls) == (0, false, false),
+            "{task}"
+        );
     }
 }
 
@@ -69,21 +76,12 @@ const WRITTEN: &[(&str, &str, u8)] = &[
 
 // There is one write.
 #[test]
-fn each_write_fails_in_turn(rt: HostRuntime) {
+fn the_write_fails(rt: HostRuntime) {
     for (task, input, status) in WRITTEN {
-        let failed = ending_of(&rt, &[*task], input, NEVER, 0);
+        let failed = ending(&rt, &[*task], input, Calls { puts: 0, ..ALL });
         assert!(rt; failed == (4, true, true), "{task} to {status}");
-        let written = ending_of(&rt, &[*task], input, NEVER, 1);
+        let written = ending(&rt, &[*task], input, Calls { puts: 1, ..ALL });
         assert!(rt; written == (*status, false, false), "{task} to {status}");
-    }
-}
-
-// Such an input is refused, and that is what can't be written.
-#[test]
-fn the_write_after_an_input_without_end_fails(rt: HostRuntime) {
-    for task in ["replay", "run"] {
-        let failed = ending(&rt, &[task], &mut EndlessSource, 0, NEVER);
-        assert!(rt; failed == (4, true, true), "{task}");
     }
 }
 
@@ -94,31 +92,37 @@ const NO_TASK: &[&[&str]] = &[&[], &["--help"], &["run", "--help"], &["replay", 
 #[test]
 fn words_that_ask_for_no_task_use_no_device(rt: HostRuntime) {
     for words in NO_TASK {
-        let ended = ending_of(&rt, words, "alloc\n", NEVER, 0);
+        let ended = ending(&rt, words, "alloc\n", Calls { puts: 0, ..ALL });
         assert!(rt; ended == (2, true, false), "at {words:?}");
+        let unheard = Calls {
+            puts: 0,
+            says: 0,
+            ..ALL
+        };
+        assert!(rt; ending(&rt, words, "", unheard).0 == 2, "at {words:?}");
     }
-}
-
-// The exit status if the error stream fails.
-fn status_unheard(
-    rt: &(impl Threads + Sync + AllocGlobal),
-    words: &[&str],
-    input: &str,
-    puts: u64,
-) -> u8 {
-    let mut source = MemorySource::new(input.as_bytes(), 7, NEVER);
-    ending(rt, words, &mut source, puts, 0).0
 }
 
 #[test]
 fn a_failing_error_stream_changes_no_status(rt: HostRuntime) {
-    for words in NO_TASK {
-        assert!(rt; status_unheard(&rt, words, "", 0) == 2, "at {words:?}");
-    }
-    for (input, puts, status) in [("alloc\n", NEVER, 0), ("alloc_\n", NEVER, 1), ("alloc\n", 0, 4)] {
-        assert!(rt; status_unheard(&rt, &["replay"], input, puts) == status, "at {status}");
+    for (input, puts, status) in UNHEARD {
+        let calls = Calls {
+            puts: *puts,
+            says: 0,
+            ..ALL
+        };
+        assert!(rt;
+            ending(&rt, &["replay"], input, calls).0 == *status,
+            "at {status}"
+        );
     }
 }
+
+const UNHEARD: &[(&str, u64, u8)] = &[
+    ("alloc\n", NEVER, 0),
+    ("alloc_\n", NEVER, 1),
+    ("alloc\n", 0, 4),
+];
 
 const UNREAD: &[(ErrorKind, u8, &str)] = &[
     (ErrorKind::OutOfMemory, 3, "memory\n"),
@@ -173,7 +177,13 @@ const UNDISTURBED: &[(&[&str], &str, u8, &str, &str)] = &[
         "refused script frames\n",
         "'frames' must be a list of at most 1000 frames",
     ),
-    (&["replay", "--help"], "", 2, "", "Runs the schedule of allocator events on standard input\n"),
+    (
+        &["replay", "--help"],
+        "",
+        2,
+        "",
+        "Runs the schedule of allocator events on standard input\n",
+    ),
 ];
 
 const TARGETS: &str =
@@ -190,13 +200,18 @@ fn refused_memory_writes_nothing(rt: HostRuntime) {
         let mut errors = MemorySink::with_room(&rt, rt.alloc(), 2_000);
         let ended = status_between(&rt, words, input, &mut sink, &mut errors);
         let (written, heard) = (sink.bytes.as_slice(), errors.bytes.as_slice());
-        let is_undisturbed = ended == *status
-            && written == output.as_bytes()
-            && heard.starts_with(said.as_bytes())
-            && heard.is_empty() == said.is_empty();
-        let is_refused = ended == 3 && written.is_empty() && heard == b"memory\n".as_slice();
-        assert!(rt; is_undisturbed || is_refused, "at {words:?}");
+        let is_well = if ended == 3 {
+            written.is_empty() && heard == b"memory\n".as_slice()
+        } else {
+            ended == *status && written == output.as_bytes() && is_heard(heard, said.as_bytes())
+        };
+        assert!(rt; is_well, "at {words:?}");
     }
+}
+
+// Whether that is how what is said begins, or nothing is said if there is nothing to say.
+fn is_heard(heard: &[u8], said: &[u8]) -> bool {
+    heard.starts_with(said) && heard.is_empty() == said.is_empty()
 }
 
 fn status_between(

@@ -39,7 +39,12 @@ const RUNS: &[(&[&str], usize, Show)] = &[
 fn a_run_has_workers_and_shows(rt: HostRuntime) -> Result<(), Fail> {
     for (words, workers, show) in RUNS {
         let task = command_line(rt.alloc(), words)?;
-        assert!(rt; task == Task::Run { workers: *workers, show: *show });
+        assert!(rt;
+            task == Task::Run {
+                workers: *workers,
+                show: *show
+            }
+        );
     }
     Ok(())
 }

@@ -135,6 +135,8 @@ mod open_world;
 #[allow(missing_docs)]
 mod proved;
 mod report;
+#[cfg(test)]
+mod room;
 mod sharing;
 mod storage;
 mod sync;

@@ -1,4 +1,4 @@
-use Rattle.std.proofs.Common.{◌≡◌, ℕ, ◌-◌, ◌∙◌, [], List, sym, ap, arith}
+use Rattle.std.proofs.Common.{◌≡◌, ℕ, ◌∙◌, sym, ap, arith}
 use Rattle.spawnrun_advice.proofs.Lines.{nth, nth_first, nth_later, nth_only, nth_past}
 use Rattle.spawnrun_advice.proofs.schedule.line_of.Goals as goal
 

@@ -1,4 +1,4 @@
-use Rattle.std.proofs.Common.{◌≡◌, [], ℕ, List}
+use Rattle.std.proofs.Common.{◌≡◌, []}
 use Rattle.std.specs.Prelude.{slice_index_or}
 use Rattle.ent_replay.specs.ScheduleText.{lines_of}
 use Rattle.spawnrun_advice.specs.Found.{line_at}

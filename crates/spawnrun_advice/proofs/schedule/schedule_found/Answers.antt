@@ -1,9 +1,8 @@
-use Rattle.std.proofs.Common.{rules, ◌≡◌, ℕ, ◌++◌, ◌∙◌, List, sym, subst, codes, refl, arith, ap}
+use Rattle.std.proofs.Common.{rules, ◌≡◌, ℕ, ◌++◌, List, sym, subst, codes, refl}
 use Rattle.std.specs.Fmt.{decimal}
 use Rattle.std.specs.Fmt.InlineText.{inline_text}
-use Rattle.spawnrun_advice.specs.Found.{line_found}
 use Rattle.spawnrun_advice.specs.Shown.{ArePrintable}
-use Rattle.spawnrun_advice.proofs.Printable.{passes, decimal-printable, both, three}
+use Rattle.spawnrun_advice.proofs.Printable.{passes, decimal-printable, three}
 use Rattle.spawnrun_advice.proofs.schedule.schedule_found.Goals as goal
 
 framed : (shown number : List ℕ) → ArePrintable shown → ArePrintable number
@@ -19,7 +18,7 @@ pub returns-clause-printable : goal.returns-clause-printable
 returns-clause-printable c =
     let shown = inline_text c.line_shown-shown.result in
     let is : inline_text c.with.result ≡ codes "; found \"" ++ shown ++ codes "\" at line "
-        ++ decimal c.args.line ++ codes " (counted from 1)" = search rules in
+    ++ decimal c.args.line ++ codes " (counted from 1)" = search rules in
     subst ArePrintable (sym is)
     (framed shown (decimal c.args.line) c.line_shown-shown.ensures.printable
     (decimal-printable c.args.line c.ranges.line.fits))

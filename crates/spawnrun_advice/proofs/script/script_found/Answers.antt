@@ -11,7 +11,7 @@ returns-in-Some-clause-printable c =
     let words = inline_text c.with-found.result in
     let shown = inline_text c.in-Some.shown in
     let begun = added (inline_text c.new.result) words (codes "; found ") c.with-found.ensures refl
-        (subst ArePrintable (sym c.new.ensures.text) (All-nil IsPrintable)) in
+    (subst ArePrintable (sym c.new.ensures.text) (All-nil IsPrintable)) in
     c.with_position.ensures.printable
     (subst ArePrintable
     (sym (c.with.ensures ∙ ap (λ (bs : List ℕ). words ++ bs) c.as_str.ensures.value))

@@ -1,9 +1,7 @@
-use Rattle.std.proofs.Common.{rules, ◌≡◌, ◌<◌, ◌≤◌, ◌∷◌, ◌++◌, [], ℕ, ◌+◌, ◌/◌, ◌%◌, true, false, cond, codes, ◌∙◌, List, length, take, drop, min, subst, ap, sym, refl, arith, inl, inr}
-use Rattle.std.proofs.lemmas.Bool.{cases_lt, eq-eqb}
-use Rattle.std.proofs.lemmas.Bool.Decides.{nat_tests}
+use Rattle.std.proofs.Common.{◌≡◌, ◌<◌, ◌∷◌, ◌++◌, [], ℕ, ◌/◌, ◌%◌, true, false, cond, codes, ◌∙◌, List, length, take, drop, min, subst, ap, sym, arith, inl, inr}
+use Rattle.std.proofs.lemmas.Bool.{cases_lt}
 use Rattle.std.proofs.lemmas.List.{take_all, take-append-drop, length-take}
 use Rattle.std.proofs.lemmas.List.Elements.{All-nil}
-use Rattle.std.specs.Fmt.InlineText.{inline_text}
 use Rattle.std.specs.List.{flat_map}
 use Rattle.spawnrun_advice.specs.Shown.{IsPrintable, ArePrintable, byte_text, front, hex, is_printable}
 use Rattle.spawnrun_advice.proofs.Fronts.{front-next, front-short, front-of_parts}
@@ -20,11 +18,11 @@ byte_text-some byte =
 looked_at : (line : List ℕ) (n : ℕ) → n ≡ min (length line) 61
     → front (flat_map byte_text (take n line)) ≡ front (flat_map byte_text line)
 looked_at line n far = elim (cases_lt 61 (length line)) [
-    inl long ↦ sym (front-of_parts byte_text byte_text-some (take n line) (drop n line)
-    (omega (arith, length-take n line, long, far)))
-    ∙ ap (λ (bs : List ℕ). front (flat_map byte_text bs)) (take-append-drop n line)
+  | inl long ↦ sym (front-of_parts byte_text byte_text-some (take n line) (drop n line)
+      (omega (arith, length-take n line, long, far)))
+      ∙ ap (λ (bs : List ℕ). front (flat_map byte_text bs)) (take-append-drop n line)
   | inr short ↦ ap (λ (bs : List ℕ). front (flat_map byte_text bs))
-    (take_all n line (omega (arith, short, far)))
+      (take_all n line (omega (arith, short, far)))
 ]
 
 pub loop-byte-init : goal.loop-byte-init

@@ -1,4 +1,4 @@
-use Rattle.std.proofs.Common.{◌≡◌, ◌∷◌, [], ℕ, ◌/◌, ◌%◌, ◌∙◌, List}
+use Rattle.std.proofs.Common.{◌∷◌, [], ◌/◌, ◌%◌, ◌∙◌}
 use Rattle.std.specs.Fmt.InlineText.{inline_text}
 use Rattle.spawnrun_advice.specs.Shown.{hex}
 use Rattle.spawnrun_advice.proofs.Fronts.{go_on}

@@ -1,9 +1,9 @@
-use Rattle.std.proofs.Common.{rules, ◌≡◌, ◌++◌, [], ℕ, List, ap, refl, ◌∙◌, codes}
+use Rattle.std.proofs.Common.{rules, ◌++◌, refl, codes}
 use Rattle.std.specs.Fmt.{decimal}
 use Rattle.std.specs.Fmt.InlineText.{inline_text}
 use Rattle.serde_json.specs.View.{view}
-use Rattle.spawnrun_advice.specs.Place.{IsJsonOf, Shows, place_of, quoted}
-use Rattle.spawnrun_advice.specs.Shown.{front, plain}
+use Rattle.spawnrun_advice.specs.Place.{quoted}
+use Rattle.spawnrun_advice.specs.Shown.{plain}
 use Rattle.spawnrun_advice.proofs.Pieces.{from_nothing, if_some, more_text, two_pieces}
 use Rattle.spawnrun_advice.proofs.Printable.{decimal-printable, passes}
 use Rattle.spawnrun_advice.proofs.part.Part.shown.Goals as goal
@@ -62,9 +62,9 @@ returns-in-Member-clause-text c =
     let name = c.in-Member.key.now in
     let d = view c.in-Member.value.now in
     let before = two_pieces nothing key colon (quoted name) (codes ":")
-        c.with_quoted-in-Member.ensures.text
-        (more_text key colon (codes ":") (passes (codes ":") refl)
-        c.with_text-shown.ensures.text) in
+    c.with_quoted-in-Member.ensures.text
+    (more_text key colon (codes ":") (passes (codes ":") refl)
+    c.with_text-shown.ensures.text) in
     rw c.in-Member.is (if_some c.with_json-in-Member.result _ _
     (λ shown h. record {
       text = quoted name ++ codes ":" ++ plain h.0;

@@ -1,0 +1,124 @@
+#!/bin/sh
+# Runs above 70,000 of each thing that grows, or as many as the formats allow: that memory which is there is not refused, and that nothing
+# is cut or mixed up at some size. No contract says the first. The tests `sizes` and `room` of the package make such runs of the allocator,
+# its phases, storages, worlds and frames. The program then runs scripts and a schedule, and must print what is computed here of their
+# numbers alone. It needs `cargo` and `python3` on the path, and the program as `.ci/run` or `prove.sh` built it. If it wasn't built, `rt`,
+# which then proves it first.
+set -eu
+here=$(cd "$(dirname "$0")" && pwd)
+out=$(mktemp -d)
+trap 'rm -rf "$out"' EXIT
+
+program=$here/../crates/spawnrun/out/spawnrun
+[ -x "$program" ] || (cd "$here/../crates/spawnrun" && rt run >"$out/built" 2>&1)
+
+# tested WORDS..: tests of the package, as optimised code. All that is named has to be there and to pass.
+tested() {
+    (cd "$here/../rust/forgeni" && cargo test --offline --release "$@") >"$out/printed" 2>&1 || { cat "$out/printed"; exit 1; }
+    passed=$(sed -n 's/^test \(.*\) \.\.\. ok$/\1/p' "$out/printed")
+    [ -n "$passed" ] || { echo "cargo test $*: no test ran"; exit 1; }
+    for test in $passed; do echo "forgeni, $test: passed"; done
+}
+
+tested --test sizes
+tested --lib room::
+
+python3 - "$out" <<'END'
+import sys
+
+
+def write(name, lines):
+    with open("%s/%s" % (sys.argv[1], name), "w") as file:
+        file.write("".join("%s\n" % line for line in lines))
+
+
+def listed(items):
+    return "[%s]" % ",".join(items)
+
+
+def case(name, frames, report, components='"a"'):
+    """A script, and what it prints."""
+    write(name + ".in", ['{"format":2,"components":[%s],"frames":%s}' % (components, listed(frames))])
+    write(name + ".out", report)
+
+
+def born(frame, count, faults=0):
+    return "frame %d born %d faults %d" % (frame, count, faults)
+
+
+# 1,000 frames of 256 systems, each of which spawns one entity.
+systems = listed(listed(['{"spawn":{"a":%d}}' % system]) for system in range(256))
+case("systems", [systems] * 1000,
+     [born(frame, 256) for frame in range(1000)]
+     + ["%d.%d.0 a=%d" % (frame, system, system) for frame in range(1000) for system in range(256)]
+     + ["alive 256000"])
+
+# 15 systems of 5,000 names, and one of 9,999.
+named = ['{"spawn":{},"as":"n%d"}' % number for number in range(9999)]
+changed = ['{"insert":{"a":%d},"on":{"name":"n%d"}}' % (number, number) for number in range(9999)]
+case("names", [listed([listed(named[:5000] + changed[:5000])] * 15 + [listed(named + changed[-1:])])],
+     [born(0, 15 * 5000 + 9999)]
+     + ["0.%d.%d a=%d" % (system, number, number) for system in range(15) for number in range(5000)]
+     + ["0.15.%d%s" % (number, " a=9998" if number == 9998 else "") for number in range(9999)]
+     + ["alive 84999"])
+
+# 80,000 commands on an entity that is gone.
+away = '{"despawn":{"birth":"0.0.0"}}'
+case("faults", ['[[{"spawn":{}}]]', listed([listed([away] * 10000)] * 8)],
+     [born(0, 1), born(1, 0, 79999)]
+     + ["fault %d %d not alive" % divmod(command, 10000) for command in range(1, 80000)] + ["alive 0"])
+
+# 131,072 entities of one system, 131,072 commands of one queue, and as many births in old slots.
+many = '[[{"spawn_many":65536,"with":{"a":1}},{"spawn_many":65536,"with":{"a":1}}]]'
+case("entities", [many, '[[{"insert":{"b":2},"on":{"each":"a"}}]]', '[[{"despawn":{"each":"b"}}]]', many],
+     [born(0, 131072), born(1, 0), born(2, 0), born(3, 131072)]
+     + ["3.0.%d a=1" % number for number in range(131072)] + ["alive 131072"],
+     components='"a","b"')
+
+# 80,000 entities, each of which is changed by its birth.
+births = ['{"insert":{"a":%d},"on":{"birth":"0.0.%d"}}' % (number, number) for number in range(80000)]
+case("births", ['[[{"spawn_many":65536},{"spawn_many":14464}]]',
+                listed(listed(births[first:first + 10000]) for first in range(0, 80000, 10000))],
+     [born(0, 80000), born(1, 0)] + ["0.0.%d a=%d" % (number, number) for number in range(80000)]
+     + ["alive 80000"])
+
+# An entity of 256 components, whose names are as long as may be, beside 70,001 of one.
+names = ["c%031d" % number for number in range(256)]
+bundle = ",".join('"%s":%d' % (name, number) for number, name in enumerate(names))
+case("components", ['[[{"spawn":{%s}},{"spawn_many":65536,"with":{"%s":1}},{"spawn_many":4465,"with":{"%s":1}}]]'
+                    % (bundle, names[255], names[255])],
+     [born(0, 70002), "0.0.0 " + " ".join("%s=%d" % (name, number) for number, name in enumerate(names))]
+     + ["0.0.%d %s=1" % (number, names[255]) for number in range(1, 70002)] + ["alive 70002"],
+     components=",".join('"%s"' % name for name in names))
+
+# 70,001 slots that are freed, and requested by one caller together with as many new ones.
+count = 70001
+write("schedule.in", ["alloc"] * count + ["free %dv1" % slot for slot in range(count)]
+      + ["begin 1 %d" % (2 * count), "step 1", "answer 1", "flush"])
+old = ["%dv2" % slot for slot in range(count)]
+new = ["%dv1" % slot for slot in range(count, 2 * count)]
+write("schedule.out", ["%dv1" % slot for slot in range(count)]
+      + ["freed %dv1 next %dv2" % (slot, slot) for slot in range(count)]
+      + ["open", "cursor %d" % -count, " ".join(old + new), "born " + " ".join(new + old)])
+END
+
+# prints CASE WORDS..: the program must print what was computed.
+prints() {
+    name=$1
+    shift
+    status=0
+    timeout 30 "$program" "$@" <"$out/$name.in" >"$out/printed" 2>"$out/said" || status=$?
+    if [ "$status" = 0 ] && cmp "$out/printed" "$out/$name.out"; then
+        echo "spawnrun $* on $name: $(wc -l <"$out/printed") lines, as computed"
+    else
+        echo "spawnrun $* on $name: wrong, status $status, $(head -c 200 "$out/said")"
+        exit 1
+    fi
+}
+
+for workers in 1 64; do
+    for name in systems names faults entities births components; do
+        prints "$name" run --workers "$workers"
+    done
+done
+prints schedule replay
