@@ -176,6 +176,10 @@ impl Audit<'_> {
         if let Some(len) = self.added_import() {
             return Ok(Some(out + len));
         }
+        let is_program = result.has(out, &["pub", "fn", "main"]) && self.source.at(self.at) == "fn";
+        if is_program && self.names.forms.iter().any(|forms| forms.runtime.is_some()) {
+            return Ok(Some(out + 1));
+        }
         let runtimes = self.names.forms.iter().filter_map(|forms| forms.runtime);
         let mut made = runtimes.map(|runtime| pieces(&format!("let rt = {runtime};")));
         if let Some(made) = made.find(|made| has(result, out, made)) {

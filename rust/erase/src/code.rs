@@ -7,8 +7,8 @@ use crate::source::Fault;
 use crate::walk::{Next, Walk};
 
 /// Words of Rust that may begin a statement whose block follows at once, or after one word.
-const STATEMENT_WORDS: [&str; 13] = [
-    "else", "enum", "for", "if", "impl", "let", "loop", "match", "mod", "return", "struct",
+const STATEMENT_WORDS: [&str; 14] = [
+    "else", "enum", "for", "if", "impl", "let", "loop", "match", "mod", "move", "return", "struct",
     "trait", "while",
 ];
 
@@ -96,14 +96,29 @@ impl Walk<'_> {
         Err(self.source.fault(at, "a contract without a body"))
     }
 
-    /// Whether a statement begins here with a block of a kind that Rust hasn't, as `proof { .. }`.
+    /// Whether a block of a kind begins here that isn't known, as `proof { .. }`. No value has a name of
+    /// small letters before a brace, but in a condition.
     fn is_unknown_block(&self, at: usize) -> bool {
-        let word = self.source.at(at);
-        let begins = [";", "{", "}"].contains(&self.source.before(at));
-        let is_small = word.starts_with(|c: char| c.is_lowercase());
-        let has_block = self.source.at(at + 1) == "{"
-            || self.source.is_word(at + 1) && self.source.at(at + 2) == "{";
-        begins && is_small && has_block && !STATEMENT_WORDS.contains(&word)
+        let (word, before) = (self.source.at(at), self.source.before(at));
+        if !word.starts_with(|c: char| c.is_lowercase()) || STATEMENT_WORDS.contains(&word) {
+            return false;
+        }
+        let has_block = self.source.at(at + 1) == "{";
+        let has_named_block = self.source.is_word(at + 1) && self.source.at(at + 2) == "{";
+        match before {
+            ";" | "{" | "}" => has_block || has_named_block,
+            "(" | "," | "=>" | "|" | "return" => has_block,
+            // Not of `==`, `<=`, ..
+            "=" => has_block && self.source.is_word(at - 2) && !self.is_condition(at),
+            _ => false,
+        }
+    }
+
+    /// Whether the place is in the condition of `if let` or `while let`.
+    fn is_condition(&self, at: usize) -> bool {
+        let ends = [";", "{", "}", "if", "while"];
+        let begin = (0..at).rev().find(|at| ends.contains(&self.source.at(*at)));
+        begin.is_some_and(|at| ["if", "while"].contains(&self.source.at(at)))
     }
 
     /// The bound `Drop` goes, and with it the sign that binds it.

@@ -10,7 +10,7 @@ use std::{fs, io};
 pub struct File {
     /// Its path from the top of the repository, as `crates/ent_alloc/src/slots.rt`.
     pub path: String,
-    /// Its path in the result of its crate, as `slots.rs`. That of `lib.rt` is `mod.rs`.
+    /// Its path in the result of its crate, as `slots.rs`. That of `lib.rt` or `main.rt` is `mod.rs`.
     pub result: PathBuf,
     /// Its text.
     pub text: String,
@@ -68,7 +68,9 @@ pub fn read(repository: &Path, name: &str) -> io::Result<Crate> {
             .strip_prefix(&folder)
             .expect("a path in the folder")
             .to_owned();
-        let is_root = local == Path::new("lib.rt");
+        let is_root = ["lib.rt", "main.rt"]
+            .map(Path::new)
+            .contains(&local.as_path());
         Ok(File {
             path: format!("crates/{name}/src/{}", local.display()),
             result: if is_root {

@@ -336,7 +336,7 @@ const ASSOCIATED: &[Associated] = &[
 ];
 
 /// Names that the kit's prelude has and that a source may use only where they are known.
-pub const REFUSED_NAMES: &[&str] = &["AllocGlobal", "Box", "HostRuntime", "Rc", "String"];
+pub const REFUSED_NAMES: &[&str] = &["AllocGlobal", "Box", "HostRuntime", "Print", "Rc", "String"];
 
 /// Words of Rust that the sources don't use, and of which the eraser knows no form.
 pub const REFUSED_WORDS: &[&str] = &[
@@ -346,7 +346,6 @@ pub const REFUSED_WORDS: &[&str] = &[
     "macro_rules",
     "static",
     "union",
-    "unsafe",
     "yield",
 ];
 

@@ -65,7 +65,16 @@ impl Walk<'_> {
             let indent = self.indent(visible)?;
             self.insert(visible, format!("#[inline]\n{indent}"));
         }
+        if self.is_program(at, scope) {
+            self.insert(at, "pub ".to_owned());
+        }
         Ok(end)
+    }
+
+    /// Whether the function is the `main` of a program. As a module it is called by a test.
+    fn is_program(&self, at: usize, scope: Scope) -> bool {
+        let is_handed_runtime = self.names.forms.iter().any(|forms| forms.runtime.is_some());
+        is_handed_runtime && scope == Scope::File && self.source.at(at + 1) == "main"
     }
 
     /// If the function is a test that is handed the runtime, it makes one instead.

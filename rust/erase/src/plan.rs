@@ -18,6 +18,7 @@ const TOPS: &[&str] = &["ent_runner", "ent_total"];
 
 /// The tests of those crates, and what tests alone use.
 const TESTS: &[&str] = &[
+    "cases",
     "ent_alloc_tests",
     "ent_claims_tests",
     "ent_handle_tests",

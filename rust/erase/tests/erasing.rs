@@ -279,6 +279,6 @@ fn code_stays_as_it_is_laid_out() {
         "use super::a;\n\n\n/// B.\n#[inline]\npub fn b<'a, T>(c: &'a [T], d: impl Fn(u8) -> u8) -> Option<&'a T>\n\
          where\n    T: Ord + 'a,\n{\n    // Why.\n    let [first, others @ ..] = c else {\n        return None;\n    };\n    \
          if first < &c[1]  && others[..1] > c[1..] { return Some(first); }\n    for _ in 0..=9 { loop { break; } }\n    \
-         match a::e(x.0.1) {\n        F::G { h, .. } | F::H(h, ..) => Some(h),\n        _ => unreachable!(),\n    }\n}\n",
+         while let F::I = end {}\n    let j = loop { break 1; };\n    match a::e(x.0.1) {\n        F::G { h, .. } | F::H(h, ..) => Some(h),\n        _ => unreachable!(),\n    }\n}\n",
     );
 }

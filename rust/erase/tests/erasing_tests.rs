@@ -28,6 +28,18 @@ fn a_test_makes_its_runtime() {
 }
 
 #[test]
+fn a_program_is_called_by_a_test() {
+    gives(
+        "use anyhow::{Result, ensure};\n\nfn main(rt: HostRuntime) -> Result<()> {\n    \
+         ensure!(a, \"b\");\n    println!(rt; \"c\")?;\n}\n",
+        "use crate::host::println;\nuse crate::host::rt::HostRuntime;\n\
+         use crate::host::anyhow::{Result, ensure};\n\n#[inline]\n\
+         pub fn main(rt: HostRuntime) -> Result<()> {\n    ensure!(a, \"b\");\n    \
+         println!(rt; \"c\")?;\n}\n",
+    );
+}
+
+#[test]
 fn macros_that_take_it_are_imported() {
     gives(
         "use super::b;\n\nfn a(rt: R) {\n    assert!(rt; b());\n    assert_eq!(rt; b(), 1, \"{c}\");\n    \

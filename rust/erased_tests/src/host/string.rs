@@ -15,6 +15,19 @@ impl String {
         Ok(String(text))
     }
 
+    pub fn new(_alloc: Global) -> Self {
+        String(std::string::String::new())
+    }
+
+    pub fn from_str(alloc: Global, text: &str) -> Result<Self, AllocError> {
+        String::of(alloc, text.to_owned())
+    }
+
+    pub fn push_str(&mut self, text: &str) -> Result<(), AllocError> {
+        self.0.push_str(text);
+        Ok(())
+    }
+
     pub fn of(_alloc: Global, text: std::string::String) -> Result<Self, AllocError> {
         Ok(String(text))
     }

@@ -2,11 +2,11 @@
 //!
 //! The sources below [`proved`](crate::proved) were proved against contracts of the kit: its `Vec`
 //! whose growth can fail, its atomic words, its threads. Here stand types of the same names over
-//! Rust's own `core` and `alloc`, without `unsafe`. Nothing here is proved. So each item says which
+//! Rust's own `core` and `alloc`, in safe code. Nothing here is proved. So each item says which
 //! contract it has to keep, and its tests go to the edges of it.
 //!
 //! There is no dependency in place of these lines. For the atomic word, the failing `Vec` and the
-//! small vector without `unsafe` no crate has these calls, so there would be a wrapper all the same.
+//! small vector in safe code no crate has these calls, so there would be a wrapper all the same.
 //! `itoa` and `either` would serve, but what the sources use of them is 20 lines and 5, and a
 //! package without dependencies is built offline and audited by reading it.
 

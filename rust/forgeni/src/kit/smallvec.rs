@@ -4,7 +4,7 @@ use super::alloc::{AllocFailed, Global};
 use super::vec::Vec;
 use core::ops::{Deref, DerefMut};
 
-/// A list that takes memory only if it has more than `N` items. Without `unsafe` the places that are
+/// A list that takes memory only if it has more than `N` items. In safe code the places that are
 /// not in use have to hold something, so an item is `Copy` and has a default.
 ///
 /// The contract: there is room for `N` items from the beginning.
