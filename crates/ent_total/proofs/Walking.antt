@@ -3,7 +3,6 @@ use Rattle.std.proofs.Common.{◌≡◌, ◌∙◌, ◌+◌, ℕ, List, [], ◌�
 use Rattle.std.proofs.Common.{length, arith}
 use Rattle.std.proofs.lemmas.List.Elements.{All-head, All-tail}
 use Rattle.std.proofs.lemmas.List.{map-append}
-use Rattle.ent_shared.specs.Phase.{Shared, Reserver, IsOf}
 
 -- two numbers that are equal stand for one thing
 pub stand_for_one : {A : Type 0} (stands_for : ℕ → A) (n m : ℕ) (s t : A) → stands_for n ≡ s

@@ -1,4 +1,5 @@
-ghost use Rattle.std.specs.Prelude.{◌≡◌, ◌+◌, ◌<◌, ◌≤◌, ◌∷◌, [], ◌++◌, All, IfOk, IfErr, IfSome, IfNone, OnOk, OnErr, length};
+ghost use Rattle.std.specs.Prelude.{◌≡◌, ◌+◌, ◌<◌, ◌≤◌, ◌∷◌, [], ◌++◌};
+ghost use Rattle.std.specs.Prelude.{All, IfOk, IfErr, IfSome, IfNone, OnOk, OnErr, length};
 ghost use Rattle.std.specs.Arc.{arc_value};
 ghost use Rattle.std.specs.Vec.{vec_capacity, vec_len};
 ghost use Rattle.ent_shared.specs.Phase.{IsOf};
@@ -158,7 +159,13 @@ impl<J: Numbering> WorldPhase<J> {
         if self.home.reserve(queues.len()).is_err() || self.queues.reserve(queues.len()).is_err() {
             return Err(queues);
         }
-        bring_home(&mut self.home, &mut self.queues, &self.world, self.number, queues);
+        bring_home(
+            &mut self.home,
+            &mut self.queues,
+            &self.world,
+            self.number,
+            queues,
+        );
         Ok(())
     }
 

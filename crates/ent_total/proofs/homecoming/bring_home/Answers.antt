@@ -1,6 +1,6 @@
-use Rattle.std.proofs.Common.{◌≡◌, ◌∙◌, [], ◌∷◌, ◌++◌, ap, sym, subst, arith}
+use Rattle.std.proofs.Common.{◌≡◌, ◌∙◌, [], ◌∷◌, ◌++◌, ap, subst, arith}
 use Rattle.std.proofs.lemmas.List.Elements.{All-push, All-same}
-use Rattle.ent_shared.specs.Phase.{Shared, Reserver, IsOf}
+use Rattle.ent_shared.specs.Phase.{Shared, IsOf}
 use Rattle.ent_total.specs.Sharing.{Caller}
 use Rattle.ent_total.proofs.Walking.{stand_for_one, walked_on, first_has, left_have, one_less}
 use Rattle.ent_total.proofs.Walking.{moved_on}
