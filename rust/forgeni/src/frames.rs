@@ -1,11 +1,11 @@
 //! Frames: systems run on workers over one world, and the sync point applies what they issued.
 
 use crate::errors::OutOfMemory;
+use crate::frame_queues::FrameQueues;
 use crate::kit::alloc::Global;
 use crate::kit::thread::StdThreads;
 use crate::proved::ent_handle::Memory;
-use crate::proved::ent_runner::{self, NoGate};
-use crate::proved::ent_total::{self, FrameRefused};
+use crate::proved::ent_runner::{self, FrameFault, NoGate};
 use crate::proved::{ent_queue, ent_world};
 use crate::report::Report;
 use crate::sync::SyncError;
@@ -84,18 +84,42 @@ pub fn run_frame<S: System>(
     systems: &[S],
     workers: usize,
 ) -> Result<Report, FrameError> {
+    if let Some(error) = unmet(world, systems.len(), workers) {
+        return Err(error);
+    }
     let mut guarded = Vec::new();
     if guarded.try_reserve_exact(systems.len()).is_err() {
         return Err(FrameError::Memory);
     }
     guarded.extend(systems.iter().map(Guarded::new));
-    let (threads, world) = (&StdThreads, &mut world.proved);
-    let ran = ent_total::run_frame(threads, Global, world, &guarded, workers, &NoGate);
+    let proved = &mut world.proved.world;
+    let ran = ent_runner::run_frame(&StdThreads, Global, proved, &guarded, workers, &NoGate);
     let panic = guarded.into_iter().find_map(Guarded::panic);
     if let Some(panic) = panic {
         resume_unwind(panic);
     }
-    Ok(Report::of(ran?))
+    match ran {
+        Ok(report) => Ok(Report::of(report.sync)),
+        Err(FrameFault::Memory) => Err(FrameError::Memory),
+        Err(FrameFault::Lost) => Err(FrameError::Lost),
+        Err(FrameFault::Sync { fault, queues }) => {
+            let held = FrameQueues::new(&world.proved, queues).held(fault);
+            Err(FrameError::Sync(held.into()))
+        }
+    }
+}
+
+/// What the proved code requires of a frame and doesn't find.
+fn unmet(world: &World, systems: usize, workers: usize) -> Option<FrameError> {
+    if world.needs_flush() {
+        Some(FrameError::NeedsFlush)
+    } else if !(1..=64).contains(&workers) {
+        Some(FrameError::Workers)
+    } else if systems > 1 << 16 {
+        Some(FrameError::Systems)
+    } else {
+        None
+    }
 }
 
 /// What a panic was raised with.
@@ -180,16 +204,3 @@ impl fmt::Display for FrameError {
 }
 
 impl Error for FrameError {}
-
-impl From<FrameRefused> for FrameError {
-    fn from(refused: FrameRefused) -> Self {
-        match refused {
-            FrameRefused::NeedsFlush => Self::NeedsFlush,
-            FrameRefused::Workers => Self::Workers,
-            FrameRefused::Systems => Self::Systems,
-            FrameRefused::Memory => Self::Memory,
-            FrameRefused::Lost => Self::Lost,
-            FrameRefused::Sync(unapplied) => Self::Sync(unapplied.into()),
-        }
-    }
-}

@@ -1,6 +1,8 @@
 //! What a sync point is given, and where one stops for want of memory.
 
-use crate::proved::ent_total::{self, Unapplied, Ungone};
+use crate::frame_queues::{FrameQueues, Held};
+use crate::proved::ent_total::{self, NumberedWorld, Stop, Unapplied, Ungone};
+use crate::proved::ent_world::SyncReport;
 use crate::report::Report;
 use crate::unsync::Unsync;
 use crate::world::World;
@@ -10,20 +12,34 @@ use core::fmt;
 /// The queues of a phase, in the order in which they were handed in, for one [`World::apply`] of
 /// the world whose phase it was.
 pub struct Queues {
-    proved: ent_total::Queues,
+    kept: Kept,
     _unsync: Unsync,
+}
+
+/// Whose queues they are.
+enum Kept {
+    Phase(ent_total::Queues),
+    Frame(FrameQueues),
 }
 
 impl Queues {
     pub(crate) fn of(proved: ent_total::Queues) -> Self {
+        Self::kept(Kept::Phase(proved))
+    }
+
+    fn kept(kept: Kept) -> Self {
         Self {
-            proved,
+            kept,
             _unsync: Unsync::NEW,
         }
     }
 
-    pub(crate) fn proved(self) -> ent_total::Queues {
-        self.proved
+    /// The sync point of these queues.
+    pub(crate) fn apply(self, world: &mut NumberedWorld) -> Result<SyncReport, SyncError> {
+        match self.kept {
+            Kept::Phase(queues) => Ok(world.apply(queues)?),
+            Kept::Frame(queues) => Ok(queues.apply(world)?),
+        }
     }
 }
 
@@ -115,6 +131,20 @@ impl From<Unapplied> for SyncError {
     }
 }
 
+impl From<Held> for SyncError {
+    fn from(held: Held) -> Self {
+        let queues = |queues| Queues::kept(Kept::Frame(queues));
+        match held {
+            Held::OtherWorld(frame) => Self::OtherWorld(queues(frame)),
+            // A sync point from its beginning flushes.
+            Held::NeedsFlush(frame) | Held::Memory(frame) => Self::Memory(queues(frame)),
+            Held::Stopped(frame, stop, so_far) => {
+                Self::Stopped(Stopped::of_frame(frame, stop, Report::of(so_far)))
+            }
+        }
+    }
+}
+
 /// Where a sync point stopped for want of memory. All births stand, and of the commands just those
 /// before the one that is named.
 pub struct Stopped {
@@ -128,19 +158,32 @@ pub struct Stopped {
     /// [`GoOnError::OtherWorld`], [`GoOnError::NeedsFlush`] and [`GoOnError::Memory`] it is the same
     /// report again.
     pub so_far: Report,
-    proved: ent_total::Stopped,
+    rest: Rest,
+}
+
+/// What is left of a phase or of a frame.
+enum Rest {
+    Phase(ent_total::Stopped),
+    Frame(FrameQueues, Stop),
 }
 
 impl Stopped {
     /// The place where it stopped, with the report so far.
     fn at(proved: ent_total::Stopped, so_far: Report) -> Self {
-        let stop = proved.stop();
+        Self::with(proved.stop(), so_far, Rest::Phase(proved))
+    }
+
+    fn of_frame(queues: FrameQueues, stop: Stop, so_far: Report) -> Self {
+        Self::with(stop, so_far, Rest::Frame(queues, stop))
+    }
+
+    fn with(stop: Stop, so_far: Report, rest: Rest) -> Self {
         Self {
             system: stop.system,
             command: stop.command,
             done: stop.done,
             so_far,
-            proved,
+            rest,
         }
     }
 
@@ -160,14 +203,21 @@ impl Stopped {
     /// - [`GoOnError::OtherWorld`]: it stopped in another world. Nothing has changed.
     /// - [`GoOnError::NeedsFlush`]: handles were requested in the world since then. Nothing has
     ///   changed.
-    /// - [`GoOnError::Memory`]: nothing has changed.
+    /// - [`GoOnError::Memory`]: nothing has changed. It doesn't come: what goes on takes memory at
+    ///   commands alone.
     /// - [`GoOnError::Stopped`]: it stopped again, there or later, and can go on from there.
     #[doc = include_str!("proved/ent_total/applying.go_on.md")]
     pub fn go_on(self, world: &mut World) -> Result<Report, GoOnError> {
         let so_far = self.so_far;
-        match self.proved.go_on(&mut world.proved) {
-            Ok(report) => Ok(Report::of(report)),
-            Err(refused) => Err(GoOnError::of(refused, so_far)),
+        match self.rest {
+            Rest::Phase(stopped) => match stopped.go_on(&mut world.proved) {
+                Ok(report) => Ok(Report::of(report)),
+                Err(refused) => Err(GoOnError::of(refused, so_far)),
+            },
+            Rest::Frame(queues, stop) => match queues.go_on(stop, &mut world.proved) {
+                Ok(report) => Ok(Report::of(report)),
+                Err(held) => Err(GoOnError::of_frame(held, stop, so_far)),
+            },
         }
     }
 }
@@ -206,6 +256,18 @@ impl GoOnError {
             Ungone::NeedsFlush(stopped) => Self::NeedsFlush(Stopped::at(stopped, so_far)),
             Ungone::Stopped(stopped, report) => {
                 Self::Stopped(Stopped::at(stopped, Report::of(report)))
+            }
+        }
+    }
+
+    /// The same of a frame that stopped there.
+    fn of_frame(held: Held, stop: Stop, so_far: Report) -> Self {
+        match held {
+            Held::OtherWorld(queues) => Self::OtherWorld(Stopped::of_frame(queues, stop, so_far)),
+            Held::NeedsFlush(queues) => Self::NeedsFlush(Stopped::of_frame(queues, stop, so_far)),
+            Held::Memory(queues) => Self::Memory(Stopped::of_frame(queues, stop, so_far)),
+            Held::Stopped(queues, later, report) => {
+                Self::Stopped(Stopped::of_frame(queues, later, Report::of(report)))
             }
         }
     }

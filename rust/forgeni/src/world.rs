@@ -266,7 +266,7 @@ impl World {
     ///   just those before. It may [go on](crate::Stopped::go_on).
     #[doc = include_str!("proved/ent_total/applying.apply.md")]
     pub fn apply(&mut self, queues: Queues) -> Result<Report, SyncError> {
-        Ok(Report::of(self.proved.apply(queues.proved())?))
+        Ok(Report::of(queues.apply(&mut self.proved)?))
     }
 }
 

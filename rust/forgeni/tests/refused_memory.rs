@@ -397,13 +397,23 @@ fn with_queues() -> (World, Queues) {
     open.close(queues).expect("closed")
 }
 
-/// Ends a sync point that may have stopped, with ample memory. All faults.
+/// Ends a sync point that may have stopped, with ample memory. All faults. No other world takes what
+/// is left of it.
 fn ended(world: &mut World, done: Result<Report, SyncError>) -> Vec<Fault> {
     match done {
         Ok(report) => report.faults(),
-        Err(SyncError::Memory(queues)) => world.apply(queues).expect("memory").faults(),
+        Err(SyncError::Memory(queues)) => {
+            let Err(SyncError::OtherWorld(queues)) = two().apply(queues) else {
+                panic!("it is another world");
+            };
+            world.apply(queues).expect("memory").faults()
+        }
         Err(SyncError::Stopped(stopped)) => {
             let mut faults = stopped.so_far.faults();
+            let Err(GoOnError::OtherWorld(stopped)) = stopped.go_on(&mut two()) else {
+                panic!("it is another world");
+            };
+            assert_eq!(stopped.so_far.faults(), faults);
             faults.extend(stopped.go_on(world).expect("memory").faults());
             faults
         }

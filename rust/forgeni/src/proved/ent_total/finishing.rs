@@ -25,10 +25,7 @@ impl<J: Numbering> WorldPhase<J> {
     /// [`FinishFault::Memory`], and then all queues are handed back; [`FinishFault::InUse`], and
     /// then they are at home.
     #[inline]
-    pub fn close(
-        mut self,
-        queues: Vec<Issued<J>>,
-    ) -> Result<(NumberedWorld, Queues), Unfinished<J>>
+    pub fn close(mut self, queues: Vec<Issued<J>>) -> Result<(NumberedWorld, Queues), Unfinished<J>>
         // ensures world { IfOk result (λ made.
         //     IsClosed self.world (reservers_home self queues.items) made.0.world) }
         // ensures number { IfOk result (λ made. made.0.number ≡ self.of_world) }

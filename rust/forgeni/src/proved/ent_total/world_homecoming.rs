@@ -43,7 +43,11 @@ pub(super) fn bring_home<J: Numbering>(
     // ensures own { All (IsOf world.now.shared) home.new.items }
 {
     for one in queues {
-        let Issuer { reserver, queue, .. } = one.issuer;
+        let Issuer {
+            reserver,
+            queue,
+            ..
+        } = one.issuer;
         home.push_reserved(reserver);
         queues_home.push_reserved(queue);
     }

@@ -137,7 +137,13 @@ impl<J: Numbering> WorldPhase<J> {
         if self.home.reserve(queues.len()).is_err() || self.queues.reserve(queues.len()).is_err() {
             return Err(queues);
         }
-        bring_home(&mut self.home, &mut self.queues, &self.world, self.number, queues);
+        bring_home(
+            &mut self.home,
+            &mut self.queues,
+            &self.world,
+            self.number,
+            queues,
+        );
         Ok(())
     }
 
