@@ -78,7 +78,7 @@ returns-in-Err-Line-clause-advised g c = λ refused same.
     ap schedule_of (sym c.deref.ensures.value) ∙ fault in
     let found = c.as_str.result.now in
     let tells : found ≡ line_found c.in-Ok.bytes.items line =
-    c.as_str.ensures.value ∙ c.schedule_found-found.ensures.found
+    c.as_str.ensures.value ∙ (rw c.in-Err-Line.line-is at c.schedule_found-found.ensures.found)
     ∙ ap (λ (known : List ℕ). line_found known line) c.deref-in-Err-Line.ensures.value in
     let plain : ArePrintable found =
     subst ArePrintable (sym c.as_str.ensures.value) c.schedule_found-found.ensures.printable in
