@@ -95,12 +95,12 @@ def groups_of(lines):
         part = next((it for begin, it in PARTS.items() if work.startswith(begin)), part)
         ratios = [numbers_of(plain)[0], numbers_of(slots)[0], None]
         groups.setdefault(part, []).append((work.replace("`", ""), ratios, numbers_of(by_place)[:2]))
-    threads = rows_with(lines, "Threads", "Singly")
     for column, how in (-2, "singly"), (-1, "64 at once"):
-        for row in threads:
+        for row in rows_with(lines, "Threads", "Singly"):
             ratios = [None, None, numbers_of(row[column])[0]]
-            groups.setdefault("A phase of threads to flush", []).append((f"{how}, threads: {row[0]}", ratios, []))
-    return {name: [it for it in rows if any(it[1])] for name, rows in groups.items() if any(any(it[1]) for it in rows)}
+            if any(ratios):
+                groups.setdefault("A phase of threads, and its flush", []).append((f"{how}, threads: {row[0]}", ratios, []))
+    return groups
 
 
 # The picture. Each dot stands at a ratio of times; left of the line of the same time we are the faster side.
@@ -108,7 +108,7 @@ def groups_of(lines):
 TITLE = "Time of each call, ours beside a peer's"
 WIDTH, LEFT, RIGHT, ROW, HEAD = 940, 290, 760, 19, 30
 LEAST, MOST = -4, 2
-DOTS = [("few", 3.5), ("some", 5), ("many", 6.5)]
+DOTS = [("plain", 4), ("slots", 5), ("slab", 6)]
 
 STYLE = """
     .paper { fill: #ffffff } .faster { fill: #e9f6ec } .slower { fill: #fdf3ec }
@@ -116,11 +116,11 @@ STYLE = """
     .title { font-size: 16px; font-weight: 600 } .group { font-weight: 600 } .quiet { fill: #59636e }
     .figure { text-anchor: end; font-variant-numeric: tabular-nums } .middle { text-anchor: middle }
     .grid { stroke: #d1d9e0 } .even { stroke: #59636e; stroke-width: 1.5 } .span { stroke: #818b98; stroke-width: 1.5 }
-    circle, path { stroke: #ffffff; stroke-width: 1 } .few { fill: #79b0f2 } .some { fill: #2f6fd0 } .many { fill: #143a7b }
+    circle, path { stroke: #ffffff; stroke-width: 1 } .plain { fill: #79b0f2 } .slots { fill: #2f6fd0 } .slab { fill: #143a7b }
     @media (prefers-color-scheme: dark) {
         .paper { fill: #0d1117 } .faster { fill: #0f2117 } .slower { fill: #241a12 } text { fill: #e6edf3 } .quiet { fill: #9198a1 }
         .grid { stroke: #30363d } .even { stroke: #9198a1 } .span { stroke: #6e7681 }
-        circle, path { stroke: #0d1117 } .few { fill: #3f6fb5 } .some { fill: #77aef5 } .many { fill: #dbe9ff }
+        circle, path { stroke: #0d1117 } .plain { fill: #3f6fb5 } .slots { fill: #77aef5 } .slab { fill: #dbe9ff }
     }"""
 
 
