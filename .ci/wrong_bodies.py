@@ -73,7 +73,8 @@ class Edit:
         texts = self.over({})
         if isinstance(texts, str):
             return texts
-        return None if self.refused_by else "it has no line `refused by: FUNCTION: GOAL`"
+        is_named = self.refused_by or not (self.is_must_fail or self.is_of_gate)
+        return None if is_named else "it has no line `refused by: FUNCTION: GOAL`"
 
     def functions(self):
         """The functions to check: the one that its file names, or those whose text it changes."""
@@ -317,7 +318,8 @@ def fit():
     faults = [f"{it.path}: {it.fault()}" for it in edits if it.fault()]
     gate = sum(it.is_must_fail or it.is_of_gate for it in edits)
     faults += [f"the gate tries {gate} wrong bodies, and at most {GATE} are wanted"] if gate > GATE else []
-    print(*faults, f"wrong bodies: {len(edits)}, {gate} of them in the gate, {len(faults)} faults", sep="\n")
+    unnamed = sum(not it.refused_by for it in edits)
+    print(*faults, f"wrong bodies: {len(edits)}, {gate} of them in the gate, {unnamed} without a line `refused by`, {len(faults)} faults", sep="\n")
     return 1 if faults else 0
 
 
