@@ -39,11 +39,13 @@ pub fn write_queue(queue: &CommandQueue, out: &mut Out) {
     if queue.is_empty() {
         out.word("empty");
     }
-    let mut between = "";
+    let mut is_first = true;
     for entry in queue.entries() {
-        out.word(between);
+        if !is_first {
+            out.word("; ");
+        }
         write_entry(&entry, out);
-        between = "; ";
+        is_first = false;
     }
 }
 

@@ -69,10 +69,7 @@ fn write_components(world: &World, handle: Handle, out: &mut Out) {
 pub fn view(view: &View<'_>, call: &Call<'_>, out: &mut Out) {
     match call.name {
         "contains" => out.show(&view.contains(call.handle)),
-        "get" => out.value(view.get(call.handle, call.id())),
-        "birth" => out.birth(view.birth(call.handle)),
         "of_birth" => out.value(view.of_birth(call.birth)),
-        "with" => out.list(view.with(call.id())),
         "by_birth" => out.list(view.by_birth()),
         "phase" => out.show(&view.phase()),
         _ => out.word("no such call"),

@@ -45,6 +45,34 @@ impl Worlding {
         }
     }
 
+    fn set_up(&mut self, call: &Call<'_>) -> &'static str {
+        let [first, second, _] = call.numbers;
+        match call.name {
+            "world" => self.renew(first, second),
+            "open" => self.open(first as usize),
+            "close" => self.close(false),
+            _ => self.close(true),
+        }
+    }
+
+    fn sync(&mut self, call: &Call<'_>) -> &'static str {
+        match call.name {
+            "flush" => self.flush(),
+            "apply" => self.apply(),
+            _ => self.apply_from(call.numbers),
+        }
+    }
+
+    fn set_systems(&mut self, call: &Call<'_>) -> &'static str {
+        match call.name {
+            "system" => self.add_system(call.line),
+            _ => {
+                self.systems.clear();
+                "done"
+            }
+        }
+    }
+
     /// A world of so many slots and generations.
     fn renew(&mut self, slots: u32, generations: u32) -> &'static str {
         let Some(limits) = Limits::new(slots, generations) else {
@@ -207,25 +235,16 @@ impl Worlding {
 
 impl Layer for Worlding {
     fn answer<R: Threads + Sync>(&mut self, rt: &R, call: &Call<'_>, out: &mut Out) {
-        let [first, second, _] = call.numbers;
-        let done = match (call.system, call.name) {
-            (Some(system), _) => return self.in_phase(system, call, out),
-            (None, "world") => self.renew(first, second),
-            (None, "open") => self.open(first as usize),
-            (None, "close") => self.close(false),
-            (None, "close_lost") => self.close(true),
-            (None, "flush") => self.flush(),
-            (None, "apply") => self.apply(),
-            (None, "apply_from") => self.apply_from(call.numbers),
-            (None, "frame") => self.frame(rt, first as usize),
-            (None, "system") => self.add_system(call.line),
-            (None, "no_systems") => {
-                self.systems.clear();
-                "done"
-            }
-            _ => return self.tell(call, out),
-        };
-        out.word(done);
+        if let Some(system) = call.system {
+            return self.in_phase(system, call, out);
+        }
+        match call.name {
+            "world" | "open" | "close" | "close_lost" => out.word(self.set_up(call)),
+            "flush" | "apply" | "apply_from" => out.word(self.sync(call)),
+            "frame" => out.word(self.frame(rt, call.number() as usize)),
+            "system" | "no_systems" => out.word(self.set_systems(call)),
+            _ => self.tell(call, out),
+        }
     }
 }
 

@@ -13,16 +13,12 @@ use std::process::Abort;
 
 pub const HP: ComponentId = ComponentId(0);
 
-pub const MP: ComponentId = ComponentId(1);
-
 /// A system that does one thing.
 #[derive(Clone, Copy)]
 pub enum Act {
     Nothing,
     /// Spawns one entity with this `HP`.
     Spawn(i64),
-    /// Spawns so many entities, each with its ordinal as `HP`.
-    SpawnEach(u32),
     /// Spawns so many entities at once, each with this `HP`.
     SpawnMany(u32, i64),
     /// Spawns one entity with this `HP`, also if memory is refused to it once.
@@ -32,8 +28,6 @@ pub enum Act {
     Despawn(Handle),
     /// Gives the entity this `HP`.
     Insert(Handle, i64),
-    /// Gives each entity that has `HP` as much `MP`.
-    CopyHp,
 }
 
 impl System for Act {
@@ -43,13 +37,12 @@ impl System for Act {
     fn run(
         &self,
         alloc: Global,
-        view: &View<'_>,
+        _view: &View<'_>,
         commands: &mut Commands<'_>,
     ) -> Result<(), Memory> {
         match self {
             Act::Nothing => Ok(()),
             Act::Spawn(value) => spawn(alloc, commands, *value),
-            Act::SpawnEach(count) => spawn_each(alloc, commands, *count),
             Act::SpawnMany(count, value) => spawn_many(alloc, commands, *count, *value),
             Act::SpawnSurely(value) => spawn_surely(alloc, commands, *value),
             Act::SpawnAndStop(value) => {
@@ -57,8 +50,7 @@ impl System for Act {
                 Err(Memory)
             }
             Act::Despawn(handle) => commands.despawn(*handle),
-            Act::Insert(handle, value) => insert(alloc, commands, *handle, HP, *value),
-            Act::CopyHp => copy_hp(alloc, view, commands),
+            Act::Insert(handle, value) => insert(alloc, commands, *handle, *value),
         }
     }
 }
@@ -129,9 +121,9 @@ pub fn all_counted<'a>(
     systems
 }
 
-fn one(alloc: Global, id: ComponentId, value: i64) -> Result<Bundle, Memory> {
+fn one(alloc: Global, value: i64) -> Result<Bundle, Memory> {
     let mut bundle = Bundle::new(alloc);
-    bundle.put(id, value)?;
+    bundle.put(HP, value)?;
     Ok(bundle)
 }
 
@@ -139,7 +131,7 @@ fn spawn(alloc: Global, commands: &mut Commands<'_>, value: i64) -> Result<(), M
     requires { IsReady commands.old }
     ensures { Extends commands.old commands.new }
 {
-    let bundle = one(alloc, HP, value)?;
+    let bundle = one(alloc, value)?;
     match commands.spawn(bundle) {
         Err(QueueFault::Memory) => Err(Memory),
         _ => Ok(()),
@@ -155,22 +147,11 @@ fn spawn_many(
     requires { IsReady commands.old }
     ensures { Extends commands.old commands.new }
 {
-    let bundle = one(alloc, HP, value)?;
+    let bundle = one(alloc, value)?;
     match commands.spawn_many(count, bundle) {
         Err(QueueFault::Memory) => Err(Memory),
         _ => Ok(()),
     }
-}
-
-#[tactic(auto, using(ent_queue::proofs::Extending::extends_then))]
-fn spawn_each(alloc: Global, commands: &mut Commands<'_>, count: u32) -> Result<(), Memory>
-    requires { IsReady commands.old }
-    ensures { Extends commands.old commands.new }
-{
-    for ordinal in 0..count {
-        spawn(alloc, commands, i64::from(ordinal))?;
-    }
-    Ok(())
 }
 
 #[tactic(auto, using(ent_queue::proofs::Extending::extends_then))]
@@ -188,25 +169,11 @@ fn insert(
     alloc: Global,
     commands: &mut Commands<'_>,
     handle: Handle,
-    id: ComponentId,
     value: i64,
 ) -> Result<(), Memory>
     requires { IsReady commands.old }
     ensures { Extends commands.old commands.new }
 {
-    let bundle = one(alloc, id, value)?;
+    let bundle = one(alloc, value)?;
     commands.insert(handle, bundle)
-}
-
-#[tactic(auto, using(ent_queue::proofs::Extending::extends_then))]
-fn copy_hp(alloc: Global, view: &View<'_>, commands: &mut Commands<'_>) -> Result<(), Memory>
-    requires { IsReady commands.old }
-    ensures { Extends commands.old commands.new }
-{
-    for handle in view.with(HP)? {
-        if let Some(value) = view.get(handle, HP) {
-            insert(alloc, commands, handle, MP, value)?;
-        }
-    }
-    Ok(())
 }

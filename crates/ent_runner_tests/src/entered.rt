@@ -23,11 +23,10 @@ fn each_system_is_entered_once_in_each_frame(rt: HostRuntime) {
         Act::Despawn(first(&rt, 1)),
         Act::Spawn(7),
         Act::Nothing,
-        Act::CopyHp,
     ];
     for workers in [1, 2, 8] {
         let mut world = World::new(alloc, Limits::default_limits());
-        let _report = frame(&rt, alloc, &mut world, &[Act::SpawnEach(3)], 1, &NoGate);
+        let _report = frame(&rt, alloc, &mut world, &[Act::SpawnMany(3, 1)], 1, &NoGate);
         let counts = Counts::new(&rt, alloc, acts.len());
         let systems = all_counted(&rt, alloc, &counts, &acts);
         for times in [1, 2] {

@@ -32,19 +32,22 @@ fn at_command(alloc: Global, command: usize, system: usize) -> SyncFault {
 #[test]
 fn texts_of_faults(rt: HostRuntime) {
     let alloc = rt.alloc();
-    let (flush, command) = (SyncFault::FlushMemory, at_command(alloc, 3, 5));
-    for (fault, wanted) in [
-        (FrameFault::Memory, "out of memory before any system ran"),
-        (FrameFault::Lost, "out of memory while the systems ran"),
-        (
-            stopped(alloc, flush),
-            "the sync point stopped: out of memory for the flush",
-        ),
-        (
-            stopped(alloc, command),
-            "the sync point stopped: out of memory at command 3 of system 5",
-        ),
-    ] {
-        assert_text(&rt, alloc, &fault, wanted);
-    }
+    let memory = "out of memory before any system ran";
+    assert_text(&rt, alloc, &FrameFault::Memory, memory);
+    let lost = "out of memory while the systems ran";
+    assert_text(&rt, alloc, &FrameFault::Lost, lost);
+    assert_flush(&rt, alloc);
+    assert_command(&rt, alloc);
+}
+
+fn assert_flush(rt: &impl Abort, alloc: Global) {
+    let fault = stopped(alloc, SyncFault::FlushMemory);
+    let wanted = "the sync point stopped: out of memory for the flush";
+    assert_text(rt, alloc, &fault, wanted);
+}
+
+fn assert_command(rt: &impl Abort, alloc: Global) {
+    let fault = stopped(alloc, at_command(alloc, 3, 5));
+    let wanted = "the sync point stopped: out of memory at command 3 of system 5";
+    assert_text(rt, alloc, &fault, wanted);
 }
