@@ -39,7 +39,12 @@ impl<'a> Case<'a> {
     }
 
     /// Makes all calls of the text.
-    pub fn run<L: Layer>(&mut self, rt: &(impl Print + Threads + Sync), layer: &mut L, text: &str) -> Result<()> {
+    pub fn run<L: Layer>(
+        &mut self,
+        rt: &(impl Print + Threads + Sync),
+        layer: &mut L,
+        text: &str,
+    ) -> Result<()> {
         let lines = lines_of(self.alloc, text)?;
         let mut next = 0;
         for (at, line) in lines.iter().enumerate() {

@@ -18,10 +18,9 @@ mod writing;
 
 use anyhow::{Result, ensure};
 use case::Case;
-use std::env;
-use std::fs;
 use std::rt::Files;
 use std::thread::Threads;
+use std::{env, fs};
 use storing::Storing;
 use worlding::Worlding;
 

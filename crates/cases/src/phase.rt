@@ -68,7 +68,15 @@ impl Phase {
     ) {
         match self.reservers.get_mut(system) {
             Some(reserver) => {
-                answer(alloc, self.open.shared(), reserver, queues, system, call, out);
+                answer(
+                    alloc,
+                    self.open.shared(),
+                    reserver,
+                    queues,
+                    system,
+                    call,
+                    out,
+                );
             }
             None => out.word("no such system"),
         }

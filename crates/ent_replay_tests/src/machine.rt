@@ -28,12 +28,7 @@ fn write(outcome: &Result<Outcome, ReplayFault>, out: &mut Vec<u8>) -> Result<()
 }
 
 // Whether these are the lines of a schedule, as `step` gives them.
-fn has_lines(
-    alloc: Global,
-    limits: Limits,
-    schedule: &[u8],
-    lines: &[u8],
-) -> Result<bool, Fail> {
+fn has_lines(alloc: Global, limits: Limits, schedule: &[u8], lines: &[u8]) -> Result<bool, Fail> {
     let mut machine = Machine::new(alloc, limits)?;
     let mut written = Vec::new(alloc);
     step_through(alloc, &mut machine, schedule, &mut written)?;

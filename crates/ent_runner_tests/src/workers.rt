@@ -13,7 +13,8 @@ use std::thread::Threads;
 fn systems(rt: &impl Abort, alloc: Global) -> Vec<Act> {
     let mut acts = Vec::new(alloc);
     for number in 0..64 {
-        acts.push(Act::Spawn(number)).expect(rt, "memory for the systems");
+        acts.push(Act::Spawn(number))
+            .expect(rt, "memory for the systems");
     }
     acts
 }
