@@ -3,6 +3,7 @@
 //! `NAME.births.txt` names entities by their births, and is the report for any number of workers.
 //! `NAME.handles.txt` has the handles too, as one worker gives them out.
 ghost use Rattle.std.specs.Prelude.{◌<◌, ◌≤◌};
+ghost use Rattle.ent_script.specs.Ranges.{IsScript};
 
 use anyhow::Result;
 use ent_handle::Memory;
@@ -42,6 +43,7 @@ fn reports_as_printed<R>(
 ) -> Result<usize, Memory>
 where
     R: Threads + Sync + AllocGlobal,
+    requires ranges { IsScript script.now }
 {
     let runs = [
         prints(rt, script, 1, Show::Handles, handles)?,
@@ -62,6 +64,7 @@ fn prints<R>(
 ) -> Result<bool, Memory>
 where
     R: Threads + Sync + AllocGlobal,
+    requires ranges { IsScript script.now }
     requires some { 0 < workers }
     requires few { workers ≤ 64 }
 {
