@@ -157,7 +157,7 @@ def refusals(crate, said):
 
 # A line of a check that `rt ci` shows of a refused edit, and those that it passes over: they name what the edit took away.
 SHOWN = re.compile(r"(?m)^(?!(?:note: )?(?:\./)?proofs/.*(?:has no field|is not in scope|has no `|was not admitted))"
-                   r"(?:note: \S+:\d+:\d+:.*|\S+:\d+:\d+:.*: error.*)$")
+                   r"(?:note: \S+:\d+:\d+:.*|\S+:\d+:\d+: error.*)$")
 
 
 def first_printed(said):

@@ -5,6 +5,7 @@ ghost use Rattle.std.specs.Prelude.{◌≤◌, length};
 use crate::call::Call;
 use crate::filling::{Round, filled};
 use crate::numbers::Numbers;
+use crate::worlding::Worlding;
 use crate::writing::Out;
 use anyhow::Result;
 use ent_handle::Memory;
@@ -14,7 +15,10 @@ use std::thread::Threads;
 /// What the calls are made of.
 pub trait Layer {
     /// Makes the call, and writes what it returned.
-    fn answer<R: Threads + Sync>(&mut self, rt: &R, call: &Call<'_>, out: &mut Out);
+    fn answer(&mut self, call: &Call<'_>, out: &mut Out);
+
+    /// What runs frames, if this layer does.
+    fn worlding(&mut self) -> Option<&mut Worlding>;
 }
 
 /// How far a file has been run.
@@ -39,9 +43,9 @@ impl<'a> Case<'a> {
     }
 
     /// Makes all calls of the text.
-    pub fn run<L: Layer>(
+    pub fn run<R: Print + Threads + Sync, L: Layer>(
         &mut self,
-        rt: &(impl Print + Threads + Sync),
+        rt: &R,
         layer: &mut L,
         text: &str,
     ) -> Result<()> {
@@ -62,9 +66,9 @@ impl<'a> Case<'a> {
     }
 
     /// Makes the calls of these lines once for each number. The first line tells the numbers.
-    fn run_rounds<L: Layer>(
+    fn run_rounds<R: Print + Threads + Sync, L: Layer>(
         &mut self,
-        rt: &(impl Print + Threads + Sync),
+        rt: &R,
         layer: &mut L,
         numbers: Numbers,
         lines: &[&str],
@@ -78,9 +82,9 @@ impl<'a> Case<'a> {
     }
 
     /// Makes the call of a line, or those of its own rounds.
-    fn run_line<L: Layer>(
+    fn run_line<R: Print + Threads + Sync, L: Layer>(
         &mut self,
-        rt: &(impl Print + Threads + Sync),
+        rt: &R,
         layer: &mut L,
         line: &str,
         n: u32,
@@ -96,9 +100,9 @@ impl<'a> Case<'a> {
     }
 
     /// Makes the call of a line, if it has one.
-    fn run_call<L: Layer>(
+    fn run_call<R: Print + Threads + Sync, L: Layer>(
         &mut self,
-        rt: &(impl Print + Threads + Sync),
+        rt: &R,
         layer: &mut L,
         line: &str,
         round: Round,
@@ -113,9 +117,9 @@ impl<'a> Case<'a> {
     }
 
     /// Makes one call, and compares.
-    fn make<L: Layer>(
+    fn make<R: Print + Threads + Sync, L: Layer>(
         &mut self,
-        rt: &(impl Print + Threads + Sync),
+        rt: &R,
         layer: &mut L,
         call: &str,
         wanted: &str,
@@ -137,15 +141,23 @@ impl<'a> Case<'a> {
     }
 }
 
-fn make<L: Layer>(
-    rt: &(impl Threads + Sync),
+fn make<R: Threads + Sync, L: Layer>(
+    rt: &R,
     alloc: Global,
     layer: &mut L,
     line: &str,
     out: &mut Out,
 ) -> Result<(), Memory> {
     let call = Call::read(alloc, line)?;
-    layer.answer(rt, &call, out);
+    // Only a frame starts threads.
+    if call.name == "frame" {
+        match layer.worlding() {
+            Some(world) => out.word(world.frame(rt, call.number() as usize)),
+            None => out.word("no such call"),
+        }
+    } else {
+        layer.answer(&call, out);
+    }
     Ok(())
 }
 

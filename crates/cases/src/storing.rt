@@ -2,10 +2,10 @@
 
 use crate::call::Call;
 use crate::case::Layer;
+use crate::worlding::Worlding;
 use crate::writing::Out;
 use ent_storage::{Storage, StorageFault};
 use std::alloc::Global;
-use std::thread::Threads;
 
 /// A storage, as calls change it.
 #[derive(Drop)]
@@ -27,7 +27,11 @@ impl Storing {
 }
 
 impl Layer for Storing {
-    fn answer<R: Threads + Sync>(&mut self, _rt: &R, call: &Call<'_>, out: &mut Out) {
+    fn worlding(&mut self) -> Option<&mut Worlding> {
+        None
+    }
+
+    fn answer(&mut self, call: &Call<'_>, out: &mut Out) {
         match call.name {
             "new" => {
                 self.storage = Storage::new(self.alloc);

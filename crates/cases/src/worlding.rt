@@ -203,7 +203,8 @@ impl Worlding {
         }
     }
 
-    fn frame<R: Threads + Sync>(&mut self, rt: &R, workers: usize) -> &'static str {
+    /// A frame of the systems that were listed.
+    pub fn frame<R: Threads + Sync>(&mut self, rt: &R, workers: usize) -> &'static str {
         let Some(world) = &mut self.world else {
             return "a phase is open";
         };
@@ -234,14 +235,17 @@ impl Worlding {
 }
 
 impl Layer for Worlding {
-    fn answer<R: Threads + Sync>(&mut self, rt: &R, call: &Call<'_>, out: &mut Out) {
+    fn worlding(&mut self) -> Option<&mut Worlding> {
+        Some(self)
+    }
+
+    fn answer(&mut self, call: &Call<'_>, out: &mut Out) {
         if let Some(system) = call.system {
             return self.in_phase(system, call, out);
         }
         match call.name {
             "world" | "open" | "close" | "close_lost" => out.word(self.set_up(call)),
             "flush" | "apply" | "apply_from" => out.word(self.sync(call)),
-            "frame" => out.word(self.frame(rt, call.number() as usize)),
             "system" | "no_systems" => out.word(self.set_systems(call)),
             _ => self.tell(call, out),
         }
