@@ -18,9 +18,9 @@ mod writing;
 
 use anyhow::{Result, ensure};
 use case::Case;
+use std::env;
 use std::rt::Files;
 use std::thread::Threads;
-use std::{env, fs};
 use storing::Storing;
 use worlding::Worlding;
 
@@ -40,7 +40,7 @@ fn compare<R>(rt: &R, name: &str) -> Result<u64>
 where
     R: Files + Print + Threads + Sync + AllocGlobal,
 {
-    let text = fs::read_to_string(rt, name)?;
+    let text = std::fs::read_to_string(rt, name)?;
     run(rt, name, text.as_str())
 }
 
