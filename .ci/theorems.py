@@ -1,0 +1,257 @@
+#!/usr/bin/env python3
+"""What one has to read to believe a theorem of docs/THEOREMS.md.
+
+    theorems.py check            compares the page with the sources
+    theorems.py write            writes the lists of the page
+    theorems.py show FUNCTION    prints what one has to read, file by file
+
+A theorem is a block of the page that quotes the contract of a call. Below it stands a line `<!-- read -->`, and below that a list: the
+definitions that the clauses cite, those that these cite, and so on, with the lines of each file. A definition is counted with the comment
+above it, once, and a type with its model. What comes from the kit is no part of a list, and stands by name under `<!-- kit -->`.
+
+The page is refused if a quote doesn't stand in its file, if it leaves out something that the call requires, or if a list isn't what the
+sources give. It needs no program, and runs at the top of the repository.
+"""
+
+import collections
+import functools
+import pathlib
+import re
+import sys
+import textwrap
+
+import pages
+
+PAGE = pathlib.Path("docs/THEOREMS.md")
+CRATES = pathlib.Path("crates")
+WIDTH = 140
+Item = collections.namedtuple("Item", "file lines text")
+HEAD = re.compile(r"(?:  )?(?:(?:abbrev|unfoldable) pub|pub (?:record|data)) (\S+)|abbrev (mutual)|pub (?!mod )(\S+)")
+TYPE = re.compile(r"(?:pub(?:\(\w+\))? )?(?:struct|enum|trait|const|type) (\w+)")
+MODEL = re.compile(r"impl(?:<.*>)? Model for (\w+)")
+
+
+def code_of(lines):
+    """The lines without comments and texts."""
+    return re.sub(r'"(\\.|[^"\\])*"', "", "\n".join(re.sub(r"(^|\s)(--|//).*", "", it) for it in lines))
+
+
+def chunks_of(lines):
+    """The runs of lines that aren't blank: where each begins, and its lines."""
+    at = 0
+    while at < len(lines):
+        end = at
+        while end < len(lines) and lines[end].strip():
+            end += 1
+        if end > at:
+            yield at, lines[at:end]
+        at = end + 1
+
+
+def spec_names(name, chunk):
+    """The names that a definition makes: its own and its constructors', or those of a group."""
+    inner = r"  pub (\S+) :" if name == "mutual" else r"  (\w+) :"
+    return {name, *re.findall(inner, "\n".join(["", *chunk]))}
+
+
+@functools.cache
+def specs_of(file):
+    """The definitions of a file of specs, by name."""
+    spans = []
+    for at, chunk in chunks_of(file.read_text().splitlines()):
+        first = next((it for it in chunk if not it.lstrip().startswith(("--", "infix", "module "))), "use ")
+        head = HEAD.match(first)
+        if head:
+            spans.append((head[head.lastindex], at, list(chunk)))
+        elif spans and not first.startswith("use "):
+            spans[-1][2].extend(["", *chunk])
+    found = {}
+    for name, at, chunk in spans:
+        item = Item(file, frozenset(range(at, at + len(chunk))), code_of(chunk))
+        found.update((it, item) for it in spec_names(name, chunk))
+    return found
+
+
+def rust_span(lines, at):
+    """Where the item at this line begins and ends, its comments and attributes with it."""
+    first = last = at
+    while first and lines[first - 1].startswith(("///", "#[")):
+        first -= 1
+    if not lines[at].endswith((";", "}")):
+        last = next(it for it in range(at, len(lines)) if lines[it].startswith("}"))
+    return range(first, last + 1)
+
+
+@functools.cache
+def types_of(file):
+    """The types of a Rust file, each with its model. A type with a model cites by that alone: its fields are private."""
+    lines, types, models = file.read_text().splitlines(), {}, {}
+    for at, line in enumerate(lines):
+        for pattern, found in [(TYPE, types), (MODEL, models)]:
+            head = pattern.match(line)
+            if head:
+                found[head[1]] = rust_span(lines, at)
+    made = {}
+    for name, span in types.items():
+        model = models.get(name, range(0))
+        made[name] = Item(file, frozenset([*span, *model]), code_of([lines[it] for it in model or span]))
+    return made
+
+
+def type_in(crate, path, name):
+    """A type of a crate, in the file that the path names if several have one of that name."""
+    files = sorted((CRATES / crate / "src").rglob("*.rt"), key=lambda it: (it.stem not in path, str(it)))
+    return next((types_of(it)[name] for it in files if name in types_of(it)), None)
+
+
+def definition(module, name):
+    """The definition of a name in a module, or the module and the name if it is the kit's."""
+    crate, _, *path = module.split(".")[1:]
+    if not (CRATES / crate).is_dir():
+        return ".".join([crate, *path]), name
+    if path[0] in ("declared", "contracts"):
+        within = {"TheVariants": path[-2], "TheConstants": name}
+        return type_in(crate, path, within.get(path[-1], path[-1]))
+    return specs_of(CRATES / crate / "specs" / ("/".join(path) + ".antt"))[name]
+
+
+def as_pairs(names):
+    """The names of a list in braces: each as it is there, and as it is here."""
+    return [(it.split()[0], it.split()[-1]) for it in names.strip("{}").split(",") if it.strip()]
+
+
+@functools.cache
+def scope_of(file):
+    """What the names of a file stand for: its own definitions, those that it uses, and modules under another name."""
+    text = code_of(file.read_text().splitlines())
+    scope = collections.defaultdict(set)
+    modules = {here: module for module, here in re.findall(r"use (Rattle[\w.]+) as (\w+)", text)}
+    for name, item in (types_of(file) if file.suffix == ".rt" else specs_of(file)).items():
+        scope[name].add(item)
+    for module, names in re.findall(r"use (Rattle[\w.]+)\.\{([^}]*)\}", text):
+        for there, here in as_pairs(names):
+            scope[here].add(definition(module, there))
+    for path, names in re.findall(r"^use ((?:\w+::)+)(\{[^}]*\}|\w+);", text, re.M):
+        crate, *inner = path.split("::")[:-1]
+        crate = file.parts[1] if crate == "crate" else crate
+        for there, here in as_pairs(names):
+            scope[here].add(type_in(crate, inner, there) if (CRATES / crate).is_dir() else None)
+    return scope, modules
+
+
+def cited(file, text):
+    """What a text of a file cites."""
+    scope, modules = scope_of(file)
+    words = {it.strip(".") for it in re.split(r"[\s()\[\]{},;]+", text)}
+    words |= {it for word in words for it in re.split(r"[<>&:]+", word)}
+    heads = {it.split(".")[0] for it in words} | words
+    found = set()
+    for name in scope:
+        parts = [it for it in name.split("◌") if it]
+        if all(it in heads for it in parts):
+            found |= scope[name]
+    for head, _, name in (it.partition(".") for it in words):
+        if head in modules:
+            found.add(definition(modules[head], name.split(".")[0]))
+    return found - {None}
+
+
+def closure(file, text):
+    """All that a text of a file rests on: the definitions, and the names of the kit."""
+    items, kit, left = set(), set(), cited(file, text)
+    while left:
+        each = left.pop()
+        if not isinstance(each, Item):
+            kit.add(each)
+        elif each not in items:
+            items.add(each)
+            left |= cited(each.file, each.text)
+    return items, kit
+
+
+def lines_by_file(items):
+    """How many lines of each file there are to read, in the order of the layers."""
+    lines = collections.defaultdict(set)
+    for item in items:
+        lines[item.file] |= item.lines
+    order = [it.split(":")[0].split()[0] for it in pathlib.Path("crates.txt").read_text().splitlines() if ":" in it and it[0] != "#"]
+    return {it: sorted(lines[it]) for it in sorted(lines, key=lambda it: (order.index(it.parts[1]), str(it)))}
+
+
+def theorems():
+    """Each theorem of the page: its call, its file, the lines of its quote, and what is wrong with them."""
+    for at, mark, block in pages.blocks_of(PAGE):
+        file = pathlib.Path(mark.split()[2])
+        lines = file.read_text().splitlines()
+        head = next(it for it in block if re.search(r"\bfn ", it))
+        start = next(number for number, it in enumerate(lines) if it.strip() == head.strip())
+        depth = len(lines[start]) - len(lines[start].lstrip())
+        contract = lines[start : lines.index(" " * depth + "{", start)]
+        within = next((lines[it] for it in range(start, 0, -1) if depth and lines[it].startswith("impl")), "")
+        owner = re.match(r"impl(?:<.*?>)? (\w+)", within)
+        name = "::".join([*(owner.groups() if owner else []), re.search(r"fn (\w+)", head)[1]])
+        wanted = {it.strip() for it in contract if it.strip().startswith("requires")} - {it.strip() for it in block}
+        faults = [pages.fault_of(mark, block), *(f"leaves out {it}" for it in sorted(wanted))]
+        yield name, file, code_of([within, *block]), [f"{PAGE}:{at}: {name} {it}" for it in faults if it]
+
+
+def wrapped(text):
+    return textwrap.wrap(text, WIDTH, break_long_words=False, break_on_hyphens=False)
+
+
+def reading(items, before):
+    """The list of what there is to read for one theorem: how much, and where those lines stand that no theorem above it needs."""
+    files, known = lines_by_file(items), lines_by_file(before)
+    new = {it: len(set(lines) - set(known.get(it, []))) for it, lines in files.items()}
+    listed = ", ".join(f"`{it.relative_to(CRATES)}` {count}".replace(".antt", "") for it, count in new.items() if count)
+    total = sum(map(len, files.values()))
+    added = f", {sum(new.values())} of them not above" if sum(new.values()) < total else ""
+    return wrapped(f"To read: {total} lines in {len(files)} files{added if listed else ''}" + (f": {listed}." if listed else "."))
+
+
+def kit_names(kit):
+    by_module = collections.defaultdict(list)
+    for module, name in sorted(kit):
+        by_module[module.replace(".specs", "")].append(f"`{name}`")
+    return wrapped("; ".join(f"{module}: {' '.join(names)}" for module, names in by_module.items()) + ".")
+
+
+def made():
+    """The page as the sources want it, and what is wrong with its quotes."""
+    lists, faults, all_items, all_kit = [], [], set(), set()
+    for _, file, text, wrong in theorems():
+        items, kit = closure(file, text)
+        lists.append(reading(items, all_items))
+        faults += wrong
+        all_items, all_kit = all_items | items, all_kit | kit
+    text = PAGE.read_text()
+    if text.count("<!-- read -->") != len(lists):
+        faults.append(f"{PAGE}: not each theorem has its line `<!-- read -->`")
+    lists += [reading(all_items, all_items), kit_names(all_kit)]
+    parts = re.split(r"(<!-- (?:read|all|kit) -->\n)(?:.+\n)*", text)
+    parts[2::2] = ["\n".join([*each, parts[2 * at + 2]]) for at, each in enumerate(lists)]
+    return "".join(parts), faults
+
+
+def show(name):
+    file, text = next((file, text) for each, file, text, _ in theorems() if each == name)
+    for path, numbers in lines_by_file(closure(file, text)[0]).items():
+        lines = path.read_text().splitlines()
+        print(f"\n== {path}", *(lines[it] for it in numbers), sep="\n")
+
+
+def main():
+    what, *names = sys.argv[1:]
+    if what == "show":
+        return show(*names)
+    page, faults = made()
+    if what == "write":
+        PAGE.write_text(page)
+    elif page != PAGE.read_text():
+        faults.append(f"{PAGE}: its lists are not what the sources give: `.ci/theorems.py write`")
+    print(*faults, f"theorems: {len(faults)} faults", sep="\n")
+    return 1 if faults else 0
+
+
+if __name__ == "__main__":
+    sys.exit(main())
