@@ -15,6 +15,7 @@ sources give. It needs no program, and runs at the top of the repository.
 
 import collections
 import functools
+import itertools
 import pathlib
 import re
 import sys
@@ -187,12 +188,13 @@ def theorems():
         start = next(number for number, it in enumerate(lines) if it.strip() == head.strip())
         depth = len(lines[start]) - len(lines[start].lstrip())
         contract = lines[start : lines.index(" " * depth + "{", start)]
+        signature = itertools.takewhile(lambda it: not it.strip().startswith(("requires", "ensures")), contract)
         within = next((lines[it] for it in range(start, 0, -1) if depth and lines[it].startswith("impl")), "")
         owner = re.match(r"impl(?:<.*?>)? (\w+)", within)
         name = "::".join([*(owner.groups() if owner else []), re.search(r"fn (\w+)", head)[1]])
         wanted = {it.strip() for it in contract if it.strip().startswith("requires")} - {it.strip() for it in block}
         faults = [pages.fault_of(mark, block), *(f"leaves out {it}" for it in sorted(wanted))]
-        yield name, file, code_of([within, *block]), [f"{PAGE}:{at}: {name} {it}" for it in faults if it]
+        yield name, file, code_of([within, *signature, *block]), [f"{PAGE}:{at}: {name} {it}" for it in faults if it]
 
 
 def wrapped(text):
