@@ -179,22 +179,34 @@ def lines_by_file(items):
     return {it: sorted(lines[it]) for it in sorted(lines, key=lambda it: (order.index(it.parts[1]), str(it)))}
 
 
+def contract_of(lines, head):
+    """The contract of the call with this head: its lines up to its body, and the `impl` around it."""
+    start = next(at for at, it in enumerate(lines) if it.strip() == head)
+    depth = len(lines[start]) - len(lines[start].lstrip())
+    within = next((lines[at] for at in range(start, 0, -1) if depth and lines[at].startswith("impl")), "")
+    return [it.strip() for it in lines[start : lines.index(" " * depth + "{", start)]], within
+
+
+def required(contract):
+    """The lines of a contract that say what the call requires."""
+    inside = False
+    for line in contract:
+        inside = line.startswith("requires") or inside and bool(line) and not line.startswith(("ensures", "//"))
+        if inside:
+            yield line
+
+
 def theorems():
-    """Each theorem of the page: its call, its file, the lines of its quote, and what is wrong with them."""
+    """Each theorem of the page: its call, its file, what is cited of it, and what is wrong with its quote."""
     for at, mark, block in pages.blocks_of(PAGE):
-        file = pathlib.Path(mark.split()[2])
-        lines = file.read_text().splitlines()
-        head = next(it for it in block if re.search(r"\bfn ", it))
-        start = next(number for number, it in enumerate(lines) if it.strip() == head.strip())
-        depth = len(lines[start]) - len(lines[start].lstrip())
-        contract = lines[start : lines.index(" " * depth + "{", start)]
-        signature = itertools.takewhile(lambda it: not it.strip().startswith(("requires", "ensures")), contract)
-        within = next((lines[it] for it in range(start, 0, -1) if depth and lines[it].startswith("impl")), "")
+        file, quoted = pathlib.Path(mark.split()[2]), [it.strip() for it in block]
+        head = next(it for it in quoted if re.search(r"\bfn ", it))
+        contract, within = contract_of(file.read_text().splitlines(), head)
+        signature = itertools.takewhile(lambda it: not it.startswith(("requires", "ensures")), contract)
         owner = re.match(r"impl(?:<.*?>)? (\w+)", within)
         name = "::".join([*(owner.groups() if owner else []), re.search(r"fn (\w+)", head)[1]])
-        wanted = {it.strip() for it in contract if it.strip().startswith("requires")} - {it.strip() for it in block}
-        faults = [pages.fault_of(mark, block), *(f"leaves out {it}" for it in sorted(wanted))]
-        yield name, file, code_of([within, *signature, *block]), [f"{PAGE}:{at}: {name} {it}" for it in faults if it]
+        faults = [pages.fault_of(mark, block), *(f"leaves out {it}" for it in required(contract) if it not in quoted)]
+        yield name, file, code_of([within, *signature, *quoted]), [f"{PAGE}:{at}: {name} {it}" for it in faults if it]
 
 
 def wrapped(text):
