@@ -25,7 +25,6 @@ import pages
 
 PAGE = pathlib.Path("docs/THEOREMS.md")
 CRATES = pathlib.Path("crates")
-WIDTH = 140
 Item = collections.namedtuple("Item", "file lines text")
 HEAD = re.compile(r"(?:  )?(?:(?:abbrev|unfoldable) pub|pub (?:record|data)) (\S+)|abbrev (mutual)|pub (?!mod )(\S+)")
 TYPE = re.compile(r"(?:pub(?:\(\w+\))? )?(?:struct|enum|trait|const|type) (\w+)")
@@ -37,39 +36,27 @@ def code_of(lines):
     return re.sub(r'"(\\.|[^"\\])*"', "", "\n".join(re.sub(r"(^|\s)(--|//).*", "", it) for it in lines))
 
 
-def chunks_of(lines):
-    """The runs of lines that aren't blank: where each begins, and its lines."""
-    at = 0
-    while at < len(lines):
-        end = at
-        while end < len(lines) and lines[end].strip():
-            end += 1
-        if end > at:
-            yield at, lines[at:end]
-        at = end + 1
-
-
-def spec_names(name, chunk):
+def spec_names(name, text):
     """The names that a definition makes: its own and its constructors', or those of a group."""
-    inner = r"  pub (\S+) :" if name == "mutual" else r"  (\w+) :"
-    return {name, *re.findall(inner, "\n".join(["", *chunk]))}
+    return {name, *re.findall(r"\n  pub (\S+) :" if name == "mutual" else r"\n  (\w+) :", text)}
 
 
 @functools.cache
 def specs_of(file):
-    """The definitions of a file of specs, by name."""
-    spans = []
-    for at, chunk in chunks_of(file.read_text().splitlines()):
-        first = next((it for it in chunk if not it.lstrip().startswith(("--", "infix", "module "))), "use ")
+    """The definitions of a file of specs, by name. Each goes on to the next comment or definition after an empty line."""
+    lines, spans, found = file.read_text().splitlines(), [], {}
+    for blank, numbers in itertools.groupby(range(len(lines)), lambda it: not lines[it].strip()):
+        at, *others = numbers
+        last = others[-1] if others else at
+        first = next((it for it in lines[at : last + 1] if not it.lstrip().startswith(("--", "infix", "module "))), "use ")
         head = HEAD.match(first)
         if head:
-            spans.append((head[head.lastindex], at, list(chunk)))
-        elif spans and not first.startswith("use "):
-            spans[-1][2].extend(["", *chunk])
-    found = {}
-    for name, at, chunk in spans:
-        item = Item(file, frozenset(range(at, at + len(chunk))), code_of(chunk))
-        found.update((it, item) for it in spec_names(name, chunk))
+            spans.append([head[head.lastindex], at, last])
+        elif spans and not blank and not first.startswith("use "):
+            spans[-1][2] = last
+    for name, at, last in spans:
+        text = code_of(lines[at : last + 1])
+        found.update((it, Item(file, frozenset(range(at, last + 1)), text)) for it in spec_names(name, text))
     return found
 
 
@@ -209,8 +196,7 @@ def theorems():
         yield name, file, code_of([within, *signature, *quoted]), [f"{PAGE}:{at}: {name} {it}" for it in faults if it]
 
 
-def wrapped(text):
-    return textwrap.wrap(text, WIDTH, break_long_words=False, break_on_hyphens=False)
+wrapped = functools.partial(textwrap.wrap, width=140, break_long_words=False, break_on_hyphens=False)
 
 
 def reading(items, before):
