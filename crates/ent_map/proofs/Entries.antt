@@ -18,7 +18,7 @@ use Rattle.ent_handle.specs.Handle.{Handle, handle_cmp, handle_cmp_total}
 use Rattle.ent_handle.specs.Handle.{handle_cmp-IsAntisymmetric}
 use Rattle.ent_map.specs.HandleMap.{Values, without_slot}
 use Rattle.ent_map.specs.Slots.{value_at, slot_at, value_in, entries_from, map_of, padded}
-use Rattle.ent_map.specs.Slots.{generation_of}
+use Rattle.ent_map.specs.Slots.{count_at}
 use Rattle.ent_map.specs.declared.slot.Slot.{Slot}
 use Rattle.ent_map.specs.declared.slot.Slot.TheVariants.{Vacant, Occupied}
 
@@ -54,7 +54,7 @@ ties a b =
     is_eq-then (nat_cmp a.index b.index) (nat_cmp a.generation b.generation)
     ∙ (λ i. is_eq-nat_cmp a.index b.index i && is_eq-nat_cmp a.generation b.generation i)
 
--- of one slot
+-- of count_at slot
 ties_here : (a b : Handle) → a.index ≡ b.index → eq_by_cmp handle_cmp a b
     ≡ eqb a.generation b.generation
 ties_here a b e = ties a b ∙ ap (λ x. x && eqb a.generation b.generation) (eq-eqb a.index b.index e)
@@ -103,8 +103,9 @@ module _ {X : Type 0} where
       (ties_apart q (record { index = index; generation = generation }) (λ e. omega (arith, e)))
       ∙ find_before q (index + 1) slots (omega arith)
 
-  vacant_past : (at wanted : ℕ) → value_at (get_or {X = Slot T} [] at Vacant) wanted ≡ None
-  vacant_past at wanted = ap (λ s. value_at s wanted) (get_or_past [] at Vacant (omega arith))
+  vacant_past : (at wanted : ℕ) → value_at (slot_at {T = X} [] at) wanted ≡ None
+  vacant_past at wanted =
+      ap (λ (s : Slot X). value_at s wanted) (get_or_past [] at Vacant (omega arith))
 
   -- the first of the slots is not the one that is looked for
   later : (slot : Slot X) (slots : List (Slot X)) (q : Handle) (index : ℕ) → index < q.index
@@ -167,7 +168,7 @@ module _ {X : Type 0} where
   pub map_none : map_of {T = X} [] ≡ map.empty
   map_none = map.empty_of_len (map_of []) (len_map [])
 
-  -- ---- one slot set
+  -- ---- count_at slot set
 
   slot-set : (slots : List (Slot X)) (index : ℕ) (slot : Slot X) (at : ℕ) → index < length slots
       → (at ≡ index → slot_at (set slots index slot) at ≡ slot)
@@ -286,20 +287,15 @@ module _ {X : Type 0} where
           ap (λ s. value_at s q.generation) ((slot-set slots h.index Vacant q.index within).1 ne)
           ∙ sym (ap (λ b. cond b None (value_in slots q)) (ties_apart q h ne))
 
-  -- how many values a slot has
-  abbrev pub one : Slot X → ℕ
-  one Vacant = 0
-  one (Occupied generation value) = 1
-
   one_more : (index : ℕ) (slot : Slot X) (slots : List (Slot X))
-      → length (entries_from index (slot ∷ slots)) ≡ one slot + length (entries_from (index + 1) slots)
+      → length (entries_from index (slot ∷ slots)) ≡ count_at slot + length (entries_from (index + 1) slots)
   one_more index Vacant slots = omega arith
   one_more index (Occupied generation value) slots = omega arith
 
-  -- how many there are after one slot is set
+  -- how many there are after count_at slot is set
   pub length-set_slot : (index : ℕ) (slots : List (Slot X)) (at : ℕ) (slot : Slot X)
-      → at < length slots → length (entries_from index (set slots at slot)) + one (slot_at slots at)
-      ≡ length (entries_from index slots) + one slot
+      → at < length slots → length (entries_from index (set slots at slot)) + count_at (slot_at slots at)
+      ≡ length (entries_from index slots) + count_at slot
   length-set_slot index [] at slot within = absurd (omega arith)
   length-set_slot index (x ∷ slots) zero slot within =
       omega (arith, one_more index x slots, one_more index slot slots)
@@ -355,5 +351,5 @@ module _ {X : Type 0} where
   pairs_rising index (Occupied generation value ∷ slots) =
       AllPairs-cons (λ (a b : Handle × X). a.0.index < b.0.index)
       (record { index = index; generation = generation }, value) (entries_from (index + 1) slots)
-      (entries_after (index + 1) (index + 1) slots (omega arith))
+      (λ k d l. omega (arith, entries_after (index + 1) (index + 1) slots (omega arith) k d l))
       (pairs_rising (index + 1) slots)

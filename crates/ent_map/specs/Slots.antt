@@ -1,6 +1,6 @@
 -- The vector of slots that stands for a map.
 use Rattle.std.specs.Prelude.{◌≡◌, ℕ, ◌+◌, ◌-◌, ◌<◌, ◌^◌, ◌==◌, if◌then◌else◌, List, [], ◌∷◌, ◌++◌}
-use Rattle.std.specs.Prelude.{Bool, true, false, length, replicate, slice_index_or, Option, None, Some}
+use Rattle.std.specs.Prelude.{length, replicate, slice_index_or, Option, None, Some}
 use Rattle.std.specs.FinMap as map
 use Rattle.ent_handle.specs.Handle.{Handle}
 use Rattle.ent_map.specs.HandleMap.{Values}
@@ -13,10 +13,10 @@ module _ {T : Type 0} where
   generation_of Vacant = 0
   generation_of (Occupied generation value) = generation
 
-  -- there is no value
-  abbrev pub is_vacant : Slot T → Bool
-  is_vacant Vacant = true
-  is_vacant (Occupied generation value) = false
+  -- how many values it has
+  abbrev pub count_at : Slot T → ℕ
+  count_at Vacant = 0
+  count_at (Occupied generation value) = 1
 
   -- the value
   abbrev pub value_of : Slot T → Option T

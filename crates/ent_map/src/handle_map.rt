@@ -175,16 +175,14 @@ impl<T> HandleMap<T> {
                 why: InsertFault::Later,
             });
         }
-        if make_slot(&mut self.slots, index).is_err() {
+        let Ok(()) = make_slot(&mut self.slots, index) else {
             return Err(Uninserted {
                 value,
                 why: InsertFault::Memory,
             });
-        }
+        };
         let before = mem::replace(&mut self.slots[index], Slot::of(handle, value));
-        if before.is_vacant() {
-            self.len += 1;
-        }
+        self.len += before.lacking();
         Ok(before.into_value(handle.generation()))
     }
 

@@ -1,7 +1,7 @@
 ghost use Rattle.std.specs.Prelude.{◌≡◌, ◌+◌, ◌-◌, ◌^◌, ◌<◌, ◌≤◌, Some, OnOk, OnErr};
 ghost use Rattle.std.specs.Prelude.{IsSome, length, option_copied, vec_capacity};
 ghost use Rattle.std.specs.Borrow.{Lends, sem};
-ghost use Rattle.ent_map.specs.Slots.{generation_of, value_of, value_at, is_vacant, padded};
+ghost use Rattle.ent_map.specs.Slots.{generation_of, value_of, value_at, count_at, padded};
 
 use crate::generation::Generation;
 use ent_handle::Handle;
@@ -37,11 +37,14 @@ impl<T> Slot<T> {
         }
     }
 
-    /// Whether there is no value.
-    pub(crate) fn is_vacant(&self) -> bool
-        ensures { result ≡ is_vacant self.now }
+    /// How many values it lacks: 1 if there is none.
+    pub(crate) fn lacking(&self) -> usize
+        ensures { result + count_at self.now ≡ 1 }
     {
-        matches!(self, Slot::Vacant)
+        match self {
+            Slot::Vacant => 1,
+            Slot::Occupied { .. } => 0,
+        }
     }
 
     /// The value, if it is that of the generation.
