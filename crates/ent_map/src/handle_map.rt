@@ -146,6 +146,17 @@ impl<T> HandleMap<T> {
         Ok(())
     }
 
+    /// The handles and values, by rising slot.
+    pub fn iter(&self) -> Iter<'_, T>
+        ensures entries { result ≡ map.entries self.now.values }
+        ensures rising { AllPairs (λ a b. a.0.index < b.0.index) result }
+        ensures count { length result ≡ map.len self.now.values }
+    {
+        Iter::new(&self.slots, self.len)
+    }
+}
+
+impl<T: Drop> HandleMap<T> {
     /// Gives the handle a value, and returns the one that it had.
     ///
     /// An earlier occupant of the slot loses its value: it is dropped. So a slot never has two. It
@@ -156,8 +167,6 @@ impl<T> HandleMap<T> {
     /// The value is handed back, and nothing has changed. `Later` if a later occupant of the slot
     /// has a value; then `Memory`.
     pub fn insert(&mut self, handle: Handle, value: T) -> Result<Option<T>, Uninserted<T>>
-    where
-        T: Drop,
         ensures ok { OnOk result (self.new.values
             ≡ map.insert (without_slot self.old.values handle.index) handle value) }
         ensures before { IfOk result (λ before. before ≡ map.get self.old.values handle) }
@@ -188,8 +197,6 @@ impl<T> HandleMap<T> {
 
     /// Takes the value of the handle out, and returns it, if it has one.
     pub fn remove(&mut self, handle: Handle) -> Option<T>
-    where
-        T: Drop,
         ensures value { result ≡ map.get self.old.values handle }
         ensures map { self.new
             ≡ record self.old { values = map.remove self.old.values handle } }
@@ -204,21 +211,10 @@ impl<T> HandleMap<T> {
 
     /// Drops all values. The room stays.
     pub fn clear(&mut self)
-    where
-        T: Drop,
         ensures { self.new ≡ record self.old { values = map.empty } }
     {
         self.slots.clear();
         self.len = 0;
-    }
-
-    /// The handles and values, by rising slot.
-    pub fn iter(&self) -> Iter<'_, T>
-        ensures entries { result ≡ map.entries self.now.values }
-        ensures rising { AllPairs (λ a b. a.0.index < b.0.index) result }
-        ensures count { length result ≡ map.len self.now.values }
-    {
-        Iter::new(&self.slots, self.len)
     }
 }
 

@@ -62,11 +62,11 @@ impl<T> Slot<T> {
             }
         }
     }
+}
 
+impl<T: Drop> Slot<T> {
     /// The value, if it is that of the generation. Any other one is dropped.
     pub(crate) fn into_value(self, wanted: u32) -> Option<T>
-    where
-        T: Drop,
         ensures { result ≡ value_at self wanted }
     {
         match self {
