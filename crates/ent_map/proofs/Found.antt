@@ -143,7 +143,7 @@ module _ {X : Type 0} where
 
   -- ---- a value is put into the slot of a handle
 
-  length-entries_le : (index : ℕ) (slots : List (Slot X))
+  pub length-entries_le : (index : ℕ) (slots : List (Slot X))
       → length (entries_from index slots) ≤ length slots
   length-entries_le index [] = omega arith
   length-entries_le index (Vacant ∷ slots) = omega (arith, length-entries_le (index + 1) slots)

@@ -4,10 +4,12 @@ ghost use Rattle.std.specs.Option.{option_copied_mut};
 ghost use Rattle.std.specs.Borrow.{sem};
 ghost use Rattle.std.specs.FinMap as map;
 ghost use Rattle.ent_map.specs.HandleMap.{without_slot, HasLater, fault_of};
+ghost use Rattle.ent_map.specs.Retained.{Retains};
 ghost use Rattle.ent_map.specs.Slots.{generation_of, slot_at, value_in};
 
 use crate::fault::{InsertFault, Uninserted};
 use crate::iter::Iter;
+use crate::retaining::retain_slots;
 use crate::slot::{Slot, make_slot};
 use ent_handle::{Handle, Memory};
 use std::alloc::Global;
@@ -207,6 +209,17 @@ impl<T: Drop> HandleMap<T> {
         self.len -= 1;
         let slot = mem::replace(&mut self.slots[handle.index() as usize], Slot::Vacant);
         slot.into_value(handle.generation())
+    }
+
+    /// Calls `keep` at each value, by rising slot, and drops the values at which it returns `false`.
+    /// It may write to those that stay. The room stays.
+    pub fn retain<F: FnMut(Handle, &mut T) -> bool>(&mut self, keep: F)
+        requires { F.IsAlwaysCallable keep }
+        ensures retained { Retains F.step keep (map.entries self.old.values)
+            (map.entries self.new.values) }
+        ensures room { self.new.room ≡ self.old.room }
+    {
+        self.len = retain_slots(&mut self.slots, keep);
     }
 
     /// Drops all values. The room stays.
