@@ -207,6 +207,7 @@ const MODULES: &[Module] = &[
         ghost: GHOST_TRAITS,
     },
     module("std::mem", "core::mem", &["replace", "swap"]),
+    module("std::num", "core::num", &["NonZeroU32"]),
     module("std::sync", "crate::kit::sync", &["Arc"]),
     module(
         "std::thread",
@@ -325,6 +326,7 @@ const ASSOCIATED: &[Associated] = &[
     ("Badge", &["blank"]),
     ("Buffer", &["new"]),
     ("SmallVec", &["new"]),
+    ("NonZeroU32", &["new"]),
     ("Vec", &["new", "with_capacity"]),
     ("str", &["from_utf8"]),
     ("i64", &["MAX", "MIN", "from"]),
