@@ -28,5 +28,6 @@ pub mod MeaningOfRequests
 pub mod MeaningOfReplies
 pub mod OneReply
 pub mod Looked
+pub mod InOrder
 pub mod Histories
 pub mod RowsOfLiving

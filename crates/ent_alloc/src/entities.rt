@@ -1,6 +1,6 @@
 ghost use Rattle.std.specs.Prelude.{◌≡◌, ◌≢◌, ◌+◌, ◌-◌, ◌^◌, ◌<◌, ◌≤◌, ◌↔◌, ◌⊎◌};
 ghost use Rattle.std.specs.Prelude.{IsTrue, IfOk, OnOk, OnSome, OnErr, IsErrOf, Some, None, true, false};
-ghost use Rattle.std.specs.Prelude.{[], ◌++◌, All, length, slice_get, vec_len, vec_capacity};
+ghost use Rattle.std.specs.Prelude.{[], ◌++◌, All, AllPairs, length, slice_get, vec_len, vec_capacity};
 ghost use Rattle.std.specs.FinSet as set;
 ghost use Rattle.std.specs.FinMap as map;
 ghost use Rattle.ent_alloc.specs.Sequential.{opening, top, cursor};
@@ -12,6 +12,7 @@ ghost use Rattle.ent_alloc.specs.Entities.{HasRowsOfLiving};
 
 use crate::fault::{AllocFault, FreeFault, Freed};
 use crate::limits::Limits;
+use crate::living_handles::LivingHandles;
 use crate::requests::Requests;
 use crate::slot_record::Occupancy;
 use crate::slots::Slots;
@@ -266,6 +267,22 @@ impl Entities {
         } else {
             State::Gone
         }
+    }
+
+    /// Whether the handle is alive. It takes constant time.
+    pub fn is_alive(&self, handle: Handle) -> bool
+        ensures { result ≡ set.contains self.now.allocator.live handle }
+    {
+        self.slots.is_alive(handle)
+    }
+
+    /// The living handles, by rising slot. It takes no memory.
+    pub fn iter(&self) -> LivingHandles<'_>
+        ensures living { set.from_list result ≡ self.now.allocator.live }
+        ensures rising { AllPairs (λ g h. g.index < h.index) result }
+        ensures count { length result ≡ set.len self.now.allocator.live }
+    {
+        self.slots.occupants()
     }
 
     /// The row that a program keeps with a living entity. `None` if the handle isn't alive, or if
