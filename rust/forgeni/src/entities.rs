@@ -1,7 +1,8 @@
 //! The allocator.
 
 use crate::errors::{
-    AllocError, FreeError, OutOfMemory, RequestError, RequestManyError, Unallocated, Unshared,
+    Absent, AllocError, FreeError, OutOfMemory, RequestError, RequestManyError, Unallocated,
+    Unshared,
 };
 use crate::handle::Handle;
 use crate::kit::alloc::Global;
@@ -12,6 +13,7 @@ use crate::proved::{ent_alloc, ent_total};
 use crate::sharing::{Reserver, Shared};
 use alloc::vec::Vec;
 use core::fmt;
+use core::iter::FusedIterator;
 use core::mem;
 
 /// What became of a handle.
@@ -361,10 +363,71 @@ impl Entities {
     }
 
     /// Whether the entity is alive. It takes constant time.
+    #[doc = include_str!("proved/ent_alloc/entities.is_alive.md")]
     #[inline]
     #[must_use]
     pub fn is_alive(&self, handle: Handle) -> bool {
-        self.state(handle) == State::Alive
+        self.proved.is_alive(handle.proved())
+    }
+
+    /// The handles of the living entities, by rising slot. It takes no memory. The time is that of a
+    /// look at each slot.
+    ///
+    /// ```
+    /// use forgeni::Entities;
+    ///
+    /// let mut entities = Entities::new();
+    /// let all = entities.alloc_many(3)?;
+    /// entities.free(all[1])?;
+    /// assert!(entities.iter().eq([all[0], all[2]]));
+    /// # Ok::<(), Box<dyn std::error::Error + Send + Sync>>(())
+    /// ```
+    #[doc = include_str!("proved/ent_alloc/entities.iter.md")]
+    #[inline]
+    pub fn iter(&self) -> Living<'_> {
+        Living {
+            proved: self.proved.iter(),
+        }
+    }
+
+    /// The row that was set with a living entity: a number that a program keeps with it, as where
+    /// its components stand. `None` if the handle isn't alive, or if no row was set since it came to
+    /// life. It takes constant time.
+    #[doc = include_str!("proved/ent_alloc/entities.row.md")]
+    #[inline]
+    #[must_use]
+    pub fn row(&self, handle: Handle) -> Option<u32> {
+        self.proved.row(handle.proved())
+    }
+
+    /// Keeps a row with a living entity until it is freed, in place of the row that was set before.
+    /// It takes constant time, and no memory.
+    ///
+    /// ```
+    /// use forgeni::{Absent, Entities};
+    ///
+    /// let mut entities = Entities::new();
+    /// let one = entities.alloc()?;
+    /// entities.set_row(one, 7)?;
+    /// assert_eq!(entities.row(one), Some(7));
+    /// entities.free(one)?;
+    /// assert_eq!(entities.row(one), None);
+    /// assert_eq!(entities.set_row(one, 8), Err(Absent));
+    /// # Ok::<(), Box<dyn std::error::Error>>(())
+    /// ```
+    ///
+    /// # Errors
+    ///
+    /// [`Absent`] if the handle isn't alive, and then nothing has changed.
+    #[doc = include_str!("proved/ent_alloc/entities.set_row.md")]
+    #[inline]
+    pub fn set_row(&mut self, handle: Handle, row: u32) -> Result<(), Absent> {
+        // The proved code wants a living entity.
+        if !self.is_alive(handle) {
+            return Err(Absent);
+        }
+        self.proved.set_row(handle.proved(), row);
+        Ok(())
     }
 
     /// How many entities are alive.
@@ -440,6 +503,16 @@ impl Entities {
     }
 }
 
+impl<'a> IntoIterator for &'a Entities {
+    type Item = Handle;
+    type IntoIter = Living<'a>;
+
+    #[inline]
+    fn into_iter(self) -> Living<'a> {
+        self.iter()
+    }
+}
+
 impl Default for Entities {
     fn default() -> Self {
         Self::new()
@@ -454,6 +527,37 @@ impl fmt::Debug for Entities {
             .field("waiting", &self.waiting())
             .field("retired", &self.retired())
             .field("reserved", &self.reserved())
+            .finish_non_exhaustive()
+    }
+}
+
+/// The handles of the living entities, by rising slot: [`Entities::iter`] makes it.
+pub struct Living<'a> {
+    proved: ent_alloc::LivingHandles<'a>,
+}
+
+impl Iterator for Living<'_> {
+    type Item = Handle;
+
+    #[inline]
+    fn next(&mut self) -> Option<Handle> {
+        self.proved.next().map(Handle::of)
+    }
+
+    #[inline]
+    fn size_hint(&self) -> (usize, Option<usize>) {
+        self.proved.size_hint()
+    }
+}
+
+impl ExactSizeIterator for Living<'_> {}
+
+impl FusedIterator for Living<'_> {}
+
+impl fmt::Debug for Living<'_> {
+    fn fmt(&self, out: &mut fmt::Formatter<'_>) -> fmt::Result {
+        out.debug_struct("Living")
+            .field("len", &self.len())
             .finish_non_exhaustive()
     }
 }

@@ -50,7 +50,12 @@
 //! ```
 //!
 //! While the allocator is shared it is inside the [`Shared`], so nothing but reservations can
-//! happen: `alloc`, `free` and `state` don't compile.
+//! happen: `alloc`, `free` and `state` don't compile. What lived as the phase was opened is told all
+//! the while ([`Shared::is_alive`], [`Shared::row`]).
+//!
+//! [`Entities::phase`] does both on a borrow: it lends the allocator to a closure, and has it back at
+//! the end. Task systems, where it isn't known before who runs a task, lend reservers from a pool
+//! (`Reservers`).
 //!
 //! # Worlds and frames
 //!
@@ -156,7 +161,7 @@ mod world;
 
 pub use commands::{CommandQueue, Commands, SpawnError};
 pub use component::{Birth, ComponentId};
-pub use entities::{Entities, Freed, State};
+pub use entities::{Entities, Freed, Living, State};
 pub use errors::{Absent, AllocError, BornError, CloseError, FreeError, InsertError, OtherPhase};
 pub use errors::{OutOfMemory, Refused, RequestError, RequestManyError, ShareError};
 pub use errors::{Unallocated, Unclosed, Unshared};

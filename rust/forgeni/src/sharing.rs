@@ -99,6 +99,39 @@ impl Shared {
         self.proved.at_home()
     }
 
+    /// Whether the entity was alive as the phase was opened. It stays so until the close: what is
+    /// reserved comes to life after it, and nothing is freed before. Any thread may ask, and it
+    /// takes constant time.
+    ///
+    /// ```
+    /// use forgeni::Entities;
+    ///
+    /// let mut entities = Entities::new();
+    /// let old = entities.alloc()?;
+    /// entities.set_row(old, 3)?;
+    /// entities.phase(1, |shared, reservers| {
+    ///     let new = reservers[0].reserve().expect("a handle");
+    ///     assert!(shared.is_alive(old) && !shared.is_alive(new));
+    ///     assert_eq!((shared.row(old), shared.row(new)), (Some(3), None));
+    /// })?;
+    /// # Ok::<(), Box<dyn std::error::Error + Send + Sync>>(())
+    /// ```
+    #[doc = include_str!("proved/ent_total/phase.is_alive.md")]
+    #[inline]
+    #[must_use]
+    pub fn is_alive(&self, handle: Handle) -> bool {
+        self.proved.is_alive(handle.proved())
+    }
+
+    /// The row that was set with the entity ([`Entities::set_row`]), as the phase was opened. `None`
+    /// if it was not alive then, or had none. Any thread may ask, and it takes constant time.
+    #[doc = include_str!("proved/ent_total/phase.row.md")]
+    #[inline]
+    #[must_use]
+    pub fn row(&self, handle: Handle) -> Option<u32> {
+        self.proved.row(handle.proved())
+    }
+
     /// One of the reservers that are at home, or `None` if none is. It takes no memory.
     ///
     /// # Errors
@@ -284,6 +317,22 @@ impl Reserver {
     #[inline]
     pub fn meet(&mut self, other: &mut Reserver) -> Result<(), OtherPhase> {
         self.proved.meet(&mut other.proved).map_err(|_| OtherPhase)
+    }
+
+    /// Whether the entity was alive as the phase was opened, as [`Shared::is_alive`] tells it.
+    #[doc = include_str!("proved/ent_total/caller.is_alive.md")]
+    #[inline]
+    #[must_use]
+    pub fn is_alive(&self, handle: Handle) -> bool {
+        self.proved.is_alive(handle.proved())
+    }
+
+    /// The row of the entity as the phase was opened, as [`Shared::row`] tells it.
+    #[doc = include_str!("proved/ent_total/caller.row.md")]
+    #[inline]
+    #[must_use]
+    pub fn row(&self, handle: Handle) -> Option<u32> {
+        self.proved.row(handle.proved())
     }
 
     /// Which of the reservers it is: its position in the list that [`Entities::share`] gave, from

@@ -46,6 +46,46 @@ fn a_phase_that_is_refused() {
     assert_eq!((entities.reserved(), entities.len()), (1, 1));
 }
 
+/// What lived as the phase was opened is told to every thread, whatever is reserved meanwhile.
+#[test]
+fn what_lives_in_a_phase() {
+    let mut entities = small(300, 9);
+    let all = entities.alloc_many(200).expect("memory");
+    for (row, one) in (0..).zip(&all) {
+        entities.set_row(*one, row).expect("alive");
+    }
+    for one in all.iter().step_by(2) {
+        entities.free(*one).expect("alive");
+    }
+    let bare = entities.alloc().expect("a slot");
+    let living: HashSet<Handle> = entities.iter().collect();
+    entities
+        .phase(4, |shared, reservers| {
+            std::thread::scope(|scope| {
+                for one in reservers {
+                    scope.spawn(|| {
+                        let new = one.reserve_many(40).expect("room");
+                        assert!(new.iter().all(|new| !shared.is_alive(*new)));
+                        for (row, old) in (0..).zip(&all) {
+                            let lives = living.contains(old);
+                            assert_eq!(shared.is_alive(*old), lives);
+                            assert_eq!(one.is_alive(*old), lives);
+                            assert_eq!(shared.row(*old), lives.then_some(row));
+                            assert_eq!(one.row(*old), lives.then_some(row));
+                        }
+                        assert!(shared.is_alive(bare) && shared.row(bare).is_none());
+                        assert!(!shared.is_alive(Handle::PLACEHOLDER));
+                    });
+                }
+            });
+        })
+        .expect("shared");
+    entities.flush().expect("memory");
+    assert_eq!(entities.len() as usize, living.len() + 160);
+    assert!(living.iter().all(|one| entities.is_alive(*one)));
+    assert_eq!(entities.row(all[5]), Some(5));
+}
+
 /// The closure ends early. What was reserved until then counts.
 #[test]
 fn an_early_end() {

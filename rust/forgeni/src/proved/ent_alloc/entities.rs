@@ -3,6 +3,7 @@
 use crate::kit::vec::Vec;
 use crate::proved::ent_alloc::fault::{AllocFault, FreeFault, Freed};
 use crate::proved::ent_alloc::limits::Limits;
+use crate::proved::ent_alloc::living_handles::LivingHandles;
 use crate::proved::ent_alloc::requests::Requests;
 use crate::proved::ent_alloc::slot_record::Occupancy;
 use crate::proved::ent_alloc::slots::Slots;
@@ -256,6 +257,24 @@ impl Entities {
         } else {
             State::Gone
         }
+    }
+
+    /// Whether the handle is alive. It takes constant time.
+    #[inline]
+    pub fn is_alive(&self, handle: Handle) -> bool
+        // ensures { result ≡ set.contains self.now.allocator.live handle }
+    {
+        self.slots.is_alive(handle)
+    }
+
+    /// The living handles, by rising slot. It takes no memory.
+    #[inline]
+    pub fn iter(&self) -> LivingHandles<'_>
+        // ensures living { set.from_list result ≡ self.now.allocator.live }
+        // ensures rising { AllPairs (λ g h. g.index < h.index) result }
+        // ensures count { length result ≡ set.len self.now.allocator.live }
+    {
+        self.slots.occupants()
     }
 
     /// The row that a program keeps with a living entity. `None` if the handle isn't alive, or if
