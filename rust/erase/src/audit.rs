@@ -107,6 +107,11 @@ impl Audit<'_> {
             "impl" => self.ghost_impl_end(),
             "#" => self.ghost_attribute_end(),
             "use" => self.ghost_import_end(),
+            "where" if source.has(at + 2, &[":", "Drop", ","]) => {
+                let next = source.at(at + 5);
+                let is_only = next == "{" || forms::CLAUSES.contains(&next);
+                is_only.then_some(at + 5)
+            }
             ":" if starts(&[":", "Drop", "+"]) => None,
             ":" | "+" if starts(&[":", "Drop"]) || starts(&["+", "Drop"]) => Some(at + 2),
             "Drop" if starts(&["Drop", "+"]) => Some(at + 2),

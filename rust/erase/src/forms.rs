@@ -251,6 +251,7 @@ const MODULES: &[Module] = &[
         ghost: GHOST_TRAITS,
     },
     module("std::mem", "core::mem", &["replace", "swap"]),
+    module("std::num", "core::num", &["NonZeroU32"]),
     module("std::sync", "crate::kit::sync", &["Arc"]),
     module(
         "std::thread",
@@ -368,6 +369,7 @@ const ASSOCIATED: &[Associated] = &[
     ("Table", &["of_words"]),
     ("Badge", &["blank"]),
     ("Buffer", &["new"]),
+    ("NonZeroU32", &["new"]),
     ("SmallVec", &["new"]),
     ("Vec", &["new", "with_capacity"]),
     ("str", &["from_utf8"]),

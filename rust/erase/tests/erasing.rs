@@ -156,6 +156,14 @@ fn drop_in_bounds() {
         "struct A<T: B + Drop + C>(T);\n",
         "struct A<T: B + C>(T);\n",
     );
+    gives(
+        "fn a<T>(b: T) -> u8\nwhere\n    T: Drop,\n    ensures { c }\n{\n    1\n}\n",
+        "#[inline]\nfn a<T>(b: T) -> u8\n    // ensures { c }\n{\n    1\n}\n",
+    );
+    gives(
+        "fn a<T>(b: T)\nwhere\n    T: Drop,\n{\n    c();\n}\n",
+        "#[inline]\nfn a<T>(b: T)\n{\n    c();\n}\n",
+    );
 }
 
 #[test]
