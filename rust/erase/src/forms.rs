@@ -371,6 +371,7 @@ const ASSOCIATED: &[Associated] = &[
     ("Buffer", &["new"]),
     ("NonZeroU32", &["new"]),
     ("SmallVec", &["new"]),
+    ("NonZeroU32", &["new"]),
     ("Vec", &["new", "with_capacity"]),
     ("str", &["from_utf8"]),
     ("i64", &["MAX", "MIN", "from"]),

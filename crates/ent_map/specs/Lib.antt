@@ -1,0 +1,3 @@
+pub mod HandleMap
+pub mod Slots
+pub mod Lends
