@@ -155,6 +155,7 @@ pub const CONSTANTS: &[(&str, &str, &str)] = &[
     ("ent_alloc", "limits.rt", "new"),
     ("ent_alloc", "requests.rt", "none"),
     ("ent_alloc", "slots.rt", "new"),
+    ("ent_map", "handle_map.rt", "new"),
 ];
 
 /// Whether this function of a file of this crate is one of them.
@@ -371,7 +372,6 @@ const ASSOCIATED: &[Associated] = &[
     ("Buffer", &["new"]),
     ("NonZeroU32", &["new"]),
     ("SmallVec", &["new"]),
-    ("NonZeroU32", &["new"]),
     ("Vec", &["new", "with_capacity"]),
     ("str", &["from_utf8"]),
     ("i64", &["MAX", "MIN", "from"]),

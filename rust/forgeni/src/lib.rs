@@ -132,6 +132,7 @@ mod frame_queues;
 #[cfg(feature = "std")]
 mod frames;
 mod handle;
+pub mod handle_map;
 #[allow(dead_code, missing_docs, unreachable_pub)]
 mod kit;
 mod lent;
@@ -168,6 +169,7 @@ pub use errors::{Unallocated, Unclosed, Unshared};
 #[cfg(feature = "std")]
 pub use frames::{run_frame, FrameError};
 pub use handle::{Handle, ParseHandleError};
+pub use handle_map::{HandleMap, InsertionError, Uninserted};
 pub use lent::Lent;
 pub use limits::Limits;
 pub use open_world::{FinishError, OpenError, OpenWorld, Unfinished, Unopened};

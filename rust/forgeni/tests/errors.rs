@@ -2,10 +2,11 @@
 
 use forgeni::{
     Absent, AllocError, BornError, CloseError, CommandQueue, Commands, ComponentId, Entities,
-    Fault, FinishError, FreeError, Freed, GoOnError, Handle, InsertError, Lent, Limits, OpenError,
-    OpenWorld, OtherPhase, OutOfMemory, ParseHandleError, Queues, Refused, Report, RequestError,
-    RequestManyError, Reserver, ShareError, Shared, SpawnError, State, Stopped, Storage, SyncError,
-    SyncErrorKind, Unallocated, Unclosed, Unfinished, Unopened, Unshared, World,
+    Fault, FinishError, FreeError, Freed, GoOnError, Handle, HandleMap, InsertError,
+    InsertionError, Lent, Limits, OpenError, OpenWorld, OtherPhase, OutOfMemory, ParseHandleError,
+    Queues, Refused, Report, RequestError, RequestManyError, Reserver, ShareError, Shared,
+    SpawnError, State, Stopped, Storage, SyncError, SyncErrorKind, Unallocated, Unclosed,
+    Unfinished, Uninserted, Unopened, Unshared, World,
 };
 use std::error::Error;
 
@@ -23,6 +24,8 @@ fn each_error_travels() {
     travels::<FinishError>();
     travels::<FreeError>();
     travels::<GoOnError>();
+    travels::<InsertionError>();
+    travels::<Uninserted<String>>();
     travels::<InsertError>();
     travels::<OpenError>();
     travels::<OtherPhase>();
@@ -51,6 +54,7 @@ fn each_type_is_send_and_sync() {
     shared_by_threads::<(Entities, Shared, Reserver, Lent<'_>)>();
     shared_by_threads::<(World, OpenWorld, Commands, CommandQueue, Queues)>();
     shared_by_threads::<(Storage, Report, Fault, Stopped)>();
+    shared_by_threads::<HandleMap<String>>();
     #[cfg(feature = "std")]
     shared_by_threads::<(forgeni::Reservers, forgeni::Reservers<Lent<'_>>)>();
 }
