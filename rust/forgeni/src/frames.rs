@@ -170,8 +170,6 @@ impl<S: System> ent_runner::System for Guarded<'_, S> {
 }
 
 /// Why a frame didn't do all.
-///
-/// Like the queues it isn't `Sync`.
 #[derive(Debug)]
 pub enum FrameError {
     /// Handles were requested since the last flush. No system ran, and the world is as it was.

@@ -15,8 +15,8 @@
 //! assert_eq!(entities.len(), 2);
 //!
 //! entities.free(first)?;
-//! assert!(!entities.contains(first));
-//! assert!(entities.contains(second));
+//! assert!(!entities.is_alive(first));
+//! assert!(entities.is_alive(second));
 //!
 //! // The slot is used again, by a handle of the next generation.
 //! assert_eq!(entities.alloc()?.to_string(), "0v2");
@@ -50,7 +50,12 @@
 //! ```
 //!
 //! While the allocator is shared it is inside the [`Shared`], so nothing but reservations can
-//! happen: `alloc`, `free` and `state` don't compile.
+//! happen: `alloc`, `free` and `state` don't compile. What lived as the phase was opened is told all
+//! the while ([`Shared::is_alive`], [`Shared::row`]).
+//!
+//! [`Entities::phase`] does both on a borrow: it lends the allocator to a closure, and has it back at
+//! the end. Task systems, where it isn't known before who runs a task, lend reservers from a pool
+//! (`Reservers`).
 //!
 //! # Worlds and frames
 //!
@@ -79,11 +84,11 @@
 //! - Memory runs out: an `Err`. Nothing has changed then, but where a sync point stopped
 //!   ([`Stopped`]) or a frame is lost.
 //!
-//! Nothing panics. Where Rust has no form that can be refused memory, the process ends, as it does
-//! of `Vec` and `Arc`:
+//! Nothing panics, but for a pool without reservers (`Reservers::with`). Where Rust has no form
+//! that can be refused memory, the process ends, as it does of `Vec` and `Arc`:
 //!
 //! - [`Report::born`], [`Report::faults`], [`Storage::items`] and [`World::items`] make a list.
-//! - [`Entities::share`] and [`World::open`] make an `Arc`. They ask for as much memory before, and
+//! - [`Entities::share`], [`Entities::phase`] and [`World::open`] make an `Arc`. They ask for as much memory before, and
 //!   say so if it is refused. So only another thread can take it in between.
 //! - A close after one that was refused with [`CloseError::InUse`] may make a list.
 //! - `run_frame` with more than one worker starts threads.
@@ -127,16 +132,21 @@ mod frame_queues;
 #[cfg(feature = "std")]
 mod frames;
 mod handle;
+pub mod handle_map;
 #[allow(dead_code, missing_docs, unreachable_pub)]
 mod kit;
+mod lent;
 mod limits;
 mod lists;
 mod numbers;
 mod open_world;
+mod phase;
 #[rustfmt::skip]
 #[allow(missing_docs)]
 mod proved;
 mod report;
+#[cfg(feature = "std")]
+mod reservers;
 #[cfg(test)]
 mod room;
 mod sharing;
@@ -146,24 +156,26 @@ mod sync;
 mod system;
 #[cfg(feature = "std")]
 mod system_commands;
-mod unsync;
 #[cfg(feature = "std")]
 mod view;
 mod world;
 
 pub use commands::{CommandQueue, Commands, SpawnError};
 pub use component::{Birth, ComponentId};
-pub use entities::{Entities, Freed, State};
-pub use errors::{Absent, BornError, InsertError, ShareError, Unclosed, Unshared};
-pub use errors::{
-    AllocError, CloseError, FreeError, OtherPhase, OutOfMemory, Refused, RequestError,
-};
+pub use entities::{Entities, Freed, Living, State};
+pub use errors::{Absent, AllocError, BornError, CloseError, FreeError, InsertError, OtherPhase};
+pub use errors::{OutOfMemory, Refused, RequestError, RequestManyError, ShareError};
+pub use errors::{Unallocated, Unclosed, Unshared};
 #[cfg(feature = "std")]
 pub use frames::{run_frame, FrameError};
-pub use handle::Handle;
+pub use handle::{Handle, ParseHandleError};
+pub use handle_map::{HandleMap, InsertionError, Uninserted};
+pub use lent::Lent;
 pub use limits::Limits;
 pub use open_world::{FinishError, OpenError, OpenWorld, Unfinished, Unopened};
 pub use report::{Fault, FaultKind, Report};
+#[cfg(feature = "std")]
+pub use reservers::{Lends, Reservers};
 pub use sharing::{Reserver, Shared};
 pub use storage::Storage;
 pub use sync::{GoOnError, Queues, Stopped, SyncError, SyncErrorKind};

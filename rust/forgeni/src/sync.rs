@@ -4,7 +4,6 @@ use crate::frame_queues::{FrameQueues, Held};
 use crate::proved::ent_total::{self, NumberedWorld, Stop, Unapplied, Ungone};
 use crate::proved::ent_world::SyncReport;
 use crate::report::Report;
-use crate::unsync::Unsync;
 use crate::world::World;
 use core::error::Error;
 use core::fmt;
@@ -13,7 +12,6 @@ use core::fmt;
 /// the world whose phase it was.
 pub struct Queues {
     kept: Kept,
-    _unsync: Unsync,
 }
 
 /// Whose queues they are.
@@ -28,10 +26,7 @@ impl Queues {
     }
 
     fn kept(kept: Kept) -> Self {
-        Self {
-            kept,
-            _unsync: Unsync::NEW,
-        }
+        Self { kept }
     }
 
     /// The sync point of these queues.
@@ -49,8 +44,7 @@ impl fmt::Debug for Queues {
     }
 }
 
-/// Why a sync point didn't do all, without the queues that [`SyncError`] and [`GoOnError`] have. It
-/// is `Sync`, for a box of errors that wants that.
+/// Why a sync point didn't do all, without the queues that [`SyncError`] and [`GoOnError`] have.
 #[derive(Clone, Copy, Debug, PartialEq, Eq, Hash)]
 pub enum SyncErrorKind {
     /// The queues are of another world.
@@ -84,8 +78,6 @@ impl fmt::Display for SyncErrorKind {
 impl Error for SyncErrorKind {}
 
 /// Why a sync point didn't do all.
-///
-/// Like the queues it isn't `Sync`. Its [`kind`](Self::kind) is.
 #[derive(Debug)]
 pub enum SyncError {
     /// The queues are of a phase of another world. Nothing was done, and these are the queues.
@@ -104,6 +96,17 @@ impl SyncError {
             Self::OtherWorld(_) => SyncErrorKind::OtherWorld,
             Self::Memory(_) => SyncErrorKind::Memory,
             Self::Stopped(stopped) => stopped.kind(),
+        }
+    }
+
+    /// What it hands back, and which of them it is: the queues if nothing was done, and else where
+    /// it stopped.
+    #[must_use]
+    pub fn into_parts(self) -> (Result<Queues, Stopped>, SyncErrorKind) {
+        let kind = self.kind();
+        match self {
+            Self::OtherWorld(queues) | Self::Memory(queues) => (Ok(queues), kind),
+            Self::Stopped(stopped) => (Err(stopped), kind),
         }
     }
 }
@@ -234,8 +237,6 @@ impl fmt::Debug for Stopped {
 }
 
 /// Why a sync point that went on didn't do all.
-///
-/// Like the queues it isn't `Sync`. Its [`kind`](Self::kind) is.
 #[derive(Debug)]
 pub enum GoOnError {
     /// It stopped in another world. Nothing has changed.
@@ -280,6 +281,18 @@ impl GoOnError {
             Self::NeedsFlush(_) => SyncErrorKind::NeedsFlush,
             Self::Memory(_) => SyncErrorKind::Memory,
             Self::Stopped(stopped) => stopped.kind(),
+        }
+    }
+
+    /// Where it stopped, to go on from there, and which of them it is.
+    #[must_use]
+    pub fn into_parts(self) -> (Stopped, SyncErrorKind) {
+        let kind = self.kind();
+        match self {
+            Self::OtherWorld(stopped)
+            | Self::NeedsFlush(stopped)
+            | Self::Memory(stopped)
+            | Self::Stopped(stopped) => (stopped, kind),
         }
     }
 }

@@ -18,7 +18,7 @@ pub(super) struct Slots {
 
 impl Slots {
     #[inline]
-    pub(super) fn new(alloc: Global, limits: Limits) -> Self
+    pub(super) const fn new(alloc: Global, limits: Limits) -> Self
         // ensures value { result ≡ record {
         //   limits = limits;
         //   live = set.empty;

@@ -20,7 +20,7 @@ pub struct HandleMap<T> {
 impl<T> HandleMap<T> {
     /// A map without values. It takes no memory.
     #[inline]
-    pub fn new(alloc: Global) -> Self
+    pub const fn new(alloc: Global) -> Self
         // ensures { result ≡ record { values = map.empty; room = 0 } }
     {
         HandleMap {
