@@ -1,3 +1,5 @@
+use Rattle.std.proofs.Common.{arith}
+use Rattle.std.proofs.lemmas.Int.{ints}
 use Rattle.ent_world.specs.World.{IsWorld}
 use Rattle.ent_world.proofs.Living.{keys-empty}
 use Rattle.ent_world.proofs.PlacedRows.{rows-empty}
@@ -20,6 +22,7 @@ pub invariant_of-result : goal.invariant_of-result
 invariant_of-result c = record {
   world = begun (goal.at.invariant_of-result c).After-new;
   rows = rw (c.new-entities.ensures.rows, c.new.ensures.places, c.new.ensures.entities) rows-empty;
+  room = omega (arith, ints, c.cursor.ensures.value, c.new-entities.ensures.allocator);
 }
 
 pub returns-clause-world : goal.returns-clause-world
