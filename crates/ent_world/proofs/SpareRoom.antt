@@ -12,9 +12,14 @@ use Rattle.ent_alloc.specs.Sound.{IsSound}
 use Rattle.ent_alloc.specs.History.{Call, after_history, requests_of}
 use Rattle.ent_alloc.proofs.Histories.{after_history-takes}
 use Rattle.ent_alloc.proofs.PoolLaw.{top-after_takes}
+use Rattle.ent_alloc.proofs.Retired.{retired-rest}
 use Rattle.ent_alloc.proofs.Soundness.{after_flush-sound, after_alloc-sound, after_free-sound}
 use Rattle.ent_alloc.proofs.Taken.{length-available, made-after_flush}
 use Rattle.ent_shared.specs.Phase.{after_loss}
+
+-- where no slot was made, none waits
+pub none_made : (s : Allocator) (spare : ℕ) → IsSound s → s.made ≡ 0 → top s ≤ spare
+none_made s spare sound none = let rest = retired-rest s sound in omega (arith, rest, none)
 
 -- a flush takes old handles first
 pub top-after_flush : (s : Allocator) → IsSound s → top (after_flush s) ≡ top s - length s.taken
@@ -75,7 +80,18 @@ top-after_alloc s h rest sound flushed pool = by_test (is_old s.made h) refl
               let none : top s ≡ 0 = none_waits s h rest (filter (is_old s.made) (available s)) all
               sound.order (filter_passes (is_old s.made) (available s)) new in
               omega (
-                arith, before, left, one, less, whole, half, whole_left, half_left, most, made, none,
+                arith,
+                before,
+                left,
+                one,
+                less,
+                whole,
+                half,
+                whole_left,
+                half_left,
+                most,
+                made,
+                none,
               )
         ] made is
 
@@ -97,7 +113,7 @@ room-after_alloc s h spare left sound flushed first room less =
     ]
   where
     some_or_none : (n : ℕ) → (0 < n) ⊎ (n ≡ 0)
-    some_or_none 0 = inr refl
+    some_or_none zero = inr refl
     some_or_none (suc n) = inl (omega arith)
 
 -- the place of one that came and went is there again

@@ -25,8 +25,11 @@ pub invariant_of-result : goal.invariant_of-result
 invariant_of-result c = record {
   world = closed (goal.at.invariant_of-result c).After-close;
   rows = rw c.close.ensures.rows c.self.invariant.rows;
-  room = rw (c.close.ensures.after, top-after_history c.self.inside.shared.start
-      (history_of (records_of c.args.reservers.items)) c.self.invariant.world.world.sound)
+  room = rw (
+    c.close.ensures.after,
+    top-after_history c.self.inside.shared.start
+        (history_of (records_of c.args.reservers.items)) c.self.invariant.world.world.sound,
+  )
       c.self.invariant.room;
 }
 

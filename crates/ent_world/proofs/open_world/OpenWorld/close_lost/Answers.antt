@@ -14,7 +14,10 @@ invariant_of-result c =
       world = rw c.close_lost.ensures.after (after_loss-world c.close_lost.result.allocator.asked w
           c.self.invariant.world.world c.self.invariant.world.flushed);
       rows = rw c.close_lost.ensures.rows c.self.invariant.rows;
-      room = rw (c.close_lost.ensures.after, top-after_loss c.self.inside.shared.start
-          c.close_lost.result.allocator.asked c.self.invariant.world.world.sound
-          c.self.invariant.world.flushed) c.self.invariant.room;
+      room = rw (
+        c.close_lost.ensures.after,
+        top-after_loss c.self.inside.shared.start
+            c.close_lost.result.allocator.asked c.self.invariant.world.world.sound
+            c.self.invariant.world.flushed,
+      ) c.self.invariant.room;
     }
