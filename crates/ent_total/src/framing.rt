@@ -4,10 +4,9 @@ ghost use Rattle.std.specs.Prelude.{IfOk, IfErr, OnOk};
 ghost use Rattle.ent_alloc.specs.History.{Call};
 ghost use Rattle.ent_runner.specs.Frame.{Ends, EndsInOrder, IsBrokenOff, IsLost, StopsAt, reserved_by};
 ghost use Rattle.ent_world.specs.Memory.{TakesMemoryAt};
-ghost use Rattle.ent_world.specs.Sync.{IsStop};
 ghost use Rattle.ent_world.specs.declared.fault.SyncFault.TheVariants.{FlushMemory};
 ghost use Rattle.ent_total.specs.Faults.{IsErrWith};
-ghost use Rattle.ent_total.specs.Framing.{IsUnflushed, IsNoCrew, IsTooManySystems, IsMemory};
+ghost use Rattle.ent_total.specs.Framing.{IsUnflushed, IsNoCrew, IsTooManySystems};
 ghost use Rattle.ent_total.specs.Framing.{IsLostFrame, IsUnbegun, IfHeld, IfStoppedAt, HasStop, held};
 
 use crate::numbered_world::NumberedWorld;
