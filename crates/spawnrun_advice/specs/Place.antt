@@ -1,17 +1,18 @@
 -- What stands where a test of a script failed, and how it is shown.
 use Rattle.std.specs.Prelude.{◌≡◌, ℕ, ◌≤◌, false, ◌||◌, ◌==◌, List, [], ◌∷◌, ◌++◌, Some, codes}
 use Rattle.std.specs.Prelude.{if◌then◌else◌, length, Option, None, IfSome, unwrap_or}
-use Rattle.std.specs.Prelude.{option_and_then, option_map}
+use Rattle.std.specs.Prelude.{Bool, is_none, not, option_and_then, option_map, slice_get}
 use Rattle.std.specs.Option.{option_or}
 use Rattle.std.specs.Fmt.{decimal}
-use Rattle.std.specs.List.{flat_map}
-use Rattle.std.specs.Str.{chars}
+use Rattle.std.specs.List.{filter, flat_map, list_any}
+use Rattle.std.specs.Str.{bytes_eq, chars}
 use Rattle.serde_json.specs.Data.{Data, depth}
 use Rattle.serde_json.specs.Find.{at, get}
 use Rattle.serde_json.specs.Read.{read, max_depth}
 use Rattle.serde_json.specs.View.{view}
 use Rattle.serde_json.specs.Written.{compact_text, has_float}
-use Rattle.ent_script.specs.Json.{elements}
+use Rattle.ent_script.specs.Json.{elements, members, whole}
+use Rattle.ent_script.specs.Reading.{script_keys}
 use Rattle.ent_script.specs.declared.Cause.{Cause}
 use Rattle.ent_script.specs.declared.Cause.TheVariants as cause
 use Rattle.ent_script.specs.declared.ReadFault.{ReadFault}
@@ -99,12 +100,33 @@ target_in d = option_or (get (codes "on") d) (get (codes "despawn") d)
 abbrev pub under : List ℕ → Data → Option Data
 under name d = option_and_then (get name) (target_in d)
 
+-- it is one of these
+abbrev pub is_among : List (List ℕ) → List ℕ → Bool
+is_among known text = list_any (λ name. bytes_eq text name) known
+
+-- the first of these members whose key is none that is known
+abbrev pub key_but : (List ℕ → Bool) → List (List ℕ × Data) → Option (List ℕ)
+key_but is_known ms = option_map (λ m. m.0) (slice_get (filter (λ m. not (is_known m.0)) ms) 0)
+
+abbrev pub key_place : Option (List ℕ) → Place
+key_place None = absent
+key_place (Some k) = key k
+
+-- the first of these members whose value is no whole number
+abbrev pub unwhole_in : List (List ℕ × Data) → Option (List ℕ × Data)
+unwhole_in ms = slice_get (filter (λ m. is_none (whole m.1)) ms) 0
+
+abbrev pub member_place : Option (List ℕ × Data) → Place
+member_place None = absent
+member_place (Some m) = member m.0 m.1
+
 -- the place of a cause in an operation; none if the cause is that of one of several members
 abbrev pub operation_place : Data → Cause → Option Place
 operation_place d cause.Shape = Some (refused d)
 operation_place d cause.Bundle = Some (at_place (bundle_in d))
 operation_place d cause.Component = None
-operation_place d cause.Value = None
+operation_place d cause.Value =
+    Some (member_place (option_and_then unwhole_in (option_and_then members (bundle_in d))))
 operation_place d cause.Count = Some (at_place (get (codes "spawn_many") d))
 operation_place d cause.Name =
     Some (at_place (option_or (get (codes "as") d) (under (codes "name") d)))
@@ -115,7 +137,8 @@ operation_place d cause.Birth = Some (at_place (under (codes "birth") d))
 -- the place of a cause outside the frames; none if it is that of one of several keys or names
 abbrev pub script_place : Data → ScriptCause → Option Place
 script_place d script_cause.Top = Some (refused d)
-script_place d script_cause.Key = None
+script_place d script_cause.Key =
+    Some (key_place (option_and_then (key_but (is_among script_keys)) (members d)))
 script_place d script_cause.Format = Some (at_place (get (codes "format") d))
 script_place d script_cause.Slots = Some (at_place (get (codes "slots") d))
 script_place d script_cause.Generations = Some (at_place (get (codes "generations") d))

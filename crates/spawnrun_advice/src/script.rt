@@ -9,6 +9,7 @@ ghost use Rattle.spawnrun_advice.specs.Place.{operation_place, place_of, script_
 ghost use Rattle.spawnrun_advice.specs.Place.{target_in, under};
 ghost use Rattle.spawnrun_advice.specs.Shown.{ArePrintable, front, plain};
 
+use crate::first::{unknown_key, unwhole_member};
 use crate::found::{Found, with, with_number};
 use crate::part::Part;
 use crate::shown::{Shown, text_shown};
@@ -188,29 +189,6 @@ fn script_part(script: &Value, cause: ScriptCause) -> Part<'_>
     }
 }
 
-// The first key that is not one of a script's.
-fn unknown_key(script: &Value) -> Part<'_> {
-    let known = ["format", "slots", "generations", "components", "frames"];
-    match script
-        .as_object()
-        .and_then(|members| first_key(members, &known))
-    {
-        Some(key) => Part::Key(key),
-        None => Part::Absent,
-    }
-}
-
-// The first key that is none of these.
-fn first_key<'a>(members: &'a Map<String, Value>, known: &[&str]) -> Option<&'a str> {
-    for key in members.keys() {
-        let key = key.as_str();
-        if !known.iter().any(|name| *name == key) {
-            return Some(key);
-        }
-    }
-    None
-}
-
 // The components, if they are too many, or the first that is no name or that an earlier one is too.
 fn components_part(components: Option<&Value>) -> Part<'_> {
     let Some(list) = components.and_then(Value::as_array) else {
@@ -256,7 +234,7 @@ fn operation_part<'a>(script: &'a Value, operation: &'a Value, cause: Cause) -> 
         Cause::Count => Part::of(operation.get("spawn_many")),
         Cause::Bundle => Part::of(bundle_part(operation)),
         Cause::Component => component_part(script, operation),
-        Cause::Value => value_part(operation),
+        Cause::Value => unwhole_member(bundle_part(operation)),
         Cause::Name => Part::of(operation.get("as").or(target_at(operation, "name"))),
         Cause::Target => Part::of(target_of(operation)),
         Cause::Handle => Part::of(target_at(operation, "handle")),
@@ -317,17 +295,4 @@ fn unlisted_key<'a>(members: &'a Map<String, Value>, listed: &[Value]) -> Option
         }
     }
     None
-}
-
-// The first member of the bundle whose value is no whole number.
-fn value_part(operation: &Value) -> Part<'_> {
-    let Some(members) = bundle_part(operation).and_then(Value::as_object) else {
-        return Part::Absent;
-    };
-    for (key, value) in members {
-        if !value.is_i64() {
-            return Part::Member(key.as_str(), value);
-        }
-    }
-    Part::Absent
 }

@@ -127,8 +127,6 @@ mod commands;
 mod component;
 mod entities;
 mod errors;
-#[cfg_attr(not(feature = "std"), allow(dead_code))]
-mod frame_queues;
 #[cfg(feature = "std")]
 mod frames;
 mod handle;

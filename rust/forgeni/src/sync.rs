@@ -1,7 +1,6 @@
 //! What a sync point is given, and where one stops for want of memory.
 
-use crate::frame_queues::{FrameQueues, Held};
-use crate::proved::ent_total::{self, NumberedWorld, Stop, Unapplied, Ungone};
+use crate::proved::ent_total::{self, NumberedWorld, Unapplied, Ungone};
 use crate::proved::ent_world::SyncReport;
 use crate::report::Report;
 use crate::world::World;
@@ -11,30 +10,17 @@ use core::fmt;
 /// The queues of a phase, in the order in which they were handed in, for one [`World::apply`] of
 /// the world whose phase it was.
 pub struct Queues {
-    kept: Kept,
-}
-
-/// Whose queues they are.
-enum Kept {
-    Phase(ent_total::Queues),
-    Frame(FrameQueues),
+    proved: ent_total::Queues,
 }
 
 impl Queues {
     pub(crate) fn of(proved: ent_total::Queues) -> Self {
-        Self::kept(Kept::Phase(proved))
-    }
-
-    fn kept(kept: Kept) -> Self {
-        Self { kept }
+        Self { proved }
     }
 
     /// The sync point of these queues.
     pub(crate) fn apply(self, world: &mut NumberedWorld) -> Result<SyncReport, SyncError> {
-        match self.kept {
-            Kept::Phase(queues) => Ok(world.apply(queues)?),
-            Kept::Frame(queues) => Ok(queues.apply(world)?),
-        }
+        Ok(world.apply(self.proved)?)
     }
 }
 
@@ -123,26 +109,12 @@ impl From<Unapplied> for SyncError {
     fn from(refused: Unapplied) -> Self {
         match refused {
             Unapplied::OtherWorld(queues) => Self::OtherWorld(Queues::of(queues)),
-            // A phase has 1,024 queues at most, so there are never too many.
+            // A phase has 1,024 queues at most and a frame 65,536, so there are never too many.
             Unapplied::Memory(queues) | Unapplied::TooMany(queues) => {
                 Self::Memory(Queues::of(queues))
             }
             Unapplied::Stopped(stopped, so_far) => {
                 Self::Stopped(Stopped::at(stopped, Report::of(so_far)))
-            }
-        }
-    }
-}
-
-impl From<Held> for SyncError {
-    fn from(held: Held) -> Self {
-        let queues = |queues| Queues::kept(Kept::Frame(queues));
-        match held {
-            Held::OtherWorld(frame) => Self::OtherWorld(queues(frame)),
-            // A sync point from its beginning flushes.
-            Held::NeedsFlush(frame) | Held::Memory(frame) => Self::Memory(queues(frame)),
-            Held::Stopped(frame, stop, so_far) => {
-                Self::Stopped(Stopped::of_frame(frame, stop, Report::of(so_far)))
             }
         }
     }
@@ -161,26 +133,13 @@ pub struct Stopped {
     /// [`GoOnError::OtherWorld`], [`GoOnError::NeedsFlush`] and [`GoOnError::Memory`] it is the same
     /// report again.
     pub so_far: Report,
-    rest: Rest,
-}
-
-/// What is left of a phase or of a frame.
-enum Rest {
-    Phase(ent_total::Stopped),
-    Frame(FrameQueues, Stop),
+    rest: ent_total::Stopped,
 }
 
 impl Stopped {
     /// The place where it stopped, with the report so far.
-    fn at(proved: ent_total::Stopped, so_far: Report) -> Self {
-        Self::with(proved.stop(), so_far, Rest::Phase(proved))
-    }
-
-    fn of_frame(queues: FrameQueues, stop: Stop, so_far: Report) -> Self {
-        Self::with(stop, so_far, Rest::Frame(queues, stop))
-    }
-
-    fn with(stop: Stop, so_far: Report, rest: Rest) -> Self {
+    pub(crate) fn at(rest: ent_total::Stopped, so_far: Report) -> Self {
+        let stop = rest.stop();
         Self {
             system: stop.system,
             command: stop.command,
@@ -212,15 +171,9 @@ impl Stopped {
     #[doc = include_str!("proved/ent_total/applying.go_on.md")]
     pub fn go_on(self, world: &mut World) -> Result<Report, GoOnError> {
         let so_far = self.so_far;
-        match self.rest {
-            Rest::Phase(stopped) => match stopped.go_on(&mut world.proved) {
-                Ok(report) => Ok(Report::of(report)),
-                Err(refused) => Err(GoOnError::of(refused, so_far)),
-            },
-            Rest::Frame(queues, stop) => match queues.go_on(stop, &mut world.proved) {
-                Ok(report) => Ok(Report::of(report)),
-                Err(held) => Err(GoOnError::of_frame(held, stop, so_far)),
-            },
+        match self.rest.go_on(&mut world.proved) {
+            Ok(report) => Ok(Report::of(report)),
+            Err(refused) => Err(GoOnError::of(refused, so_far)),
         }
     }
 }
@@ -257,18 +210,6 @@ impl GoOnError {
             Ungone::NeedsFlush(stopped) => Self::NeedsFlush(Stopped::at(stopped, so_far)),
             Ungone::Stopped(stopped, report) => {
                 Self::Stopped(Stopped::at(stopped, Report::of(report)))
-            }
-        }
-    }
-
-    /// The same of a frame that stopped there.
-    fn of_frame(held: Held, stop: Stop, so_far: Report) -> Self {
-        match held {
-            Held::OtherWorld(queues) => Self::OtherWorld(Stopped::of_frame(queues, stop, so_far)),
-            Held::NeedsFlush(queues) => Self::NeedsFlush(Stopped::of_frame(queues, stop, so_far)),
-            Held::Memory(queues) => Self::Memory(Stopped::of_frame(queues, stop, so_far)),
-            Held::Stopped(queues, later, report) => {
-                Self::Stopped(Stopped::of_frame(queues, later, Report::of(report)))
             }
         }
     }
