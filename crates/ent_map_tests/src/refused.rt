@@ -32,11 +32,7 @@ fn with_capacity_at_last(alloc: Global) -> Result<HandleMap<u32>, Fail> {
     }
 }
 
-fn insert_at_last(
-    rt: &impl Abort,
-    numbers: &mut HandleMap<u32>,
-    index: u32,
-) -> Result<(), Fail> {
+fn insert_at_last(rt: &impl Abort, numbers: &mut HandleMap<u32>, index: u32) -> Result<(), Fail> {
     let before = (numbers.len(), numbers.capacity());
     match numbers.insert(handle(index)?, index) {
         Ok(_) => Ok(()),
