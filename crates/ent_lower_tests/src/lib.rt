@@ -16,6 +16,10 @@ mod gate;
 #[cfg(test)]
 mod handles;
 #[cfg(test)]
+mod mapping;
+#[cfg(test)]
+mod mapping_refused;
+#[cfg(test)]
 mod opening;
 #[cfg(test)]
 mod phase;

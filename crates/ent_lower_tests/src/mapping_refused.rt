@@ -1,4 +1,4 @@
-//! Refused memory.
+//! Memory that is refused to maps by handle.
 
 use ent_handle::Handle;
 use ent_map::{HandleMap, InsertFault, Uninserted};
