@@ -39,10 +39,11 @@ fn text(alloc: Global, of: &str) -> Result<Vec<u8>, Fail> {
 }
 
 fn insert<T: Drop>(map: &mut HandleMap<T>, handle: Handle, value: T) -> Result<Option<T>, Fail> {
-    match map.insert(handle, value) {
-        Ok(before) => Ok(before),
-        Err(_) => Err("a value that is inserted".into()),
-    }
+    Ok(
+        map.insert(handle, value)
+            .ok()
+            .ok_or("a value that is inserted")?,
+    )
 }
 
 fn has(names: &HandleMap<Vec<u8>>, handle: Handle, want: &str) -> bool {

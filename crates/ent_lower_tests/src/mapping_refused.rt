@@ -45,10 +45,9 @@ fn insert_at_last(rt: &impl Abort, numbers: &mut HandleMap<u32>, index: u32) -> 
 }
 
 fn insert_again(numbers: &mut HandleMap<u32>, index: u32) -> Result<(), Fail> {
-    match numbers.insert(handle(index)?, index) {
-        Ok(_) => Ok(()),
-        Err(_) => Err("memory".into()),
-    }
+    let inserted = numbers.insert(handle(index)?, index).ok();
+    let _ = inserted.ok_or("memory")?;
+    Ok(())
 }
 
 fn reserve_at_last(rt: &impl Abort, numbers: &mut HandleMap<u32>) -> Result<(), Fail> {
