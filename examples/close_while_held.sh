@@ -10,8 +10,8 @@ trap 'rm -rf "$copy"' EXIT
 tar -C "$top" --exclude=out -c crates crates.txt HANDLES | tar -x -C "$copy"
 cd "$copy/crates/example_threads"
 patch --quiet -p1 <<'PATCH'
---- a/src/main.rt
-+++ b/src/main.rt
+--- a/src/two_threads.rt
++++ b/src/two_threads.rt
 @@ -3,5 +3,7 @@
      // From now on a reserves after all that b has reserved.
      a.meet(&shared, &mut b);

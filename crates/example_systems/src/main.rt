@@ -1,65 +1,20 @@
-//! How a system is written: from eight lines that may issue anything, over refusals, loops and
-//! lists of several types, to a promise that the frame hands on. `docs/WRITING_A_SYSTEM.md`
-//! explains it step by step.
+//! How a system is written, and what a list of systems does. First a meadow: from eight lines that
+//! may issue anything, over refusals, loops and lists of several types, to a promise that the frame
+//! hands on. `docs/WRITING_A_SYSTEM.md` explains it step by step. Then a game of projectiles, which
+//! is played with one worker and with four.
 #![tactic(auto)]
 
-ghost use Rattle.std.specs.Prelude.{◌≡◌, ◌≤◌, length, IfOk, OnOk};
-ghost use Rattle.ent_runner.specs.Frame.{queue_at};
-
 mod by_hand;
+mod frames;
+mod game;
 mod going_on;
 mod meadow;
 
 use anyhow::Result;
-use by_hand::plant_by_hand;
-use either::{Left, Right};
-use ent_alloc::Limits;
-use ent_runner::{FrameFault, FrameReport, NoGate, run_frame};
-use ent_world::World;
-use going_on::frame_that_goes_on;
-use meadow::{Grow, Reap, Sow};
-use std::thread::Threads;
 
 fn main(rt: HostRuntime) -> Result<()> {
-    let world = World::new(rt.alloc(), Limits::default_limits());
-    let mut world = plant_by_hand(rt.alloc(), world)?;
-    frames(&rt, &mut world)
-}
-
-/// Three frames, and how many plants there are before and after each.
-fn frames<R>(rt: &R, world: &mut World) -> Result<()>
-where
-    R: Threads + Sync + Print + AllocGlobal,
-    requires flushed { world.old.allocator.asked ≡ 0 }
-{
-    println!(rt; "by hand: {} alive", world.len())?;
-    let _ = sow_and_grow(rt, world)?;
-    println!(rt; "sown and grown: {} alive", world.len())?;
-    let _ = reap(rt, world)?;
-    println!(rt; "reaped: {} alive", world.len())?;
-    let _ = frame_that_goes_on(rt, world, &[Sow, Sow])?;
-    println!(rt; "sown twice: {} alive", world.len())?;
-    Ok(())
-}
-
-/// A frame on two workers: a plant is sown, and those that were there grow.
-fn sow_and_grow<R>(rt: &R, world: &mut World) -> Result<FrameReport, FrameFault>
-where
-    R: Threads + Sync + AllocGlobal,
-    requires flushed { world.old.allocator.asked ≡ 0 }
-    ensures flushed { OnOk result (world.new.allocator.asked ≡ 0) }
-{
-    let systems = [Left(Sow), Right(Grow)];
-    run_frame(rt, rt.alloc(), world, &systems, 2, &NoGate)
-}
-
-/// A frame of the reaper alone. It hands on what the reaper promises: at most one command.
-fn reap<R>(rt: &R, world: &mut World) -> Result<FrameReport, FrameFault>
-where
-    R: Threads + Sync + AllocGlobal,
-    requires flushed { world.old.allocator.asked ≡ 0 }
-    ensures flushed { OnOk result (world.new.allocator.asked ≡ 0) }
-    ensures few { IfOk result (λ report. length (queue_at report.queues.items 0) ≤ 1) }
-{
-    run_frame(rt, rt.alloc(), world, &[Reap { ripe: 3 }], 2, &NoGate)
+    println!(rt; "The meadow:")?;
+    frames::show(&rt)?;
+    println!(rt; "The game:")?;
+    game::show(&rt)
 }

@@ -1,8 +1,8 @@
 use Rattle.std.specs.Prelude.{◌≡◌, []}
 use Rattle.std.specs.List.{All}
 use Rattle.ent_queue.specs.Commands.{Extends, queue_of}
-use Rattle.example_frames.specs.Issuing.{IsOnProjectile}
-use Rattle.example_frames.proofs.systems.AgeSystem.run.Given as goal
+use Rattle.example_systems.specs.Issuing.{IsOnProjectile}
+use Rattle.example_systems.proofs.game.systems.AgeSystem.run.Given as goal
 
 -- Commands were added. If the queue was empty, all of them are on projectiles.
 abbrev pub invariant-loop-handle : goal.invariant-loop-handle

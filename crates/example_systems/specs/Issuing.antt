@@ -1,13 +1,13 @@
--- What the systems may issue, by the world that they see.
+-- What the systems of the game may issue, by the world that they see.
 use Rattle.std.specs.Prelude.{◌≡◌, ◌≤◌, ℕ, List, [], ◌∷◌, length, IsSome}
 use Rattle.std.specs.List.{All}
 use Rattle.ent_handle.specs.Handle.{Handle}
 use Rattle.ent_storage.specs.EntityMap.{value_of}
 use Rattle.ent_queue.specs.Command.{Command, SpawnMany, Insert, Despawn, Refused}
 use Rattle.ent_world.specs.OpenWorld.{View}
-use Rattle.example_frames.specs.declared.components.TheConstants.{AGE}
-use Rattle.example_frames.specs.declared.role.Role.{Role}
-use Rattle.example_frames.specs.declared.role.Role.TheVariants as role
+use Rattle.example_systems.specs.declared.game.components.TheConstants.{AGE}
+use Rattle.example_systems.specs.declared.game.role.Role.{Role}
+use Rattle.example_systems.specs.declared.game.role.Role.TheVariants as role
 
 -- one command, which asks for so many handles
 abbrev pub IsLaunch : ℕ → List Command → Type 0

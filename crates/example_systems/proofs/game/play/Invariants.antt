@@ -1,5 +1,5 @@
 use Rattle.std.proofs.Common.{◌≡◌}
-use Rattle.example_frames.proofs.play.Given as goal
+use Rattle.example_systems.proofs.game.play.Given as goal
 
 -- each frame ends with a flush
 abbrev pub invariant-loop-frame : goal.invariant-loop-frame

@@ -6,8 +6,6 @@
 //! is printed once. Handles are no part of it: which of two systems reserves first is a matter of
 //! luck. An entity is named by its birth instead: the frame, the system, and which one of that
 //! system's spawns it was.
-#![tactic(auto)]
-
 ghost use Rattle.std.specs.Prelude.{◌≡◌, ◌<◌, ◌≤◌, OnOk};
 
 mod components;
@@ -35,9 +33,10 @@ const SYSTEMS: [Role; 6] = [
 
 const FRAMES: u32 = 5;
 
-fn main(rt: HostRuntime) -> Result<()> {
-    let alone = play(&rt, 1)?;
-    let together = play(&rt, 4)?;
+/// Plays the game twice, and prints its story.
+pub fn show<R: Threads + Sync + Print + AllocGlobal>(rt: &R) -> Result<()> {
+    let alone = play(rt, 1)?;
+    let together = play(rt, 4)?;
     if alone != together {
         return Err(anyhow!("the story depends on the number of workers"));
     }

@@ -1,6 +1,6 @@
-ghost use Rattle.example_frames.specs.Issuing.{role_may};
+ghost use Rattle.example_systems.specs.Issuing.{role_may};
 
-use crate::systems::{Age, Aim, Launch};
+use crate::game::systems::{Age, Aim, Launch};
 use ent_handle::Memory;
 use ent_queue::Commands;
 use ent_runner::System;

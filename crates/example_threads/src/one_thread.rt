@@ -1,7 +1,5 @@
 //! One thread, an allocator and a storage: spawn, despawn, and what stands under a handle whose
 //! entity is gone.
-#![tactic(auto)]
-
 use anyhow::Result;
 use ent_alloc::{Entities, Limits};
 use ent_handle::{Birth, ComponentId, Handle};
@@ -41,14 +39,15 @@ impl Game {
     }
 }
 
-fn main(rt: HostRuntime) -> Result<()> {
+/// Plays a short game, and prints who is alive and what is found.
+pub fn show<R: Print + AllocGlobal>(rt: &R) -> Result<()> {
     let mut game = Game {
         entities: Entities::new(rt.alloc(), Limits::default_limits()),
         storage: Storage::new(rt.alloc()),
     };
-    let (rat, raven) = take_the_slot(&rt, &mut game)?;
-    print_both(&rt, &game, rat, raven)?;
-    print_healths(&rt, &game)
+    let (rat, raven) = take_the_slot(rt, &mut game)?;
+    print_both(rt, &game, rat, raven)?;
+    print_healths(rt, &game)
 }
 
 /// Spawns a knight and a rat, and a raven in the slot of the rat, which is gone then. Returns the

@@ -1,9 +1,9 @@
-//! The systems, each a type of its own. `specs/Issuing` says what each of them may issue.
+//! The systems of the game, each a type of its own. `specs/Issuing` says what each of them may issue.
 ghost use Rattle.std.specs.Prelude.{◌≡◌, ◌≤◌, length, OnOk, All};
 ghost use Rattle.ent_queue.specs.Commands.{IsReady, Extends, queue_of};
-ghost use Rattle.example_frames.specs.Issuing.{IsLaunch, IsOnProjectile};
+ghost use Rattle.example_systems.specs.Issuing.{IsLaunch, IsOnProjectile};
 
-use crate::components::{AGE, TARGET};
+use crate::game::components::{AGE, TARGET};
 use ent_handle::{ComponentId, Handle, Memory};
 use ent_queue::{Bundle, Commands, QueueFault};
 use ent_runner::System;

@@ -1,6 +1,6 @@
 use Rattle.std.proofs.Common.{refl}
 use Rattle.std.proofs.lemmas.Result.{IfOk-weaker}
-use Rattle.example_systems.proofs.reap.Goals as goal
+use Rattle.example_systems.proofs.frames.reap.Goals as goal
 
 -- The reaper is the first system, and its queue is one that it may issue.
 pub returns-clause-few : goal.returns-clause-few

@@ -4,7 +4,7 @@ use Rattle.ent_alloc.specs.History.{given_in}
 use Rattle.ent_shared.specs.Order.{history_of, handles_given}
 use Rattle.ent_shared.specs.Phase.{Reserver}
 use Rattle.ent_shared.proofs.Laws.{given-distinct}
-use Rattle.example_threads.proofs.end.Goals as goal
+use Rattle.example_threads.proofs.two_threads.end.Goals as goal
 
 -- The workers have all that their reservers were given, one after the other, and no handle stands
 -- there twice.
