@@ -95,6 +95,11 @@ fn numbers(rt: HostRuntime) -> Result<(), Fail> {
     lists(&rt, &health, &[(first()?, 30), (early()?, 25)]);
     assert!(rt; insert(&mut health, late()?, 40)? == None);
     lists(&rt, &health, &[(first()?, 30), (late()?, 40)]);
+    health.retain(|_, value| {
+        *value = value.wrapping_add(5);
+        *value < 40
+    });
+    lists(&rt, &health, &[(first()?, 35)]);
     Ok(())
 }
 

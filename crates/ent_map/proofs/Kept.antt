@@ -1,13 +1,15 @@
 -- How a walk over the slots keeps some of their values.
-use Rattle.std.proofs.Common.{◌≡◌, ℕ, zero, suc, ◌+◌, ◌<◌, ◌≤◌, Bool, true, false, cond, MutBor}
-use Rattle.std.proofs.Common.{List, [], ◌∷◌, ◌++◌, length, get_or, set, take, drop, Option, None, Some}
+use Rattle.std.proofs.Common.{◌≡◌, ℕ, suc, ◌+◌, ◌<◌, ◌≤◌, Bool, true, false, cond, MutBor}
+use Rattle.std.proofs.Common.{List, [], ◌∷◌, ◌++◌, length, get_or, set, take, drop, Some}
 use Rattle.std.proofs.Common.{refl, sym, ap, subst, ◌∙◌, arith, length-set, is_some, true≢false}
 use Rattle.std.proofs.lemmas.List.{append-nil, append_assoc, take_all, take_more_set, drop_all}
-use Rattle.std.proofs.lemmas.List.{drop_more, drop-set-lt, length-append, length-take-le}
+use Rattle.std.proofs.lemmas.List.{drop_more, drop-set-lt, length-take-le}
 use Rattle.ent_handle.specs.Handle.{Handle}
 use Rattle.ent_map.specs.Retained.{CalledAt, Retains, RetainsSlot}
 use Rattle.ent_map.specs.Slots.{entries_from, count_at, handle_at, value_of, generation_of}
-use Rattle.ent_map.proofs.Found.{length-entries_le}
+use Rattle.ent_map.specs.Slots.{slot_at, AreCounted}
+use Rattle.ent_map.proofs.Entries.{length-set_slot}
+use Rattle.ent_map.proofs.Found.{read}
 use Rattle.ent_map.specs.declared.slot.Slot.{Slot}
 use Rattle.ent_map.specs.declared.slot.Slot.TheVariants.{Vacant, Occupied}
 
@@ -40,28 +42,31 @@ module _ {X : Type 0} where
       ∙ entries-append 0 (take index slots) (slot ∷ [])
       ∙ ap (λ n. entries_from 0 (take index slots) ++ entries_from n (slot ∷ [])) at
 
-  pub length-one : (index : ℕ) (slot : Slot X) → length (entries_from index (slot ∷ []))
-      ≡ count_at slot
-  length-one index Vacant = refl
-  length-one index (Occupied generation value) = refl
+  -- ---- how many there are
 
-  -- how many there are up to that slot
-  pub count-upto : (slots : List (Slot X)) (index : ℕ) (slot : Slot X) → index < length slots
-      → length (entries_from 0 (take index slots)) + count_at slot
-      ≡ length (entries_from 0 (take (index + 1) (set slots index slot)))
-  count-upto slots index slot within =
-      ap (λ n. length (entries_from 0 (take index slots)) + n) (sym (length-one index slot))
-      ∙ sym (length-append (entries_from 0 (take index slots)) (entries_from index (slot ∷ [])))
-      ∙ sym (ap length (entries-upto slots index slot within))
+  pub counts_one : (slots : List (Slot X)) (count index : ℕ) (slot : Slot X)
+      → AreCounted 0 slots count → index < length slots → slot ≡ get_or slots index slot
+      → count_at slot ≤ count
+  counts_one slots count index slot are within e =
+      let step = length-set_slot 0 slots index Vacant within in
+      let counted = are.counted in
+      let was : count_at slot ≡ count_at (slot_at slots index) =
+      ap count_at (read slots index slot within e) in
+      omega arith
 
-  pub count_le : (slot : Slot X) → count_at slot ≤ 1
-  count_le Vacant = omega arith
-  count_le (Occupied generation value) = omega arith
-
-  pub upto_le : (slots : List (Slot X)) (index : ℕ) → index ≤ length slots
-      → length (entries_from 0 (take index slots)) ≤ index
-  upto_le slots index within =
-      omega (arith, length-entries_le 0 (take index slots), length-take-le index slots within)
+  -- after a slot was set
+  pub counted-slot : (slots : List (Slot X)) (count left index : ℕ) (slot new : Slot X)
+      → AreCounted 0 slots count → index < length slots → slot ≡ get_or slots index slot
+      → left + count_at slot ≡ count + count_at new → AreCounted 0 (set slots index new) left
+  counted-slot slots count left index slot new are within e moved =
+      let step = length-set_slot 0 slots index new within in
+      let counted = are.counted in
+      let was : count_at slot ≡ count_at (slot_at slots index) =
+      ap count_at (read slots index slot within e) in
+      record {
+        few = omega (arith, are.few, length-set slots index new);
+        counted = omega arith;
+      }
 
   -- ---- one slot
 

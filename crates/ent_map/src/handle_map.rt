@@ -219,15 +219,15 @@ impl<T: Drop> HandleMap<T> {
             (map.entries self.new.values) }
         ensures room { self.new.room ≡ self.old.room }
     {
-        self.len = retain_slots(&mut self.slots, keep);
+        retain_slots(&mut self.slots, &mut self.len, keep);
     }
 
     /// Drops all values. The room stays.
     pub fn clear(&mut self)
         ensures { self.new ≡ record self.old { values = map.empty } }
     {
-        self.slots.clear();
         self.len = 0;
+        self.slots.clear();
     }
 }
 
