@@ -58,6 +58,7 @@ pub struct HandleMap<T> {
 
 impl<T> HandleMap<T> {
     /// A map without values. It takes no memory.
+    #[doc = include_str!("proved/ent_map/handle_map.new.md")]
     #[must_use]
     pub const fn new() -> Self {
         Self {
@@ -70,12 +71,14 @@ impl<T> HandleMap<T> {
     /// # Errors
     ///
     /// `OutOfMemory` if there is not that much.
+    #[doc = include_str!("proved/ent_map/handle_map.with_capacity.md")]
     pub fn with_capacity(slots: usize) -> Result<Self, OutOfMemory> {
         let proved = ent_map::HandleMap::with_capacity(Global, slots)?;
         Ok(Self { proved })
     }
 
     /// How many values there are. It takes constant time.
+    #[doc = include_str!("proved/ent_map/handle_map.len.md")]
     #[inline]
     #[must_use]
     pub fn len(&self) -> usize {
@@ -83,6 +86,7 @@ impl<T> HandleMap<T> {
     }
 
     /// Whether there is no value.
+    #[doc = include_str!("proved/ent_map/handle_map.is_empty.md")]
     #[inline]
     #[must_use]
     pub fn is_empty(&self) -> bool {
@@ -91,6 +95,7 @@ impl<T> HandleMap<T> {
 
     /// How many slots there is room for. A handle whose index is below it is inserted without
     /// memory.
+    #[doc = include_str!("proved/ent_map/handle_map.capacity.md")]
     #[inline]
     #[must_use]
     pub fn capacity(&self) -> usize {
@@ -102,11 +107,13 @@ impl<T> HandleMap<T> {
     /// # Errors
     ///
     /// `OutOfMemory`, and then nothing has changed.
+    #[doc = include_str!("proved/ent_map/handle_map.reserve.md")]
     pub fn reserve(&mut self, slots: usize) -> Result<(), OutOfMemory> {
         Ok(self.proved.reserve(slots)?)
     }
 
     /// Whether the handle has a value. It takes constant time.
+    #[doc = include_str!("proved/ent_map/handle_map.contains.md")]
     #[inline]
     #[must_use]
     pub fn contains(&self, handle: Handle) -> bool {
@@ -114,6 +121,7 @@ impl<T> HandleMap<T> {
     }
 
     /// The value of the handle, if it has one. It takes constant time.
+    #[doc = include_str!("proved/ent_map/handle_map.get.md")]
     #[inline]
     #[must_use]
     pub fn get(&self, handle: Handle) -> Option<&T> {
@@ -121,6 +129,7 @@ impl<T> HandleMap<T> {
     }
 
     /// The value of the handle, if it has one, to be changed. It takes constant time.
+    #[doc = include_str!("proved/ent_map/handle_map.get_mut.md")]
     #[inline]
     #[must_use]
     pub fn get_mut(&mut self, handle: Handle) -> Option<&mut T> {
@@ -152,18 +161,21 @@ impl<T> HandleMap<T> {
     ///
     /// [`Uninserted`] has the value, and nothing has changed: `Later` if a later occupant of the slot
     /// has a value, or `Memory`.
+    #[doc = include_str!("proved/ent_map/handle_map.insert.md")]
     #[inline]
     pub fn insert(&mut self, handle: Handle, value: T) -> Result<Option<T>, Uninserted<T>> {
         Ok(self.proved.insert(handle.proved(), value)?)
     }
 
     /// Takes the value of the handle out, if it has one. It takes constant time and no memory.
+    #[doc = include_str!("proved/ent_map/handle_map.remove.md")]
     #[inline]
     pub fn remove(&mut self, handle: Handle) -> Option<T> {
         self.proved.remove(handle.proved())
     }
 
     /// Drops all values. The room stays.
+    #[doc = include_str!("proved/ent_map/handle_map.clear.md")]
     pub fn clear(&mut self) {
         // A drop may panic, and what is left of the map then is dropped too.
         let mut map = mem::take(self);
@@ -172,6 +184,7 @@ impl<T> HandleMap<T> {
     }
 
     /// The handles and their values, by rising slot. The time is that of a look at each slot.
+    #[doc = include_str!("proved/ent_map/handle_map.iter.md")]
     #[inline]
     pub fn iter(&self) -> Iter<'_, T> {
         Iter {
