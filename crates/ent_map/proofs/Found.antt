@@ -1,7 +1,7 @@
 -- The slot of a handle that has a value.
-use Rattle.std.proofs.Common.{◌≡◌, ◌≢◌, ℕ, zero, suc, ◌+◌, ◌-◌, ◌<◌, ◌≤◌, ◌^◌, Bool, true, false, cond}
-use Rattle.std.proofs.Common.{◌⊎◌, inl, inr, eqb, List, [], ◌∷◌, replicate, length, get_or, set, Option, None, Some}
-use Rattle.std.proofs.Common.{is_some, refl, sym, ap, subst, ◌∙◌, arith, true≢false, length-set, eqb-true}
+use Rattle.std.proofs.Common.{◌≡◌, ℕ, zero, suc, ◌+◌, ◌-◌, ◌<◌, ◌≤◌, ◌^◌, Bool, true, false, cond}
+use Rattle.std.proofs.Common.{inl, inr, eqb, List, [], ◌∷◌, replicate, length, get_or, set, Option, None, Some}
+use Rattle.std.proofs.Common.{is_some, refl, sym, ap, ◌∙◌, arith, true≢false, length-set, eqb-true}
 use Rattle.std.proofs.lemmas.Bool.{cases_lt, eq-eqb}
 use Rattle.std.proofs.lemmas.List.{get_or_past, length-append, length-replicate}
 use Rattle.std.specs.FinMap as map
@@ -10,7 +10,7 @@ use Rattle.std.specs.Cmp.{Equal-is}
 use Rattle.ent_handle.specs.Handle.{Handle, handle_cmp, handle_cmp_total}
 use Rattle.ent_handle.specs.Handle.{handle_cmp-IsAntisymmetric}
 use Rattle.ent_map.specs.HandleMap.{Values, without_slot, HasLater}
-use Rattle.ent_map.specs.Slots.{value_at, value_of, slot_at, value_in, entries_from, map_of, count_at}
+use Rattle.ent_map.specs.Slots.{value_at, value_of, slot_at, entries_from, map_of, count_at}
 use Rattle.ent_map.specs.Slots.{AreCounted, padded, generation_of}
 use Rattle.ent_map.specs.declared.slot.Slot.{Slot}
 use Rattle.ent_map.specs.declared.slot.Slot.TheVariants.{Vacant, Occupied}

@@ -18,6 +18,12 @@ module _ {T : Type 0} where
   count_at Vacant = 0
   count_at (Occupied generation value) = 1
 
+  -- the handle of the occupant, if the slot is that of the index
+  abbrev pub handle_at : Slot T → ℕ → Option Handle
+  handle_at Vacant index = None
+  handle_at (Occupied generation value) index =
+      Some (record { index = index; generation = generation })
+
   -- the value
   abbrev pub value_of : Slot T → Option T
   value_of Vacant = None

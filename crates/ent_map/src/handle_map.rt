@@ -4,10 +4,12 @@ ghost use Rattle.std.specs.Option.{option_copied_mut};
 ghost use Rattle.std.specs.Borrow.{sem};
 ghost use Rattle.std.specs.FinMap as map;
 ghost use Rattle.ent_map.specs.HandleMap.{without_slot, HasLater, fault_of};
+ghost use Rattle.ent_map.specs.Retained.{Retains};
 ghost use Rattle.ent_map.specs.Slots.{generation_of, slot_at, value_in};
 
 use crate::fault::{InsertFault, Uninserted};
 use crate::iter::Iter;
+use crate::retaining::retain_slots;
 use crate::slot::{Slot, make_slot};
 use ent_handle::{Handle, Memory};
 use std::alloc::Global;
@@ -209,12 +211,23 @@ impl<T: Drop> HandleMap<T> {
         slot.into_value(handle.generation())
     }
 
+    /// Calls `keep` at each value, by rising slot, and drops the values at which it returns `false`.
+    /// It may write to those that stay. The room stays.
+    pub fn retain<F: FnMut(Handle, &mut T) -> bool>(&mut self, keep: F)
+        requires { F.IsAlwaysCallable keep }
+        ensures retained { Retains F.step keep (map.entries self.old.values)
+            (map.entries self.new.values) }
+        ensures room { self.new.room ≡ self.old.room }
+    {
+        retain_slots(&mut self.slots, &mut self.len, keep);
+    }
+
     /// Drops all values. The room stays.
     pub fn clear(&mut self)
         ensures { self.new ≡ record self.old { values = map.empty } }
     {
-        self.slots.clear();
         self.len = 0;
+        self.slots.clear();
     }
 }
 

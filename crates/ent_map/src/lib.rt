@@ -5,6 +5,7 @@ mod fault;
 mod generation;
 mod handle_map;
 mod iter;
+mod retaining;
 mod slot;
 
 pub use fault::{InsertFault, Uninserted};

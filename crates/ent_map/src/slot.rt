@@ -1,7 +1,7 @@
 ghost use Rattle.std.specs.Prelude.{◌≡◌, ◌+◌, ◌-◌, ◌^◌, ◌<◌, ◌≤◌, Some, OnOk, OnErr};
 ghost use Rattle.std.specs.Prelude.{IsSome, length, option_copied, vec_capacity};
 ghost use Rattle.std.specs.Borrow.{Lends, sem};
-ghost use Rattle.ent_map.specs.Slots.{generation_of, value_of, value_at, count_at, padded};
+ghost use Rattle.ent_map.specs.Slots.{generation_of, handle_at, value_of, value_at, count_at, padded};
 
 use crate::generation::Generation;
 use ent_handle::Handle;
@@ -34,6 +34,17 @@ impl<T> Slot<T> {
         match self {
             Slot::Vacant => 0,
             Slot::Occupied { generation, .. } => generation.number(),
+        }
+    }
+
+    /// The handle of the occupant that has the value, if the slot is that of the index.
+    pub(crate) fn handle(&self, index: u32) -> Option<Handle>
+        requires { index < 2 ^ 32 - 1 }
+        ensures { result ≡ handle_at self.now index }
+    {
+        match self {
+            Slot::Vacant => None,
+            Slot::Occupied { generation, .. } => Some(generation.handle(index)),
         }
     }
 

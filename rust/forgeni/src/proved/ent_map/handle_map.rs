@@ -3,6 +3,7 @@
 use crate::kit::vec::Vec;
 use crate::proved::ent_map::fault::{InsertFault, Uninserted};
 use crate::proved::ent_map::iter::Iter;
+use crate::proved::ent_map::retaining::retain_slots;
 use crate::proved::ent_map::slot::{Slot, make_slot};
 use crate::proved::ent_handle::{Handle, Memory};
 use crate::kit::alloc::Global;
@@ -195,13 +196,25 @@ impl<T> HandleMap<T> {
         slot.into_value(handle.generation())
     }
 
+    /// Calls `keep` at each value, by rising slot, and drops the values at which it returns `false`.
+    /// It may write to those that stay. The room stays.
+    #[inline]
+    pub fn retain<F: FnMut(Handle, &mut T) -> bool>(&mut self, keep: F)
+        // requires { F.IsAlwaysCallable keep }
+        // ensures retained { Retains F.step keep (map.entries self.old.values)
+        //     (map.entries self.new.values) }
+        // ensures room { self.new.room ≡ self.old.room }
+    {
+        retain_slots(&mut self.slots, &mut self.len, keep);
+    }
+
     /// Drops all values. The room stays.
     #[inline]
     pub fn clear(&mut self)
         // ensures { self.new ≡ record self.old { values = map.empty } }
     {
-        self.slots.clear();
         self.len = 0;
+        self.slots.clear();
     }
 }
 

@@ -36,6 +36,18 @@ impl<T> Slot<T> {
         }
     }
 
+    /// The handle of the occupant that has the value, if the slot is that of the index.
+    #[inline]
+    pub(super) fn handle(&self, index: u32) -> Option<Handle>
+        // requires { index < 2 ^ 32 - 1 }
+        // ensures { result ≡ handle_at self.now index }
+    {
+        match self {
+            Slot::Vacant => None,
+            Slot::Occupied { generation, .. } => Some(generation.handle(index)),
+        }
+    }
+
     /// How many values it lacks: 1 if there is none.
     #[inline]
     pub(super) fn lacking(&self) -> usize

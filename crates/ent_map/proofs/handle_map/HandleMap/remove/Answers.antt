@@ -1,8 +1,7 @@
-use Rattle.std.proofs.Common.{◌≡◌, ◌-◌, Bool, true, set, sym, ap, ◌∙◌, arith}
+use Rattle.std.proofs.Common.{set, sym, ap, ◌∙◌, arith}
 use Rattle.std.specs.FinMap as map
 use Rattle.ent_map.specs.HandleMap.{HandleMap}
-use Rattle.ent_map.specs.Slots.{value_at, map_of, AreCounted}
-use Rattle.ent_map.specs.declared.slot.Slot.TheVariants.{Vacant}
+use Rattle.ent_map.specs.Slots.{value_at, map_of}
 use Rattle.ent_map.proofs.Entries.{map-take}
 use Rattle.ent_map.proofs.Found.{remove_absent, found, made, had, counted-take, read_of}
 use Rattle.ent_map.proofs.handle_map.HandleMap.remove.Goals as goal

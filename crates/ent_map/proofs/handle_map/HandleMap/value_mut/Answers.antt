@@ -1,7 +1,7 @@
-use Rattle.std.proofs.Common.{◌≡◌, IsSome, set, refl, sym, ap, subst, ◌∙◌, arith}
+use Rattle.std.proofs.Common.{IsSome, set, refl, sym, ap, subst, ◌∙◌, arith}
 use Rattle.std.specs.FinMap as map
 use Rattle.ent_map.specs.HandleMap.{HandleMap}
-use Rattle.ent_map.specs.Slots.{value_of, generation_of, map_of, AreCounted}
+use Rattle.ent_map.specs.Slots.{value_of, generation_of, map_of}
 use Rattle.ent_map.specs.declared.slot.Slot.{Slot}
 use Rattle.ent_map.specs.declared.slot.Slot.TheVariants.{Occupied}
 use Rattle.ent_map.proofs.Entries.{map-write}
