@@ -3,6 +3,9 @@
 //!
 //! What is refused is said by each thread for itself, so a test that runs beside others doesn't touch them.
 
+// Who includes it may use a part of it alone.
+#![allow(dead_code)]
+
 use std::alloc::{GlobalAlloc, Layout, System};
 use std::cell::Cell;
 
@@ -37,7 +40,6 @@ pub fn refusing<T>(refusal: Refusal, work: impl FnOnce() -> T) -> (T, usize) {
 }
 
 /// Does this, and returns how many bytes more this thread has after it than before.
-#[allow(dead_code)]
 pub fn held<T>(work: impl FnOnce() -> T) -> (T, isize) {
     let before = BYTES.get();
     let done = work();

@@ -114,11 +114,12 @@ impl Game {
 
     /// One frame: the systems, and then the sync point.
     fn frame(&mut self, threads: usize) -> Result<(), Failed> {
-        for one in &self.entities {
-            let (Place(place), Speed(speed)) = (&mut self.places[one], self.speeds[one]);
+        let speeds = &self.speeds;
+        self.places.for_each_mut(|one, Place(place)| {
+            let Speed(speed) = speeds[one];
             *place = [place[0] + speed[0], place[1] + speed[1]];
-            self.fires[one].frames_left -= 1;
-        }
+        });
+        self.fires.for_each_mut(|_, fire| fire.frames_left -= 1);
         let wanted = self.systems(threads)?;
         self.sync(wanted)
     }

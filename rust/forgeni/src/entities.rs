@@ -81,6 +81,7 @@ impl Entities {
     }
 
     /// An allocator with no entities and these limits. It takes no memory.
+    #[doc = include_str!("proved/ent_alloc/entities.new.md")]
     #[must_use]
     pub const fn with_limits(limits: Limits) -> Self {
         Self::of(ent_alloc::Entities::new(Global, limits.proved()))

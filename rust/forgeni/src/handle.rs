@@ -6,7 +6,7 @@ use core::cmp::Ordering;
 use core::error::Error;
 use core::fmt;
 use core::hash::{Hash, Hasher};
-use core::num::NonZeroU32;
+use core::num::NonZeroU64;
 use core::str::FromStr;
 
 /// The name of an entity, ordered by index and then by generation, where Bevy's and hecs's is by
@@ -32,16 +32,10 @@ use core::str::FromStr;
 /// assert_eq!(format!("{handles:?}"), "[2v1, 1v3, 0v7]");
 /// # Ok::<(), forgeni::ParseHandleError>(())
 /// ```
-// The order of the fields and the alignment make both numbers together one word, as `to_bits` has it.
+// It is one word. Two halves that are written one by one and read as one keep a processor waiting.
 #[derive(Clone, Copy, PartialEq, Eq)]
-#[repr(C, align(8))]
-pub struct Handle {
-    #[cfg(target_endian = "little")]
-    index: u32,
-    generation: NonZeroU32,
-    #[cfg(target_endian = "big")]
-    index: u32,
-}
+#[repr(transparent)]
+pub struct Handle(NonZeroU64);
 
 /// The greatest generation that a handle can have.
 const GENERATIONS: u32 = (1 << 31) - 1;
@@ -79,11 +73,11 @@ impl Handle {
     #[inline]
     #[must_use]
     pub const fn new(index: u32, generation: u32) -> Option<Self> {
-        if index == u32::MAX || generation > GENERATIONS {
+        if index == u32::MAX || generation == 0 || generation > GENERATIONS {
             return None;
         }
-        match NonZeroU32::new(generation) {
-            Some(generation) => Some(Self { index, generation }),
+        match NonZeroU64::new((generation as u64) << 32 | index as u64) {
+            Some(bits) => Some(Self(bits)),
             None => None,
         }
     }
@@ -92,30 +86,27 @@ impl Handle {
     /// never taken; that costs less than a test whether it is.
     #[inline]
     pub(crate) fn of(proved: ent_handle::Handle) -> Self {
-        Self {
-            index: proved.index(),
-            generation: NonZeroU32::new(proved.generation()).unwrap_or(NonZeroU32::MIN),
-        }
+        Self(NonZeroU64::new(proved.to_bits()).unwrap_or(NonZeroU64::MIN))
     }
 
     /// The handle as the proved code takes it, which wants both numbers in their range.
     #[inline]
     pub(crate) fn proved(self) -> ent_handle::Handle {
-        ent_handle::Handle::from_parts(self.index, self.generation.get())
+        ent_handle::Handle::from_parts(self.index(), self.generation())
     }
 
     /// The index of its slot.
     #[inline]
     #[must_use]
     pub const fn index(self) -> u32 {
-        self.index
+        self.0.get() as u32
     }
 
     /// Its generation.
     #[inline]
     #[must_use]
     pub const fn generation(self) -> u32 {
-        self.generation.get()
+        (self.0.get() >> 32) as u32
     }
 
     /// Both numbers in one: the generation times 2^32, plus the index.
@@ -128,7 +119,7 @@ impl Handle {
     #[inline]
     #[must_use]
     pub const fn to_bits(self) -> u64 {
-        ((self.generation.get() as u64) << 32) | self.index as u64
+        self.0.get()
     }
 
     /// The handle that [`to_bits`](Self::to_bits) packed into these bits. `None` if they are the
@@ -181,7 +172,7 @@ impl Hash for Handle {
 impl fmt::Display for Handle {
     fn fmt(&self, out: &mut fmt::Formatter<'_>) -> fmt::Result {
         if out.width().is_none() && out.precision().is_none() {
-            return write!(out, "{}v{}", self.index, self.generation);
+            return write!(out, "{}v{}", self.index(), self.generation());
         }
         out.pad(Text::of(*self).as_str())
     }

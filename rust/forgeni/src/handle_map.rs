@@ -10,7 +10,6 @@ use core::alloc::Layout;
 use core::error::Error;
 use core::fmt;
 use core::iter::FusedIterator;
-use core::mem;
 use core::ops::{Index, IndexMut};
 
 /// A value of any type for each of some handles: a component. At most one handle of a slot has a
@@ -39,9 +38,10 @@ use core::ops::{Index, IndexMut};
 /// bodies.insert(ball, Body { place: [0.0; 2], speed: [1.0, 2.0] })?;
 /// names.insert(ball, "ball")?;
 ///
-/// let body = &mut bodies[ball];
-/// body.place[0] += body.speed[0];
-/// body.place[1] += body.speed[1];
+/// bodies.for_each_mut(|_, body| {
+///     body.place[0] += body.speed[0];
+///     body.place[1] += body.speed[1];
+/// });
 /// assert_eq!(bodies[ball].place, [1.0, 2.0]);
 ///
 /// entities.free(ball)?;
@@ -58,6 +58,7 @@ pub struct HandleMap<T> {
 
 impl<T> HandleMap<T> {
     /// A map without values. It takes no memory.
+    #[doc = include_str!("proved/ent_map/handle_map.new.md")]
     #[must_use]
     pub const fn new() -> Self {
         Self {
@@ -70,12 +71,14 @@ impl<T> HandleMap<T> {
     /// # Errors
     ///
     /// `OutOfMemory` if there is not that much.
+    #[doc = include_str!("proved/ent_map/handle_map.with_capacity.md")]
     pub fn with_capacity(slots: usize) -> Result<Self, OutOfMemory> {
         let proved = ent_map::HandleMap::with_capacity(Global, slots)?;
         Ok(Self { proved })
     }
 
     /// How many values there are. It takes constant time.
+    #[doc = include_str!("proved/ent_map/handle_map.len.md")]
     #[inline]
     #[must_use]
     pub fn len(&self) -> usize {
@@ -83,6 +86,7 @@ impl<T> HandleMap<T> {
     }
 
     /// Whether there is no value.
+    #[doc = include_str!("proved/ent_map/handle_map.is_empty.md")]
     #[inline]
     #[must_use]
     pub fn is_empty(&self) -> bool {
@@ -91,6 +95,7 @@ impl<T> HandleMap<T> {
 
     /// How many slots there is room for. A handle whose index is below it is inserted without
     /// memory.
+    #[doc = include_str!("proved/ent_map/handle_map.capacity.md")]
     #[inline]
     #[must_use]
     pub fn capacity(&self) -> usize {
@@ -102,11 +107,13 @@ impl<T> HandleMap<T> {
     /// # Errors
     ///
     /// `OutOfMemory`, and then nothing has changed.
+    #[doc = include_str!("proved/ent_map/handle_map.reserve.md")]
     pub fn reserve(&mut self, slots: usize) -> Result<(), OutOfMemory> {
         Ok(self.proved.reserve(slots)?)
     }
 
     /// Whether the handle has a value. It takes constant time.
+    #[doc = include_str!("proved/ent_map/handle_map.contains.md")]
     #[inline]
     #[must_use]
     pub fn contains(&self, handle: Handle) -> bool {
@@ -114,6 +121,7 @@ impl<T> HandleMap<T> {
     }
 
     /// The value of the handle, if it has one. It takes constant time.
+    #[doc = include_str!("proved/ent_map/handle_map.get.md")]
     #[inline]
     #[must_use]
     pub fn get(&self, handle: Handle) -> Option<&T> {
@@ -121,6 +129,7 @@ impl<T> HandleMap<T> {
     }
 
     /// The value of the handle, if it has one, to be changed. It takes constant time.
+    #[doc = include_str!("proved/ent_map/handle_map.get_mut.md")]
     #[inline]
     #[must_use]
     pub fn get_mut(&mut self, handle: Handle) -> Option<&mut T> {
@@ -152,26 +161,80 @@ impl<T> HandleMap<T> {
     ///
     /// [`Uninserted`] has the value, and nothing has changed: `Later` if a later occupant of the slot
     /// has a value, or `Memory`.
+    #[doc = include_str!("proved/ent_map/handle_map.insert.md")]
     #[inline]
     pub fn insert(&mut self, handle: Handle, value: T) -> Result<Option<T>, Uninserted<T>> {
         Ok(self.proved.insert(handle.proved(), value)?)
     }
 
     /// Takes the value of the handle out, if it has one. It takes constant time and no memory.
+    #[doc = include_str!("proved/ent_map/handle_map.remove.md")]
     #[inline]
     pub fn remove(&mut self, handle: Handle) -> Option<T> {
         self.proved.remove(handle.proved())
     }
 
     /// Drops all values. The room stays.
+    #[doc = include_str!("proved/ent_map/handle_map.clear.md")]
     pub fn clear(&mut self) {
-        // A drop may panic, and what is left of the map then is dropped too.
-        let mut map = mem::take(self);
-        map.proved.clear();
-        *self = map;
+        self.proved.clear();
+    }
+
+    /// Keeps the values of which `keep` says so, and drops the others. It is called at each value
+    /// once, by rising slot, and may change it. The room stays.
+    ///
+    /// ```
+    /// use forgeni::{Entities, HandleMap};
+    ///
+    /// let mut entities = Entities::new();
+    /// let mut frames_left: HandleMap<u32> = HandleMap::new();
+    /// for (frames, one) in (1..).zip(entities.alloc_many(3)?) {
+    ///     frames_left.insert(one, frames)?;
+    /// }
+    /// frames_left.retain(|one, frames| {
+    ///     *frames -= 1;
+    ///     *frames > 0 || entities.free(one).is_err()
+    /// });
+    /// assert!(frames_left.keys().eq(&entities));
+    /// assert!(frames_left.values().eq(&[1, 2]));
+    /// # Ok::<(), Box<dyn std::error::Error + Send + Sync>>(())
+    /// ```
+    ///
+    /// # Panics
+    ///
+    /// A panic of `keep` is handed on. The map has then what was kept, and all that it wasn't called
+    /// at.
+    #[doc = include_str!("proved/ent_map/handle_map.retain.md")]
+    #[inline]
+    pub fn retain(&mut self, mut keep: impl FnMut(Handle, &mut T) -> bool) {
+        self.proved
+            .retain(|handle, value: &mut T| keep(Handle::of(handle), value));
+    }
+
+    /// Calls `change` at each value once, by rising slot.
+    ///
+    /// It is what `iter_mut` is elsewhere: the kit of the proofs has no words for a map of which
+    /// several values are lent at once. [`get_mut`](Self::get_mut) lends one.
+    ///
+    /// ```
+    /// use forgeni::{Handle, HandleMap};
+    ///
+    /// let handle = |index| Handle::new(index, 1).unwrap();
+    /// let speeds: HandleMap<f32> = (0..3).map(|index| (handle(index), 0.5)).collect();
+    /// let mut places: HandleMap<f32> = (0..3).map(|index| (handle(index), 1.0)).collect();
+    /// places.for_each_mut(|one, place| *place += speeds[one]);
+    /// assert!(places.values().all(|place| *place == 1.5));
+    /// ```
+    #[inline]
+    pub fn for_each_mut(&mut self, mut change: impl FnMut(Handle, &mut T)) {
+        self.retain(|handle, value| {
+            change(handle, value);
+            true
+        });
     }
 
     /// The handles and their values, by rising slot. The time is that of a look at each slot.
+    #[doc = include_str!("proved/ent_map/handle_map.iter.md")]
     #[inline]
     pub fn iter(&self) -> Iter<'_, T> {
         Iter {

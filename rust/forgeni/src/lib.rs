@@ -57,20 +57,44 @@
 //! the end. Task systems, where it isn't known before who runs a task, lend reservers from a pool
 //! (`Reservers`).
 //!
+//! # Components
+//!
+//! A [`HandleMap`] has a value of any type for each of some handles, as a secondary map of a slot
+//! map has. An `Entities` with a map for each type of component is all that many engines need, and
+//! the example `particles` is a small one.
+//!
+//! ```
+//! use forgeni::{Entities, HandleMap};
+//!
+//! let mut entities = Entities::new();
+//! let mut names = HandleMap::new();
+//! let cart = entities.alloc()?;
+//! names.insert(cart, String::from("cart"))?;
+//! assert_eq!(names[cart], "cart");
+//! # Ok::<(), Box<dyn std::error::Error + Send + Sync>>(())
+//! ```
+//!
 //! # Worlds and frames
 //!
-//! A [`World`] has the allocator and what entities are made of. `run_frame` runs systems on workers.
+//! A [`World`] has the allocator and what entities are made of, by numbered components of 64 bits. It
+//! knows when each entity was born, and reports what a frame did, whatever the number of its workers.
+//! `run_frame` runs systems on workers.
 //! Each reads the world and issues commands, and the commands take effect in the order of the
 //! systems. Who has threads of its own uses [`World::open`], [`Commands`], [`OpenWorld::close`] and
 //! [`World::apply`].
 //!
 //! # What may go wrong
 //!
+//! Each error goes by `?` into a `Box<dyn Error + Send + Sync>`. One that hands something back has it
+//! in its fields, and `into_parts` takes it apart from the plain error.
+//!
 //! - An `Entities` that is used while it is shared, a `Reserver` after its phase was closed, or one
 //!   `Reserver` by two threads at once doesn't compile.
 //! - [`close`](Shared::close) without some of the reservers, or with one of another phase, is an
 //!   [`Unclosed`], which has all that was handed in.
 //! - Reservers of two phases don't [meet](Reserver::meet): [`OtherPhase`], and nothing has changed.
+//! - The closure of a [`phase`](Entities::phase) ends early or panics: the allocator is back, with all
+//!   that was reserved.
 //! - A thread panics, and its reserver is dropped: `close` says what is missing, and
 //!   [`close_lost`](Shared::close_lost) ends the phase. The handles of the lost reserver come to
 //!   life too. [`OpenWorld::close_lost`] does the same for a world, with the queues of the others.
@@ -84,12 +108,15 @@
 //! - Memory runs out: an `Err`. Nothing has changed then, but where a sync point stopped
 //!   ([`Stopped`]) or a frame is lost.
 //!
-//! Nothing panics, but for a pool without reservers (`Reservers::with`). Where Rust has no form
+//! Nothing panics, but for a pool without reservers (`Reservers::with`) and a map that is indexed by a
+//! handle without a value. Where Rust has no form
 //! that can be refused memory, the process ends, as it does of `Vec` and `Arc`:
 //!
 //! - [`Report::born`], [`Report::faults`], [`Storage::items`] and [`World::items`] make a list.
 //! - [`Entities::share`], [`Entities::phase`] and [`World::open`] make an `Arc`. They ask for as much memory before, and
 //!   say so if it is refused. So only another thread can take it in between.
+//! - A [`HandleMap`] is cloned, extended, collected, or used up by an iterator. `Reservers::into_inner`
+//!   makes a list.
 //! - A close after one that was refused with [`CloseError::InUse`] may make a list.
 //! - `run_frame` with more than one worker starts threads.
 //!

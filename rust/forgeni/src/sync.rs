@@ -87,7 +87,6 @@ impl SyncError {
 
     /// What it hands back, and which of them it is: the queues if nothing was done, and else where
     /// it stopped.
-    #[must_use]
     pub fn into_parts(self) -> (Result<Queues, Stopped>, SyncErrorKind) {
         let kind = self.kind();
         match self {

@@ -103,7 +103,7 @@ fn run<T: Value>(seed: u64) {
         let place = format!("seed {seed}, step {step}");
         let one = handle(numbers.below(10) as u32, 1 + numbers.below(4) as u32);
         let value = T::of(numbers.below(1000) as u32);
-        match numbers.below(20) {
+        match numbers.below(21) {
             0..=9 => {
                 let inserted = map.insert(one, value.clone());
                 let told = inserted.map_err(|refused| refused.into_parts());
@@ -124,10 +124,7 @@ fn run<T: Value>(seed: u64) {
                 }
             }
             16 => {
-                let all: Vec<Handle> = map.keys().collect();
-                for one in all {
-                    map[one] = T::of(one.index());
-                }
+                map.for_each_mut(|one, slot| *slot = T::of(one.index()));
                 for (one, slot) in &mut model.0 {
                     *slot = T::of(one.index());
                 }
@@ -136,6 +133,20 @@ fn run<T: Value>(seed: u64) {
                 let clone = map.clone();
                 assert_eq!(clone, map, "{place}: clone");
                 map = clone.into_iter().collect();
+            }
+            20 => {
+                let odd = numbers.below(2) as u32;
+                let mut told = vec![];
+                map.retain(|one, slot| {
+                    told.push((one, slot.clone()));
+                    *slot = T::of(one.generation());
+                    (one.index() + one.generation()) % 2 == odd
+                });
+                assert_eq!(told, model.all(), "{place}: retain");
+                model.0.retain(|one, slot| {
+                    *slot = T::of(one.generation());
+                    (one.index() + one.generation()) % 2 == odd
+                });
             }
             18 if numbers.below(4) == 0 => {
                 map.clear();
@@ -232,6 +243,7 @@ fn each_value_is_dropped_once() {
                     }
                 }
                 _ if numbers.below(6) == 0 => map.clear(),
+                _ if numbers.below(3) == 0 => map.retain(|one, _| one.index() % 3 > 0),
                 _ => {
                     let mut all = map.into_iter();
                     kept.extend(all.next().map(|(_, value)| value));
@@ -439,4 +451,32 @@ fn a_drop_that_panics() {
     let map = full();
     assert!(catch_unwind(AssertUnwindSafe(|| drop(map))).is_err());
     assert_eq!(drops.get(), 17);
+
+    // Some go.
+    let mut map = full();
+    let none = catch_unwind(AssertUnwindSafe(|| map.retain(|_, _| false)));
+    assert!(none.is_err());
+    right(&map);
+    assert!(map.keys().eq([handle(3, 1), handle(4, 1)]));
+    assert_eq!(drops.get(), 20);
+}
+
+/// A closure that panics: what it was called at before is kept or gone as it said.
+#[test]
+fn a_closure_that_panics() {
+    let mut map: HandleMap<u32> = (0..5).map(|index| (handle(index, 1), index)).collect();
+    let ran = catch_unwind(AssertUnwindSafe(|| {
+        map.retain(|_, value| {
+            if *value == 3 {
+                resume_unwind(Box::new("stopped"));
+            }
+            *value += 10;
+            *value != 11
+        })
+    }));
+    assert!(ran.is_err());
+    assert_eq!(map.len(), 4);
+    assert!(map.values().eq(&[10, 12, 3, 4]));
+    map.for_each_mut(|_, value| *value += 1);
+    assert!(map.values().eq(&[11, 13, 4, 5]));
 }

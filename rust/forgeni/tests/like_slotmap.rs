@@ -221,8 +221,10 @@ fn walks() {
         .values()
         .copied()
         .eq([0, 101, 202, 606, 707, 808, 909]));
+    slots.values.for_each_mut(|_, value| *value += 1);
+    slots.values.retain(|one, _| one.index() > 0);
     let sum: u64 = slots.values.into_iter().map(|(_, value)| value).sum();
-    assert_eq!(sum, 3333);
+    assert_eq!(sum, 3339);
 }
 
 /// slotmap: a map is built of pairs, extended and compared.

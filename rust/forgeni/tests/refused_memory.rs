@@ -9,9 +9,9 @@ mod refusing;
 use common::handle;
 use forgeni::{
     run_frame, AllocError, Birth, BornError, CommandQueue, Commands, ComponentId, Entities, Fault,
-    FinishError, FrameError, FreeError, GoOnError, Handle, InsertError, OpenError, OpenWorld,
-    OutOfMemory, Queues, Refused, Report, RequestManyError, ShareError, SpawnError, State, Storage,
-    SyncError, SystemCommands, View, World,
+    FinishError, FrameError, FreeError, GoOnError, Handle, HandleMap, InsertError, InsertionError,
+    OpenError, OpenWorld, OutOfMemory, Queues, Refused, Report, RequestManyError, ShareError,
+    SpawnError, State, Storage, SyncError, SystemCommands, View, World,
 };
 use refusing::{refusing, Refusal};
 
@@ -308,6 +308,43 @@ fn a_close_after_one_in_use() {
     let (shared, mut reservers) = (left.shared, vec![away]);
     reservers[0].reserve().expect("a handle");
     assert_eq!(shared.close(reservers).expect("closed").reserved(), 1);
+}
+
+/// A value that was refused comes back, and the map is as it was.
+#[test]
+fn calls_of_a_map() {
+    each_in_turn(|refusal| {
+        let mut map = HandleMap::new();
+        let one = handle(100, 2);
+        let (inserted, refused) = refusing(refusal, || map.insert(one, 7));
+        if let Err(back) = inserted {
+            assert!(refused > 0);
+            assert_eq!(back.into_parts(), (7, InsertionError::Memory));
+            assert_eq!((map.len(), map.capacity(), map.get(one)), (0, 0, None));
+            assert!(map.insert(one, 7).expect("memory").is_none());
+        }
+        assert_eq!((map.len(), map.get(one)), (1, Some(&7)));
+
+        // What has its slot takes no more.
+        let (done, none) = refusing(Refusal::All { after: 0 }, || {
+            let before = map.insert(one, 8).map_err(InsertionError::from);
+            let below = map.insert(handle(99, 1), 9).map_err(InsertionError::from);
+            let removed = map.remove(one);
+            map.clear();
+            (before, below, removed)
+        });
+        assert_eq!((done, none), ((Ok(Some(7)), Ok(None), Some(8)), 0));
+        refused
+    });
+    each_in_turn(|refusal| {
+        let mut map: HandleMap<u64> = HandleMap::new();
+        let (_, refused) = insist(refusal, OutOfMemory, || map.reserve(1000));
+        assert!(map.capacity() >= 1000);
+        let with_capacity = || HandleMap::<u64>::with_capacity(1000).map(|map| map.capacity());
+        let (capacity, also) = insist(refusal, OutOfMemory, with_capacity);
+        assert!(capacity >= 1000);
+        refused + also
+    });
 }
 
 #[test]

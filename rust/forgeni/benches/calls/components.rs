@@ -211,7 +211,7 @@ pub fn tables() {
     println!("|---|---|---|---|---|---|---|---|");
     let orders = ["rising", "scattered"];
     for (at, order) in orders.into_iter().enumerate() {
-        let name = format!("`alloc`, `insert`, {READS} times `get`, `free`, `remove`, {order}");
+        let name = format!("Spawn, {READS} times `get`, despawn, {order}");
         let peer = peer.as_ref().map(|peer| peer.lives[at]);
         lines(&name, ours.lives[at], plain.lives[at], peer);
     }

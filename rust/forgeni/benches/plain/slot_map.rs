@@ -1,5 +1,5 @@
 //! A slot map of keys alone, and a secondary map for the values, of the form of the crate slotmap, in
-//! plain Rust without `unsafe`.
+//! safe Rust.
 
 use std::num::NonZeroU32;
 
