@@ -6,7 +6,10 @@ use Rattle.std.specs.List.{list_any}
 use Rattle.serde_json.specs.Data.{Data}
 use Rattle.serde_json.specs.View.{view}
 use Rattle.serde_json.specs.declared.value.Value.{Value}
-use Rattle.spawnrun_advice.specs.Place.{is_among, is_listed, is_text, key_but}
+use Rattle.std.proofs.Common.{◌+◌, ◌<◌, ◌++◌, drop, take, length, get_or}
+use Rattle.std.proofs.lemmas.List.{drop_more, take_more, map-append}
+use Rattle.ent_script.specs.Names.{as_name}
+use Rattle.spawnrun_advice.specs.Place.{bad_name, is_among, is_listed, is_text, key_but, name_place}
 
 first_skip : {X : Type 0} (p : X → Bool) (x : X) (xs : List X) → p x ≡ false
     → slice_get (filter p (x ∷ xs)) 0 ≡ slice_get (filter p xs) 0
@@ -58,3 +61,19 @@ pub listed_lent : (text : List ℕ) (listed : List Value)
     → list_any (λ v. is_text text (view v)) listed ≡ is_listed (map view listed) text
 listed_lent text [] = refl
 listed_lent text (v ∷ listed) = rw (listed_lent text listed)
+
+-- the value of that number goes over to the earlier ones
+pub next_bad : (list : List Value) (n : ℕ) (v : Value) → n < length list → v ≡ get_or list n v
+    → bad_name (map view (take n list)) (map view (drop n list))
+    ≡ name_place (as_name (view v)) (view v) (map view (take n list))
+    (bad_name (map view (take (n + 1) list)) (map view (drop (n + 1) list)))
+next_bad list n v inside is =
+    let left : drop n list ≡ v ∷ drop (n + 1) list = drop_more list n v inside
+    ∙ ap (λ w. w ∷ drop (n + 1) list) (sym is) in
+    let done : take (n + 1) list ≡ take n list ++ v ∷ [] = take_more list n v inside
+    ∙ ap (λ w. take n list ++ w ∷ []) (sym is) in
+    let seen : map view (take (n + 1) list) ≡ map view (take n list) ++ view v ∷ [] =
+    ap (map view) done ∙ map-append view (take n list) (v ∷ []) in
+    ap (λ vs. bad_name (map view (take n list)) (map view vs)) left
+    ∙ ap (λ ds. name_place (as_name (view v)) (view v) (map view (take n list))
+    (bad_name ds (map view (drop (n + 1) list)))) (sym seen)

@@ -1,15 +1,16 @@
 //! The first of several keys, members or names that fails its test.
-ghost use Rattle.std.specs.Prelude.{◌≡◌, [], false, map, option_and_then, option_map, string_bytes};
+ghost use Rattle.std.specs.Prelude.{◌≡◌, [], Some, false, map, option_and_then, option_map, string_bytes};
 ghost use Rattle.std.specs.Prelude.{unwrap_or};
-ghost use Rattle.std.specs.List.{list_any};
+ghost use Rattle.std.specs.List.{list_all, list_any};
 ghost use Rattle.std.specs.Str.{bytes_eq};
 ghost use Rattle.serde_json.specs.View.{view};
 ghost use Rattle.serde_json.specs.Find.{as_str};
 ghost use Rattle.ent_script.specs.Json.{elements, members};
+ghost use Rattle.ent_script.specs.Names.{as_name, is_name, is_name_byte};
 ghost use Rattle.ent_script.specs.Reading.{script_keys};
-ghost use Rattle.spawnrun_advice.specs.Place.{component_place, is_among, is_listed, is_text};
+ghost use Rattle.spawnrun_advice.specs.Place.{bad_name, component_place, is_among, is_listed, is_text};
 ghost use Rattle.spawnrun_advice.specs.Place.{key_but, key_place, listed_in, member_place, place_of};
-ghost use Rattle.spawnrun_advice.specs.Place.{removed_place, unwhole_in};
+ghost use Rattle.spawnrun_advice.specs.Place.{names_place, removed_place, unwhole_in};
 
 use crate::part::Part;
 use serde_json::{Map, Value};
@@ -172,8 +173,8 @@ fn first_unlisted<'a>(members: &'a Map<String, Value>, listed: &[Value]) -> Opti
     None
 }
 
-/// Whether one of the values is this text.
-pub(crate) fn is_listed(text: &str, listed: &[Value]) -> bool
+// Whether one of the values is this text.
+fn is_listed(text: &str, listed: &[Value]) -> bool
     ensures { result ≡ list_any (λ v. is_text text.now (view v)) listed.now }
 {
     listed.iter().any(|value| is_text(text, value))
@@ -186,4 +187,72 @@ fn is_text(text: &str, value: &Value) -> bool
         Some(own) => text == own,
         None => false,
     }
+}
+
+/// The components, if they are too many, or the first that is no name or that an earlier one is
+/// too.
+pub(crate) fn bad_component(components: Option<&Value>) -> Part<'_>
+    ensures { place_of result ≡ names_place (option_map (λ v. view v.now) components.entry) }
+{
+    match components {
+        Some(value) => bad_element(value),
+        None => Part::Absent,
+    }
+}
+
+fn bad_element(value: &Value) -> Part<'_>
+    ensures { place_of result ≡ names_place (Some (view value.now)) }
+{
+    let Some(list) = array(value) else {
+        return Part::Refused(value);
+    };
+    if list.len() > 256 {
+        return Part::Long(list.len());
+    }
+    bad_name(list)
+}
+
+// The elements of an array.
+fn array(value: &Value) -> Option<&[Value]>
+    ensures { option_map (λ list. map view list.now) result ≡ elements (view value.now) }
+{
+    match value.as_array() {
+        Some(list) => Some(list.as_slice()),
+        None => None,
+    }
+}
+
+// The first that is no name or that an earlier one is too.
+fn bad_name(list: &[Value]) -> Part<'_>
+    ensures { place_of result ≡ bad_name [] (map view list.now) }
+{
+    for (number, value) in list.iter().enumerate() {
+        let Some(text) = name(value) else {
+            return Part::Refused(value);
+        };
+        if is_listed(text, &list[..number]) {
+            return Part::Twice(text);
+        }
+    }
+    Part::Absent
+}
+
+// The name that it is, by the rules of scripts.
+fn name(value: &Value) -> Option<&str>
+    ensures { option_map (λ text. text.now) result ≡ as_name (view value.now) }
+{
+    let text = value.as_str()?;
+    if is_name(text) { Some(text) } else { None }
+}
+
+fn is_name(text: &str) -> bool
+    ensures { result ≡ is_name text.now }
+{
+    1 <= text.len() && text.len() <= 32 && are_name_bytes(text.as_bytes())
+}
+
+fn are_name_bytes(bytes: &[u8]) -> bool
+    ensures { result ≡ list_all is_name_byte bytes.now }
+{
+    bytes.iter().all(|byte| byte.is_ascii_lowercase() || byte.is_ascii_digit() || *byte == b'_')
 }

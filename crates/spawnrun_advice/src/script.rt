@@ -9,7 +9,7 @@ ghost use Rattle.spawnrun_advice.specs.Place.{operation_place, place_of, script_
 ghost use Rattle.spawnrun_advice.specs.Place.{target_in, under};
 ghost use Rattle.spawnrun_advice.specs.Shown.{ArePrintable, front, plain};
 
-use crate::first::{is_listed, unknown_key, unlisted_component, unwhole_member};
+use crate::first::{bad_component, unknown_key, unlisted_component, unwhole_member};
 use crate::found::{Found, with, with_number};
 use crate::part::Part;
 use crate::shown::{Shown, text_shown};
@@ -176,7 +176,7 @@ fn operation_of(script: &Value, frame: usize, system: usize, operation: usize) -
 }
 
 fn script_part(script: &Value, cause: ScriptCause) -> Part<'_>
-    ensures { IfSome (script_place (view script.now) cause) (λ known. place_of result ≡ known) }
+    ensures { place_of result ≡ script_place (view script.now) cause }
 {
     match cause {
         ScriptCause::Top => Part::Refused(script),
@@ -184,39 +184,9 @@ fn script_part(script: &Value, cause: ScriptCause) -> Part<'_>
         ScriptCause::Format => Part::of(script.get("format")),
         ScriptCause::Slots => Part::of(script.get("slots")),
         ScriptCause::Generations => Part::of(script.get("generations")),
-        ScriptCause::Components => components_part(script.get("components")),
+        ScriptCause::Components => bad_component(script.get("components")),
         ScriptCause::Frames => Part::instead_of_list(script.get("frames")),
     }
-}
-
-// The components, if they are too many, or the first that is no name or that an earlier one is too.
-fn components_part(components: Option<&Value>) -> Part<'_> {
-    let Some(list) = components.and_then(Value::as_array) else {
-        return Part::of(components);
-    };
-    if list.len() > 256 {
-        return Part::Long(list.len());
-    }
-    for (number, value) in list.iter().enumerate() {
-        match value.as_str() {
-            Some(name) if is_name(name) => {
-                if is_listed(name, &list[..number]) {
-                    return Part::Twice(name);
-                }
-            }
-            _ => return Part::Refused(value),
-        }
-    }
-    Part::Absent
-}
-
-// Whether it is a name by the rules of scripts.
-fn is_name(text: &str) -> bool {
-    let is_short = 0 < text.len() && text.len() <= 32;
-    is_short
-        && text
-            .bytes()
-            .all(|byte| matches!(byte, b'a'..=b'z' | b'0'..=b'9' | b'_'))
 }
 
 // What stands where a test of this operation failed.
