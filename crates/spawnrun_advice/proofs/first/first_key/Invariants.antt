@@ -1,12 +1,10 @@
-use Rattle.std.proofs.Common.{◌≡◌, map, string_bytes}
-use Rattle.serde_json.specs.View.{view}
+use Rattle.std.proofs.Common.{◌≡◌, map}
+use Rattle.ent_script.proofs.Values.{pair_view}
 use Rattle.spawnrun_advice.specs.Place.{is_among, key_but}
 use Rattle.spawnrun_advice.proofs.first.first_key.Given as goal
 
--- the first of those that are left is the first of all
+-- the first of all is the first of those that are left
 abbrev pub invariant-loop-key : goal.invariant-loop-key
 invariant-loop-key l =
-    key_but (is_among (map (λ key. key.now) l.known))
-    (map (λ m. (string_bytes m.0, view m.1)) l.key-iterator)
-    ≡ key_but (is_among (map (λ key. key.now) l.known))
-    (map (λ m. (string_bytes m.0, view m.1)) l.members.entries)
+    key_but (is_among (map (λ key. key.now) l.known)) (map pair_view l.members.entries)
+    ≡ key_but (is_among (map (λ key. key.now) l.known)) (map pair_view l.key-iterator)
