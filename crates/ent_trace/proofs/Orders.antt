@@ -1,5 +1,5 @@
 -- Orders that lines may have come in: of a front and a rest, and what they are answered.
-use Rattle.std.proofs.Common.{◌≡◌, List, [], ◌∷◌, ◌++◌, refl, sym, ap, subst, ◌∙◌, map}
+use Rattle.std.proofs.Common.{◌≡◌, ℕ, List, [], ◌∷◌, ◌++◌, refl, sym, ap, subst, ◌∙◌, map}
 use Rattle.std.proofs.lemmas.List.{append_assoc}
 use Rattle.ent_alloc.specs.Sequential.{Allocator}
 use Rattle.ent_trace.specs.declared.line.Line.{Line}
@@ -7,6 +7,8 @@ use Rattle.ent_trace.specs.declared.line.Line.TheVariants as line
 use Rattle.ent_trace.specs.declared.line.Reservation.{Reservation}
 use Rattle.ent_trace.specs.Trace.{Fits, AreAnswered, after_line, after_lines, IsOrderOf, Agrees}
 use Rattle.ent_trace.specs.Checker.{Checked, reserve_lines, AgreesWith, IsSettled, Follows}
+use Rattle.ent_trace.specs.Checker.{Differs, Fails, Shows}
+use Rattle.ent_trace.specs.declared.difference.Difference.{Difference}
 
 -- an order of the front and one of the rest are one of all
 pub IsOrderOf-append : (front rest first second : List Line) → IsOrderOf front first
@@ -30,9 +32,9 @@ IsOrderOf-cons l rest order is = ([], rest, refl, tt, is)
 
 pub AreAnswered-append : (s : Allocator) (first second : List Line) → AreAnswered s first
     → AreAnswered (after_lines s first) second → AreAnswered s (first ++ second)
-AreAnswered-append s [] second yes more = more
-AreAnswered-append s (l ∷ first) second yes more =
-    (yes.0, AreAnswered-append (after_line s l) first second yes.1 more)
+AreAnswered-append s [] second first_yes more = more
+AreAnswered-append s (l ∷ first) second first_yes more =
+    (first_yes.0, AreAnswered-append (after_line s l) first second first_yes.1 more)
 
 -- one more reservation in the run, or as the next line
 pub run_more : (run : List Reservation) (r : Reservation) (rest : List Line)
@@ -66,4 +68,56 @@ settled-Agrees c after settled = record {
   order = settled.order ++ [];
   is_order = IsOrderOf-append (reserve_lines c.run) [] settled.order [] settled.is_order refl;
   answered = AreAnswered-append c.allocator settled.order [] settled.answered tt;
+}
+
+-- ---- where a trace doesn't agree
+
+Fails-append : (s : Allocator) (n : ℕ) (order more : List Line) (d : Difference)
+    → Fails s n order d → Fails s n (order ++ more) d
+Fails-append s n order more d fails = record {
+  placed = fails.placed;
+  next = fails.next;
+  left = fails.left ++ more;
+  is = ap (λ (ls : List Line). ls ++ more) fails.is
+      ∙ append_assoc fails.placed (fails.next ∷ fails.left) more;
+  answered = fails.answered;
+  differs = fails.differs;
+}
+
+-- one more line doesn't change it
+pub Shows-more : (c : Checked) (n : ℕ) (l : Line) (d : Difference) → Shows c n [] d
+    → Shows c n (l ∷ []) d
+Shows-more c n l d shows = record {
+  order = shows.order ++ l ∷ [];
+  is_order = subst (λ (ls : List Line). IsOrderOf ls (shows.order ++ l ∷ []))
+      (append_assoc (reserve_lines c.run) [] (l ∷ []))
+      (IsOrderOf-append (reserve_lines c.run ++ []) (l ∷ []) shows.order (l ∷ []) shows.is_order
+      (IsOrderOf-cons l [] [] refl));
+  fails = Fails-append c.allocator n shows.order (l ∷ []) d shows.fails;
+}
+
+-- the run was settled, and the line differs then
+pub called-Shows : (c : Checked) (l : Line) (after : Allocator) (n : ℕ) (d : Difference)
+    → IsSettled c after → Differs after n l d → Shows c n (l ∷ []) d
+called-Shows c l after n d settled differs = record {
+  order = settled.order ++ l ∷ [];
+  is_order = IsOrderOf-append (reserve_lines c.run) (l ∷ []) settled.order (l ∷ [])
+      settled.is_order (IsOrderOf-cons l [] [] refl);
+  fails = record {
+    placed = settled.order;
+    next = l;
+    left = [];
+    is = refl;
+    answered = settled.answered;
+    differs = subst (λ s. Differs s n l d) settled.after_is differs;
+  };
+}
+
+-- the run isn't answered so in this order
+pub ordered-Shows : (c : Checked) (order : List Line) (n : ℕ) (d : Difference)
+    → IsOrderOf (reserve_lines c.run) order → Fails c.allocator n order d → Shows c n [] d
+ordered-Shows c order n d is fails = record {
+  order = order ++ [];
+  is_order = IsOrderOf-append (reserve_lines c.run) [] order [] is refl;
+  fails = Fails-append c.allocator n order [] d fails;
 }

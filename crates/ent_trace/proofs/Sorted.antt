@@ -144,13 +144,14 @@ lines_append (x ∷ xs) ys =
 none_tie : (x h : Placed) (before : List Placed) → x.key ≡ h.key
     → AllByRecursion (λ b. tie h b ≡ false) before → filter (tie x) before ≡ []
 none_tie x h [] same none = refl
-none_tie x h (b ∷ before) same none = go (tie x b) refl
+none_tie x h (b ∷ before) same none = go (none_tie x h before same none.1) (tie x b) refl
   where
-    go : (v : Bool) → tie x b ≡ v → cond v (b ∷ filter (tie x) before) (filter (tie x) before) ≡ []
-    go true is =
+    go : filter (tie x) before ≡ [] → (v : Bool) → tie x b ≡ v
+        → cond v (b ∷ filter (tie x) before) (filter (tie x) before) ≡ []
+    go rest true is =
         let equal : x.key ≡ b.key = tie_key x b is in
         absurd (true≢false (sym (tie_from h b (sym same ∙ equal)) ∙ none.0))
-    go false is = none_tie x h before same none.1
+    go rest false is = rest
 
 alike_rest : (h : Placed) (sorted before after : List Placed)
     → AllByRecursion (λ b. tie h b ≡ false) before → TieAlike (h ∷ sorted) (before ++ h ∷ after)

@@ -11,7 +11,10 @@ use Rattle.ent_trace.specs.declared.line.Reservation.{Reservation}
 use Rattle.ent_trace.specs.declared.line.Line.{Line}
 use Rattle.ent_trace.specs.declared.line.Line.TheVariants as line
 use Rattle.ent_trace.specs.declared.placed.Placed.{Placed}
-use Rattle.ent_trace.specs.Trace.{Agrees, AreAnswered, IsOrderOf, after_lines}
+use Rattle.ent_trace.specs.declared.difference.Difference.{Difference}
+use Rattle.ent_trace.specs.declared.difference.Stop.{Stop}
+use Rattle.ent_trace.specs.declared.difference.Stop.TheVariants as stop
+use Rattle.ent_trace.specs.Trace.{Agrees, Fits, AreAnswered, IsOrderOf, after_lines, answered_line}
 
 -- the allocator after all lines but the last reservations, which are not placed yet
 pub record Checked : Type 0 where
@@ -42,6 +45,39 @@ pub record IsSettled (c : Checked) (after : Allocator) : Type 0 where
   pub is_order : IsOrderOf (reserve_lines c.run) order
   pub answered : AreAnswered c.allocator order
   pub after_is : after ≡ after_lines c.allocator order
+
+-- ---- where a trace doesn't agree
+
+-- what a stop for a difference has to say
+abbrev pub OnDiffers : Stop → (Difference → Type 0) → Type 0
+OnDiffers (stop.Differs d) P = P d
+OnDiffers other P = Unit {0}
+
+-- a reservation has its own number, and any other line has the one that comes with it
+abbrev pub number_of : ℕ → Line → ℕ
+number_of number (line.Reserve r) = r.number
+number_of number other = number
+
+-- The line's reply isn't the allocator's in this state, and the difference says which one is.
+pub record Differs (s : Allocator) (number : ℕ) (l : Line) (d : Difference) : Type 0 where
+  pub unlike : ¬ (Fits s l)
+  pub expected : d.expected ≡ answered_line s l
+  pub number_is : d.number ≡ number_of number l
+
+-- In this order some lines agree, and the next one doesn't.
+pub record Fails (s : Allocator) (number : ℕ) (order : List Line) (d : Difference) : Type 0 where
+  pub placed : List Line
+  pub next : Line
+  pub left : List Line
+  pub is : order ≡ placed ++ next ∷ left
+  pub answered : AreAnswered s placed
+  pub differs : Differs (after_lines s placed) number next d
+
+-- The lines may have come in this order, in which they don't agree.
+pub record Shows (c : Checked) (number : ℕ) (rest : List Line) (d : Difference) : Type 0 where
+  pub order : List Line
+  pub is_order : IsOrderOf (reserve_lines c.run ++ rest) order
+  pub fails : Fails c.allocator number order d
 
 -- ---- inside
 

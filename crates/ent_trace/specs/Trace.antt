@@ -84,6 +84,20 @@ Fits s (line.Reserve r) = FitsReserved r.reply (reply_to s r.requested)
 Fits s (line.State h told) = IfSome told (λ state. state ≡ state_of s h)
 Fits s (line.Len told) = IfSome told (λ len. len ≡ set.len s.live)
 
+abbrev pub reserve_reply : Result (List Handle) Space → ReserveReply
+reserve_reply (Ok given) = reserve.Handles given
+reserve_reply (Err space) = reserve.SpaceLeft space.left
+
+-- the same call with what the allocator answers
+abbrev pub answered_line : Allocator → Line → Line
+answered_line s (line.Alloc told) = line.Alloc (Some (alloc_reply s))
+answered_line s (line.Free h told) = line.Free h (Some (free_reply s h))
+answered_line s (line.Flush told) = line.Flush (Some (flush.Born (born s)))
+answered_line s (line.Reserve r) =
+    line.Reserve (record r { reply = reserve_reply (reply_to s r.requested) })
+answered_line s (line.State h told) = line.State h (Some (state_of s h))
+answered_line s (line.Len told) = line.Len (Some (set.len s.live))
+
 -- each line in turn fits
 abbrev pub AreAnswered : Allocator → List Line → Type 0
 AreAnswered s [] = Unit {0}

@@ -1,8 +1,8 @@
 //! The calls that nothing overlaps: each is made, and says what the allocator answered.
-ghost use Rattle.std.specs.Prelude.{◌≡◌, ◌++◌, None, IfOk, OnOk, IfNone};
+ghost use Rattle.std.specs.Prelude.{◌≡◌, ◌++◌, None, IfOk, OnOk, IfNone, IfSome};
 ghost use Rattle.ent_alloc.specs.Sequential.{born, after_flush};
 ghost use Rattle.ent_trace.specs.Trace.{alloc_reply, free_reply, freed_reply, after_line, Fits};
-ghost use Rattle.ent_trace.specs.Trace.{IsAlone};
+ghost use Rattle.ent_trace.specs.Trace.{IsAlone, answered_line};
 
 use crate::line::Line;
 use crate::fitting::{fits_born, fits_freed};
@@ -21,6 +21,9 @@ pub(crate) fn answered(
 ) -> Result<Option<Line>, Memory>
     requires { IsAlone line.now }
     ensures fits { IfOk result (λ expected. IfNone expected (Fits entities.old.allocator line.now)) }
+    ensures differs { IfOk result (λ expected. IfSome expected (λ other.
+        (¬ (Fits entities.old.allocator line.now))
+        × (other ≡ answered_line entities.old.allocator line.now))) }
     ensures after { OnOk result (entities.new.allocator
         ≡ after_line entities.old.allocator line.now) }
 {

@@ -1,8 +1,9 @@
 //! The checker: one line of a trace after the other.
-ghost use Rattle.std.specs.Prelude.{◌≡◌, ◌∷◌, ◌++◌, [], IfOk, OnOk, IfNone};
+ghost use Rattle.std.specs.Prelude.{◌≡◌, ℕ, ◌∷◌, ◌++◌, [], IfOk, IfErr, OnOk};
 ghost use Rattle.ent_alloc.specs.Sequential.{opening};
 ghost use Rattle.ent_trace.specs.Trace.{Fits, IsAlone, after_line};
 ghost use Rattle.ent_trace.specs.Checker.{Follows, AgreesWith, IsSettled};
+ghost use Rattle.ent_trace.specs.Checker.{OnDiffers, Differs, Shows};
 
 use crate::calls::answered;
 use crate::difference::{Difference, Stop};
@@ -78,7 +79,9 @@ impl Checker {
     ///   the last flush.
     /// - `Memory`: memory ran out.
     pub fn take(self, number: u64, line: Line) -> Result<Self, Stop>
-        ensures { IfOk result (λ next. Follows self line next) }
+        ensures follows { IfOk result (λ next. Follows self line next) }
+        ensures differs { IfErr result (λ stop.
+            OnDiffers stop (Shows self number (line ∷ []))) }
     {
         if let Line::Reserve(reservation) = line {
             return self.add(reservation);
@@ -92,7 +95,8 @@ impl Checker {
     ///
     /// `Differs` or `Memory`, as `take`.
     pub fn finish(self) -> Result<Self, Stop>
-        ensures { IfOk result (λ next. AgreesWith self []) }
+        ensures agrees { OnOk result (AgreesWith self []) }
+        ensures differs { IfErr result (λ stop. OnDiffers stop (Shows self 0 [])) }
     {
         self.settle()
     }
@@ -100,7 +104,9 @@ impl Checker {
     /// Makes the reservations of the run, in the order of their keys, and compares each.
     fn settle(self) -> Result<Self, Stop>
         ensures run { IfOk result (λ next. next.run ≡ []) }
-        ensures follows { IfOk result (λ next. IsSettled self next.allocator) }
+        ensures settled { IfOk result (λ next. IsSettled self next.allocator) }
+        ensures differs { IfErr result (λ stop.
+            OnDiffers stop (λ d. (n : ℕ) → Shows self n [] d)) }
     {
         let Checker {
             alloc,
@@ -129,6 +135,8 @@ impl Checker {
         ensures fits { OnOk result (Fits self.allocator line) }
         ensures next { IfOk result (λ next.
             next ≡ record { allocator = after_line self.allocator line; run = [] }) }
+        ensures differs { IfErr result (λ stop.
+            OnDiffers stop (Differs self.allocator number line)) }
     {
         let Checker {
             alloc,
@@ -153,8 +161,9 @@ impl Checker {
 
     /// Adds a reservation to the run.
     fn add(self, reservation: Reservation) -> Result<Self, Stop>
-        ensures { IfOk result (λ next.
+        ensures ok { IfOk result (λ next.
             next ≡ record self { run = self.run ++ reservation ∷ [] }) }
+        ensures differs { IfErr result (λ stop. OnDiffers stop (λ d. ⊥)) }
     {
         let Checker { alloc, entities, mut run, mut latest, wanted } = self;
         let wanted = wanted + u64::from(reservation.requested);

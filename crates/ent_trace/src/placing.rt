@@ -1,8 +1,9 @@
 //! The reservations of a run, made one after the other.
-ghost use Rattle.std.specs.Prelude.{◌≡◌, ◌+◌, ◌^◌, ◌≤◌, IfOk, IfErr, OnOk, length};
+ghost use Rattle.std.specs.Prelude.{◌≡◌, ℕ, ◌+◌, ◌^◌, ◌≤◌, IfOk, IfErr, OnOk};
 ghost use Rattle.ent_alloc.specs.Sequential.{reply_to, after_take};
-ghost use Rattle.ent_trace.specs.Trace.{FitsReserved, AreAnswered, after_lines};
+ghost use Rattle.ent_trace.specs.Trace.{FitsReserved, AreAnswered, after_lines, reserve_reply};
 ghost use Rattle.ent_trace.specs.Checker.{reservations_of, reserve_lines, requested_in};
+ghost use Rattle.ent_trace.specs.Checker.{OnDiffers, Differs, Fails};
 
 use crate::difference::{Difference, Stop};
 use crate::fitting::fits_reserved;
@@ -35,9 +36,10 @@ fn reserve(
     ensures reply { IfOk result (λ reply. reply ≡ reply_to entities.old.allocator n) }
     ensures after { OnOk result (entities.new.allocator ≡ after_take entities.old.allocator n) }
 {
-    // The state is sound, so the reply is that of the state before.
-    prove!(entities.cursor() <= 1 << 60);
+    // Of a sound state the reply is the one at its cursor.
+    let high = entities.cursor();
     let span = entities.lower(n);
+    prove_eq!(span.high, high);
     match entities.reply(span) {
         Ok(reserved) => Ok(Ok(listed(alloc, reserved)?)),
         Err(space) => Ok(Err(space)),
@@ -45,7 +47,9 @@ fn reserve(
 }
 
 /// What was answered, as a line says it.
-fn reply_of(given: Result<HandleList, Space>) -> ReserveReply {
+fn reply_of(given: Result<HandleList, Space>) -> ReserveReply
+    ensures { result ≡ reserve_reply given }
+{
     match given {
         Ok(handles) => ReserveReply::Handles(handles),
         Err(space) => ReserveReply::SpaceLeft(space.left),
@@ -59,6 +63,8 @@ fn place(alloc: Global, entities: &mut Entities, reservation: &Reservation) -> R
         (reply_to entities.old.allocator reservation.now.requested)) }
     ensures after { OnOk result (entities.new.allocator
         ≡ after_take entities.old.allocator reservation.now.requested) }
+    ensures differs { IfErr result (λ stop. OnDiffers stop
+        (Differs entities.old.allocator 0 (Line.Reserve reservation.now))) }
 {
     let given = reserve(alloc, entities, reservation.requested)?;
     if fits_reserved(&reservation.reply, &given) {
@@ -88,6 +94,8 @@ pub(crate) fn place_all(
         (reserve_lines (reservations_of run.now))) }
     ensures after { OnOk result (entities.new.allocator
         ≡ after_lines entities.old.allocator (reserve_lines (reservations_of run.now))) }
+    ensures differs { IfErr result (λ stop. OnDiffers stop (λ d. (n : ℕ)
+        → Fails entities.old.allocator n (reserve_lines (reservations_of run.now)) d)) }
 {
     for placed in run {
         place(alloc, entities, &placed.reservation)?;
