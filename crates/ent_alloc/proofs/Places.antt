@@ -43,11 +43,10 @@ pub waits_here : (hs : List Handle) (h : Handle) (n : ℕ) → stands_in (drop n
     → stands_in (drop (n + 1) hs) h ≡ false → (n < length hs) × (get_or hs n h ≡ h)
 waits_here hs h n from later = elim (cases_lt n (length hs)) [
   | inl within ↦
-      let parts : drop n hs ≡ get_or hs n h ∷ drop (n + 1) hs = rw (add_one n) (drop-cons hs n h within) in
-      (
+      let parts : drop n hs ≡ get_or hs n h ∷ drop (n + 1) hs = rw (add_one n) (drop-cons hs n h within) in (
         within,
         sym (same_handle h (get_or hs n h) (only_first (eq_by_cmp handle_cmp h (get_or hs n h))
-        (stands_in (drop (n + 1) hs) h) (sym (ap (λ gs. stands_in gs h) parts) ∙ from) later)),
+            (stands_in (drop (n + 1) hs) h) (sym (ap (λ gs. stands_in gs h) parts) ∙ from) later)),
       )
   | inr past ↦ absurd (true≢false (sym from ∙ ap (λ gs. stands_in gs h) (drop_all n hs past)))
 ]
@@ -82,10 +81,9 @@ fresh_place r h stands =
     (sym (get_or-fresh r.made count k h within) ∙ there.2) in
     let off : h.index - r.made ≡ k = omega arith in
     let long = length-reverse r.pending in
-    let inside : length (reverse r.pending) + k < length (idle r) = omega (arith, length-idle r) in
-    (
+    let inside : length (reverse r.pending) + k < length (idle r) = omega (arith, length-idle r) in (
       omega arith,
       ap (slice_get (idle r)) (λ i. sym long i + off i)
-      ∙ slice_get-get_or (idle r) (length (reverse r.pending) + k) h inside
-      ∙ ap Some (get_or-append-add (reverse r.pending) (fresh r.made count) k h ∙ there.2),
+          ∙ slice_get-get_or (idle r) (length (reverse r.pending) + k) h inside
+          ∙ ap Some (get_or-append-add (reverse r.pending) (fresh r.made count) k h ∙ there.2),
     )

@@ -25,8 +25,11 @@ requested-push [] p =
     omega arith
 requested-push (q ∷ run) p =
     let rest = requested-push run p in
-    omega (arith, sum_by-cons requested q.reservation (reservations_of (run ++ p ∷ [])),
-    sum_by-cons requested q.reservation (reservations_of run))
+    omega (
+      arith,
+      sum_by-cons requested q.reservation (reservations_of (run ++ p ∷ [])),
+      sum_by-cons requested q.reservation (reservations_of run),
+    )
 
 module _ (latest : finite.FinMap nat_cmp ℕ) (p : Placed)
     (greatest : unwrap_or (finite.get latest p.reservation.caller) 0 ≤ p.key) where
@@ -36,7 +39,7 @@ module _ (latest : finite.FinMap nat_cmp ℕ) (p : Placed)
   comes_after : (q : Placed) → IsLatest latest q → ComesAfter q p
   comes_after q is same =
       let here : unwrap_or (finite.get latest q.reservation.caller) 0
-          ≡ unwrap_or (finite.get latest p.reservation.caller) 0 =
+      ≡ unwrap_or (finite.get latest p.reservation.caller) 0 =
       ap (λ caller. unwrap_or (finite.get latest caller) 0) (sym same) in
       omega arith
 
@@ -58,7 +61,7 @@ module _ (latest : finite.FinMap nat_cmp ℕ) (p : Placed)
   latest_kept q is = elim (cases_eq q.reservation.caller p.reservation.caller) [
     | inl same ↦
         let before : unwrap_or (finite.get latest q.reservation.caller) 0
-            ≡ unwrap_or (finite.get latest p.reservation.caller) 0 =
+        ≡ unwrap_or (finite.get latest p.reservation.caller) 0 =
         ap (λ caller. unwrap_or (finite.get latest caller) 0) same in
         let here : unwrap_or (finite.get now q.reservation.caller) 0 ≡ p.key =
         ap (λ caller. unwrap_or (finite.get now caller) 0) same
@@ -66,7 +69,7 @@ module _ (latest : finite.FinMap nat_cmp ℕ) (p : Placed)
         omega arith
     | inr other ↦
         let here : unwrap_or (finite.get now q.reservation.caller) 0
-            ≡ unwrap_or (finite.get latest q.reservation.caller) 0 =
+        ≡ unwrap_or (finite.get latest q.reservation.caller) 0 =
         ap (λ o. unwrap_or o 0)
         (get-insert_other latest p.reservation.caller p.key q.reservation.caller other) in
         omega arith

@@ -27,8 +27,12 @@ pub asked-lines : (s : Allocator) (run : List Placed) → (after_lines s (lines 
 asked-lines s [] = omega arith
 asked-lines s (p ∷ run) =
     let rest = asked-lines (after_take s p.reservation.requested) run in
-    omega (arith, asked-after_take s p.reservation.requested, sum_by-cons requested p.reservation
-    (reservations_of run))
+    omega (
+      arith,
+      asked-after_take s p.reservation.requested,
+      sum_by-cons requested p.reservation
+          (reservations_of run),
+    )
 
 -- in any order
 pub requested-sorted : (run sorted : List Placed) → IsPermutation run sorted
@@ -65,7 +69,7 @@ module _ (old s : Allocator) (run : List Placed) (i : ℕ) where
   Rest-few rest p within is =
       let all = rest.asked in
       let parts : requested_in (reservations_of (drop i run)) ≡ p.reservation.requested
-          + requested_in (reservations_of (drop (i + 1) run)) =
+      + requested_in (reservations_of (drop (i + 1) run)) =
       ap (λ ps. requested_in (reservations_of ps)) (next_is p within is)
       ∙ sum_by-cons requested p.reservation (reservations_of (drop (i + 1) run)) in
       omega arith
@@ -112,14 +116,17 @@ module _ (old s : Allocator) (run : List Placed) (i : ℕ) where
       (next_is p within is) rest.answered in
       let all = rest.asked in
       let parts : requested_in (reservations_of (drop i run)) ≡ p.reservation.requested
-          + requested_in (reservations_of (drop (i + 1) run)) =
+      + requested_in (reservations_of (drop (i + 1) run)) =
       ap (λ ps. requested_in (reservations_of ps)) (next_is p within is)
       ∙ sum_by-cons requested p.reservation (reservations_of (drop (i + 1) run)) in
       let more : t.asked ≡ s.asked + p.reservation.requested =
       ap (λ (a : Allocator). a.asked) after ∙ asked-after_take s p.reservation.requested in
       record {
-        answered = λ told. here (fits, subst (λ a. AreAnswered a (lines (drop (i + 1) run))) after
-            told);
+        answered = λ told. here (
+          fits,
+          subst (λ a. AreAnswered a (lines (drop (i + 1) run))) after
+              told,
+        );
         fails = λ n d later. rest.fails n d (subst (λ ps. Fails s n (lines ps) d)
             (sym (next_is p within is)) (fails_later p fits n (lines (drop (i + 1) run)) d
             (subst (λ a. Fails a n (lines (drop (i + 1) run)) d) after later)));
@@ -131,8 +138,7 @@ module _ (old s : Allocator) (run : List Placed) (i : ℕ) where
   pub Rest-last : Rest old s run i → length run ≤ i → AreAnswered old (lines run)
       × (s ≡ after_lines old (lines run))
   Rest-last rest past =
-      let none : drop i run ≡ [] = drop_all i run past in
-      (
+      let none : drop i run ≡ [] = drop_all i run past in (
         rest.answered (subst (λ ps. AreAnswered s (lines ps)) (sym none) tt),
         sym (ap (λ ps. after_lines s (lines ps)) none) ∙ rest.after,
       )

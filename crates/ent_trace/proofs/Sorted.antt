@@ -48,9 +48,9 @@ tests_apart : (a b : ℕ) → (not (nat_lt a b) && not (nat_lt b a)) ≡ true �
 tests_apart a b e = elim (cases_order a b) [
   | inl same ↦ same
   | inr (inl less) ↦ absurd (true≢false (sym e ∙ (λ i. not (lt-ltb a b less i)
-  && not (nat_lt b a))))
+      && not (nat_lt b a))))
   | inr (inr more) ↦ absurd (true≢false (sym e ∙ (λ i. not (le-ltb a b (omega arith) i)
-  && not (lt-ltb b a more i))))
+      && not (lt-ltb b a more i))))
 ]
 
 pub tie_from : (p q : Placed) → p.key ≡ q.key → tie p q ≡ true
@@ -193,8 +193,7 @@ sorted-IsOrderOf (h ∷ sorted) run up alike steady =
     let low = least h sorted run up.0 alike in
     let steady_here = subst AreSteady s.is steady in
     let alike_here = subst (TieAlike (h ∷ sorted)) s.is alike in
-    let low_here = subst (AllByRecursion (λ (p : Placed). h.key ≤ p.key)) s.is low in
-    (
+    let low_here = subst (AllByRecursion (λ (p : Placed). h.key ≤ p.key)) s.is low in (
       lines s.before,
       lines s.after,
       ap lines s.is ∙ lines_split s.before s.after h,

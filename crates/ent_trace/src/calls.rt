@@ -4,8 +4,8 @@ ghost use Rattle.ent_alloc.specs.Sequential.{born, after_flush};
 ghost use Rattle.ent_trace.specs.Trace.{alloc_reply, free_reply, freed_reply, after_line, Fits};
 ghost use Rattle.ent_trace.specs.Trace.{IsAlone, answered_line};
 
-use crate::line::Line;
 use crate::fitting::{fits_born, fits_freed};
+use crate::line::Line;
 use crate::reply::{AllocReply, FlushReply, FreeReply};
 use ent_alloc::{AllocFault, Entities, FreeFault};
 use ent_handle::{Handle, Memory};
@@ -31,29 +31,47 @@ pub(crate) fn answered(
         Line::Alloc(told) => {
             let given = allocated(entities)?;
             let fits = told.is_none_or(|told| told == given);
-            Ok(if fits { None } else { Some(Line::Alloc(Some(given))) })
+            Ok(if fits {
+                None
+            } else {
+                Some(Line::Alloc(Some(given)))
+            })
         }
         Line::Free(handle, told) => {
             let given = freed(entities, *handle)?;
             let fits = told.is_none_or(|told| fits_freed(told, given));
-            Ok(if fits { None } else { Some(Line::Free(*handle, Some(given))) })
+            Ok(if fits {
+                None
+            } else {
+                Some(Line::Free(*handle, Some(given)))
+            })
         }
         Line::Flush(told) => {
             let given = flushed(alloc, entities)?;
             match told {
-                Some(told) if !fits_born(told, &given) => Ok(Some(Line::Flush(Some(FlushReply::Born(given))))),
+                Some(told) if !fits_born(told, &given) => Ok(Some(Line::Flush(Some(FlushReply::Born(
+                    given,
+                ))))),
                 _ => Ok(None),
             }
         }
         Line::State(handle, told) => {
             let given = entities.state(*handle);
             let fits = told.is_none_or(|told| told == given);
-            Ok(if fits { None } else { Some(Line::State(*handle, Some(given))) })
+            Ok(if fits {
+                None
+            } else {
+                Some(Line::State(*handle, Some(given)))
+            })
         }
         Line::Len(told) => {
             let given = entities.len();
             let fits = told.is_none_or(|told| told == given);
-            Ok(if fits { None } else { Some(Line::Len(Some(given))) })
+            Ok(if fits {
+                None
+            } else {
+                Some(Line::Len(Some(given)))
+            })
         }
         Line::Reserve(_) => unreachable!(),
     }

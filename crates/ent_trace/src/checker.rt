@@ -21,6 +21,7 @@ const MOST: u64 = 1 << 50;
 
 /// The keys of refusals. A reservation that was served has a lesser one: the place of a handle.
 const FIRST_REFUSED: u64 = 1 << 32;
+
 const LAST_REFUSED: u64 = 1 << 33;
 
 /// Takes the lines of a trace one after the other, and compares each reply with the allocator's.
@@ -165,7 +166,13 @@ impl Checker {
             next ≡ record self { run = self.run ++ reservation ∷ [] }) }
         ensures differs { IfErr result (λ stop. OnDiffers stop (λ d. ⊥)) }
     {
-        let Checker { alloc, entities, mut run, mut latest, wanted } = self;
+        let Checker {
+            alloc,
+            entities,
+            mut run,
+            mut latest,
+            wanted,
+        } = self;
         let wanted = wanted + u64::from(reservation.requested);
         if wanted > MOST {
             return Err(Stop::TooMany);
@@ -175,7 +182,13 @@ impl Checker {
         let key = own_key(&entities, &reservation).max(before);
         run.push(Placed { reservation, key })?;
         latest.insert(caller, key)?;
-        Ok(Checker { alloc, entities, run, latest, wanted })
+        Ok(Checker {
+            alloc,
+            entities,
+            run,
+            latest,
+            wanted,
+        })
     }
 }
 

@@ -84,11 +84,7 @@ fn place(alloc: Global, entities: &mut Entities, reservation: &Reservation) -> R
 }
 
 /// Makes all reservations of the run in this order, and compares each.
-pub(crate) fn place_all(
-    alloc: Global,
-    entities: &mut Entities,
-    run: &[Placed],
-) -> Result<(), Stop>
+pub(crate) fn place_all(alloc: Global, entities: &mut Entities, run: &[Placed]) -> Result<(), Stop>
     requires { entities.old.allocator.asked + requested_in (reservations_of run.now) ≤ 2 ^ 50 }
     ensures answered { OnOk result (AreAnswered entities.old.allocator
         (reserve_lines (reservations_of run.now))) }

@@ -63,7 +63,7 @@ invariant_of-result c =
     let s = e.entities.allocator in
     let same = requests at in
     let asked : c.place_all.new.entities.allocator.asked ≡ s.asked
-        + requested_in (reservations_of c.deref.result.now) =
+    + requested_in (reservations_of c.deref.result.now) =
     ap (λ (a : Allocator). a.asked) c.in_ok-place_all.ensures.after
     ∙ asked-lines s c.deref.result.now in
     let is = c.self.invariant.wanted_is in
