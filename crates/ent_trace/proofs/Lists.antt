@@ -1,6 +1,6 @@
 -- Lists of which one element is taken out.
-use Rattle.std.proofs.Common.{◌≡◌, Bool, true, false, cond, List, [], ◌∷◌, ◌++◌, filter, refl, sym}
-use Rattle.std.proofs.Common.{ap, ◌∙◌, map}
+use Rattle.std.proofs.Common.{◌≡◌, Bool, true, false, cond, List, [], ◌∷◌, ◌++◌, filter, refl}
+use Rattle.std.proofs.Common.{ap}
 use Rattle.std.specs.List.{AllByRecursion}
 
 -- what holds of all

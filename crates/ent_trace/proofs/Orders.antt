@@ -1,5 +1,5 @@
 -- Orders that lines may have come in: of a front and a rest, and what they are answered.
-use Rattle.std.proofs.Common.{◌≡◌, ℕ, List, [], ◌∷◌, ◌++◌, refl, sym, ap, subst, ◌∙◌, map}
+use Rattle.std.proofs.Common.{◌≡◌, ℕ, List, [], ◌∷◌, ◌++◌, refl, sym, ap, subst, ◌∙◌}
 use Rattle.std.proofs.lemmas.List.{append_assoc}
 use Rattle.ent_alloc.specs.Sequential.{Allocator}
 use Rattle.ent_trace.specs.declared.line.Line.{Line}

@@ -1,7 +1,6 @@
 -- The reservations of a run one after the other: what is left to be placed.
-use Rattle.std.proofs.Common.{◌≡◌, ℕ, suc, ◌+◌, ◌^◌, ◌<◌, ◌≤◌, List, [], ◌∷◌, length, drop, get_or, map}
+use Rattle.std.proofs.Common.{◌≡◌, ℕ, suc, ◌+◌, ◌^◌, ◌<◌, ◌≤◌, List, [], ◌∷◌, length, drop, get_or}
 use Rattle.std.proofs.Common.{refl, sym, ap, subst, ◌∙◌, arith, IsPermutation}
-use Rattle.std.specs.List.{sum_by}
 use Rattle.std.proofs.Math.Seq.{drop-cons}
 use Rattle.std.proofs.lemmas.List.{drop_all}
 use Rattle.std.proofs.lemmas.List.Sums.{sum_by-cons}
@@ -14,7 +13,7 @@ use Rattle.ent_trace.specs.declared.line.Line.{Line}
 use Rattle.ent_trace.specs.declared.line.Line.TheVariants as line
 use Rattle.ent_trace.specs.declared.placed.Placed.{Placed}
 use Rattle.ent_trace.specs.Trace.{AreAnswered, FitsReserved, after_lines}
-use Rattle.ent_trace.specs.Checker.{reservations_of, reserve_lines, requested_in, Differs}
+use Rattle.ent_trace.specs.Checker.{reservations_of, requested_in, Differs}
 use Rattle.ent_trace.specs.Checker.{Fails}
 use Rattle.ent_trace.proofs.Sorted.{lines}
 

@@ -1,11 +1,11 @@
 -- A sorted run is in an order that its reservations may have come in: a stable sort by keys that don't
 -- fall along a caller keeps each caller's order.
-use Rattle.std.proofs.Common.{◌≡◌, ◌≢◌, ℕ, suc, ◌<◌, ◌≤◌, Bool, true, false, not, ◌&&◌, cond, nat_lt}
-use Rattle.std.proofs.Common.{List, [], ◌∷◌, ◌++◌, length, map, filter, All, refl, sym, ap, subst}
+use Rattle.std.proofs.Common.{◌≡◌, ℕ, suc, ◌≤◌, Bool, true, false, not, ◌&&◌, cond, nat_lt}
+use Rattle.std.proofs.Common.{List, [], ◌∷◌, ◌++◌, filter, All, refl, sym, ap, subst}
 use Rattle.std.proofs.Common.{◌∙◌, arith, true≢false, inl, inr}
 use Rattle.std.specs.Prelude.{◌==◌}
 use Rattle.std.specs.List.{AllByRecursion}
-use Rattle.std.specs.List.Sorted.{ties, IsStableByKey, IsNonDecreasingBy}
+use Rattle.std.specs.List.Sorted.{ties, IsNonDecreasingBy}
 use Rattle.std.specs.Ordering.{nat_cmp, is_lt}
 use Rattle.std.specs.declared.cmp.Ordering.TheVariants.{Less, Equal, Greater}
 use Rattle.std.proofs.lemmas.Bool.{cases_order, lt-ltb, le-ltb}
@@ -16,7 +16,7 @@ use Rattle.ent_trace.specs.declared.line.Line.TheVariants as line
 use Rattle.ent_trace.specs.declared.placed.Placed.{Placed}
 use Rattle.ent_trace.specs.Trace.{MayPass, IsOrderOf}
 use Rattle.ent_trace.specs.Checker.{reservations_of, reserve_lines, ComesAfter, AreSteady}
-use Rattle.ent_trace.proofs.Lists.{Splits, split, all_at, all_without, all_left}
+use Rattle.ent_trace.proofs.Lists.{split, all_at, all_without, all_left}
 
 abbrev pub lines : List Placed → List Line
 lines run = reserve_lines (reservations_of run)

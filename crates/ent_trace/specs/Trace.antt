@@ -1,8 +1,8 @@
 -- Traces: what was called and what was answered, and when one sequential allocator could have
 -- answered so.
-use Rattle.std.specs.Prelude.{◌≡◌, ◌≢◌, ℕ, nat_lt, if◌then◌else◌, List, [], ◌∷◌, ◌++◌, length, map}
+use Rattle.std.specs.Prelude.{◌≡◌, ◌≢◌, nat_lt, if◌then◌else◌, List, [], ◌∷◌, ◌++◌, length}
 use Rattle.std.specs.Prelude.{Option, Some, None, Result, Ok, Err, IfSome}
-use Rattle.std.specs.List.{AllByRecursion, Contains}
+use Rattle.std.specs.List.{AllByRecursion}
 use Rattle.std.specs.FinSet as set
 use Rattle.ent_handle.specs.Handle.{Handle}
 use Rattle.ent_alloc.specs.Sequential.{Allocator, reply_to, born, next, state_of}
@@ -16,7 +16,6 @@ use Rattle.ent_trace.specs.declared.reply.FlushReply.{FlushReply}
 use Rattle.ent_trace.specs.declared.reply.FlushReply.TheVariants as flush
 use Rattle.ent_trace.specs.declared.reply.ReserveReply.{ReserveReply}
 use Rattle.ent_trace.specs.declared.reply.ReserveReply.TheVariants as reserve
-use Rattle.ent_trace.specs.declared.line.Reservation.{Reservation}
 use Rattle.ent_trace.specs.declared.line.Line.{Line}
 use Rattle.ent_trace.specs.declared.line.Line.TheVariants as line
 

@@ -1,4 +1,4 @@
-use Rattle.std.proofs.Common.{◌≡◌, ℕ, pos, ◌-ℤ◌, List, [], ◌∷◌, Ok, Err, sym, ap, ◌∙◌, Result}
+use Rattle.std.proofs.Common.{◌≡◌, ℕ, pos, ◌-ℤ◌, List, [], ◌∷◌, Ok, sym, ap, ◌∙◌, Result}
 use Rattle.ent_handle.specs.Handle.{Handle}
 use Rattle.ent_alloc.specs.declared.space.Space.{Space}
 use Rattle.ent_alloc.specs.declared.span.Span.{Span}

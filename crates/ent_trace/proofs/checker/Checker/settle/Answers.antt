@@ -1,9 +1,9 @@
-use Rattle.std.proofs.Common.{◌≡◌, ℕ, ◌+◌, ◌^◌, ◌≤◌, List, [], sym, ap, subst, ◌∙◌, arith, rules}
+use Rattle.std.proofs.Common.{◌≡◌, ℕ, ◌+◌, List, [], sym, ap, subst, ◌∙◌, arith, rules}
 use Rattle.std.proofs.lemmas.List.Sorted.{IsNonDecreasingBy-from_sort_by_key, answers_always}
 use Rattle.std.proofs.lemmas.Result.{err_from_is_err_and}
 use Rattle.ent_alloc.specs.Sequential.{Allocator}
 use Rattle.ent_trace.specs.declared.placed.Placed.{Placed}
-use Rattle.ent_trace.specs.Trace.{AreAnswered, IsOrderOf, after_lines}
+use Rattle.ent_trace.specs.Trace.{IsOrderOf}
 use Rattle.ent_trace.specs.Checker.{Checked, IsChecking, IsSettled, Fails, Shows, reservations_of}
 use Rattle.ent_trace.specs.Checker.{requested_in}
 use Rattle.ent_trace.proofs.Sorted.{lines, key, rising, TieAlike, IsRising, sorted-IsOrderOf}
