@@ -20,6 +20,7 @@ pub mod LivingOccupant
 pub mod Released
 pub mod Retired
 pub mod Listing
+pub mod Places
 pub mod Reversed
 pub mod Meaning
 pub mod MeaningOfAlloc

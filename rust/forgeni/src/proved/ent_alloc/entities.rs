@@ -277,6 +277,29 @@ impl Entities {
         self.slots.occupants()
     }
 
+    /// Where a handle stands among those that there were to give at the last flush, counted from 0
+    /// in the order in which they are given. Requests don't change it. `None` if it isn't among
+    /// them. It takes constant time.
+    #[inline]
+    pub fn place(&self, handle: Handle) -> Option<u32>
+        // ensures found { IfSome result (λ place.
+        //     slice_get (available self.now.allocator) place ≡ Some handle) }
+        // ensures none { IfNone result (stands_in (available self.now.allocator) handle ≡ false) }
+    {
+        let waiting = self.slots.waiting();
+        match self.slots.occupancy_of(handle) {
+            Some(Occupancy::Pending { position }) => Some(waiting - 1 - position),
+            Some(Occupancy::Alive) => None,
+            Some(Occupancy::AliveWithRow { .. }) => None,
+            Some(Occupancy::Retired) => None,
+            None if self.slots.is_made(handle) => None,
+            None if self.slots.is_next(handle, self.room()) => {
+                Some(waiting + (handle.index() - self.slots.made()))
+            }
+            None => None,
+        }
+    }
+
     /// The row that a program keeps with a living entity. `None` if the handle isn't alive, or if
     /// no row was set since it came to life.
     #[inline]
