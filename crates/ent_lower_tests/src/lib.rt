@@ -32,6 +32,4 @@ mod reserving;
 #[cfg(test)]
 mod storing;
 #[cfg(test)]
-mod tracing;
-#[cfg(test)]
 mod worker;

@@ -317,6 +317,7 @@ const METHODS: &[&str] = &[
     "is_empty",
     "is_err",
     "is_none",
+    "is_none_or",
     "is_ok",
     "is_some",
     "iter",

@@ -1,5 +1,3 @@
-//! Traces, which no clause of `ent_trace` says: those that agree are taken, and which line of others is named.
-
 use ent_alloc::{Limits, State};
 use ent_handle::Handle;
 use ent_replay::HandleList;
