@@ -16,8 +16,8 @@ use Rattle.std.specs.FinMap.{find, is_sorted}
 use Rattle.std.specs.FinMap.Entries.{below_all}
 use Rattle.ent_handle.specs.Handle.{Handle, handle_cmp, handle_cmp_total}
 use Rattle.ent_handle.specs.Handle.{handle_cmp-IsAntisymmetric}
-use Rattle.ent_map.specs.HandleMap.{Values, without_slot}
-use Rattle.ent_map.specs.Slots.{value_at, slot_at, value_in, entries_from, map_of, padded}
+use Rattle.ent_map.specs.HandleMap.{HandleValues, without_slot}
+use Rattle.ent_map.specs.Slots.{value_under, slot_at, value_in, entries_from, map_of_slots, padded}
 use Rattle.ent_map.specs.Slots.{count_at}
 use Rattle.ent_map.specs.declared.slot.Slot.{Slot}
 use Rattle.ent_map.specs.declared.slot.Slot.TheVariants.{Vacant, Occupied}
@@ -103,29 +103,29 @@ module _ {X : Type 0} where
       (ties_apart q (record { index = index; generation = generation }) (λ e. omega (arith, e)))
       ∙ find_before q (index + 1) slots (omega arith)
 
-  vacant_past : (at wanted : ℕ) → value_at (slot_at {T = X} [] at) wanted ≡ None
+  vacant_past : (at wanted : ℕ) → value_under (slot_at {T = X} [] at) wanted ≡ None
   vacant_past at wanted =
-      ap (λ (s : Slot X). value_at s wanted) (get_or_past [] at Vacant (omega arith))
+      ap (λ (s : Slot X). value_under s wanted) (get_or_past [] at Vacant (omega arith))
 
   -- the first of the slots is not the one that is looked for
   later : (slot : Slot X) (slots : List (Slot X)) (q : Handle) (index : ℕ) → index < q.index
-      → value_at (get_or slots (q.index - (index + 1)) Vacant) q.generation
-      ≡ value_at (get_or (slot ∷ slots) (q.index - index) Vacant) q.generation
+      → value_under (get_or slots (q.index - (index + 1)) Vacant) q.generation
+      ≡ value_under (get_or (slot ∷ slots) (q.index - index) Vacant) q.generation
   later slot slots q index l =
       let off : suc (q.index - (index + 1)) ≡ q.index - index = omega arith in
-      ap (λ n. value_at (get_or (slot ∷ slots) n Vacant) q.generation) off
+      ap (λ n. value_under (get_or (slot ∷ slots) n Vacant) q.generation) off
 
   -- it is
   first_one : (slot : Slot X) (slots : List (Slot X)) (q : Handle) (index : ℕ) → q.index ≡ index
-      → value_at slot q.generation
-      ≡ value_at (get_or (slot ∷ slots) (q.index - index) Vacant) q.generation
+      → value_under slot q.generation
+      ≡ value_under (get_or (slot ∷ slots) (q.index - index) Vacant) q.generation
   first_one slot slots q index e =
       let off : 0 ≡ q.index - index = omega (arith, e) in
-      ap (λ n. value_at (get_or (slot ∷ slots) n Vacant) q.generation) off
+      ap (λ n. value_under (get_or (slot ∷ slots) n Vacant) q.generation) off
 
   find_from : (q : Handle) (index : ℕ) (slots : List (Slot X)) → index ≤ q.index
       → find handle_cmp q (entries_from index slots)
-      ≡ value_at (get_or slots (q.index - index) Vacant) q.generation
+      ≡ value_under (get_or slots (q.index - index) Vacant) q.generation
   find_from q index [] l = sym (vacant_past (q.index - index) q.generation)
   find_from q index (Vacant ∷ slots) l =
       elim (cases_eq q.index index) [
@@ -150,23 +150,23 @@ module _ {X : Type 0} where
       ]
 
   -- what the map has at a handle
-  pub get_map : (slots : List (Slot X)) (q : Handle) → map.get (map_of slots) q ≡ value_in slots q
+  pub get_map : (slots : List (Slot X)) (q : Handle) → map.get (map_of_slots slots) q ≡ value_in slots q
   get_map slots q =
       let off : q.index - 0 ≡ q.index = omega arith in
       map.get-from_sorted handle_cmp (entries_from 0 slots) q (rising 0 slots)
       ∙ find_from q 0 slots (omega arith)
-      ∙ ap (λ n. value_at (get_or slots n Vacant) q.generation) off
+      ∙ ap (λ n. value_under (get_or slots n Vacant) q.generation) off
 
   -- the entries of the map
-  pub entries_map : (slots : List (Slot X)) → map.entries (map_of slots) ≡ entries_from 0 slots
+  pub entries_map : (slots : List (Slot X)) → map.entries (map_of_slots slots) ≡ entries_from 0 slots
   entries_map slots = map.entries-from_sorted handle_cmp (entries_from 0 slots) (rising 0 slots)
 
-  pub len_map : (slots : List (Slot X)) → map.len (map_of slots) ≡ length (entries_from 0 slots)
-  len_map slots = map.len-entries (map_of slots) ∙ ap length (entries_map slots)
+  pub len_map : (slots : List (Slot X)) → map.len (map_of_slots slots) ≡ length (entries_from 0 slots)
+  len_map slots = map.len-entries (map_of_slots slots) ∙ ap length (entries_map slots)
 
   -- no slots have no values
-  pub map_none : map_of {T = X} [] ≡ map.empty
-  map_none = map.empty_of_len (map_of []) (len_map [])
+  pub map_none : map_of_slots {T = X} [] ≡ map.empty
+  map_none = map.empty_of_len (map_of_slots []) (len_map [])
 
   -- ---- count_at slot set
 
@@ -181,43 +181,43 @@ module _ {X : Type 0} where
 
   -- a slot that has nothing of the slot's handles but the value of one
   here_alone : (h q : Handle) (value : X) → q.index ≡ h.index
-      → value_at (Occupied h.generation value) q.generation
+      → value_under (Occupied h.generation value) q.generation
       ≡ cond (eq_by_cmp handle_cmp q h) (Some value) None
   here_alone h q value e =
       ap (λ b. cond b (Some value) None)
       (eqb_sym h.generation q.generation ∙ sym (ties_here q h e))
 
-  get-without : (m : Values X) (h q : Handle) → map.get (without_slot m h.index) q
+  get-without : (m : HandleValues X) (h q : Handle) → map.get (without_slot m h.index) q
       ≡ cond (not (eqb q.index h.index)) (map.get m q) None
   get-without m h q = map.get-retain_keys m (λ x. not (eqb x.index h.index)) q (alike h q)
 
   -- a value is put into a slot
   pub map-put : (slots : List (Slot X)) (h : Handle) (value : X) → h.index < length slots
-      → map_of (set slots h.index (Occupied h.generation value))
-      ≡ map.insert (without_slot (map_of slots) h.index) h value
+      → map_of_slots (set slots h.index (Occupied h.generation value))
+      ≡ map.insert (without_slot (map_of_slots slots) h.index) h value
   map-put slots h value within =
       map.same_map handle_cmp_total handle_cmp-IsAntisymmetric _ _ (λ q.
       get_map (set slots h.index (Occupied h.generation value)) q
       ∙ at q (cases_eq q.index h.index)
-      ∙ sym (map.get-insert handle_cmp_total (without_slot (map_of slots) h.index) h value q
-      ∙ ap (λ o. cond (eq_by_cmp handle_cmp q h) (Some value) o) (get-without (map_of slots) h q)))
+      ∙ sym (map.get-insert handle_cmp_total (without_slot (map_of_slots slots) h.index) h value q
+      ∙ ap (λ o. cond (eq_by_cmp handle_cmp q h) (Some value) o) (get-without (map_of_slots slots) h q)))
     where
       at : (q : Handle) → (q.index ≡ h.index) ⊎ (q.index ≢ h.index)
           → value_in (set slots h.index (Occupied h.generation value)) q
           ≡ cond (eq_by_cmp handle_cmp q h) (Some value)
-          (cond (not (eqb q.index h.index)) (map.get (map_of slots) q) None)
+          (cond (not (eqb q.index h.index)) (map.get (map_of_slots slots) q) None)
       at q (inl e) =
-          ap (λ s. value_at s q.generation)
+          ap (λ s. value_under s q.generation)
           ((slot-set slots h.index (Occupied h.generation value) q.index within).0 e)
           ∙ here_alone h q value e
           ∙ sym (ap (λ b. cond (eq_by_cmp handle_cmp q h) (Some value)
-          (cond (not b) (map.get (map_of slots) q) None)) (eq-eqb q.index h.index e))
+          (cond (not b) (map.get (map_of_slots slots) q) None)) (eq-eqb q.index h.index e))
       at q (inr ne) =
-          ap (λ s. value_at s q.generation)
+          ap (λ s. value_under s q.generation)
           ((slot-set slots h.index (Occupied h.generation value) q.index within).1 ne)
           ∙ sym (get_map slots q)
           ∙ sym (λ i. cond (ties_apart q h ne i) (Some value)
-          (cond (not (ne_eqb q.index h.index ne i)) (map.get (map_of slots) q) None))
+          (cond (not (ne_eqb q.index h.index ne i)) (map.get (map_of_slots slots) q) None))
 
   -- a slot has the value of the handle
   abbrev pub HasValue : List (Slot X) → Handle → X → Type 0
@@ -227,19 +227,19 @@ module _ {X : Type 0} where
       → q.index ≡ h.index → value_in slots q
       ≡ cond (eq_by_cmp handle_cmp q h) (Some value) None
   other_generation slots h q value has e =
-      ap (λ n. value_at (slot_at slots n) q.generation) e
-      ∙ ap (λ s. value_at s q.generation) has
+      ap (λ n. value_under (slot_at slots n) q.generation) e
+      ∙ ap (λ s. value_under s q.generation) has
       ∙ here_alone h q value e
 
   -- the value of a handle is written
   pub map-write : (slots : List (Slot X)) (h : Handle) (old value : X) → h.index < length slots
-      → HasValue slots h old → map_of (set slots h.index (Occupied h.generation value))
-      ≡ map.insert (map_of slots) h value
+      → HasValue slots h old → map_of_slots (set slots h.index (Occupied h.generation value))
+      ≡ map.insert (map_of_slots slots) h value
   map-write slots h old value within has =
       map.same_map handle_cmp_total handle_cmp-IsAntisymmetric _ _ (λ q.
       get_map (set slots h.index (Occupied h.generation value)) q
       ∙ at q (cases_eq q.index h.index)
-      ∙ sym (map.get-insert handle_cmp_total (map_of slots) h value q
+      ∙ sym (map.get-insert handle_cmp_total (map_of_slots slots) h value q
       ∙ ap (λ o. cond (eq_by_cmp handle_cmp q h) (Some value) o) (get_map slots q)))
     where
       covered : (b : Bool) (x y : Option X) → cond b x None ≡ cond b x (cond b y None)
@@ -250,25 +250,25 @@ module _ {X : Type 0} where
           → value_in (set slots h.index (Occupied h.generation value)) q
           ≡ cond (eq_by_cmp handle_cmp q h) (Some value) (value_in slots q)
       at q (inl e) =
-          ap (λ s. value_at s q.generation)
+          ap (λ s. value_under s q.generation)
           ((slot-set slots h.index (Occupied h.generation value) q.index within).0 e)
           ∙ here_alone h q value e
           ∙ covered (eq_by_cmp handle_cmp q h) (Some value) (Some old)
           ∙ sym (ap (λ o. cond (eq_by_cmp handle_cmp q h) (Some value) o)
           (other_generation slots h q old has e))
       at q (inr ne) =
-          ap (λ s. value_at s q.generation)
+          ap (λ s. value_under s q.generation)
           ((slot-set slots h.index (Occupied h.generation value) q.index within).1 ne)
           ∙ sym (ap (λ b. cond b (Some value) (value_in slots q)) (ties_apart q h ne))
 
   -- the value of a handle is taken out
   pub map-take : (slots : List (Slot X)) (h : Handle) (value : X) → h.index < length slots
-      → HasValue slots h value → map_of (set slots h.index Vacant) ≡ map.remove (map_of slots) h
+      → HasValue slots h value → map_of_slots (set slots h.index Vacant) ≡ map.remove (map_of_slots slots) h
   map-take slots h value within has =
       map.same_map handle_cmp_total handle_cmp-IsAntisymmetric _ _ (λ q.
       get_map (set slots h.index Vacant) q
       ∙ at q (cases_eq q.index h.index)
-      ∙ sym (map.get-remove handle_cmp_total (map_of slots) h q
+      ∙ sym (map.get-remove handle_cmp_total (map_of_slots slots) h q
       ∙ ap (λ o. cond (eq_by_cmp handle_cmp q h) None o) (get_map slots q)))
     where
       covered : (b : Bool) (y : Option X) → None ≡ cond b None (cond b y None)
@@ -279,12 +279,12 @@ module _ {X : Type 0} where
           → value_in (set slots h.index Vacant) q
           ≡ cond (eq_by_cmp handle_cmp q h) None (value_in slots q)
       at q (inl e) =
-          ap (λ s. value_at s q.generation) ((slot-set slots h.index Vacant q.index within).0 e)
+          ap (λ s. value_under s q.generation) ((slot-set slots h.index Vacant q.index within).0 e)
           ∙ covered (eq_by_cmp handle_cmp q h) (Some value)
           ∙ sym (ap (λ o. cond (eq_by_cmp handle_cmp q h) None o)
           (other_generation slots h q value has e))
       at q (inr ne) =
-          ap (λ s. value_at s q.generation) ((slot-set slots h.index Vacant q.index within).1 ne)
+          ap (λ s. value_under s q.generation) ((slot-set slots h.index Vacant q.index within).1 ne)
           ∙ sym (ap (λ b. cond b None (value_in slots q)) (ties_apart q h ne))
 
   one_more : (index : ℕ) (slot : Slot X) (slots : List (Slot X))
@@ -325,7 +325,7 @@ module _ {X : Type 0} where
       → entries_from 0 (padded slots count) ≡ entries_from 0 slots
   entries_padded slots count = entries_more 0 slots (count - length slots)
 
-  pub map_padded : (slots : List (Slot X)) (count : ℕ) → map_of (padded slots count) ≡ map_of slots
+  pub map_padded : (slots : List (Slot X)) (count : ℕ) → map_of_slots (padded slots count) ≡ map_of_slots slots
   map_padded slots count = ap (λ es. map.from_sorted {R = handle_cmp} es) (entries_padded slots count)
 
   -- ---- in pairs

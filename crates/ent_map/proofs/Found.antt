@@ -9,8 +9,8 @@ use Rattle.std.specs.Ordering.{eq_by_cmp}
 use Rattle.std.specs.Cmp.{Equal-is}
 use Rattle.ent_handle.specs.Handle.{Handle, handle_cmp, handle_cmp_total}
 use Rattle.ent_handle.specs.Handle.{handle_cmp-IsAntisymmetric}
-use Rattle.ent_map.specs.HandleMap.{Values, without_slot, HasLater}
-use Rattle.ent_map.specs.Slots.{value_at, value_of, slot_at, entries_from, map_of, count_at}
+use Rattle.ent_map.specs.HandleMap.{HandleValues, without_slot, HasLater}
+use Rattle.ent_map.specs.Slots.{value_under, any_value, slot_at, entries_from, map_of_slots, count_at}
 use Rattle.ent_map.specs.Slots.{AreCounted, padded, generation_of}
 use Rattle.ent_map.specs.declared.slot.Slot.{Slot}
 use Rattle.ent_map.specs.declared.slot.Slot.TheVariants.{Vacant, Occupied}
@@ -19,7 +19,7 @@ use Rattle.ent_map.proofs.Entries.{entries_padded}
 
 module _ {X : Type 0} where
   -- a handle without a value
-  pub remove_absent : (m : Values X) (h : Handle) → is_some (map.get m h) ≡ false
+  pub remove_absent : (m : HandleValues X) (h : Handle) → is_some (map.get m h) ≡ false
       → map.remove m h ≡ m
   remove_absent m h none =
       map.same_map handle_cmp_total handle_cmp-IsAntisymmetric _ _ (λ q.
@@ -41,13 +41,13 @@ module _ {X : Type 0} where
   occupied_if g wanted value true is some = (value, ap (λ n. Occupied n value) (eqb-true g wanted is))
   occupied_if g wanted value false is some = absurd (true≢false (sym some))
 
-  occupied : (slot : Slot X) (wanted : ℕ) → is_some (value_at slot wanted) ≡ true
+  occupied : (slot : Slot X) (wanted : ℕ) → is_some (value_under slot wanted) ≡ true
       → (found : X) × (slot ≡ Occupied wanted found)
   occupied Vacant wanted some = absurd (true≢false (sym some))
   occupied (Occupied g value) wanted some = occupied_if g wanted value (eqb g wanted) refl some
 
   -- the slot of a handle that the map has
-  pub found : (slots : List (Slot X)) (values : Values X) (h : Handle) → map_of slots ≡ values
+  pub found : (slots : List (Slot X)) (values : HandleValues X) (h : Handle) → map_of_slots slots ≡ values
       → is_some (map.get values h) ≡ true → (value : X) × HasValue slots h value
   found slots values h is some =
       occupied (slot_at slots h.index) h.generation
@@ -59,13 +59,13 @@ module _ {X : Type 0} where
   made slots h value has =
       elim (cases_lt h.index (length slots)) [
         | inl within ↦ within
-        | inr past ↦ absurd (true≢false ((ap (λ (s : Slot X). is_some (value_of s))
+        | inr past ↦ absurd (true≢false ((ap (λ (s : Slot X). is_some (any_value s))
             (sym has ∙ get_or_past slots h.index Vacant past))))
       ]
 
   -- what the map has at the handle
-  pub had : (slots : List (Slot X)) (values : Values X) (h : Handle) (value : X)
-      → map_of slots ≡ values → HasValue slots h value → value_at (slot_at slots h.index) h.generation
+  pub had : (slots : List (Slot X)) (values : HandleValues X) (h : Handle) (value : X)
+      → map_of_slots slots ≡ values → HasValue slots h value → value_under (slot_at slots h.index) h.generation
       ≡ map.get values h
   had slots values h value is has = sym (get_map slots h) ∙ ap (λ m. map.get m h) is
 
@@ -114,15 +114,15 @@ module _ {X : Type 0} where
       ∙ ap (slot_at slots) is ∙ has
 
   -- the map has the value
-  pub got : (slots : List (Slot X)) (values : Values X) (h : Handle) (value : X)
-      → map_of slots ≡ values → HasValue slots h value → map.get values h ≡ Some value
+  pub got : (slots : List (Slot X)) (values : HandleValues X) (h : Handle) (value : X)
+      → map_of_slots slots ≡ values → HasValue slots h value → map.get values h ≡ Some value
   got slots values h value is has =
-      sym (had slots values h value is has) ∙ ap (λ s. value_at s h.generation) has
+      sym (had slots values h value is has) ∙ ap (λ s. value_under s h.generation) has
       ∙ ap (λ b. cond b (Some value) None) (eq-eqb h.generation h.generation refl)
 
   -- ---- a later occupant of the slot
 
-  pub later : (slots : List (Slot X)) (values : Values X) (h : Handle) → map_of slots ≡ values
+  pub later : (slots : List (Slot X)) (values : HandleValues X) (h : Handle) → map_of_slots slots ≡ values
       → h.generation < generation_of (slot_at slots h.index) → HasLater values h
   later slots values h is above = by (slot_at slots h.index) refl above
     where
@@ -133,7 +133,7 @@ module _ {X : Type 0} where
           let q : Handle = record { index = h.index; generation = g } in
           (g, l, ap is_some (got slots values q value is e))
 
-  pub no_later : (slots : List (Slot X)) (values : Values X) (h : Handle) → map_of slots ≡ values
+  pub no_later : (slots : List (Slot X)) (values : HandleValues X) (h : Handle) → map_of_slots slots ≡ values
       → generation_of (slot_at slots h.index) ≤ h.generation → HasLater values h → ⊥
   no_later slots values h is least (g, above, some) =
       let q : Handle = record { index = h.index; generation = g } in
@@ -171,22 +171,22 @@ module _ {X : Type 0} where
     stood : before ≡ slot_at all h.index
     stood = read all index before reaches was ∙ ap (slot_at all) at
 
-    same : map_of all ≡ map_of slots
-    same = ap map_of is ∙ map_padded slots (index + 1)
+    same : map_of_slots all ≡ map_of_slots slots
+    same = ap map_of_slots is ∙ map_padded slots (index + 1)
 
     entered : set all index after ≡ set all h.index (Occupied h.generation value)
     entered = λ i. set all (at i) (written i)
 
-    pub put-map : (values : Values X) → map_of slots ≡ values → map_of (set all index after)
+    pub put-map : (values : HandleValues X) → map_of_slots slots ≡ values → map_of_slots (set all index after)
         ≡ map.insert (without_slot values h.index) h value
     put-map values stands =
-        ap map_of entered ∙ map-put all h value (omega (arith, reaches, at))
+        ap map_of_slots entered ∙ map-put all h value (omega (arith, reaches, at))
         ∙ ap (λ m. map.insert (without_slot m h.index) h value) (same ∙ stands)
 
-    pub put-before : (values : Values X) → map_of slots ≡ values → value_at before h.generation
+    pub put-before : (values : HandleValues X) → map_of_slots slots ≡ values → value_under before h.generation
         ≡ map.get values h
     put-before values stands =
-        ap (λ s. value_at s h.generation) stood ∙ sym (get_map all h)
+        ap (λ s. value_under s h.generation) stood ∙ sym (get_map all h)
         ∙ ap (λ m. map.get m h) (same ∙ stands)
 
     pub put-counted : (count lacking : ℕ) → AreCounted 0 slots count → index < 2 ^ 32 - 1

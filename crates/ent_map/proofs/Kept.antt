@@ -6,7 +6,7 @@ use Rattle.std.proofs.lemmas.List.{append-nil, append_assoc, take_all, take_more
 use Rattle.std.proofs.lemmas.List.{drop_more, drop-set-lt, length-take-le}
 use Rattle.ent_handle.specs.Handle.{Handle}
 use Rattle.ent_map.specs.Retained.{CalledAt, Retains, RetainsSlot}
-use Rattle.ent_map.specs.Slots.{entries_from, count_at, handle_at, value_of, generation_of}
+use Rattle.ent_map.specs.Slots.{entries_from, count_at, handle_in, any_value, generation_of}
 use Rattle.ent_map.specs.Slots.{slot_at, AreCounted}
 use Rattle.ent_map.proofs.Entries.{length-set_slot}
 use Rattle.ent_map.proofs.Found.{read}
@@ -71,8 +71,8 @@ module _ {X : Type 0} where
   -- ---- one slot
 
   -- the slot that has this handle and this value
-  pub slot_is : (slot : Slot X) (index : ℕ) (h : Handle) (value : X) → handle_at slot index ≡ Some h
-      → value_of slot ≡ Some value
+  pub slot_is : (slot : Slot X) (index : ℕ) (h : Handle) (value : X) → handle_in slot index ≡ Some h
+      → any_value slot ≡ Some value
       → (slot ≡ Occupied h.generation value) × (record { index = index; generation = h.generation } ≡ h)
   slot_is Vacant index h value e f = absurd (true≢false (sym (ap is_some e)))
   slot_is (Occupied generation old) index h value e f =
@@ -92,7 +92,7 @@ module _ {X F : Type 0} (step : F → Handle → MutBor X → Bool → MutBor X 
 
   -- f was called at the value of a slot, and kept it
   pub kept_slot : (f next : F) (index : ℕ) (slot : Slot X) (h : Handle) (shown left : MutBor X)
-      (keep : Bool) → handle_at slot index ≡ Some h → value_of slot ≡ Some shown.now
+      (keep : Bool) → handle_in slot index ≡ Some h → any_value slot ≡ Some shown.now
       → step f h shown keep left next → keep ≡ true
       → RetainsSlot step f index slot (Occupied (generation_of slot) left.now) next
   kept_slot f next index slot h shown left keep has value called is =
@@ -108,7 +108,7 @@ module _ {X F : Type 0} (step : F → Handle → MutBor X → Bool → MutBor X 
 
   -- it didn't
   pub gone_slot : (f next : F) (index : ℕ) (slot : Slot X) (h : Handle) (shown left : MutBor X)
-      (keep : Bool) → handle_at slot index ≡ Some h → value_of slot ≡ Some shown.now
+      (keep : Bool) → handle_in slot index ≡ Some h → any_value slot ≡ Some shown.now
       → step f h shown keep left next → keep ≡ false → RetainsSlot step f index slot Vacant next
   gone_slot f next index slot h shown left keep has value called is =
       let there = slot_is slot index h shown.now has value in

@@ -3,7 +3,7 @@ use Rattle.std.specs.Prelude.{◌≡◌, ℕ, ◌+◌, ◌-◌, ◌<◌, ◌^◌
 use Rattle.std.specs.Prelude.{length, replicate, slice_index_or, Option, None, Some}
 use Rattle.std.specs.FinMap as map
 use Rattle.ent_handle.specs.Handle.{Handle}
-use Rattle.ent_map.specs.HandleMap.{Values}
+use Rattle.ent_map.specs.HandleMap.{HandleValues}
 use Rattle.ent_map.specs.declared.slot.Slot.{Slot}
 use Rattle.ent_map.specs.declared.slot.Slot.TheVariants.{Vacant, Occupied}
 
@@ -19,20 +19,20 @@ module _ {T : Type 0} where
   count_at (Occupied generation value) = 1
 
   -- the handle of the occupant, if the slot is that of the index
-  abbrev pub handle_at : Slot T → ℕ → Option Handle
-  handle_at Vacant index = None
-  handle_at (Occupied generation value) index =
+  abbrev pub handle_in : Slot T → ℕ → Option Handle
+  handle_in Vacant index = None
+  handle_in (Occupied generation value) index =
       Some (record { index = index; generation = generation })
 
   -- the value
-  abbrev pub value_of : Slot T → Option T
-  value_of Vacant = None
-  value_of (Occupied generation value) = Some value
+  abbrev pub any_value : Slot T → Option T
+  any_value Vacant = None
+  any_value (Occupied generation value) = Some value
 
   -- the value of the occupant of that generation
-  abbrev pub value_at : Slot T → ℕ → Option T
-  value_at Vacant wanted = None
-  value_at (Occupied generation value) wanted = if generation == wanted then Some value else None
+  abbrev pub value_under : Slot T → ℕ → Option T
+  value_under Vacant wanted = None
+  value_under (Occupied generation value) wanted = if generation == wanted then Some value else None
 
   -- what stands in the slot of an index
   abbrev pub slot_at : List (Slot T) → ℕ → Slot T
@@ -40,7 +40,7 @@ module _ {T : Type 0} where
 
   -- the value of a handle
   abbrev pub value_in : List (Slot T) → Handle → Option T
-  value_in slots h = value_at (slot_at slots h.index) h.generation
+  value_in slots h = value_under (slot_at slots h.index) h.generation
 
   -- the handles and values, if the first slot is that of the index
   abbrev pub entries_from : ℕ → List (Slot T) → List (Handle × T)
@@ -50,8 +50,8 @@ module _ {T : Type 0} where
       (record { index = index; generation = generation }, value) ∷ entries_from (index + 1) slots
 
   -- the map that the slots stand for
-  abbrev pub map_of : List (Slot T) → Values T
-  map_of slots = map.from_sorted (entries_from 0 slots)
+  abbrev pub map_of_slots : List (Slot T) → HandleValues T
+  map_of_slots slots = map.from_sorted (entries_from 0 slots)
 
   -- the slots, with vacant ones behind until there are that many
   abbrev pub padded : List (Slot T) → ℕ → List (Slot T)

@@ -34,10 +34,10 @@ impl<T> Model for HandleMap<T> {
 
     ghost coded = { handle_map_code T.code };
 
-    ghost use Rattle.ent_map.specs.Slots.{map_of, AreCounted};
+    ghost use Rattle.ent_map.specs.Slots.{map_of_slots, AreCounted};
 
     ghost view = { λ m. record {
-      values = map_of m.slots.items;
+      values = map_of_slots m.slots.items;
       room = vec_capacity m.slots;
     } };
 

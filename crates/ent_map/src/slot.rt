@@ -1,7 +1,7 @@
 ghost use Rattle.std.specs.Prelude.{◌≡◌, ◌+◌, ◌-◌, ◌^◌, ◌<◌, ◌≤◌, Some, OnOk, OnErr};
 ghost use Rattle.std.specs.Prelude.{IsSome, length, option_copied, vec_capacity};
 ghost use Rattle.std.specs.Borrow.{Lends, sem};
-ghost use Rattle.ent_map.specs.Slots.{generation_of, handle_at, value_of, value_at, count_at, padded};
+ghost use Rattle.ent_map.specs.Slots.{generation_of, handle_in, any_value, value_under, count_at, padded};
 
 use crate::generation::Generation;
 use ent_handle::Handle;
@@ -40,7 +40,7 @@ impl<T> Slot<T> {
     /// The handle of the occupant that has the value, if the slot is that of the index.
     pub(crate) fn handle(&self, index: u32) -> Option<Handle>
         requires { index < 2 ^ 32 - 1 }
-        ensures { result ≡ handle_at self.now index }
+        ensures { result ≡ handle_in self.now index }
     {
         match self {
             Slot::Vacant => None,
@@ -60,7 +60,7 @@ impl<T> Slot<T> {
 
     /// The value, if it is that of the generation.
     pub(crate) fn value(&self, wanted: u32) -> Option<&T>
-        ensures { option_copied result ≡ value_at self.now wanted }
+        ensures { option_copied result ≡ value_under self.now wanted }
     {
         match self {
             Slot::Vacant => None,
@@ -78,7 +78,7 @@ impl<T> Slot<T> {
 impl<T: Drop> Slot<T> {
     /// The value, if it is that of the generation. Any other one is dropped.
     pub(crate) fn into_value(self, wanted: u32) -> Option<T>
-        ensures { result ≡ value_at self wanted }
+        ensures { result ≡ value_under self wanted }
     {
         match self {
             Slot::Vacant => None,
@@ -98,10 +98,10 @@ impl<T> Slot<T> {
 
     /// The value for writing. There has to be one.
     pub(crate) fn value_mut(&mut self) -> &mut T
-        requires { IsSome (value_of self.old) }
+        requires { IsSome (any_value self.old) }
         ensures* lends { sem 𝓛 (Lends (the_row T.row) T.row self.entry result
             (λ w. Slot.Occupied (generation_of self.old) w)) }
-        ensures value { value_of self.old ≡ Some result.now }
+        ensures value { any_value self.old ≡ Some result.now }
     {
         match self {
             Slot::Occupied { value, .. } => value,

@@ -5,61 +5,65 @@ use ent_handle::Handle;
 use ent_map::{HandleMap, InsertFault, Uninserted};
 use std::alloc::Global;
 use std::process::Abort;
-use std::test::Fail;
 
 // Slot 2 has an early and a late occupant.
-fn early() -> Result<Handle, Fail> {
-    Ok(Handle::new(2, 7).ok_or("a handle")?)
+fn early(rt: &impl Abort) -> Handle {
+    Handle::new(2, 7).expect(rt, "a handle")
 }
 
-fn late() -> Result<Handle, Fail> {
-    Ok(Handle::new(2, 9).ok_or("a handle")?)
+fn late(rt: &impl Abort) -> Handle {
+    Handle::new(2, 9).expect(rt, "a handle")
 }
 
-fn first() -> Result<Handle, Fail> {
-    Ok(Handle::new(0, 1).ok_or("a handle")?)
+fn first(rt: &impl Abort) -> Handle {
+    Handle::new(0, 1).expect(rt, "a handle")
 }
 
 #[test]
-fn texts(rt: HostRuntime) -> Result<(), Fail> {
+fn texts(rt: HostRuntime) {
     let mut names = HandleMap::new(rt.alloc());
-    insert(&mut names, late()?, text(rt.alloc(), "late")?)?;
-    insert(&mut names, first()?, text(rt.alloc(), "first")?)?;
-    assert!(rt; has(&names, late()?, "late") && has(&names, first()?, "first"));
-    assert!(rt; names.len() == 2 && !names.contains(early()?));
-    assert!(rt; is_later(names.insert(early()?, text(rt.alloc(), "early")?), "early"));
-    assert!(rt; has(&names, late()?, "late") && names.len() == 2);
-    assert!(rt; is_some(names.remove(late()?), "late") && names.remove(late()?).is_none());
-    assert!(rt; !names.contains(late()?) && names.len() == 1);
-    Ok(())
+    name_two(&rt, rt.alloc(), &mut names);
+    refuse_early(&rt, rt.alloc(), &mut names);
+    take_late(&rt, &mut names);
 }
 
-fn text(alloc: Global, of: &str) -> Result<Vec<u8>, Fail> {
-    Ok(of.as_bytes().to_vec(alloc)?)
+fn name_two(rt: &impl Abort, alloc: Global, names: &mut HandleMap<Vec<u8>>) {
+    let none = insert(rt, names, late(rt), text(rt, alloc, "late")).is_none();
+    let no_other = insert(rt, names, first(rt), text(rt, alloc, "first")).is_none();
+    assert!(rt; none && no_other && names.len() == 2);
+    assert!(rt; is(names.get(late(rt)), "late") && is(names.get(first(rt)), "first"));
 }
 
-fn insert<T: Drop>(map: &mut HandleMap<T>, handle: Handle, value: T) -> Result<Option<T>, Fail> {
-    match map.insert(handle, value) {
-        Ok(before) => Ok(before),
-        Err(_) => Err("a value that is inserted".into()),
-    }
+// A later occupant of the slot has a name, so the new one comes back.
+fn refuse_early(rt: &impl Abort, alloc: Global, names: &mut HandleMap<Vec<u8>>) {
+    let inserted = names.insert(early(rt), text(rt, alloc, "early"));
+    assert!(rt; is_later(inserted, "early") && names.len() == 2);
+    assert!(rt; is(names.get(late(rt)), "late") && names.get(early(rt)).is_none());
 }
 
-fn has(names: &HandleMap<Vec<u8>>, handle: Handle, want: &str) -> bool {
-    match names.get(handle) {
-        Some(name) => name.as_slice() == want.as_bytes(),
-        None => false,
-    }
+fn take_late(rt: &impl Abort, names: &mut HandleMap<Vec<u8>>) {
+    let taken = names.remove(late(rt));
+    assert!(rt; is(taken.as_ref(), "late") && names.len() == 1);
+    assert!(rt; names.remove(late(rt)).is_none() && !names.contains(late(rt)));
 }
 
-fn is_some(name: Option<Vec<u8>>, want: &str) -> bool {
+fn text(rt: &impl Abort, alloc: Global, of: &str) -> Vec<u8> {
+    of.as_bytes().to_vec(alloc).expect(rt, "memory for a text")
+}
+
+fn insert<T: Drop>(rt: &impl Abort, map: &mut HandleMap<T>, handle: Handle, value: T) -> Option<T> {
+    map.insert(handle, value)
+        .ok()
+        .expect(rt, "memory for a value")
+}
+
+fn is(name: Option<&Vec<u8>>, want: &str) -> bool {
     match name {
         Some(name) => name.as_slice() == want.as_bytes(),
         None => false,
     }
 }
 
-// Whether the name is handed back because a later occupant of the slot has one.
 fn is_later(inserted: Result<Option<Vec<u8>>, Uninserted<Vec<u8>>>, want: &str) -> bool {
     match inserted {
         Ok(_) => false,
@@ -70,36 +74,33 @@ fn is_later(inserted: Result<Option<Vec<u8>>, Uninserted<Vec<u8>>>, want: &str) 
 }
 
 #[test]
-fn nothing(rt: HostRuntime) -> Result<(), Fail> {
-    let mut marks = HandleMap::with_capacity(rt.alloc(), 3)?;
-    assert!(rt; marks.capacity() >= 3 && marks.is_empty());
-    insert(&mut marks, early()?, ())?;
-    insert(&mut marks, first()?, ())?;
-    assert!(rt; insert(&mut marks, first()?, ())? == Some(()) && marks.len() == 2);
-    assert!(rt; insert(&mut marks, late()?, ())? == None && marks.len() == 2);
-    assert!(rt; marks.contains(late()?) && !marks.contains(early()?));
+fn nothing(rt: HostRuntime) {
+    let mut marks = HandleMap::with_capacity(rt.alloc(), 3).expect(&rt, "memory for three");
+    mark(&rt, &mut marks);
     marks.clear();
-    assert!(rt; marks.is_empty() && marks.capacity() >= 3 && !marks.contains(first()?));
-    Ok(())
+    assert!(rt; marks.is_empty() && marks.capacity() >= 3 && !marks.contains(first(&rt)));
+}
+
+fn mark(rt: &impl Abort, marks: &mut HandleMap<()>) {
+    assert!(rt; insert(rt, marks, early(rt), ()).is_none() && marks.len() == 1);
+    assert!(rt; insert(rt, marks, early(rt), ()).is_some() && marks.len() == 1);
+    assert!(rt; insert(rt, marks, late(rt), ()).is_none() && marks.len() == 1);
+    assert!(rt; marks.contains(late(rt)) && !marks.contains(early(rt)));
 }
 
 #[test]
-fn numbers(rt: HostRuntime) -> Result<(), Fail> {
+fn numbers(rt: HostRuntime) {
     let mut health = HandleMap::new(rt.alloc());
-    insert(&mut health, early()?, 20)?;
-    insert(&mut health, first()?, 30)?;
-    write(&rt, &mut health, early()?, 25);
-    assert!(rt; health.get_mut(late()?).is_none());
-    assert!(rt; health.get(early()?) == Some(&25) && health.get(first()?) == Some(&30));
-    lists(&rt, &health, &[(first()?, 30), (early()?, 25)]);
-    assert!(rt; insert(&mut health, late()?, 40)? == None);
-    lists(&rt, &health, &[(first()?, 30), (late()?, 40)]);
-    health.retain(|_, value| {
-        *value = value.wrapping_add(5);
-        *value < 40
-    });
-    lists(&rt, &health, &[(first()?, 35)]);
-    Ok(())
+    heal(&rt, &mut health);
+    keep_weak(&rt, &mut health);
+}
+
+fn heal(rt: &impl Abort, health: &mut HandleMap<u32>) {
+    insert(rt, health, late(rt), 20);
+    insert(rt, health, first(rt), 30);
+    write(rt, health, late(rt), 25);
+    assert!(rt; health.get_mut(early(rt)).is_none());
+    assert_lists(rt, health, &[(first(rt), 30), (late(rt), 25)]);
 }
 
 fn write(rt: &impl Abort, health: &mut HandleMap<u32>, handle: Handle, value: u32) {
@@ -109,7 +110,15 @@ fn write(rt: &impl Abort, health: &mut HandleMap<u32>, handle: Handle, value: u3
     }
 }
 
-fn lists(rt: &impl Abort, health: &HandleMap<u32>, want: &[(Handle, u32)]) {
+fn keep_weak(rt: &impl Abort, health: &mut HandleMap<u32>) {
+    health.retain(|_, value| {
+        *value = value.wrapping_add(5);
+        *value < 35
+    });
+    assert_lists(rt, health, &[(late(rt), 30)]);
+}
+
+fn assert_lists(rt: &impl Abort, health: &HandleMap<u32>, want: &[(Handle, u32)]) {
     let walk = health.iter();
     assert!(rt; walk.len() == want.len());
     for ((handle, value), (same, number)) in walk.zip(want) {

@@ -1,6 +1,6 @@
 use Rattle.std.proofs.Common.{◌≡◌, get_or, refl, sym, ap, ◌∙◌, arith}
 use Rattle.ent_map.specs.HandleMap.{HandleMap}
-use Rattle.ent_map.specs.Slots.{value_at, generation_of, slot_at}
+use Rattle.ent_map.specs.Slots.{value_under, generation_of, slot_at}
 use Rattle.ent_map.proofs.Found.{later, no_later, few_values, put-map, put-before, put-counted}
 use Rattle.ent_map.proofs.handle_map.HandleMap.insert.Goals as goal
 
@@ -75,7 +75,7 @@ returns-clause-before g c =
     let was = c.replace-before.ensures.value ∙ c.index_mut.ensures.value
     ∙ ap (get_or all at) (sym c.replace-before.ensures.value) in
     c.into_value.ensures
-    ∙ ap (value_at c.replace-before.result) c.generation-2.ensures
+    ∙ ap (value_under c.replace-before.result) c.generation-2.ensures
     ∙ put-before c.self.inside.slots.items all c.args.handle at c.replace-before.result
     c.replace-before.new.dest c.args.value c.index_of-index.ensures.value c.in-Ok.ensures.ok was
     (c.replace-before.ensures.after ∙ c.of.ensures) _

@@ -1,7 +1,7 @@
 use Rattle.std.proofs.Common.{set, sym, ap, ◌∙◌, arith}
 use Rattle.std.specs.FinMap as map
 use Rattle.ent_map.specs.HandleMap.{HandleMap}
-use Rattle.ent_map.specs.Slots.{value_at, map_of}
+use Rattle.ent_map.specs.Slots.{value_under, map_of_slots}
 use Rattle.ent_map.proofs.Entries.{map-take}
 use Rattle.ent_map.proofs.Found.{remove_absent, found, made, had, counted-take, read_of}
 use Rattle.ent_map.proofs.handle_map.HandleMap.remove.Goals as goal
@@ -46,7 +46,7 @@ returns-clause-value g c =
     let is = read_of slots h f.0 c.index.result c.index_mut.result.now f.1 c.index.ensures
     c.index_mut.ensures.value in
     c.into_value.ensures
-    ∙ (λ i. value_at ((c.replace-slot.ensures.value ∙ is ∙ sym f.1) i) (c.generation.ensures i))
+    ∙ (λ i. value_under ((c.replace-slot.ensures.value ∙ is ∙ sym f.1) i) (c.generation.ensures i))
     ∙ had slots _ h f.0 values f.1
 
 pub returns-clause-map : goal.returns-clause-map
@@ -55,7 +55,7 @@ returns-clause-map g c =
     let slots = c.self.inside.slots.items in
     let values = ap (λ (m : HandleMap g.row.T.Denot). m.values) c.self.view_is in
     let f = found slots _ h values (sym c.contains.ensures ∙ c.if-not-contains.false) in
-    let taken = (λ i. map_of (set slots (c.index.ensures i) (c.replace-slot.ensures.after i)))
+    let taken = (λ i. map_of_slots (set slots (c.index.ensures i) (c.replace-slot.ensures.after i)))
     ∙ map-take slots h f.0 (made slots h f.0 f.1) f.1 ∙ ap (λ m. map.remove m h) values in
     λ i. record {
       values = taken i;

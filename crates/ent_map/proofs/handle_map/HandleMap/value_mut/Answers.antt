@@ -1,7 +1,7 @@
 use Rattle.std.proofs.Common.{IsSome, set, refl, sym, ap, subst, ◌∙◌, arith}
 use Rattle.std.specs.FinMap as map
 use Rattle.ent_map.specs.HandleMap.{HandleMap}
-use Rattle.ent_map.specs.Slots.{value_of, generation_of, map_of}
+use Rattle.ent_map.specs.Slots.{any_value, generation_of, map_of_slots}
 use Rattle.ent_map.specs.declared.slot.Slot.{Slot}
 use Rattle.ent_map.specs.declared.slot.Slot.TheVariants.{Occupied}
 use Rattle.ent_map.proofs.Entries.{map-write}
@@ -24,7 +24,7 @@ value_mut-requires g c =
     let f = found slots _ h values c.requires in
     let is = read_of slots h f.0 c.index.result c.index_mut.result.now f.1 c.index.ensures
     c.index_mut.ensures.value in
-    subst (λ (s : Slot g.row.T.Denot). IsSome (value_of s)) (sym is) refl
+    subst (λ (s : Slot g.row.T.Denot). IsSome (any_value s)) (sym is) refl
 
 pub invariant_of-self-lent : goal.invariant_of-self-lent
 invariant_of-self-lent g c w =
@@ -47,7 +47,7 @@ returns g c =
       (
         refl,
         λ w.
-            let written = (λ i. map_of (set slots (c.index.ensures i)
+            let written = (λ i. map_of_slots (set slots (c.index.ensures i)
             (Occupied (generation_of (is i)) w)))
             ∙ map-write slots h f.0 w (made slots h f.0 f.1) f.1
             ∙ ap (λ m. map.insert m h w) values in
@@ -58,6 +58,6 @@ returns g c =
       ),
       record {
         writes_back = tt;
-        value = got slots _ h f.0 values f.1 ∙ sym (ap value_of is) ∙ c.value_mut.ensures.value;
+        value = got slots _ h f.0 values f.1 ∙ sym (ap any_value is) ∙ c.value_mut.ensures.value;
       },
     )
