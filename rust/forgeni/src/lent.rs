@@ -21,6 +21,8 @@ impl<'a> Lent<'a> {
         Self { reserver }
     }
 
+    /// The same, for less long.
+    #[cfg(feature = "std")]
     pub(crate) fn again(&mut self) -> Lent<'_> {
         Lent::of(self.reserver)
     }

@@ -134,8 +134,8 @@
 //!
 //! # Features
 //!
-//! `std`, which is on by default: `run_frame` and its systems, since they start threads. Without it
-//! the package is `no_std` with `alloc`.
+//! `std`, which is on by default: `run_frame` and its systems, since they start threads, and the pool
+//! `Reservers`, since it may wait. Without it the package is `no_std` with `alloc`.
 #![cfg_attr(not(test), no_std)]
 #![forbid(unsafe_code)]
 #![deny(missing_docs)]

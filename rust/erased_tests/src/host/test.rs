@@ -21,9 +21,10 @@ impl From<RunMemory> for Fail {
     }
 }
 
-impl<E: Error> From<E> for Fail {
+/// An error or a text.
+impl<E: Into<Box<dyn Error>>> From<E> for Fail {
     fn from(error: E) -> Self {
-        Fail(error.to_string())
+        Fail(error.into().to_string())
     }
 }
 
