@@ -1,6 +1,6 @@
 -- The first of a list that passes a test, and keys as they lie in memory.
 use Rattle.std.proofs.Common.{◌≡◌, refl, ap, ◌∙◌, ℕ, Bool, true, false, cond, not, List, [], ◌∷◌}
-use Rattle.std.proofs.Common.{filter, map, Some, slice_get, Bor, bytes_eq, option_map, string_bytes}
+use Rattle.std.proofs.Common.{filter, map, Some, slice_get, Bor, bytes_eq, option_map}
 use Rattle.std.proofs.Common.{Option, None, ℤ, is_some, is_none, true≢false, sym}
 use Rattle.std.specs.List.{list_any}
 use Rattle.serde_json.specs.Data.{Data}

@@ -2,7 +2,7 @@ use Rattle.std.proofs.Common.{◌≡◌, ◌+◌, true, false, sym, ap, ◌∙�
 use Rattle.std.proofs.Common.{Some, option_map}
 use Rattle.serde_json.specs.View.{view}
 use Rattle.ent_script.specs.Names.{as_name}
-use Rattle.spawnrun_advice.specs.Place.{Place, bad_name, is_listed, name_place, twice}
+use Rattle.spawnrun_advice.specs.Place.{bad_name, is_listed, name_place, twice}
 use Rattle.spawnrun_advice.proofs.Firsts.{listed_lent, next_bad}
 use Rattle.spawnrun_advice.proofs.first.bad_name.Goals as goal
 

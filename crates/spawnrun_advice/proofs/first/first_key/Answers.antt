@@ -1,6 +1,5 @@
 use Rattle.std.proofs.Common.{◌≡◌, true, false, sym, ap, ◌∙◌, ℕ, List, map, Bor, Some, string_bytes}
 use Rattle.std.proofs.Common.{String, Global}
-use Rattle.std.proofs.lemmas.Bool.{iff_false}
 use Rattle.serde_json.specs.declared.value.Value.{Value}
 use Rattle.ent_script.proofs.Values.{pair_view}
 use Rattle.spawnrun_advice.specs.Place.{is_among, key_but}

@@ -1,6 +1,5 @@
-use Rattle.std.proofs.Common.{◌≡◌, true, false, sym, ap, ◌∙◌, ℕ, List, map, Some, string_bytes}
+use Rattle.std.proofs.Common.{◌≡◌, true, false, sym, ap, ◌∙◌, List, map, Some, string_bytes}
 use Rattle.std.proofs.Common.{String, Global}
-use Rattle.std.proofs.lemmas.Bool.{iff_false}
 use Rattle.serde_json.specs.View.{view}
 use Rattle.serde_json.specs.declared.value.Value.{Value}
 use Rattle.ent_script.proofs.Values.{pair_view}
