@@ -1,7 +1,10 @@
-//! An allocator that refuses. The tests of `rust/forgeni` include this file, and are programs whose memory
-//! comes from it. It is the one file with `unsafe` code: Rust's trait of allocators wants it.
+//! An allocator that refuses, and counts. The tests and benches of `rust/forgeni` include this file, and are
+//! programs whose memory comes from it. It is the one file with `unsafe` code: Rust's trait of allocators wants it.
 //!
 //! What is refused is said by each thread for itself, so a test that runs beside others doesn't touch them.
+
+// Who includes it may use a part of it alone.
+#![allow(dead_code)]
 
 use std::alloc::{GlobalAlloc, Layout, System};
 use std::cell::Cell;
@@ -23,6 +26,7 @@ thread_local! {
     static REFUSAL: Cell<Refusal> = const { Cell::new(Refusal::None) };
     static REFUSED: Cell<usize> = const { Cell::new(0) };
     static BLOCKS: Cell<isize> = const { Cell::new(0) };
+    static BYTES: Cell<isize> = const { Cell::new(0) };
 }
 
 /// Does this while memory is refused so. Also returns how often it was refused.
@@ -33,6 +37,13 @@ pub fn refusing<T>(refusal: Refusal, work: impl FnOnce() -> T) -> (T, usize) {
     let done = work();
     drop(reset);
     (done, REFUSED.get())
+}
+
+/// Does this, and returns how many bytes more this thread has after it than before.
+pub fn held<T>(work: impl FnOnce() -> T) -> (T, isize) {
+    let before = BYTES.get();
+    let done = work();
+    (done, BYTES.get() - before)
 }
 
 /// Sets the refusal back, also if the work panics.
@@ -71,12 +82,14 @@ unsafe impl GlobalAlloc for Refusing {
             return std::ptr::null_mut();
         }
         BLOCKS.set(BLOCKS.get() + 1);
+        BYTES.set(BYTES.get() + layout.size() as isize);
         // SAFETY: as the caller of this.
         unsafe { System.alloc(layout) }
     }
 
     unsafe fn dealloc(&self, block: *mut u8, layout: Layout) {
         BLOCKS.set(BLOCKS.get() - 1);
+        BYTES.set(BYTES.get() - layout.size() as isize);
         // SAFETY: as the caller of this.
         unsafe { System.dealloc(block, layout) }
     }
@@ -85,6 +98,7 @@ unsafe impl GlobalAlloc for Refusing {
         if is_refused() {
             return std::ptr::null_mut();
         }
+        BYTES.set(BYTES.get() + size as isize - layout.size() as isize);
         // SAFETY: as the caller of this.
         unsafe { System.realloc(block, layout, size) }
     }

@@ -95,6 +95,10 @@ def groups_of(lines):
         part = next((it for begin, it in PARTS.items() if work.startswith(begin)), part)
         ratios = [numbers_of(plain)[0], numbers_of(slots)[0], None]
         groups.setdefault(part, []).append((work.replace("`", ""), ratios, numbers_of(by_place)[:2]))
+    for work, entities, _, _, plain, by_place, _, slots in rows_with(lines, "Work", "Entities"):
+        ratios = [numbers_of(plain)[0], numbers_of(slots)[0], None]
+        label = f"{work.replace('`', '')}: {entities}"
+        groups.setdefault("Components, by number of entities", []).append((label, ratios, numbers_of(by_place)[:2]))
     for column, how in (-2, "singly"), (-1, "64 at once"):
         for row in rows_with(lines, "Threads", "Singly"):
             ratios = [None, None, numbers_of(row[column])[0]]

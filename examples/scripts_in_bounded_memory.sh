@@ -1,9 +1,10 @@
 #!/bin/sh
 # Runs `spawnrun run` on scripts that would take much memory if it kept more of them than it has to, each under a limit on its address
 # space: what the program takes for a script of nothing, which is measured first, and the figure that stands with the script below. No
-# contract speaks of that memory. A figure is between half as much again and twice what the script takes. It needs `python3` and `timeout`
-# on the path, a shell with `ulimit -v`, and the program as `.ci/run` or `prove.sh` built it. If it wasn't built, `rt`, which then proves
-# it first.
+# contract speaks of that memory. A figure stands above what its script takes, and below what it would take if the program kept what the
+# comment beside it names. For small scripts that is up to twice what they take, for large ones less. It needs `python3` and `timeout` on
+# the path, a shell with `ulimit -v`, and the program as `.ci/run` or `prove.sh` built it. If it wasn't built, `rt`, which then proves it
+# first.
 set -eu
 here=$(cd "$(dirname "$0")" && pwd)
 out=$(mktemp -d)

@@ -4,6 +4,7 @@
 //! The files lie in the folder that the program runs in. Its words name them.
 #![tactic(auto)]
 
+mod allocating;
 mod call;
 mod case;
 mod filling;
@@ -11,11 +12,13 @@ mod frames;
 mod numbers;
 mod phase;
 mod queues;
+mod sharing;
 mod storing;
 mod viewing;
 mod worlding;
 mod writing;
 
+use allocating::Allocating;
 use anyhow::{Result, ensure};
 use case::Case;
 use std::env;
@@ -49,7 +52,9 @@ where
     R: Print + Threads + Sync + AllocGlobal,
 {
     let mut case = Case::new(rt.alloc(), name);
-    if name.starts_with("storage") {
+    if name.starts_with("alloc") {
+        run_alloc(rt, &mut case, text)?;
+    } else if name.starts_with("storage") {
         run_storage(rt, &mut case, text)?;
     } else {
         run_world(rt, &mut case, text)?;
@@ -57,6 +62,13 @@ where
     let (calls, differ) = (case.calls, case.differ);
     println!(rt; "{name}: {calls} calls, {differ} differ")?;
     Ok(differ)
+}
+
+fn run_alloc<R>(rt: &R, case: &mut Case<'_>, text: &str) -> Result<()>
+where
+    R: Print + Threads + Sync + AllocGlobal,
+{
+    case.run(rt, &mut Allocating::new(rt.alloc()), text)
 }
 
 fn run_storage<R>(rt: &R, case: &mut Case<'_>, text: &str) -> Result<()>

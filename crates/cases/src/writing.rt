@@ -1,5 +1,6 @@
 //! What calls return, as text.
 
+use ent_alloc::Reserved;
 use ent_handle::{Birth, ComponentId, Handle};
 use ent_storage::Items;
 use ent_world::{Fault, FaultKind};
@@ -104,6 +105,17 @@ impl Out {
         for handle in handles {
             self.word(" ");
             self.show(handle);
+        }
+    }
+
+    /// The handles that a request was given.
+    pub fn reserved(&mut self, handles: Reserved<'_>) {
+        if handles.len() == 0 {
+            self.word("empty");
+        }
+        for handle in handles {
+            self.word(" ");
+            self.show(&handle);
         }
     }
 

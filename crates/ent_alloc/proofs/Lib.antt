@@ -20,6 +20,7 @@ pub mod LivingOccupant
 pub mod Released
 pub mod Retired
 pub mod Listing
+pub mod Places
 pub mod Reversed
 pub mod Meaning
 pub mod MeaningOfAlloc
@@ -28,5 +29,6 @@ pub mod MeaningOfRequests
 pub mod MeaningOfReplies
 pub mod OneReply
 pub mod Looked
+pub mod InOrder
 pub mod Histories
 pub mod RowsOfLiving

@@ -3,6 +3,7 @@ pub mod Sequential
 pub mod Span
 pub mod Roster
 pub mod Slots
+pub mod LivingHandles
 pub mod Sound
 pub mod Reserved
 pub mod Entities

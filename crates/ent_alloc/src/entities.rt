@@ -1,9 +1,10 @@
 ghost use Rattle.std.specs.Prelude.{◌≡◌, ◌≢◌, ◌+◌, ◌-◌, ◌^◌, ◌<◌, ◌≤◌, ◌↔◌, ◌⊎◌};
-ghost use Rattle.std.specs.Prelude.{IsTrue, IfOk, OnOk, OnSome, OnErr, IsErrOf, Some, None, true, false};
-ghost use Rattle.std.specs.Prelude.{[], ◌++◌, All, length, slice_get, vec_len, vec_capacity};
+ghost use Rattle.std.specs.Prelude.{IsTrue, IfOk, OnOk, OnSome, OnErr, IsErrOf, IfSome, IfNone, Some, None};
+ghost use Rattle.std.specs.Prelude.{true, false};
+ghost use Rattle.std.specs.Prelude.{[], ◌++◌, All, AllPairs, length, slice_get, vec_len, vec_capacity};
 ghost use Rattle.std.specs.FinSet as set;
 ghost use Rattle.std.specs.FinMap as map;
-ghost use Rattle.ent_alloc.specs.Sequential.{opening, top, cursor};
+ghost use Rattle.ent_alloc.specs.Sequential.{opening, top, cursor, available, stands_in};
 ghost use Rattle.ent_alloc.specs.Sequential.{born, made_at_flush, next};
 ghost use Rattle.ent_alloc.specs.Sequential.{state_of, retired, after_flush};
 ghost use Rattle.ent_alloc.specs.Sequential.{after_alloc, after_free};
@@ -12,6 +13,7 @@ ghost use Rattle.ent_alloc.specs.Entities.{HasRowsOfLiving};
 
 use crate::fault::{AllocFault, FreeFault, Freed};
 use crate::limits::Limits;
+use crate::living_handles::LivingHandles;
 use crate::requests::Requests;
 use crate::slot_record::Occupancy;
 use crate::slots::Slots;
@@ -265,6 +267,44 @@ impl Entities {
             State::Reserved
         } else {
             State::Gone
+        }
+    }
+
+    /// Whether the handle is alive. It takes constant time.
+    pub fn is_alive(&self, handle: Handle) -> bool
+        ensures { result ≡ set.contains self.now.allocator.live handle }
+    {
+        self.slots.is_alive(handle)
+    }
+
+    /// The living handles, by rising slot. It takes no memory.
+    pub fn iter(&self) -> LivingHandles<'_>
+        ensures living { set.from_list result ≡ self.now.allocator.live }
+        ensures rising { AllPairs (λ g h. g.index < h.index) result }
+        ensures count { length result ≡ set.len self.now.allocator.live }
+    {
+        self.slots.occupants()
+    }
+
+    /// Where a handle stands among those that there were to give at the last flush, counted from 0
+    /// in the order in which they are given. Requests don't change it. `None` if it isn't among
+    /// them. It takes constant time.
+    pub fn place(&self, handle: Handle) -> Option<u32>
+        ensures found { IfSome result (λ place.
+            slice_get (available self.now.allocator) place ≡ Some handle) }
+        ensures none { IfNone result (stands_in (available self.now.allocator) handle ≡ false) }
+    {
+        let waiting = self.slots.waiting();
+        match self.slots.occupancy_of(handle) {
+            Some(Occupancy::Pending { position }) => Some(waiting - 1 - position),
+            Some(Occupancy::Alive) => None,
+            Some(Occupancy::AliveWithRow { .. }) => None,
+            Some(Occupancy::Retired) => None,
+            None if self.slots.is_made(handle) => None,
+            None if self.slots.is_next(handle, self.room()) => {
+                Some(waiting + (handle.index() - self.slots.made()))
+            }
+            None => None,
         }
     }
 

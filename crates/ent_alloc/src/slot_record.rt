@@ -2,7 +2,7 @@ ghost use Rattle.std.specs.Prelude.{◌≡◌, ◌+◌, ◌-◌, ◌^◌, ◌<�
 ghost use Rattle.std.specs.Prelude.{length, map, replicate, All, vec_len, vec_capacity};
 ghost use Rattle.ent_handle.specs.Handle.{IsHandle};
 ghost use Rattle.ent_alloc.specs.Sequential.{fresh};
-ghost use Rattle.ent_alloc.specs.Slots.{new_record, occupancy_of, handle_at, reused};
+ghost use Rattle.ent_alloc.specs.Slots.{new_record, is_alive, occupancy_of, handle_at, reused};
 
 use ent_handle::Handle;
 
@@ -37,6 +37,16 @@ impl SlotRecord {
         SlotRecord {
             generation: 1,
             occupancy: Occupancy::Alive,
+        }
+    }
+
+    /// Whether a living entity has the slot.
+    pub(crate) fn is_alive(&self) -> bool
+        ensures { result ≡ is_alive self.now.occupancy }
+    {
+        match self.occupancy {
+            Occupancy::Alive | Occupancy::AliveWithRow { .. } => true,
+            Occupancy::Pending { .. } | Occupancy::Retired => false,
         }
     }
 }

@@ -1,7 +1,7 @@
 ghost use Rattle.std.specs.Prelude.{◌≡◌, ℕ, ◌+◌, ◌-◌, ◌^◌, ◌<◌, ◌≤◌, ◌↔◌, ◌⊎◌, ◌≢◌};
 ghost use Rattle.std.specs.Prelude.{IsTrue, IfOk, OnOk, OnErr, IfSome, OnSome, IfNone, true, []};
 ghost use Rattle.std.specs.Prelude.{◌∷◌, ◌++◌};
-ghost use Rattle.std.specs.Prelude.{length, take, drop, pos, slice_get, vec_len, vec_capacity};
+ghost use Rattle.std.specs.Prelude.{length, take, drop, pos, slice_get, vec_len, vec_capacity, AllPairs};
 ghost use Rattle.std.specs.FinSet as set;
 ghost use Rattle.std.specs.FinMap as maps;
 ghost use Rattle.ent_alloc.specs.Limits.{AreLimits};
@@ -9,6 +9,7 @@ ghost use Rattle.ent_alloc.specs.Sequential.{fresh as fresh_handles, following, 
 ghost use Rattle.ent_alloc.specs.Slots.{lives, row_kept, waits_from};
 
 use crate::limits::Limits;
+use crate::living_handles::LivingHandles;
 use crate::slot_record;
 use crate::slot_record::{Occupancy, SlotRecord, first_occupant, make_all, reuse_all};
 use ent_handle::{Handle, Memory};
@@ -99,6 +100,15 @@ impl Slots {
         ensures { result ≡ set.len self.now.live }
     {
         self.live
+    }
+
+    /// The living occupants, by rising slot.
+    pub(crate) fn occupants(&self) -> LivingHandles<'_>
+        ensures living { set.from_list result ≡ self.now.live }
+        ensures rising { AllPairs (λ g h. g.index < h.index) result }
+        ensures count { length result ≡ set.len self.now.live }
+    {
+        LivingHandles::new(&self.records, self.live)
     }
 
     /// Who has the handle's slot; `None` if the slot wasn't made or is at another generation.

@@ -8,7 +8,7 @@ use std::marker::Model;
 
 /// A value for each of some callers.
 #[derive(Drop)]
-pub(crate) struct ByCaller<V> {
+pub struct ByCaller<V> {
     values: BTreeMap<u32, V>,
 }
 
@@ -26,7 +26,7 @@ impl<V> Model for ByCaller<V> {
 
 impl<V: Copy> ByCaller<V> {
     /// No caller has a value. It takes no memory.
-    pub(crate) fn new(alloc: Global) -> Self
+    pub fn new(alloc: Global) -> Self
         ensures { result ≡ map.empty }
     {
         ByCaller {
@@ -35,14 +35,14 @@ impl<V: Copy> ByCaller<V> {
     }
 
     /// Whether no caller has a value.
-    pub(crate) fn is_empty(&self) -> bool
+    pub fn is_empty(&self) -> bool
         ensures { IsTrue result ↔ (self.now ≡ map.empty) }
     {
         self.values.is_empty()
     }
 
     /// The caller's value, found in logarithmic time.
-    pub(crate) fn get(&self, caller: u32) -> Option<V>
+    pub fn get(&self, caller: u32) -> Option<V>
         ensures { result ≡ map.get self.now caller }
     {
         self.values.get(&caller).copied()
@@ -53,7 +53,7 @@ impl<V: Copy> ByCaller<V> {
     /// # Errors
     ///
     /// Nothing changes if memory runs out. It can only for a caller without a value.
-    pub(crate) fn insert(&mut self, caller: u32, value: V) -> Result<(), Memory>
+    pub fn insert(&mut self, caller: u32, value: V) -> Result<(), Memory>
         ensures ok { OnOk result (self.new ≡ map.insert self.old caller value) }
         ensures err { OnErr result (self.new ≡ self.old) }
     {
@@ -62,7 +62,7 @@ impl<V: Copy> ByCaller<V> {
     }
 
     /// Writes the value of a caller that has one. It takes no memory.
-    pub(crate) fn replace(&mut self, caller: u32, value: V)
+    pub fn replace(&mut self, caller: u32, value: V)
         requires { IsSome (map.get self.old caller) }
         ensures { self.new ≡ map.insert self.old caller value }
     {
@@ -72,14 +72,14 @@ impl<V: Copy> ByCaller<V> {
     }
 
     /// Takes the caller's value out, if there is one.
-    pub(crate) fn remove(&mut self, caller: u32)
+    pub fn remove(&mut self, caller: u32)
         ensures { self.new ≡ map.remove self.old caller }
     {
         let _ = self.values.remove(&caller);
     }
 
     /// Takes all values out.
-    pub(crate) fn clear(&mut self)
+    pub fn clear(&mut self)
         ensures { self.new ≡ map.empty }
     {
         self.values.clear();

@@ -13,6 +13,7 @@ mod reading;
 mod stored_call;
 mod writing;
 
+pub use by_caller::ByCaller;
 pub use event::Event;
 pub use fault::ReplayFault;
 pub use handle_list::HandleList;

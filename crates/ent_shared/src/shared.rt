@@ -1,6 +1,8 @@
 ghost use Rattle.std.specs.Prelude.{◌≡◌, ◌≢◌, ◌↔◌, ◌⊎◌, ◌+◌, ◌*◌, ◌<◌, ◌≤◌, ◌≤ℤ◌, ◌<ℤ◌};
 ghost use Rattle.std.specs.Prelude.{[], ◌∷◌, ◌++◌, length, sum_by, All, AllPairs, Contains};
-ghost use Rattle.std.specs.Prelude.{Ok, Err, IfOk, OnErr};
+ghost use Rattle.std.specs.Prelude.{Ok, Err, IfOk, OnErr, OnSome, true};
+ghost use Rattle.std.specs.FinSet as set;
+ghost use Rattle.std.specs.FinMap as map;
 ghost use Rattle.ent_handle.specs.Handle.{Handle as HandleValue};
 ghost use Rattle.ent_alloc.specs.Limits.{credit};
 ghost use Rattle.ent_alloc.specs.Sequential.{cursor, after_flush};
@@ -76,6 +78,23 @@ impl Shared {
         ensures { result ≡ self.now.count }
     {
         self.count
+    }
+
+    /// Whether the handle was alive when the phase was opened. It takes constant time.
+    pub fn is_alive(&self, handle: Handle) -> bool
+        ensures { result ≡ set.contains self.now.start.live handle }
+    {
+        self.entities.is_alive(handle)
+    }
+
+    /// The row that the program kept with the entity when the phase was opened. `None` if the
+    /// handle was not alive then, or if no row was set since it came to life. It takes constant
+    /// time.
+    pub fn row(&self, handle: Handle) -> Option<u32>
+        ensures value { result ≡ map.get self.now.rows handle }
+        ensures alive { OnSome result (set.contains self.now.start.live handle ≡ true) }
+    {
+        self.entities.row(handle)
     }
 
     /// Reserves one handle, by one atomic step. It takes no memory and waits for nobody.

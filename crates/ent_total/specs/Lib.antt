@@ -3,5 +3,6 @@ pub mod Batch
 pub mod Closing
 pub mod Faults
 pub mod Finishing
+pub mod Framing
 pub mod Issuing
 pub mod Sharing

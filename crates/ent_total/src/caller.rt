@@ -1,5 +1,7 @@
 ghost use Rattle.std.specs.Prelude.{◌≡◌, ◌≢◌, ◌↔◌, ◌<◌, [], ◌∷◌, ◌++◌, Err, IfOk, IfErr};
-ghost use Rattle.std.specs.Prelude.{OnOk, OnErr, IsOk, IsErrOf, IsTrue};
+ghost use Rattle.std.specs.Prelude.{OnOk, OnErr, OnSome, IsOk, IsErrOf, IsTrue, true};
+ghost use Rattle.std.specs.FinSet as set;
+ghost use Rattle.std.specs.FinMap as map;
 ghost use Rattle.ent_alloc.specs.Sequential.{listed_alone};
 ghost use Rattle.ent_shared.specs.declared.refused.Refused.TheVariants.{Quota};
 ghost use Rattle.ent_shared.specs.Moves.{after_meeting};
@@ -65,6 +67,23 @@ impl<J: Numbering> Model for Caller<J> {
 
 impl<J: Numbering> Caller<J> {
     ghost use Rattle.ent_total.specs.Sharing.{MakesReservation, GivesReply};
+
+    /// Whether the handle was alive when the phase was opened. It takes constant time.
+    pub fn is_alive(&self, handle: Handle) -> bool
+        ensures { result ≡ set.contains self.now.shared.start.live handle }
+    {
+        self.shared.is_alive(handle)
+    }
+
+    /// The row that the program kept with the entity when the phase was opened. `None` if the
+    /// handle was not alive then, or if no row was set since it came to life. It takes constant
+    /// time.
+    pub fn row(&self, handle: Handle) -> Option<u32>
+        ensures value { result ≡ map.get self.now.shared.rows handle }
+        ensures alive { OnSome result (set.contains self.now.shared.start.live handle ≡ true) }
+    {
+        self.shared.row(handle)
+    }
 
     /// Reserves one handle, by one atomic step. It takes no memory and waits for nobody.
     ///

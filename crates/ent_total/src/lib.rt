@@ -6,6 +6,7 @@ mod applying;
 mod caller;
 mod closing;
 mod finishing;
+mod framing;
 mod homecoming;
 mod issued;
 mod issuer;
@@ -26,6 +27,7 @@ mod world_phase;
 
 pub use applying::{Unapplied, Ungone};
 pub use caller::{Caller, OtherPhase};
+pub use framing::Unframed;
 pub use issued::Issued;
 pub use issuer::Issuer;
 pub use numbered_world::NumberedWorld;

@@ -1,5 +1,7 @@
 ghost use Rattle.std.specs.Prelude.{◌≡◌, ◌<◌, ◌≤◌, ◌∷◌, [], ◌++◌, All, IfOk, IfErr, OnErr, IsTrue, length};
-ghost use Rattle.std.specs.Prelude.{IfSome, IfNone};
+ghost use Rattle.std.specs.Prelude.{IfSome, IfNone, OnSome, true};
+ghost use Rattle.std.specs.FinSet as set;
+ghost use Rattle.std.specs.FinMap as map;
 ghost use Rattle.std.specs.Vec.{vec_capacity, vec_len};
 ghost use Rattle.std.specs.Arc.{arc_value};
 ghost use Rattle.ent_shared.specs.Phase.{IsOf};
@@ -8,7 +10,7 @@ ghost use Rattle.ent_total.specs.Sharing.{AreOf, all_home};
 use crate::caller::Caller;
 use crate::homecoming::bring_home;
 use crate::numbering::Numbering;
-use ent_handle::Memory;
+use ent_handle::{Handle, Memory};
 use ent_shared::{Reserver, Shared};
 use std::alloc::Global;
 use std::marker::{Model, PhantomData};
@@ -82,6 +84,23 @@ impl<J: Numbering> Phase<J> {
         ensures { result ≡ length self.now.home }
     {
         self.home.len()
+    }
+
+    /// Whether the handle was alive when the phase was opened. It takes constant time.
+    pub fn is_alive(&self, handle: Handle) -> bool
+        ensures { result ≡ set.contains self.now.shared.start.live handle }
+    {
+        self.shared.is_alive(handle)
+    }
+
+    /// The row that the program kept with the entity when the phase was opened. `None` if the
+    /// handle was not alive then, or if no row was set since it came to life. It takes constant
+    /// time.
+    pub fn row(&self, handle: Handle) -> Option<u32>
+        ensures value { result ≡ map.get self.now.shared.rows handle }
+        ensures alive { OnSome result (set.contains self.now.shared.start.live handle ≡ true) }
+    {
+        self.shared.row(handle)
     }
 
     pub(crate) fn number(&self) -> u64

@@ -2,9 +2,9 @@
 use Rattle.std.proofs.Common.{◌≡◌, refl, sym, ap, ◌∙◌, subst, ℕ, ◌<◌, ◌≤◌, Bool, true, false, cond}
 use Rattle.std.proofs.Common.{not, true≢false, List, [], ◌∷◌, ◌++◌, length, take, reverse, filter}
 use Rattle.std.proofs.Common.{slice_get, All, arith, pos, ◌-ℤ◌, suc, ◌⊎◌, inl, inr, length-append}
-use Rattle.std.proofs.Common.{Option, Some, None, Result, Ok, Err, OnOk, OnErr, is_err}
+use Rattle.std.proofs.Common.{Option, Some, None, IfSome, Result, Ok, Err, OnOk, OnErr, is_err}
 use Rattle.std.specs.Ordering.{eq_by_cmp}
-use Rattle.std.specs.Option.{option_map_or}
+use Rattle.std.specs.Option.{option_map, option_map_or}
 use Rattle.std.specs.FinSet as set
 use Rattle.std.specs.FinMap as map
 use Rattle.std.proofs.lemmas.List.Elements.{All-head}
@@ -22,8 +22,9 @@ use Rattle.ent_alloc.proofs.HandleSets.{same_handle, itself}
 use Rattle.std.proofs.lemmas.Int.{ints}
 use Rattle.ent_alloc.proofs.PoolLaw.{reply-cursor}
 use Rattle.ent_alloc.proofs.Replies.{fresh_is_not_old, served_from, refused_from, reply-not_live}
-use Rattle.ent_storage.specs.Components.{with_items}
+use Rattle.ent_storage.specs.Components.{with_items, missing}
 use Rattle.ent_storage.specs.EntityMap.{Entity, EntityMap, newborn, with_components}
+use Rattle.ent_storage.specs.EntityMap.{components_of}
 use Rattle.ent_storage.specs.Places.{AreWithout}
 use Rattle.ent_storage.proofs.ElementsAt.{at_push_before}
 use Rattle.ent_queue.specs.Command.{Bundle}
@@ -126,6 +127,18 @@ insert_twice m h e f = map.same_map handle_cmp_total handle_cmp-IsAntisymmetric 
 pub get_inserted : (m : EntityMap) (h : Handle) (e : Entity) → map.get (map.insert m h e) h ≡ Some e
 get_inserted m h e = map.get-insert handle_cmp_total m h e h
     ∙ ap (λ b. cond b (Some e) (map.get m h)) (itself h)
+
+-- a newborn entity lacks no component if there are no items
+pub some_items : (m n : EntityMap) (h : Handle) (birth : Birth) (items : Bundle)
+    → n ≡ map.insert m h (newborn birth)
+    → IfSome (components_of n h) (λ held. 0 < missing held items) → 0 < length items
+some_items m n h birth [] made some =
+    let here : components_of n h ≡ Some (newborn birth).components = ap (λ k. components_of k h) made
+    ∙ ap (option_map (λ e. e.components)) (get_inserted m h (newborn birth)) in
+    let none : 0 < missing (newborn birth).components [] =
+    subst (λ o. IfSome o (λ held. 0 < missing held [])) here some in
+    absurd (omega (arith, none))
+some_items m n h birth (x ∷ items) made some = omega arith
 
 -- a newborn entity and its components
 pub made_whole : (m : EntityMap) (h : Handle) (birth : Birth) (items : Bundle)

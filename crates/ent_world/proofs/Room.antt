@@ -3,7 +3,7 @@ use Rattle.std.proofs.Common.{◌≡◌, ◌≢◌, refl, sym, ap, ◌∙◌, �
 use Rattle.std.proofs.Common.{true≢false, ℕ, zero, suc, ◌-◌, List, [], ◌∷◌, ◌++◌, drop}
 use Rattle.std.proofs.Common.{slice_get, is_some, arith}
 use Rattle.std.proofs.lemmas.Option.{none-some, same_Some}
-use Rattle.std.proofs.Common.{Some, Result, Ok, Err, OnOk, IsErrOf, IsTrue, ◌||◌, ◌↔◌}
+use Rattle.std.proofs.Common.{Some, None, is_err, Result, Ok, Err, OnOk, IsErrOf, IsTrue, ◌||◌, ◌↔◌}
 use Rattle.std.specs.Ordering.{eq_by_cmp}
 use Rattle.std.specs.FinSet as set
 use Rattle.std.specs.FinMap as map
@@ -63,6 +63,17 @@ has_entered before after h birth (Err Memory) new room ok less places present me
     let none = memory refl in absurd (omega arith)
 has_entered before after h birth (Err Absent) new room ok less places present memory absent =
     absurd (absent refl)
+
+-- who was refused and is new found no room
+pub no_room : {X : Type 0} (before : Store) (h : Handle) (r : Result X StorageFault)
+    → map.get before.entities h ≡ None → is_err r ≡ true
+    → (IsErrOf r Present ↔ IsTrue (map.contains_key before.entities h))
+    → (IsErrOf r Memory → before.spare ≡ 0) → ¬ (IsErrOf r Absent) → before.spare ≡ 0
+no_room before h (Ok x) new test present memory absent = absurd (true≢false (sym test))
+no_room before h (Err Present) new test present memory absent =
+    absurd (true≢false (sym (present.0 refl) ∙ ap is_some new))
+no_room before h (Err Memory) new test present memory absent = memory refl
+no_room before h (Err Absent) new test present memory absent = absurd (absent refl)
 
 -- The places from one on.
 

@@ -5,7 +5,7 @@
 //! after the other, and an entity that has the birth of a system keeps it. Those that no queue
 //! lists are numbered at last. Each handle takes constant time, as long as the storage's index has
 //! dropped no pair (`ent_storage`).
-ghost use Rattle.std.specs.Prelude.{◌≡◌, ◌≤◌, ◌++◌, ◌^◌, drop, length};
+ghost use Rattle.std.specs.Prelude.{◌≡◌, ◌+◌, ◌≤◌, ◌++◌, ◌^◌, drop, length};
 ghost use Rattle.ent_queue.specs.Entry.{command_of};
 ghost use Rattle.ent_world.specs.Sync.{no_system, with_born, listed_by, handles_listed};
 ghost use Rattle.ent_world.specs.Entering.{first_birth, next_birth, birth_after, AreNew};
@@ -28,6 +28,7 @@ pub(crate) fn enter_all(storage: &mut Storage, phase: u64, handles: &[Handle])
     ensures entered { storage.new.entities ≡ with_born
         storage.old.entities (λ _. first_birth phase no_system) handles.now }
     ensures places { storage.new.places ≡ storage.old.places ++ handles.now }
+    ensures spare { storage.new.spare + length handles.now ≡ storage.old.spare }
 {
     let birth = first_birth(phase, NO_SYSTEM);
     for handle in handles {
@@ -49,6 +50,7 @@ pub(crate) fn name_listed(
     ensures named { storage.new.entities ≡ named_queues
         (drop before storage.old.places) phase 0 queues.now storage.old.entities }
     ensures places { storage.new.places ≡ storage.old.places }
+    ensures spare { storage.new.spare ≡ storage.old.spare }
 {
     for (system, queue) in queues.iter().enumerate() {
         let first = first_birth(phase, system as u32);
@@ -62,6 +64,7 @@ pub(crate) fn number_others(storage: &mut Storage, before: usize, phase: u64, ha
     ensures numbered { storage.new.entities ≡ numbered
         (first_birth phase no_system) handles.now storage.old.entities }
     ensures places { storage.new.places ≡ storage.old.places }
+    ensures spare { storage.new.spare ≡ storage.old.spare }
 {
     let mut birth = first_birth(phase, NO_SYSTEM);
     for place in before..storage.len() {
@@ -85,6 +88,7 @@ fn name_queue(
     ensures named { storage.new.entities ≡ named_handles
         (drop before storage.old.places) first (handles_listed queue.now) storage.old.entities }
     ensures places { storage.new.places ≡ storage.old.places }
+    ensures spare { storage.new.spare ≡ storage.old.spare }
 {
     let mut next = first;
     for entry in queue.entries() {
@@ -104,6 +108,7 @@ fn name_entry(
     ensures named { storage.new.entities ≡ named_handles (drop before storage.old.places)
         birth (listed_by (command_of entry.entry)) storage.old.entities }
     ensures places { storage.new.places ≡ storage.old.places }
+    ensures spare { storage.new.spare ≡ storage.old.spare }
     ensures next { result ≡ birth_after birth (listed_by (command_of entry.entry)) }
 {
     match entry {
@@ -130,6 +135,7 @@ fn name_handles(
     ensures named { storage.new.entities ≡ named_handles
         (drop before storage.old.places) first handles.entry storage.old.entities }
     ensures places { storage.new.places ≡ storage.old.places }
+    ensures spare { storage.new.spare ≡ storage.old.spare }
     ensures next { result ≡ birth_after first handles.entry }
 {
     let mut birth = first;
@@ -146,6 +152,7 @@ fn name(entities: &Entities, storage: &mut Storage, before: usize, handle: Handl
     ensures named { storage.new.entities ≡ named
         (drop before storage.old.places) handle birth storage.old.entities }
     ensures places { storage.new.places ≡ storage.old.places }
+    ensures spare { storage.new.spare ≡ storage.old.spare }
 {
     let Some(place) = place_of(entities, handle) else {
         return;

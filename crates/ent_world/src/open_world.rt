@@ -2,7 +2,7 @@ ghost use Rattle.std.specs.Prelude.{◌≡◌, ◌≢◌, ◌↔◌, ◌⊎◌, 
 ghost use Rattle.std.specs.Prelude.{All, AllPairs, Contains};
 ghost use Rattle.ent_handle.specs.Handle.{Handle as HandleValue};
 ghost use Rattle.ent_alloc.specs.Limits.{credit};
-ghost use Rattle.ent_alloc.specs.Sequential.{cursor, after_flush};
+ghost use Rattle.ent_alloc.specs.Sequential.{cursor, top, after_flush};
 ghost use Rattle.ent_alloc.specs.History.{IsLegal, after_history, given_in};
 ghost use Rattle.ent_alloc.specs.Sound.{IsLive};
 ghost use Rattle.ent_shared.specs.Record.{requested_by};
@@ -31,6 +31,8 @@ pub struct OpenWorld {
 impl Model for OpenWorld {
     ghost use Rattle.ent_world.specs.OpenWorld.{OpenWorld, open_world_code, IsOpenWorld};
     ghost use Rattle.ent_world.specs.Rows.{AreRows};
+    ghost use Rattle.ent_alloc.specs.Sequential.{top};
+    ghost use Rattle.std.specs.Prelude.{◌≤◌};
 
     ghost Value = { OpenWorld };
 
@@ -49,6 +51,8 @@ impl Model for OpenWorld {
         entities = w.storage.entities;
       });
       rows : AreRows w.shared.rows w.storage.places w.storage.entities;
+      -- there is room for the next occupant of each slot that waits
+      room : top w.shared.start ≤ w.storage.spare;
     } };
 }
 
@@ -57,6 +61,7 @@ impl OpenWorld {
         requires world { IsOpenWorld
             (record { shared = shared; phase = phase; entities = storage.entities }) }
         requires rows { AreRows shared.rows storage.places storage.entities }
+        requires room { top shared.start ≤ storage.spare }
         ensures { result
             ≡ record { shared = shared; phase = phase; entities = storage.entities } }
     {

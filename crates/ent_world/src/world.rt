@@ -1,10 +1,10 @@
-ghost use Rattle.std.specs.Prelude.{◌≡◌, ◌≢◌, ◌<◌, ◌≤◌, ◌^◌, ◌↔◌, [], length};
+ghost use Rattle.std.specs.Prelude.{◌≡◌, ◌≢◌, ◌<◌, ◌≤◌, ◌^◌, ◌↔◌, ◌⊎◌, [], length};
 ghost use Rattle.std.specs.Prelude.{All, IsTrue, IfOk, IfErr, OnOk, OnErr, IsErrOf, Some};
 ghost use Rattle.std.specs.Prelude.{true, false, slice_get};
 ghost use Rattle.std.specs.Option.{option_map};
 ghost use Rattle.std.specs.FinSet as set;
 ghost use Rattle.std.specs.FinMap as map;
-ghost use Rattle.ent_alloc.specs.Sequential.{next, retired};
+ghost use Rattle.ent_alloc.specs.Sequential.{next, retired, top};
 ghost use Rattle.ent_alloc.specs.Sound.{IsSound};
 ghost use Rattle.ent_shared.specs.Record.{opened_records};
 ghost use Rattle.ent_shared.specs.Phase.{IsOf, records_of};
@@ -40,6 +40,8 @@ pub struct World {
 impl Model for World {
     ghost use Rattle.ent_world.specs.World.{World, world_code, IsWorld};
     ghost use Rattle.ent_world.specs.Rows.{AreRows};
+    ghost use Rattle.ent_alloc.specs.Sequential.{top};
+    ghost use Rattle.std.specs.Prelude.{◌≤◌};
 
     ghost Value = { World };
 
@@ -58,6 +60,8 @@ impl Model for World {
         entities = w.storage.entities;
       });
       rows : AreRows w.entities.rows w.storage.places w.storage.entities;
+      -- there is room for the next occupant of each slot that waits
+      room : top w.entities.allocator ≤ w.storage.spare;
     } };
 }
 
@@ -190,7 +194,8 @@ impl World {
     /// - `NeedsFlush` if handles were requested since the last flush, even if the request was
     ///   refused.
     /// - `Space` if every slot has a living occupant or is retired.
-    /// - `Memory` if there is no memory for the entity, for a component or for a new slot.
+    /// - `Memory` if there is no memory for a component, or for a new slot and its entity. It
+    ///   never comes if a slot waits and the bundle is empty.
     pub fn spawn(&mut self, birth: Birth, bundle: &Bundle) -> Result<Handle, AllocFault>
         ensures front { IfOk result (λ handle.
             slice_get self.old.allocator.pool 0 ≡ Some handle) }
@@ -200,6 +205,8 @@ impl World {
             ↔ (0 < self.old.allocator.asked) }
         ensures space { IsErrOf result AllocFault.Space
             ↔ ((self.old.allocator.asked ≡ 0) × (self.old.allocator.pool ≡ [])) }
+        ensures memory { IsErrOf result AllocFault.Memory
+            → (top self.old.allocator ≡ 0) ⊎ (0 < length bundle.now) }
         ensures err { OnErr result (self.new ≡ self.old) }
         ensures world { IsWorld self.new }
     {

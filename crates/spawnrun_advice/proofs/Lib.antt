@@ -4,3 +4,4 @@ pub mod Printable
 pub mod Letters
 pub mod Pieces
 pub mod Json
+pub mod Firsts

@@ -2,6 +2,7 @@
 //! failed, and what it found.
 #![tactic(auto)]
 
+mod first;
 mod found;
 mod part;
 mod schedule;

@@ -9,11 +9,12 @@ ghost use Rattle.spawnrun_advice.specs.Place.{operation_place, place_of, script_
 ghost use Rattle.spawnrun_advice.specs.Place.{target_in, under};
 ghost use Rattle.spawnrun_advice.specs.Shown.{ArePrintable, front, plain};
 
+use crate::first::{bad_component, unknown_key, unlisted_component, unwhole_member};
 use crate::found::{Found, with, with_number};
 use crate::part::Part;
 use crate::shown::{Shown, text_shown};
 use ent_script::{Cause, ReadFault, ScriptCause};
-use serde_json::{Error, Map, Value};
+use serde_json::{Error, Value};
 use std::alloc::Global;
 use std::fmt::InlineText;
 
@@ -175,7 +176,7 @@ fn operation_of(script: &Value, frame: usize, system: usize, operation: usize) -
 }
 
 fn script_part(script: &Value, cause: ScriptCause) -> Part<'_>
-    ensures { IfSome (script_place (view script.now) cause) (λ known. place_of result ≡ known) }
+    ensures { place_of result ≡ script_place (view script.now) cause }
 {
     match cause {
         ScriptCause::Top => Part::Refused(script),
@@ -183,80 +184,27 @@ fn script_part(script: &Value, cause: ScriptCause) -> Part<'_>
         ScriptCause::Format => Part::of(script.get("format")),
         ScriptCause::Slots => Part::of(script.get("slots")),
         ScriptCause::Generations => Part::of(script.get("generations")),
-        ScriptCause::Components => components_part(script.get("components")),
+        ScriptCause::Components => bad_component(script.get("components")),
         ScriptCause::Frames => Part::instead_of_list(script.get("frames")),
     }
 }
 
-// The first key that is not one of a script's.
-fn unknown_key(script: &Value) -> Part<'_> {
-    let known = ["format", "slots", "generations", "components", "frames"];
-    match script
-        .as_object()
-        .and_then(|members| first_key(members, &known))
-    {
-        Some(key) => Part::Key(key),
-        None => Part::Absent,
-    }
-}
-
-// The first key that is none of these.
-fn first_key<'a>(members: &'a Map<String, Value>, known: &[&str]) -> Option<&'a str> {
-    for key in members.keys() {
-        let key = key.as_str();
-        if !known.iter().any(|name| *name == key) {
-            return Some(key);
-        }
-    }
-    None
-}
-
-// The components, if they are too many, or the first that is no name or that an earlier one is too.
-fn components_part(components: Option<&Value>) -> Part<'_> {
-    let Some(list) = components.and_then(Value::as_array) else {
-        return Part::of(components);
-    };
-    if list.len() > 256 {
-        return Part::Long(list.len());
-    }
-    for (number, value) in list.iter().enumerate() {
-        match value.as_str() {
-            Some(name) if is_name(name) => {
-                if is_listed(&list[..number], name) {
-                    return Part::Twice(name);
-                }
-            }
-            _ => return Part::Refused(value),
-        }
-    }
-    Part::Absent
-}
-
-// Whether it is a name by the rules of scripts.
-fn is_name(text: &str) -> bool {
-    let is_short = 0 < text.len() && text.len() <= 32;
-    is_short
-        && text
-            .bytes()
-            .all(|byte| matches!(byte, b'a'..=b'z' | b'0'..=b'9' | b'_'))
-}
-
-// Whether one of the values is this text.
-fn is_listed(values: &[Value], text: &str) -> bool {
-    values.iter().any(|value| value.as_str() == Some(text))
-}
-
 // What stands where a test of this operation failed.
 fn operation_part<'a>(script: &'a Value, operation: &'a Value, cause: Cause) -> Part<'a>
-    ensures { IfSome (operation_place (view operation.now) cause)
-        (λ known. place_of result ≡ known) }
+    ensures { place_of result
+        ≡ operation_place (view script.now) (view operation.now) cause }
 {
     match cause {
         Cause::Shape => Part::Refused(operation),
         Cause::Count => Part::of(operation.get("spawn_many")),
         Cause::Bundle => Part::of(bundle_part(operation)),
-        Cause::Component => component_part(script, operation),
-        Cause::Value => value_part(operation),
+        Cause::Component => unlisted_component(
+            script,
+            bundle_part(operation),
+            operation.get("remove"),
+            target_at(operation, "each"),
+        ),
+        Cause::Value => unwhole_member(bundle_part(operation)),
         Cause::Name => Part::of(operation.get("as").or(target_at(operation, "name"))),
         Cause::Target => Part::of(target_of(operation)),
         Cause::Handle => Part::of(target_at(operation, "handle")),
@@ -283,51 +231,4 @@ fn target_at<'a>(operation: &'a Value, key: &str) -> Option<&'a Value>
     ensures { option_map (λ v. view v.now) result ≡ under key.now (view operation.now) }
 {
     target_of(operation)?.get(key)
-}
-
-// The first component that the script doesn't list: of the bundle, or that is removed, or of the
-// target.
-fn component_part<'a>(script: &'a Value, operation: &'a Value) -> Part<'a> {
-    let listed = match script.get("components").and_then(Value::as_array) {
-        Some(list) => list.as_slice(),
-        None => &[],
-    };
-    let bundle = bundle_part(operation).and_then(Value::as_object);
-    if let Some(key) = bundle.and_then(|members| unlisted_key(members, listed)) {
-        return Part::Key(key);
-    }
-    match operation.get("remove") {
-        Some(removed) if !is_one_of(removed, listed) => Part::Refused(removed),
-        _ => Part::of(target_at(operation, "each")),
-    }
-}
-
-// Whether it is the name of a listed component.
-fn is_one_of(value: &Value, listed: &[Value]) -> bool {
-    match value.as_str() {
-        Some(text) => is_listed(listed, text),
-        None => false,
-    }
-}
-
-fn unlisted_key<'a>(members: &'a Map<String, Value>, listed: &[Value]) -> Option<&'a str> {
-    for key in members.keys() {
-        if !is_listed(listed, key.as_str()) {
-            return Some(key.as_str());
-        }
-    }
-    None
-}
-
-// The first member of the bundle whose value is no whole number.
-fn value_part(operation: &Value) -> Part<'_> {
-    let Some(members) = bundle_part(operation).and_then(Value::as_object) else {
-        return Part::Absent;
-    };
-    for (key, value) in members {
-        if !value.is_i64() {
-            return Part::Member(key.as_str(), value);
-        }
-    }
-    Part::Absent
 }

@@ -107,6 +107,11 @@ impl Audit<'_> {
             "impl" => self.ghost_impl_end(),
             "#" => self.ghost_attribute_end(),
             "use" => self.ghost_import_end(),
+            "where" if source.has(at + 2, &[":", "Drop", ","]) => {
+                let next = source.at(at + 5);
+                let is_only = next == "{" || forms::CLAUSES.contains(&next);
+                is_only.then_some(at + 5)
+            }
             ":" if starts(&[":", "Drop", "+"]) => None,
             ":" | "+" if starts(&[":", "Drop"]) || starts(&["+", "Drop"]) => Some(at + 2),
             "Drop" if starts(&["Drop", "+"]) => Some(at + 2),
@@ -173,6 +178,12 @@ impl Audit<'_> {
             let is_function = next.is_some_and(|at| result.at(at) == "fn");
             return Ok(is_function.then_some(out + 4));
         }
+        if self.is_added_const() {
+            return Ok(Some(out + 1));
+        }
+        if let Some(len) = self.added_layout() {
+            return Ok(Some(out + len));
+        }
         if let Some(len) = self.added_import() {
             return Ok(Some(out + len));
         }
@@ -189,6 +200,29 @@ impl Audit<'_> {
             return self.added_messages().map(Some);
         }
         Ok(None)
+    }
+
+    /// Whether the result has a `const` here, before a function that is `const` in the package alone.
+    fn is_added_const(&self) -> bool {
+        let (name, path) = (self.source.at(self.at + 1), self.source.path);
+        self.source.at(self.at) == "fn"
+            && self.result.has(self.out, &["const", "fn", name])
+            && forms::is_constant(self.krate, path, name)
+    }
+
+    /// The length of the attribute that the result has here, right above a type whose layout the
+    /// package chooses.
+    fn added_layout(&self) -> Option<usize> {
+        let (result, out) = (self.result, self.out);
+        let own = forms::LAYOUTS.iter().filter(|it| it.krate == self.krate);
+        let mut lengths = own.filter_map(|layout| {
+            let attribute = pieces(layout.attribute);
+            let next = out + attribute.len();
+            let at = next + usize::from(result.at(next) == "pub");
+            let is_above = has(result, out, &attribute) && result.has(at, &["struct", layout.name]);
+            is_above.then_some(attribute.len())
+        });
+        lengths.next()
     }
 
     /// The length of an import from the kit that the result has here.

@@ -59,8 +59,12 @@ fn text_of(folder: &Path, name: &str, erased: &Files) -> Result<String, String> 
 
 /// The clauses of the one public call of this name.
 fn clauses(source: &str, call: &str) -> Result<String, String> {
-    let heads = [format!("pub fn {call}("), format!("pub fn {call}<")];
-    let is_head = |line: &str| heads.iter().any(|head| line.trim_start().starts_with(head));
+    let heads = [format!("fn {call}("), format!("fn {call}<")];
+    let is_head = |line: &str| {
+        let line = line.trim_start().strip_prefix("pub ").unwrap_or_default();
+        let line = line.strip_prefix("const ").unwrap_or(line);
+        heads.iter().any(|head| line.starts_with(head))
+    };
     let mut lines = source.lines().skip_while(|line| !is_head(line));
     let body = lines.by_ref().take_while(|line| line.trim() != "{");
     let stated: Vec<&str> = body
@@ -100,6 +104,16 @@ impl One {
         self.say()
     }
 
+    pub const fn still()
+        // ensures { c }
+    {
+    }
+
+    fn quiet()
+        // ensures { c }
+    {
+    }
+
     pub fn quiet(&self)
     {
     }
@@ -120,6 +134,7 @@ pub fn twice(one: &One)
     fn clauses_of_a_call() {
         let wanted = "requires { a }\nensures long { b\n    × c }\n\nWhy.\nensures { d }\n";
         assert_eq!(clauses(SOURCE, "say"), Ok(wanted.to_owned()));
+        assert_eq!(clauses(SOURCE, "still"), Ok("ensures { c }\n".to_owned()));
     }
 
     #[test]

@@ -121,7 +121,13 @@ impl Walk<'_> {
         begin.is_some_and(|at| ["if", "while"].contains(&self.source.at(at)))
     }
 
-    /// The bound `Drop` goes, and with it the sign that binds it.
+    /// Whether the bounds of a `where` end before this place.
+    fn is_only_bound(&self, at: usize) -> bool {
+        let next = self.source.at(at);
+        next == "{" || forms::CLAUSES.contains(&next)
+    }
+
+    /// The bound `Drop` goes, and with it the sign that binds it, or the `where` that has no other.
     fn drop_bound(&mut self, at: usize) -> Next {
         let (before, after) = (self.source.before(at), self.source.at(at + 1));
         match (before, after) {
@@ -130,6 +136,7 @@ impl Walk<'_> {
             (":", ">" | "," | "=") if self.source.before(at - 2) != "where" => {
                 self.take_out_after(at - 1, at + 1)
             }
+            (":", ",") if self.is_only_bound(at + 2) => self.take_out_after(at - 3, at + 2),
             _ => return Err(self.source.fault(at, "an unknown form of the bound `Drop`")),
         }
         Ok(at + 1 + usize::from(after == "+"))

@@ -121,6 +121,51 @@ pub struct Renamed {
     pub import: &'static str,
 }
 
+/// A type whose layout in memory the package chooses. The kit has no word for it, and no contract
+/// speaks of it.
+pub struct Layout {
+    /// The crate that declares the type.
+    pub krate: &'static str,
+    /// Its name.
+    pub name: &'static str,
+    /// The attribute that it gets.
+    pub attribute: &'static str,
+}
+
+/// The types with a layout of their own: a handle is aligned as the package's own handle is, so that
+/// a list of the one is turned into a list of the other in its memory.
+pub const LAYOUTS: &[Layout] = &[Layout {
+    krate: "ent_handle",
+    name: "Handle",
+    attribute: "#[repr(align(8))]",
+}];
+
+/// The layout of the type of this crate, if it has one of its own.
+pub fn layout_of(krate: &str, name: &str) -> Option<&'static Layout> {
+    LAYOUTS
+        .iter()
+        .find(|layout| layout.krate == krate && layout.name == name)
+}
+
+/// Functions that are `const` in the package, so that a `static` can have what they make: the crate, the
+/// file and the function. In the kit the list that they make isn't of a `const` function.
+pub const CONSTANTS: &[(&str, &str, &str)] = &[
+    ("ent_alloc", "entities.rt", "new"),
+    ("ent_alloc", "limits.rt", "default_limits"),
+    ("ent_alloc", "limits.rt", "new"),
+    ("ent_alloc", "requests.rt", "none"),
+    ("ent_alloc", "slots.rt", "new"),
+    ("ent_map", "handle_map.rt", "new"),
+];
+
+/// Whether this function of a file of this crate is one of them.
+pub fn is_constant(krate: &str, path: &str, name: &str) -> bool {
+    let file = path.rsplit('/').next();
+    CONSTANTS
+        .iter()
+        .any(|it| it.0 == krate && file == Some(it.1) && it.2 == name)
+}
+
 /// A type or a module of std, and what may be called by a path that begins with it.
 pub type Associated = (&'static str, &'static [&'static str]);
 
@@ -207,6 +252,7 @@ const MODULES: &[Module] = &[
         ghost: GHOST_TRAITS,
     },
     module("std::mem", "core::mem", &["replace", "swap"]),
+    module("std::num", "core::num", &["NonZeroU32"]),
     module("std::sync", "crate::kit::sync", &["Arc"]),
     module(
         "std::thread",
@@ -324,6 +370,7 @@ const ASSOCIATED: &[Associated] = &[
     ("Table", &["of_words"]),
     ("Badge", &["blank"]),
     ("Buffer", &["new"]),
+    ("NonZeroU32", &["new"]),
     ("SmallVec", &["new"]),
     ("Vec", &["new", "with_capacity"]),
     ("str", &["from_utf8"]),

@@ -65,10 +65,18 @@ impl Walk<'_> {
             let indent = self.indent(visible)?;
             self.insert(visible, format!("#[inline]\n{indent}"));
         }
+        if self.source.before(at) != "const" && self.is_constant(at) {
+            self.insert(at, "const ".to_owned());
+        }
         if self.is_program(at, scope) {
             self.insert(at, "pub ".to_owned());
         }
         Ok(end)
+    }
+
+    /// Whether the function is `const` in the package.
+    fn is_constant(&self, at: usize) -> bool {
+        forms::is_constant(self.krate, self.source.path, self.source.at(at + 1))
     }
 
     /// Whether the function is the `main` of a program. As a module it is called by a test.

@@ -55,7 +55,10 @@ impl Walk<'_> {
             }
             "const" | "type" => self.declaration(at)?,
             "fn" => self.function(start, visible, at, scope)?,
-            "struct" | "enum" => self.type_item(start, at, derives_error)?,
+            "struct" | "enum" => {
+                self.layout(visible, at, scope)?;
+                self.type_item(start, at, derives_error)?
+            }
             "trait" => self.block_item(at, Scope::Trait)?,
             "impl" => self.block_item(at, Scope::Impl)?,
             other => return Err(self.source.fault(at, format!("an unknown item: `{other}`"))),
@@ -197,6 +200,16 @@ impl Walk<'_> {
         let end = self.source.partner(body);
         self.items(body + 1, end, scope)?;
         Ok(end + 1)
+    }
+
+    /// The attribute of a type whose layout the package chooses.
+    fn layout(&mut self, visible: usize, at: usize, scope: Scope) -> Result<(), Fault> {
+        let layout = forms::layout_of(self.krate, self.source.at(at + 1));
+        if let Some(layout) = layout.filter(|_| scope == Scope::File) {
+            let indent = self.indent(visible)?;
+            self.insert(visible, format!("{}\n{indent}", layout.attribute));
+        }
+        Ok(())
     }
 
     /// A struct or an enum.

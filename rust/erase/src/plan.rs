@@ -14,20 +14,13 @@ use std::fs;
 use std::path::{Path, PathBuf};
 
 /// The crates that the package's face calls. They are erased with all that they stand on.
-const TOPS: &[&str] = &["ent_runner", "ent_total"];
+const TOPS: &[&str] = &["ent_map", "ent_runner", "ent_total"];
 
 /// The tests of those crates, and what tests alone use.
 const TESTS: &[&str] = &[
     "cases",
-    "ent_alloc_tests",
-    "ent_claims_tests",
-    "ent_handle_tests",
-    "ent_queue_tests",
-    "ent_replay_tests",
-    "ent_runner_tests",
-    "ent_shared_tests",
-    "ent_storage_tests",
-    "ent_world_tests",
+    "ent_lower_tests",
+    "ent_upper_tests",
 ];
 
 /// A folder of results in the repository. Nothing else stands in it.

@@ -1,7 +1,7 @@
 //! Each form in a small source, with the result that is wanted.
 
 mod common;
-use common::erased;
+use common::{erased, erased_of, PATH};
 
 /// The result of the source has to be this one, after its first line.
 #[track_caller]
@@ -156,6 +156,14 @@ fn drop_in_bounds() {
         "struct A<T: B + Drop + C>(T);\n",
         "struct A<T: B + C>(T);\n",
     );
+    gives(
+        "fn a<T>(b: T) -> u8\nwhere\n    T: Drop,\n    ensures { c }\n{\n    1\n}\n",
+        "#[inline]\nfn a<T>(b: T) -> u8\n    // ensures { c }\n{\n    1\n}\n",
+    );
+    gives(
+        "fn a<T>(b: T)\nwhere\n    T: Drop,\n{\n    c();\n}\n",
+        "#[inline]\nfn a<T>(b: T)\n{\n    c();\n}\n",
+    );
 }
 
 #[test]
@@ -212,6 +220,41 @@ fn what_is_inlined() {
     }
     stays("type A = fn(u8) -> u8;\n");
     stays("trait A {\n    fn a();\n    fn b() {}\n}\n");
+}
+
+/// What stands below the first line.
+fn body(result: &str) -> Option<&str> {
+    result.split_once("\n\n").map(|it| it.1)
+}
+
+/// A handle is aligned as the package's own. Another type isn't, nor one of another crate.
+#[test]
+fn layouts() {
+    let source =
+        "/// A.\n#[derive(Drop, Eq)]\npub struct Handle {\n    a: u32,\n}\n\nstruct Handles;\n";
+    let wanted =
+        "/// A.\n#[derive(Eq)]\n#[repr(align(8))]\npub struct Handle {\n    a: u32,\n}\n\n\
+                  struct Handles;\n";
+    let misplaced = wanted.replace("\nstruct Handles", "\n#[repr(align(8))]\nstruct Handles");
+    let (result, audited) = erased_of("ent_handle", PATH, source, &misplaced).expect("known forms");
+    assert_eq!(body(&result), Some(wanted));
+    assert!(audited.is_err());
+    stays("pub struct Handle {\n    a: u32,\n}\n");
+}
+
+/// What makes an empty allocator is `const`. Another function isn't, nor one of another file.
+#[test]
+fn constants() {
+    let source = "impl A {\n    pub fn new() -> A {\n        A\n    }\n\n    fn old() {}\n}\n";
+    let wanted = "impl A {\n    #[inline]\n    pub const fn new() -> A {\n        A\n    }\n\n    \
+                  #[inline]\n    fn old() {}\n}\n";
+    let misplaced = wanted.replace("fn old", "const fn old");
+    let path = "crates/ent_alloc/src/slots.rt";
+    let (result, audited) = erased_of("ent_alloc", path, source, &misplaced).expect("known forms");
+    assert_eq!(body(&result), Some(wanted));
+    assert!(audited.is_err());
+    let (result, _) = erased_of("ent_alloc", PATH, source, "").expect("known forms");
+    assert!(!result.contains("const"));
 }
 
 #[test]

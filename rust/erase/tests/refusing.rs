@@ -169,7 +169,7 @@ const REFUSED: &[(&str, usize, &str)] = &[
         "`Clone` without `Copy`",
     ),
     (
-        "fn a<T>()\nwhere\n    T: Drop,\n{}\n",
+        "fn a<T, U>()\nwhere\n    T: Drop,\n    U: Copy,\n{}\n",
         3,
         "an unknown form of the bound `Drop`",
     ),

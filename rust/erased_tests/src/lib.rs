@@ -6,6 +6,7 @@
 extern crate alloc;
 
 mod cases;
+#[allow(dead_code, unused_imports)] // Not all that the eraser may name is used.
 mod host;
 #[path = "../../forgeni/src/kit/mod.rs"]
 mod kit;

@@ -1,6 +1,7 @@
 #!/bin/sh
 # Prints the tables of `cargo bench`, beside the crates slotmap and sharded-slab. These are Debian's packages librust-slotmap-dev and
-# librust-sharded-slab-dev; one that is missing is left out. It needs `cargo` and `rustc` on the path.
+# librust-sharded-slab-dev; one that is missing is left out. It needs `cargo` and `rustc` on the path. Words behind it name the tables
+# that are wanted: calls, components, threads. `FORGENI_ROUNDS=3` makes it short, and its figures rough.
 set -eu
 package=$(cd "$(dirname "$0")/.." && pwd)
 registry=/usr/share/cargo/registry
@@ -34,4 +35,4 @@ else
     echo "run.sh: the sharded slab is left out; apt-get install librust-sharded-slab-dev brings it" >&2
 fi
 cd "$package"
-RUSTFLAGS="$flags" CARGO_TARGET_DIR="$out/target" cargo bench --offline --quiet
+RUSTFLAGS="$flags" CARGO_TARGET_DIR="$out/target" cargo bench --offline --quiet -- "$@"

@@ -9,7 +9,6 @@ use crate::numbers::Numbers;
 use crate::proved::ent_handle::Memory;
 use crate::proved::ent_queue::{self, Bundle};
 use crate::proved::ent_total;
-use crate::unsync::Unsync;
 use alloc::vec::Vec;
 use core::error::Error;
 use core::fmt;
@@ -23,15 +22,11 @@ use core::fmt;
 #[repr(align(128))]
 pub struct Commands {
     proved: ent_total::Issuer<Numbers>,
-    _unsync: Unsync,
 }
 
 impl Commands {
     pub(crate) fn of(proved: ent_total::Issuer<Numbers>) -> Self {
-        Self {
-            proved,
-            _unsync: Unsync::NEW,
-        }
+        Self { proved }
     }
 
     /// Reserves a handle, which is to have the components. If one stands twice in the list, its
@@ -160,7 +155,6 @@ impl Commands {
     pub fn finish(self) -> CommandQueue {
         CommandQueue {
             proved: self.proved.finish(),
-            _unsync: Unsync::NEW,
         }
     }
 }
@@ -178,15 +172,11 @@ impl fmt::Debug for Commands {
 /// [`OpenWorld::close_lost`](crate::OpenWorld::close_lost) take it.
 pub struct CommandQueue {
     proved: ent_total::Issued<Numbers>,
-    _unsync: Unsync,
 }
 
 impl CommandQueue {
     pub(crate) fn of(proved: ent_total::Issued<Numbers>) -> Self {
-        Self {
-            proved,
-            _unsync: Unsync::NEW,
-        }
+        Self { proved }
     }
 
     pub(crate) fn proved(self) -> ent_total::Issued<Numbers> {

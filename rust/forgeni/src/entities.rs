@@ -1,16 +1,20 @@
 //! The allocator.
 
-use crate::errors::{AllocError, FreeError, OutOfMemory, RequestError, Unshared};
+use crate::errors::{
+    Absent, AllocError, FreeError, OutOfMemory, RequestError, RequestManyError, Unallocated,
+    Unshared,
+};
 use crate::handle::Handle;
 use crate::kit::alloc::Global;
 use crate::kit::vec::Vec as List;
 use crate::limits::Limits;
-use crate::lists::all_handles;
+use crate::lists::{all_handles, proved_handles};
 use crate::proved::{ent_alloc, ent_total};
 use crate::sharing::{Reserver, Shared};
-use crate::unsync::Unsync;
 use alloc::vec::Vec;
 use core::fmt;
+use core::iter::FusedIterator;
+use core::mem;
 
 /// What became of a handle.
 #[derive(Clone, Copy, Debug, PartialEq, Eq, Hash)]
@@ -53,28 +57,33 @@ impl Freed {
 
 /// Gives out the handles of entities and knows which are alive.
 ///
-/// It may go to another thread, and one thread has it at a time: it is `Send` and not `Sync`.
-/// [`share`](Self::share) is how many threads reserve from it at once.
+/// It is `Send` and `Sync`: it may go to another thread, and many threads may read it at once. In a
+/// [`phase`](Self::phase) or while it is [shared](Self::share) many threads reserve from it.
 ///
-/// ```compile_fail
-/// fn syncs<T: Sync>() {}
-/// syncs::<forgeni::Entities>();
+/// ```
+/// use forgeni::Entities;
+/// use std::sync::RwLock;
+///
+/// static ENTITIES: RwLock<Entities> = RwLock::new(Entities::new());
+/// let first = ENTITIES.write().unwrap().alloc()?;
+/// assert!(ENTITIES.read().unwrap().is_alive(first));
+/// # Ok::<(), forgeni::AllocError>(())
 /// ```
 pub struct Entities {
     proved: ent_alloc::Entities,
-    _unsync: Unsync,
 }
 
 impl Entities {
     /// An allocator with no entities and the greatest limits. It takes no memory.
     #[must_use]
-    pub fn new() -> Self {
-        Self::with_limits(Limits::default())
+    pub const fn new() -> Self {
+        Self::with_limits(Limits::GREATEST)
     }
 
     /// An allocator with no entities and these limits. It takes no memory.
+    #[doc = include_str!("proved/ent_alloc/entities.new.md")]
     #[must_use]
-    pub fn with_limits(limits: Limits) -> Self {
+    pub const fn with_limits(limits: Limits) -> Self {
         Self::of(ent_alloc::Entities::new(Global, limits.proved()))
     }
 
@@ -88,11 +97,8 @@ impl Entities {
         Ok(Self::with_limits(limits))
     }
 
-    pub(crate) fn of(proved: ent_alloc::Entities) -> Self {
-        Self {
-            proved,
-            _unsync: Unsync::NEW,
-        }
+    pub(crate) const fn of(proved: ent_alloc::Entities) -> Self {
+        Self { proved }
     }
 
     /// Gives a handle that is alive at once: the next one of the slot that was freed last, or the
@@ -105,6 +111,53 @@ impl Entities {
     #[inline]
     pub fn alloc(&mut self) -> Result<Handle, AllocError> {
         Ok(Handle::of(self.proved.alloc()?))
+    }
+
+    /// Gives `n` handles that are alive at once: those of `n` calls of [`alloc`](Self::alloc), in
+    /// their order.
+    ///
+    /// ```
+    /// use forgeni::Entities;
+    ///
+    /// let mut entities = Entities::new();
+    /// let wave = entities.alloc_many(1000)?;
+    /// assert_eq!((wave.len(), entities.len()), (1000, 1000));
+    /// # Ok::<(), Box<dyn std::error::Error + Send + Sync>>(())
+    /// ```
+    ///
+    /// # Errors
+    ///
+    /// [`Unallocated`] says why. With `NeedsFlush`, and with `Space`, if fewer than `n` can be
+    /// given, nothing has changed. With `Memory` it has those handles that were given before memory
+    /// ran out, and they are alive.
+    pub fn alloc_many(&mut self, n: u32) -> Result<Vec<Handle>, Unallocated> {
+        let mut handles = Vec::new();
+        match self.give_many(n, &mut handles) {
+            Ok(()) => Ok(handles),
+            Err(error) => Err(Unallocated { handles, error }),
+        }
+    }
+
+    /// Appends `n` handles that are alive to a list.
+    fn give_many(&mut self, n: u32, handles: &mut Vec<Handle>) -> Result<(), AllocError> {
+        if self.needs_flush() {
+            return Err(AllocError::NeedsFlush);
+        }
+        if u64::from(n) > self.left() {
+            return Err(AllocError::Space);
+        }
+        if handles.try_reserve_exact(n as usize).is_err() {
+            return Err(AllocError::Memory);
+        }
+        for _ in 0..n {
+            handles.push(self.alloc()?);
+        }
+        Ok(())
+    }
+
+    /// How many handles a request would find.
+    fn left(&self) -> u64 {
+        (u64::from(self.waiting()) + u64::from(self.room())).saturating_sub(self.asked())
     }
 
     /// Takes a living entity out. Its slot is the first to be given again, with the next
@@ -132,6 +185,49 @@ impl Entities {
         Ok(Handle::of(ent_total::request(&mut self.proved)?))
     }
 
+    /// Requests `n` handles at once, all of them or none. They stand in the order in which
+    /// [`Reserver::reserve_many`] lists its own: those of old slots first, the one that waits
+    /// longest before the others.
+    ///
+    /// # Errors
+    ///
+    /// `Space` if fewer than `n` handles are left, and `Memory` if there is none for the list.
+    /// Nothing has changed then, so a request for fewer may be served.
+    ///
+    /// ```
+    /// use forgeni::{Entities, Limits, RequestManyError};
+    ///
+    /// let mut entities = Entities::with_limits(Limits::new(3, 1).unwrap());
+    /// let refused = RequestManyError::Space { wanted: 4, left: 3 };
+    /// assert_eq!(entities.request_many(4), Err(refused));
+    /// assert_eq!(entities.request_many(3)?.len(), 3);
+    /// assert_eq!(entities.flush()?.len(), 3);
+    /// # Ok::<(), Box<dyn std::error::Error>>(())
+    /// ```
+    pub fn request_many(&mut self, n: u32) -> Result<Vec<Handle>, RequestManyError> {
+        let (wanted, left) = (u64::from(n), self.left());
+        if wanted > left {
+            // It is below the wanted number, which has 32 bits.
+            let left = left as u32;
+            return Err(RequestManyError::Space { wanted: n, left });
+        }
+        let mut handles = Vec::new();
+        if handles.try_reserve_exact(n as usize).is_err() {
+            return Err(RequestManyError::Memory);
+        }
+        let old = u64::from(self.waiting()).saturating_sub(self.asked());
+        for _ in 0..n {
+            match self.request() {
+                Ok(handle) => handles.push(handle),
+                // There are as many, and that is far below the credit.
+                Err(_) => unreachable!("there were {left} left"),
+            }
+        }
+        // One by one the slot that was freed last comes first.
+        handles[..old.min(wanted) as usize].reverse();
+        Ok(handles)
+    }
+
     /// Brings to life what was requested, and lists it: first the handles of new slots, then the
     /// others.
     ///
@@ -143,6 +239,63 @@ impl Entities {
         let mut born = List::new(Global);
         self.proved.flush(&mut born)?;
         Ok(all_handles(born))
+    }
+
+    /// [`flush`](Self::flush), which appends the handles to this list. It takes no memory if the
+    /// list has room for them and no slot is new. So a list that is cleared and used again takes
+    /// none in the end.
+    ///
+    /// ```
+    /// use forgeni::Entities;
+    ///
+    /// let mut entities = Entities::new();
+    /// let mut born = Vec::new();
+    /// for _ in 0..10 {
+    ///     entities.request_many(100)?;
+    ///     born.clear();
+    ///     entities.flush_into(&mut born)?;
+    ///     for &handle in &born {
+    ///         entities.free(handle)?;
+    ///     }
+    /// }
+    /// assert_eq!((born.len(), entities.total()), (100, 100));
+    /// # Ok::<(), Box<dyn std::error::Error>>(())
+    /// ```
+    ///
+    /// # Errors
+    ///
+    /// `OutOfMemory`, and then nothing has changed, and the list neither.
+    #[doc = include_str!("proved/ent_alloc/entities.flush.md")]
+    pub fn flush_into(&mut self, born: &mut Vec<Handle>) -> Result<(), OutOfMemory> {
+        let mut list = proved_handles(mem::take(born));
+        let flushed = self.proved.flush(&mut list);
+        *born = all_handles(list);
+        Ok(flushed?)
+    }
+
+    /// [`flush`](Self::flush), which hands each handle to `each` instead, in the same order. All of
+    /// them are alive before the first is handed on, and stay so if `each` panics.
+    ///
+    /// ```
+    /// use forgeni::Entities;
+    ///
+    /// let mut entities = Entities::new();
+    /// let mut places = Vec::new();
+    /// entities.request_many(3)?;
+    /// entities.flush_with(|handle| places.push((handle, "at home")))?;
+    /// assert_eq!(places.len(), 3);
+    /// # Ok::<(), Box<dyn std::error::Error>>(())
+    /// ```
+    ///
+    /// # Errors
+    ///
+    /// `OutOfMemory`, as of `flush`, and then nothing has changed and nothing is handed on.
+    #[doc = include_str!("proved/ent_alloc/entities.flush.md")]
+    pub fn flush_with(&mut self, each: impl FnMut(Handle)) -> Result<(), OutOfMemory> {
+        let mut born = List::new(Global);
+        self.proved.flush(&mut born)?;
+        born.into_iter().map(Handle::of).for_each(each);
+        Ok(())
     }
 
     /// Shares the allocator among `callers` reservers, 1 to 1,024, each of which may go to a thread
@@ -183,7 +336,7 @@ impl Entities {
         Shared::open(self.proved, callers)
     }
 
-    /// What became of a handle. It takes constant time.
+    /// What became of a handle: whether it is alive, reserved, or neither. It takes constant time.
     #[doc = include_str!("proved/ent_alloc/entities.state.md")]
     #[inline]
     #[must_use]
@@ -191,11 +344,91 @@ impl Entities {
         State::of(self.proved.state(handle.proved()))
     }
 
-    /// Whether the entity is alive. It takes constant time.
+    /// Whether the entity is alive or reserved, as `contains` of Bevy and of hecs says it. It takes
+    /// constant time.
+    ///
+    /// ```
+    /// use forgeni::Entities;
+    ///
+    /// let mut entities = Entities::new();
+    /// let soon = entities.request()?;
+    /// assert!(entities.contains(soon) && !entities.is_alive(soon));
+    /// entities.flush()?;
+    /// assert!(entities.contains(soon) && entities.is_alive(soon));
+    /// # Ok::<(), Box<dyn std::error::Error>>(())
+    /// ```
     #[inline]
     #[must_use]
     pub fn contains(&self, handle: Handle) -> bool {
-        self.state(handle) == State::Alive
+        self.state(handle) != State::Gone
+    }
+
+    /// Whether the entity is alive. It takes constant time.
+    #[doc = include_str!("proved/ent_alloc/entities.is_alive.md")]
+    #[inline]
+    #[must_use]
+    pub fn is_alive(&self, handle: Handle) -> bool {
+        self.proved.is_alive(handle.proved())
+    }
+
+    /// The handles of the living entities, by rising slot. It takes no memory. The time is that of a
+    /// look at each slot.
+    ///
+    /// ```
+    /// use forgeni::Entities;
+    ///
+    /// let mut entities = Entities::new();
+    /// let all = entities.alloc_many(3)?;
+    /// entities.free(all[1])?;
+    /// assert!(entities.iter().eq([all[0], all[2]]));
+    /// # Ok::<(), Box<dyn std::error::Error + Send + Sync>>(())
+    /// ```
+    #[doc = include_str!("proved/ent_alloc/entities.iter.md")]
+    #[inline]
+    pub fn iter(&self) -> Living<'_> {
+        Living {
+            proved: self.proved.iter(),
+        }
+    }
+
+    /// The row that was set with a living entity: a number that a program keeps with it, as where
+    /// its components stand. `None` if the handle isn't alive, or if no row was set since it came to
+    /// life. It takes constant time.
+    #[doc = include_str!("proved/ent_alloc/entities.row.md")]
+    #[inline]
+    #[must_use]
+    pub fn row(&self, handle: Handle) -> Option<u32> {
+        self.proved.row(handle.proved())
+    }
+
+    /// Keeps a row with a living entity until it is freed, in place of the row that was set before.
+    /// It takes constant time, and no memory.
+    ///
+    /// ```
+    /// use forgeni::{Absent, Entities};
+    ///
+    /// let mut entities = Entities::new();
+    /// let one = entities.alloc()?;
+    /// entities.set_row(one, 7)?;
+    /// assert_eq!(entities.row(one), Some(7));
+    /// entities.free(one)?;
+    /// assert_eq!(entities.row(one), None);
+    /// assert_eq!(entities.set_row(one, 8), Err(Absent));
+    /// # Ok::<(), Box<dyn std::error::Error>>(())
+    /// ```
+    ///
+    /// # Errors
+    ///
+    /// [`Absent`] if the handle isn't alive, and then nothing has changed.
+    #[doc = include_str!("proved/ent_alloc/entities.set_row.md")]
+    #[inline]
+    pub fn set_row(&mut self, handle: Handle, row: u32) -> Result<(), Absent> {
+        // The proved code wants a living entity.
+        if !self.is_alive(handle) {
+            return Err(Absent);
+        }
+        self.proved.set_row(handle.proved(), row);
+        Ok(())
     }
 
     /// How many entities are alive.
@@ -271,6 +504,16 @@ impl Entities {
     }
 }
 
+impl<'a> IntoIterator for &'a Entities {
+    type Item = Handle;
+    type IntoIter = Living<'a>;
+
+    #[inline]
+    fn into_iter(self) -> Living<'a> {
+        self.iter()
+    }
+}
+
 impl Default for Entities {
     fn default() -> Self {
         Self::new()
@@ -285,6 +528,37 @@ impl fmt::Debug for Entities {
             .field("waiting", &self.waiting())
             .field("retired", &self.retired())
             .field("reserved", &self.reserved())
+            .finish_non_exhaustive()
+    }
+}
+
+/// The handles of the living entities, by rising slot: [`Entities::iter`] makes it.
+pub struct Living<'a> {
+    proved: ent_alloc::LivingHandles<'a>,
+}
+
+impl Iterator for Living<'_> {
+    type Item = Handle;
+
+    #[inline]
+    fn next(&mut self) -> Option<Handle> {
+        self.proved.next().map(Handle::of)
+    }
+
+    #[inline]
+    fn size_hint(&self) -> (usize, Option<usize>) {
+        self.proved.size_hint()
+    }
+}
+
+impl ExactSizeIterator for Living<'_> {}
+
+impl FusedIterator for Living<'_> {}
+
+impl fmt::Debug for Living<'_> {
+    fn fmt(&self, out: &mut fmt::Formatter<'_>) -> fmt::Result {
+        out.debug_struct("Living")
+            .field("len", &self.len())
             .finish_non_exhaustive()
     }
 }

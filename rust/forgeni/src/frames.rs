@@ -1,14 +1,14 @@
 //! Frames: systems run on workers over one world, and the sync point applies what they issued.
 
 use crate::errors::OutOfMemory;
-use crate::frame_queues::FrameQueues;
 use crate::kit::alloc::Global;
 use crate::kit::thread::StdThreads;
 use crate::proved::ent_handle::Memory;
-use crate::proved::ent_runner::{self, FrameFault, NoGate};
+use crate::proved::ent_runner::{self, NoGate};
+use crate::proved::ent_total::Unframed;
 use crate::proved::{ent_queue, ent_world};
 use crate::report::Report;
-use crate::sync::SyncError;
+use crate::sync::{Queues, Stopped, SyncError};
 use crate::system::System;
 use crate::system_commands::SystemCommands;
 use crate::view::View;
@@ -78,48 +78,24 @@ use std::sync::{Mutex, PoisonError};
 ///
 /// With more than one worker, threads are started as [`std::thread::scope`] starts them. It ends
 /// the process where memory for that is refused.
-#[doc = include_str!("proved/ent_runner/frame.run_frame.md")]
+#[doc = include_str!("proved/ent_total/framing.run_frame.md")]
 pub fn run_frame<S: System>(
     world: &mut World,
     systems: &[S],
     workers: usize,
 ) -> Result<Report, FrameError> {
-    if let Some(error) = unmet(world, systems.len(), workers) {
-        return Err(error);
-    }
     let mut guarded = Vec::new();
     if guarded.try_reserve_exact(systems.len()).is_err() {
         return Err(FrameError::Memory);
     }
     guarded.extend(systems.iter().map(Guarded::new));
-    let proved = &mut world.proved.world;
-    let ran = ent_runner::run_frame(&StdThreads, Global, proved, &guarded, workers, &NoGate);
+    let proved = &mut world.proved;
+    let ran = proved.run_frame(&StdThreads, Global, &guarded, workers, &NoGate);
     let panic = guarded.into_iter().find_map(Guarded::panic);
     if let Some(panic) = panic {
         resume_unwind(panic);
     }
-    match ran {
-        Ok(report) => Ok(Report::of(report.sync)),
-        Err(FrameFault::Memory) => Err(FrameError::Memory),
-        Err(FrameFault::Lost) => Err(FrameError::Lost),
-        Err(FrameFault::Sync { fault, queues }) => {
-            let held = FrameQueues::new(&world.proved, queues).held(fault);
-            Err(FrameError::Sync(held.into()))
-        }
-    }
-}
-
-/// What the proved code requires of a frame and doesn't find.
-fn unmet(world: &World, systems: usize, workers: usize) -> Option<FrameError> {
-    if world.needs_flush() {
-        Some(FrameError::NeedsFlush)
-    } else if !(1..=64).contains(&workers) {
-        Some(FrameError::Workers)
-    } else if systems > 1 << 16 {
-        Some(FrameError::Systems)
-    } else {
-        None
-    }
+    Ok(Report::of(ran?.sync))
 }
 
 /// What a panic was raised with.
@@ -170,8 +146,6 @@ impl<S: System> ent_runner::System for Guarded<'_, S> {
 }
 
 /// Why a frame didn't do all.
-///
-/// Like the queues it isn't `Sync`.
 #[derive(Debug)]
 pub enum FrameError {
     /// Handles were requested since the last flush. No system ran, and the world is as it was.
@@ -188,6 +162,23 @@ pub enum FrameError {
     Lost,
     /// All systems ran, and the sync point did not do all. It has the queues.
     Sync(SyncError),
+}
+
+impl From<Unframed> for FrameError {
+    fn from(refused: Unframed) -> Self {
+        match refused {
+            Unframed::NeedsFlush => Self::NeedsFlush,
+            Unframed::Workers => Self::Workers,
+            Unframed::Systems => Self::Systems,
+            Unframed::Memory => Self::Memory,
+            Unframed::Lost => Self::Lost,
+            Unframed::Unapplied(queues) => Self::Sync(SyncError::Memory(Queues::of(queues))),
+            Unframed::Stopped(stopped, so_far) => {
+                let stopped = Stopped::at(stopped, Report::of(so_far));
+                Self::Sync(SyncError::Stopped(stopped))
+            }
+        }
+    }
 }
 
 impl fmt::Display for FrameError {

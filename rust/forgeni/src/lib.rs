@@ -15,8 +15,8 @@
 //! assert_eq!(entities.len(), 2);
 //!
 //! entities.free(first)?;
-//! assert!(!entities.contains(first));
-//! assert!(entities.contains(second));
+//! assert!(!entities.is_alive(first));
+//! assert!(entities.is_alive(second));
 //!
 //! // The slot is used again, by a handle of the next generation.
 //! assert_eq!(entities.alloc()?.to_string(), "0v2");
@@ -50,22 +50,51 @@
 //! ```
 //!
 //! While the allocator is shared it is inside the [`Shared`], so nothing but reservations can
-//! happen: `alloc`, `free` and `state` don't compile.
+//! happen: `alloc`, `free` and `state` don't compile. What lived as the phase was opened is told all
+//! the while ([`Shared::is_alive`], [`Shared::row`]).
+//!
+//! [`Entities::phase`] does both on a borrow: it lends the allocator to a closure, and has it back at
+//! the end. Task systems, where it isn't known before who runs a task, lend reservers from a pool
+//! (`Reservers`).
+//!
+//! # Components
+//!
+//! A [`HandleMap`] has a value of any type for each of some handles, as a secondary map of a slot
+//! map has. An `Entities` with a map for each type of component is all that many engines need, and
+//! the example `particles` is a small one.
+//!
+//! ```
+//! use forgeni::{Entities, HandleMap};
+//!
+//! let mut entities = Entities::new();
+//! let mut names = HandleMap::new();
+//! let cart = entities.alloc()?;
+//! names.insert(cart, String::from("cart"))?;
+//! assert_eq!(names[cart], "cart");
+//! # Ok::<(), Box<dyn std::error::Error + Send + Sync>>(())
+//! ```
 //!
 //! # Worlds and frames
 //!
-//! A [`World`] has the allocator and what entities are made of. `run_frame` runs systems on workers.
+//! A [`World`] has the allocator and what entities are made of, by numbered components of 64 bits. It
+//! knows when each entity was born, and reports what a frame did, whatever the number of its workers.
+//! `run_frame` runs systems on workers.
 //! Each reads the world and issues commands, and the commands take effect in the order of the
 //! systems. Who has threads of its own uses [`World::open`], [`Commands`], [`OpenWorld::close`] and
 //! [`World::apply`].
 //!
 //! # What may go wrong
 //!
+//! Each error goes by `?` into a `Box<dyn Error + Send + Sync>`. One that hands something back has it
+//! in its fields, and `into_parts` takes it apart from the plain error.
+//!
 //! - An `Entities` that is used while it is shared, a `Reserver` after its phase was closed, or one
 //!   `Reserver` by two threads at once doesn't compile.
 //! - [`close`](Shared::close) without some of the reservers, or with one of another phase, is an
 //!   [`Unclosed`], which has all that was handed in.
 //! - Reservers of two phases don't [meet](Reserver::meet): [`OtherPhase`], and nothing has changed.
+//! - The closure of a [`phase`](Entities::phase) ends early or panics: the allocator is back, with all
+//!   that was reserved.
 //! - A thread panics, and its reserver is dropped: `close` says what is missing, and
 //!   [`close_lost`](Shared::close_lost) ends the phase. The handles of the lost reserver come to
 //!   life too. [`OpenWorld::close_lost`] does the same for a world, with the queues of the others.
@@ -79,12 +108,15 @@
 //! - Memory runs out: an `Err`. Nothing has changed then, but where a sync point stopped
 //!   ([`Stopped`]) or a frame is lost.
 //!
-//! Nothing panics. Where Rust has no form that can be refused memory, the process ends, as it does
-//! of `Vec` and `Arc`:
+//! Nothing panics, but for a pool without reservers (`Reservers::with`) and a map that is indexed by a
+//! handle without a value. Where Rust has no form
+//! that can be refused memory, the process ends, as it does of `Vec` and `Arc`:
 //!
 //! - [`Report::born`], [`Report::faults`], [`Storage::items`] and [`World::items`] make a list.
-//! - [`Entities::share`] and [`World::open`] make an `Arc`. They ask for as much memory before, and
+//! - [`Entities::share`], [`Entities::phase`] and [`World::open`] make an `Arc`. They ask for as much memory before, and
 //!   say so if it is refused. So only another thread can take it in between.
+//! - A [`HandleMap`] is cloned, extended, collected, or used up by an iterator. `Reservers::into_inner`
+//!   makes a list.
 //! - A close after one that was refused with [`CloseError::InUse`] may make a list.
 //! - `run_frame` with more than one worker starts threads.
 //!
@@ -122,21 +154,24 @@ mod commands;
 mod component;
 mod entities;
 mod errors;
-#[cfg_attr(not(feature = "std"), allow(dead_code))]
-mod frame_queues;
 #[cfg(feature = "std")]
 mod frames;
 mod handle;
+pub mod handle_map;
 #[allow(dead_code, missing_docs, unreachable_pub)]
 mod kit;
+mod lent;
 mod limits;
 mod lists;
 mod numbers;
 mod open_world;
+mod phase;
 #[rustfmt::skip]
 #[allow(missing_docs)]
 mod proved;
 mod report;
+#[cfg(feature = "std")]
+mod reservers;
 #[cfg(test)]
 mod room;
 mod sharing;
@@ -146,24 +181,26 @@ mod sync;
 mod system;
 #[cfg(feature = "std")]
 mod system_commands;
-mod unsync;
 #[cfg(feature = "std")]
 mod view;
 mod world;
 
 pub use commands::{CommandQueue, Commands, SpawnError};
 pub use component::{Birth, ComponentId};
-pub use entities::{Entities, Freed, State};
-pub use errors::{Absent, BornError, InsertError, ShareError, Unclosed, Unshared};
-pub use errors::{
-    AllocError, CloseError, FreeError, OtherPhase, OutOfMemory, Refused, RequestError,
-};
+pub use entities::{Entities, Freed, Living, State};
+pub use errors::{Absent, AllocError, BornError, CloseError, FreeError, InsertError, OtherPhase};
+pub use errors::{OutOfMemory, Refused, RequestError, RequestManyError, ShareError};
+pub use errors::{Unallocated, Unclosed, Unshared};
 #[cfg(feature = "std")]
 pub use frames::{run_frame, FrameError};
-pub use handle::Handle;
+pub use handle::{Handle, ParseHandleError};
+pub use handle_map::{HandleMap, InsertionError, Uninserted};
+pub use lent::Lent;
 pub use limits::Limits;
 pub use open_world::{FinishError, OpenError, OpenWorld, Unfinished, Unopened};
 pub use report::{Fault, FaultKind, Report};
+#[cfg(feature = "std")]
+pub use reservers::{Lends, Reservers};
 pub use sharing::{Reserver, Shared};
 pub use storage::Storage;
 pub use sync::{GoOnError, Queues, Stopped, SyncError, SyncErrorKind};

@@ -6,8 +6,14 @@ use crate::proved::ent_handle;
 use alloc::vec::Vec;
 
 /// The handles of a list, in its memory: the two kinds of handles have one layout, so `collect` asks
-/// for none.
+/// for none, and what room the list has stays.
 pub(crate) fn all_handles(list: List<ent_handle::Handle>) -> Vec<Handle> {
     let list: Vec<ent_handle::Handle> = list.into();
     list.into_iter().map(Handle::of).collect()
+}
+
+/// The way back, in the same memory too.
+pub(crate) fn proved_handles(list: Vec<Handle>) -> List<ent_handle::Handle> {
+    let list: Vec<ent_handle::Handle> = list.into_iter().map(Handle::proved).collect();
+    list.into()
 }

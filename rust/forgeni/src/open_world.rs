@@ -10,7 +10,6 @@ use crate::lists::all_handles;
 use crate::numbers::{next_number, Numbers};
 use crate::proved::ent_total::{self, FinishFault, NumberedWorld, ShareFault};
 use crate::sync::Queues;
-use crate::unsync::Unsync;
 use crate::world::World;
 use alloc::vec::Vec;
 use core::error::Error;
@@ -28,7 +27,6 @@ type Ended = Result<(NumberedWorld, ent_total::Queues), ent_total::Unfinished<Nu
 /// It may go to another thread, and so may the [`Commands`] of its systems.
 pub struct OpenWorld {
     proved: Phase,
-    _unsync: Unsync,
 }
 
 impl OpenWorld {
@@ -49,10 +47,7 @@ impl OpenWorld {
     }
 
     fn of(proved: Phase) -> Self {
-        Self {
-            proved,
-            _unsync: Unsync::NEW,
-        }
+        Self { proved }
     }
 
     /// Gives out the commands of all systems, in the order of their numbers, into a list with room
@@ -226,14 +221,20 @@ impl From<ShareFault> for OpenError {
 }
 
 /// A world that was not opened, as it was.
-///
-/// Like the world it isn't `Sync`. Its `error` is, for a box of errors that wants that.
 #[derive(Debug)]
 pub struct Unopened {
     /// The world.
     pub world: World,
     /// Why it was not opened.
     pub error: OpenError,
+}
+
+impl Unopened {
+    /// The world, and why it was not opened.
+    #[must_use]
+    pub fn into_parts(self) -> (World, OpenError) {
+        (self.world, self.error)
+    }
 }
 
 impl fmt::Display for Unopened {
@@ -296,8 +297,6 @@ impl From<FinishFault> for FinishError {
 }
 
 /// A phase that was not closed.
-///
-/// Like the phase it isn't `Sync`. Its `error` is, for a box of errors that wants that.
 #[derive(Debug)]
 pub struct Unfinished {
     /// The phase, which goes on.
@@ -306,6 +305,14 @@ pub struct Unfinished {
     pub queues: Vec<CommandQueue>,
     /// Why it was not closed.
     pub error: FinishError,
+}
+
+impl Unfinished {
+    /// The phase, the queues that are handed back, and why it was not closed.
+    #[must_use]
+    pub fn into_parts(self) -> (OpenWorld, Vec<CommandQueue>, FinishError) {
+        (self.open, self.queues, self.error)
+    }
 }
 
 impl fmt::Display for Unfinished {

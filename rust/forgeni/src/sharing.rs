@@ -7,7 +7,6 @@ use crate::kit::alloc::Global;
 use crate::kit::vec::Vec as List;
 use crate::numbers::{next_number, Numbers};
 use crate::proved::{ent_alloc, ent_handle, ent_total};
-use crate::unsync::Unsync;
 use alloc::vec::Vec;
 use core::fmt;
 
@@ -22,17 +21,11 @@ type Caller = ent_total::Caller<Numbers>;
 /// The allocator is inside, so nothing but reservations happens until [`close`](Self::close) gives
 /// it back. If the `Shared` is dropped, the allocator goes with the last of the reservers.
 ///
-/// It may go to another thread, and one thread has it at a time.
-///
-/// ```compile_fail
-/// fn syncs<T: Sync>() {}
-/// syncs::<forgeni::Shared>();
-/// ```
+/// It is `Send` and `Sync`: any thread may read what it tells.
 pub struct Shared {
     proved: Phase,
     /// Room for the callers on their way home, so that a close takes no memory.
     room: Vec<Caller>,
-    _unsync: Unsync,
 }
 
 impl Shared {
@@ -51,7 +44,6 @@ impl Shared {
         let shared = Self {
             proved: opening.numbered(next_number()),
             room,
-            _unsync: Unsync::NEW,
         };
         shared.give_all(reservers)
     }
@@ -105,6 +97,39 @@ impl Shared {
     #[must_use]
     pub fn at_home(&self) -> usize {
         self.proved.at_home()
+    }
+
+    /// Whether the entity was alive as the phase was opened. It stays so until the close: what is
+    /// reserved comes to life after it, and nothing is freed before. Any thread may ask, and it
+    /// takes constant time.
+    ///
+    /// ```
+    /// use forgeni::Entities;
+    ///
+    /// let mut entities = Entities::new();
+    /// let old = entities.alloc()?;
+    /// entities.set_row(old, 3)?;
+    /// entities.phase(1, |shared, reservers| {
+    ///     let new = reservers[0].reserve().expect("a handle");
+    ///     assert!(shared.is_alive(old) && !shared.is_alive(new));
+    ///     assert_eq!((shared.row(old), shared.row(new)), (Some(3), None));
+    /// })?;
+    /// # Ok::<(), Box<dyn std::error::Error + Send + Sync>>(())
+    /// ```
+    #[doc = include_str!("proved/ent_total/phase.is_alive.md")]
+    #[inline]
+    #[must_use]
+    pub fn is_alive(&self, handle: Handle) -> bool {
+        self.proved.is_alive(handle.proved())
+    }
+
+    /// The row that was set with the entity ([`Entities::set_row`]), as the phase was opened. `None`
+    /// if it was not alive then, or had none. Any thread may ask, and it takes constant time.
+    #[doc = include_str!("proved/ent_total/phase.row.md")]
+    #[inline]
+    #[must_use]
+    pub fn row(&self, handle: Handle) -> Option<u32> {
+        self.proved.row(handle.proved())
     }
 
     /// One of the reservers that are at home, or `None` if none is. It takes no memory.
@@ -185,7 +210,6 @@ impl Shared {
             shared: Self {
                 proved: refused.phase,
                 room,
-                _unsync: Unsync::NEW,
             },
             reservers,
             error: refused.why.into(),
@@ -218,23 +242,25 @@ impl ent_total::Sink for Listing<'_> {
 /// handle is what the allocator would have given to one caller at that moment, so no two callers
 /// are given the same one. It lives after the phase, with the next [`flush`](Entities::flush).
 ///
+/// Two threads can't reserve by one at once:
+///
 /// ```compile_fail
-/// fn syncs<T: Sync>() {}
-/// syncs::<forgeni::Reserver>();
+/// let (shared, mut reservers) = forgeni::Entities::new().share(1).unwrap();
+/// let only = &mut reservers[0];
+/// std::thread::scope(|scope| {
+///     scope.spawn(|| only.reserve());
+///     scope.spawn(|| only.reserve());
+/// });
 /// ```
 // A call writes the object, so two of them in a list share no line of a processor's cache.
 #[repr(align(128))]
 pub struct Reserver {
     proved: Caller,
-    _unsync: Unsync,
 }
 
 impl Reserver {
     pub(crate) fn of(proved: Caller) -> Self {
-        Self {
-            proved,
-            _unsync: Unsync::NEW,
-        }
+        Self { proved }
     }
 
     /// Reserves one handle, by one atomic step. It takes no memory.
@@ -291,6 +317,22 @@ impl Reserver {
     #[inline]
     pub fn meet(&mut self, other: &mut Reserver) -> Result<(), OtherPhase> {
         self.proved.meet(&mut other.proved).map_err(|_| OtherPhase)
+    }
+
+    /// Whether the entity was alive as the phase was opened, as [`Shared::is_alive`] tells it.
+    #[doc = include_str!("proved/ent_total/caller.is_alive.md")]
+    #[inline]
+    #[must_use]
+    pub fn is_alive(&self, handle: Handle) -> bool {
+        self.proved.is_alive(handle.proved())
+    }
+
+    /// The row of the entity as the phase was opened, as [`Shared::row`] tells it.
+    #[doc = include_str!("proved/ent_total/caller.row.md")]
+    #[inline]
+    #[must_use]
+    pub fn row(&self, handle: Handle) -> Option<u32> {
+        self.proved.row(handle.proved())
     }
 
     /// Which of the reservers it is: its position in the list that [`Entities::share`] gave, from

@@ -6,7 +6,6 @@ use crate::handle::Handle;
 use crate::kit::alloc::Global;
 use crate::lists::all_handles;
 use crate::proved::ent_storage;
-use crate::unsync::Unsync;
 use alloc::vec::Vec;
 use core::fmt;
 
@@ -30,10 +29,9 @@ use core::fmt;
 /// # Ok::<(), Box<dyn std::error::Error>>(())
 /// ```
 ///
-/// It may go to another thread, and one thread has it at a time: it is `Send` and not `Sync`.
+/// It may go to another thread, and many threads may read it at once: it is `Send` and `Sync`.
 pub struct Storage {
     proved: ent_storage::Storage,
-    _unsync: Unsync,
 }
 
 impl Storage {
@@ -42,7 +40,6 @@ impl Storage {
     pub fn new() -> Self {
         Self {
             proved: ent_storage::Storage::new(Global),
-            _unsync: Unsync::NEW,
         }
     }
 

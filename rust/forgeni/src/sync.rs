@@ -1,10 +1,8 @@
 //! What a sync point is given, and where one stops for want of memory.
 
-use crate::frame_queues::{FrameQueues, Held};
-use crate::proved::ent_total::{self, NumberedWorld, Stop, Unapplied, Ungone};
+use crate::proved::ent_total::{self, NumberedWorld, Unapplied, Ungone};
 use crate::proved::ent_world::SyncReport;
 use crate::report::Report;
-use crate::unsync::Unsync;
 use crate::world::World;
 use core::error::Error;
 use core::fmt;
@@ -12,34 +10,17 @@ use core::fmt;
 /// The queues of a phase, in the order in which they were handed in, for one [`World::apply`] of
 /// the world whose phase it was.
 pub struct Queues {
-    kept: Kept,
-    _unsync: Unsync,
-}
-
-/// Whose queues they are.
-enum Kept {
-    Phase(ent_total::Queues),
-    Frame(FrameQueues),
+    proved: ent_total::Queues,
 }
 
 impl Queues {
     pub(crate) fn of(proved: ent_total::Queues) -> Self {
-        Self::kept(Kept::Phase(proved))
-    }
-
-    fn kept(kept: Kept) -> Self {
-        Self {
-            kept,
-            _unsync: Unsync::NEW,
-        }
+        Self { proved }
     }
 
     /// The sync point of these queues.
     pub(crate) fn apply(self, world: &mut NumberedWorld) -> Result<SyncReport, SyncError> {
-        match self.kept {
-            Kept::Phase(queues) => Ok(world.apply(queues)?),
-            Kept::Frame(queues) => Ok(queues.apply(world)?),
-        }
+        Ok(world.apply(self.proved)?)
     }
 }
 
@@ -49,8 +30,7 @@ impl fmt::Debug for Queues {
     }
 }
 
-/// Why a sync point didn't do all, without the queues that [`SyncError`] and [`GoOnError`] have. It
-/// is `Sync`, for a box of errors that wants that.
+/// Why a sync point didn't do all, without the queues that [`SyncError`] and [`GoOnError`] have.
 #[derive(Clone, Copy, Debug, PartialEq, Eq, Hash)]
 pub enum SyncErrorKind {
     /// The queues are of another world.
@@ -84,8 +64,6 @@ impl fmt::Display for SyncErrorKind {
 impl Error for SyncErrorKind {}
 
 /// Why a sync point didn't do all.
-///
-/// Like the queues it isn't `Sync`. Its [`kind`](Self::kind) is.
 #[derive(Debug)]
 pub enum SyncError {
     /// The queues are of a phase of another world. Nothing was done, and these are the queues.
@@ -106,6 +84,16 @@ impl SyncError {
             Self::Stopped(stopped) => stopped.kind(),
         }
     }
+
+    /// What it hands back, and which of them it is: the queues if nothing was done, and else where
+    /// it stopped.
+    pub fn into_parts(self) -> (Result<Queues, Stopped>, SyncErrorKind) {
+        let kind = self.kind();
+        match self {
+            Self::OtherWorld(queues) | Self::Memory(queues) => (Ok(queues), kind),
+            Self::Stopped(stopped) => (Err(stopped), kind),
+        }
+    }
 }
 
 impl fmt::Display for SyncError {
@@ -120,26 +108,12 @@ impl From<Unapplied> for SyncError {
     fn from(refused: Unapplied) -> Self {
         match refused {
             Unapplied::OtherWorld(queues) => Self::OtherWorld(Queues::of(queues)),
-            // A phase has 1,024 queues at most, so there are never too many.
+            // A phase has 1,024 queues at most and a frame 65,536, so there are never too many.
             Unapplied::Memory(queues) | Unapplied::TooMany(queues) => {
                 Self::Memory(Queues::of(queues))
             }
             Unapplied::Stopped(stopped, so_far) => {
                 Self::Stopped(Stopped::at(stopped, Report::of(so_far)))
-            }
-        }
-    }
-}
-
-impl From<Held> for SyncError {
-    fn from(held: Held) -> Self {
-        let queues = |queues| Queues::kept(Kept::Frame(queues));
-        match held {
-            Held::OtherWorld(frame) => Self::OtherWorld(queues(frame)),
-            // A sync point from its beginning flushes.
-            Held::NeedsFlush(frame) | Held::Memory(frame) => Self::Memory(queues(frame)),
-            Held::Stopped(frame, stop, so_far) => {
-                Self::Stopped(Stopped::of_frame(frame, stop, Report::of(so_far)))
             }
         }
     }
@@ -158,26 +132,13 @@ pub struct Stopped {
     /// [`GoOnError::OtherWorld`], [`GoOnError::NeedsFlush`] and [`GoOnError::Memory`] it is the same
     /// report again.
     pub so_far: Report,
-    rest: Rest,
-}
-
-/// What is left of a phase or of a frame.
-enum Rest {
-    Phase(ent_total::Stopped),
-    Frame(FrameQueues, Stop),
+    rest: ent_total::Stopped,
 }
 
 impl Stopped {
     /// The place where it stopped, with the report so far.
-    fn at(proved: ent_total::Stopped, so_far: Report) -> Self {
-        Self::with(proved.stop(), so_far, Rest::Phase(proved))
-    }
-
-    fn of_frame(queues: FrameQueues, stop: Stop, so_far: Report) -> Self {
-        Self::with(stop, so_far, Rest::Frame(queues, stop))
-    }
-
-    fn with(stop: Stop, so_far: Report, rest: Rest) -> Self {
+    pub(crate) fn at(rest: ent_total::Stopped, so_far: Report) -> Self {
+        let stop = rest.stop();
         Self {
             system: stop.system,
             command: stop.command,
@@ -209,15 +170,9 @@ impl Stopped {
     #[doc = include_str!("proved/ent_total/applying.go_on.md")]
     pub fn go_on(self, world: &mut World) -> Result<Report, GoOnError> {
         let so_far = self.so_far;
-        match self.rest {
-            Rest::Phase(stopped) => match stopped.go_on(&mut world.proved) {
-                Ok(report) => Ok(Report::of(report)),
-                Err(refused) => Err(GoOnError::of(refused, so_far)),
-            },
-            Rest::Frame(queues, stop) => match queues.go_on(stop, &mut world.proved) {
-                Ok(report) => Ok(Report::of(report)),
-                Err(held) => Err(GoOnError::of_frame(held, stop, so_far)),
-            },
+        match self.rest.go_on(&mut world.proved) {
+            Ok(report) => Ok(Report::of(report)),
+            Err(refused) => Err(GoOnError::of(refused, so_far)),
         }
     }
 }
@@ -234,8 +189,6 @@ impl fmt::Debug for Stopped {
 }
 
 /// Why a sync point that went on didn't do all.
-///
-/// Like the queues it isn't `Sync`. Its [`kind`](Self::kind) is.
 #[derive(Debug)]
 pub enum GoOnError {
     /// It stopped in another world. Nothing has changed.
@@ -260,18 +213,6 @@ impl GoOnError {
         }
     }
 
-    /// The same of a frame that stopped there.
-    fn of_frame(held: Held, stop: Stop, so_far: Report) -> Self {
-        match held {
-            Held::OtherWorld(queues) => Self::OtherWorld(Stopped::of_frame(queues, stop, so_far)),
-            Held::NeedsFlush(queues) => Self::NeedsFlush(Stopped::of_frame(queues, stop, so_far)),
-            Held::Memory(queues) => Self::Memory(Stopped::of_frame(queues, stop, so_far)),
-            Held::Stopped(queues, later, report) => {
-                Self::Stopped(Stopped::of_frame(queues, later, Report::of(report)))
-            }
-        }
-    }
-
     /// Which of them it is.
     #[must_use]
     pub fn kind(&self) -> SyncErrorKind {
@@ -280,6 +221,18 @@ impl GoOnError {
             Self::NeedsFlush(_) => SyncErrorKind::NeedsFlush,
             Self::Memory(_) => SyncErrorKind::Memory,
             Self::Stopped(stopped) => stopped.kind(),
+        }
+    }
+
+    /// Where it stopped, to go on from there, and which of them it is.
+    #[must_use]
+    pub fn into_parts(self) -> (Stopped, SyncErrorKind) {
+        let kind = self.kind();
+        match self {
+            Self::OtherWorld(stopped)
+            | Self::NeedsFlush(stopped)
+            | Self::Memory(stopped)
+            | Self::Stopped(stopped) => (stopped, kind),
         }
     }
 }

@@ -15,7 +15,6 @@ use crate::proved::ent_total::NumberedWorld;
 use crate::proved::ent_world;
 use crate::report::Report;
 use crate::sync::{Queues, SyncError};
-use crate::unsync::Unsync;
 use alloc::vec::Vec;
 use core::fmt;
 
@@ -49,18 +48,14 @@ use core::fmt;
 /// # Ok::<(), Box<dyn std::error::Error>>(())
 /// ```
 ///
-/// It may go to another thread, and one thread has it at a time: it is `Send` and not `Sync`.
+/// It may go to another thread, and many threads may read it at once: it is `Send` and `Sync`.
 pub struct World {
     pub(crate) proved: NumberedWorld,
-    _unsync: Unsync,
 }
 
 impl World {
     pub(crate) fn of(proved: NumberedWorld) -> Self {
-        Self {
-            proved,
-            _unsync: Unsync::NEW,
-        }
+        Self { proved }
     }
 
     /// A world without entities, with the greatest limits. It takes no memory.

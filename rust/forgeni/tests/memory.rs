@@ -209,7 +209,7 @@ fn share_again_and_again() {
                 assert_eq!(refused.error, ShareError::Memory);
                 assert_eq!(refused.to_string(), "out of memory");
                 entities = refused.entities;
-                assert!(entities.contains(one) && !entities.needs_flush());
+                assert!(entities.is_alive(one) && !entities.needs_flush());
             }
         }
     }

@@ -4,7 +4,7 @@
 mod common;
 
 use common::{handle, seeds, small, Model, Numbers};
-use forgeni::{Handle, Refused, RequestError};
+use forgeni::{AllocError, Handle, Refused, RequestError, RequestManyError, State};
 
 fn run(seed: u64) {
     let mut numbers = Numbers::of(seed);
@@ -45,4 +45,70 @@ fn request(model: &mut Model) -> Result<Handle, RequestError> {
 #[test]
 fn random_calls() {
     seeds(20_000, run);
+}
+
+/// Many handles at once, and each way to flush. The list of a flush is used again.
+fn run_bulks(seed: u64) {
+    let mut numbers = Numbers::of(seed);
+    let slots = 1 + numbers.below(12) as u32;
+    let mut model = Model::new(slots, 3);
+    let mut entities = small(slots, 3);
+    let mut list = vec![];
+    for step in 0..40 {
+        let place = format!("seed {seed}, step {step}");
+        let n = numbers.below(5) as u32;
+        match numbers.below(10) {
+            0 | 1 => match entities.alloc_many(n) {
+                Ok(given) => {
+                    let wanted: Result<Vec<_>, _> = (0..n).map(|_| model.alloc()).collect();
+                    assert_eq!(Ok(given), wanted, "{place}: alloc_many");
+                }
+                Err(refused) => {
+                    let (none, error) = refused.into_parts();
+                    let wanted = if model.asked > 0 {
+                        AllocError::NeedsFlush
+                    } else {
+                        assert!((model.pool().len() as u32) < n, "{place}: alloc_many");
+                        AllocError::Space
+                    };
+                    assert_eq!((none, error), (vec![], wanted), "{place}: alloc_many");
+                }
+            },
+            2..=4 => {
+                let left = model.pool().len() as u32;
+                let wanted = if n <= left {
+                    Ok(model.reserve(n).expect("there are as many"))
+                } else {
+                    Err(RequestManyError::Space { wanted: n, left })
+                };
+                assert_eq!(entities.request_many(n), wanted, "{place}: request_many");
+            }
+            5 => assert_eq!(entities.request(), request(&mut model), "{place}: request"),
+            6 => {
+                let before = list.len();
+                entities.flush_into(&mut list).expect("memory");
+                assert_eq!(list[before..], model.flush(), "{place}: flush_into");
+            }
+            7 => {
+                list.clear();
+                entities.flush_with(|one| list.push(one)).expect("memory");
+                assert_eq!(list, model.flush(), "{place}: flush_with");
+            }
+            _ if !model.live.is_empty() => {
+                let one = model.live[numbers.below(model.live.len() as u64) as usize];
+                assert_eq!(entities.free(one), model.free(one), "{place}: free {one}");
+            }
+            _ => {}
+        }
+        let any = handle(numbers.below(13) as u32, 1 + numbers.below(4) as u32);
+        let state = model.state(any);
+        assert_eq!(entities.is_alive(any), state == State::Alive);
+        assert_eq!(entities.contains(any), state != State::Gone);
+        model.expect(&entities, &place);
+    }
+}
+
+#[test]
+fn random_bulks() {
+    seeds(10_000, run_bulks);
 }

@@ -9,9 +9,9 @@ mod refusing;
 use common::handle;
 use forgeni::{
     run_frame, AllocError, Birth, BornError, CommandQueue, Commands, ComponentId, Entities, Fault,
-    FinishError, FrameError, FreeError, GoOnError, Handle, InsertError, OpenError, OpenWorld,
-    OutOfMemory, Queues, Refused, Report, ShareError, SpawnError, State, Storage, SyncError,
-    SystemCommands, View, World,
+    FinishError, FrameError, FreeError, GoOnError, Handle, HandleMap, InsertError, InsertionError,
+    OpenError, OpenWorld, OutOfMemory, Queues, Refused, Report, RequestManyError, ShareError,
+    SpawnError, State, Storage, SyncError, SystemCommands, View, World,
 };
 use refusing::{refusing, Refusal};
 
@@ -136,6 +136,119 @@ fn a_flush_of_requests() {
     });
 }
 
+/// A flush into a list that has room, and no new slots: nothing is asked for. Else the list is as it
+/// was.
+#[test]
+fn a_flush_into_a_list() {
+    each_in_turn(|refusal| {
+        let mut entities = three();
+        entities.request_many(98).expect("handles");
+        let mut list = vec![handle(7, 7)];
+        let into = || entities.flush_into(&mut list);
+        let (_, refused) = insist(refusal, OutOfMemory, into);
+        assert_eq!(
+            (list.len(), list[0], list[98]),
+            (99, handle(7, 7), handle(1, 2))
+        );
+        assert_eq!(entities.len(), 100);
+
+        for &one in &list[1..] {
+            entities.free(one).expect("memory");
+        }
+        entities.request_many(98).expect("handles");
+        list.clear();
+        let (flushed, none) =
+            refusing(Refusal::All { after: 0 }, || entities.flush_into(&mut list));
+        assert_eq!((flushed, none, list.len()), (Ok(()), 0, 98));
+        refused
+    });
+}
+
+#[test]
+fn a_flush_with_a_closure() {
+    each_in_turn(|refusal| {
+        let mut entities = three();
+        entities.request_many(98).expect("handles");
+        let (mut count, mut last) = (0, None);
+        let with = || {
+            entities.flush_with(|one| {
+                count += 1;
+                last = Some(one);
+            })
+        };
+        let (_, refused) = insist(refusal, OutOfMemory, with);
+        assert_eq!((count, last, entities.len()), (98, Some(handle(1, 2)), 100));
+        refused
+    });
+}
+
+#[test]
+fn many_at_once() {
+    each_in_turn(|refusal| {
+        let mut entities = three();
+        let (given, refused) = refusing(refusal, || entities.alloc_many(98));
+        let mut all = given.unwrap_or_else(|left| {
+            assert!(refused > 0);
+            let (some, error) = left.into_parts();
+            assert_eq!(error, AllocError::Memory);
+            assert_eq!(entities.len() as usize, 2 + some.len());
+            some
+        });
+        assert!(all.iter().all(|one| entities.is_alive(*one)));
+        let rest = 98 - all.len() as u32;
+        all.extend(entities.alloc_many(rest).expect("memory"));
+        let wanted: Vec<Handle> = (3..100).map(|index| handle(index, 1)).collect();
+        assert_eq!((all[0], &all[1..]), (handle(1, 2), &wanted[..]));
+        refused
+    });
+    each_in_turn(|refusal| {
+        let mut entities = three();
+        let call = || entities.request_many(98);
+        let (given, refused) = insist(refusal, RequestManyError::Memory, call);
+        assert_eq!((given.len(), entities.asked()), (98, 98));
+        refused
+    });
+}
+
+/// The allocator is back from a phase that was refused, and the closure wasn't called.
+#[test]
+fn a_phase_on_a_borrow() {
+    each_block_in_turn(|refusal| {
+        let mut entities = three();
+        let phase = || entities.phase(5, |_, reservers| reservers[4].reserve());
+        let (ran, refused) = refusing(refusal, phase);
+        let ran = ran.unwrap_or_else(|error| {
+            assert!(refused > 0);
+            assert_eq!(error, ShareError::Memory);
+            assert_eq!((entities.len(), entities.waiting()), (2, 1));
+            assert!(!entities.needs_flush());
+            let phase = entities.phase(5, |_, reservers| reservers[4].reserve());
+            phase.expect("memory")
+        });
+        assert_eq!(ran, Ok(handle(1, 2)));
+        assert_eq!((entities.len(), entities.reserved()), (2, 1));
+        refused
+    });
+}
+
+#[test]
+#[cfg(feature = "std")]
+fn a_pool_of_reservers() {
+    let (shared, mut reservers) = three().share(5).expect("shared");
+    each_in_turn(|refusal| {
+        let make = || forgeni::Reservers::new(&mut reservers).map(|pool| pool.count());
+        let (count, refused) = insist(refusal, OutOfMemory, make);
+        assert_eq!(count, 5);
+        refused
+    });
+    let pool = forgeni::Reservers::new(&mut reservers).expect("memory");
+    let lend = || pool.with(|one| one.reserve());
+    let (given, refused) = refusing(Refusal::All { after: 0 }, lend);
+    assert_eq!((given, refused), (Ok(handle(1, 2)), 0));
+    drop(pool);
+    assert_eq!(shared.close(reservers).expect("closed").reserved(), 1);
+}
+
 #[test]
 fn share_gives_the_allocator_back() {
     each_block_in_turn(|refusal| {
@@ -195,6 +308,43 @@ fn a_close_after_one_in_use() {
     let (shared, mut reservers) = (left.shared, vec![away]);
     reservers[0].reserve().expect("a handle");
     assert_eq!(shared.close(reservers).expect("closed").reserved(), 1);
+}
+
+/// A value that was refused comes back, and the map is as it was.
+#[test]
+fn calls_of_a_map() {
+    each_in_turn(|refusal| {
+        let mut map = HandleMap::new();
+        let one = handle(100, 2);
+        let (inserted, refused) = refusing(refusal, || map.insert(one, 7));
+        if let Err(back) = inserted {
+            assert!(refused > 0);
+            assert_eq!(back.into_parts(), (7, InsertionError::Memory));
+            assert_eq!((map.len(), map.capacity(), map.get(one)), (0, 0, None));
+            assert!(map.insert(one, 7).expect("memory").is_none());
+        }
+        assert_eq!((map.len(), map.get(one)), (1, Some(&7)));
+
+        // What has its slot takes no more.
+        let (done, none) = refusing(Refusal::All { after: 0 }, || {
+            let before = map.insert(one, 8).map_err(InsertionError::from);
+            let below = map.insert(handle(99, 1), 9).map_err(InsertionError::from);
+            let removed = map.remove(one);
+            map.clear();
+            (before, below, removed)
+        });
+        assert_eq!((done, none), ((Ok(Some(7)), Ok(None), Some(8)), 0));
+        refused
+    });
+    each_in_turn(|refusal| {
+        let mut map: HandleMap<u64> = HandleMap::new();
+        let (_, refused) = insist(refusal, OutOfMemory, || map.reserve(1000));
+        assert!(map.capacity() >= 1000);
+        let with_capacity = || HandleMap::<u64>::with_capacity(1000).map(|map| map.capacity());
+        let (capacity, also) = insist(refusal, OutOfMemory, with_capacity);
+        assert!(capacity >= 1000);
+        refused + also
+    });
 }
 
 #[test]

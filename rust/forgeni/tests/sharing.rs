@@ -305,7 +305,7 @@ fn a_panic_in_the_middle() {
     assert_eq!((entities.asked(), entities.reserved()), (15, 15));
     entities.flush().expect("memory");
     assert_eq!(entities.len(), 15);
-    assert!(told.iter().all(|one| entities.contains(*one)));
+    assert!(told.iter().all(|one| entities.is_alive(*one)));
 }
 
 /// An allocator moves to another thread and back.

@@ -181,7 +181,7 @@ fn expect_flushed(entities: &mut Entities, model: &mut Model, told: &[Vec<Call>]
         assert_eq!(entities.state(*one), State::Alive, "{place}: {one}");
     }
     assert!(
-        once.iter().all(|one| entities.contains(*one)),
+        once.iter().all(|one| entities.is_alive(*one)),
         "{place}: alive"
     );
     model.expect(entities, place);
@@ -257,5 +257,5 @@ fn many_handles() {
     assert_eq!((given.len(), all.len()), (count, count));
     assert_eq!(entities.flush().expect("memory").len(), count);
     assert_eq!(entities.len() as usize, count);
-    assert!(all.iter().all(|one| entities.contains(*one)));
+    assert!(all.iter().all(|one| entities.is_alive(*one)));
 }

@@ -54,8 +54,10 @@ fn states() {
         entities.state(handle(4_294_967_294, 2_147_483_647)),
         State::Gone
     );
-    assert!(entities.contains(alive));
-    assert!(!entities.contains(reserved));
+    assert!(entities.contains(alive) && entities.contains(reserved));
+    assert!(!entities.contains(handle(1, 2)));
+    assert!(entities.is_alive(alive));
+    assert!(!entities.is_alive(reserved) && !entities.is_alive(handle(1, 2)));
 }
 
 #[test]

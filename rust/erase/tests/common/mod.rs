@@ -40,6 +40,24 @@ fn erased_with(text: &str, names: &Names) -> Result<String, Fault> {
     Ok(result)
 }
 
+/// The result of the source at this path of this crate, and what the audit says of another one.
+pub fn erased_of(
+    krate: &str,
+    path: &str,
+    text: &str,
+    other: &str,
+) -> Result<(String, Result<(), Fault>), Fault> {
+    let mut names = names(vec![&PACKAGE]);
+    let proved = format!("crate::proved::{krate}");
+    names.crates.insert(krate.to_owned(), proved);
+    let source = Source::read(path, text)?;
+    let audited = |result| audit(&source, &Source::read("here.rs", result)?, krate, &names);
+    let result = erase(&source, krate, &names)?;
+    audited(&result)?;
+    let other = audited(other);
+    Ok((result, other))
+}
+
 /// What the audit says of the result of a source of the package.
 pub fn audited(text: &str, result: &str) -> Result<(), Fault> {
     audited_with(&Source::read(PATH, text)?, result, &names(vec![&PACKAGE]))

@@ -7,10 +7,13 @@
 //! ratio of one place. `benches/run.sh` brings the crates slotmap and sharded-slab too, if they are
 //! installed.
 
+mod components;
 mod entities;
 mod peers;
 #[path = "../plain/mod.rs"]
 mod plain;
+#[path = "../../../../.ci/refusing_allocator.rs"]
+mod refusing;
 mod slots;
 mod sync;
 mod threads;
@@ -18,9 +21,8 @@ mod threads;
 use std::hint::black_box;
 use std::time::Instant;
 
-/// How many handles or entities a run goes through, and how often each place is timed.
+/// How many handles or entities a run goes through.
 const COUNT: u32 = 100_032;
-const ROUNDS: usize = 15;
 
 /// How many handles a bulk has.
 const BULK: u32 = 64;
@@ -46,14 +48,34 @@ macro_rules! places {
 }
 pub(crate) use places;
 
+/// How often each place is timed. `FORGENI_ROUNDS` says another number, for a shorter run.
+fn rounds() -> usize {
+    let said = std::env::var("FORGENI_ROUNDS").ok();
+    said.and_then(|rounds| rounds.parse().ok()).unwrap_or(15)
+}
+
+/// Prints all tables, or those that are named: `cargo bench -- components`.
 fn main() {
-    println!("| Work | Here | Plain Rust | Ratio | By place | slotmap | Ratio |");
-    println!("|---|---|---|---|---|---|---|");
-    slots::lines();
-    entities::lines();
-    sync::lines();
-    println!();
-    threads::table();
+    let named: Vec<String> = std::env::args()
+        .skip(1)
+        .filter(|it| it != "--bench")
+        .collect();
+    let wanted = |name: &str| named.is_empty() || named.iter().any(|it| it == name);
+    if wanted("calls") {
+        println!("| Work | Here | Plain Rust | Ratio | By place | slotmap | Ratio |");
+        println!("|---|---|---|---|---|---|---|");
+        slots::lines();
+        entities::lines();
+        sync::lines();
+        println!();
+    }
+    if wanted("components") {
+        components::tables();
+        println!();
+    }
+    if wanted("threads") {
+        threads::table();
+    }
 }
 
 /// Moves what comes after it by some bytes.
@@ -89,11 +111,23 @@ fn median(mut all: Vec<f64>) -> f64 {
 
 /// Prints a line: a work of `count` steps on both sides, and on a third one if it is there.
 fn line(name: &str, count: u32, ours: Places, plain: Places, peer: Option<Places>) {
+    line_of_rounds(rounds(), name, count, ours, plain, peer);
+}
+
+/// Prints a line of which each place is timed so often.
+fn line_of_rounds(
+    rounds: usize,
+    name: &str,
+    count: u32,
+    ours: Places,
+    plain: Places,
+    peer: Option<Places>,
+) {
     let sides: Vec<Places> = [Some(ours), Some(plain), peer]
         .into_iter()
         .flatten()
         .collect();
-    let times = times(name, &sides);
+    let times = times(rounds, name, &sides);
     let each: Vec<f64> = times
         .iter()
         .map(|places| median(places.clone()) * 1e9 / f64::from(count))
@@ -117,9 +151,9 @@ fn line(name: &str, count: u32, ours: Places, plain: Places, peer: Option<Places
 }
 
 /// The median of the seconds of each place of each side.
-fn times(name: &str, sides: &[Places]) -> Vec<Vec<f64>> {
+fn times(rounds: usize, name: &str, sides: &[Places]) -> Vec<Vec<f64>> {
     let mut runs = vec![vec![Vec::new(); 8]; sides.len()];
-    for _ in 0..ROUNDS {
+    for _ in 0..rounds {
         for place in 0..8 {
             let mut sums = Vec::new();
             for (side, runs) in sides.iter().zip(&mut runs) {

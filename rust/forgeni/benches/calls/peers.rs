@@ -1,5 +1,6 @@
 //! The same work over the crates slotmap and sharded-slab, where `run.sh` found them.
 
+use crate::components::Components;
 use crate::{Places, Run};
 
 /// What a slot map does.
@@ -9,6 +10,7 @@ pub struct Slots {
     pub contains: Option<Places>,
     pub rising: Option<Places>,
     pub scattered: Option<Places>,
+    pub components: Option<Components>,
 }
 
 #[cfg(not(slotmap))]
@@ -18,6 +20,7 @@ pub const SLOTS: Slots = Slots {
     contains: None,
     rising: None,
     scattered: None,
+    components: None,
 };
 
 #[cfg(sharded_slab)]
@@ -31,6 +34,7 @@ pub use slots::SLOTS;
 #[cfg(slotmap)]
 mod slots {
     use super::Slots;
+    use crate::components::{Components, Side};
     use crate::entities::{by_step, READS, SCATTERED};
     use crate::{places, shift, timed, Run, COUNT};
     use slotmap::{DefaultKey, Key, SecondaryMap, SlotMap};
@@ -42,7 +46,41 @@ mod slots {
         contains: Some(places!(contains)),
         rising: Some(places!(rising)),
         scattered: Some(places!(scattered)),
+        components: Some(Components::of::<Both>()),
     };
+
+    /// A slot map of keys alone, and a secondary map for the values.
+    #[derive(Default)]
+    struct Both {
+        keys: SlotMap<DefaultKey, ()>,
+        values: SecondaryMap<DefaultKey, i64>,
+    }
+
+    impl Side for Both {
+        type Key = DefaultKey;
+
+        #[inline(always)]
+        fn spawn(&mut self, value: i64) -> DefaultKey {
+            let key = self.keys.insert(());
+            self.values.insert(key, value);
+            key
+        }
+
+        #[inline(always)]
+        fn get(&self, key: DefaultKey) -> Option<i64> {
+            self.values.get(key).copied()
+        }
+
+        #[inline(always)]
+        fn despawn(&mut self, key: DefaultKey) -> bool {
+            self.keys.remove(key).is_some() && self.values.remove(key).is_some()
+        }
+
+        #[inline(always)]
+        fn sum(&self) -> i64 {
+            self.values.iter().map(|(_, value)| value).sum()
+        }
+    }
 
     fn full() -> (SlotMap<DefaultKey, ()>, Vec<DefaultKey>) {
         let mut slots = SlotMap::new();

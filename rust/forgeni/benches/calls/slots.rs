@@ -36,6 +36,13 @@ pub fn lines() {
         slots.contains,
     );
     line(
+        "`is_alive`",
+        COUNT,
+        places!(is_alive),
+        places!(plain_contains),
+        slots.contains,
+    );
+    line(
         "`Reserver::reserve`",
         COUNT,
         places!(reserve),
@@ -181,6 +188,15 @@ fn contains<const PLACE: usize>() -> Run {
     let (entities, all) = quarter_gone();
     timed(|| {
         let alive = |one: &&Handle| black_box(&entities).contains(**one);
+        all.iter().filter(alive).count() as u64
+    })
+}
+
+fn is_alive<const PLACE: usize>() -> Run {
+    shift::<PLACE>();
+    let (entities, all) = quarter_gone();
+    timed(|| {
+        let alive = |one: &&Handle| black_box(&entities).is_alive(**one);
         all.iter().filter(alive).count() as u64
     })
 }

@@ -13,6 +13,7 @@
 pub mod ent_alloc;
 pub mod ent_claims;
 pub mod ent_handle;
+pub mod ent_map;
 pub mod ent_queue;
 pub mod ent_runner;
 pub mod ent_seats;

@@ -142,6 +142,10 @@ impl Model {
         assert_eq!(entities.waiting() as usize, waiting, "{place}: waiting");
         let retired = self.made as usize - self.live.len() - waiting;
         assert_eq!(entities.retired() as usize, retired, "{place}: retired");
+        let mut living = self.live.clone();
+        living.sort();
+        assert_eq!(entities.iter().len(), living.len(), "{place}: iter");
+        assert!(entities.iter().eq(living), "{place}: iter");
     }
 }
 

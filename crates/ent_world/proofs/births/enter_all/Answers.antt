@@ -37,6 +37,7 @@ loop-handle-preserved c =
           c.first_birth-birth.ensures
           ∙ ap (with_born before.entities (λ _. birth)) (sym next)
           ∙ c.loop-handle.invariant.entered;
+      spare = omega (arith, done.spare, c.loop-handle.invariant.spare, ap length next);
       places = ap (λ places. places ++ rest) done.places
           ∙ append_assoc before.places (h ∷ []) rest
           ∙ ap (λ hs. before.places ++ hs) (sym next)

@@ -1,4 +1,4 @@
-use Rattle.std.proofs.Common.{◌≡◌, ◌≤◌, ◌++◌, drop, length}
+use Rattle.std.proofs.Common.{◌≡◌, ◌+◌, ◌≤◌, ◌++◌, drop, length}
 use Rattle.ent_world.specs.Sync.{no_system, with_born}
 use Rattle.ent_world.specs.Entering.{AreNew, first_birth}
 use Rattle.ent_world.proofs.births.enter_all.Given as goal
@@ -11,5 +11,7 @@ invariant-loop-handle l = record {
   entered : with_born l.storage.entities (λ _. first_birth l.fn.phase no_system)
       (drop l.handle-index l.handles)
       ≡ with_born l.fn.storage.entities (λ _. first_birth l.fn.phase no_system) l.handles;
+  spare : l.storage.spare + length l.handles ≡ l.fn.storage.spare
+      + length (drop l.handle-index l.handles);
   places : l.storage.places ++ drop l.handle-index l.handles ≡ l.fn.storage.places ++ l.handles;
 }

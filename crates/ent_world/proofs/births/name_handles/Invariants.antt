@@ -10,5 +10,6 @@ invariant-loop-handle l = record {
       ≡ named_handles (drop l.before l.fn.storage.places) l.fn.first l.fn.handles
       l.fn.storage.entities;
   places : l.storage.places ≡ l.fn.storage.places;
+  spare : l.storage.spare ≡ l.fn.storage.spare;
   next : birth_after l.birth l.handle-iterator ≡ birth_after l.fn.first l.fn.handles;
 }

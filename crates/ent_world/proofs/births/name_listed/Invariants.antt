@@ -10,4 +10,5 @@ invariant-loop-system l = record {
       ≡ named_queues (drop l.before l.fn.storage.places) l.phase 0 l.queues
       l.fn.storage.entities;
   places : l.storage.places ≡ l.fn.storage.places;
+  spare : l.storage.spare ≡ l.fn.storage.spare;
 }

@@ -23,4 +23,5 @@ loop-entry-preserved c =
           (sym c.in-Some.ensures.steps)
           ∙ c.loop-entry.invariant.named);
       places = done.places ∙ c.loop-entry.invariant.places;
+      spare = done.spare ∙ c.loop-entry.invariant.spare;
     }

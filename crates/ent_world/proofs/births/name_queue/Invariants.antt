@@ -11,4 +11,5 @@ invariant-loop-entry l = record {
       ≡ named_handles (drop l.before l.fn.storage.places) l.fn.first
       (handles_listed l.queue) l.fn.storage.entities;
   places : l.storage.places ≡ l.fn.storage.places;
+  spare : l.storage.spare ≡ l.fn.storage.spare;
 }

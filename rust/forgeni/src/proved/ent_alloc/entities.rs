@@ -3,6 +3,7 @@
 use crate::kit::vec::Vec;
 use crate::proved::ent_alloc::fault::{AllocFault, FreeFault, Freed};
 use crate::proved::ent_alloc::limits::Limits;
+use crate::proved::ent_alloc::living_handles::LivingHandles;
 use crate::proved::ent_alloc::requests::Requests;
 use crate::proved::ent_alloc::slot_record::Occupancy;
 use crate::proved::ent_alloc::slots::Slots;
@@ -24,7 +25,7 @@ pub struct Entities {
 impl Entities {
     /// An allocator with no entities. It takes no memory, whatever the limits are.
     #[inline]
-    pub fn new(alloc: Global, limits: Limits) -> Self
+    pub const fn new(alloc: Global, limits: Limits) -> Self
         // ensures allocator { result.allocator ≡ opening limits }
         // ensures rows { result.rows ≡ map.empty }
         // ensures rows_of_living { HasRowsOfLiving result }
@@ -255,6 +256,47 @@ impl Entities {
             State::Reserved
         } else {
             State::Gone
+        }
+    }
+
+    /// Whether the handle is alive. It takes constant time.
+    #[inline]
+    pub fn is_alive(&self, handle: Handle) -> bool
+        // ensures { result ≡ set.contains self.now.allocator.live handle }
+    {
+        self.slots.is_alive(handle)
+    }
+
+    /// The living handles, by rising slot. It takes no memory.
+    #[inline]
+    pub fn iter(&self) -> LivingHandles<'_>
+        // ensures living { set.from_list result ≡ self.now.allocator.live }
+        // ensures rising { AllPairs (λ g h. g.index < h.index) result }
+        // ensures count { length result ≡ set.len self.now.allocator.live }
+    {
+        self.slots.occupants()
+    }
+
+    /// Where a handle stands among those that there were to give at the last flush, counted from 0
+    /// in the order in which they are given. Requests don't change it. `None` if it isn't among
+    /// them. It takes constant time.
+    #[inline]
+    pub fn place(&self, handle: Handle) -> Option<u32>
+        // ensures found { IfSome result (λ place.
+        //     slice_get (available self.now.allocator) place ≡ Some handle) }
+        // ensures none { IfNone result (stands_in (available self.now.allocator) handle ≡ false) }
+    {
+        let waiting = self.slots.waiting();
+        match self.slots.occupancy_of(handle) {
+            Some(Occupancy::Pending { position }) => Some(waiting - 1 - position),
+            Some(Occupancy::Alive) => None,
+            Some(Occupancy::AliveWithRow { .. }) => None,
+            Some(Occupancy::Retired) => None,
+            None if self.slots.is_made(handle) => None,
+            None if self.slots.is_next(handle, self.room()) => {
+                Some(waiting + (handle.index() - self.slots.made()))
+            }
+            None => None,
         }
     }
 

@@ -17,7 +17,7 @@ impl Limits {
     /// The limits of these numbers: slots from 1 to 4,294,967,295, generations from 1 to
     /// 2,147,483,647. `None` if one of them is out of its range.
     #[inline]
-    pub fn new(slots: u32, generations: u32) -> Option<Self>
+    pub const fn new(slots: u32, generations: u32) -> Option<Self>
         // ensures in_range { IsSome result
         //     ↔ AreLimits (record { slots = slots; generations = generations }) }
         // ensures value { IfSome result (λ limits.
@@ -32,7 +32,7 @@ impl Limits {
 
     /// The greatest limits, which are Bevy's.
     #[inline]
-    pub fn default_limits() -> Self
+    pub const fn default_limits() -> Self
         // ensures { result ≡ record { slots = 2 ^ 32 - 1; generations = 2 ^ 31 - 1 } }
     {
         Limits {

@@ -6,6 +6,7 @@
 mod entities;
 mod fault;
 mod limits;
+mod living_handles;
 mod requesting;
 mod requests;
 mod reserved;
@@ -18,6 +19,7 @@ mod state;
 pub use entities::Entities;
 pub use fault::{AllocFault, FreeFault, Freed};
 pub use limits::{CREDIT, Limits};
+pub use living_handles::LivingHandles;
 pub use reserved::Reserved;
 pub use space::Space;
 pub use span::Span;

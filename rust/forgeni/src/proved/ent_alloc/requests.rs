@@ -11,7 +11,7 @@ pub(super) struct Requests {
 
 impl Requests {
     #[inline]
-    pub(super) fn none() -> Self
+    pub(super) const fn none() -> Self
         // ensures { result ≡ record { asked = 0; served = 0 } }
     {
         Requests {

@@ -37,6 +37,17 @@ impl SlotRecord {
             occupancy: Occupancy::Alive,
         }
     }
+
+    /// Whether a living entity has the slot.
+    #[inline]
+    pub(super) fn is_alive(&self) -> bool
+        // ensures { result ≡ is_alive self.now.occupancy }
+    {
+        match self.occupancy {
+            Occupancy::Alive | Occupancy::AliveWithRow { .. } => true,
+            Occupancy::Pending { .. } | Occupancy::Retired => false,
+        }
+    }
 }
 
 /// Who has the handle's slot; `None` if the slot wasn't made or is at another generation.

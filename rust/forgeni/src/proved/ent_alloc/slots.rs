@@ -2,6 +2,7 @@
 
 use crate::kit::vec::Vec;
 use crate::proved::ent_alloc::limits::Limits;
+use crate::proved::ent_alloc::living_handles::LivingHandles;
 use crate::proved::ent_alloc::slot_record;
 use crate::proved::ent_alloc::slot_record::{Occupancy, SlotRecord, first_occupant, make_all, reuse_all};
 use crate::proved::ent_handle::{Handle, Memory};
@@ -17,7 +18,7 @@ pub(super) struct Slots {
 
 impl Slots {
     #[inline]
-    pub(super) fn new(alloc: Global, limits: Limits) -> Self
+    pub(super) const fn new(alloc: Global, limits: Limits) -> Self
         // ensures value { result ≡ record {
         //   limits = limits;
         //   live = set.empty;
@@ -80,6 +81,16 @@ impl Slots {
         // ensures { result ≡ set.len self.now.live }
     {
         self.live
+    }
+
+    /// The living occupants, by rising slot.
+    #[inline]
+    pub(super) fn occupants(&self) -> LivingHandles<'_>
+        // ensures living { set.from_list result ≡ self.now.live }
+        // ensures rising { AllPairs (λ g h. g.index < h.index) result }
+        // ensures count { length result ≡ set.len self.now.live }
+    {
+        LivingHandles::new(&self.records, self.live)
     }
 
     /// Who has the handle's slot; `None` if the slot wasn't made or is at another generation.

@@ -11,6 +11,7 @@ use core::cmp::Ordering;
 /// last generation a slot has no more occupants, where in Bevy the first one comes again. The order
 /// is this project's own: by index, then by generation. Bevy's is by generation first.
 #[derive(Clone, Copy, Debug, PartialEq, Eq, Hash)]
+#[repr(align(8))]
 pub struct Handle {
     index: u32,
     generation: u32,

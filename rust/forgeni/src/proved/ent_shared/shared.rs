@@ -44,6 +44,25 @@ impl Shared {
         self.count
     }
 
+    /// Whether the handle was alive when the phase was opened. It takes constant time.
+    #[inline]
+    pub fn is_alive(&self, handle: Handle) -> bool
+        // ensures { result ≡ set.contains self.now.start.live handle }
+    {
+        self.entities.is_alive(handle)
+    }
+
+    /// The row that the program kept with the entity when the phase was opened. `None` if the
+    /// handle was not alive then, or if no row was set since it came to life. It takes constant
+    /// time.
+    #[inline]
+    pub fn row(&self, handle: Handle) -> Option<u32>
+        // ensures value { result ≡ map.get self.now.rows handle }
+        // ensures alive { OnSome result (set.contains self.now.start.live handle ≡ true) }
+    {
+        self.entities.row(handle)
+    }
+
     /// Reserves one handle, by one atomic step. It takes no memory and waits for nobody.
     ///
     /// The handle is what the allocator would have given to one caller at that moment.

@@ -4,7 +4,7 @@ use crate::kit::vec::Vec;
 use crate::proved::ent_total::caller::Caller;
 use crate::proved::ent_total::homecoming::bring_home;
 use crate::proved::ent_total::numbering::Numbering;
-use crate::proved::ent_handle::Memory;
+use crate::proved::ent_handle::{Handle, Memory};
 use crate::proved::ent_shared::{Reserver, Shared};
 use crate::kit::alloc::Global;
 use core::marker::PhantomData;
@@ -56,6 +56,25 @@ impl<J: Numbering> Phase<J> {
         // ensures { result ≡ length self.now.home }
     {
         self.home.len()
+    }
+
+    /// Whether the handle was alive when the phase was opened. It takes constant time.
+    #[inline]
+    pub fn is_alive(&self, handle: Handle) -> bool
+        // ensures { result ≡ set.contains self.now.shared.start.live handle }
+    {
+        self.shared.is_alive(handle)
+    }
+
+    /// The row that the program kept with the entity when the phase was opened. `None` if the
+    /// handle was not alive then, or if no row was set since it came to life. It takes constant
+    /// time.
+    #[inline]
+    pub fn row(&self, handle: Handle) -> Option<u32>
+        // ensures value { result ≡ map.get self.now.shared.rows handle }
+        // ensures alive { OnSome result (set.contains self.now.shared.start.live handle ≡ true) }
+    {
+        self.shared.row(handle)
     }
 
     #[inline]

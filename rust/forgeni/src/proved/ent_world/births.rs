@@ -25,6 +25,7 @@ pub(super) fn enter_all(storage: &mut Storage, phase: u64, handles: &[Handle])
     // ensures entered { storage.new.entities ≡ with_born
     //     storage.old.entities (λ _. first_birth phase no_system) handles.now }
     // ensures places { storage.new.places ≡ storage.old.places ++ handles.now }
+    // ensures spare { storage.new.spare + length handles.now ≡ storage.old.spare }
 {
     let birth = first_birth(phase, NO_SYSTEM);
     for handle in handles {
@@ -47,6 +48,7 @@ pub(super) fn name_listed(
     // ensures named { storage.new.entities ≡ named_queues
     //     (drop before storage.old.places) phase 0 queues.now storage.old.entities }
     // ensures places { storage.new.places ≡ storage.old.places }
+    // ensures spare { storage.new.spare ≡ storage.old.spare }
 {
     for (system, queue) in queues.iter().enumerate() {
         let first = first_birth(phase, system as u32);
@@ -61,6 +63,7 @@ pub(super) fn number_others(storage: &mut Storage, before: usize, phase: u64, ha
     // ensures numbered { storage.new.entities ≡ numbered
     //     (first_birth phase no_system) handles.now storage.old.entities }
     // ensures places { storage.new.places ≡ storage.old.places }
+    // ensures spare { storage.new.spare ≡ storage.old.spare }
 {
     let mut birth = first_birth(phase, NO_SYSTEM);
     for place in before..storage.len() {
@@ -85,6 +88,7 @@ fn name_queue(
     // ensures named { storage.new.entities ≡ named_handles
     //     (drop before storage.old.places) first (handles_listed queue.now) storage.old.entities }
     // ensures places { storage.new.places ≡ storage.old.places }
+    // ensures spare { storage.new.spare ≡ storage.old.spare }
 {
     let mut next = first;
     for entry in queue.entries() {
@@ -105,6 +109,7 @@ fn name_entry(
     // ensures named { storage.new.entities ≡ named_handles (drop before storage.old.places)
     //     birth (listed_by (command_of entry.entry)) storage.old.entities }
     // ensures places { storage.new.places ≡ storage.old.places }
+    // ensures spare { storage.new.spare ≡ storage.old.spare }
     // ensures next { result ≡ birth_after birth (listed_by (command_of entry.entry)) }
 {
     match entry {
@@ -132,6 +137,7 @@ fn name_handles(
     // ensures named { storage.new.entities ≡ named_handles
     //     (drop before storage.old.places) first handles.entry storage.old.entities }
     // ensures places { storage.new.places ≡ storage.old.places }
+    // ensures spare { storage.new.spare ≡ storage.old.spare }
     // ensures next { result ≡ birth_after first handles.entry }
 {
     let mut birth = first;
@@ -149,6 +155,7 @@ fn name(entities: &Entities, storage: &mut Storage, before: usize, handle: Handl
     // ensures named { storage.new.entities ≡ named
     //     (drop before storage.old.places) handle birth storage.old.entities }
     // ensures places { storage.new.places ≡ storage.old.places }
+    // ensures spare { storage.new.spare ≡ storage.old.spare }
 {
     let Some(place) = place_of(entities, handle) else {
         return;

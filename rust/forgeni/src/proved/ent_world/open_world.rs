@@ -21,6 +21,7 @@ impl OpenWorld {
         // requires world { IsOpenWorld
         //     (record { shared = shared; phase = phase; entities = storage.entities }) }
         // requires rows { AreRows shared.rows storage.places storage.entities }
+        // requires room { top shared.start ≤ storage.spare }
         // ensures { result
         //     ≡ record { shared = shared; phase = phase; entities = storage.entities } }
     {

@@ -14,6 +14,7 @@ pub(super) fn next_handle(entities: &Entities) -> Result<Handle, AllocFault>
     // ensures new { IfOk result (λ handle. set.contains entities.now.allocator.live handle ≡ false) }
     // ensures flushed { OnOk result (entities.now.allocator.asked ≡ 0) }
     // ensures needs_flush { IsErrOf result AllocFault.NeedsFlush ↔ (0 < entities.now.allocator.asked) }
+    // ensures no_memory { ¬ (IsErrOf result AllocFault.Memory) }
     // ensures space { IsErrOf result AllocFault.Space
     //     ↔ ((entities.now.allocator.asked ≡ 0) × (entities.now.allocator.pool ≡ [])) }
 {
@@ -45,6 +46,9 @@ pub(super) fn make(
     // ensures ok { OnOk result (storage.new.entities
     //     ≡ map.insert storage.old.entities handle (spawned birth items.now)) }
     // ensures placed { OnOk result (storage.new.places ≡ storage.old.places ++ handle ∷ []) }
+    // ensures less { OnOk result (0 < storage.old.spare → storage.new.spare + 1 ≡ storage.old.spare) }
+    // ensures no_less { OnErr result (storage.old.spare ≤ storage.new.spare) }
+    // ensures memory { OnErr result ((storage.old.spare ≡ 0) ⊎ (0 < length items.now)) }
     // ensures err { OnErr result (storage.new.entities ≡ storage.old.entities) }
     // ensures unplaced { OnErr result (storage.new.places ≡ storage.old.places) }
 {

@@ -164,7 +164,8 @@ impl World {
     /// - `NeedsFlush` if handles were requested since the last flush, even if the request was
     ///   refused.
     /// - `Space` if every slot has a living occupant or is retired.
-    /// - `Memory` if there is no memory for the entity, for a component or for a new slot.
+    /// - `Memory` if there is no memory for a component, or for a new slot and its entity. It
+    ///   never comes if a slot waits and the bundle is empty.
     #[inline]
     pub fn spawn(&mut self, birth: Birth, bundle: &Bundle) -> Result<Handle, AllocFault>
         // ensures front { IfOk result (λ handle.
@@ -175,6 +176,8 @@ impl World {
         //     ↔ (0 < self.old.allocator.asked) }
         // ensures space { IsErrOf result AllocFault.Space
         //     ↔ ((self.old.allocator.asked ≡ 0) × (self.old.allocator.pool ≡ [])) }
+        // ensures memory { IsErrOf result AllocFault.Memory
+        //     → (top self.old.allocator ≡ 0) ⊎ (0 < length bundle.now) }
         // ensures err { OnErr result (self.new ≡ self.old) }
         // ensures world { IsWorld self.new }
     {

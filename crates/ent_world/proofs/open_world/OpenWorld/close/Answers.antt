@@ -1,6 +1,7 @@
 use Rattle.ent_shared.specs.Phase.{records_of}
 use Rattle.ent_shared.specs.Order.{history_of}
 use Rattle.ent_world.specs.World.{World, IsWorld}
+use Rattle.ent_world.proofs.SpareRoom.{top-after_history}
 use Rattle.ent_world.proofs.Worlds.{after_history-world}
 use Rattle.ent_world.proofs.open_world.OpenWorld.close.Goals.{After-close}
 use Rattle.ent_world.proofs.open_world.OpenWorld.close.Goals as goal
@@ -24,6 +25,12 @@ pub invariant_of-result : goal.invariant_of-result
 invariant_of-result c = record {
   world = closed (goal.at.invariant_of-result c).After-close;
   rows = rw c.close.ensures.rows c.self.invariant.rows;
+  room = rw (
+    c.close.ensures.after,
+    top-after_history c.self.inside.shared.start
+        (history_of (records_of c.args.reservers.items)) c.self.invariant.world.world.sound,
+  )
+      c.self.invariant.room;
 }
 
 pub returns-clause-world : goal.returns-clause-world

@@ -1,6 +1,6 @@
-use Rattle.std.proofs.Common.{◌≡◌, sym, ap, ◌∙◌, ℕ, ◌++◌, length, drop, arith}
+use Rattle.std.proofs.Common.{◌≡◌, sym, ap, ◌∙◌, ℕ, ◌≤◌, ◌++◌, length, drop, arith}
 use Rattle.std.proofs.lemmas.List.Sorted.{length_permutation}
-use Rattle.ent_alloc.specs.Sequential.{born}
+use Rattle.ent_alloc.specs.Sequential.{born, top, after_flush}
 use Rattle.ent_alloc.proofs.Flushes.{born-IsPermutation, born-lives}
 use Rattle.ent_world.specs.World.{IsWorld}
 use Rattle.ent_world.specs.Sync.{birth_in, with_born, after_births, next_phase}
@@ -8,6 +8,7 @@ use Rattle.ent_world.specs.Entering.{first_birth}
 use Rattle.ent_world.specs.Rows.{with_rows}
 use Rattle.ent_world.proofs.Born.{born-new, stand_after, all_given}
 use Rattle.ent_world.proofs.PlacedRows.{rows-born, rows-count, born-fit}
+use Rattle.ent_world.proofs.SpareRoom.{room-after_flush}
 use Rattle.ent_world.proofs.Worlds.{after_births-world}
 use Rattle.ent_world.proofs.world.World.bring_to_life.Goals.{After-len-first, After-deref}
 use Rattle.ent_world.proofs.world.World.bring_to_life.Goals.{After-set_rows, After-number_others}
@@ -134,6 +135,23 @@ risen c phase all =
     rw (all, c.set_rows.ensures.allocator, c.in_ok-flush.ensures.ok)
     (record { sound = is.sound; living = is.living })
 
+-- there is room for each that waits still
+left_room : (c : After-number_others) → top (after_flush c.self.inside.entities.allocator)
+    ≤ c.number_others.new.storage.spare
+left_room c =
+    let s = c.self.inside.entities.allocator in
+    let all = ap length (c.deref.ensures.value ∙ c.in_ok-flush.ensures.born
+    ∙ ap (λ hs. hs ++ born s) c.new-handles.ensures.items) in
+    let same = length_permutation s.taken (born s) (born-IsPermutation s) in
+    let less = c.enter_all.ensures.spare in
+    let named = c.name_listed.ensures.spare in
+    let numbered = c.number_others.ensures.spare in
+    let grown = c.reserve.ensures.grows in
+    let before = c.self.invariant.room in
+    room-after_flush s c.reserve.new.self.spare c.number_others.new.storage.spare
+    c.self.invariant.world.sound (omega (arith, grown, before))
+    (omega (arith, less, named, numbered, all, same))
+
 pub invariant_of-self-2 : goal.invariant_of-self-2
 invariant_of-self-2 c =
     let at = (goal.at.invariant_of-self-2 c).After-set_rows in
@@ -147,6 +165,7 @@ invariant_of-self-2 c =
           (rows-born (birth_in c.self.inside.phase c.args.queues.now (born s)) (born s)
           c.self.inside.entities.rows c.self.inside.storage.places m c.self.invariant.rows
           (born-new s m c.self.invariant.world.sound c.self.invariant.world.living));
+      room = rw (c.set_rows.ensures.allocator, c.in_ok-flush.ensures.ok) (left_room last);
     }
 
 pub returns-clause-ok : goal.returns-clause-ok

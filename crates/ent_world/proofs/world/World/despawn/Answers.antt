@@ -1,10 +1,12 @@
-use Rattle.std.proofs.Common.{◌≡◌, ◌<◌, refl, sym, subst, ◌∙◌, arith, Option, Some}
+use Rattle.std.proofs.Common.{◌≡◌, ◌<◌, ◌≤◌, refl, sym, subst, ◌∙◌, arith, Option, Some}
 use Rattle.std.specs.FinMap as map
 use Rattle.ent_handle.specs.Handle.{Handle, handle_cmp_total, handle_cmp-IsAntisymmetric}
+use Rattle.ent_alloc.specs.Sequential.{top}
 use Rattle.ent_storage.proofs.Keys.{get-insert_same}
 use Rattle.ent_world.specs.World.{World, IsWorld}
 use Rattle.ent_world.specs.Rows.{AreRows, with_moved}
 use Rattle.ent_world.proofs.PlacedRows.{rows-remove, has_row-lives}
+use Rattle.ent_world.proofs.SpareRoom.{room-after_free}
 use Rattle.ent_world.proofs.Worlds.{after_despawn-world}
 use Rattle.ent_world.proofs.world.World.despawn.Goals.{After-despawn_at}
 use Rattle.ent_world.proofs.world.World.despawn.Goals.{in-Some-despawn_at, in_default-despawn_at}
@@ -53,6 +55,16 @@ moved_placed c moved is = subst (λ (o : Option Handle). AreRows
     (with_moved c.free.new.self.rows c.in-Some.row o) c.despawn_at.new.self.places
     c.despawn_at.new.self.entities) is (placed c)
 
+-- the slot that waits now has the place of the entity that is gone
+left_room : (c : After-despawn_at) → top c.free.new.self.allocator ≤ c.despawn_at.new.self.spare
+left_room c =
+    let none : 0 < c.self.inside.entities.allocator.asked → ⊥ = λ some. let refused =
+    c.in_ok-freed.ensures.needs_flush.1 some in cc in
+    let flushed : c.self.inside.entities.allocator.asked ≡ 0 = omega arith in
+    rw c.in_ok-freed.ensures.ok (room-after_free c.self.inside.entities.allocator c.args.handle
+    c.self.inside.storage.spare c.despawn_at.new.self.spare c.self.invariant.world.sound flushed
+    c.in_ok-freed.ensures.lived c.self.invariant.room c.despawn_at.ensures.spare)
+
 pub set_row-requires : goal.set_row-requires
 set_row-requires c =
     let at = (goal.at.set_row-requires c).After-despawn_at in
@@ -69,6 +81,7 @@ invariant_of-self-in-Some-despawn_at c =
     rw (c.set_row.ensures.allocator, c.set_row.ensures.row) (record {
       world = gone at;
       rows = moved_placed at c.in-Some-despawn_at.moved c.in-Some-despawn_at.is;
+      room = left_room at;
     })
 
 -- none moved
@@ -80,6 +93,7 @@ invariant_of-self-in_default-despawn_at c =
       rows = subst (λ (o : Option Handle). AreRows
           (with_moved c.free.new.self.rows c.in-Some.row o) c.despawn_at.new.self.places
           c.despawn_at.new.self.entities) c.in_default-despawn_at.is (placed at);
+      room = left_room at;
     }
 
 pub returns-clause-world : goal.returns-clause-world

@@ -17,6 +17,7 @@ invariant_of-self c =
         rows = rows-components c.self.inside.entities.rows before.places after.places before.entities
             after.entities c.args.handle (λ held. with_items held c.deref.result.now)
             c.self.invariant.rows c.insert_at.ensures.places changed;
+        room = rw c.insert_at.ensures.spare c.self.invariant.room;
       }
       | inr same ↦ rw same c.self.invariant
     ]

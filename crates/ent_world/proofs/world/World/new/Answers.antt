@@ -1,6 +1,9 @@
+use Rattle.std.proofs.Common.{ap}
+use Rattle.ent_alloc.specs.Sequential.{Allocator}
 use Rattle.ent_world.specs.World.{IsWorld}
 use Rattle.ent_world.proofs.Living.{keys-empty}
 use Rattle.ent_world.proofs.PlacedRows.{rows-empty}
+use Rattle.ent_world.proofs.SpareRoom.{none_made}
 use Rattle.ent_world.proofs.world.World.new.Goals.{After-new}
 use Rattle.ent_world.proofs.world.World.new.Goals as goal
 
@@ -20,6 +23,8 @@ pub invariant_of-result : goal.invariant_of-result
 invariant_of-result c = record {
   world = begun (goal.at.invariant_of-result c).After-new;
   rows = rw (c.new-entities.ensures.rows, c.new.ensures.places, c.new.ensures.entities) rows-empty;
+  room = none_made c.new-entities.result.allocator c.new.result.spare c.cursor.ensures.sound
+      (ap (λ (s : Allocator). s.made) c.new-entities.ensures.allocator);
 }
 
 pub returns-clause-world : goal.returns-clause-world

@@ -15,4 +15,5 @@ invariant_of-self c =
       rows = rows-components c.self.inside.entities.rows before.places after.places before.entities
           after.entities c.args.handle (λ held. map.remove held c.args.id)
           c.self.invariant.rows c.remove_at.ensures.places changed;
+      room = rw c.remove_at.ensures.spare c.self.invariant.room;
     }

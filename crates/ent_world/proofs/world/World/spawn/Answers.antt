@@ -1,6 +1,7 @@
-use Rattle.std.proofs.Common.{◌≡◌, sym, ap, subst, ◌∙◌, ℕ, List, is_some, Some, length}
+use Rattle.std.proofs.Common.{◌≡◌, ◌≤◌, sym, ap, subst, ◌∙◌, ℕ, List, is_some, Some, length}
 use Rattle.std.specs.FinMap as map
 use Rattle.ent_handle.specs.Handle.{Handle}
+use Rattle.ent_alloc.specs.Sequential.{top}
 use Rattle.ent_storage.specs.Places.{AreWithout}
 use Rattle.ent_storage.proofs.ElementsAt.{at_pushed}
 use Rattle.ent_world.specs.World.{World, IsWorld}
@@ -9,6 +10,7 @@ use Rattle.ent_world.specs.Rows.{AreRows}
 use Rattle.ent_world.proofs.Born.{no_entity}
 use Rattle.ent_world.proofs.Making.{get_inserted, taken_back, end_taken_back}
 use Rattle.ent_world.proofs.PlacedRows.{rows-count, rows-insert}
+use Rattle.ent_world.proofs.SpareRoom.{room-after_alloc, room_again}
 use Rattle.ent_world.proofs.Worlds.{after_spawn-world}
 use Rattle.ent_world.proofs.world.World.spawn.Goals.{After-items, After-despawn_at, In_default}
 use Rattle.ent_world.proofs.world.World.spawn.Goals as goal
@@ -49,7 +51,13 @@ place_back c =
 pub invariant_of-self-in-Err : goal.invariant_of-self-in-Err
 invariant_of-self-in-Err c =
     let at = (goal.at.invariant_of-self-in-Err c).After-despawn_at in
-    rw (back at, place_back at, c.in-Err.ensures.err) c.self.invariant
+    record {
+      world = rw (back at, c.in-Err.ensures.err) c.self.invariant.world;
+      rows = rw (back at, place_back at, c.in-Err.ensures.err) c.self.invariant.rows;
+      room = rw c.in-Err.ensures.err (room_again (top c.self.inside.entities.allocator)
+          c.self.inside.storage.spare c.make.new.storage.spare c.despawn_at.new.self.spare
+          c.self.invariant.room c.in_ok-make.ensures.less c.despawn_at.ensures.spare);
+    }
 
 pub returns-in-Err-clause-err : goal.returns-in-Err-clause-err
 returns-in-Err-clause-err c =
@@ -105,11 +113,23 @@ placed c =
     c.self.inside.storage.entities h (spawned c.args.birth c.items.result.now)
     c.self.invariant.rows (c.self.invariant.world.living h ∙ c.in_ok-handle.ensures.new))
 
+-- as many more fit as slots wait
+left_room : (c : In_default) → top c.alloc.new.self.allocator ≤ c.make.new.storage.spare
+left_room c =
+    let h = c.in_ok-handle.handle in
+    let fronts : Some c.in_default.field-0 ≡ Some h = sym c.in_default.ensures.front
+    ∙ c.in_ok-handle.ensures.front in
+    let same : c.in_default.field-0 ≡ h = cc in
+    rw (c.in_default.ensures.ok, same) (room-after_alloc c.self.inside.entities.allocator h
+    c.self.inside.storage.spare c.make.new.storage.spare c.self.invariant.world.sound
+    c.in_ok-handle.ensures.flushed c.in_ok-handle.ensures.front c.self.invariant.room
+    c.in_ok-make.ensures.less)
+
 pub invariant_of-self-2 : goal.invariant_of-self-2
 invariant_of-self-2 c =
     let at = (goal.at.invariant_of-self-2 c).In_default in
     rw (c.set_row.ensures.allocator, c.set_row.ensures.row)
-    (record { world = grown at; rows = placed at })
+    (record { world = grown at; rows = placed at; room = left_room at })
 
 pub returns-clause-world : goal.returns-clause-world
 returns-clause-world c =

@@ -1,0 +1,355 @@
+-- The map that slots stand for: its entries, and what it has at each handle.
+use Rattle.std.proofs.Common.{◌≡◌, ◌≢◌, ℕ, zero, suc, ◌+◌, ◌-◌, ◌<◌, ◌≤◌, Bool, true, false, cond}
+use Rattle.std.proofs.Common.{◌&&◌, ◌⊎◌, inl, inr, eqb, T, List, [], ◌∷◌, ◌++◌, length, get_or, set}
+use Rattle.std.proofs.Common.{replicate, Option, None, Some, refl, sym, ap, ◌∙◌, arith}
+use Rattle.std.proofs.Common.{not, All, AllPairs}
+use Rattle.std.proofs.lemmas.List.Kept.{AllPairs-cons}
+use Rattle.std.proofs.lemmas.Bool.{cases_eq, eq-eqb, ne_eqb}
+use Rattle.std.proofs.lemmas.Bool.Decides.{nat_tests}
+use Rattle.std.proofs.lemmas.List.{get_or_past, get_or-set_same, get_or-set_other}
+use Rattle.std.specs.declared.cmp.Ordering.{Ordering}
+use Rattle.std.specs.declared.cmp.Ordering.TheVariants.{Less, Equal, Greater}
+use Rattle.std.specs.Ordering.{nat_cmp, eq_by_cmp, is_eq, is_lt, ordering_then, MatchOrdering}
+use Rattle.std.specs.Cmp.{ranks}
+use Rattle.std.specs.FinMap as map
+use Rattle.std.specs.FinMap.{find, is_sorted}
+use Rattle.std.specs.FinMap.Entries.{below_all}
+use Rattle.ent_handle.specs.Handle.{Handle, handle_cmp, handle_cmp_total}
+use Rattle.ent_handle.specs.Handle.{handle_cmp-IsAntisymmetric}
+use Rattle.ent_map.specs.HandleMap.{Values, without_slot}
+use Rattle.ent_map.specs.Slots.{value_at, slot_at, value_in, entries_from, map_of, padded}
+use Rattle.ent_map.specs.Slots.{count_at}
+use Rattle.ent_map.specs.declared.slot.Slot.{Slot}
+use Rattle.ent_map.specs.declared.slot.Slot.TheVariants.{Vacant, Occupied}
+
+-- ---- handles
+
+both : (a b : Bool) → T a → T b → T (a && b)
+both true b p q = q
+both false b p q = absurd p
+
+-- a handle of an earlier slot comes first
+less_by_index : (g h : Handle) → g.index < h.index → T (is_lt (handle_cmp g h))
+less_by_index g h l = by (nat_cmp g.index h.index) (ranks g.index h.index)
+  where
+    by : (r : Ordering)
+        → MatchOrdering r (g.index < h.index) (g.index ≡ h.index) (h.index < g.index)
+        → T (is_lt (ordering_then r (nat_cmp g.generation h.generation)))
+    by Less is = tt
+    by Equal is = absurd (omega arith)
+    by Greater is = absurd (omega arith)
+
+is_eq-then : (x y : Ordering) → is_eq (ordering_then x y) ≡ (is_eq x && is_eq y)
+is_eq-then Less y = refl
+is_eq-then Equal y = refl
+is_eq-then Greater y = refl
+
+is_eq-nat_cmp : (a b : ℕ) → is_eq (nat_cmp a b) ≡ eqb a b
+is_eq-nat_cmp a b = grind (arith, nat_tests)
+
+-- two handles tie where both numbers are equal
+ties : (a b : Handle) → eq_by_cmp handle_cmp a b
+    ≡ (eqb a.index b.index && eqb a.generation b.generation)
+ties a b =
+    is_eq-then (nat_cmp a.index b.index) (nat_cmp a.generation b.generation)
+    ∙ (λ i. is_eq-nat_cmp a.index b.index i && is_eq-nat_cmp a.generation b.generation i)
+
+-- of count_at slot
+ties_here : (a b : Handle) → a.index ≡ b.index → eq_by_cmp handle_cmp a b
+    ≡ eqb a.generation b.generation
+ties_here a b e = ties a b ∙ ap (λ x. x && eqb a.generation b.generation) (eq-eqb a.index b.index e)
+
+-- of two
+ties_apart : (a b : Handle) → a.index ≢ b.index → eq_by_cmp handle_cmp a b ≡ false
+ties_apart a b ne = ties a b
+    ∙ ap (λ x. x && eqb a.generation b.generation) (ne_eqb a.index b.index ne)
+
+eqb_sym : (a b : ℕ) → eqb a b ≡ eqb b a
+eqb_sym a b = grind (arith, nat_tests)
+
+alike : (h : Handle) (q x : Handle) → handle_cmp q x ≡ Equal
+    → not (eqb x.index h.index) ≡ not (eqb q.index h.index)
+alike h q x e = ap (λ (y : Handle). not (eqb y.index h.index))
+    (sym (handle_cmp-IsAntisymmetric q x e))
+
+module _ {X : Type 0} where
+  -- ---- the entries rise
+
+  above : (h : Handle) (index : ℕ) (slots : List (Slot X)) → h.index < index
+      → T (below_all handle_cmp h (entries_from index slots))
+  above h index [] l = tt
+  above h index (Vacant ∷ slots) l = above h (index + 1) slots (omega arith)
+  above h index (Occupied generation value ∷ slots) l =
+      both _ _ (less_by_index h (record { index = index; generation = generation }) l)
+      (above h (index + 1) slots (omega arith))
+
+  pub rising : (index : ℕ) (slots : List (Slot X))
+      → T (is_sorted handle_cmp (entries_from index slots))
+  rising index [] = tt
+  rising index (Vacant ∷ slots) = rising (index + 1) slots
+  rising index (Occupied generation value ∷ slots) =
+      both _ _
+      (above (record { index = index; generation = generation }) (index + 1) slots (omega arith))
+      (rising (index + 1) slots)
+
+  -- ---- what a handle finds
+
+  find_before : (q : Handle) (index : ℕ) (slots : List (Slot X)) → q.index < index
+      → find handle_cmp q (entries_from index slots) ≡ None
+  find_before q index [] l = refl
+  find_before q index (Vacant ∷ slots) l = find_before q (index + 1) slots (omega arith)
+  find_before q index (Occupied generation value ∷ slots) l =
+      ap (λ b. cond b (Some value) (find handle_cmp q (entries_from (index + 1) slots)))
+      (ties_apart q (record { index = index; generation = generation }) (λ e. omega (arith, e)))
+      ∙ find_before q (index + 1) slots (omega arith)
+
+  vacant_past : (at wanted : ℕ) → value_at (slot_at {T = X} [] at) wanted ≡ None
+  vacant_past at wanted =
+      ap (λ (s : Slot X). value_at s wanted) (get_or_past [] at Vacant (omega arith))
+
+  -- the first of the slots is not the one that is looked for
+  later : (slot : Slot X) (slots : List (Slot X)) (q : Handle) (index : ℕ) → index < q.index
+      → value_at (get_or slots (q.index - (index + 1)) Vacant) q.generation
+      ≡ value_at (get_or (slot ∷ slots) (q.index - index) Vacant) q.generation
+  later slot slots q index l =
+      let off : suc (q.index - (index + 1)) ≡ q.index - index = omega arith in
+      ap (λ n. value_at (get_or (slot ∷ slots) n Vacant) q.generation) off
+
+  -- it is
+  first_one : (slot : Slot X) (slots : List (Slot X)) (q : Handle) (index : ℕ) → q.index ≡ index
+      → value_at slot q.generation
+      ≡ value_at (get_or (slot ∷ slots) (q.index - index) Vacant) q.generation
+  first_one slot slots q index e =
+      let off : 0 ≡ q.index - index = omega (arith, e) in
+      ap (λ n. value_at (get_or (slot ∷ slots) n Vacant) q.generation) off
+
+  find_from : (q : Handle) (index : ℕ) (slots : List (Slot X)) → index ≤ q.index
+      → find handle_cmp q (entries_from index slots)
+      ≡ value_at (get_or slots (q.index - index) Vacant) q.generation
+  find_from q index [] l = sym (vacant_past (q.index - index) q.generation)
+  find_from q index (Vacant ∷ slots) l =
+      elim (cases_eq q.index index) [
+        | inl e ↦ find_before q (index + 1) slots (omega (arith, e))
+            ∙ first_one Vacant slots q index e
+        | inr ne ↦ find_from q (index + 1) slots (omega (arith, ne))
+            ∙ later Vacant slots q index (omega (arith, ne))
+      ]
+  find_from q index (Occupied generation value ∷ slots) l =
+      let here : Handle = record { index = index; generation = generation } in
+      elim (cases_eq q.index index) [
+        | inl e ↦
+            (λ i. cond (ties_here q here e i) (Some value)
+            (find_before q (index + 1) slots (omega (arith, e)) i))
+            ∙ ap (λ b. cond b (Some value) None) (eqb_sym q.generation generation)
+            ∙ first_one (Occupied generation value) slots q index e
+        | inr ne ↦
+            ap (λ b. cond b (Some value) (find handle_cmp q (entries_from (index + 1) slots)))
+            (ties_apart q here ne)
+            ∙ find_from q (index + 1) slots (omega (arith, ne))
+            ∙ later (Occupied generation value) slots q index (omega (arith, ne))
+      ]
+
+  -- what the map has at a handle
+  pub get_map : (slots : List (Slot X)) (q : Handle) → map.get (map_of slots) q ≡ value_in slots q
+  get_map slots q =
+      let off : q.index - 0 ≡ q.index = omega arith in
+      map.get-from_sorted handle_cmp (entries_from 0 slots) q (rising 0 slots)
+      ∙ find_from q 0 slots (omega arith)
+      ∙ ap (λ n. value_at (get_or slots n Vacant) q.generation) off
+
+  -- the entries of the map
+  pub entries_map : (slots : List (Slot X)) → map.entries (map_of slots) ≡ entries_from 0 slots
+  entries_map slots = map.entries-from_sorted handle_cmp (entries_from 0 slots) (rising 0 slots)
+
+  pub len_map : (slots : List (Slot X)) → map.len (map_of slots) ≡ length (entries_from 0 slots)
+  len_map slots = map.len-entries (map_of slots) ∙ ap length (entries_map slots)
+
+  -- no slots have no values
+  pub map_none : map_of {T = X} [] ≡ map.empty
+  map_none = map.empty_of_len (map_of []) (len_map [])
+
+  -- ---- count_at slot set
+
+  slot-set : (slots : List (Slot X)) (index : ℕ) (slot : Slot X) (at : ℕ) → index < length slots
+      → (at ≡ index → slot_at (set slots index slot) at ≡ slot)
+      × (at ≢ index → slot_at (set slots index slot) at ≡ slot_at slots at)
+  slot-set slots index slot at within = (
+    λ e. ap (λ n. slot_at (set slots index slot) n) e
+        ∙ get_or-set_same slots index slot Vacant within,
+    λ ne. get_or-set_other slots index at slot Vacant ne,
+  )
+
+  -- a slot that has nothing of the slot's handles but the value of one
+  here_alone : (h q : Handle) (value : X) → q.index ≡ h.index
+      → value_at (Occupied h.generation value) q.generation
+      ≡ cond (eq_by_cmp handle_cmp q h) (Some value) None
+  here_alone h q value e =
+      ap (λ b. cond b (Some value) None)
+      (eqb_sym h.generation q.generation ∙ sym (ties_here q h e))
+
+  get-without : (m : Values X) (h q : Handle) → map.get (without_slot m h.index) q
+      ≡ cond (not (eqb q.index h.index)) (map.get m q) None
+  get-without m h q = map.get-retain_keys m (λ x. not (eqb x.index h.index)) q (alike h q)
+
+  -- a value is put into a slot
+  pub map-put : (slots : List (Slot X)) (h : Handle) (value : X) → h.index < length slots
+      → map_of (set slots h.index (Occupied h.generation value))
+      ≡ map.insert (without_slot (map_of slots) h.index) h value
+  map-put slots h value within =
+      map.same_map handle_cmp_total handle_cmp-IsAntisymmetric _ _ (λ q.
+      get_map (set slots h.index (Occupied h.generation value)) q
+      ∙ at q (cases_eq q.index h.index)
+      ∙ sym (map.get-insert handle_cmp_total (without_slot (map_of slots) h.index) h value q
+      ∙ ap (λ o. cond (eq_by_cmp handle_cmp q h) (Some value) o) (get-without (map_of slots) h q)))
+    where
+      at : (q : Handle) → (q.index ≡ h.index) ⊎ (q.index ≢ h.index)
+          → value_in (set slots h.index (Occupied h.generation value)) q
+          ≡ cond (eq_by_cmp handle_cmp q h) (Some value)
+          (cond (not (eqb q.index h.index)) (map.get (map_of slots) q) None)
+      at q (inl e) =
+          ap (λ s. value_at s q.generation)
+          ((slot-set slots h.index (Occupied h.generation value) q.index within).0 e)
+          ∙ here_alone h q value e
+          ∙ sym (ap (λ b. cond (eq_by_cmp handle_cmp q h) (Some value)
+          (cond (not b) (map.get (map_of slots) q) None)) (eq-eqb q.index h.index e))
+      at q (inr ne) =
+          ap (λ s. value_at s q.generation)
+          ((slot-set slots h.index (Occupied h.generation value) q.index within).1 ne)
+          ∙ sym (get_map slots q)
+          ∙ sym (λ i. cond (ties_apart q h ne i) (Some value)
+          (cond (not (ne_eqb q.index h.index ne i)) (map.get (map_of slots) q) None))
+
+  -- a slot has the value of the handle
+  abbrev pub HasValue : List (Slot X) → Handle → X → Type 0
+  HasValue slots h value = slot_at slots h.index ≡ Occupied h.generation value
+
+  other_generation : (slots : List (Slot X)) (h q : Handle) (value : X) → HasValue slots h value
+      → q.index ≡ h.index → value_in slots q
+      ≡ cond (eq_by_cmp handle_cmp q h) (Some value) None
+  other_generation slots h q value has e =
+      ap (λ n. value_at (slot_at slots n) q.generation) e
+      ∙ ap (λ s. value_at s q.generation) has
+      ∙ here_alone h q value e
+
+  -- the value of a handle is written
+  pub map-write : (slots : List (Slot X)) (h : Handle) (old value : X) → h.index < length slots
+      → HasValue slots h old → map_of (set slots h.index (Occupied h.generation value))
+      ≡ map.insert (map_of slots) h value
+  map-write slots h old value within has =
+      map.same_map handle_cmp_total handle_cmp-IsAntisymmetric _ _ (λ q.
+      get_map (set slots h.index (Occupied h.generation value)) q
+      ∙ at q (cases_eq q.index h.index)
+      ∙ sym (map.get-insert handle_cmp_total (map_of slots) h value q
+      ∙ ap (λ o. cond (eq_by_cmp handle_cmp q h) (Some value) o) (get_map slots q)))
+    where
+      covered : (b : Bool) (x y : Option X) → cond b x None ≡ cond b x (cond b y None)
+      covered true x y = refl
+      covered false x y = refl
+
+      at : (q : Handle) → (q.index ≡ h.index) ⊎ (q.index ≢ h.index)
+          → value_in (set slots h.index (Occupied h.generation value)) q
+          ≡ cond (eq_by_cmp handle_cmp q h) (Some value) (value_in slots q)
+      at q (inl e) =
+          ap (λ s. value_at s q.generation)
+          ((slot-set slots h.index (Occupied h.generation value) q.index within).0 e)
+          ∙ here_alone h q value e
+          ∙ covered (eq_by_cmp handle_cmp q h) (Some value) (Some old)
+          ∙ sym (ap (λ o. cond (eq_by_cmp handle_cmp q h) (Some value) o)
+          (other_generation slots h q old has e))
+      at q (inr ne) =
+          ap (λ s. value_at s q.generation)
+          ((slot-set slots h.index (Occupied h.generation value) q.index within).1 ne)
+          ∙ sym (ap (λ b. cond b (Some value) (value_in slots q)) (ties_apart q h ne))
+
+  -- the value of a handle is taken out
+  pub map-take : (slots : List (Slot X)) (h : Handle) (value : X) → h.index < length slots
+      → HasValue slots h value → map_of (set slots h.index Vacant) ≡ map.remove (map_of slots) h
+  map-take slots h value within has =
+      map.same_map handle_cmp_total handle_cmp-IsAntisymmetric _ _ (λ q.
+      get_map (set slots h.index Vacant) q
+      ∙ at q (cases_eq q.index h.index)
+      ∙ sym (map.get-remove handle_cmp_total (map_of slots) h q
+      ∙ ap (λ o. cond (eq_by_cmp handle_cmp q h) None o) (get_map slots q)))
+    where
+      covered : (b : Bool) (y : Option X) → None ≡ cond b None (cond b y None)
+      covered true y = refl
+      covered false y = refl
+
+      at : (q : Handle) → (q.index ≡ h.index) ⊎ (q.index ≢ h.index)
+          → value_in (set slots h.index Vacant) q
+          ≡ cond (eq_by_cmp handle_cmp q h) None (value_in slots q)
+      at q (inl e) =
+          ap (λ s. value_at s q.generation) ((slot-set slots h.index Vacant q.index within).0 e)
+          ∙ covered (eq_by_cmp handle_cmp q h) (Some value)
+          ∙ sym (ap (λ o. cond (eq_by_cmp handle_cmp q h) None o)
+          (other_generation slots h q value has e))
+      at q (inr ne) =
+          ap (λ s. value_at s q.generation) ((slot-set slots h.index Vacant q.index within).1 ne)
+          ∙ sym (ap (λ b. cond b None (value_in slots q)) (ties_apart q h ne))
+
+  one_more : (index : ℕ) (slot : Slot X) (slots : List (Slot X))
+      → length (entries_from index (slot ∷ slots)) ≡ count_at slot + length (entries_from (index + 1) slots)
+  one_more index Vacant slots = omega arith
+  one_more index (Occupied generation value) slots = omega arith
+
+  -- how many there are after count_at slot is set
+  pub length-set_slot : (index : ℕ) (slots : List (Slot X)) (at : ℕ) (slot : Slot X)
+      → at < length slots → length (entries_from index (set slots at slot)) + count_at (slot_at slots at)
+      ≡ length (entries_from index slots) + count_at slot
+  length-set_slot index [] at slot within = absurd (omega arith)
+  length-set_slot index (x ∷ slots) zero slot within =
+      omega (arith, one_more index x slots, one_more index slot slots)
+  length-set_slot index (x ∷ slots) (suc at) slot within =
+      omega (
+        arith,
+        one_more index x slots,
+        one_more index x (set slots at slot),
+        length-set_slot (index + 1) slots at slot (omega arith),
+      )
+
+  -- ---- vacant slots behind
+
+  entries_vacant : (index count : ℕ) → entries_from {T = X} index (replicate count Vacant) ≡ []
+  entries_vacant index zero = refl
+  entries_vacant index (suc count) = entries_vacant (index + 1) count
+
+  entries_more : (index : ℕ) (slots : List (Slot X)) (count : ℕ)
+      → entries_from index (slots ++ replicate count Vacant) ≡ entries_from index slots
+  entries_more index [] count = entries_vacant index count
+  entries_more index (Vacant ∷ slots) count = entries_more (index + 1) slots count
+  entries_more index (Occupied generation value ∷ slots) count =
+      ap (λ es. (record { index = index; generation = generation }, value) ∷ es)
+      (entries_more (index + 1) slots count)
+
+  pub entries_padded : (slots : List (Slot X)) (count : ℕ)
+      → entries_from 0 (padded slots count) ≡ entries_from 0 slots
+  entries_padded slots count = entries_more 0 slots (count - length slots)
+
+  pub map_padded : (slots : List (Slot X)) (count : ℕ) → map_of (padded slots count) ≡ map_of slots
+  map_padded slots count = ap (λ es. map.from_sorted {R = handle_cmp} es) (entries_padded slots count)
+
+  -- ---- in pairs
+
+  here : (from : ℕ) (e : Handle × X) (es : List (Handle × X)) → from ≤ e.0.index
+      → All (λ x. from ≤ x.0.index) es → All (λ x. from ≤ x.0.index) (e ∷ es)
+  here from e es first rest zero d l = first
+  here from e es first rest (suc k) d l = rest k d (omega (arith, l))
+
+  entries_after : (from index : ℕ) (slots : List (Slot X)) → from ≤ index
+      → All (λ e. from ≤ e.0.index) (entries_from index slots)
+  entries_after from index [] least = λ k d l. absurd (omega (arith, l))
+  entries_after from index (Vacant ∷ slots) least = entries_after from (index + 1) slots
+      (omega arith)
+  entries_after from index (Occupied generation value ∷ slots) least =
+      here from (record { index = index; generation = generation }, value)
+      (entries_from (index + 1) slots) least (entries_after from (index + 1) slots (omega arith))
+
+  pub pairs_rising : (index : ℕ) (slots : List (Slot X))
+      → AllPairs (λ a b. a.0.index < b.0.index) (entries_from index slots)
+  pairs_rising index [] = λ i j d l m. absurd (omega (arith, m))
+  pairs_rising index (Vacant ∷ slots) = pairs_rising (index + 1) slots
+  pairs_rising index (Occupied generation value ∷ slots) =
+      AllPairs-cons (λ (a b : Handle × X). a.0.index < b.0.index)
+      (record { index = index; generation = generation }, value) (entries_from (index + 1) slots)
+      (λ k d l. omega (arith, entries_after (index + 1) (index + 1) slots (omega arith) k d l))
+      (pairs_rising (index + 1) slots)

@@ -1,0 +1,212 @@
+-- The slot of a handle that has a value.
+use Rattle.std.proofs.Common.{◌≡◌, ℕ, zero, suc, ◌+◌, ◌-◌, ◌<◌, ◌≤◌, ◌^◌, Bool, true, false, cond}
+use Rattle.std.proofs.Common.{inl, inr, eqb, List, [], ◌∷◌, replicate, length, get_or, set, Option, None, Some}
+use Rattle.std.proofs.Common.{is_some, refl, sym, ap, ◌∙◌, arith, true≢false, length-set, eqb-true}
+use Rattle.std.proofs.lemmas.Bool.{cases_lt, eq-eqb}
+use Rattle.std.proofs.lemmas.List.{get_or_past, length-append, length-replicate}
+use Rattle.std.specs.FinMap as map
+use Rattle.std.specs.Ordering.{eq_by_cmp}
+use Rattle.std.specs.Cmp.{Equal-is}
+use Rattle.ent_handle.specs.Handle.{Handle, handle_cmp, handle_cmp_total}
+use Rattle.ent_handle.specs.Handle.{handle_cmp-IsAntisymmetric}
+use Rattle.ent_map.specs.HandleMap.{Values, without_slot, HasLater}
+use Rattle.ent_map.specs.Slots.{value_at, value_of, slot_at, entries_from, map_of, count_at}
+use Rattle.ent_map.specs.Slots.{AreCounted, padded, generation_of}
+use Rattle.ent_map.specs.declared.slot.Slot.{Slot}
+use Rattle.ent_map.specs.declared.slot.Slot.TheVariants.{Vacant, Occupied}
+use Rattle.ent_map.proofs.Entries.{HasValue, get_map, length-set_slot, map_padded, map-put}
+use Rattle.ent_map.proofs.Entries.{entries_padded}
+
+module _ {X : Type 0} where
+  -- a handle without a value
+  pub remove_absent : (m : Values X) (h : Handle) → is_some (map.get m h) ≡ false
+      → map.remove m h ≡ m
+  remove_absent m h none =
+      map.same_map handle_cmp_total handle_cmp-IsAntisymmetric _ _ (λ q.
+      map.get-remove handle_cmp_total m h q ∙ by q (eq_by_cmp handle_cmp q h) refl)
+    where
+      no_value : (o : Option X) → is_some o ≡ false → None ≡ o
+      no_value None e = refl
+      no_value (Some x) e = absurd (true≢false e)
+
+      by : (q : Handle) (b : Bool) → eq_by_cmp handle_cmp q h ≡ b
+          → cond b None (map.get m q) ≡ map.get m q
+      by q false e = refl
+      by q true e = no_value (map.get m h) none
+          ∙ map.get_tied handle_cmp_total m q h ((Equal-is (handle_cmp q h)).0 e)
+
+  occupied_if : (g wanted : ℕ) (value : X) (b : Bool) → eqb g wanted ≡ b
+      → is_some (cond b (Some value) None) ≡ true
+      → (found : X) × (Occupied g value ≡ Occupied wanted found)
+  occupied_if g wanted value true is some = (value, ap (λ n. Occupied n value) (eqb-true g wanted is))
+  occupied_if g wanted value false is some = absurd (true≢false (sym some))
+
+  occupied : (slot : Slot X) (wanted : ℕ) → is_some (value_at slot wanted) ≡ true
+      → (found : X) × (slot ≡ Occupied wanted found)
+  occupied Vacant wanted some = absurd (true≢false (sym some))
+  occupied (Occupied g value) wanted some = occupied_if g wanted value (eqb g wanted) refl some
+
+  -- the slot of a handle that the map has
+  pub found : (slots : List (Slot X)) (values : Values X) (h : Handle) → map_of slots ≡ values
+      → is_some (map.get values h) ≡ true → (value : X) × HasValue slots h value
+  found slots values h is some =
+      occupied (slot_at slots h.index) h.generation
+      (sym (ap is_some (get_map slots h)) ∙ ap (λ m. is_some (map.get m h)) is ∙ some)
+
+  -- it was made
+  pub made : (slots : List (Slot X)) (h : Handle) (value : X) → HasValue slots h value
+      → h.index < length slots
+  made slots h value has =
+      elim (cases_lt h.index (length slots)) [
+        | inl within ↦ within
+        | inr past ↦ absurd (true≢false ((ap (λ (s : Slot X). is_some (value_of s))
+            (sym has ∙ get_or_past slots h.index Vacant past))))
+      ]
+
+  -- what the map has at the handle
+  pub had : (slots : List (Slot X)) (values : Values X) (h : Handle) (value : X)
+      → map_of slots ≡ values → HasValue slots h value → value_at (slot_at slots h.index) h.generation
+      ≡ map.get values h
+  had slots values h value is has = sym (get_map slots h) ∙ ap (λ m. map.get m h) is
+
+  -- one value fewer
+  pub counted-take : (slots : List (Slot X)) (h : Handle) (value : X) (count : ℕ)
+      → HasValue slots h value → AreCounted 0 slots count
+      → (1 ≤ count) × AreCounted 0 (set slots h.index Vacant) (count - 1)
+  counted-take slots h value count has are =
+      let within = made slots h value has in
+      let was : count_at (slot_at slots h.index) ≡ 1 = ap count_at has in
+      let step = length-set_slot 0 slots h.index Vacant within in
+      let counted = are.counted in (
+        omega arith,
+        record {
+          few = omega (arith, are.few, length-set slots h.index Vacant);
+          counted = omega arith;
+        },
+      )
+
+  -- as many
+  pub counted-write : (slots : List (Slot X)) (h : Handle) (old value : X) (count : ℕ)
+      → HasValue slots h old → AreCounted 0 slots count
+      → AreCounted 0 (set slots h.index (Occupied h.generation value)) count
+  counted-write slots h old value count has are =
+      let within = made slots h old has in
+      let was : count_at (slot_at slots h.index) ≡ 1 = ap count_at has in
+      let step = length-set_slot 0 slots h.index (Occupied h.generation value) within in
+      let counted = are.counted in
+      record {
+        few = omega (arith, are.few, length-set slots h.index (Occupied h.generation value));
+        counted = omega arith;
+      }
+
+  -- what an index of the vector reads
+  pub read : (slots : List (Slot X)) (at : ℕ) (x : Slot X) → at < length slots → x ≡ get_or slots at x
+      → x ≡ slot_at slots at
+  read [] at x within e = absurd (omega arith)
+  read (y ∷ slots) zero x within e = e
+  read (y ∷ slots) (suc at) x within e = read slots at x (omega arith) e
+
+  pub read_of : (slots : List (Slot X)) (h : Handle) (value : X) (at : ℕ) (x : Slot X)
+      → HasValue slots h value → at ≡ h.index → x ≡ get_or slots at x
+      → x ≡ Occupied h.generation value
+  read_of slots h value at x has is e =
+      read slots at x (let within = made slots h value has in omega (arith, is)) e
+      ∙ ap (slot_at slots) is ∙ has
+
+  -- the map has the value
+  pub got : (slots : List (Slot X)) (values : Values X) (h : Handle) (value : X)
+      → map_of slots ≡ values → HasValue slots h value → map.get values h ≡ Some value
+  got slots values h value is has =
+      sym (had slots values h value is has) ∙ ap (λ s. value_at s h.generation) has
+      ∙ ap (λ b. cond b (Some value) None) (eq-eqb h.generation h.generation refl)
+
+  -- ---- a later occupant of the slot
+
+  pub later : (slots : List (Slot X)) (values : Values X) (h : Handle) → map_of slots ≡ values
+      → h.generation < generation_of (slot_at slots h.index) → HasLater values h
+  later slots values h is above = by (slot_at slots h.index) refl above
+    where
+      by : (slot : Slot X) → slot_at slots h.index ≡ slot → h.generation < generation_of slot
+          → HasLater values h
+      by Vacant e l = absurd (omega arith)
+      by (Occupied g value) e l =
+          let q : Handle = record { index = h.index; generation = g } in
+          (g, l, ap is_some (got slots values q value is e))
+
+  pub no_later : (slots : List (Slot X)) (values : Values X) (h : Handle) → map_of slots ≡ values
+      → generation_of (slot_at slots h.index) ≤ h.generation → HasLater values h → ⊥
+  no_later slots values h is least (g, above, some) =
+      let q : Handle = record { index = h.index; generation = g } in
+      let there = found slots values q is some in
+      let stands : generation_of (slot_at slots h.index) ≡ g = ap generation_of there.1 in
+      omega arith
+
+  -- ---- a value is put into the slot of a handle
+
+  length-entries_le : (index : ℕ) (slots : List (Slot X))
+      → length (entries_from index slots) ≤ length slots
+  length-entries_le index [] = omega arith
+  length-entries_le index (Vacant ∷ slots) = omega (arith, length-entries_le (index + 1) slots)
+  length-entries_le index (Occupied g value ∷ slots) =
+      omega (arith, length-entries_le (index + 1) slots)
+
+  pub few_values : (slots : List (Slot X)) (count : ℕ) → AreCounted 0 slots count → count < 2 ^ 32
+  few_values slots count are =
+      omega (arith, are.few, are.counted, length-entries_le 0 slots)
+
+  length-padded : (slots : List (Slot X)) (count : ℕ)
+      → length (padded slots count) ≡ length slots + (count - length slots)
+  length-padded slots count = length-append slots (replicate (count - length slots) Vacant)
+      ∙ ap (λ n. length slots + n) (length-replicate (count - length slots) Vacant)
+
+  module _ (slots all : List (Slot X)) (h : Handle) (index : ℕ) (before after : Slot X) (value : X)
+      (at : index ≡ h.index) (is : all ≡ padded slots (index + 1))
+      (was : before ≡ get_or all index before) (written : after ≡ Occupied h.generation value) where
+    reaches : index < length all
+    reaches = omega (arith, ap length is, length-padded slots (index + 1))
+
+    pub put-within : index < length all
+    put-within = reaches
+
+    stood : before ≡ slot_at all h.index
+    stood = read all index before reaches was ∙ ap (slot_at all) at
+
+    same : map_of all ≡ map_of slots
+    same = ap map_of is ∙ map_padded slots (index + 1)
+
+    entered : set all index after ≡ set all h.index (Occupied h.generation value)
+    entered = λ i. set all (at i) (written i)
+
+    pub put-map : (values : Values X) → map_of slots ≡ values → map_of (set all index after)
+        ≡ map.insert (without_slot values h.index) h value
+    put-map values stands =
+        ap map_of entered ∙ map-put all h value (omega (arith, reaches, at))
+        ∙ ap (λ m. map.insert (without_slot m h.index) h value) (same ∙ stands)
+
+    pub put-before : (values : Values X) → map_of slots ≡ values → value_at before h.generation
+        ≡ map.get values h
+    put-before values stands =
+        ap (λ s. value_at s h.generation) stood ∙ sym (get_map all h)
+        ∙ ap (λ m. map.get m h) (same ∙ stands)
+
+    pub put-counted : (count lacking : ℕ) → AreCounted 0 slots count → index < 2 ^ 32 - 1
+        → lacking + count_at before ≡ 1 → AreCounted 0 (set all index after) (count + lacking)
+    put-counted count lacking are fits one =
+        let step = length-set_slot 0 all index after reaches in
+        let new : count_at after ≡ 1 = ap count_at written in
+        let old : count_at before ≡ count_at (slot_at all index) =
+        ap count_at (read all index before reaches was) in
+        let entries : length (entries_from 0 all) ≡ length (entries_from 0 slots) =
+        ap (λ (xs : List (Slot X)). length (entries_from 0 xs)) is
+        ∙ ap length (entries_padded slots (index + 1)) in
+        let counted = are.counted in
+        record {
+          few = omega (
+            arith,
+            are.few,
+            ap length is,
+            length-padded slots (index + 1),
+            length-set all index after,
+          );
+          counted = omega arith;
+        }

@@ -1,0 +1,4 @@
+pub mod HandleMap
+pub mod Slots
+pub mod Lends
+pub mod Retained

@@ -1,0 +1,13 @@
+//! A map from handles to values of any type, at most one for each slot.
+#![tactic(auto)]
+
+mod fault;
+mod generation;
+mod handle_map;
+mod iter;
+mod retaining;
+mod slot;
+
+pub use fault::{InsertFault, Uninserted};
+pub use handle_map::HandleMap;
+pub use iter::Iter;

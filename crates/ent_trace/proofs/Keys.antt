@@ -1,0 +1,104 @@
+-- The keys of a run: along a caller they don't fall.
+use Rattle.std.proofs.Common.{◌≡◌, ℕ, ◌+◌, ◌^◌, ◌≤◌, List, [], ◌∷◌, ◌++◌, sym, ap}
+use Rattle.std.proofs.Common.{◌∙◌, arith, inl, inr}
+use Rattle.std.specs.List.{AllByRecursion}
+use Rattle.std.specs.Option.{unwrap_or}
+use Rattle.std.specs.Ordering.{nat_cmp}
+use Rattle.std.specs.FinMap as finite
+use Rattle.std.proofs.lemmas.Bool.{cases_eq}
+use Rattle.std.proofs.lemmas.List.Sums.{sum_by-cons}
+use Rattle.ent_replay.proofs.Maps.{get-inserted, get-insert_other}
+use Rattle.ent_trace.specs.declared.line.Reservation.{Reservation}
+use Rattle.ent_trace.specs.declared.placed.Placed.{Placed}
+use Rattle.ent_trace.specs.Checker.{reservations_of, requested_in, ComesAfter, AreSteady, IsLatest}
+use Rattle.ent_trace.specs.Checker.{IsChecking}
+use Rattle.ent_trace.proofs.Lists.{all_push}
+
+abbrev requested : Reservation → ℕ
+requested r = r.requested
+
+-- one more is requested
+pub requested-push : (run : List Placed) (p : Placed) → requested_in (reservations_of (run ++ p ∷ []))
+    ≡ requested_in (reservations_of run) + p.reservation.requested
+requested-push [] p =
+    let one = sum_by-cons requested p.reservation [] in
+    omega arith
+requested-push (q ∷ run) p =
+    let rest = requested-push run p in
+    omega (
+      arith,
+      sum_by-cons requested q.reservation (reservations_of (run ++ p ∷ [])),
+      sum_by-cons requested q.reservation (reservations_of run),
+    )
+
+module _ (latest : finite.FinMap nat_cmp ℕ) (p : Placed)
+    (greatest : unwrap_or (finite.get latest p.reservation.caller) 0 ≤ p.key) where
+  abbrev now : finite.FinMap nat_cmp ℕ
+  now = finite.insert latest p.reservation.caller p.key
+
+  comes_after : (q : Placed) → IsLatest latest q → ComesAfter q p
+  comes_after q is same =
+      let here : unwrap_or (finite.get latest q.reservation.caller) 0
+      ≡ unwrap_or (finite.get latest p.reservation.caller) 0 =
+      ap (λ caller. unwrap_or (finite.get latest caller) 0) (sym same) in
+      omega arith
+
+  steady_push : (run : List Placed) → AreSteady run → AllByRecursion (IsLatest latest) run
+      → AreSteady (run ++ p ∷ [])
+  steady_push [] steady all = (tt, tt)
+  steady_push (q ∷ run) steady all = (
+    all_push (ComesAfter q) run p steady.0 (comes_after q all.0),
+    steady_push run steady.1 all.1,
+  )
+
+  latest_own : IsLatest now p
+  latest_own =
+      let here : unwrap_or (finite.get now p.reservation.caller) 0 ≡ p.key =
+      ap (λ o. unwrap_or o 0) (get-inserted latest p.reservation.caller p.key) in
+      omega arith
+
+  latest_kept : (q : Placed) → IsLatest latest q → IsLatest now q
+  latest_kept q is = elim (cases_eq q.reservation.caller p.reservation.caller) [
+    | inl same ↦
+        let before : unwrap_or (finite.get latest q.reservation.caller) 0
+        ≡ unwrap_or (finite.get latest p.reservation.caller) 0 =
+        ap (λ caller. unwrap_or (finite.get latest caller) 0) same in
+        let here : unwrap_or (finite.get now q.reservation.caller) 0 ≡ p.key =
+        ap (λ caller. unwrap_or (finite.get now caller) 0) same
+        ∙ ap (λ o. unwrap_or o 0) (get-inserted latest p.reservation.caller p.key) in
+        omega arith
+    | inr other ↦
+        let here : unwrap_or (finite.get now q.reservation.caller) 0
+        ≡ unwrap_or (finite.get latest q.reservation.caller) 0 =
+        ap (λ o. unwrap_or o 0)
+        (get-insert_other latest p.reservation.caller p.key q.reservation.caller other) in
+        omega arith
+  ]
+
+  all_kept : (run : List Placed) → AllByRecursion (IsLatest latest) run
+      → AllByRecursion (IsLatest now) run
+  all_kept [] all = tt
+  all_kept (q ∷ run) all = (latest_kept q all.0, all_kept run all.1)
+
+  pub IsChecking-push : (asked wanted : ℕ) (run : List Placed)
+      → IsChecking asked wanted run latest → wanted + p.reservation.requested ≤ 2 ^ 50
+      → IsChecking asked (wanted + p.reservation.requested) (run ++ p ∷ []) now
+  IsChecking-push asked wanted run is few =
+      let before = is.wanted_is in
+      let more = requested-push run p in
+      record {
+        wanted_is = omega arith;
+        wanted_in = few;
+        steady = steady_push run is.steady is.latest_is;
+        latest_is = all_push (IsLatest now) run p (all_kept run is.latest_is) latest_own;
+      }
+
+-- no run
+pub IsChecking-none : (asked wanted : ℕ) (latest : finite.FinMap nat_cmp ℕ) → wanted ≡ asked
+    → wanted ≤ 2 ^ 50 → IsChecking asked wanted [] latest
+IsChecking-none asked wanted latest is few = record {
+  wanted_is = omega arith;
+  wanted_in = few;
+  steady = tt;
+  latest_is = tt;
+}

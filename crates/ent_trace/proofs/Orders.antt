@@ -1,0 +1,123 @@
+-- Orders that lines may have come in: of a front and a rest, and what they are answered.
+use Rattle.std.proofs.Common.{◌≡◌, ℕ, List, [], ◌∷◌, ◌++◌, refl, sym, ap, subst, ◌∙◌}
+use Rattle.std.proofs.lemmas.List.{append_assoc}
+use Rattle.ent_alloc.specs.Sequential.{Allocator}
+use Rattle.ent_trace.specs.declared.line.Line.{Line}
+use Rattle.ent_trace.specs.declared.line.Line.TheVariants as line
+use Rattle.ent_trace.specs.declared.line.Reservation.{Reservation}
+use Rattle.ent_trace.specs.Trace.{Fits, AreAnswered, after_line, after_lines, IsOrderOf, Agrees}
+use Rattle.ent_trace.specs.Checker.{Checked, reserve_lines, AgreesWith, IsSettled, Follows}
+use Rattle.ent_trace.specs.Checker.{Differs, Fails, Shows}
+use Rattle.ent_trace.specs.declared.difference.Difference.{Difference}
+
+-- an order of the front and one of the rest are one of all
+pub IsOrderOf-append : (front rest first second : List Line) → IsOrderOf front first
+    → IsOrderOf rest second → IsOrderOf (front ++ rest) (first ++ second)
+IsOrderOf-append front rest [] second none is =
+    subst (λ (lines : List Line). IsOrderOf (lines ++ rest) second) (sym none) is
+IsOrderOf-append front rest (l ∷ first) second (before, after, parts, passes, more) is = (
+  before,
+  after ++ rest,
+  ap (λ (lines : List Line). lines ++ rest) parts ∙ append_assoc before (l ∷ after) rest,
+  passes,
+  subst (λ (lines : List Line). IsOrderOf lines (first ++ second))
+      (append_assoc before after rest)
+      (IsOrderOf-append (before ++ after) rest first second more is),
+)
+
+-- one line first
+pub IsOrderOf-cons : (l : Line) (rest order : List Line) → IsOrderOf rest order
+    → IsOrderOf (l ∷ rest) (l ∷ order)
+IsOrderOf-cons l rest order is = ([], rest, refl, tt, is)
+
+pub AreAnswered-append : (s : Allocator) (first second : List Line) → AreAnswered s first
+    → AreAnswered (after_lines s first) second → AreAnswered s (first ++ second)
+AreAnswered-append s [] second first_yes more = more
+AreAnswered-append s (l ∷ first) second first_yes more =
+    (first_yes.0, AreAnswered-append (after_line s l) first second first_yes.1 more)
+
+-- one more reservation in the run, or as the next line
+pub run_more : (run : List Reservation) (r : Reservation) (rest : List Line)
+    → reserve_lines (run ++ r ∷ []) ++ rest ≡ reserve_lines run ++ line.Reserve r ∷ rest
+run_more [] r rest = refl
+run_more (q ∷ run) r rest = ap (λ (lines : List Line). line.Reserve q ∷ lines) (run_more run r rest)
+
+-- a reservation is added
+pub added-Follows : (c : Checked) (r : Reservation)
+    → Follows c (line.Reserve r) (record c { run = c.run ++ r ∷ [] })
+added-Follows c r = record {
+  sound = λ rest agrees. subst (Agrees c.allocator) (run_more c.run r rest) agrees;
+}
+
+-- the run was settled, and the line fits then
+pub called-Follows : (c : Checked) (l : Line) (after : Allocator) → IsSettled c after → Fits after l
+    → Follows c l (record { allocator = after_line after l; run = [] })
+called-Follows c l after settled fits = record {
+  sound = λ rest agrees. record {
+    order = settled.order ++ l ∷ agrees.order;
+    is_order = IsOrderOf-append (reserve_lines c.run) (l ∷ rest) settled.order (l ∷ agrees.order)
+        settled.is_order (IsOrderOf-cons l rest agrees.order agrees.is_order);
+    answered = AreAnswered-append c.allocator settled.order (l ∷ agrees.order) settled.answered
+        (subst (λ s. AreAnswered s (l ∷ agrees.order)) settled.after_is (fits, agrees.answered));
+  };
+}
+
+-- the run was settled, and nothing follows
+pub settled-Agrees : (c : Checked) (after : Allocator) → IsSettled c after → AgreesWith c []
+settled-Agrees c after settled = record {
+  order = settled.order ++ [];
+  is_order = IsOrderOf-append (reserve_lines c.run) [] settled.order [] settled.is_order refl;
+  answered = AreAnswered-append c.allocator settled.order [] settled.answered tt;
+}
+
+-- ---- where a trace doesn't agree
+
+Fails-append : (s : Allocator) (n : ℕ) (order more : List Line) (d : Difference)
+    → Fails s n order d → Fails s n (order ++ more) d
+Fails-append s n order more d fails = record {
+  placed = fails.placed;
+  next = fails.next;
+  left = fails.left ++ more;
+  is = ap (λ (ls : List Line). ls ++ more) fails.is
+      ∙ append_assoc fails.placed (fails.next ∷ fails.left) more;
+  answered = fails.answered;
+  differs = fails.differs;
+}
+
+-- one more line doesn't change it
+pub Shows-more : (c : Checked) (n : ℕ) (l : Line) (d : Difference) → Shows c n [] d
+    → Shows c n (l ∷ []) d
+Shows-more c n l d shows = record {
+  order = shows.order ++ l ∷ [];
+  is_order = subst (λ (ls : List Line). IsOrderOf ls (shows.order ++ l ∷ []))
+      (append_assoc (reserve_lines c.run) [] (l ∷ []))
+      (IsOrderOf-append (reserve_lines c.run ++ []) (l ∷ []) shows.order (l ∷ []) shows.is_order
+      (IsOrderOf-cons l [] [] refl));
+  fails = Fails-append c.allocator n shows.order (l ∷ []) d shows.fails;
+}
+
+-- the run was settled, and the line differs then
+pub called-Shows : (c : Checked) (l : Line) (after : Allocator) (n : ℕ) (d : Difference)
+    → IsSettled c after → Differs after n l d → Shows c n (l ∷ []) d
+called-Shows c l after n d settled differs = record {
+  order = settled.order ++ l ∷ [];
+  is_order = IsOrderOf-append (reserve_lines c.run) (l ∷ []) settled.order (l ∷ [])
+      settled.is_order (IsOrderOf-cons l [] [] refl);
+  fails = record {
+    placed = settled.order;
+    next = l;
+    left = [];
+    is = refl;
+    answered = settled.answered;
+    differs = subst (λ s. Differs s n l d) settled.after_is differs;
+  };
+}
+
+-- the run isn't answered so in this order
+pub ordered-Shows : (c : Checked) (order : List Line) (n : ℕ) (d : Difference)
+    → IsOrderOf (reserve_lines c.run) order → Fails c.allocator n order d → Shows c n [] d
+ordered-Shows c order n d is fails = record {
+  order = order ++ [];
+  is_order = IsOrderOf-append (reserve_lines c.run) [] order [] is refl;
+  fails = Fails-append c.allocator n order [] d fails;
+}

@@ -1,0 +1,143 @@
+-- The reservations of a run one after the other: what is left to be placed.
+use Rattle.std.proofs.Common.{◌≡◌, ℕ, suc, ◌+◌, ◌^◌, ◌<◌, ◌≤◌, List, [], ◌∷◌, length, drop, get_or}
+use Rattle.std.proofs.Common.{refl, sym, ap, subst, ◌∙◌, arith, IsPermutation}
+use Rattle.std.proofs.Math.Seq.{drop-cons}
+use Rattle.std.proofs.lemmas.List.{drop_all}
+use Rattle.std.proofs.lemmas.List.Sums.{sum_by-cons}
+use Rattle.std.proofs.lemmas.List.Sorted.{IsPermutation-map, sum_by-IsPermutation}
+use Rattle.ent_alloc.specs.Sequential.{Allocator, after_take, reply_to}
+use Rattle.ent_alloc.proofs.PoolLaw.{asked-after_take}
+use Rattle.ent_trace.specs.declared.line.Reservation.{Reservation}
+use Rattle.ent_trace.specs.declared.difference.Difference.{Difference}
+use Rattle.ent_trace.specs.declared.line.Line.{Line}
+use Rattle.ent_trace.specs.declared.line.Line.TheVariants as line
+use Rattle.ent_trace.specs.declared.placed.Placed.{Placed}
+use Rattle.ent_trace.specs.Trace.{AreAnswered, FitsReserved, after_lines}
+use Rattle.ent_trace.specs.Checker.{reservations_of, requested_in, Differs}
+use Rattle.ent_trace.specs.Checker.{Fails}
+use Rattle.ent_trace.proofs.Sorted.{lines}
+
+abbrev requested : Reservation → ℕ
+requested r = r.requested
+
+-- what a run requests is asked for after it
+pub asked-lines : (s : Allocator) (run : List Placed) → (after_lines s (lines run)).asked ≡ s.asked
+    + requested_in (reservations_of run)
+asked-lines s [] = omega arith
+asked-lines s (p ∷ run) =
+    let rest = asked-lines (after_take s p.reservation.requested) run in
+    omega (
+      arith,
+      asked-after_take s p.reservation.requested,
+      sum_by-cons requested p.reservation
+          (reservations_of run),
+    )
+
+-- in any order
+pub requested-sorted : (run sorted : List Placed) → IsPermutation run sorted
+    → requested_in (reservations_of sorted) ≡ requested_in (reservations_of run)
+requested-sorted run sorted moved = sum_by-IsPermutation requested (reservations_of run)
+    (reservations_of sorted) (IsPermutation-map (λ (p : Placed). p.reservation) run sorted moved)
+
+-- Those before an index are placed.
+pub record Rest (old s : Allocator) (run : List Placed) (i : ℕ) : Type 0 where
+  pub answered : AreAnswered s (lines (drop i run)) → AreAnswered old (lines run)
+  pub fails : (n : ℕ) (d : Difference) → Fails s n (lines (drop i run)) d
+      → Fails old n (lines run) d
+  pub after : after_lines s (lines (drop i run)) ≡ after_lines old (lines run)
+  pub asked : s.asked + requested_in (reservations_of (drop i run)) ≤ 2 ^ 50
+
+pub Rest-first : (s : Allocator) (run : List Placed)
+    → s.asked + requested_in (reservations_of run) ≤ 2 ^ 50 → Rest s s run 0
+Rest-first s run few = record {
+  answered = λ told. told;
+  fails = λ n d fails. fails;
+  after = refl;
+  asked = few;
+}
+
+module _ (old s : Allocator) (run : List Placed) (i : ℕ) where
+  -- the next one requests no more than all that are left
+  next_is : (p : Placed) → i < length run → p ≡ get_or run i p → drop i run ≡ p ∷ drop (i + 1) run
+  next_is p within is =
+      let one : suc i ≡ i + 1 = omega arith in
+      drop-cons run i p within ∙ (λ k. sym is k ∷ drop (one k) run)
+
+  pub Rest-few : Rest old s run i → (p : Placed) → i < length run → p ≡ get_or run i p
+      → s.asked + p.reservation.requested ≤ 2 ^ 50
+  Rest-few rest p within is =
+      let all = rest.asked in
+      let parts : requested_in (reservations_of (drop i run)) ≡ p.reservation.requested
+      + requested_in (reservations_of (drop (i + 1) run)) =
+      ap (λ ps. requested_in (reservations_of ps)) (next_is p within is)
+      ∙ sum_by-cons requested p.reservation (reservations_of (drop (i + 1) run)) in
+      omega arith
+
+  -- a line that fits comes before
+  fails_later : (p : Placed)
+      → FitsReserved p.reservation.reply (reply_to s p.reservation.requested)
+      → (n : ℕ) (order : List Line) (d : Difference)
+      → Fails (after_take s p.reservation.requested) n order d
+      → Fails s n (line.Reserve p.reservation ∷ order) d
+  fails_later p fits n order d later = record {
+    placed = line.Reserve p.reservation ∷ later.placed;
+    next = later.next;
+    left = later.left;
+    is = ap (λ (ls : List Line). line.Reserve p.reservation ∷ ls) later.is;
+    answered = (fits, later.answered);
+    differs = later.differs;
+  }
+
+  -- the next one doesn't
+  pub Rest-fails : Rest old s run i → (p : Placed) → i < length run → p ≡ get_or run i p
+      → (d : Difference) → Differs s 0 (line.Reserve p.reservation) d → (n : ℕ)
+      → Fails old n (lines run) d
+  Rest-fails rest p within is d differs n =
+      rest.fails n d (subst (λ ps. Fails s n (lines ps) d) (sym (next_is p within is)) record {
+        placed = [];
+        next = line.Reserve p.reservation;
+        left = lines (drop (i + 1) run);
+        is = refl;
+        answered = tt;
+        differs = record {
+          unlike = differs.unlike;
+          expected = differs.expected;
+          number_is = differs.number_is;
+        };
+      })
+
+  pub Rest-next : Rest old s run i → (p : Placed) → i < length run → p ≡ get_or run i p
+      → (t : Allocator) → t ≡ after_take s p.reservation.requested
+      → FitsReserved p.reservation.reply (reply_to s p.reservation.requested)
+      → Rest old t run (i + 1)
+  Rest-next rest p within is t after fits =
+      let here = subst (λ ps. AreAnswered s (lines ps) → AreAnswered old (lines run))
+      (next_is p within is) rest.answered in
+      let all = rest.asked in
+      let parts : requested_in (reservations_of (drop i run)) ≡ p.reservation.requested
+      + requested_in (reservations_of (drop (i + 1) run)) =
+      ap (λ ps. requested_in (reservations_of ps)) (next_is p within is)
+      ∙ sum_by-cons requested p.reservation (reservations_of (drop (i + 1) run)) in
+      let more : t.asked ≡ s.asked + p.reservation.requested =
+      ap (λ (a : Allocator). a.asked) after ∙ asked-after_take s p.reservation.requested in
+      record {
+        answered = λ told. here (
+          fits,
+          subst (λ a. AreAnswered a (lines (drop (i + 1) run))) after
+              told,
+        );
+        fails = λ n d later. rest.fails n d (subst (λ ps. Fails s n (lines ps) d)
+            (sym (next_is p within is)) (fails_later p fits n (lines (drop (i + 1) run)) d
+            (subst (λ a. Fails a n (lines (drop (i + 1) run)) d) after later)));
+        after = ap (λ a. after_lines a (lines (drop (i + 1) run))) after
+            ∙ sym (ap (λ ps. after_lines s (lines ps)) (next_is p within is)) ∙ rest.after;
+        asked = omega arith;
+      }
+
+  pub Rest-last : Rest old s run i → length run ≤ i → AreAnswered old (lines run)
+      × (s ≡ after_lines old (lines run))
+  Rest-last rest past =
+      let none : drop i run ≡ [] = drop_all i run past in (
+        rest.answered (subst (λ ps. AreAnswered s (lines ps)) (sym none) tt),
+        sym (ap (λ ps. after_lines s (lines ps)) none) ∙ rest.after,
+      )

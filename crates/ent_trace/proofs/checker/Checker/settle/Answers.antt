@@ -1,0 +1,84 @@
+use Rattle.std.proofs.Common.{◌≡◌, ℕ, ◌+◌, List, [], sym, ap, subst, ◌∙◌, arith, rules}
+use Rattle.std.proofs.lemmas.List.Sorted.{IsNonDecreasingBy-from_sort_by_key, answers_always}
+use Rattle.std.proofs.lemmas.Result.{err_from_is_err_and}
+use Rattle.ent_alloc.specs.Sequential.{Allocator}
+use Rattle.ent_trace.specs.declared.placed.Placed.{Placed}
+use Rattle.ent_trace.specs.Trace.{IsOrderOf}
+use Rattle.ent_trace.specs.Checker.{Checked, IsChecking, IsSettled, Fails, Shows, reservations_of}
+use Rattle.ent_trace.specs.Checker.{requested_in}
+use Rattle.ent_trace.proofs.Sorted.{lines, key, rising, TieAlike, IsRising, sorted-IsOrderOf}
+use Rattle.ent_trace.proofs.Runs.{asked-lines, requested-sorted}
+use Rattle.ent_trace.proofs.Keys.{IsChecking-none}
+use Rattle.ent_trace.proofs.Orders.{ordered-Shows}
+use Rattle.ent_trace.proofs.Stops.{on_differs}
+use Rattle.ent_trace.proofs.checker.Checker.settle.Goals.{After-deref}
+use Rattle.ent_trace.proofs.checker.Checker.settle.Goals as goal
+
+-- the sorted run requests as much
+requests : (c : After-deref) → requested_in (reservations_of c.deref.result.now)
+    ≡ requested_in (reservations_of c.self.inside.run.items)
+requests c =
+    ap (λ (ps : List Placed). requested_in (reservations_of ps)) c.deref.ensures.value
+    ∙ requested-sorted c.self.inside.run.items c.sort_by_key.new.self.items
+    c.in_ok-sort_by_key.ensures.permutation
+
+-- it is an order of the run
+ordered : (c : After-deref) → IsOrderOf (lines c.self.inside.run.items) (lines c.deref.result.now)
+ordered c =
+    let sorted = c.sort_by_key.new.self.items in
+    let run = c.self.inside.run.items in
+    let up : IsRising sorted = rising sorted (IsNonDecreasingBy-from_sort_by_key key sorted
+    c.in_ok-sort_by_key.ensures.sorted (λ a r q k. search rules)) in
+    let alike : TieAlike sorted run = c.in_ok-sort_by_key.ensures.stable key
+    (answers_always _ _ _ (λ f a r q k. search rules)) in
+    subst (λ ps. IsOrderOf (lines run) (lines ps)) (sym c.deref.ensures.value)
+    (sorted-IsOrderOf sorted run up alike c.self.invariant.steady)
+
+pub place_all-requires : goal.place_all-requires
+place_all-requires c =
+    let same = requests (goal.at.place_all-requires c).After-deref in
+    let is = c.self.invariant.wanted_is in
+    let within = c.self.invariant.wanted_in in
+    omega arith
+
+pub returns-in_err-place_all-clause-differs : goal.returns-in_err-place_all-clause-differs
+returns-in_err-place_all-clause-differs c =
+    let at = (goal.at.returns-in_err-place_all-clause-differs c).After-deref in
+    let e = c.self.inside in
+    let s = e.entities.allocator in
+    let here : Checked = record { allocator = s; run = reservations_of e.run.items } in
+    let p = err_from_is_err_and c.from_residual-in_err-place_all.result
+    c.from_residual-in_err-place_all.ensures.1 in
+    rw (p.1, p.2) (on_differs c.in_err-place_all.field-0.0
+    (λ d. (n : ℕ) → Fails s n (lines c.deref.result.now) d)
+    (λ d. (n : ℕ) → Shows c.args.self n [] d)
+    (λ d fails n. subst (λ v. Shows v n [] d) c.self.view_is
+    (ordered-Shows here (lines c.deref.result.now) n d (ordered at) (fails n)))
+    c.in_err-place_all.ensures.differs)
+
+pub invariant_of-result : goal.invariant_of-result
+invariant_of-result c =
+    let at = (goal.at.invariant_of-result c).After-deref in
+    let e = c.self.inside in
+    let s = e.entities.allocator in
+    let same = requests at in
+    let asked : c.place_all.new.entities.allocator.asked ≡ s.asked
+    + requested_in (reservations_of c.deref.result.now) =
+    ap (λ (a : Allocator). a.asked) c.in_ok-place_all.ensures.after
+    ∙ asked-lines s c.deref.result.now in
+    let is = c.self.invariant.wanted_is in
+    subst (λ ps. IsChecking c.place_all.new.entities.allocator.asked e.wanted ps c.clear-2.new.self)
+    (sym c.clear.ensures.items)
+    (IsChecking-none c.place_all.new.entities.allocator.asked e.wanted c.clear-2.new.self
+    (omega arith) c.self.invariant.wanted_in)
+
+pub returns-clause-settled : goal.returns-clause-settled
+returns-clause-settled c =
+    let at = (goal.at.returns-clause-settled c).After-deref in
+    let after = c.place_all.new.entities.allocator in
+    subst (λ v. IsSettled v after) c.self.view_is (record {
+      order = lines c.deref.result.now;
+      is_order = ordered at;
+      answered = c.in_ok-place_all.ensures.answered;
+      after_is = c.in_ok-place_all.ensures.after;
+    })

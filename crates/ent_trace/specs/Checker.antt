@@ -1,0 +1,107 @@
+-- What a checker stands for, and what it says of a trace that doesn't agree.
+use Rattle.std.specs.Prelude.{◌≡◌, ℕ, ◌+◌, ◌^◌, ◌≤◌, List, [], ◌∷◌, ◌++◌, map, refl}
+use Rattle.std.specs.List.{AllByRecursion, sum_by}
+use Rattle.std.specs.Option.{unwrap_or}
+use Rattle.std.specs.Ordering.{nat_cmp}
+use Rattle.std.specs.FinMap as finite
+use Rattle.std.specs.Coded.{Coded, code_by, coded×, coded_list}
+use Rattle.ent_alloc.specs.Sequential.{Allocator, allocator_code}
+use Rattle.ent_trace.specs.contracts.line.Reservation as reservation
+use Rattle.ent_trace.specs.declared.line.Reservation.{Reservation}
+use Rattle.ent_trace.specs.declared.line.Line.{Line}
+use Rattle.ent_trace.specs.declared.line.Line.TheVariants as line
+use Rattle.ent_trace.specs.declared.placed.Placed.{Placed}
+use Rattle.ent_trace.specs.declared.difference.Difference.{Difference}
+use Rattle.ent_trace.specs.declared.difference.Stop.{Stop}
+use Rattle.ent_trace.specs.declared.difference.Stop.TheVariants as stop
+use Rattle.ent_trace.specs.Trace.{Agrees, Fits, AreAnswered, IsOrderOf, after_lines, answered_line}
+
+-- the allocator after all lines but the last reservations, which are not placed yet
+pub record Checked : Type 0 where
+  pub allocator : Allocator
+  pub run : List Reservation
+
+abbrev pub checked_code : Coded Checked
+checked_code =
+    code_by (Allocator × List Reservation)
+    (coded× allocator_code (coded_list reservation.the_row.coded)) (λ c. (c.allocator, c.run))
+    (λ p. record { allocator = p.0; run = p.1 }) (λ _. refl)
+
+-- reservations as lines
+abbrev pub reserve_lines : List Reservation → List Line
+reserve_lines run = map line.Reserve run
+
+-- these lines may follow those that were checked
+abbrev pub AgreesWith : Checked → List Line → Type 0
+AgreesWith c rest = Agrees c.allocator (reserve_lines c.run ++ rest)
+
+-- before and after a line: the same lines may follow
+pub record Follows (old : Checked) (l : Line) (new : Checked) : Type 0 where
+  pub sound : (rest : List Line) → AgreesWith new rest → AgreesWith old (l ∷ rest)
+
+-- in some order all reservations of the run were answered so, and this is the state after them
+pub record IsSettled (c : Checked) (after : Allocator) : Type 0 where
+  pub order : List Line
+  pub is_order : IsOrderOf (reserve_lines c.run) order
+  pub answered : AreAnswered c.allocator order
+  pub after_is : after ≡ after_lines c.allocator order
+
+-- ---- where a trace doesn't agree
+
+-- what a stop for a difference has to say
+abbrev pub OnDiffers : Stop → (Difference → Type 0) → Type 0
+OnDiffers (stop.Differs d) P = P d
+OnDiffers other P = Unit {0}
+
+-- a reservation has its own number, and any other line has the one that comes with it
+abbrev pub number_of : ℕ → Line → ℕ
+number_of number (line.Reserve r) = r.number
+number_of number other = number
+
+-- The line's reply isn't the allocator's in this state, and the difference says which one is.
+pub record Differs (s : Allocator) (number : ℕ) (l : Line) (d : Difference) : Type 0 where
+  pub unlike : ¬ (Fits s l)
+  pub expected : d.expected ≡ answered_line s l
+  pub number_is : d.number ≡ number_of number l
+
+-- In this order some lines agree, and the next one doesn't.
+pub record Fails (s : Allocator) (number : ℕ) (order : List Line) (d : Difference) : Type 0 where
+  pub placed : List Line
+  pub next : Line
+  pub left : List Line
+  pub is : order ≡ placed ++ next ∷ left
+  pub answered : AreAnswered s placed
+  pub differs : Differs (after_lines s placed) number next d
+
+-- The lines may have come in this order, in which they don't agree.
+pub record Shows (c : Checked) (number : ℕ) (rest : List Line) (d : Difference) : Type 0 where
+  pub order : List Line
+  pub is_order : IsOrderOf (reserve_lines c.run ++ rest) order
+  pub fails : Fails c.allocator number order d
+
+-- ---- inside
+
+abbrev pub reservations_of : List Placed → List Reservation
+reservations_of run = map (λ (p : Placed). p.reservation) run
+
+abbrev pub requested_in : List Reservation → ℕ
+requested_in run = sum_by (λ (r : Reservation). r.requested) run
+
+-- a later one of the same caller has no lesser key
+abbrev pub ComesAfter : Placed → Placed → Type 0
+ComesAfter p later = later.reservation.caller ≡ p.reservation.caller → p.key ≤ later.key
+
+abbrev pub AreSteady : List Placed → Type 0
+AreSteady [] = Unit {0}
+AreSteady (p ∷ run) = AllByRecursion (ComesAfter p) run × AreSteady run
+
+-- no reservation of a caller has a greater key than the one that is kept for the caller
+abbrev pub IsLatest : finite.FinMap nat_cmp ℕ → Placed → Type 0
+IsLatest latest p = p.key ≤ unwrap_or (finite.get latest p.reservation.caller) 0
+
+pub record IsChecking (asked wanted : ℕ) (run : List Placed) (latest : finite.FinMap nat_cmp ℕ)
+    : Type 0 where
+  pub wanted_is : wanted ≡ asked + requested_in (reservations_of run)
+  pub wanted_in : wanted ≤ 2 ^ 50
+  pub steady : AreSteady run
+  pub latest_is : AllByRecursion (IsLatest latest) run

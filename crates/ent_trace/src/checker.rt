@@ -1,0 +1,210 @@
+//! The checker: one line of a trace after the other.
+ghost use Rattle.std.specs.Prelude.{◌≡◌, ℕ, ◌∷◌, ◌++◌, [], IfOk, IfErr, OnOk};
+ghost use Rattle.ent_alloc.specs.Sequential.{opening};
+ghost use Rattle.ent_trace.specs.Trace.{Fits, IsAlone, after_line};
+ghost use Rattle.ent_trace.specs.Checker.{Follows, AgreesWith, IsSettled};
+ghost use Rattle.ent_trace.specs.Checker.{OnDiffers, Differs, Shows};
+
+use crate::calls::answered;
+use crate::difference::{Difference, Stop};
+use crate::line::{Line, Reservation};
+use crate::placed::Placed;
+use crate::placing::place_all;
+use crate::reply::ReserveReply;
+use ent_alloc::{Entities, Limits};
+use ent_replay::ByCaller;
+use std::alloc::Global;
+use std::marker::Model;
+
+/// How many handles may be requested between two flushes.
+const MOST: u64 = 1 << 50;
+
+/// The keys of refusals. A reservation that was served has a lesser one: the place of a handle.
+const FIRST_REFUSED: u64 = 1 << 32;
+
+const LAST_REFUSED: u64 = 1 << 33;
+
+/// Takes the lines of a trace one after the other, and compares each reply with the allocator's.
+///
+/// It holds the allocator and the reservations since the last other line, which are compared
+/// together. Contracts see just these two.
+#[derive(Drop)]
+pub struct Checker {
+    alloc: Global,
+    entities: Entities,
+    run: Vec<Placed>,
+    latest: ByCaller<u64>,
+    wanted: u64,
+}
+
+impl Model for Checker {
+    ghost use Rattle.ent_trace.specs.Checker.{Checked, checked_code};
+
+    ghost Value = { Checked };
+
+    ghost coded = { checked_code };
+
+    ghost use Rattle.ent_trace.specs.Checker.{reservations_of, IsChecking};
+
+    ghost view = { λ c. record {
+      allocator = c.entities.allocator;
+      run = reservations_of c.run.items;
+    } };
+
+    ghost invariant = { λ c.
+        IsChecking c.entities.allocator.asked c.wanted c.run.items c.latest };
+}
+
+impl Checker {
+    /// A checker that has taken no line. It takes no memory.
+    pub fn new(alloc: Global, limits: Limits) -> Self
+        ensures { result ≡ record { allocator = opening limits; run = [] } }
+    {
+        Checker {
+            alloc,
+            entities: Entities::new(alloc, limits),
+            run: Vec::new(alloc),
+            latest: ByCaller::new(alloc),
+            wanted: 0,
+        }
+    }
+
+    /// Takes the next line of the trace, which has this number.
+    ///
+    /// # Errors
+    ///
+    /// The checker is gone then, so that none goes on after a difference.
+    ///
+    /// - `Differs`: a reply isn't the allocator's, of this line or of a reservation before it.
+    /// - `TooMany`: it is a reservation, and with it more than 2^50 handles were requested since
+    ///   the last flush.
+    /// - `Memory`: memory ran out.
+    pub fn take(self, number: u64, line: Line) -> Result<Self, Stop>
+        ensures follows { IfOk result (λ next. Follows self line next) }
+        ensures differs { IfErr result (λ stop.
+            OnDiffers stop (Shows self number (line ∷ []))) }
+    {
+        if let Line::Reserve(reservation) = line {
+            return self.add(reservation);
+        }
+        self.settle()?.call(number, line)
+    }
+
+    /// Compares the reservations that are not compared yet: the trace ends here.
+    ///
+    /// # Errors
+    ///
+    /// `Differs` or `Memory`, as `take`.
+    pub fn finish(self) -> Result<Self, Stop>
+        ensures agrees { OnOk result (AgreesWith self []) }
+        ensures differs { IfErr result (λ stop. OnDiffers stop (Shows self 0 [])) }
+    {
+        self.settle()
+    }
+
+    /// Makes the reservations of the run, in the order of their keys, and compares each.
+    fn settle(self) -> Result<Self, Stop>
+        ensures run { IfOk result (λ next. next.run ≡ []) }
+        ensures settled { IfOk result (λ next. IsSettled self next.allocator) }
+        ensures differs { IfErr result (λ stop.
+            OnDiffers stop (λ d. (n : ℕ) → Shows self n [] d)) }
+    {
+        let Checker {
+            alloc,
+            mut entities,
+            mut run,
+            mut latest,
+            wanted,
+        } = self;
+        run.sort_by_key(|placed| placed.key)?;
+        place_all(alloc, &mut entities, &run)?;
+        run.clear();
+        latest.clear();
+        Ok(Checker {
+            alloc,
+            entities,
+            run,
+            latest,
+            wanted,
+        })
+    }
+
+    /// Makes a call that nothing overlaps, and compares.
+    fn call(self, number: u64, line: Line) -> Result<Self, Stop>
+        requires run { self.run ≡ [] }
+        requires alone { IsAlone line }
+        ensures fits { OnOk result (Fits self.allocator line) }
+        ensures next { IfOk result (λ next.
+            next ≡ record { allocator = after_line self.allocator line; run = [] }) }
+        ensures differs { IfErr result (λ stop.
+            OnDiffers stop (Differs self.allocator number line)) }
+    {
+        let Checker {
+            alloc,
+            mut entities,
+            run,
+            latest,
+            ..
+        } = self;
+        let expected = answered(alloc, &mut entities, &line)?;
+        if let Some(expected) = expected {
+            return Err(Stop::Differs(Difference { number, expected }));
+        }
+        let wanted = entities.asked();
+        Ok(Checker {
+            alloc,
+            entities,
+            run,
+            latest,
+            wanted,
+        })
+    }
+
+    /// Adds a reservation to the run.
+    fn add(self, reservation: Reservation) -> Result<Self, Stop>
+        ensures ok { IfOk result (λ next.
+            next ≡ record self { run = self.run ++ reservation ∷ [] }) }
+        ensures differs { IfErr result (λ stop. OnDiffers stop (λ d. ⊥)) }
+    {
+        let Checker {
+            alloc,
+            entities,
+            mut run,
+            mut latest,
+            wanted,
+        } = self;
+        let wanted = wanted + u64::from(reservation.requested);
+        if wanted > MOST {
+            return Err(Stop::TooMany);
+        }
+        let caller = reservation.caller;
+        let before = latest.get(caller).unwrap_or(0);
+        let key = own_key(&entities, &reservation).max(before);
+        run.push(Placed { reservation, key })?;
+        latest.insert(caller, key)?;
+        Ok(Checker {
+            alloc,
+            entities,
+            run,
+            latest,
+            wanted,
+        })
+    }
+}
+
+/// Where a reservation comes in a run, if nothing else is known of its caller.
+///
+/// Those that were served come by the place of a handle that they were given. Then come those that
+/// were refused: first the one that says how many handles it left, then those that don't say it, the
+/// greatest first, then those that found none.
+fn own_key(entities: &Entities, reservation: &Reservation) -> u64 {
+    match &reservation.reply {
+        ReserveReply::Handles(handles) => match handles.as_slice().first() {
+            Some(handle) => entities.place(*handle).map_or(0, u64::from),
+            None => 0,
+        },
+        ReserveReply::Space => LAST_REFUSED - u64::from(reservation.requested),
+        ReserveReply::SpaceLeft(0) => LAST_REFUSED,
+        ReserveReply::SpaceLeft(_) => FIRST_REFUSED,
+    }
+}

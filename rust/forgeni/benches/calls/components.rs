@@ -1,0 +1,259 @@
+//! Components by handle: an `Entities` with a `HandleMap`, beside a slot map with a secondary map.
+
+use crate::entities::{READS, SCATTERED};
+use crate::plain::slot_map as plain;
+use crate::refusing::held;
+use crate::{line_of_rounds, peers, rounds, shift, timed, Places, Run};
+use forgeni::{Entities, Handle, HandleMap};
+use std::hint::black_box;
+use std::sync::atomic::{AtomicU32, Ordering};
+
+/// How many entities there are.
+const SIZES: [u32; 3] = [1_000, 100_000, 1_000_000];
+
+/// How many a run goes through at least, again and again where there are fewer.
+const LEAST: u32 = 100_000;
+
+/// How many entities the run has that is timed now.
+static SIZE: AtomicU32 = AtomicU32::new(0);
+
+fn size() -> u32 {
+    SIZE.load(Ordering::Relaxed)
+}
+
+/// How often a run goes through all.
+fn times() -> u32 {
+    LEAST.div_ceil(size())
+}
+
+/// Who lives, and one component of each.
+pub trait Side: Default {
+    /// What names an entity.
+    type Key: Copy;
+
+    fn spawn(&mut self, value: i64) -> Self::Key;
+    fn get(&self, key: Self::Key) -> Option<i64>;
+    fn despawn(&mut self, key: Self::Key) -> bool;
+    /// The sum of all values, by a walk over them.
+    fn sum(&self) -> i64;
+}
+
+#[derive(Default)]
+struct Ours {
+    entities: Entities,
+    values: HandleMap<i64>,
+}
+
+impl Side for Ours {
+    type Key = Handle;
+
+    #[inline(always)]
+    fn spawn(&mut self, value: i64) -> Handle {
+        let one = self.entities.alloc().expect("room");
+        self.values.insert(one, value).expect("memory");
+        one
+    }
+
+    #[inline(always)]
+    fn get(&self, one: Handle) -> Option<i64> {
+        self.values.get(one).copied()
+    }
+
+    #[inline(always)]
+    fn despawn(&mut self, one: Handle) -> bool {
+        self.entities.free(one).is_ok() && self.values.remove(one).is_some()
+    }
+
+    #[inline(always)]
+    fn sum(&self) -> i64 {
+        self.values.values().sum()
+    }
+}
+
+#[derive(Default)]
+struct Plain {
+    keys: plain::SlotMap,
+    values: plain::SecondaryMap<i64>,
+}
+
+impl Side for Plain {
+    type Key = plain::Key;
+
+    #[inline(always)]
+    fn spawn(&mut self, value: i64) -> plain::Key {
+        let key = self.keys.insert();
+        self.values.insert(key, value);
+        key
+    }
+
+    #[inline(always)]
+    fn get(&self, key: plain::Key) -> Option<i64> {
+        self.values.get(key).copied()
+    }
+
+    #[inline(always)]
+    fn despawn(&mut self, key: plain::Key) -> bool {
+        self.keys.remove(key) && self.values.remove(key).is_some()
+    }
+
+    #[inline(always)]
+    fn sum(&self) -> i64 {
+        self.values.iter().map(|(_, value)| value).sum()
+    }
+}
+
+/// The works of a side.
+pub struct Components {
+    lives: [Places; 2],
+    reads: [Places; 2],
+    walk: Places,
+    bytes: fn() -> isize,
+}
+
+macro_rules! places_of {
+    ($work:ident, $side:ty, $($step:expr)?) => {
+        [
+            $work::<$side, $($step,)? 0>, $work::<$side, $($step,)? 1>,
+            $work::<$side, $($step,)? 2>, $work::<$side, $($step,)? 3>,
+            $work::<$side, $($step,)? 4>, $work::<$side, $($step,)? 5>,
+            $work::<$side, $($step,)? 6>, $work::<$side, $($step,)? 7>,
+        ]
+    };
+}
+
+impl Components {
+    pub const fn of<S: Side>() -> Self {
+        Self {
+            lives: [places_of!(life, S, 1), places_of!(life, S, SCATTERED)],
+            reads: [places_of!(read, S, 1), places_of!(read, S, SCATTERED)],
+            walk: places_of!(walk, S,),
+            bytes: bytes::<S>,
+        }
+    }
+}
+
+/// The numbers of all entities, each a step after the one before.
+fn by_step(step: u32) -> impl Iterator<Item = usize> {
+    let size = size();
+    (0..size).scan(0, move |at, _| {
+        let this = *at;
+        *at = (this + step) % size;
+        Some(this as usize)
+    })
+}
+
+fn full<S: Side>() -> (S, Vec<S::Key>) {
+    let mut side = S::default();
+    let keys = (0..size()).map(|value| side.spawn(i64::from(value)));
+    let keys = keys.collect();
+    (side, keys)
+}
+
+#[inline(always)]
+fn read_all<S: Side>(side: &S, keys: &[S::Key], step: u32) -> u64 {
+    by_step(step).fold(0, |sum, at| {
+        let value = black_box(side).get(keys[at]);
+        sum + value.expect("it has one") as u64
+    })
+}
+
+/// All are spawned, read some times, and despawned.
+fn life<S: Side, const STEP: u32, const PLACE: usize>() -> Run {
+    shift::<PLACE>();
+    let mut keys = Vec::with_capacity(size() as usize);
+    timed(|| {
+        (0..times()).fold(0, |sum, _| {
+            keys.clear();
+            let mut side = S::default();
+            keys.extend((0..size()).map(|value| side.spawn(i64::from(value))));
+            let read = (0..READS)
+                .map(|_| read_all(&side, &keys, STEP))
+                .sum::<u64>();
+            for at in by_step(STEP) {
+                assert!(side.despawn(keys[at]));
+            }
+            sum + read
+        })
+    })
+}
+
+fn read<S: Side, const STEP: u32, const PLACE: usize>() -> Run {
+    shift::<PLACE>();
+    let (side, keys) = full::<S>();
+    timed(|| (0..times()).map(|_| read_all(&side, &keys, STEP)).sum())
+}
+
+fn walk<S: Side, const PLACE: usize>() -> Run {
+    shift::<PLACE>();
+    let (side, _keys) = full::<S>();
+    timed(|| {
+        let walks = (0..times()).map(|_| black_box(&side).sum());
+        walks.sum::<i64>() as u64
+    })
+}
+
+/// The bytes that all entities take.
+fn bytes<S: Side>() -> isize {
+    held(|| {
+        let mut side = S::default();
+        for value in 0..size() {
+            side.spawn(i64::from(value));
+        }
+        side
+    })
+    .1
+}
+
+pub fn tables() {
+    let [ours, plain] = [Components::of::<Ours>(), Components::of::<Plain>()];
+    let peer = peers::SLOTS.components;
+    println!("| Work | Entities | Here | Plain Rust | Ratio | By place | slotmap | Ratio |");
+    println!("|---|---|---|---|---|---|---|---|");
+    let orders = ["rising", "scattered"];
+    for (at, order) in orders.into_iter().enumerate() {
+        let name = format!("Spawn, {READS} times `get`, despawn, {order}");
+        let peer = peer.as_ref().map(|peer| peer.lives[at]);
+        lines(&name, ours.lives[at], plain.lives[at], peer);
+    }
+    for (at, order) in orders.into_iter().enumerate() {
+        let peer = peer.as_ref().map(|peer| peer.reads[at]);
+        lines(
+            &format!("`get`, {order}"),
+            ours.reads[at],
+            plain.reads[at],
+            peer,
+        );
+    }
+    let walk = peer.as_ref().map(|peer| peer.walk);
+    lines("`iter`, a value", ours.walk, plain.walk, walk);
+    println!();
+    println!("| Entities | Bytes an entity, here | Plain Rust | slotmap |");
+    println!("|---|---|---|---|");
+    for size in SIZES {
+        SIZE.store(size, Ordering::Relaxed);
+        let each = |bytes: fn() -> isize| format!("{:.1}", bytes() as f64 / f64::from(size));
+        let peer = peer
+            .as_ref()
+            .map(|peer| each(peer.bytes))
+            .unwrap_or_default();
+        println!(
+            "| {size} | {} | {} | {peer} |",
+            each(ours.bytes),
+            each(plain.bytes)
+        );
+    }
+}
+
+/// A line of each size. The greatest one is timed a third as often.
+fn lines(name: &str, ours: Places, plain: Places, peer: Option<Places>) {
+    for size in SIZES {
+        SIZE.store(size, Ordering::Relaxed);
+        let rounds = if size > LEAST {
+            rounds().div_ceil(3)
+        } else {
+            rounds()
+        };
+        let name = format!("{name} | {size}");
+        line_of_rounds(rounds, &name, size * times(), ours, plain, peer);
+    }
+}

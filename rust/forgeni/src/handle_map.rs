@@ -1,0 +1,503 @@
+//! Values of any type, by handle.
+
+use crate::errors::OutOfMemory;
+use crate::handle::Handle;
+use crate::kit::alloc::Global;
+use crate::proved::ent_map::{self, InsertFault};
+use alloc::alloc::handle_alloc_error;
+use alloc::vec::{self, Vec};
+use core::alloc::Layout;
+use core::error::Error;
+use core::fmt;
+use core::iter::FusedIterator;
+use core::ops::{Index, IndexMut};
+
+/// A value of any type for each of some handles: a component. At most one handle of a slot has a
+/// value.
+///
+/// It is what this package recommends for components: one map for each type, beside an
+/// [`Entities`](crate::Entities) or in what a program calls its world. A look-up is one access to a
+/// vector by the handle's index, and a comparison of the generation. So a map has room for as many
+/// slots as the greatest index of its handles tells, and nothing moves when a value goes.
+///
+/// It does not know which handles an allocator has given or freed. A value that nobody removes stays
+/// until a later occupant of its slot gets one, and can't be found by that one's handle.
+///
+/// ```
+/// use forgeni::{Entities, HandleMap};
+///
+/// struct Body {
+///     place: [f32; 2],
+///     speed: [f32; 2],
+/// }
+///
+/// let mut entities = Entities::new();
+/// let mut bodies = HandleMap::new();
+/// let mut names = HandleMap::new();
+/// let ball = entities.alloc()?;
+/// bodies.insert(ball, Body { place: [0.0; 2], speed: [1.0, 2.0] })?;
+/// names.insert(ball, "ball")?;
+///
+/// bodies.for_each_mut(|_, body| {
+///     body.place[0] += body.speed[0];
+///     body.place[1] += body.speed[1];
+/// });
+/// assert_eq!(bodies[ball].place, [1.0, 2.0]);
+///
+/// entities.free(ball)?;
+/// assert_eq!(names.remove(ball), Some("ball"));
+/// assert!(!names.contains(ball));
+/// # Ok::<(), Box<dyn std::error::Error + Send + Sync>>(())
+/// ```
+///
+/// What a value takes is 4 bytes for its generation beside it, with what alignment adds. Of a type
+/// that is no greater than 4 bytes it is 8 bytes a slot, and of one with 8 bytes it is 16.
+pub struct HandleMap<T> {
+    proved: ent_map::HandleMap<T>,
+}
+
+impl<T> HandleMap<T> {
+    /// A map without values. It takes no memory.
+    #[doc = include_str!("proved/ent_map/handle_map.new.md")]
+    #[must_use]
+    pub const fn new() -> Self {
+        Self {
+            proved: ent_map::HandleMap::new(Global),
+        }
+    }
+
+    /// A map without values, with room for that many slots.
+    ///
+    /// # Errors
+    ///
+    /// `OutOfMemory` if there is not that much.
+    #[doc = include_str!("proved/ent_map/handle_map.with_capacity.md")]
+    pub fn with_capacity(slots: usize) -> Result<Self, OutOfMemory> {
+        let proved = ent_map::HandleMap::with_capacity(Global, slots)?;
+        Ok(Self { proved })
+    }
+
+    /// How many values there are. It takes constant time.
+    #[doc = include_str!("proved/ent_map/handle_map.len.md")]
+    #[inline]
+    #[must_use]
+    pub fn len(&self) -> usize {
+        self.proved.len()
+    }
+
+    /// Whether there is no value.
+    #[doc = include_str!("proved/ent_map/handle_map.is_empty.md")]
+    #[inline]
+    #[must_use]
+    pub fn is_empty(&self) -> bool {
+        self.proved.is_empty()
+    }
+
+    /// How many slots there is room for. A handle whose index is below it is inserted without
+    /// memory.
+    #[doc = include_str!("proved/ent_map/handle_map.capacity.md")]
+    #[inline]
+    #[must_use]
+    pub fn capacity(&self) -> usize {
+        self.proved.capacity()
+    }
+
+    /// Makes room for that many slots in all.
+    ///
+    /// # Errors
+    ///
+    /// `OutOfMemory`, and then nothing has changed.
+    #[doc = include_str!("proved/ent_map/handle_map.reserve.md")]
+    pub fn reserve(&mut self, slots: usize) -> Result<(), OutOfMemory> {
+        Ok(self.proved.reserve(slots)?)
+    }
+
+    /// Whether the handle has a value. It takes constant time.
+    #[doc = include_str!("proved/ent_map/handle_map.contains.md")]
+    #[inline]
+    #[must_use]
+    pub fn contains(&self, handle: Handle) -> bool {
+        self.proved.contains(handle.proved())
+    }
+
+    /// The value of the handle, if it has one. It takes constant time.
+    #[doc = include_str!("proved/ent_map/handle_map.get.md")]
+    #[inline]
+    #[must_use]
+    pub fn get(&self, handle: Handle) -> Option<&T> {
+        self.proved.get(handle.proved())
+    }
+
+    /// The value of the handle, if it has one, to be changed. It takes constant time.
+    #[doc = include_str!("proved/ent_map/handle_map.get_mut.md")]
+    #[inline]
+    #[must_use]
+    pub fn get_mut(&mut self, handle: Handle) -> Option<&mut T> {
+        self.proved.get_mut(handle.proved())
+    }
+
+    /// Gives the handle a value, and returns the one that it had. If an earlier occupant of the slot
+    /// has one, that is dropped.
+    ///
+    /// It takes no memory if there is room for the slot ([`capacity`](Self::capacity)), and constant
+    /// time then.
+    ///
+    /// ```
+    /// use forgeni::{Handle, HandleMap, InsertionError};
+    ///
+    /// let [first, second] = [Handle::new(7, 1).unwrap(), Handle::new(7, 2).unwrap()];
+    /// let mut map = HandleMap::new();
+    /// assert_eq!(map.insert(first, "a")?, None);
+    /// assert_eq!(map.insert(first, "b")?, Some("a"));
+    /// assert_eq!(map.insert(second, "c")?, None);
+    /// assert_eq!((map.get(first), map.get(second)), (None, Some(&"c")));
+    ///
+    /// let refused = map.insert(first, "d").unwrap_err();
+    /// assert_eq!(refused.into_parts(), ("d", InsertionError::Later));
+    /// # Ok::<(), Box<dyn std::error::Error + Send + Sync>>(())
+    /// ```
+    ///
+    /// # Errors
+    ///
+    /// [`Uninserted`] has the value, and nothing has changed: `Later` if a later occupant of the slot
+    /// has a value, or `Memory`.
+    #[doc = include_str!("proved/ent_map/handle_map.insert.md")]
+    #[inline]
+    pub fn insert(&mut self, handle: Handle, value: T) -> Result<Option<T>, Uninserted<T>> {
+        Ok(self.proved.insert(handle.proved(), value)?)
+    }
+
+    /// Takes the value of the handle out, if it has one. It takes constant time and no memory.
+    #[doc = include_str!("proved/ent_map/handle_map.remove.md")]
+    #[inline]
+    pub fn remove(&mut self, handle: Handle) -> Option<T> {
+        self.proved.remove(handle.proved())
+    }
+
+    /// Drops all values. The room stays.
+    #[doc = include_str!("proved/ent_map/handle_map.clear.md")]
+    pub fn clear(&mut self) {
+        self.proved.clear();
+    }
+
+    /// Keeps the values of which `keep` says so, and drops the others. It is called at each value
+    /// once, by rising slot, and may change it. The room stays.
+    ///
+    /// ```
+    /// use forgeni::{Entities, HandleMap};
+    ///
+    /// let mut entities = Entities::new();
+    /// let mut frames_left: HandleMap<u32> = HandleMap::new();
+    /// for (frames, one) in (1..).zip(entities.alloc_many(3)?) {
+    ///     frames_left.insert(one, frames)?;
+    /// }
+    /// frames_left.retain(|one, frames| {
+    ///     *frames -= 1;
+    ///     *frames > 0 || entities.free(one).is_err()
+    /// });
+    /// assert!(frames_left.keys().eq(&entities));
+    /// assert!(frames_left.values().eq(&[1, 2]));
+    /// # Ok::<(), Box<dyn std::error::Error + Send + Sync>>(())
+    /// ```
+    ///
+    /// # Panics
+    ///
+    /// A panic of `keep` is handed on. The map has then what was kept, and all that it wasn't called
+    /// at.
+    #[doc = include_str!("proved/ent_map/handle_map.retain.md")]
+    #[inline]
+    pub fn retain(&mut self, mut keep: impl FnMut(Handle, &mut T) -> bool) {
+        self.proved
+            .retain(|handle, value: &mut T| keep(Handle::of(handle), value));
+    }
+
+    /// Calls `change` at each value once, by rising slot.
+    ///
+    /// It is what `iter_mut` is elsewhere: the kit of the proofs has no words for a map of which
+    /// several values are lent at once. [`get_mut`](Self::get_mut) lends one.
+    ///
+    /// ```
+    /// use forgeni::{Handle, HandleMap};
+    ///
+    /// let handle = |index| Handle::new(index, 1).unwrap();
+    /// let speeds: HandleMap<f32> = (0..3).map(|index| (handle(index), 0.5)).collect();
+    /// let mut places: HandleMap<f32> = (0..3).map(|index| (handle(index), 1.0)).collect();
+    /// places.for_each_mut(|one, place| *place += speeds[one]);
+    /// assert!(places.values().all(|place| *place == 1.5));
+    /// ```
+    #[inline]
+    pub fn for_each_mut(&mut self, mut change: impl FnMut(Handle, &mut T)) {
+        self.retain(|handle, value| {
+            change(handle, value);
+            true
+        });
+    }
+
+    /// The handles and their values, by rising slot. The time is that of a look at each slot.
+    #[doc = include_str!("proved/ent_map/handle_map.iter.md")]
+    #[inline]
+    pub fn iter(&self) -> Iter<'_, T> {
+        Iter {
+            proved: self.proved.iter(),
+        }
+    }
+
+    /// The handles that have a value, by rising slot.
+    #[inline]
+    pub fn keys(&self) -> impl ExactSizeIterator<Item = Handle> + '_ {
+        self.iter().map(|(handle, _)| handle)
+    }
+
+    /// The values, by rising slot.
+    #[inline]
+    pub fn values(&self) -> impl ExactSizeIterator<Item = &T> {
+        self.iter().map(|(_, value)| value)
+    }
+}
+
+/// Ends the process as `Vec` does: there is no memory for a value, and nobody to say it to.
+#[cold]
+fn out_of_memory<T>() -> ! {
+    handle_alloc_error(Layout::new::<(u32, T)>())
+}
+
+impl<T> Default for HandleMap<T> {
+    fn default() -> Self {
+        Self::new()
+    }
+}
+
+impl<T: fmt::Debug> fmt::Debug for HandleMap<T> {
+    fn fmt(&self, out: &mut fmt::Formatter<'_>) -> fmt::Result {
+        out.debug_map().entries(self).finish()
+    }
+}
+
+/// Where memory runs out, it ends as that of `Vec` does.
+impl<T: Clone> Clone for HandleMap<T> {
+    fn clone(&self) -> Self {
+        let slots = self
+            .iter()
+            .last()
+            .map_or(0, |(last, _)| last.index() as usize + 1);
+        let mut clone = Self::with_capacity(slots).unwrap_or_else(|_| out_of_memory::<T>());
+        clone.extend(self.iter().map(|(handle, value)| (handle, value.clone())));
+        clone
+    }
+}
+
+/// The same handles have equal values.
+impl<T: PartialEq> PartialEq for HandleMap<T> {
+    fn eq(&self, other: &Self) -> bool {
+        self.len() == other.len() && self.iter().eq(other)
+    }
+}
+
+impl<T: Eq> Eq for HandleMap<T> {}
+
+impl<T> Index<Handle> for HandleMap<T> {
+    type Output = T;
+
+    /// The value of the handle.
+    ///
+    /// # Panics
+    ///
+    /// If it has none.
+    #[inline]
+    fn index(&self, handle: Handle) -> &T {
+        match self.get(handle) {
+            Some(value) => value,
+            None => no_value(handle),
+        }
+    }
+}
+
+impl<T> IndexMut<Handle> for HandleMap<T> {
+    #[inline]
+    fn index_mut(&mut self, handle: Handle) -> &mut T {
+        match self.get_mut(handle) {
+            Some(value) => value,
+            None => no_value(handle),
+        }
+    }
+}
+
+#[cold]
+#[inline(never)]
+#[track_caller]
+fn no_value(handle: Handle) -> ! {
+    panic!("{handle} has no value")
+}
+
+/// Inserts each value, in their order, as [`HandleMap::insert`] does. One that is refused, since a
+/// later occupant of its slot has a value, is dropped. Where memory runs out, it ends as that of
+/// `Vec` does.
+impl<T> Extend<(Handle, T)> for HandleMap<T> {
+    fn extend<I: IntoIterator<Item = (Handle, T)>>(&mut self, values: I) {
+        for (handle, value) in values {
+            if let Err(refused) = self.insert(handle, value) {
+                match refused.error {
+                    InsertionError::Later => drop(refused),
+                    InsertionError::Memory => out_of_memory::<T>(),
+                }
+            }
+        }
+    }
+}
+
+/// As `Extend` of an empty map.
+impl<T> FromIterator<(Handle, T)> for HandleMap<T> {
+    fn from_iter<I: IntoIterator<Item = (Handle, T)>>(values: I) -> Self {
+        let mut map = Self::new();
+        map.extend(values);
+        map
+    }
+}
+
+/// The handles and values of a map, by rising slot: [`HandleMap::iter`] makes it.
+pub struct Iter<'a, T> {
+    proved: ent_map::Iter<'a, T>,
+}
+
+impl<'a, T> Iterator for Iter<'a, T> {
+    type Item = (Handle, &'a T);
+
+    #[inline]
+    fn next(&mut self) -> Option<(Handle, &'a T)> {
+        let (handle, value) = self.proved.next()?;
+        Some((Handle::of(handle), value))
+    }
+
+    #[inline]
+    fn size_hint(&self) -> (usize, Option<usize>) {
+        self.proved.size_hint()
+    }
+}
+
+impl<T> ExactSizeIterator for Iter<'_, T> {}
+
+impl<T> FusedIterator for Iter<'_, T> {}
+
+/// The handles and values of a map that is used up, by rising slot. What it wasn't asked for is
+/// dropped with it.
+pub struct IntoIter<T> {
+    map: HandleMap<T>,
+    handles: vec::IntoIter<Handle>,
+}
+
+impl<T> Iterator for IntoIter<T> {
+    type Item = (Handle, T);
+
+    #[inline]
+    fn next(&mut self) -> Option<(Handle, T)> {
+        let handle = self.handles.next()?;
+        Some((handle, self.map.remove(handle)?))
+    }
+
+    #[inline]
+    fn size_hint(&self) -> (usize, Option<usize>) {
+        self.handles.size_hint()
+    }
+}
+
+impl<T> ExactSizeIterator for IntoIter<T> {}
+
+impl<T> FusedIterator for IntoIter<T> {}
+
+impl<'a, T> IntoIterator for &'a HandleMap<T> {
+    type Item = (Handle, &'a T);
+    type IntoIter = Iter<'a, T>;
+
+    #[inline]
+    fn into_iter(self) -> Iter<'a, T> {
+        self.iter()
+    }
+}
+
+/// Where memory runs out for the list of the handles, it ends as that of `Vec` does.
+impl<T> IntoIterator for HandleMap<T> {
+    type Item = (Handle, T);
+    type IntoIter = IntoIter<T>;
+
+    fn into_iter(self) -> IntoIter<T> {
+        let handles: Vec<Handle> = self.keys().collect();
+        IntoIter {
+            map: self,
+            handles: handles.into_iter(),
+        }
+    }
+}
+
+/// Why [`HandleMap::insert`] inserted nothing. Nothing has changed.
+#[derive(Clone, Copy, Debug, PartialEq, Eq, Hash)]
+pub enum InsertionError {
+    /// A later occupant of the slot has a value.
+    Later,
+    /// Memory ran out.
+    Memory,
+}
+
+impl fmt::Display for InsertionError {
+    fn fmt(&self, out: &mut fmt::Formatter<'_>) -> fmt::Result {
+        out.write_str(match self {
+            Self::Later => "a later occupant of the slot has a value",
+            Self::Memory => "out of memory",
+        })
+    }
+}
+
+impl Error for InsertionError {}
+
+/// A value that [`HandleMap::insert`] hands back.
+#[derive(Clone, Copy, PartialEq, Eq)]
+pub struct Uninserted<T> {
+    /// The value.
+    pub value: T,
+    /// Why it was not inserted.
+    pub error: InsertionError,
+}
+
+impl<T> Uninserted<T> {
+    /// The value, and why it was not inserted.
+    #[must_use]
+    pub fn into_parts(self) -> (T, InsertionError) {
+        (self.value, self.error)
+    }
+}
+
+/// Without the value, which need not be one that can be printed.
+impl<T> fmt::Debug for Uninserted<T> {
+    fn fmt(&self, out: &mut fmt::Formatter<'_>) -> fmt::Result {
+        out.debug_struct("Uninserted")
+            .field("error", &self.error)
+            .finish_non_exhaustive()
+    }
+}
+
+impl<T> fmt::Display for Uninserted<T> {
+    fn fmt(&self, out: &mut fmt::Formatter<'_>) -> fmt::Result {
+        self.error.fmt(out)
+    }
+}
+
+impl<T> Error for Uninserted<T> {}
+
+/// Drops the value.
+impl<T> From<Uninserted<T>> for InsertionError {
+    fn from(refused: Uninserted<T>) -> Self {
+        refused.error
+    }
+}
+
+impl<T> From<ent_map::Uninserted<T>> for Uninserted<T> {
+    #[inline]
+    fn from(refused: ent_map::Uninserted<T>) -> Self {
+        Self {
+            value: refused.value,
+            error: match refused.why {
+                InsertFault::Later => InsertionError::Later,
+                InsertFault::Memory => InsertionError::Memory,
+            },
+        }
+    }
+}

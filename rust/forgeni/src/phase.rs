@@ -1,0 +1,114 @@
+//! A phase on a borrow of the allocator.
+
+use crate::entities::Entities;
+use crate::errors::ShareError;
+use crate::lent::Lent;
+use crate::sharing::{Reserver, Shared};
+use alloc::vec::Vec;
+use core::mem;
+
+impl Entities {
+    /// Shares the allocator among `callers` reservers, 1 to 1,024, for as long as `run` takes. After
+    /// it the allocator is back, as [`Shared::close`] gives it back: `run` can lose no reserver,
+    /// since each is only [`Lent`] to it.
+    ///
+    /// ```
+    /// use forgeni::Entities;
+    ///
+    /// let mut entities = Entities::new();
+    /// let first = entities.alloc()?;
+    /// let told = entities.phase(4, |shared, reservers| {
+    ///     assert_eq!(shared.count(), 4);
+    ///     std::thread::scope(|scope| {
+    ///         let tasks: Vec<_> = reservers
+    ///             .iter_mut()
+    ///             .map(|reserver| scope.spawn(move || reserver.reserve_many(10)))
+    ///             .collect();
+    ///         tasks.into_iter().map(|task| task.join().expect("no panic")).collect::<Vec<_>>()
+    ///     })
+    /// })?;
+    /// assert!(told.iter().all(Result::is_ok));
+    /// entities.flush()?;
+    /// assert_eq!(entities.len(), 41);
+    /// assert!(entities.is_alive(first));
+    /// # Ok::<(), Box<dyn std::error::Error + Send + Sync>>(())
+    /// ```
+    ///
+    /// What `run` returns is handed on, so it may end early by `?`:
+    ///
+    /// ```
+    /// use forgeni::{Entities, Refused};
+    ///
+    /// let mut entities = Entities::new();
+    /// let ended: Result<(), Refused> = entities.phase(1, |_, reservers| {
+    ///     reservers[0].reserve()?;
+    ///     Err(Refused::Memory)
+    /// })?;
+    /// assert_eq!(ended, Err(Refused::Memory));
+    /// assert_eq!(entities.reserved(), 1);
+    /// # Ok::<(), forgeni::ShareError>(())
+    /// ```
+    ///
+    /// # Errors
+    ///
+    /// As of [`share`](Self::share). `run` isn't called then, and the allocator is as it was.
+    ///
+    /// # Panics
+    ///
+    /// A panic of `run` is handed on. The allocator is back then too, with all that was reserved.
+    ///
+    /// # Aborts
+    ///
+    /// As of `share`.
+    pub fn phase<T>(
+        &mut self,
+        callers: usize,
+        run: impl FnOnce(&Shared, &mut [Lent<'_>]) -> T,
+    ) -> Result<T, ShareError> {
+        let mut lending = Lending::begin(self, callers)?;
+        let mut lent = Vec::new();
+        if lent.try_reserve_exact(callers).is_err() {
+            return Err(ShareError::Memory);
+        }
+        let Some((shared, reservers)) = &mut lending.parts else {
+            unreachable!("it was just shared")
+        };
+        lent.extend(reservers.iter_mut().map(Lent::of));
+        Ok(run(shared, &mut lent))
+    }
+}
+
+/// An allocator that is away. It comes back when this is dropped, whatever for.
+struct Lending<'a> {
+    home: &'a mut Entities,
+    parts: Option<(Shared, Vec<Reserver>)>,
+}
+
+impl<'a> Lending<'a> {
+    /// Shares the allocator. If that is refused, it is back at once.
+    fn begin(home: &'a mut Entities, callers: usize) -> Result<Self, ShareError> {
+        match mem::take(home).share(callers) {
+            Ok(parts) => Ok(Self {
+                home,
+                parts: Some(parts),
+            }),
+            Err(refused) => {
+                let (entities, error) = refused.into_parts();
+                *home = entities;
+                Err(error)
+            }
+        }
+    }
+}
+
+impl Drop for Lending<'_> {
+    fn drop(&mut self) {
+        let Some((shared, reservers)) = self.parts.take() else {
+            return;
+        };
+        match shared.close(reservers) {
+            Ok(entities) => *self.home = entities,
+            Err(_) => unreachable!("all reservers of the phase are here, and nobody else has one"),
+        }
+    }
+}

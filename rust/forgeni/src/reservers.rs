@@ -1,0 +1,209 @@
+//! A pool of reservers, for threads that come and go.
+
+use crate::errors::OutOfMemory;
+use crate::lent::Lent;
+use crate::sharing::Reserver;
+use alloc::vec::Vec;
+use core::fmt;
+use core::sync::atomic::{AtomicUsize, Ordering};
+use std::sync::{Mutex, MutexGuard, PoisonError, TryLockError};
+use std::thread_local;
+
+/// A pool of reservers, which lends one for as long as a closure takes. It is for task systems, where
+/// who runs a task isn't known before.
+///
+/// It may be shared by any number of threads. It has no order, and no thread has a reserver of its
+/// own. A pool of owned reservers can be kept in an `Arc` or a `static`, and
+/// [`into_inner`](Self::into_inner) gives them back for the close:
+///
+/// ```
+/// use forgeni::{Entities, Reservers};
+///
+/// let (shared, reservers) = Entities::new().share(4)?;
+/// let pool = Reservers::new(reservers)?;
+/// std::thread::scope(|scope| {
+///     for _ in 0..100 {
+///         scope.spawn(|| pool.with(|reserver| reserver.reserve()));
+///     }
+/// });
+/// let mut entities = shared.close(pool.into_inner())?;
+/// entities.flush()?;
+/// assert_eq!(entities.len(), 100);
+/// # Ok::<(), Box<dyn std::error::Error + Send + Sync>>(())
+/// ```
+///
+/// In a [`phase`](crate::Entities::phase) it is made of those that are lent:
+///
+/// ```
+/// use forgeni::{Entities, Reservers};
+///
+/// let mut entities = Entities::new();
+/// entities.phase(2, |_, reservers| {
+///     let pool = Reservers::new(reservers)?;
+///     std::thread::scope(|scope| {
+///         for _ in 0..8 {
+///             scope.spawn(|| pool.with(|reserver| reserver.reserve_many(5)));
+///         }
+///     });
+///     Ok::<(), forgeni::OutOfMemory>(())
+/// })??;
+/// assert_eq!(entities.reserved(), 40);
+/// # Ok::<(), Box<dyn std::error::Error + Send + Sync>>(())
+/// ```
+///
+/// # What it costs
+///
+/// Each reserver has a flag, one atomic word in a cache line of its own. A lending looks up a number
+/// of its thread, and takes the flag of the reserver with that number, or of the next one that is
+/// free. That is one atomic step for each flag that it looks at, and one to give it back. There is no
+/// lock of the pool. So a reservation makes three atomic steps instead of one, and two of them are of
+/// a word that only few threads touch. With as many reservers as threads that run, a thread mostly
+/// finds the first one free.
+///
+/// If none was free when it looked, [`with`](Self::with) waits, as `Mutex` does, until the reserver
+/// with its number is. [`try_with`](Self::try_with) waits for nobody.
+pub struct Reservers<R = Reserver> {
+    places: Vec<Place<R>>,
+}
+
+/// A reserver with its flag. Two of them share no line of a processor's cache.
+#[repr(align(128))]
+struct Place<R>(Mutex<R>);
+
+/// What a [`Reservers`] may have: a [`Reserver`], a [`Lent`], or a `&mut` to one of them.
+///
+/// No other type can have it.
+pub trait Lends: sealed::Lends {}
+
+impl<R: sealed::Lends> Lends for R {}
+
+mod sealed {
+    use super::{Lent, Reserver};
+
+    pub trait Lends {
+        fn lend(&mut self) -> Lent<'_>;
+    }
+
+    impl Lends for Reserver {
+        #[inline]
+        fn lend(&mut self) -> Lent<'_> {
+            Lent::of(self)
+        }
+    }
+
+    impl Lends for Lent<'_> {
+        #[inline]
+        fn lend(&mut self) -> Lent<'_> {
+            self.again()
+        }
+    }
+
+    impl<R: Lends> Lends for &mut R {
+        #[inline]
+        fn lend(&mut self) -> Lent<'_> {
+            (**self).lend()
+        }
+    }
+}
+
+impl<R: Lends> Reservers<R> {
+    /// A pool of these reservers, which may be of several phases. There has to be one at least.
+    ///
+    /// # Errors
+    ///
+    /// `OutOfMemory` if there is none for the list of them. The reservers are dropped then: make the
+    /// pool of `&mut` to them if they have to stay.
+    pub fn new(reservers: impl IntoIterator<Item = R>) -> Result<Self, OutOfMemory> {
+        let mut places = Vec::new();
+        for reserver in reservers {
+            places.try_reserve(1)?;
+            places.push(Place(Mutex::new(reserver)));
+        }
+        Ok(Self { places })
+    }
+
+    /// How many reservers it has.
+    #[must_use]
+    pub fn count(&self) -> usize {
+        self.places.len()
+    }
+
+    /// Lends a reserver to `run`, and returns what that returns. It waits only if none was free.
+    ///
+    /// A `with` within a `with` takes one reserver more. If it takes the last one twice, it waits for
+    /// itself for good, so there [`try_with`](Self::try_with) is the call to make.
+    ///
+    /// # Panics
+    ///
+    /// If the pool has no reservers. A panic of `run` is handed on, and the reserver is as good as
+    /// before.
+    pub fn with<T>(&self, run: impl FnOnce(&mut Lent<'_>) -> T) -> T {
+        let mut reserver = self.free().unwrap_or_else(|| self.awaited());
+        run(&mut reserver.lend())
+    }
+
+    /// Lends a reserver to `run`, and returns what that returns, or `None` at once if none was free.
+    ///
+    /// # Panics
+    ///
+    /// A panic of `run` is handed on, and the reserver is as good as before.
+    pub fn try_with<T>(&self, run: impl FnOnce(&mut Lent<'_>) -> T) -> Option<T> {
+        let mut reserver = self.free()?;
+        Some(run(&mut reserver.lend()))
+    }
+
+    /// The first reserver that is free, from that with the thread's number on.
+    fn free(&self) -> Option<MutexGuard<'_, R>> {
+        let start = own_number() % self.places.len().max(1);
+        let (before, from) = self.places.split_at(start);
+        from.iter().chain(before).find_map(Place::try_take)
+    }
+
+    /// The reserver with the thread's number, when it is free.
+    fn awaited(&self) -> MutexGuard<'_, R> {
+        let place = &self.places[own_number() % self.places.len()];
+        // A panic can't leave a reserver half done: none comes from a reservation.
+        place.0.lock().unwrap_or_else(PoisonError::into_inner)
+    }
+}
+
+impl<R> Reservers<R> {
+    /// The reservers, in the order in which they came.
+    ///
+    /// Where memory runs out for the list, it ends as `Vec` does.
+    #[must_use]
+    pub fn into_inner(self) -> Vec<R> {
+        let places = self.places.into_iter();
+        places.map(Place::into_inner).collect()
+    }
+}
+
+impl<R> Place<R> {
+    fn try_take(&self) -> Option<MutexGuard<'_, R>> {
+        match self.0.try_lock() {
+            Ok(reserver) => Some(reserver),
+            Err(TryLockError::Poisoned(poisoned)) => Some(poisoned.into_inner()),
+            Err(TryLockError::WouldBlock) => None,
+        }
+    }
+
+    fn into_inner(self) -> R {
+        self.0.into_inner().unwrap_or_else(PoisonError::into_inner)
+    }
+}
+
+/// A number of this thread. Those of threads that were started one after the other are so too.
+fn own_number() -> usize {
+    static NEXT: AtomicUsize = AtomicUsize::new(0);
+    thread_local!(static OWN: usize = NEXT.fetch_add(1, Ordering::Relaxed));
+    // A thread that ends has none any more.
+    OWN.try_with(|own| *own).unwrap_or(0)
+}
+
+impl<R> fmt::Debug for Reservers<R> {
+    fn fmt(&self, out: &mut fmt::Formatter<'_>) -> fmt::Result {
+        out.debug_struct("Reservers")
+            .field("count", &self.places.len())
+            .finish_non_exhaustive()
+    }
+}

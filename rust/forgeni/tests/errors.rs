@@ -1,0 +1,152 @@
+//! Errors travel: by `?` into a box for any thread, and apart from what they hand back.
+
+use forgeni::{
+    Absent, AllocError, BornError, CloseError, CommandQueue, Commands, ComponentId, Entities,
+    Fault, FinishError, FreeError, Freed, GoOnError, Handle, HandleMap, InsertError,
+    InsertionError, Lent, Limits, OpenError, OpenWorld, OtherPhase, OutOfMemory, ParseHandleError,
+    Queues, Refused, Report, RequestError, RequestManyError, Reserver, ShareError, Shared,
+    SpawnError, State, Stopped, Storage, SyncError, SyncErrorKind, Unallocated, Unclosed,
+    Unfinished, Uninserted, Unopened, Unshared, World,
+};
+use std::error::Error;
+
+/// An error that can be boxed for any thread.
+fn travels<E: Error + Send + Sync + 'static>() {}
+
+fn shared_by_threads<T: Send + Sync>() {}
+
+#[test]
+fn each_error_travels() {
+    travels::<Absent>();
+    travels::<AllocError>();
+    travels::<BornError>();
+    travels::<CloseError>();
+    travels::<FinishError>();
+    travels::<FreeError>();
+    travels::<GoOnError>();
+    travels::<InsertionError>();
+    travels::<Uninserted<String>>();
+    travels::<InsertError>();
+    travels::<OpenError>();
+    travels::<OtherPhase>();
+    travels::<OutOfMemory>();
+    travels::<ParseHandleError>();
+    travels::<Refused>();
+    travels::<RequestError>();
+    travels::<RequestManyError>();
+    travels::<ShareError>();
+    travels::<SpawnError>();
+    travels::<SyncError>();
+    travels::<SyncErrorKind>();
+    travels::<Unallocated>();
+    travels::<Unclosed>();
+    travels::<Unfinished>();
+    travels::<Unopened>();
+    travels::<Unshared>();
+    #[cfg(feature = "std")]
+    travels::<forgeni::FrameError>();
+}
+
+/// What is read through a shared reference can be read by many threads at once.
+#[test]
+fn each_type_is_send_and_sync() {
+    shared_by_threads::<(Handle, Limits, State, Freed, ComponentId)>();
+    shared_by_threads::<(Entities, Shared, Reserver, Lent<'_>)>();
+    shared_by_threads::<(World, OpenWorld, Commands, CommandQueue, Queues)>();
+    shared_by_threads::<(Storage, Report, Fault, Stopped)>();
+    shared_by_threads::<HandleMap<String>>();
+    #[cfg(feature = "std")]
+    shared_by_threads::<(forgeni::Reservers, forgeni::Reservers<Lent<'_>>)>();
+}
+
+type Boxed = Box<dyn Error + Send + Sync>;
+
+/// A share without callers.
+fn not_shared() -> Result<(), Boxed> {
+    Entities::new().share(0)?;
+    Ok(())
+}
+
+/// A close without a reserver.
+fn not_closed() -> Result<(), Boxed> {
+    let (shared, _reservers) = Entities::new().share(2)?;
+    shared.close(vec![])?;
+    Ok(())
+}
+
+/// A world without systems, and one whose queues are lost.
+fn not_opened() -> Result<(), Boxed> {
+    World::new().open(0)?;
+    Ok(())
+}
+
+fn not_finished() -> Result<(), Boxed> {
+    let (open, _systems) = World::new().open(1)?;
+    open.close(vec![])?;
+    Ok(())
+}
+
+/// Queues of another world.
+fn not_applied() -> Result<(), Boxed> {
+    let (open, systems) = World::new().open(1)?;
+    let queues = systems.into_iter().map(Commands::finish).collect();
+    let (_, queues) = open.close(queues)?;
+    World::new().apply(queues)?;
+    Ok(())
+}
+
+#[test]
+fn each_is_handed_on() {
+    let said = |ran: Result<(), Boxed>| ran.expect_err("refused").to_string();
+    assert_eq!(
+        said(not_shared()),
+        "an allocator is shared among 1 to 1,024 callers"
+    );
+    assert_eq!(said(not_closed()), "missing reservers: 2");
+    assert_eq!(said(not_opened()), "a phase has 1 to 1,024 systems");
+    assert_eq!(said(not_finished()), "missing queues: 1");
+    assert_eq!(said(not_applied()), "the queues are of another world");
+}
+
+/// On the other side of a thread it is still the error that it was.
+#[test]
+fn an_error_of_another_thread() {
+    let ran = std::thread::spawn(not_shared)
+        .join()
+        .expect("it doesn't panic");
+    let refused = ran.expect_err("refused").downcast::<Unshared>();
+    let (entities, error) = refused.expect("of this type").into_parts();
+    assert_eq!((entities.len(), error), (0, ShareError::Count));
+}
+
+/// What is handed back goes on, and the plain error stays beside it.
+#[test]
+fn the_parts_of_each() {
+    let (shared, reservers) = Entities::new().share(1).expect("shared");
+    let refused = shared.close(vec![]).expect_err("one is missing");
+    let (shared, none, error) = refused.into_parts();
+    assert_eq!((none.len(), error), (0, CloseError::Missing { count: 1 }));
+    assert!(shared.close(reservers).is_ok());
+
+    let refused = World::new().open(0).expect_err("no systems");
+    let (world, error) = refused.into_parts();
+    assert_eq!((world.len(), error), (0, OpenError::Count));
+    let (open, systems) = world.open(2).expect("opened");
+    let refused = open.close(vec![]).expect_err("two are missing");
+    let (open, none, error) = refused.into_parts();
+    assert_eq!((none.len(), error), (0, FinishError::Missing { count: 2 }));
+    let queues = systems.into_iter().map(Commands::finish).collect();
+    let (mut world, queues) = open.close(queues).expect("closed");
+
+    let refused = World::new().apply(queues).expect_err("of another world");
+    let (left, error) = refused.into_parts();
+    assert_eq!(error, SyncErrorKind::OtherWorld);
+    let queues = left.expect("nothing was done");
+    assert!(world.apply(queues).is_ok());
+
+    let mut entities = Entities::with_limits(Limits::new(2, 1).expect("limits"));
+    let refused = entities.alloc_many(3).expect_err("there are two");
+    assert_eq!(refused.to_string(), AllocError::Space.to_string());
+    assert_eq!(refused.into_parts(), (vec![], AllocError::Space));
+    assert!(entities.is_empty() && !entities.needs_flush());
+}

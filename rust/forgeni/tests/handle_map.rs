@@ -1,0 +1,482 @@
+//! Maps from handles beside `HashMap`: random calls, at three types of values, each of which is
+//! dropped exactly once. `FORGENI_SEEDS` sets how many seeds are run, `FORGENI_SEED` runs one alone.
+
+mod common;
+
+use common::{handle, seeds, Numbers};
+use forgeni::{Handle, HandleMap, InsertionError};
+use std::cell::Cell;
+use std::collections::HashMap;
+use std::fmt::Debug;
+use std::panic::{catch_unwind, resume_unwind, AssertUnwindSafe};
+use std::rc::Rc;
+
+/// A type of values.
+trait Value: Clone + PartialEq + Debug {
+    /// The value of a number.
+    fn of(number: u32) -> Self;
+}
+
+/// It owns memory.
+impl Value for String {
+    fn of(number: u32) -> Self {
+        format!("value {number}")
+    }
+}
+
+/// It has no size.
+impl Value for () {
+    fn of(_: u32) -> Self {}
+}
+
+/// It is `Copy`.
+impl Value for u64 {
+    fn of(number: u32) -> Self {
+        u64::from(number) << 40
+    }
+}
+
+/// A `HashMap`, with at most one handle of a slot.
+#[derive(Clone)]
+struct Model<T>(HashMap<Handle, T>);
+
+impl<T: Value> Model<T> {
+    /// The handle of the slot that has a value.
+    fn occupant(&self, index: u32) -> Option<Handle> {
+        self.0.keys().copied().find(|one| one.index() == index)
+    }
+
+    fn insert(&mut self, one: Handle, value: T) -> Result<Option<T>, (T, InsertionError)> {
+        if let Some(there) = self.occupant(one.index()) {
+            if there > one {
+                return Err((value, InsertionError::Later));
+            }
+            if there < one {
+                self.0.remove(&there);
+            }
+        }
+        Ok(self.0.insert(one, value))
+    }
+
+    /// All that it has, by rising slot.
+    fn all(&self) -> Vec<(Handle, T)> {
+        let mut all: Vec<_> = self.0.clone().into_iter().collect();
+        all.sort_by_key(|(one, _)| *one);
+        all
+    }
+
+    /// Compares all that can be told of the map.
+    fn expect(&self, map: &HandleMap<T>, place: &str) {
+        let all = self.all();
+        assert_eq!(
+            (map.len(), map.is_empty()),
+            (all.len(), all.is_empty()),
+            "{place}"
+        );
+        assert_eq!(map.iter().len(), all.len(), "{place}");
+        let told = map.iter().map(|(one, value)| (one, value.clone()));
+        assert_eq!(told.collect::<Vec<_>>(), all, "{place}");
+        assert!(map.keys().eq(all.iter().map(|(one, _)| *one)), "{place}");
+        assert!(
+            map.values().eq(all.iter().map(|(_, value)| value)),
+            "{place}"
+        );
+        for index in 0..10 {
+            for generation in 1..5 {
+                let one = handle(index, generation);
+                assert_eq!(map.get(one), self.0.get(&one), "{place}: {one}");
+                assert_eq!(
+                    map.contains(one),
+                    self.0.contains_key(&one),
+                    "{place}: {one}"
+                );
+            }
+        }
+    }
+}
+
+fn run<T: Value>(seed: u64) {
+    let mut numbers = Numbers::of(seed);
+    let mut model = Model(HashMap::new());
+    let mut map: HandleMap<T> = HandleMap::new();
+    for step in 0..60 {
+        let place = format!("seed {seed}, step {step}");
+        let one = handle(numbers.below(10) as u32, 1 + numbers.below(4) as u32);
+        let value = T::of(numbers.below(1000) as u32);
+        match numbers.below(21) {
+            0..=9 => {
+                let inserted = map.insert(one, value.clone());
+                let told = inserted.map_err(|refused| refused.into_parts());
+                assert_eq!(told, model.insert(one, value), "{place}: insert {one}");
+            }
+            10..=13 => {
+                assert_eq!(
+                    map.remove(one),
+                    model.0.remove(&one),
+                    "{place}: remove {one}"
+                );
+            }
+            14 | 15 => {
+                let (here, there) = (map.get_mut(one), model.0.get_mut(&one));
+                assert_eq!(here, there, "{place}: get_mut {one}");
+                for slot in here.into_iter().chain(there) {
+                    *slot = value.clone();
+                }
+            }
+            16 => {
+                map.for_each_mut(|one, slot| *slot = T::of(one.index()));
+                for (one, slot) in &mut model.0 {
+                    *slot = T::of(one.index());
+                }
+            }
+            17 => {
+                let clone = map.clone();
+                assert_eq!(clone, map, "{place}: clone");
+                map = clone.into_iter().collect();
+            }
+            20 => {
+                let odd = numbers.below(2) as u32;
+                let mut told = vec![];
+                map.retain(|one, slot| {
+                    told.push((one, slot.clone()));
+                    *slot = T::of(one.generation());
+                    (one.index() + one.generation()) % 2 == odd
+                });
+                assert_eq!(told, model.all(), "{place}: retain");
+                model.0.retain(|one, slot| {
+                    *slot = T::of(one.generation());
+                    (one.index() + one.generation()) % 2 == odd
+                });
+            }
+            18 if numbers.below(4) == 0 => {
+                map.clear();
+                model.0.clear();
+            }
+            18 => {
+                let slots = numbers.below(30) as usize;
+                map.reserve(slots).expect("memory");
+                assert!(map.capacity() >= slots, "{place}: reserve");
+            }
+            _ => {
+                let count = numbers.below(4);
+                let some: Vec<(Handle, T)> = (0..count)
+                    .map(|at| {
+                        (
+                            handle(at as u32, 1 + numbers.below(4) as u32),
+                            value.clone(),
+                        )
+                    })
+                    .collect();
+                map.extend(some.clone());
+                for (one, value) in some {
+                    let _ = model.insert(one, value);
+                }
+            }
+        }
+        assert_eq!(map.get(one), model.0.get(&one), "{place}: {one}");
+        assert_eq!(map.len(), model.0.len(), "{place}: len");
+        if step % 10 == 0 {
+            model.expect(&map, &place);
+        }
+    }
+    model.expect(&map, &format!("seed {seed}"));
+    assert_eq!(
+        map.into_iter().collect::<Vec<_>>(),
+        model.all(),
+        "seed {seed}"
+    );
+}
+
+#[test]
+fn random_calls_with_values_that_own_memory() {
+    seeds(5_000, run::<String>);
+}
+
+#[test]
+fn random_calls_with_values_of_no_size() {
+    seeds(5_000, run::<()>);
+}
+
+#[test]
+fn random_calls_with_values_that_are_copied() {
+    seeds(5_000, run::<u64>);
+}
+
+/// A value that counts how often it is dropped: the count of its number.
+struct Counted(Rc<Vec<Cell<u32>>>, usize);
+
+impl Drop for Counted {
+    fn drop(&mut self) {
+        let count = &self.0[self.1];
+        count.set(count.get() + 1);
+    }
+}
+
+/// Of random calls, whatever they do with a value: in the end each was dropped exactly once.
+#[test]
+fn each_value_is_dropped_once() {
+    seeds(2_000, |seed| {
+        let mut numbers = Numbers::of(seed);
+        let drops = Rc::new(vec![Cell::new(0); 200]);
+        let mut made = 0..200;
+        let mut map = HandleMap::new();
+        let mut kept = vec![];
+        for _ in 0..100 {
+            let one = handle(numbers.below(8) as u32, 1 + numbers.below(3) as u32);
+            let mut value = || Counted(Rc::clone(&drops), made.next().expect("there are enough"));
+            match numbers.below(12) {
+                0..=6 => {
+                    // What comes back is kept or dropped here.
+                    let back = match map.insert(one, value()) {
+                        Ok(before) => before,
+                        Err(refused) => Some(refused.into_parts().0),
+                    };
+                    if numbers.below(2) == 0 {
+                        kept.extend(back);
+                    }
+                }
+                7 | 8 => kept.extend(map.remove(one)),
+                9 => map.extend([(one, value())]),
+                10 => {
+                    if let Some(slot) = map.get_mut(one) {
+                        *slot = value();
+                    }
+                }
+                _ if numbers.below(6) == 0 => map.clear(),
+                _ if numbers.below(3) == 0 => map.retain(|one, _| one.index() % 3 > 0),
+                _ => {
+                    let mut all = map.into_iter();
+                    kept.extend(all.next().map(|(_, value)| value));
+                    map = all.take(5).collect();
+                }
+            }
+            let living = map.len() + kept.len();
+            let dropped: u32 = drops.iter().map(Cell::get).sum();
+            assert_eq!(living + dropped as usize, made.start, "seed {seed}");
+        }
+        drop(map);
+        drop(kept);
+        let count = made.start;
+        assert!(
+            drops[..count].iter().all(|count| count.get() == 1),
+            "seed {seed}"
+        );
+        assert!(
+            drops[count..].iter().all(|count| count.get() == 0),
+            "seed {seed}"
+        );
+    });
+}
+
+/// A map that outgrows its room many times keeps all that it has.
+#[test]
+fn growth_keeps_all() {
+    let mut map = HandleMap::new();
+    for index in 0..5_000 {
+        assert_eq!(map.insert(handle(index, 1), index).expect("memory"), None);
+        assert_eq!(map.len(), index as usize + 1);
+    }
+    let told = map.iter().map(|(one, value)| (one, *value));
+    assert!(told.eq((0..5_000).map(|index| (handle(index, 1), index))));
+    // From the end to the front, and with holes.
+    let mut map = HandleMap::new();
+    for index in (0..5_000).rev().step_by(7) {
+        map.insert(handle(index, 2), index.to_string())
+            .expect("memory");
+    }
+    assert!(map
+        .iter()
+        .all(|(one, value)| one.index().to_string() == *value));
+    assert_eq!((map.len(), map.iter().count()), (715, 715));
+}
+
+/// A value of a slot's earlier occupant isn't that of the new one, and goes when that gets one.
+#[test]
+fn occupants_of_one_slot() {
+    let mut map = HandleMap::new();
+    let [first, second] = [handle(3, 1), handle(3, 2)];
+    map.insert(first, "first").expect("memory");
+    assert!(map.get(second).is_none() && map.remove(second).is_none());
+    assert_eq!(map.get_mut(second), None);
+    assert_eq!(map.insert(second, "second").expect("memory"), None);
+    assert_eq!((map.len(), map.get(first)), (1, None));
+    let refused = map
+        .insert(first, "again")
+        .expect_err("it is an earlier one");
+    assert_eq!(
+        refused.to_string(),
+        "a later occupant of the slot has a value"
+    );
+    assert_eq!(refused.into_parts(), ("again", InsertionError::Later));
+    assert_eq!(map[second], "second");
+    // With the later one gone the earlier one may come again.
+    assert_eq!(map.remove(second), Some("second"));
+    assert_eq!(map.insert(first, "again").expect("memory"), None);
+}
+
+#[test]
+fn capacity_and_room() {
+    let mut map: HandleMap<u8> = HandleMap::new();
+    assert_eq!(map.capacity(), 0);
+    map.reserve(100).expect("memory");
+    let room = map.capacity();
+    assert!(room >= 100);
+    map.insert(handle(99, 1), 1).expect("memory");
+    assert_eq!(map.capacity(), room);
+    map.clear();
+    assert_eq!(
+        (map.capacity(), map.len(), map.iter().next()),
+        (room, 0, None)
+    );
+    assert!(
+        HandleMap::<u8>::with_capacity(50)
+            .expect("memory")
+            .capacity()
+            >= 50
+    );
+    // More slots than there can be.
+    assert!(HandleMap::<u64>::with_capacity(usize::MAX).is_err());
+    assert!(map.reserve(usize::MAX).is_err());
+    assert_eq!(map.capacity(), room);
+}
+
+#[test]
+fn indexing() {
+    let mut map: HandleMap<Vec<u32>> = [(handle(1, 1), vec![1])].into_iter().collect();
+    map[handle(1, 1)].push(2);
+    assert_eq!(map[handle(1, 1)], [1, 2]);
+    let panic = catch_unwind(|| map[handle(1, 2)].len()).expect_err("it has none");
+    assert_eq!(
+        panic.downcast_ref::<String>().expect("a text"),
+        "1v2 has no value"
+    );
+}
+
+#[test]
+fn what_it_prints() {
+    let map: HandleMap<&str> = [(handle(7, 2), "b"), (handle(0, 1), "a")]
+        .into_iter()
+        .collect();
+    assert_eq!(format!("{map:?}"), "{0v1: \"a\", 7v2: \"b\"}");
+    assert_eq!(format!("{:?}", HandleMap::<u8>::default()), "{}");
+}
+
+/// Maps that are equal have the same handles with equal values, whatever room they have.
+#[test]
+fn equality() {
+    let pairs = [(handle(0, 1), 1), (handle(5, 2), 2)];
+    let map: HandleMap<u32> = pairs.into_iter().collect();
+    let mut other = HandleMap::with_capacity(100).expect("memory");
+    other.extend(pairs.into_iter().rev());
+    assert_eq!(map, other);
+    other[handle(5, 2)] = 3;
+    assert_ne!(map, other);
+    other.remove(handle(5, 2));
+    assert_ne!(map, other);
+    other.insert(handle(5, 3), 2).expect("memory");
+    assert_ne!(map, other);
+}
+
+/// A map of values that may go to other threads may go there too, and be read by many.
+#[test]
+fn threads() {
+    let map: HandleMap<u32> = (0..100).map(|index| (handle(index, 1), index)).collect();
+    std::thread::scope(|scope| {
+        for from in 0..4 {
+            let map = &map;
+            scope.spawn(move || {
+                for index in (from..100).step_by(4) {
+                    assert_eq!(map[handle(index, 1)], index);
+                }
+            });
+        }
+    });
+    let ended = std::thread::spawn(move || map.len()).join();
+    assert_eq!(ended.expect("no panic"), 100);
+    static EMPTY: HandleMap<u32> = HandleMap::new();
+    assert!(EMPTY.is_empty());
+}
+
+/// Panics as it is dropped, if it is told to.
+struct Loud<'a>(&'a Cell<u32>, bool);
+
+impl Drop for Loud<'_> {
+    fn drop(&mut self) {
+        self.0.set(self.0.get() + 1);
+        if self.1 && !std::thread::panicking() {
+            resume_unwind(Box::new("dropped"));
+        }
+    }
+}
+
+/// A value that panics as it is dropped leaves a map with the others, and all its numbers right.
+#[test]
+fn a_drop_that_panics() {
+    let drops = Cell::new(0);
+    let full = || {
+        let mut map = HandleMap::new();
+        for index in 0..5 {
+            let value = Loud(&drops, index == 2);
+            assert!(map.insert(handle(index, 1), value).is_ok());
+        }
+        map
+    };
+    let right = |map: &HandleMap<Loud<'_>>| {
+        assert_eq!(
+            (map.len(), map.iter().len()),
+            (map.iter().count(), map.iter().count())
+        );
+        assert_eq!(map.is_empty(), map.iter().next().is_none());
+    };
+    // The value of an earlier occupant goes.
+    let mut map = full();
+    let next = Loud(&drops, false);
+    let ran = catch_unwind(AssertUnwindSafe(|| map.insert(handle(2, 2), next).is_ok()));
+    assert!(ran.is_err());
+    right(&map);
+    assert_eq!(drops.get(), 1);
+    assert!(map.contains(handle(2, 2)) && map.len() == 5);
+    drop(map);
+    assert_eq!(drops.get(), 6);
+
+    // All go.
+    let mut map = full();
+    assert!(catch_unwind(AssertUnwindSafe(|| map.clear())).is_err());
+    right(&map);
+    assert!(map.insert(handle(9, 1), Loud(&drops, false)).is_ok());
+    right(&map);
+    drop(map);
+    assert_eq!(drops.get(), 12);
+
+    let map = full();
+    assert!(catch_unwind(AssertUnwindSafe(|| drop(map))).is_err());
+    assert_eq!(drops.get(), 17);
+
+    // Some go.
+    let mut map = full();
+    let none = catch_unwind(AssertUnwindSafe(|| map.retain(|_, _| false)));
+    assert!(none.is_err());
+    right(&map);
+    assert!(map.keys().eq([handle(3, 1), handle(4, 1)]));
+    assert_eq!(drops.get(), 20);
+}
+
+/// A closure that panics: what it was called at before is kept or gone as it said.
+#[test]
+fn a_closure_that_panics() {
+    let mut map: HandleMap<u32> = (0..5).map(|index| (handle(index, 1), index)).collect();
+    let ran = catch_unwind(AssertUnwindSafe(|| {
+        map.retain(|_, value| {
+            if *value == 3 {
+                resume_unwind(Box::new("stopped"));
+            }
+            *value += 10;
+            *value != 11
+        })
+    }));
+    assert!(ran.is_err());
+    assert_eq!(map.len(), 4);
+    assert!(map.values().eq(&[10, 12, 3, 4]));
+    map.for_each_mut(|_, value| *value += 1);
+    assert!(map.values().eq(&[11, 13, 4, 5]));
+}

@@ -1,0 +1,359 @@
+//! A phase on a borrow of the allocator, and pools of reservers: whatever its closure does, the
+//! allocator is back at the end, with all that was reserved.
+
+mod common;
+
+use common::{handle, seeds, small, Model, Numbers};
+use forgeni::{Entities, Handle, Lent, OtherPhase, Refused, ShareError};
+use std::collections::HashSet;
+use std::mem;
+use std::panic::{catch_unwind, resume_unwind, AssertUnwindSafe};
+
+#[test]
+fn the_allocator_is_back() {
+    let mut entities = small(5, 9);
+    let first = entities.alloc().expect("a handle");
+    let told = entities
+        .phase(2, |shared, reservers| {
+            assert_eq!((shared.count(), shared.at_home()), (2, 0));
+            assert_eq!((reservers.len(), reservers[1].number()), (2, 1));
+            assert!(reservers[0].is_of(shared));
+            (reservers[0].reserve(), reservers[1].reserve_many(2))
+        })
+        .expect("shared");
+    assert_eq!(
+        told,
+        (Ok(handle(1, 1)), Ok(vec![handle(2, 1), handle(3, 1)]))
+    );
+    assert_eq!((entities.reserved(), entities.asked()), (3, 3));
+    assert!(entities.is_alive(first) && entities.contains(handle(3, 1)));
+    assert_eq!(entities.flush().expect("memory").len(), 3);
+    assert_eq!(entities.alloc(), Ok(handle(4, 1)));
+}
+
+#[test]
+fn a_phase_that_is_refused() {
+    let mut entities = small(5, 9);
+    let first = entities.alloc().expect("a handle");
+    for callers in [0, 1025, usize::MAX] {
+        let ran = entities.phase(callers, |_, _| panic!("it isn't called"));
+        assert_eq!(ran, Err(ShareError::Count));
+        assert!(entities.is_alive(first));
+    }
+    entities.request().expect("a handle");
+    let ran = entities.phase(1, |_, _| panic!("it isn't called"));
+    assert_eq!(ran, Err(ShareError::NeedsFlush));
+    assert_eq!((entities.reserved(), entities.len()), (1, 1));
+}
+
+/// What lived as the phase was opened is told to every thread, whatever is reserved meanwhile.
+#[test]
+fn what_lives_in_a_phase() {
+    let mut entities = small(300, 9);
+    let all = entities.alloc_many(200).expect("memory");
+    for (row, one) in (0..).zip(&all) {
+        entities.set_row(*one, row).expect("alive");
+    }
+    for one in all.iter().step_by(2) {
+        entities.free(*one).expect("alive");
+    }
+    let bare = entities.alloc().expect("a slot");
+    let living: HashSet<Handle> = entities.iter().collect();
+    entities
+        .phase(4, |shared, reservers| {
+            std::thread::scope(|scope| {
+                for one in reservers {
+                    scope.spawn(|| {
+                        let new = one.reserve_many(40).expect("room");
+                        assert!(new.iter().all(|new| !shared.is_alive(*new)));
+                        for (row, old) in (0..).zip(&all) {
+                            let lives = living.contains(old);
+                            assert_eq!(shared.is_alive(*old), lives);
+                            assert_eq!(one.is_alive(*old), lives);
+                            assert_eq!(shared.row(*old), lives.then_some(row));
+                            assert_eq!(one.row(*old), lives.then_some(row));
+                        }
+                        assert!(shared.is_alive(bare) && shared.row(bare).is_none());
+                        assert!(!shared.is_alive(Handle::PLACEHOLDER));
+                    });
+                }
+            });
+        })
+        .expect("shared");
+    entities.flush().expect("memory");
+    assert_eq!(entities.len() as usize, living.len() + 160);
+    assert!(living.iter().all(|one| entities.is_alive(*one)));
+    assert_eq!(entities.row(all[5]), Some(5));
+}
+
+/// The closure ends early. What was reserved until then counts.
+#[test]
+fn an_early_end() {
+    let mut entities = small(3, 1);
+    let ran = entities.phase(1, |_, reservers| {
+        reservers[0].reserve_many(2)?;
+        reservers[0].reserve_many(2)?;
+        Ok::<(), Refused>(())
+    });
+    assert_eq!(ran, Ok(Err(Refused::Space { wanted: 2, left: 1 })));
+    // All reservers are there, so it is known that the second one was refused.
+    assert_eq!((entities.asked(), entities.reserved()), (4, 2));
+    assert_eq!(entities.flush().expect("memory").len(), 2);
+}
+
+/// The closure panics, on its thread or on another one.
+#[test]
+fn a_panic() {
+    let mut entities = small(9, 1);
+    let ran = catch_unwind(AssertUnwindSafe(|| {
+        entities.phase(3, |_, reservers| {
+            std::thread::scope(|scope| {
+                for (count, one) in (1..).zip(reservers) {
+                    scope.spawn(move || {
+                        one.reserve_many(count).expect("room");
+                        if count == 2 {
+                            resume_unwind(Box::new("stopped"));
+                        }
+                    });
+                }
+            });
+        })
+    }));
+    assert!(ran.is_err());
+    assert_eq!((entities.asked(), entities.reserved()), (6, 6));
+    entities.flush().expect("memory");
+    assert_eq!(entities.len(), 6);
+    let ran = catch_unwind(AssertUnwindSafe(|| {
+        entities.phase(1, |_, reservers| {
+            reservers[0].reserve().expect("room");
+            resume_unwind(Box::new("stopped"))
+        })
+    }));
+    let ran: Result<Result<(), _>, _> = ran;
+    assert!(ran.is_err());
+    assert_eq!((entities.len(), entities.reserved()), (6, 1));
+}
+
+/// What is lent can be dropped, forgotten, and put in another's place. The phase has all the same.
+#[test]
+fn a_reserver_can_not_be_kept() {
+    let (mut first, mut second) = (Entities::new(), Entities::new());
+    first
+        .phase(2, |here, a| {
+            second
+                .phase(2, |there, b| {
+                    // They are of two phases, and it is known of which.
+                    assert_eq!(a[0].meet(&mut b[0]), Err(OtherPhase));
+                    b[0].reserve().expect("a handle");
+                    assert!(!b[0].is_of(here) && b[0].is_of(there));
+                })
+                .expect("shared");
+            let (one, other) = a.split_at_mut(1);
+            mem::swap(&mut one[0], &mut other[0]);
+            assert_eq!((a[0].number(), a[1].number()), (1, 0));
+            a[0].reserve_many(3).expect("handles");
+        })
+        .expect("shared");
+    assert_eq!((first.reserved(), second.reserved()), (3, 1));
+}
+
+/// A phase within a phase of the same allocator sees an empty one? No: the allocator is away, so it
+/// can't even be named. This one is of another allocator, on each of several threads.
+#[test]
+fn phases_side_by_side() {
+    let mut all: Vec<Entities> = (0..4).map(|_| Entities::new()).collect();
+    std::thread::scope(|scope| {
+        for (count, entities) in all.iter_mut().enumerate() {
+            scope.spawn(move || {
+                for _ in 0..100 {
+                    entities
+                        .phase(1 + count, |_, reservers| {
+                            for one in reservers {
+                                one.reserve().expect("a handle");
+                            }
+                        })
+                        .expect("shared");
+                    entities.flush().expect("memory");
+                }
+            });
+        }
+    });
+    let sizes: Vec<u32> = all.iter().map(Entities::len).collect();
+    assert_eq!(sizes, [100, 200, 300, 400]);
+}
+
+/// What phases of random requests tell is what the model says, one after the other.
+#[test]
+fn random_phases() {
+    seeds(2_000, |seed| {
+        let mut numbers = Numbers::of(seed);
+        let slots = 1 + numbers.below(12) as u32;
+        let mut model = Model::new(slots, 3);
+        let mut entities = small(slots, 3);
+        for _ in 0..4 {
+            let callers = 1 + numbers.below(4) as usize;
+            entities
+                .phase(callers, |_, reservers| {
+                    for _ in 0..numbers.below(6) {
+                        let one = &mut reservers[numbers.below(callers as u64) as usize];
+                        let n = numbers.below(4) as u32;
+                        assert_eq!(one.reserve_many(n), model.reserve(n), "seed {seed}");
+                    }
+                })
+                .expect("shared");
+            model.expect(&entities, &format!("seed {seed}"));
+            assert_eq!(entities.flush(), Ok(model.flush()));
+            for one in model.live.clone() {
+                if numbers.below(2) == 0 {
+                    assert_eq!(entities.free(one), model.free(one));
+                }
+            }
+        }
+    });
+}
+
+fn all_of(reserver: &mut Lent<'_>, n: u32) -> Vec<Handle> {
+    reserver.reserve_many(n).expect("handles")
+}
+
+#[cfg(feature = "std")]
+mod pools {
+    use super::*;
+    use forgeni::{OutOfMemory, Reservers};
+    use std::sync::atomic::{AtomicUsize, Ordering};
+    use std::sync::{Arc, Barrier};
+
+    /// More threads than reservers, each of which comes for a while. No handle is given twice.
+    #[test]
+    fn threads_that_come_and_go() {
+        for (reservers, threads) in [(1, 4), (3, 8), (8, 8), (16, 5)] {
+            let mut entities = Entities::new();
+            let told = entities
+                .phase(reservers, |_, reservers| {
+                    let pool = Reservers::new(reservers).expect("memory");
+                    std::thread::scope(|scope| {
+                        let task = || -> Vec<Handle> {
+                            let lent = (0..200).map(|_| pool.with(|one| all_of(one, 2)));
+                            lent.flatten().collect()
+                        };
+                        let running: Vec<_> = (0..threads).map(|_| scope.spawn(task)).collect();
+                        let ended = running.into_iter().map(|thread| thread.join());
+                        ended.flat_map(|told| told.expect("no panic")).collect()
+                    })
+                })
+                .expect("shared");
+            let told: Vec<Handle> = told;
+            let once: HashSet<Handle> = told.iter().copied().collect();
+            assert_eq!((told.len(), once.len()), (400 * threads, 400 * threads));
+            entities.flush().expect("memory");
+            assert_eq!(entities.len() as usize, told.len());
+            assert!(told.iter().all(|one| entities.is_alive(*one)));
+        }
+    }
+
+    /// No two have one reserver at a time, and each that is free is found.
+    #[test]
+    fn each_is_lent_once() {
+        let (shared, reservers) = Entities::new().share(3).expect("shared");
+        let pool = Reservers::new(reservers).expect("memory");
+        assert_eq!(pool.count(), 3);
+        pool.with(|one| {
+            pool.with(|two| {
+                pool.with(|three| {
+                    let numbers = [one.number(), two.number(), three.number()];
+                    assert_eq!(numbers.into_iter().collect::<HashSet<_>>().len(), 3);
+                    assert!(pool.try_with(|_| ()).is_none());
+                });
+                assert!(pool.try_with(|_| ()).is_some());
+            });
+        });
+        let reservers = pool.into_inner();
+        assert_eq!(reservers[2].number(), 2);
+        assert!(shared.close(reservers).is_ok());
+    }
+
+    /// It waits where none is free, until one is.
+    #[test]
+    fn waiting() {
+        let (shared, reservers) = Entities::new().share(1).expect("shared");
+        let pool = Reservers::new(reservers).expect("memory");
+        let (both, within) = (Barrier::new(2), AtomicUsize::new(0));
+        std::thread::scope(|scope| {
+            scope.spawn(|| {
+                pool.with(|one| {
+                    both.wait();
+                    within.store(1, Ordering::SeqCst);
+                    one.reserve().expect("a handle");
+                    within.store(2, Ordering::SeqCst);
+                })
+            });
+            both.wait();
+            pool.with(|one| {
+                assert_eq!(within.load(Ordering::SeqCst), 2);
+                one.reserve().expect("a handle");
+            });
+        });
+        let entities = shared.close(pool.into_inner()).expect("closed");
+        assert_eq!(entities.reserved(), 2);
+    }
+
+    /// A task that panics gives its reserver back.
+    #[test]
+    fn a_task_that_panics() {
+        let (shared, reservers) = Entities::new().share(2).expect("shared");
+        let pool = Reservers::new(reservers).expect("memory");
+        for _ in 0..5 {
+            let ran = catch_unwind(AssertUnwindSafe(|| {
+                pool.with(|one| {
+                    one.reserve().expect("a handle");
+                    resume_unwind(Box::new("stopped"))
+                })
+            }));
+            let ran: Result<(), _> = ran;
+            assert!(ran.is_err());
+        }
+        let last = pool.try_with(|one| one.reserve());
+        assert_eq!(last, Some(Ok(handle(5, 1))));
+        let entities = shared.close(pool.into_inner()).expect("closed");
+        assert_eq!((entities.asked(), entities.reserved()), (6, 6));
+    }
+
+    /// Threads that nobody joins have the pool in an `Arc`.
+    #[test]
+    fn a_pool_in_an_arc() {
+        let (shared, reservers) = Entities::new().share(2).expect("shared");
+        let pool = Arc::new(Reservers::new(reservers).expect("memory"));
+        let threads: Vec<_> = (0..6)
+            .map(|_| {
+                let pool = Arc::clone(&pool);
+                std::thread::spawn(move || pool.with(|one| all_of(one, 7)).len())
+            })
+            .collect();
+        for thread in threads {
+            assert_eq!(thread.join().expect("no panic"), 7);
+        }
+        let pool = Arc::into_inner(pool).expect("the last owner");
+        assert_eq!(format!("{pool:?}"), "Reservers { count: 2, .. }");
+        let entities = shared.close(pool.into_inner()).expect("closed");
+        assert_eq!(entities.reserved(), 42);
+    }
+
+    /// Of `&mut` to reservers, which stay where they are.
+    #[test]
+    fn a_pool_of_references() {
+        let (shared, mut reservers) = Entities::new().share(2).expect("shared");
+        let pool = Reservers::new(&mut reservers).expect("memory");
+        pool.with(|one| one.reserve()).expect("a handle");
+        drop(pool);
+        let entities = shared.close(reservers).expect("closed");
+        assert_eq!(entities.reserved(), 1);
+    }
+
+    #[test]
+    fn a_pool_of_none() {
+        let pool: Result<Reservers, OutOfMemory> = Reservers::new([]);
+        let pool = pool.expect("it takes no memory");
+        assert_eq!((pool.count(), pool.try_with(|_| ())), (0, None));
+        assert!(catch_unwind(AssertUnwindSafe(|| pool.with(|_| ()))).is_err());
+    }
+}
