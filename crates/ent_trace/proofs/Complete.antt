@@ -1,27 +1,25 @@
 -- If any order of a run is answered so, the sorted one is.
-use Rattle.std.proofs.Common.{◌≡◌, ◌≢◌, ℕ, zero, suc, ◌+◌, ◌-◌, ◌^◌, ◌<◌, ◌≤◌, Bool, true, false, cond}
-use Rattle.std.proofs.Common.{List, [], ◌∷◌, ◌++◌, length, map, filter, Ok, Err, All}
-use Rattle.std.proofs.Common.{refl, sym, ap, subst, ◌∙◌, arith, true≢false, inl, inr, ◌⊎◌}
+use Rattle.std.proofs.Common.{◌≡◌, ℕ, zero, suc, ◌+◌, ◌^◌, ◌<◌, ◌≤◌, cond}
+use Rattle.std.proofs.Common.{List, [], ◌∷◌, ◌++◌, length, filter, Err, All}
+use Rattle.std.proofs.Common.{refl, sym, ap, subst, ◌∙◌, arith, inl, inr, ◌⊎◌}
 use Rattle.std.specs.List.{AllByRecursion}
 use Rattle.std.proofs.lemmas.Bool.{cases_lt, cases_eq}
 use Rattle.std.proofs.lemmas.List.Elements.{All-filter, All-from_recursion}
 use Rattle.ent_handle.specs.Handle.{Handle}
-use Rattle.ent_alloc.specs.Sequential.{Allocator, available, after_take, reply_to}
+use Rattle.ent_alloc.specs.Sequential.{Allocator, available, after_take}
 use Rattle.ent_alloc.specs.Sound.{IsSound}
 use Rattle.ent_alloc.proofs.Replies.{reply-refused}
 use Rattle.ent_alloc.proofs.PoolLaw.{asked-after_take}
 use Rattle.ent_alloc.proofs.Soundness.{after_take-sound}
 use Rattle.ent_alloc.proofs.Taken.{available-after_take, after_take-refused}
-use Rattle.ent_trace.specs.declared.line.Line.{Line}
-use Rattle.ent_trace.specs.declared.line.Line.TheVariants as line
 use Rattle.ent_trace.specs.declared.reply.ReserveReply.{ReserveReply}
 use Rattle.ent_trace.specs.declared.reply.ReserveReply.TheVariants as reserve
 use Rattle.ent_trace.specs.declared.placed.Placed.{Placed}
-use Rattle.ent_trace.specs.Trace.{AreAnswered, FitsReserved, after_lines}
+use Rattle.ent_trace.specs.Trace.{FitsReserved}
 use Rattle.ent_trace.specs.Checker.{KeyOf, AreKeyed, raised}
 use Rattle.ent_trace.proofs.Lists.{split, all_at, all_without, all_left, all_weaker}
 use Rattle.ent_trace.proofs.Parting.{parted}
-use Rattle.ent_trace.proofs.Sorted.{lines, tie, tie_from, tie_key, IsRising, TieAlike, whole, least}
+use Rattle.ent_trace.proofs.Sorted.{tie, tie_from, IsRising, TieAlike, whole, least}
 use Rattle.ent_trace.proofs.Sorted.{begins, nothing_left, alike_rest}
 use Rattle.ent_trace.proofs.Legal.{asks, Answers, after_run, FindsNone, FitsLeft, Answers-empty}
 use Rattle.ent_trace.proofs.Legal.{empty-Answers, after-empty, total}

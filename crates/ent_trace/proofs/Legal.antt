@@ -1,20 +1,16 @@
 -- Reservations one after the other: those for nothing can be left out, and of those that follow a
 -- refusal none is served.
-use Rattle.std.proofs.Common.{◌≡◌, ◌≢◌, ℕ, zero, suc, ◌+◌, ◌-◌, ◌^◌, ◌<◌, ◌≤◌, Bool, true, false, cond}
-use Rattle.std.proofs.Common.{nat_lt, List, [], ◌∷◌, ◌++◌, length, take, drop, get_or, map, filter}
-use Rattle.std.proofs.Common.{slice_get, Some, None, Ok, Err, Result, refl, sym, ap, subst, ◌∙◌}
-use Rattle.std.proofs.Common.{arith, true≢false, inl, inr, ◌⊎◌, Contains, append-nil}
-use Rattle.std.specs.List.{AllByRecursion, sum_by}
+use Rattle.std.proofs.Common.{◌≡◌, ℕ, zero, suc, ◌+◌, ◌<◌, Bool, true, false, cond}
+use Rattle.std.proofs.Common.{nat_lt, List, [], ◌∷◌, ◌++◌, length, drop, filter}
+use Rattle.std.proofs.Common.{Ok, Err, refl, sym, ap, subst, ◌∙◌}
+use Rattle.std.proofs.Common.{arith, inl, inr, ◌⊎◌, append-nil}
+use Rattle.std.specs.List.{AllByRecursion}
 use Rattle.std.proofs.lemmas.Bool.{lt-ltb}
 use Rattle.ent_handle.specs.Handle.{Handle}
-use Rattle.ent_alloc.specs.Sequential.{Allocator, available, after_take, reply_to}
-use Rattle.ent_alloc.specs.Sound.{IsSound}
-use Rattle.ent_alloc.specs.declared.space.Space.{Space}
-use Rattle.ent_alloc.proofs.Replies.{reply-served, reply-refused}
-use Rattle.ent_alloc.proofs.PoolLaw.{reply-none, after_take-none, pool-after_take, asked-after_take}
+use Rattle.ent_alloc.specs.Sequential.{Allocator, after_take, reply_to}
+use Rattle.ent_alloc.proofs.Replies.{reply-refused}
+use Rattle.ent_alloc.proofs.PoolLaw.{reply-none, after_take-none, pool-after_take}
 use Rattle.ent_alloc.proofs.Taken.{after_take-refused}
-use Rattle.ent_trace.specs.declared.reply.ReserveReply.{ReserveReply}
-use Rattle.ent_trace.specs.declared.reply.ReserveReply.TheVariants as reserve
 use Rattle.ent_trace.specs.declared.placed.Placed.{Placed}
 use Rattle.ent_trace.specs.Trace.{AreAnswered, FitsReserved, after_lines}
 use Rattle.ent_trace.proofs.Sorted.{lines}

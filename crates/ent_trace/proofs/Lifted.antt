@@ -1,8 +1,8 @@
 -- Orders of the lines of a run as orders of its reservations with their keys, and without those for
 -- nothing.
-use Rattle.std.proofs.Common.{◌≡◌, ◌≢◌, ℕ, zero, suc, ◌+◌, ◌<◌, ◌≤◌, Bool, true, false, cond, nat_lt}
-use Rattle.std.proofs.Common.{List, [], ◌∷◌, ◌++◌, length, map, filter, Ok, Err, refl, sym, ap, subst}
-use Rattle.std.proofs.Common.{◌∙◌, arith, inl, inr, ◌⊎◌}
+use Rattle.std.proofs.Common.{◌≡◌, ℕ, ◌+◌, ◌<◌, ◌≤◌, Bool, true, false, cond}
+use Rattle.std.proofs.Common.{List, [], ◌∷◌, ◌++◌, filter, Ok, refl, sym, ap, subst}
+use Rattle.std.proofs.Common.{◌∙◌, arith, inl, inr}
 use Rattle.std.specs.List.{AllByRecursion}
 use Rattle.std.proofs.lemmas.Bool.{cases_eq}
 use Rattle.std.proofs.lemmas.List.Elements.{filter-append}
@@ -17,10 +17,10 @@ use Rattle.ent_trace.specs.declared.reply.ReserveReply.{ReserveReply}
 use Rattle.ent_trace.specs.declared.reply.ReserveReply.TheVariants as reserve
 use Rattle.ent_trace.specs.declared.placed.Placed.{Placed}
 use Rattle.ent_trace.specs.Trace.{MayPass, IsOrderOf, FitsReserved, AreAnswered, after_lines}
-use Rattle.ent_trace.specs.Checker.{KeyOf, IsKeyed, AreKeyed, raised, reservations_of, requested_in}
+use Rattle.ent_trace.specs.Checker.{KeyOf, AreKeyed, raised, reservations_of, requested_in}
 use Rattle.ent_trace.proofs.Sorted.{lines, tie, IsRising, TieAlike}
-use Rattle.ent_trace.proofs.Legal.{asks, asks_some, some_or_none, kept, left_out, total, Answers}
-use Rattle.ent_trace.proofs.Legal.{after_run, FitsNothing, Answers-some, after-some, nothing-fits}
+use Rattle.ent_trace.proofs.Legal.{asks, asks_some, some_or_none, kept, left_out, total}
+use Rattle.ent_trace.proofs.Legal.{FitsNothing, Answers-some, after-some, nothing-fits}
 use Rattle.ent_trace.proofs.Legal.{Answers-from_some}
 use Rattle.ent_trace.proofs.KeysOf.{IsOfOther, raised_own, raised_other}
 use Rattle.ent_trace.proofs.Complete.{IsPlacedOrder, all_unordered, all_alike, sorted_is}

@@ -1,7 +1,9 @@
 use ent_alloc::{Limits, State};
 use ent_handle::Handle;
 use ent_replay::HandleList;
-use ent_trace::{AllocReply, Checker, FlushReply, FreeReply, Line, Reservation, ReserveReply, Stop};
+use ent_trace::{
+    AllocReply, Checker, FlushReply, FreeReply, Line, Reservation, ReserveReply, Stop,
+};
 use std::alloc::Global;
 use std::test::Fail;
 
@@ -46,9 +48,11 @@ fn refused(number: u64, caller: u32, requested: u32, reply: ReserveReply) -> Lin
 
 // A checker over 3 slots that are all free, of which the first was freed first.
 fn opened(alloc: Global) -> Result<Checker, Stop> {
-    let (Some(limits), Some(first), Some(second)) =
-        (Limits::new(3, 9), Handle::new(0, 1), Handle::new(1, 1))
-    else {
+    let (Some(limits), Some(first), Some(second)) = (
+        Limits::new(3, 9),
+        Handle::new(0, 1),
+        Handle::new(1, 1),
+    ) else {
         return Err(Stop::TooMany);
     };
     Checker::new(alloc, limits)
@@ -77,7 +81,10 @@ fn logs_of_two_callers_agree(rt: HostRuntime) -> Result<(), Fail> {
         .take(8, served(alloc, 8, 2, 1, &[(1, 2)])?)?
         .take(9, Line::State(handle(0, 2)?, Some(State::Reserved)))?
         .take(10, refused(10, 2, 1, ReserveReply::SpaceLeft(0)))?
-        .take(11, Line::Flush(Some(FlushReply::Born(handles(alloc, &[(2, 1), (0, 2), (1, 2)])?))))?
+        .take(
+            11,
+            Line::Flush(Some(FlushReply::Born(handles(alloc, &[(2, 1), (0, 2), (1, 2)])?))),
+        )?
         .take(12, Line::Len(Some(3)))?;
     assert!(rt; checker.finish().is_ok());
     Ok(())
