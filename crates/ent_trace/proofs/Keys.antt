@@ -11,7 +11,11 @@ use Rattle.ent_replay.proofs.Maps.{get-inserted, get-insert_other}
 use Rattle.ent_trace.specs.declared.line.Reservation.{Reservation}
 use Rattle.ent_trace.specs.declared.placed.Placed.{Placed}
 use Rattle.ent_trace.specs.Checker.{reservations_of, requested_in, ComesAfter, AreSteady, IsLatest}
-use Rattle.ent_trace.specs.Checker.{IsChecking}
+use Rattle.ent_trace.specs.Checker.{IsChecking, IsKeyed, AreKeyed, keys_after, raised}
+use Rattle.ent_handle.specs.Handle.{Handle}
+use Rattle.ent_alloc.specs.Sequential.{Allocator, available}
+use Rattle.std.proofs.lemmas.Bool.{eq-eqb, ne_eqb}
+use Rattle.std.proofs.Common.{cond, refl, subst}
 use Rattle.ent_trace.proofs.Lists.{all_push}
 
 abbrev requested : Reservation → ℕ
@@ -30,6 +34,18 @@ requested-push (q ∷ run) p =
       sum_by-cons requested q.reservation (reservations_of (run ++ p ∷ [])),
       sum_by-cons requested q.reservation (reservations_of run),
     )
+
+keyed_push : (given : List Handle) (run : List Placed) (f : ℕ → ℕ) (p : Placed)
+    → AreKeyed given f run → IsKeyed given (keys_after f run p.reservation.caller) p
+    → AreKeyed given f (run ++ p ∷ [])
+keyed_push given [] f p keyed own = (own, tt)
+keyed_push given (q ∷ run) f p keyed own =
+    (keyed.0, keyed_push given run (raised f q) p keyed.1 own)
+
+after_push : (run : List Placed) (f : ℕ → ℕ) (p : Placed) → keys_after f (run ++ p ∷ [])
+    ≡ raised (keys_after f run) p
+after_push [] f p = refl
+after_push (q ∷ run) f p = after_push run (raised f q) p
 
 module _ (latest : finite.FinMap nat_cmp ℕ) (p : Placed)
     (greatest : unwrap_or (finite.get latest p.reservation.caller) 0 ≤ p.key) where
@@ -80,10 +96,25 @@ module _ (latest : finite.FinMap nat_cmp ℕ) (p : Placed)
   all_kept [] all = tt
   all_kept (q ∷ run) all = (latest_kept q all.0, all_kept run all.1)
 
-  pub IsChecking-push : (asked wanted : ℕ) (run : List Placed)
-      → IsChecking asked wanted run latest → wanted + p.reservation.requested ≤ 2 ^ 50
-      → IsChecking asked (wanted + p.reservation.requested) (run ++ p ∷ []) now
-  IsChecking-push asked wanted run is few =
+  -- what is kept for each caller is its last key
+  last_push : (f : ℕ → ℕ) → ((q : ℕ) → unwrap_or (finite.get latest q) 0 ≡ f q) → (q : ℕ)
+      → unwrap_or (finite.get now q) 0 ≡ raised f p q
+  last_push f last q = elim (cases_eq q p.reservation.caller) [
+    | inl same ↦
+        ap (λ caller. unwrap_or (finite.get now caller) 0) same
+        ∙ ap (λ o. unwrap_or o 0) (get-inserted latest p.reservation.caller p.key)
+        ∙ sym (ap (λ b. cond b p.key (f q)) (eq-eqb q p.reservation.caller same))
+    | inr other ↦
+        ap (λ o. unwrap_or o 0)
+        (get-insert_other latest p.reservation.caller p.key q other)
+        ∙ last q ∙ sym (ap (λ b. cond b p.key (f q)) (ne_eqb q p.reservation.caller other))
+  ]
+
+  pub IsChecking-push : (s : Allocator) (wanted : ℕ) (run : List Placed)
+      → IsChecking s wanted run latest → wanted + p.reservation.requested ≤ 2 ^ 50
+      → IsKeyed (available s) (unwrap_or (finite.get latest p.reservation.caller) 0) p
+      → IsChecking s (wanted + p.reservation.requested) (run ++ p ∷ []) now
+  IsChecking-push s wanted run is few keyed =
       let before = is.wanted_is in
       let more = requested-push run p in
       record {
@@ -91,14 +122,32 @@ module _ (latest : finite.FinMap nat_cmp ℕ) (p : Placed)
         wanted_in = few;
         steady = steady_push run is.steady is.latest_is;
         latest_is = all_push (IsLatest now) run p (all_kept run is.latest_is) latest_own;
+        keyed = keyed_push (available s) run (λ _. 0) p is.keyed
+            (subst (λ n. IsKeyed (available s) n p) (is.last p.reservation.caller) keyed);
+        last = λ q. last_push (keys_after (λ _. 0) run) is.last q
+            ∙ sym (ap (λ g. g q) (after_push run (λ _. 0) p));
       }
 
 -- no run
-pub IsChecking-none : (asked wanted : ℕ) (latest : finite.FinMap nat_cmp ℕ) → wanted ≡ asked
-    → wanted ≤ 2 ^ 50 → IsChecking asked wanted [] latest
-IsChecking-none asked wanted latest is few = record {
+pub IsChecking-none : (s : Allocator) (wanted : ℕ) (latest : finite.FinMap nat_cmp ℕ)
+    → wanted ≡ s.asked → wanted ≤ 2 ^ 50 → ((q : ℕ) → unwrap_or (finite.get latest q) 0 ≡ 0)
+    → IsChecking s wanted [] latest
+IsChecking-none s wanted latest is few none = record {
   wanted_is = omega arith;
   wanted_in = few;
   steady = tt;
   latest_is = tt;
+  keyed = tt;
+  last = none;
 }
+
+-- an empty map keeps nothing
+pub empty_keeps : (latest : finite.FinMap nat_cmp ℕ) → latest ≡ finite.empty → (q : ℕ)
+    → unwrap_or (finite.get latest q) 0 ≡ 0
+empty_keeps latest is q =
+    ap (λ m. unwrap_or (finite.get m q) 0) is
+    ∙ ap (λ o. unwrap_or o 0) (finite.get-empty nat_cmp q)
+
+pub no_run : (run : List Placed) → reservations_of run ≡ [] → run ≡ []
+no_run [] is = refl
+no_run (p ∷ run) is = absurd (let no : p.reservation ∷ reservations_of run ≡ [] = is in cc)

@@ -1,6 +1,11 @@
 pub mod Lists
 pub mod Stops
+pub mod Parting
 pub mod Orders
 pub mod Sorted
+pub mod Legal
+pub mod KeysOf
+pub mod Complete
+pub mod Lifted
 pub mod Runs
 pub mod Keys

@@ -1,13 +1,14 @@
 -- Orders that lines may have come in: of a front and a rest, and what they are answered.
-use Rattle.std.proofs.Common.{◌≡◌, ℕ, List, [], ◌∷◌, ◌++◌, refl, sym, ap, subst, ◌∙◌}
+use Rattle.std.proofs.Common.{append-nil, ◌≡◌, ℕ, List, [], ◌∷◌, ◌++◌, refl, sym, ap, subst, ◌∙◌}
 use Rattle.std.proofs.lemmas.List.{append_assoc}
 use Rattle.ent_alloc.specs.Sequential.{Allocator}
 use Rattle.ent_trace.specs.declared.line.Line.{Line}
 use Rattle.ent_trace.specs.declared.line.Line.TheVariants as line
 use Rattle.ent_trace.specs.declared.line.Reservation.{Reservation}
-use Rattle.ent_trace.specs.Trace.{Fits, AreAnswered, after_line, after_lines, IsOrderOf, Agrees}
+use Rattle.ent_trace.specs.Trace.{Fits, AreAnswered, after_line, after_lines, IsAlone, IsOrderOf, Agrees}
 use Rattle.ent_trace.specs.Checker.{Checked, reserve_lines, AgreesWith, IsSettled, Follows}
-use Rattle.ent_trace.specs.Checker.{Differs, Fails, Shows}
+use Rattle.ent_trace.specs.Checker.{Differs, Fails, Shows, HasNoOrder, NoneFollows}
+use Rattle.ent_trace.proofs.Parting.{parts, all_reserve}
 use Rattle.ent_trace.specs.declared.difference.Difference.{Difference}
 
 -- an order of the front and one of the rest are one of all
@@ -47,12 +48,50 @@ pub added-Follows : (c : Checked) (r : Reservation)
     → Follows c (line.Reserve r) (record c { run = c.run ++ r ∷ [] })
 added-Follows c r = record {
   sound = λ rest agrees. subst (Agrees c.allocator) (run_more c.run r rest) agrees;
+  complete = λ rest agrees. subst (Agrees c.allocator) (sym (run_more c.run r rest)) agrees;
 }
 
+answered_front : (s : Allocator) (first second : List Line) → AreAnswered s (first ++ second)
+    → AreAnswered s first
+answered_front s [] second all = tt
+answered_front s (l ∷ first) second all = (all.0, answered_front (after_line s l) first second all.1)
+
+answered_back : (s : Allocator) (first second : List Line) → AreAnswered s (first ++ second)
+    → AreAnswered (after_lines s first) second
+answered_back s [] second all = all
+answered_back s (l ∷ first) second all = answered_back (after_line s l) first second all.1
+
+-- what a trace that begins with the run and this line tells: of the run, of the line and of the rest
+pub record Told (c : Checked) (l : Line) (rest : List Line) : Type 0 where
+  pub first : List Line
+  pub second : List Line
+  pub is_order : IsOrderOf (reserve_lines c.run) first
+  pub answered : AreAnswered c.allocator first
+  pub fits : Fits (after_lines c.allocator first) l
+  pub rest_is_order : IsOrderOf rest second
+  pub rest_answered : AreAnswered (after_line (after_lines c.allocator first) l) second
+
+pub told : (c : Checked) (l : Line) (rest : List Line) → IsAlone l → AgreesWith c (l ∷ rest)
+    → Told c l rest
+told c l rest alone agrees =
+    let p = parts (reserve_lines c.run) rest l agrees.order (all_reserve c.run) alone
+    agrees.is_order in
+    let all = subst (AreAnswered c.allocator) p.is agrees.answered in
+    let back = answered_back c.allocator p.first (l ∷ p.second) all in
+    record {
+      first = p.first;
+      second = p.second;
+      is_order = p.first_is;
+      answered = answered_front c.allocator p.first (l ∷ p.second) all;
+      fits = back.0;
+      rest_is_order = p.second_is;
+      rest_answered = back.1;
+    }
+
 -- the run was settled, and the line fits then
-pub called-Follows : (c : Checked) (l : Line) (after : Allocator) → IsSettled c after → Fits after l
-    → Follows c l (record { allocator = after_line after l; run = [] })
-called-Follows c l after settled fits = record {
+pub called-Follows : (c : Checked) (l : Line) (after : Allocator) → IsAlone l → IsSettled c after
+    → Fits after l → Follows c l (record { allocator = after_line after l; run = [] })
+called-Follows c l after alone settled fits = record {
   sound = λ rest agrees. record {
     order = settled.order ++ l ∷ agrees.order;
     is_order = IsOrderOf-append (reserve_lines c.run) (l ∷ rest) settled.order (l ∷ agrees.order)
@@ -60,6 +99,14 @@ called-Follows c l after settled fits = record {
     answered = AreAnswered-append c.allocator settled.order (l ∷ agrees.order) settled.answered
         (subst (λ s. AreAnswered s (l ∷ agrees.order)) settled.after_is (fits, agrees.answered));
   };
+  complete = λ rest agrees.
+      let t = told c l rest alone agrees in
+      record {
+        order = t.second;
+        is_order = t.rest_is_order;
+        answered = subst (λ s. AreAnswered (after_line s l) t.second)
+            (settled.only t.first t.is_order t.answered) t.rest_answered;
+      };
 }
 
 -- the run was settled, and nothing follows
@@ -112,6 +159,32 @@ called-Shows c l after n d settled differs = record {
     differs = subst (λ s. Differs s n l d) settled.after_is differs;
   };
 }
+
+-- and no other order of the run would help
+pub called-None : (c : Checked) (l : Line) (after : Allocator) → IsAlone l → IsSettled c after
+    → ¬ (Fits after l) → NoneFollows c l
+called-None c l after alone settled unlike rest agrees =
+    let t = told c l rest alone agrees in
+    unlike (subst (λ s. Fits s l) (settled.only t.first t.is_order t.answered) t.fits)
+
+-- no order of the run is answered so
+pub settled-None : (c : Checked) (l : Line) → IsAlone l → HasNoOrder c → NoneFollows c l
+settled-None c l alone none rest agrees =
+    let t = told c l rest alone agrees in
+    none t.first t.is_order t.answered
+
+pub finished-None : (c : Checked) → HasNoOrder c → AgreesWith c [] → ⊥
+finished-None c none agrees =
+    none agrees.order (subst (λ (ls : List Line). IsOrderOf ls agrees.order)
+    (append-nil (reserve_lines c.run)) agrees.is_order) agrees.answered
+
+-- the run isn't answered so in this order
+pub fails_none : (s : Allocator) (n : ℕ) (order : List Line) (d : Difference) → Fails s n order d
+    → AreAnswered s order → ⊥
+fails_none s n order d fails all =
+    let back = answered_back s fails.placed (fails.next ∷ fails.left)
+    (subst (AreAnswered s) fails.is all) in
+    fails.differs.unlike back.0
 
 -- the run isn't answered so in this order
 pub ordered-Shows : (c : Checked) (order : List Line) (n : ℕ) (d : Difference)

@@ -80,7 +80,7 @@ module _ (Q : Placed → Type 0) where
   rest_of d x run true all = All-tail Q d (filter (tie x) run) all
   rest_of d x run false all = all
 
-  whole : (run : List Placed) → ((x : Placed) → All Q (filter (tie x) run)) → AllByRecursion Q run
+  pub whole : (run : List Placed) → ((x : Placed) → All Q (filter (tie x) run)) → AllByRecursion Q run
   whole [] each = tt
   whole (d ∷ run) each = (
     All-head Q d (filter (tie d) run)
@@ -93,7 +93,7 @@ module _ (Q : Placed → Type 0) where
 abbrev pub TieAlike : List Placed → List Placed → Type 0
 TieAlike sorted run = (x : Placed) → filter (tie x) sorted ≡ filter (tie x) run
 
-least : (h : Placed) (sorted run : List Placed)
+pub least : (h : Placed) (sorted run : List Placed)
     → AllByRecursion (λ (p : Placed). h.key ≤ p.key) sorted → TieAlike (h ∷ sorted) run
     → AllByRecursion (λ (p : Placed). h.key ≤ p.key) run
 least h sorted run up alike =
@@ -153,7 +153,7 @@ none_tie x h (b ∷ before) same none = go (none_tie x h before same none.1) (ti
         absurd (true≢false (sym (tie_from h b (sym same ∙ equal)) ∙ none.0))
     go rest false is = rest
 
-alike_rest : (h : Placed) (sorted before after : List Placed)
+pub alike_rest : (h : Placed) (sorted before after : List Placed)
     → AllByRecursion (λ b. tie h b ≡ false) before → TieAlike (h ∷ sorted) (before ++ h ∷ after)
     → TieAlike sorted (before ++ after)
 alike_rest h sorted before after none alike x =
@@ -172,13 +172,13 @@ alike_rest h sorted before after none alike x =
         same ∙ ap (λ (ps : List Placed). ps ++ filter (tie x) after) (sym empty)
     go false is e = e
 
-begins : (h : Placed) (sorted run : List Placed) → TieAlike (h ∷ sorted) run
+pub begins : (h : Placed) (sorted run : List Placed) → TieAlike (h ∷ sorted) run
     → filter (tie h) run ≡ h ∷ filter (tie h) sorted
 begins h sorted run alike =
     sym (alike h) ∙ ap (λ b. cond b (h ∷ filter (tie h) sorted) (filter (tie h) sorted))
     (tie_from h h refl)
 
-nothing_left : (run : List Placed) → TieAlike [] run → run ≡ []
+pub nothing_left : (run : List Placed) → TieAlike [] run → run ≡ []
 nothing_left [] alike = refl
 nothing_left (d ∷ run) alike =
     let some : [] ≡ d ∷ filter (tie d) run =

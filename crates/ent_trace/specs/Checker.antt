@@ -1,15 +1,19 @@
 -- What a checker stands for, and what it says of a trace that doesn't agree.
-use Rattle.std.specs.Prelude.{◌≡◌, ℕ, ◌+◌, ◌^◌, ◌≤◌, List, [], ◌∷◌, ◌++◌, map, refl}
+use Rattle.std.specs.Prelude.{◌≡◌, ℕ, zero, suc, ◌+◌, ◌^◌, ◌<◌, ◌≤◌, ◌==◌, if◌then◌else◌, ◌⊎◌, false}
+use Rattle.std.specs.Prelude.{List, [], ◌∷◌, ◌++◌, map, slice_get, Some, refl}
 use Rattle.std.specs.List.{AllByRecursion, sum_by}
 use Rattle.std.specs.Option.{unwrap_or}
 use Rattle.std.specs.Ordering.{nat_cmp}
 use Rattle.std.specs.FinMap as finite
 use Rattle.std.specs.Coded.{Coded, code_by, coded×, coded_list}
-use Rattle.ent_alloc.specs.Sequential.{Allocator, allocator_code}
+use Rattle.ent_handle.specs.Handle.{Handle}
+use Rattle.ent_alloc.specs.Sequential.{Allocator, allocator_code, available, stands_in}
 use Rattle.ent_trace.specs.contracts.line.Reservation as reservation
 use Rattle.ent_trace.specs.declared.line.Reservation.{Reservation}
 use Rattle.ent_trace.specs.declared.line.Line.{Line}
 use Rattle.ent_trace.specs.declared.line.Line.TheVariants as line
+use Rattle.ent_trace.specs.declared.reply.ReserveReply.{ReserveReply}
+use Rattle.ent_trace.specs.declared.reply.ReserveReply.TheVariants as reserve
 use Rattle.ent_trace.specs.declared.placed.Placed.{Placed}
 use Rattle.ent_trace.specs.declared.difference.Difference.{Difference}
 use Rattle.ent_trace.specs.declared.difference.Stop.{Stop}
@@ -38,13 +42,17 @@ AgreesWith c rest = Agrees c.allocator (reserve_lines c.run ++ rest)
 -- before and after a line: the same lines may follow
 pub record Follows (old : Checked) (l : Line) (new : Checked) : Type 0 where
   pub sound : (rest : List Line) → AgreesWith new rest → AgreesWith old (l ∷ rest)
+  pub complete : (rest : List Line) → AgreesWith old (l ∷ rest) → AgreesWith new rest
 
--- in some order all reservations of the run were answered so, and this is the state after them
+-- In some order all reservations of the run were answered so, and this is the state after them, as
+-- after any such order.
 pub record IsSettled (c : Checked) (after : Allocator) : Type 0 where
   pub order : List Line
   pub is_order : IsOrderOf (reserve_lines c.run) order
   pub answered : AreAnswered c.allocator order
   pub after_is : after ≡ after_lines c.allocator order
+  pub only : (other : List Line) → IsOrderOf (reserve_lines c.run) other
+      → AreAnswered c.allocator other → after_lines c.allocator other ≡ after
 
 -- ---- where a trace doesn't agree
 
@@ -79,6 +87,15 @@ pub record Shows (c : Checked) (number : ℕ) (rest : List Line) (d : Difference
   pub is_order : IsOrderOf (reserve_lines c.run ++ rest) order
   pub fails : Fails c.allocator number order d
 
+-- in no order the reservations of the run were answered so
+abbrev pub HasNoOrder : Checked → Type 0
+HasNoOrder c = (order : List Line) → IsOrderOf (reserve_lines c.run) order
+    → AreAnswered c.allocator order → ⊥
+
+-- no trace that goes on with this line agrees
+abbrev pub NoneFollows : Checked → Line → Type 0
+NoneFollows c l = (rest : List Line) → AgreesWith c (l ∷ rest) → ⊥
+
 -- ---- inside
 
 abbrev pub reservations_of : List Placed → List Reservation
@@ -95,13 +112,52 @@ abbrev pub AreSteady : List Placed → Type 0
 AreSteady [] = Unit {0}
 AreSteady (p ∷ run) = AllByRecursion (ComesAfter p) run × AreSteady run
 
+-- ---- keys
+
+-- What a reservation's own key may be: the place of a handle that it was given among those that there
+-- were to give, if it is there; for a refusal a number above all places. First comes the one that
+-- says how many handles it left, then those that don't say it, the greatest first, then those that
+-- found none.
+abbrev pub KeyOf : List Handle → ℕ → ReserveReply → ℕ → Type 0
+KeyOf given n (reserve.Handles []) own = own ≡ 0
+KeyOf given n (reserve.Handles (h ∷ told)) own =
+    (own < 2 ^ 32) × ((slice_get given own ≡ Some h) ⊎ (stands_in given h ≡ false))
+KeyOf given n reserve.Space own = own + n ≡ 2 ^ 33
+KeyOf given n (reserve.SpaceLeft zero) own = own ≡ 2 ^ 33
+KeyOf given n (reserve.SpaceLeft (suc left)) own = own ≡ 2 ^ 32
+
+-- the key is its own, or that of the caller's last one if that is greater
+pub record IsKeyed (given : List Handle) (before : ℕ) (p : Placed) : Type 0 where
+  pub own : ℕ
+  pub key_of : KeyOf given p.reservation.requested p.reservation.reply own
+  pub least : own ≤ p.key
+  pub floor : before ≤ p.key
+  pub either : (p.key ≡ own) ⊎ (p.key ≡ before)
+  pub small : p.reservation.requested < 2 ^ 32
+
+-- the last key of each caller after this reservation
+abbrev pub raised : (ℕ → ℕ) → Placed → ℕ → ℕ
+raised before p q = if q == p.reservation.caller then p.key else before q
+
+-- the keys of a run, from the last keys of all callers on
+abbrev pub AreKeyed : List Handle → (ℕ → ℕ) → List Placed → Type 0
+AreKeyed given before [] = Unit {0}
+AreKeyed given before (p ∷ run) =
+    IsKeyed given (before p.reservation.caller) p × AreKeyed given (raised before p) run
+
+abbrev pub keys_after : (ℕ → ℕ) → List Placed → ℕ → ℕ
+keys_after before [] = before
+keys_after before (p ∷ run) = keys_after (raised before p) run
+
 -- no reservation of a caller has a greater key than the one that is kept for the caller
 abbrev pub IsLatest : finite.FinMap nat_cmp ℕ → Placed → Type 0
 IsLatest latest p = p.key ≤ unwrap_or (finite.get latest p.reservation.caller) 0
 
-pub record IsChecking (asked wanted : ℕ) (run : List Placed) (latest : finite.FinMap nat_cmp ℕ)
-    : Type 0 where
-  pub wanted_is : wanted ≡ asked + requested_in (reservations_of run)
+pub record IsChecking (s : Allocator) (wanted : ℕ) (run : List Placed)
+    (latest : finite.FinMap nat_cmp ℕ) : Type 0 where
+  pub wanted_is : wanted ≡ s.asked + requested_in (reservations_of run)
   pub wanted_in : wanted ≤ 2 ^ 50
   pub steady : AreSteady run
   pub latest_is : AllByRecursion (IsLatest latest) run
+  pub keyed : AreKeyed (available s) (λ _. 0) run
+  pub last : (q : ℕ) → unwrap_or (finite.get latest q) 0 ≡ keys_after (λ _. 0) run q

@@ -1,9 +1,10 @@
 //! The checker: one line of a trace after the other.
-ghost use Rattle.std.specs.Prelude.{◌≡◌, ℕ, ◌∷◌, ◌++◌, [], IfOk, IfErr, OnOk};
-ghost use Rattle.ent_alloc.specs.Sequential.{opening};
+ghost use Rattle.std.specs.Prelude.{◌≡◌, ◌+◌, ◌^◌, ◌<◌, ℕ, ◌∷◌, ◌++◌, [], IfOk, IfErr, OnOk};
+ghost use Rattle.ent_alloc.specs.Sequential.{opening, available};
 ghost use Rattle.ent_trace.specs.Trace.{Fits, IsAlone, after_line};
 ghost use Rattle.ent_trace.specs.Checker.{Follows, AgreesWith, IsSettled};
-ghost use Rattle.ent_trace.specs.Checker.{OnDiffers, Differs, Shows};
+ghost use Rattle.ent_trace.specs.Checker.{OnDiffers, Differs, Shows, KeyOf};
+ghost use Rattle.ent_trace.specs.Checker.{HasNoOrder, NoneFollows};
 
 use crate::calls::answered;
 use crate::difference::{Difference, Stop};
@@ -12,6 +13,7 @@ use crate::placed::Placed;
 use crate::placing::place_all;
 use crate::reply::ReserveReply;
 use ent_alloc::{Entities, Limits};
+use ent_handle::Handle;
 use ent_replay::ByCaller;
 use std::alloc::Global;
 use std::marker::Model;
@@ -52,7 +54,7 @@ impl Model for Checker {
     } };
 
     ghost invariant = { λ c.
-        IsChecking c.entities.allocator.asked c.wanted c.run.items c.latest };
+        IsChecking c.entities.allocator c.wanted c.run.items c.latest };
 }
 
 impl Checker {
@@ -83,11 +85,12 @@ impl Checker {
         ensures follows { IfOk result (λ next. Follows self line next) }
         ensures differs { IfErr result (λ stop.
             OnDiffers stop (Shows self number (line ∷ []))) }
+        ensures none { IfErr result (λ stop. OnDiffers stop (λ d. NoneFollows self line)) }
     {
         if let Line::Reserve(reservation) = line {
             return self.add(reservation);
         }
-        self.settle()?.call(number, line)
+        self.end_run(number, line)
     }
 
     /// Compares the reservations that are not compared yet: the trace ends here.
@@ -98,8 +101,20 @@ impl Checker {
     pub fn finish(self) -> Result<Self, Stop>
         ensures agrees { OnOk result (AgreesWith self []) }
         ensures differs { IfErr result (λ stop. OnDiffers stop (Shows self 0 [])) }
+        ensures none { IfErr result (λ stop. OnDiffers stop (λ d. AgreesWith self [] → ⊥)) }
     {
         self.settle()
+    }
+
+    /// Compares the run, and then makes the call that ends it.
+    fn end_run(self, number: u64, line: Line) -> Result<Self, Stop>
+        requires { IsAlone line }
+        ensures follows { IfOk result (λ next. Follows self line next) }
+        ensures differs { IfErr result (λ stop.
+            OnDiffers stop (Shows self number (line ∷ []))) }
+        ensures none { IfErr result (λ stop. OnDiffers stop (λ d. NoneFollows self line)) }
+    {
+        self.settle()?.call(number, line)
     }
 
     /// Makes the reservations of the run, in the order of their keys, and compares each.
@@ -108,6 +123,7 @@ impl Checker {
         ensures settled { IfOk result (λ next. IsSettled self next.allocator) }
         ensures differs { IfErr result (λ stop.
             OnDiffers stop (λ d. (n : ℕ) → Shows self n [] d)) }
+        ensures none { IfErr result (λ stop. OnDiffers stop (λ d. HasNoOrder self)) }
     {
         let Checker {
             alloc,
@@ -116,6 +132,8 @@ impl Checker {
             mut latest,
             wanted,
         } = self;
+        // The state is sound, so no handle has two places.
+        prove_eq!(entities.cursor(), entities.cursor());
         run.sort_by_key(|placed| placed.key)?;
         place_all(alloc, &mut entities, &run)?;
         run.clear();
@@ -179,7 +197,7 @@ impl Checker {
         }
         let caller = reservation.caller;
         let before = latest.get(caller).unwrap_or(0);
-        let key = own_key(&entities, &reservation).max(before);
+        let key = own_key(&entities, reservation.requested, &reservation.reply).max(before);
         run.push(Placed { reservation, key })?;
         latest.insert(caller, key)?;
         Ok(Checker {
@@ -197,14 +215,28 @@ impl Checker {
 /// Those that were served come by the place of a handle that they were given. Then come those that
 /// were refused: first the one that says how many handles it left, then those that don't say it, the
 /// greatest first, then those that found none.
-fn own_key(entities: &Entities, reservation: &Reservation) -> u64 {
-    match &reservation.reply {
-        ReserveReply::Handles(handles) => match handles.as_slice().first() {
-            Some(handle) => entities.place(*handle).map_or(0, u64::from),
-            None => 0,
-        },
-        ReserveReply::Space => LAST_REFUSED - u64::from(reservation.requested),
+fn own_key(entities: &Entities, requested: u32, reply: &ReserveReply) -> u64
+    ensures key { KeyOf (available entities.now.allocator) requested reply.now result }
+    ensures small { requested < 2 ^ 32 }
+{
+    match reply {
+        ReserveReply::Handles(handles) => list_key(entities, handles.as_slice()),
+        ReserveReply::Space => LAST_REFUSED - u64::from(requested),
         ReserveReply::SpaceLeft(0) => LAST_REFUSED,
         ReserveReply::SpaceLeft(_) => FIRST_REFUSED,
+    }
+}
+
+/// The place of the first of these handles, or 0 if there is none or it can't be given.
+fn list_key(entities: &Entities, handles: &[Handle]) -> u64
+    ensures { (n : ℕ)
+        → KeyOf (available entities.now.allocator) n (ReserveReply.Handles handles.now) result }
+{
+    let Some((first, _)) = handles.split_first() else {
+        return 0;
+    };
+    match entities.place(*first) {
+        Some(place) => u64::from(place),
+        None => 0,
     }
 }

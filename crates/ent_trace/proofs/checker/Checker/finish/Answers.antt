@@ -1,6 +1,6 @@
 use Rattle.std.proofs.Common.{ℕ, []}
-use Rattle.ent_trace.specs.Checker.{Checked, AgreesWith, IsSettled, Shows, OnDiffers}
-use Rattle.ent_trace.proofs.Orders.{settled-Agrees}
+use Rattle.ent_trace.specs.Checker.{Checked, AgreesWith, IsSettled, Shows, OnDiffers, HasNoOrder}
+use Rattle.ent_trace.proofs.Orders.{settled-Agrees, finished-None}
 use Rattle.ent_trace.proofs.Stops.{on_differs, on_some, on_err}
 use Rattle.ent_trace.proofs.checker.Checker.finish.Goals as goal
 
@@ -19,3 +19,12 @@ returns-clause-differs c =
     (λ stop. on_differs stop (λ d. (n : ℕ) → Shows self n [] d) (Shows self 0 [])
     (λ d shows. shows 0))
     c.settle.ensures.differs
+
+pub returns-clause-none : goal.returns-clause-none
+returns-clause-none c =
+    let self = c.args.self in
+    on_err c.settle.result (λ stop. OnDiffers stop (λ d. HasNoOrder self))
+    (λ stop. OnDiffers stop (λ d. AgreesWith self [] → ⊥))
+    (λ stop. on_differs stop (λ d. HasNoOrder self) (λ d. AgreesWith self [] → ⊥)
+    (λ d none. finished-None self none))
+    c.settle.ensures.none

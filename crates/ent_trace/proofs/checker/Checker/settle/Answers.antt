@@ -3,13 +3,16 @@ use Rattle.std.proofs.lemmas.List.Sorted.{IsNonDecreasingBy-from_sort_by_key, an
 use Rattle.std.proofs.lemmas.Result.{err_from_is_err_and}
 use Rattle.ent_alloc.specs.Sequential.{Allocator}
 use Rattle.ent_trace.specs.declared.placed.Placed.{Placed}
-use Rattle.ent_trace.specs.Trace.{IsOrderOf}
+use Rattle.ent_trace.specs.Trace.{AreAnswered, after_lines, IsOrderOf}
 use Rattle.ent_trace.specs.Checker.{Checked, IsChecking, IsSettled, Fails, Shows, reservations_of}
 use Rattle.ent_trace.specs.Checker.{requested_in}
 use Rattle.ent_trace.proofs.Sorted.{lines, key, rising, TieAlike, IsRising, sorted-IsOrderOf}
 use Rattle.ent_trace.proofs.Runs.{asked-lines, requested-sorted}
-use Rattle.ent_trace.proofs.Keys.{IsChecking-none}
-use Rattle.ent_trace.proofs.Orders.{ordered-Shows}
+use Rattle.ent_trace.proofs.Keys.{IsChecking-none, empty_keeps}
+use Rattle.ent_trace.specs.Checker.{HasNoOrder}
+use Rattle.ent_trace.specs.declared.line.Line.{Line}
+use Rattle.ent_trace.proofs.Lifted.{sorted_run}
+use Rattle.ent_trace.proofs.Orders.{ordered-Shows, fails_none}
 use Rattle.ent_trace.proofs.Stops.{on_differs}
 use Rattle.ent_trace.proofs.checker.Checker.settle.Goals.{After-deref}
 use Rattle.ent_trace.proofs.checker.Checker.settle.Goals as goal
@@ -34,6 +37,26 @@ ordered c =
     subst (λ ps. IsOrderOf (lines run) (lines ps)) (sym c.deref.ensures.value)
     (sorted-IsOrderOf sorted run up alike c.self.invariant.steady)
 
+-- if any order of the run is answered so, this one is, and leaves the same state
+best : (c : After-deref) (other : List Line)
+    → IsOrderOf (lines c.self.inside.run.items) other
+    → AreAnswered c.self.inside.entities.allocator other
+    → AreAnswered c.self.inside.entities.allocator (lines c.deref.result.now)
+    × (after_lines c.self.inside.entities.allocator other
+    ≡ after_lines c.self.inside.entities.allocator (lines c.deref.result.now))
+best c other is all =
+    let sorted = c.sort_by_key.new.self.items in
+    let run = c.self.inside.run.items in
+    let s = c.self.inside.entities.allocator in
+    let up : IsRising sorted = rising sorted (IsNonDecreasingBy-from_sort_by_key key sorted
+    c.in_ok-sort_by_key.ensures.sorted (λ a r q k. search rules)) in
+    let alike : TieAlike sorted run = c.in_ok-sort_by_key.ensures.stable key
+    (answers_always _ _ _ (λ f a r q k. search rules)) in
+    subst (λ ps. AreAnswered s (lines ps) × (after_lines s other ≡ after_lines s (lines ps)))
+    (sym c.deref.ensures.value)
+    (sorted_run s sorted run other c.cursor.ensures.sound c.self.invariant.keyed up alike
+    (requested-sorted run sorted c.in_ok-sort_by_key.ensures.permutation) is all)
+
 pub place_all-requires : goal.place_all-requires
 place_all-requires c =
     let same = requests (goal.at.place_all-requires c).After-deref in
@@ -56,6 +79,22 @@ returns-in_err-place_all-clause-differs c =
     (ordered-Shows here (lines c.deref.result.now) n d (ordered at) (fails n)))
     c.in_err-place_all.ensures.differs)
 
+pub returns-in_err-place_all-clause-none : goal.returns-in_err-place_all-clause-none
+returns-in_err-place_all-clause-none c =
+    let at = (goal.at.returns-in_err-place_all-clause-none c).After-deref in
+    let e = c.self.inside in
+    let s = e.entities.allocator in
+    let here : Checked = record { allocator = s; run = reservations_of e.run.items } in
+    let p = err_from_is_err_and c.from_residual-in_err-place_all.result
+    c.from_residual-in_err-place_all.ensures.1 in
+    rw (p.1, p.2) (on_differs c.in_err-place_all.field-0.0
+    (λ d. (n : ℕ) → Fails s n (lines c.deref.result.now) d)
+    (λ d. HasNoOrder c.args.self)
+    (λ d fails. subst HasNoOrder c.self.view_is
+    (λ other is all. fails_none s 0 (lines c.deref.result.now) d (fails 0)
+    (best at other is all).0))
+    c.in_err-place_all.ensures.differs)
+
 pub invariant_of-result : goal.invariant_of-result
 invariant_of-result c =
     let at = (goal.at.invariant_of-result c).After-deref in
@@ -67,10 +106,10 @@ invariant_of-result c =
     ap (λ (a : Allocator). a.asked) c.in_ok-place_all.ensures.after
     ∙ asked-lines s c.deref.result.now in
     let is = c.self.invariant.wanted_is in
-    subst (λ ps. IsChecking c.place_all.new.entities.allocator.asked e.wanted ps c.clear-2.new.self)
+    subst (λ ps. IsChecking c.place_all.new.entities.allocator e.wanted ps c.clear-2.new.self)
     (sym c.clear.ensures.items)
-    (IsChecking-none c.place_all.new.entities.allocator.asked e.wanted c.clear-2.new.self
-    (omega arith) c.self.invariant.wanted_in)
+    (IsChecking-none c.place_all.new.entities.allocator e.wanted c.clear-2.new.self
+    (omega arith) c.self.invariant.wanted_in (empty_keeps c.clear-2.new.self c.clear-2.ensures))
 
 pub returns-clause-settled : goal.returns-clause-settled
 returns-clause-settled c =
@@ -81,4 +120,5 @@ returns-clause-settled c =
       is_order = ordered at;
       answered = c.in_ok-place_all.ensures.answered;
       after_is = c.in_ok-place_all.ensures.after;
+      only = λ other is all. (best at other is all).1 ∙ sym c.in_ok-place_all.ensures.after;
     })

@@ -1,10 +1,8 @@
-use Rattle.std.proofs.Common.{◌≡◌, ℕ, [], ◌∷◌, ◌++◌, sym, subst}
-use Rattle.std.proofs.lemmas.Result.{err_from_is_err_and}
+use Rattle.std.proofs.Common.{◌≡◌, [], ◌∷◌, ◌++◌, sym, subst}
 use Rattle.ent_trace.specs.declared.line.Line.{Line}
-use Rattle.ent_trace.specs.Trace.{Fits, after_line}
-use Rattle.ent_trace.specs.Checker.{Checked, Follows, Differs, Shows, OnDiffers}
-use Rattle.ent_trace.proofs.Orders.{added-Follows, called-Follows, called-Shows, Shows-more}
-use Rattle.ent_trace.proofs.Stops.{on_differs, on_ok, on_both, on_err}
+use Rattle.ent_trace.specs.Checker.{Checked, Follows}
+use Rattle.ent_trace.proofs.Orders.{added-Follows}
+use Rattle.ent_trace.proofs.Stops.{on_ok}
 use Rattle.ent_trace.proofs.checker.Checker.take.Goals as goal
 
 pub returns-in-Reserve-clause-follows : goal.returns-in-Reserve-clause-follows
@@ -16,35 +14,3 @@ returns-in-Reserve-clause-follows c =
     (λ next is. subst (Follows self c.args.line) (sym is)
     (subst (λ (l : Line). Follows self l more) (sym c.in-Reserve.is) (added-Follows self r)))
     c.add.ensures.ok
-
-pub returns-in_err-settle : goal.returns-in_err-settle
-returns-in_err-settle c =
-    let self = c.args.self in
-    let p = err_from_is_err_and c.from_residual.result c.from_residual.ensures.1 in
-    record {
-      follows = rw p.1 tt;
-      differs = rw (p.1, p.2) (on_differs c.in_err-settle.field-0.0
-          (λ d. (n : ℕ) → Shows self n [] d) (Shows self c.args.number (c.args.line ∷ []))
-          (λ d shows. Shows-more self c.args.number c.args.line d (shows c.args.number))
-          c.in_err-settle.ensures.differs);
-    }
-
-pub returns : goal.returns
-returns c =
-    let self = c.args.self in
-    let l = c.args.line in
-    let at = c.in_ok-settle.field-0.allocator in
-    let next_is : Checked = record { allocator = after_line at l; run = [] } in
-    record {
-      follows = on_both c.call.result (Fits at l) (λ next. next ≡ next_is) (Follows self l)
-          (λ fits next is. subst (Follows self l) (sym is)
-          (called-Follows self l at c.in_ok-settle.ensures.settled fits))
-          c.call.ensures.fits c.call.ensures.next;
-      differs = on_err c.call.result (λ stop. OnDiffers stop (Differs at c.args.number l))
-          (λ stop. OnDiffers stop (Shows self c.args.number (l ∷ [])))
-          (λ stop. on_differs stop (Differs at c.args.number l)
-          (Shows self c.args.number (l ∷ []))
-          (λ d differs. called-Shows self l at c.args.number d c.in_ok-settle.ensures.settled
-          differs))
-          c.call.ensures.differs;
-    }
