@@ -40,7 +40,7 @@ impl<T> Slot<T> {
     #[inline]
     pub(super) fn handle(&self, index: u32) -> Option<Handle>
         // requires { index < 2 ^ 32 - 1 }
-        // ensures { result ≡ handle_at self.now index }
+        // ensures { result ≡ handle_in self.now index }
     {
         match self {
             Slot::Vacant => None,
@@ -62,7 +62,7 @@ impl<T> Slot<T> {
     /// The value, if it is that of the generation.
     #[inline]
     pub(super) fn value(&self, wanted: u32) -> Option<&T>
-        // ensures { option_copied result ≡ value_at self.now wanted }
+        // ensures { option_copied result ≡ value_under self.now wanted }
     {
         match self {
             Slot::Vacant => None,
@@ -81,7 +81,7 @@ impl<T> Slot<T> {
     /// The value, if it is that of the generation. Any other one is dropped.
     #[inline]
     pub(super) fn into_value(self, wanted: u32) -> Option<T>
-        // ensures { result ≡ value_at self wanted }
+        // ensures { result ≡ value_under self wanted }
     {
         match self {
             Slot::Vacant => None,
@@ -100,10 +100,10 @@ impl<T> Slot<T> {
     /// The value for writing. There has to be one.
     #[inline]
     pub(super) fn value_mut(&mut self) -> &mut T
-        // requires { IsSome (value_of self.old) }
+        // requires { IsSome (any_value self.old) }
         // ensures* lends { sem 𝓛 (Lends (the_row T.row) T.row self.entry result
         //     (λ w. Slot.Occupied (generation_of self.old) w)) }
-        // ensures value { value_of self.old ≡ Some result.now }
+        // ensures value { any_value self.old ≡ Some result.now }
     {
         match self {
             Slot::Occupied { value, .. } => value,
