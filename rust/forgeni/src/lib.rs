@@ -200,7 +200,7 @@ pub use limits::Limits;
 pub use open_world::{FinishError, OpenError, OpenWorld, Unfinished, Unopened};
 pub use report::{Fault, FaultKind, Report};
 #[cfg(feature = "std")]
-pub use reservers::{Lends, Reservers};
+pub use reservers::{Lends, Reservers, Unpooled};
 pub use sharing::{Reserver, Shared};
 pub use storage::Storage;
 pub use sync::{GoOnError, Queues, Stopped, SyncError, SyncErrorKind};

@@ -4,6 +4,7 @@ use crate::errors::OutOfMemory;
 use crate::lent::Lent;
 use crate::sharing::Reserver;
 use alloc::vec::Vec;
+use core::error::Error;
 use core::fmt;
 use core::sync::atomic::{AtomicUsize, Ordering};
 use std::sync::{Mutex, MutexGuard, PoisonError, TryLockError};
@@ -111,14 +112,19 @@ impl<R: Lends> Reservers<R> {
     ///
     /// # Errors
     ///
-    /// `OutOfMemory` if there is none for the list of them. The reservers are dropped then: make the
-    /// pool of `&mut` to them if they have to stay.
-    pub fn new(reservers: impl IntoIterator<Item = R>) -> Result<Self, OutOfMemory> {
+    /// [`Unpooled`] if there is no memory for the list of them. It has all of them.
+    pub fn new<I>(reservers: I) -> Result<Self, Unpooled<I::IntoIter>>
+    where
+        I: IntoIterator<Item = R>,
+        I::IntoIter: ExactSizeIterator,
+    {
+        let reservers = reservers.into_iter();
         let mut places = Vec::new();
-        for reserver in reservers {
-            places.try_reserve(1)?;
-            places.push(Place(Mutex::new(reserver)));
+        if places.try_reserve_exact(reservers.len()).is_err() {
+            let error = OutOfMemory;
+            return Err(Unpooled { reservers, error });
         }
+        places.extend(reservers.map(|reserver| Place(Mutex::new(reserver))));
         Ok(Self { places })
     }
 
@@ -198,6 +204,45 @@ fn own_number() -> usize {
     thread_local!(static OWN: usize = NEXT.fetch_add(1, Ordering::Relaxed));
     // A thread that ends has none any more.
     OWN.try_with(|own| *own).unwrap_or(0)
+}
+
+/// Reservers of which there is no pool.
+pub struct Unpooled<I> {
+    /// All of them, as they were handed in.
+    pub reservers: I,
+    /// Why there is none.
+    pub error: OutOfMemory,
+}
+
+impl<I> Unpooled<I> {
+    /// All reservers, and why there is no pool of them.
+    #[must_use]
+    pub fn into_parts(self) -> (I, OutOfMemory) {
+        (self.reservers, self.error)
+    }
+}
+
+impl<I> fmt::Debug for Unpooled<I> {
+    fn fmt(&self, out: &mut fmt::Formatter<'_>) -> fmt::Result {
+        out.debug_struct("Unpooled")
+            .field("error", &self.error)
+            .finish_non_exhaustive()
+    }
+}
+
+impl<I> fmt::Display for Unpooled<I> {
+    fn fmt(&self, out: &mut fmt::Formatter<'_>) -> fmt::Result {
+        self.error.fmt(out)
+    }
+}
+
+impl<I> Error for Unpooled<I> {}
+
+/// Drops the reservers, or what lends them.
+impl<I> From<Unpooled<I>> for OutOfMemory {
+    fn from(refused: Unpooled<I>) -> Self {
+        refused.error
+    }
 }
 
 impl<R> fmt::Debug for Reservers<R> {

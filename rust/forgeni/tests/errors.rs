@@ -45,6 +45,8 @@ fn each_error_travels() {
     travels::<Unshared>();
     #[cfg(feature = "std")]
     travels::<forgeni::FrameError>();
+    #[cfg(feature = "std")]
+    travels::<forgeni::Unpooled<std::vec::IntoIter<Reserver>>>();
 }
 
 /// What is read through a shared reference can be read by many threads at once.

@@ -219,7 +219,7 @@ fn all_of(reserver: &mut Lent<'_>, n: u32) -> Vec<Handle> {
 #[cfg(feature = "std")]
 mod pools {
     use super::*;
-    use forgeni::{OutOfMemory, Reservers};
+    use forgeni::Reservers;
     use std::sync::atomic::{AtomicUsize, Ordering};
     use std::sync::{Arc, Barrier};
 
@@ -351,8 +351,7 @@ mod pools {
 
     #[test]
     fn a_pool_of_none() {
-        let pool: Result<Reservers, OutOfMemory> = Reservers::new([]);
-        let pool = pool.expect("it takes no memory");
+        let pool: Reservers = Reservers::new([]).expect("it takes no memory");
         assert_eq!((pool.count(), pool.try_with(|_| ())), (0, None));
         assert!(catch_unwind(AssertUnwindSafe(|| pool.with(|_| ()))).is_err());
     }

@@ -236,9 +236,16 @@ fn a_phase_on_a_borrow() {
 fn a_pool_of_reservers() {
     let (shared, mut reservers) = three().share(5).expect("shared");
     each_in_turn(|refusal| {
-        let make = || forgeni::Reservers::new(&mut reservers).map(|pool| pool.count());
-        let (count, refused) = insist(refusal, OutOfMemory, make);
-        assert_eq!(count, 5);
+        let all = std::mem::take(&mut reservers);
+        let (pool, refused) = refusing(refusal, || forgeni::Reservers::new(all));
+        let pool = pool.unwrap_or_else(|unpooled| {
+            assert!(refused > 0);
+            let (all, error) = unpooled.into_parts();
+            assert_eq!((all.len(), error), (5, OutOfMemory));
+            forgeni::Reservers::new(all).expect("memory")
+        });
+        assert_eq!(pool.count(), 5);
+        reservers = pool.into_inner();
         refused
     });
     let pool = forgeni::Reservers::new(&mut reservers).expect("memory");

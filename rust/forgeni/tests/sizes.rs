@@ -5,7 +5,9 @@
 //! `examples/at_size.sh` runs them. Without optimisation they would take a minute.
 
 use forgeni::{run_frame, Birth, CommandQueue, Commands, ComponentId, Entities, Fault, FaultKind};
-use forgeni::{FrameError, Freed, Handle, Limits, OutOfMemory, Queues, Refused, ShareError, State};
+use forgeni::{
+    FrameError, Freed, Handle, HandleMap, Limits, OutOfMemory, Queues, Refused, ShareError, State,
+};
 use forgeni::{OpenError, Storage, SystemCommands, View, World};
 
 /// How many there are of most things.
@@ -50,6 +52,37 @@ fn slots_and_waiting_slots() {
         assert_eq!(entities.alloc(), Ok(handle(index, 2)));
     }
     assert_eq!((entities.len(), entities.waiting()), (count, 0));
+}
+
+#[test]
+#[cfg_attr(debug_assertions, ignore = "for optimised code")]
+fn values_by_handle() {
+    let count = 1 << 22;
+    let mut entities = Entities::new();
+    let all = entities.alloc_many(count).expect("memory is ample");
+    assert!(entities.iter().eq(all.iter().copied()));
+    let mut map = HandleMap::new();
+    for one in &all {
+        let inserted = map.insert(*one, u64::from(one.index()));
+        assert_eq!(inserted.expect("memory is ample"), None);
+    }
+    assert_eq!((map.len(), map.iter().len()), (all.len(), all.len()));
+    map.retain(|one, value| {
+        *value += 1;
+        one.index() % 2 == 0
+    });
+    assert!(map.values().copied().eq((1..u64::from(count)).step_by(2)));
+    // The next occupants get theirs, in the order in which the slots come.
+    for one in &all {
+        entities.free(*one).expect("memory is ample");
+    }
+    for one in entities.alloc_many(count).expect("memory is ample") {
+        assert_eq!(map.insert(one, 7).expect("there is room"), None);
+    }
+    assert_eq!(map.len(), all.len());
+    assert!(map
+        .into_iter()
+        .all(|(one, value)| one.generation() == 2 && value == 7));
 }
 
 #[test]
