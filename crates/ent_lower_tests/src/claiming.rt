@@ -2,6 +2,7 @@
 ghost use Rattle.std.specs.Prelude.{◌≡◌, All, length, true};
 ghost use Rattle.ent_claims.specs.Claims.{IsClaimerOf};
 
+use crate::claiming_in_turn::assert_all;
 use crate::gate::Gate;
 use crate::opening::{closed, opened, workers};
 use crate::worker::Worker;
@@ -35,14 +36,14 @@ fn four_threads_claim_each_number_once(rt: HostRuntime) {
     let (claims, claimers) = opened(&rt, alloc, 1_000, 4);
     let workers = workers(&rt, alloc, &claims, claimers);
     let workers = all_beside(&rt, &claims, &Gate::new(4), workers, 1_000);
-    assert!(rt; workers.iter().all(|worker| worker.saw_all));
+    assert_saw_all(&rt, &workers);
     let mut claimed = closed(&rt, alloc, claims, workers);
     claimed.sort().expect(&rt, "memory to sort");
-    assert!(rt; claimed.len() == 1_000);
-    assert!(rt;
-        claimed
-            .iter()
-            .enumerate()
-            .all(|(number, claim)| *claim == number)
-    );
+    assert_all(&rt, &claimed, 1_000);
+}
+
+fn assert_saw_all(rt: &impl Abort, workers: &[Worker]) {
+    for worker in workers {
+        assert!(rt; worker.saw_all);
+    }
 }

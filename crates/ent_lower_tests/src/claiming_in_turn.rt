@@ -62,7 +62,7 @@ fn as_many_numbers_as_there_may_be(rt: HostRuntime) {
 }
 
 /// The numbers below that one, in order.
-fn assert_all(rt: &impl Abort, claimed: &[usize], numbers: usize) {
+pub fn assert_all(rt: &impl Abort, claimed: &[usize], numbers: usize) {
     assert!(rt; claimed.len() == numbers);
     for (number, claim) in claimed.iter().enumerate() {
         assert!(rt; *claim == number);

@@ -1,5 +1,5 @@
 //! The beginning and the end of the claiming.
-ghost use Rattle.std.specs.Prelude.{◌≡◌, ◌<◌, ◌≤◌, ◌^◌, All, length};
+ghost use Rattle.std.specs.Prelude.{◌≡◌, ◌+◌, ◌<◌, ◌≤◌, ◌^◌, All, length};
 ghost use Rattle.ent_claims.specs.Claims.{IsClaimerOf};
 
 use crate::worker::Worker;
@@ -66,6 +66,29 @@ fn last_worker(rt: &impl Abort, claims: &Claims, workers: &mut Vec<Worker>) -> W
     workers.pop().expect(rt, "a worker for each")
 }
 
+/// Moves the last worker's claimer, and what it has claimed, into these lists.
+fn take(
+    rt: &impl Abort,
+    claims: &Claims,
+    workers: &mut Vec<Worker>,
+    claimers: &mut Vec<Claimer>,
+    claimed: &mut Vec<usize>,
+)
+    requires left { All (λ w. IsClaimerOf claims.now w.claimer) workers.old.items }
+    requires own { All (IsClaimerOf claims.now) claimers.old.items }
+    ensures left { All (λ w. IsClaimerOf claims.now w.claimer) workers.new.items }
+    ensures own { All (IsClaimerOf claims.now) claimers.new.items }
+    ensures count { length claimers.new.items ≡ length claimers.old.items + 1 }
+{
+    let worker = last_worker(rt, claims, workers);
+    claimed
+        .extend_from_slice(&worker.claimed)
+        .expect(rt, "memory for a list");
+    claimers
+        .push(worker.claimer)
+        .expect(rt, "memory for the claimers");
+}
+
 /// Gives all claimers back. Returns what they have claimed, one worker's after the other's.
 pub fn closed(
     rt: &impl Abort,
@@ -79,13 +102,7 @@ pub fn closed(
     let mut claimers = Vec::new(alloc);
     let mut claimed = Vec::new(alloc);
     for _ in 0..workers.len() {
-        let worker = last_worker(rt, &claims, &mut workers);
-        claimed
-            .extend_from_slice(&worker.claimed)
-            .expect(rt, "memory for a list");
-        claimers
-            .push(worker.claimer)
-            .expect(rt, "memory for the claimers");
+        take(rt, &claims, &mut workers, &mut claimers, &mut claimed);
     }
     claims.close(claimers);
     claimed

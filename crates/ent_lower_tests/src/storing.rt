@@ -4,7 +4,6 @@ use ent_handle::{Birth, ComponentId, Handle};
 use ent_storage::{Storage, StorageFault};
 use std::alloc::Global;
 use std::process::Abort;
-use std::test::Fail;
 
 const HEALTH: ComponentId = ComponentId(0);
 
@@ -30,38 +29,36 @@ const MORE: [(ComponentId, i64); 5] = [
 // Passes whichever one allocation is refused: the refused call changes nothing, and is made again.
 // `rt try --test --fail-alloc N -- refused_memory` refuses the Nth.
 #[test]
-fn refused_memory_changes_nothing(rt: HostRuntime) -> Result<(), Fail> {
+fn refused_memory_changes_nothing(rt: HostRuntime) {
     for size in [0, 1, 20] {
-        assert_keeps(&rt, rt.alloc(), size)?;
+        assert_keeps(&rt, rt.alloc(), size);
     }
-    Ok(())
 }
 
-fn assert_keeps(rt: &impl Abort, alloc: Global, size: u32) -> Result<(), Fail> {
+fn assert_keeps(rt: &impl Abort, alloc: Global, size: u32) {
     let mut storage = Storage::new(alloc);
-    assert_each_call_keeps(rt, &mut storage, size)
+    assert_each_call_keeps(rt, &mut storage, size);
 }
 
-fn assert_each_call_keeps(rt: &impl Abort, storage: &mut Storage, size: u32) -> Result<(), Fail> {
+fn assert_each_call_keeps(rt: &impl Abort, storage: &mut Storage, size: u32) {
     for index in (0..size).rev() {
-        let entity = handle(index)?;
-        born_at_last(rt, storage, entity)?;
-        insert_at_last(rt, storage, entity, &[], &FEW)?;
-        insert_at_last(rt, storage, entity, &FEW, &MORE)?;
+        let entity = handle(rt, index);
+        born_at_last(rt, storage, entity);
+        insert_at_last(rt, storage, entity, &[], &FEW);
+        insert_at_last(rt, storage, entity, &FEW, &MORE);
     }
-    reserve_at_last(rt, storage)?;
-    list_at_last(rt, storage, size)?;
-    take_apart(rt, storage, size)
+    reserve_at_last(rt, storage);
+    list_at_last(rt, storage, size);
+    take_apart(rt, storage, size);
 }
 
-fn born_at_last(rt: &impl Abort, storage: &mut Storage, entity: Handle) -> Result<(), Fail> {
+fn born_at_last(rt: &impl Abort, storage: &mut Storage, entity: Handle) {
     let len = storage.len();
     if storage.born(entity, BIRTH) == Err(StorageFault::Memory) {
         assert!(rt; (storage.len(), storage.spare(), storage.contains(entity)) == (len, 0, false));
-        storage.born(entity, BIRTH)?;
+        assert!(rt; storage.born(entity, BIRTH) == Ok(()));
     }
     assert!(rt; storage.birth(entity) == Some(BIRTH));
-    Ok(())
 }
 
 fn insert_at_last(
@@ -70,34 +67,40 @@ fn insert_at_last(
     entity: Handle,
     held: &[(ComponentId, i64)],
     items: &[(ComponentId, i64)],
-) -> Result<(), Fail> {
+) {
     if storage.insert(entity, items) == Err(StorageFault::Memory) {
-        assert_items(rt, storage, entity, held)?;
-        storage.insert(entity, items)?;
+        assert_items(rt, storage, entity, held);
+        assert!(rt; storage.insert(entity, items) == Ok(()));
     }
-    assert_items(rt, storage, entity, items)
+    assert_items(rt, storage, entity, items);
 }
 
-fn reserve_at_last(rt: &impl Abort, storage: &mut Storage) -> Result<(), Fail> {
+fn reserve_at_last(rt: &impl Abort, storage: &mut Storage) {
     if storage.reserve(1000).is_err() {
         assert!(rt; storage.spare() < 1000);
-        storage.reserve(1000)?;
+        assert!(rt; storage.reserve(1000).is_ok());
     }
     assert!(rt; storage.spare() >= 1000);
-    Ok(())
 }
 
 // All have one birth, so both lists are in the order of handles.
-fn list_at_last(rt: &impl Abort, storage: &Storage, size: u32) -> Result<(), Fail> {
+fn list_at_last(rt: &impl Abort, storage: &Storage, size: u32) {
     match storage.by_birth() {
         Ok(all) => assert_numbered(rt, &all, size),
-        Err(_) => assert_numbered(rt, &storage.by_birth()?, size),
+        Err(_) => assert_numbered(
+            rt,
+            &storage.by_birth().expect(rt, "memory for a list"),
+            size,
+        ),
     }
     match storage.with(MANA) {
         Ok(with_mana) => assert_numbered(rt, &with_mana, size),
-        Err(_) => assert_numbered(rt, &storage.with(MANA)?, size),
+        Err(_) => assert_numbered(
+            rt,
+            &storage.with(MANA).expect(rt, "memory for a list"),
+            size,
+        ),
     }
-    Ok(())
 }
 
 fn assert_numbered(rt: &impl Abort, entities: &[Handle], size: u32) {
@@ -108,14 +111,13 @@ fn assert_numbered(rt: &impl Abort, entities: &[Handle], size: u32) {
 }
 
 // None of this takes memory, so no call is made twice.
-fn take_apart(rt: &impl Abort, storage: &mut Storage, size: u32) -> Result<(), Fail> {
+fn take_apart(rt: &impl Abort, storage: &mut Storage, size: u32) {
     for index in 0..size {
-        let entity = handle(index)?;
-        assert_items(rt, storage, entity, &MORE)?;
+        let entity = handle(rt, index);
+        assert_items(rt, storage, entity, &MORE);
         assert_taken_apart(rt, storage, entity);
     }
     assert!(rt; storage.is_empty());
-    Ok(())
 }
 
 fn assert_taken_apart(rt: &impl Abort, storage: &mut Storage, entity: Handle) {
@@ -136,18 +138,12 @@ fn assert_absent(rt: &impl Abort, storage: &mut Storage, gone: Handle) {
     assert!(rt; storage.despawn(gone) == absent);
 }
 
-fn assert_items(
-    rt: &impl Abort,
-    storage: &Storage,
-    entity: Handle,
-    want: &[(ComponentId, i64)],
-) -> Result<(), Fail> {
-    let items = storage.items(entity).ok_or("absent")?;
-    assert!(rt; items.len() == want.len(), "of {entity:?}");
-    assert!(rt; items.eq(want.iter().copied()), "of {entity:?}");
-    Ok(())
+fn assert_items(rt: &impl Abort, storage: &Storage, entity: Handle, want: &[(ComponentId, i64)]) {
+    let items = storage.items(entity).expect(rt, "components");
+    assert!(rt; items.len() == want.len());
+    assert!(rt; items.eq(want.iter().copied()));
 }
 
-fn handle(index: u32) -> Result<Handle, Fail> {
-    Ok(Handle::new(index, 1).ok_or("no handle")?)
+fn handle(rt: &impl Abort, index: u32) -> Handle {
+    Handle::new(index, 1).expect(rt, "a handle in range")
 }
