@@ -1,9 +1,9 @@
-//! Memory that is refused to the beginning of phases and of claiming.
+//! Memory that is refused to the beginning of phases and of claiming, and how refused requests read.
 use crate::opening::last;
 use ent_alloc::{AllocFault, Entities, Limits};
 use ent_claims::Claims;
 use ent_handle::{Handle, Memory};
-use ent_shared::share;
+use ent_shared::{Refused, share};
 use std::alloc::Global;
 use std::process::Abort;
 
@@ -49,4 +49,20 @@ fn a_refused_opening_can_be_tried_again(rt: HostRuntime) {
     let (claims, mut claimers) = opened.expect(&rt, "memory at the second try");
     let mut first = last(&rt, &claims, &mut claimers);
     assert!(rt; claimers.len() == 1 && claims.next(&mut first) == Some(0));
+}
+
+#[test]
+fn texts_of_refusals(rt: HostRuntime) {
+    let alloc = rt.alloc();
+    let space = Refused::Space { wanted: 7, left: 3 };
+    assert_text(&rt, alloc, space, "7 wanted and 3 left");
+    let quota = Refused::Quota {
+        left: 1_099_511_627_775,
+    };
+    assert_text(&rt, alloc, quota, "the credit left is 1099511627775");
+}
+
+fn assert_text(rt: &impl Abort, alloc: Global, refused: Refused, wanted: &str) {
+    let text = refused.to_string(alloc).expect(rt, "memory for a text");
+    assert_eq!(rt; text.as_str(), wanted);
 }
