@@ -22,6 +22,7 @@ const TESTS: &[&str] = &[
     "ent_alloc_tests",
     "ent_claims_tests",
     "ent_handle_tests",
+    "ent_map_tests",
     "ent_queue_tests",
     "ent_replay_tests",
     "ent_runner_tests",
