@@ -100,9 +100,16 @@ impl<'a> Call<'a> {
 fn birth_of(word: &str) -> Option<Birth> {
     let (frame, others) = word.split_once('.')?;
     let (system, ordinal) = others.split_once('.')?;
-    Some(Birth {
-        frame: frame.parse().ok()?,
-        system: system.parse().ok()?,
-        ordinal: ordinal.parse().ok()?,
-    })
+    birth_of_parts(frame, system, ordinal)
+}
+
+fn birth_of_parts(frame: &str, system: &str, ordinal: &str) -> Option<Birth> {
+    if let (Ok(frame), Ok(system), Ok(ordinal)) = (frame.parse(), system.parse(), ordinal.parse()) {
+        return Some(Birth {
+            frame,
+            system,
+            ordinal,
+        });
+    }
+    None
 }
