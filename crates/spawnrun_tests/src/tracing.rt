@@ -68,13 +68,13 @@ fn differs_at(checked: Result<Checker, Stop>) -> Option<u64> {
 }
 
 fn first_log(rt: &impl Abort, alloc: Global, checker: Checker) -> Checker {
-    let checker = after(rt, checker, 5, served(rt, alloc, 5, 1, &[(0, 2)]));
-    let checker = after(rt, checker, 6, served(rt, alloc, 6, 1, &[]));
-    after(rt, checker, 7, served(rt, alloc, 7, 1, &[(2, 1)]))
+    let checker = after(rt, checker, 5, served(rt, alloc, 5, 1, 1, &[(0, 2)]));
+    let checker = after(rt, checker, 6, served(rt, alloc, 6, 1, 0, &[]));
+    after(rt, checker, 7, served(rt, alloc, 7, 1, 1, &[(2, 1)]))
 }
 
 fn second_log(rt: &impl Abort, alloc: Global, checker: Checker) -> Checker {
-    let checker = after(rt, checker, 8, served(rt, alloc, 8, 2, &[(1, 2)]));
+    let checker = after(rt, checker, 8, served(rt, alloc, 8, 2, 1, &[(1, 2)]));
     let reserved = Line::State(handle(rt, 0, 2), Some(State::Reserved));
     let checker = after(rt, checker, 9, reserved);
     let refused = reservation(10, 2, 1, ReserveReply::SpaceLeft(0));
@@ -104,14 +104,13 @@ fn the_order_of_a_caller_counts(rt: HostRuntime) {
         &rt,
         opened(&rt, alloc),
         5,
-        served(&rt, alloc, 5, 1, &[(0, 2)]),
+        served(&rt, alloc, 5, 1, 1, &[(0, 2)]),
     );
-    let checker = after(&rt, checker, 6, served(&rt, alloc, 6, 1, &[(1, 2)]));
+    let checker = after(&rt, checker, 6, served(&rt, alloc, 6, 1, 1, &[(1, 2)]));
     assert!(rt; differs_at(checker.finish()) == Some(5));
 }
 
-fn refused(rt: &impl Abort, checker: Checker, number: u64, requested: u32) -> Checker {
-    let caller = number as u32;
+fn refused(rt: &impl Abort, checker: Checker, number: u64, caller: u32, requested: u32) -> Checker {
     after(
         rt,
         checker,
@@ -124,8 +123,8 @@ fn refused(rt: &impl Abort, checker: Checker, number: u64, requested: u32) -> Ch
 #[test]
 fn the_greatest_refusal_comes_first(rt: HostRuntime) {
     let alloc = rt.alloc();
-    let checker = refused(&rt, opened(&rt, alloc), 5, 2);
-    assert!(rt; refused(&rt, checker, 6, 4).finish().is_ok());
-    let alone = refused(&rt, opened(&rt, alloc), 5, 2);
+    let checker = refused(&rt, opened(&rt, alloc), 5, 1, 2);
+    assert!(rt; refused(&rt, checker, 6, 2, 4).finish().is_ok());
+    let alone = refused(&rt, opened(&rt, alloc), 5, 1, 2);
     assert!(rt; differs_at(alone.finish()) == Some(5));
 }
