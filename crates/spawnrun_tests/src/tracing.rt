@@ -21,8 +21,14 @@ fn handles(rt: &impl Abort, alloc: Global, pairs: &[(u32, u32)]) -> HandleList {
 }
 
 // A reservation that was served.
-fn served(rt: &impl Abort, alloc: Global, number: u64, caller: u32, given: &[(u32, u32)]) -> Line {
-    let requested = given.len() as u32;
+fn served(
+    rt: &impl Abort,
+    alloc: Global,
+    number: u64,
+    caller: u32,
+    requested: u32,
+    given: &[(u32, u32)],
+) -> Line {
     reservation(
         number,
         caller,
