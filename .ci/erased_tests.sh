@@ -1,6 +1,7 @@
 #!/bin/sh
 # The repository's own tests of the proved crates, on the erased sources, in debug and in release; and 20,000 random schedules, which the
-# erased code and the program of crates/spawnrun have to replay to the same bytes. The gate has built the program before.
+# erased code and the program of crates/spawnrun have to replay to the same bytes. The gate has built the program before. The benchmark's
+# `replay` in plain Rust has to do what the program does on an example.
 set -eu
 cd "$(dirname "$0")/.."
 SPAWNRUN=$PWD/crates/spawnrun/out/spawnrun
@@ -13,3 +14,7 @@ export RUST_TEST_THREADS=1
 cargo test --offline --quiet
 cargo test --offline --quiet --release
 cargo test --offline --quiet --release -- --ignored
+cargo build --offline --quiet --release --bin replay
+example=../../examples/one_caller.txt
+"$SPAWNRUN" replay <"$example" >target/replayed
+target/release/replay <"$example" | cmp - target/replayed

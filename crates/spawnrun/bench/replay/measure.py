@@ -1,6 +1,6 @@
-"""Runs `spawnrun replay` on a schedule and prints its row of the table, or stops at a wrong outcome.
+"""Runs `spawnrun replay` on a schedule, and the same in plain Rust, and prints the row of the table, or stops at a wrong outcome.
 
-usage: measure.py PROGRAM SHAPE SCHEDULE OUTCOMES
+usage: measure.py PROGRAM ERASED SHAPE SCHEDULE OUTCOMES
 """
 
 import re
@@ -48,17 +48,19 @@ def peak_memory(command, schedule):
     return 1024 * int(re.search(r"VmHWM:\s*(\d+) kB", status)[1])
 
 
-def main(program, shape, schedule, outcomes):
+def main(program, erased, shape, schedule, outcomes):
     command, schedule = [program, "replay"], Path(schedule)
     text, wanted = schedule.read_bytes(), Path(outcomes).read_bytes()
     lines = text.count(b"\n")
     if wanted.count(b"\n") != lines:
         sys.exit("there are not as many outcomes as events")
-    least = min(nanoseconds(command, schedule, wanted) for _ in range(RUNS))
+    # The two take turns.
+    times = [(nanoseconds(command, schedule, wanted), nanoseconds([erased], schedule, wanted)) for _ in range(RUNS)]
+    least, of_erased = map(min, zip(*times))
     peak = peak_memory(command, schedule)
     print(
         f"| {shape} | {lines:,} | {len(text):,} | {len(wanted):,} | {least / 1e6:,.1f} | {least / lines:,.0f}"
-        f" | {peak / 2**20:,.1f} | {peak / lines:,.0f} |"
+        f" | {peak / 2**20:,.1f} | {peak / lines:,.0f} | {of_erased / 1e6:,.1f} | {of_erased / least:.2f} |"
     )
 
 

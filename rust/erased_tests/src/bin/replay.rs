@@ -1,0 +1,53 @@
+//! `spawnrun replay` of the erased code, with the greatest limits: a schedule on standard input, what comes of it on
+//! standard output. The benchmark of the program times it beside the machine code that the kit has made.
+
+extern crate alloc;
+
+#[path = "../../../forgeni/src/kit/mod.rs"]
+#[allow(dead_code)] // Not all of it is used here.
+mod kit;
+#[rustfmt::skip]
+#[path = "../../../forgeni/src/proved/mod.rs"]
+mod proved;
+
+#[rustfmt::skip]
+#[path = "../made/ent_replay/mod.rs"]
+#[allow(dead_code, unused_imports, unused_variables, clippy::all)]
+mod ent_replay;
+#[path = "../host/collections.rs"]
+#[allow(dead_code)]
+mod collections;
+#[path = "../host/itoa.rs"]
+#[allow(dead_code)]
+mod itoa;
+
+// The places that the erased sources name.
+mod host {
+    pub(crate) use crate::{collections, itoa};
+}
+mod made {
+    pub(crate) use crate::ent_replay;
+}
+
+use ent_replay::{read_schedule, write_outcome, Machine};
+use kit::alloc::Global;
+use kit::vec::Vec as List;
+use proved::ent_alloc::Limits;
+use std::error::Error;
+use std::io::{self, Read, Write};
+
+fn main() -> Result<(), Box<dyn Error>> {
+    let mut schedule = Vec::new();
+    io::stdin().read_to_end(&mut schedule)?;
+    let events = read_schedule(Global, &schedule).map_err(|_| "it is no schedule")?;
+    let mut machine =
+        Machine::new(Global, Limits::default_limits()).map_err(|_| "out of memory")?;
+    let outcomes = machine.run(&events).map_err(|_| "out of memory")?;
+    let mut text = List::new(Global);
+    for outcome in &outcomes {
+        write_outcome(outcome, &mut text)?;
+    }
+    let text: Vec<u8> = text.into();
+    io::stdout().write_all(&text)?;
+    Ok(())
+}
