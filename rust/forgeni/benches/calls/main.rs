@@ -9,6 +9,7 @@
 
 mod components;
 mod entities;
+mod frames;
 mod peers;
 #[path = "../plain/mod.rs"]
 mod plain;
@@ -75,6 +76,10 @@ fn main() {
     }
     if wanted("threads") {
         threads::table();
+        println!();
+    }
+    if wanted("frames") {
+        frames::table();
     }
 }
 
