@@ -1,7 +1,7 @@
 #!/bin/sh
-# Builds the program of crates/spawnrun, runs `spawnrun replay` on schedules of several lengths and shapes, and prints
-# the table of times and memory. Beside it runs the same in plain Rust (rust/erased_tests). An outcome that is not what
-# the model in schedule.py says ends it.
+# Runs `spawnrun replay` on schedules of several lengths and shapes, and prints the table of times and memory. The
+# program is that of crates/spawnrun as the gate built it, or it is built. Beside it runs the same in plain Rust
+# (rust/erased_tests). An outcome that is not what the model in schedule.py says ends it.
 # It needs `rt`, `cargo` and `python3` on the path, the /proc of Linux, and 70 MB for temporary files.
 set -eu
 here=$(cd "$(dirname "$0")" && pwd)
@@ -15,7 +15,7 @@ row() {
     python3 "$here/measure.py" "$crate/out/spawnrun" "$rust/erased_tests/target/release/replay" "$1" "$out/schedule" "$out/outcomes"
 }
 
-(cd "$crate" && rt run -- replay </dev/null >"$out/log" 2>&1) || { tail -5 "$out/log"; exit 1; }
+[ -x "$crate/out/spawnrun" ] || (cd "$crate" && rt run -- replay </dev/null >"$out/log" 2>&1) || { tail -5 "$out/log"; exit 1; }
 (cd "$rust/.." && cargo run --offline --quiet --manifest-path rust/erase/Cargo.toml -- --tests) >"$out/log" 2>&1 || { tail -5 "$out/log"; exit 1; }
 cargo build --offline --quiet --release --bin replay --manifest-path "$rust/erased_tests/Cargo.toml"
 echo "| Schedule | Lines | Input bytes | Output bytes | ms | ns a line | Peak MiB | Peak bytes a line | ms in plain Rust | Ratio |"
