@@ -52,7 +52,7 @@ impl<V: Copy> ByCaller<V> {
     ///
     /// # Errors
     ///
-    /// Nothing changes if memory runs out. It can only for a caller without a value.
+    /// Nothing changes if memory runs out.
     pub fn insert(&mut self, caller: u32, value: V) -> Result<(), Memory>
         ensures ok { OnOk result (self.new ≡ map.insert self.old caller value) }
         ensures err { OnErr result (self.new ≡ self.old) }
