@@ -2,12 +2,13 @@
 
 use super::alloc::{AllocError, Global};
 use super::vec::Vec;
+use core::mem;
 
 /// A list of at most this length is sorted in its place.
 const FEW: usize = 20;
 
 /// Sorts the items by their keys; those of one key keep their order. After an `Err` no item has moved.
-pub(super) fn merge_sort<T: Copy, K: Ord>(
+pub(super) fn sort_by_key<T, K: Ord>(
     items: &mut [T],
     key: &impl Fn(&T) -> K,
 ) -> Result<(), AllocError> {
@@ -15,55 +16,39 @@ pub(super) fn merge_sort<T: Copy, K: Ord>(
         insertion_sort(items, key);
         return Ok(());
     }
-    let mut buffer = Vec::with_capacity(Global, items.len() / 2)?;
-    sort_with(items, &mut buffer, key);
+    let mut order = Vec::with_capacity(Global, items.len())?;
+    for (place, item) in items.iter().enumerate() {
+        order.push_reserved((key(item), place));
+    }
+    // No two of these are equal, so this keeps the order of one key. It asks for no memory.
+    order.sort_unstable();
+    arrange(items, &mut order);
     Ok(())
 }
 
-/// The buffer has room for half of the items.
-fn sort_with<T: Copy, K: Ord>(items: &mut [T], buffer: &mut Vec<T>, key: &impl Fn(&T) -> K) {
-    if items.len() <= FEW {
-        return insertion_sort(items, key);
-    }
-    let middle = items.len() / 2;
-    let (lower, upper) = items.split_at_mut(middle);
-    sort_with(lower, buffer, key);
-    sort_with(upper, buffer, key);
-    if key(&items[middle]) < key(&items[middle - 1]) {
-        merge(items, middle, buffer, key);
-    }
-}
-
-/// Merges the items before `middle` with the others. Both are in order.
-fn merge<T: Copy, K: Ord>(
-    items: &mut [T],
-    middle: usize,
-    buffer: &mut Vec<T>,
-    key: &impl Fn(&T) -> K,
-) {
-    buffer.clear();
-    for item in &items[..middle] {
-        buffer.push_reserved(*item);
-    }
-    let mut upper = middle;
-    for (done, lower) in buffer.iter().enumerate() {
-        // What has been written is all of the lower items so far, and the upper ones before `upper`.
-        while upper < items.len() && key(&items[upper]) < key(lower) {
-            items[done + upper - middle] = items[upper];
-            upper += 1;
+/// Moves to each position the item whose place the order has there, one cycle after the other.
+fn arrange<T, K>(items: &mut [T], order: &mut [(K, usize)]) {
+    for first in 0..items.len() {
+        let mut to = first;
+        loop {
+            // A position that has its item has itself in the order.
+            let from = mem::replace(&mut order[to].1, to);
+            if from == first {
+                break;
+            }
+            items.swap(to, from);
+            to = from;
         }
-        items[done + upper - middle] = *lower;
     }
 }
 
-fn insertion_sort<T: Copy, K: Ord>(items: &mut [T], key: &impl Fn(&T) -> K) {
+fn insertion_sort<T, K: Ord>(items: &mut [T], key: &impl Fn(&T) -> K) {
     for end in 1..items.len() {
-        let (item, mut at) = (items[end], end);
-        while at > 0 && key(&item) < key(&items[at - 1]) {
-            items[at] = items[at - 1];
+        let mut at = end;
+        while at > 0 && key(&items[at]) < key(&items[at - 1]) {
+            items.swap(at, at - 1);
             at -= 1;
         }
-        items[at] = item;
     }
 }
 
@@ -72,14 +57,14 @@ mod tests {
     use super::super::refusing::refuse;
     use super::*;
 
-    /// Pairs with few keys, and each with its first position.
-    fn pairs(count: u32, keys: u32) -> ::alloc::vec::Vec<(u32, u32)> {
+    /// Pairs with few keys, and each with its first position, as a text that isn't `Copy`.
+    fn pairs(count: u32, keys: u32) -> ::alloc::vec::Vec<(u32, std::string::String)> {
         let mut seed = count + keys;
         let mut next = || {
             seed = seed.wrapping_mul(1_664_525).wrapping_add(1_013_904_223);
             (seed >> 16) % keys
         };
-        (0..count).map(|at| (next(), at)).collect()
+        (0..count).map(|at| (next(), std::format!("{at}"))).collect()
     }
 
     #[test]
@@ -89,8 +74,27 @@ mod tests {
                 let mut ours = pairs(count, keys);
                 let mut wanted = ours.clone();
                 wanted.sort_by_key(|pair| pair.0);
-                merge_sort(&mut ours, &|pair| pair.0).expect("memory");
+                sort_by_key(&mut ours, &|pair| pair.0).expect("memory");
                 assert_eq!(ours, wanted, "{count} items with {keys} keys");
+            }
+        }
+    }
+
+    #[test]
+    fn lists_that_rise_or_fall_or_were_moved_by_one() {
+        let keys = |count: u32| 0..count;
+        for count in [20, 21, 500] {
+            let moved = keys(count).map(|key| (key + 1) % count);
+            let moved_back = keys(count).map(|key| (key + count - 1) % count);
+            let lists: [::alloc::vec::Vec<u32>; 4] = [
+                keys(count).collect(),
+                keys(count).rev().collect(),
+                moved.collect(),
+                moved_back.collect(),
+            ];
+            for mut list in lists {
+                sort_by_key(&mut list, &|key| *key).expect("memory");
+                assert!(list.iter().copied().eq(keys(count)), "{count} items");
             }
         }
     }
@@ -100,11 +104,11 @@ mod tests {
         let mut items = pairs(21, 5);
         let before = items.clone();
         assert_eq!(
-            refuse(|| merge_sort(&mut items, &|pair| pair.0)),
+            refuse(|| sort_by_key(&mut items, &|pair| pair.0)),
             Err(AllocError)
         );
         assert_eq!(items, before);
-        refuse(|| merge_sort(&mut items[..20], &|pair| pair.0)).expect("nothing is asked for");
+        refuse(|| sort_by_key(&mut items[..20], &|pair| pair.0)).expect("nothing is asked for");
         assert!(items[..20].is_sorted_by_key(|pair| pair.0));
     }
 }
