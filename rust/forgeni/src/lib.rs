@@ -181,6 +181,7 @@ mod sync;
 mod system;
 #[cfg(feature = "std")]
 mod system_commands;
+pub mod trace;
 #[cfg(feature = "std")]
 mod view;
 mod world;

@@ -64,7 +64,9 @@ mod tests {
             seed = seed.wrapping_mul(1_664_525).wrapping_add(1_013_904_223);
             (seed >> 16) % keys
         };
-        (0..count).map(|at| (next(), std::format!("{at}"))).collect()
+        (0..count)
+            .map(|at| (next(), std::format!("{at}")))
+            .collect()
     }
 
     #[test]
