@@ -179,6 +179,17 @@ impl Checker {
         self.call(Call::Reserve(Reservation::new(caller, requested, reply)))
     }
 
+    /// Takes all that a log has, which is empty then. It overlapped what was reserved since the last other
+    /// call.
+    ///
+    /// # Errors
+    ///
+    /// As of [`reserve`](Self::reserve).
+    pub fn join(&mut self, log: &mut Log) -> Result<(), CheckError> {
+        log.drain()
+            .try_for_each(|reservation| self.call(Call::Reserve(reservation)))
+    }
+
     /// These reservations overlapped, with those that were taken since the last other call. They are
     /// compared now, and what is reserved later came later.
     ///

@@ -45,6 +45,11 @@ impl Log {
         &self.reservations
     }
 
+    /// Takes all out, in its order.
+    pub(super) fn drain(&mut self) -> impl Iterator<Item = Reservation> + '_ {
+        self.reservations.drain(..)
+    }
+
     /// Appends a reservation of so many handles, with its answer.
     ///
     /// # Errors
@@ -90,7 +95,7 @@ impl Log {
 /// # Ok::<(), Box<dyn std::error::Error>>(())
 /// ```
 ///
-/// Where threads keep logs of their own, [`join`](Self::join) takes each as the phase ends.
+/// Where threads keep their logs, [`Checker::join`] takes each of them as the phase ends.
 pub struct Recorder {
     checker: Checker,
     logs: Vec<Log>,
@@ -116,15 +121,6 @@ impl Recorder {
     /// A log for each caller.
     pub fn logs(&mut self) -> &mut [Log] {
         &mut self.logs
-    }
-
-    /// Takes all that a log has, of whatever thread, into the run that is compared at the next other call.
-    ///
-    /// # Errors
-    ///
-    /// As of [`Checker::call`].
-    pub fn join(&mut self, log: &mut Log) -> Result<(), CheckError> {
-        join(&mut self.checker, log)
     }
 
     /// A handle was asked for, to be alive at once.
@@ -191,17 +187,10 @@ impl Recorder {
     /// The checker, which has taken all that the logs had.
     fn joined(&mut self) -> Result<&mut Checker, CheckError> {
         for log in &mut self.logs {
-            join(&mut self.checker, log)?;
+            self.checker.join(log)?;
         }
         Ok(&mut self.checker)
     }
-}
-
-/// Moves all that a log has to the checker.
-fn join(checker: &mut Checker, log: &mut Log) -> Result<(), CheckError> {
-    log.reservations
-        .drain(..)
-        .try_for_each(|reservation| checker.call(super::Call::Reserve(reservation)))
 }
 
 impl fmt::Debug for Recorder {
