@@ -27,16 +27,16 @@ use std::sync::{Barrier, Mutex, RwLock};
 use std::thread::{scope, yield_now};
 
 /// A slot has few generations, so that the last one comes.
-pub const GENERATIONS: u32 = 4;
+const GENERATIONS: u32 = 4;
 
 /// How many reservations a thread makes in a phase, and how many phases there are.
 const RESERVATIONS: u32 = 4;
-pub const PHASES: u32 = 3_000;
+const PHASES: u32 = 3_000;
 
 /// So many may live on to the next phase.
 const LIVING: usize = 6;
 
-pub fn main() -> Result<(), CheckError> {
+fn main() -> Result<(), CheckError> {
     for threads in [1, 2, 4, 16] {
         let calls = checked(None, threads)?;
         println!("threads {threads:2}: {PHASES} phases, {calls} calls agree");
@@ -54,7 +54,7 @@ pub fn main() -> Result<(), CheckError> {
 
 /// What is wrong with an allocator.
 #[derive(Clone, Copy, Debug, PartialEq, Eq)]
-pub enum Fault {
+enum Fault {
     TwoSteps,
     FreshIndex,
     GenerationKept,
@@ -67,7 +67,7 @@ pub enum Fault {
     Wrap,
 }
 
-pub const FAULTS: [(Fault, &str); 10] = [
+const FAULTS: [(Fault, &str); 10] = [
     (Fault::TwoSteps, "a reservation in two steps"),
     (Fault::FreshIndex, "a fresh index off by one"),
     (Fault::GenerationKept, "the generation kept"),
@@ -82,7 +82,7 @@ pub const FAULTS: [(Fault, &str); 10] = [
 
 impl Fault {
     /// Whether it takes two threads to see it.
-    pub fn is_of_threads(self) -> bool {
+    fn is_of_threads(self) -> bool {
         matches!(self, Self::TwoSteps | Self::Lost | Self::ReadAgain)
     }
 }
@@ -230,7 +230,7 @@ impl Allocator {
 }
 
 /// Uses an allocator, and checks what it answers. Returns how many calls there were.
-pub fn checked(fault: Option<Fault>, threads: u32) -> Result<u64, CheckError> {
+fn checked(fault: Option<Fault>, threads: u32) -> Result<u64, CheckError> {
     let crew = Crew {
         allocator: RwLock::new(Allocator::new(fault)),
         logs: (0..threads).map(Log::new).map(Mutex::new).collect(),
