@@ -153,12 +153,12 @@ impl Allocator {
         }
     }
 
-    fn reserve(&self) -> Handle {
+    fn reserve_entity(&self) -> Handle {
         self.at(self.lower(1))
     }
 
     /// First slots that wait, the one that waits longest before the others, and then new ones.
-    fn reserve_many(&self, count: u32) -> Vec<Handle> {
+    fn reserve_entities(&self, count: u32) -> Vec<Handle> {
         let high = self.lower(i64::from(count));
         let low = high - i64::from(count);
         let waiting = low.max(0) + 1..=high.max(0);
@@ -270,8 +270,8 @@ impl Crew {
             let mut random = Random(phase << 32 | u64::from(log.caller()));
             for _ in 0..RESERVATIONS {
                 let pushed = match random.below(4) {
-                    1 => log.push(1, allocator.reserve()),
-                    count => log.push(count, allocator.reserve_many(count)),
+                    1 => log.push(1, allocator.reserve_entity()),
+                    count => log.push(count, allocator.reserve_entities(count)),
                 };
                 pushed.expect("memory for the log");
             }

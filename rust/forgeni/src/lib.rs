@@ -83,6 +83,11 @@
 //! systems. Who has threads of its own uses [`World::open`], [`Commands`], [`OpenWorld::close`] and
 //! [`World::apply`].
 //!
+//! # An allocator of your own
+//!
+//! A [`trace::Checker`] is fed what another allocator was asked and what it answered, and says where its
+//! answers aren't those of the proved one. Reservations of threads may be handed in in any order.
+//!
 //! # What may go wrong
 //!
 //! Each error goes by `?` into a `Box<dyn Error + Send + Sync>`. One that hands something back has it
@@ -115,6 +120,9 @@
 //! - [`Report::born`], [`Report::faults`], [`Storage::items`] and [`World::items`] make a list.
 //! - [`Entities::share`], [`Entities::phase`] and [`World::open`] make an `Arc`. They ask for as much memory before, and
 //!   say so if it is refused. So only another thread can take it in between.
+//! - Handles of a slice or an array become an answer of a [`trace::Call`], and an error of a
+//!   [`trace::Checker`] is returned, which is copied each time. If another thread takes the memory first,
+//!   so does a caller's first reservation of a run.
 //! - A [`HandleMap`] is cloned, extended, collected, or used up by an iterator. `Reservers::into_inner`
 //!   makes a list.
 //! - A close after one that was refused with [`CloseError::InUse`] may make a list.
