@@ -352,6 +352,7 @@ const METHODS: &[&str] = &[
     "saturating_mul",
     "saturating_sub",
     "size_hint",
+    "sort_by_cached_key",
     "sort_by_key",
     "sort_unstable",
     "split_at",

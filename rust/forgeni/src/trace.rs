@@ -88,7 +88,7 @@ impl Checker {
         }
     }
 
-    /// How many calls were taken. It is the number of the last one.
+    /// How many calls were handed in, up to the first that failed. It is the number of the last one.
     #[must_use]
     pub const fn calls(&self) -> u64 {
         self.calls
@@ -106,6 +106,7 @@ impl Checker {
     /// `Memory`.
     #[doc = include_str!("proved/ent_trace/checker.take.md")]
     pub fn call(&mut self, call: Call) -> Result<(), CheckError> {
+        self.goes_on()?;
         self.calls += 1;
         let number = self.calls;
         let line = call.line(number);
@@ -199,8 +200,12 @@ impl Checker {
     ///
     /// As of [`call`](Self::call).
     pub fn run(&mut self, reservations: &[Reservation]) -> Result<(), CheckError> {
+        self.goes_on()?;
         for reservation in reservations {
-            self.call(Call::Reserve(reservation.copied()?))?;
+            match reservation.copied() {
+                Ok(copy) => self.call(Call::Reserve(copy))?,
+                Err(OutOfMemory) => return self.out_of_memory(),
+            }
         }
         // A length that nobody was told ends the run, and changes nothing.
         let last = Call::Len(0);
@@ -237,14 +242,23 @@ impl Checker {
                 .and_then(|line| proved.take(number, line).map_err(|it| self.error(it, call))),
             stopped => stopped,
         };
+        self.goes_on()
+    }
+
+    /// Why it has stopped, if it has.
+    fn goes_on(&self) -> Result<(), CheckError> {
         self.proved.as_ref().map(drop).map_err(Clone::clone)
+    }
+
+    fn out_of_memory(&mut self) -> Result<(), CheckError> {
+        self.proved = Err(CheckError::Memory);
+        self.goes_on()
     }
 
     /// Keeps a reservation of the run.
     fn keep(&mut self, number: u64, reservation: Reservation) -> Result<(), CheckError> {
         if self.run.try_reserve(1).is_err() {
-            self.proved = Err(CheckError::Memory);
-            return Err(CheckError::Memory);
+            return self.out_of_memory();
         }
         self.run.push((number, reservation));
         Ok(())

@@ -379,12 +379,15 @@ fn traced() -> Vec<Call> {
 fn calls_of_a_checker() {
     each_block_in_turn(|refusal| {
         let (mut checker, calls) = (Checker::new(Limits::GREATEST), traced());
+        let run = [0, 1].map(|caller| Reservation::new(caller, 1, handle(33 - caller, 1)));
         let (checked, refused) = refusing(refusal, || {
-            calls.into_iter().try_for_each(|call| checker.call(call))
+            calls.into_iter().try_for_each(|call| checker.call(call))?;
+            checker.run(&run)
         });
         if checked == Err(CheckError::Memory) {
             assert!(refused > 0, "nothing was refused");
             assert_eq!(checker.len(32), checked);
+            assert_eq!(checker.run(&run), checked);
         } else {
             assert_eq!((checked, refused), (Ok(()), 0));
             checker.finish().expect("it agrees");

@@ -148,7 +148,7 @@ fn a_run_that_was_compared_is_over() {
         .run(&[late.clone(), early.clone()])
         .expect("in the other order");
     let mut checker = begun();
-    let wrong = checker.run(&[late.clone()]);
+    let wrong = checker.run(std::slice::from_ref(&late));
     expect_text(wrong, "differs line 6: reserve 1 1 => 0v2, expected 1v2");
 
     // What isn't compared yet is of one run, however it is handed in.
@@ -237,6 +237,7 @@ fn nothing_is_compared_after_a_difference() {
     assert_eq!(wrong, Err(CheckError::Differs(difference.clone())));
     assert_eq!(checker.len(1), wrong);
     assert_eq!(checker.run(&[]), wrong);
+    assert_eq!(checker.calls(), 6);
     let found = checker.finish().expect_err("the same");
     assert_eq!(found.difference(), Some(&difference));
     assert_eq!(CheckError::TooMany.difference(), None);

@@ -1,7 +1,7 @@
 //! The kit's `Vec`: each call that may grow it returns a `Result`.
 
 use super::alloc::{AllocError, AllocFailed, Global};
-use super::sorting::sort_by_key;
+use super::sorting::{merge_sort, sort_in_cycles};
 use core::fmt;
 use core::ops::{Deref, DerefMut};
 use core::slice;
@@ -151,8 +151,17 @@ impl<T> Vec<T> {
     /// The contract: the items rise by their keys, and those of one key keep their order. All memory
     /// is asked for before an item moves, and none for 20 items or fewer. `sort_by_key` of Rust's
     /// slices ends the program instead.
-    pub fn sort_by_key<K: Ord>(&mut self, key: impl Fn(&T) -> K) -> Result<(), AllocError> {
-        sort_by_key(&mut self.0, &key)
+    pub fn sort_by_key<K: Ord>(&mut self, key: impl Fn(&T) -> K) -> Result<(), AllocError>
+    where
+        T: Copy,
+    {
+        merge_sort(&mut self.0, &key)
+    }
+
+    /// The contract: the items rise by their keys, and those of one key keep their order. All memory
+    /// is asked for before an item moves, and none for no items.
+    pub fn sort_by_cached_key<K: Ord>(&mut self, key: impl Fn(&T) -> K) -> Result<(), AllocError> {
+        sort_in_cycles(&mut self.0, &key)
     }
 }
 

@@ -122,7 +122,7 @@ impl Checker {
         } = self;
         // The state is sound, so no handle has two places.
         prove_eq!(entities.cursor(), entities.cursor());
-        run.sort_by_key(|placed| placed.key)?;
+        run.sort_by_cached_key(|placed| placed.key)?;
         place_all(alloc, &mut entities, &run)?;
         run.clear();
         latest.clear();
