@@ -29,7 +29,7 @@ pub fn search_slot(pairs: &[(Handle, u32)], handle: Handle) -> Result<usize, usi
 
 /// Whether the handle would go to that position.
 #[inline(always)]
-fn is_gap(pairs: &[(Handle, u32)], position: usize, handle: Handle) -> bool
+pub fn is_gap(pairs: &[(Handle, u32)], position: usize, handle: Handle) -> bool
     // requires { T (is_sorted handle_cmp pairs.now) }
     // ensures { IsTrue result → IsGapFor handle_cmp pairs.now handle position }
 {

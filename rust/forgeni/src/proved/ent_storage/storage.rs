@@ -144,9 +144,14 @@ impl Storage {
         self.born_within(handle, birth)
     }
 
-    /// Adds an entity without components, if there is room for it. The index is searched once.
+    /// Does what [`Storage::born`] does, where there is room: who enters many tests that once for all
+    /// of them. It takes no memory, and `spare` is then less by 1.
+    ///
+    /// # Errors
+    ///
+    /// `Present`: the entity is there already. Nothing is changed.
     #[inline(always)]
-    fn born_within(&mut self, handle: Handle, birth: Birth) -> Result<(), StorageFault>
+    pub fn born_within(&mut self, handle: Handle, birth: Birth) -> Result<(), StorageFault>
         // requires room { 0 < self.old.spare }
         // ensures ok { OnOk result
         //     (self.new.entities ≡ map.insert self.old.entities handle (newborn birth)) }
