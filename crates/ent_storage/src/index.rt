@@ -8,7 +8,7 @@ ghost use Rattle.ent_sorted.specs.Position.{IsAt, IsGapFor};
 
 use super::living::{Living, has_handle_at};
 use super::places::MOST_PLACES;
-use super::slot::{is_gap, search_slot};
+use super::slot::{at_slot, is_gap, search_slot};
 use ent_handle::Handle;
 use std::alloc::{AllocError, Global};
 use std::marker::Model;
@@ -19,7 +19,8 @@ use std::marker::Model;
 ///
 /// A pair counts only if its place has the pair's handle. So to take an entity out, nothing is
 /// moved here. The pair of the slot's next occupant takes over the one before it, because it comes
-/// next in the order.
+/// next in the order. Where the place is one that nobody has, no entity has to be looked at for
+/// that.
 #[derive(Drop)]
 pub struct Index {
     pairs: Vec<(Handle, u32)>,
@@ -42,6 +43,9 @@ impl Model for Index {
 
     ghost invariant = { λ a. T (map.is_sorted handle_cmp a.pairs.items) };
 }
+
+/// A place that hardly any storage has.
+const NOWHERE: u32 = u32::MAX;
 
 impl Index {
     /// An index of no entities, without room.
@@ -121,6 +125,17 @@ impl Index {
     {
         if let Ok(position) = search_slot(&self.pairs, handle) {
             self.pairs[position] = (handle, place as u32);
+        }
+    }
+
+    /// Forgets the place of an entity that has gone, if its pair stands at its slot's number.
+    #[inline(always)]
+    pub fn forget(&mut self, handle: Handle)
+        ensures kept { Keeps handle self.old.by_handle self.new.by_handle }
+        ensures room { self.new.room ≡ self.old.room }
+    {
+        if let Some(position) = at_slot(&self.pairs, handle) {
+            self.pairs[position] = (handle, NOWHERE);
         }
     }
 

@@ -3,7 +3,7 @@
 use crate::kit::vec::Vec;
 use super::living::{Living, has_handle_at};
 use super::places::MOST_PLACES;
-use super::slot::{is_gap, search_slot};
+use super::slot::{at_slot, is_gap, search_slot};
 use crate::proved::ent_handle::Handle;
 use crate::kit::alloc::{AllocError, Global};
 
@@ -13,10 +13,14 @@ use crate::kit::alloc::{AllocError, Global};
 ///
 /// A pair counts only if its place has the pair's handle. So to take an entity out, nothing is
 /// moved here. The pair of the slot's next occupant takes over the one before it, because it comes
-/// next in the order.
+/// next in the order. Where the place is one that nobody has, no entity has to be looked at for
+/// that.
 pub struct Index {
     pairs: Vec<(Handle, u32)>,
 }
+
+/// A place that hardly any storage has.
+const NOWHERE: u32 = u32::MAX;
 
 impl Index {
     /// An index of no entities, without room.
@@ -97,6 +101,17 @@ impl Index {
     {
         if let Ok(position) = search_slot(&self.pairs, handle) {
             self.pairs[position] = (handle, place as u32);
+        }
+    }
+
+    /// Forgets the place of an entity that has gone, if its pair stands at its slot's number.
+    #[inline(always)]
+    pub fn forget(&mut self, handle: Handle)
+        // ensures kept { Keeps handle self.old.by_handle self.new.by_handle }
+        // ensures room { self.new.room ≡ self.old.room }
+    {
+        if let Some(position) = at_slot(&self.pairs, handle) {
+            self.pairs[position] = (handle, NOWHERE);
         }
     }
 
