@@ -1,4 +1,4 @@
-ghost use Rattle.std.specs.Prelude.{◌≡◌, ◌<◌, ◌≤◌, T, OnOk, OnErr, IsOk, Some, IsSome, length};
+ghost use Rattle.std.specs.Prelude.{◌≡◌, ◌<◌, ◌≤◌, T, OnOk, OnErr, IsOk, None, Some, IsSome, length};
 ghost use Rattle.std.specs.Prelude.{vec_len, vec_capacity, ◌+◌, IfSome, IsTrue};
 ghost use Rattle.std.specs.Prelude.{IfOk, IfErr, is_none};
 ghost use Rattle.std.specs.FinMap as map;
@@ -8,7 +8,7 @@ ghost use Rattle.ent_sorted.specs.Position.{IsAt, IsGapFor};
 
 use super::living::{Living, has_handle_at};
 use super::places::MOST_PLACES;
-use super::slot::search_slot;
+use super::slot::{at_slot, is_gap, search_slot};
 use ent_handle::Handle;
 use std::alloc::{AllocError, Global};
 use std::marker::Model;
@@ -19,7 +19,8 @@ use std::marker::Model;
 ///
 /// A pair counts only if its place has the pair's handle. So to take an entity out, nothing is
 /// moved here. The pair of the slot's next occupant takes over the one before it, because it comes
-/// next in the order.
+/// next in the order. Where the place is one that nobody has, no entity has to be looked at for
+/// that.
 #[derive(Drop)]
 pub struct Index {
     pairs: Vec<(Handle, u32)>,
@@ -43,6 +44,9 @@ impl Model for Index {
     ghost invariant = { λ a. T (map.is_sorted handle_cmp a.pairs.items) };
 }
 
+/// A place that hardly any storage has.
+const NOWHERE: u32 = u32::MAX;
+
 impl Index {
     /// An index of no entities, without room.
     pub fn new(alloc: Global) -> Self
@@ -65,9 +69,33 @@ impl Index {
     /// Writes down that the entity has the next place, after all the living, and returns whether it
     /// did: not if the living have the entity already. It takes no memory.
     ///
-    /// The handle is looked for once, and once more only if pairs have to be dropped.
+    /// An allocator's handles come behind the pair of their slot's last occupant, or behind all. So
+    /// these two places are tried first, and only then is the handle looked for.
     #[inline(always)]
     pub fn put(&mut self, living: &Living, handle: Handle) -> bool
+        requires room { length living.now.entities < self.old.room }
+        ensures new { result
+            ≡ is_none (map.get (counted living.now.entities self.old.by_handle) handle) }
+        ensures placed { IsTrue result
+            → map.get self.new.by_handle handle ≡ Some (length living.now.entities) }
+        ensures kept { IsTrue result
+            → Keeps handle (counted living.now.entities self.old.by_handle) self.new.by_handle }
+        ensures refused { ¬ (IsTrue result) → self.new ≡ self.old }
+        ensures room { self.new.room ≡ self.old.room }
+    {
+        let place = living.len();
+        if put_over_last(&mut self.pairs, living, (handle, place as u32))
+            || put_behind(&mut self.pairs, living, (handle, place as u32))
+        {
+            return true;
+        }
+        self.put_searched(living, handle)
+    }
+
+    /// Does what `put` does, wherever the handle's pair goes. The handle is looked for once, and
+    /// once more only if pairs have to be dropped.
+    #[inline(never)]
+    fn put_searched(&mut self, living: &Living, handle: Handle) -> bool
         requires room { length living.now.entities < self.old.room }
         ensures new { result
             ≡ is_none (map.get (counted living.now.entities self.old.by_handle) handle) }
@@ -97,6 +125,17 @@ impl Index {
     {
         if let Ok(position) = search_slot(&self.pairs, handle) {
             self.pairs[position] = (handle, place as u32);
+        }
+    }
+
+    /// Forgets the place of an entity that has gone, if its pair stands at its slot's number.
+    #[inline(always)]
+    pub fn forget(&mut self, handle: Handle)
+        ensures kept { Keeps handle self.old.by_handle self.new.by_handle }
+        ensures room { self.new.room ≡ self.old.room }
+    {
+        if let Some(position) = at_slot(&self.pairs, handle) {
+            self.pairs[position] = (handle, NOWHERE);
         }
     }
 
@@ -158,6 +197,56 @@ fn sweep(pairs: &mut Vec<(Handle, u32)>, living: &Living)
     ensures capacity { vec_capacity pairs.new ≡ vec_capacity pairs.old }
 {
     pairs.retain(|pair| has_handle_at(living, pair.0, pair.1 as usize));
+}
+
+/// Puts a pair over that of its slot's last occupant, and returns whether it did: only if that one
+/// stands at the slot's number, doesn't count, and is the one before the gap for the new pair.
+#[inline(always)]
+fn put_over_last(pairs: &mut Vec<(Handle, u32)>, living: &Living, pair: (Handle, u32)) -> bool
+    requires { T (map.is_sorted handle_cmp pairs.old.items) }
+    ensures sorted { T (map.is_sorted handle_cmp pairs.new.items) }
+    ensures new { IsTrue result → map.get (counted living.now.entities
+        (map.from_sorted {R = handle_cmp} pairs.old.items)) pair.0 ≡ None }
+    ensures placed { IsTrue result → map.get (map.from_sorted {R = handle_cmp} pairs.new.items)
+        pair.0 ≡ Some pair.1 }
+    ensures kept { IsTrue result → Keeps pair.0
+        (counted living.now.entities (map.from_sorted pairs.old.items))
+        (map.from_sorted pairs.new.items) }
+    ensures refused { ¬ (IsTrue result) → pairs.new.items ≡ pairs.old.items }
+    ensures capacity { vec_capacity pairs.new ≡ vec_capacity pairs.old }
+{
+    let slot = pair.0.index() as usize;
+    if is_own(pairs, living, slot, pair.0) && is_gap(pairs, slot + 1, pair.0) {
+        pairs[slot] = pair;
+        true
+    } else {
+        false
+    }
+}
+
+/// Puts a pair behind all others, and returns whether it did: only if there is room for it, and it
+/// belongs there.
+#[inline(always)]
+fn put_behind(pairs: &mut Vec<(Handle, u32)>, living: &Living, pair: (Handle, u32)) -> bool
+    requires { T (map.is_sorted handle_cmp pairs.old.items) }
+    ensures sorted { T (map.is_sorted handle_cmp pairs.new.items) }
+    ensures new { IsTrue result → map.get (counted living.now.entities
+        (map.from_sorted {R = handle_cmp} pairs.old.items)) pair.0 ≡ None }
+    ensures placed { IsTrue result → map.get (map.from_sorted {R = handle_cmp} pairs.new.items)
+        pair.0 ≡ Some pair.1 }
+    ensures kept { IsTrue result → Keeps pair.0
+        (counted living.now.entities (map.from_sorted pairs.old.items))
+        (map.from_sorted pairs.new.items) }
+    ensures refused { ¬ (IsTrue result) → pairs.new.items ≡ pairs.old.items }
+    ensures capacity { vec_capacity pairs.new ≡ vec_capacity pairs.old }
+{
+    let end = pairs.len();
+    if end < pairs.capacity() && is_gap(pairs, end, pair.0) {
+        pairs.push_reserved(pair);
+        true
+    } else {
+        false
+    }
 }
 
 /// Puts a pair where its handle was found, or into the gap for it. If there is no room for one pair

@@ -27,9 +27,22 @@ pub fn search_slot(pairs: &[(Handle, u32)], handle: Handle) -> Result<usize, usi
     search(pairs, handle)
 }
 
+/// The slot's number, if the handle stands there.
+#[inline(always)]
+pub fn at_slot(pairs: &[(Handle, u32)], handle: Handle) -> Option<usize>
+    // ensures { IfSome result (IsAt handle_cmp pairs.now handle) }
+{
+    let slot = handle.index() as usize;
+    if slot < pairs.len() && pairs[slot].0 == handle {
+        Some(slot)
+    } else {
+        None
+    }
+}
+
 /// Whether the handle would go to that position.
 #[inline(always)]
-fn is_gap(pairs: &[(Handle, u32)], position: usize, handle: Handle) -> bool
+pub fn is_gap(pairs: &[(Handle, u32)], position: usize, handle: Handle) -> bool
     // requires { T (is_sorted handle_cmp pairs.now) }
     // ensures { IsTrue result → IsGapFor handle_cmp pairs.now handle position }
 {
