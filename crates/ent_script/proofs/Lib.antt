@@ -18,5 +18,3 @@ pub mod Puts
 pub mod Whole
 pub mod PartRanges
 pub mod Ranges
-pub mod WorkedScripts
-pub mod WorkedRefusals
