@@ -216,10 +216,10 @@ def reading(items, before):
     return wrapped(f"To read: {total} lines in {len(files)} files{added if listed else ''}" + (f": {listed}." if listed else "."))
 
 
-def kit_modules(kit):
-    """The modules of the kit that are cited, each with how many of its names."""
-    modules = collections.Counter(module.replace(".specs", "") for module, _ in sorted(kit))
-    return wrapped("; ".join(f"{module}~{count}" for module, count in modules.items()) + ".")
+def kit_counted(kit):
+    """How many definitions of the kit are cited."""
+    modules = {module for module, _ in kit}
+    return wrapped(f"From the kit, which the gate doesn't prove again: {len(kit)} definitions in {len(modules)} modules. `show` names them.")
 
 
 def made():
@@ -233,7 +233,7 @@ def made():
     text = PAGE.read_text()
     if text.count("<!-- read -->") != len(lists):
         faults.append(f"{PAGE}: not each theorem has its line `<!-- read -->`")
-    lists += [reading(all_items, all_items), kit_modules(all_kit)]
+    lists += [reading(all_items, all_items), kit_counted(all_kit)]
     parts = re.split(r"(<!-- (?:read|all|kit) -->\n)(?:.+\n)*", text)
     parts[2::2] = ["\n".join([*each, parts[2 * at + 2]]) for at, each in enumerate(lists)]
     return "".join(parts), faults
