@@ -1,6 +1,6 @@
 #!/bin/sh
 # Shows that a program which closes a `Shared` while it holds a reply of it doesn't compile: keeps a reply in a copy of
-# crates/example_threads, uses it after the close, and fails unless the compiler refuses the move. It proves nothing, and needs `rt`
+# crates/examples, uses it after the close, and fails unless the compiler refuses the move. It proves nothing, and needs `rt`
 # and `patch` on the path.
 set -eu
 top=$(cd "$(dirname "$0")/.." && pwd)
@@ -8,7 +8,7 @@ copy=$(mktemp -d)
 trap 'rm -rf "$copy"' EXIT
 
 tar -C "$top" --exclude=out -c crates crates.txt HANDLES | tar -x -C "$copy"
-cd "$copy/crates/example_threads"
+cd "$copy/crates/examples"
 patch --quiet -p1 <<'PATCH'
 --- a/src/two_threads.rt
 +++ b/src/two_threads.rt
