@@ -120,9 +120,10 @@
 //! - [`Report::born`], [`Report::faults`], [`Storage::items`] and [`World::items`] make a list.
 //! - [`Entities::share`], [`Entities::phase`] and [`World::open`] make an `Arc`. They ask for as much memory before, and
 //!   say so if it is refused. So only another thread can take it in between.
-//! - Handles of a slice or an array become an answer of a [`trace::Call`], and an error of a
-//!   [`trace::Checker`] is returned, which is copied each time. If another thread takes the memory first,
-//!   so does a caller's first reservation of a run.
+//! - Handles of a slice or an array become an answer of a [`trace::Call`], or a [`trace::Checker`]
+//!   returns an error, which it copies.
+//! - A [`trace::Checker`] notes the first reservation of a caller in a run. It asks for as much memory
+//!   before, as for an `Arc`.
 //! - A [`HandleMap`] is cloned, extended, collected, or used up by an iterator. `Reservers::into_inner`
 //!   makes a list.
 //! - A close after one that was refused with [`CloseError::InUse`] may make a list.
