@@ -6,6 +6,7 @@ ghost use Rattle.ent_handle.specs.Handle.{handle_cmp};
 ghost use Rattle.ent_storage.specs.Indexed.{counted, Keeps, IsFree};
 ghost use Rattle.ent_sorted.specs.Position.{IsAt, IsGapFor};
 
+use super::key::Key;
 use super::living::{Living, has_handle_at};
 use super::places::MOST_PLACES;
 use super::slot::{at_slot, is_gap, search_slot};
@@ -23,7 +24,7 @@ use std::marker::Model;
 /// that.
 #[derive(Drop)]
 pub struct Index {
-    pairs: Vec<(Handle, u32)>,
+    pairs: Vec<(Key, u32)>,
 }
 
 impl Model for Index {
@@ -84,8 +85,8 @@ impl Index {
         ensures room { self.new.room ≡ self.old.room }
     {
         let place = living.len();
-        if put_over_last(&mut self.pairs, living, (handle, place as u32))
-            || put_behind(&mut self.pairs, living, (handle, place as u32))
+        if put_over_last(&mut self.pairs, living, (Key::of(handle), place as u32))
+            || put_behind(&mut self.pairs, living, (Key::of(handle), place as u32))
         {
             return true;
         }
@@ -111,7 +112,7 @@ impl Index {
             return false;
         }
         let place = living.len() as u32;
-        put_found(&mut self.pairs, living, found, (handle, place));
+        put_found(&mut self.pairs, living, found, (Key::of(handle), place));
         true
     }
 
@@ -124,7 +125,7 @@ impl Index {
             ≡ record self.old { by_handle = map.insert self.old.by_handle handle place } }
     {
         if let Ok(position) = search_slot(&self.pairs, handle) {
-            self.pairs[position] = (handle, place as u32);
+            self.pairs[position] = (Key::of(handle), place as u32);
         }
     }
 
@@ -135,7 +136,7 @@ impl Index {
         ensures room { self.new.room ≡ self.old.room }
     {
         if let Some(position) = at_slot(&self.pairs, handle) {
-            self.pairs[position] = (handle, NOWHERE);
+            self.pairs[position] = (Key::of(handle), NOWHERE);
         }
     }
 
@@ -165,7 +166,7 @@ impl Index {
 /// The place in the pair that was found, if one was, and it counts.
 #[inline(always)]
 fn place_found(
-    pairs: &[(Handle, u32)],
+    pairs: &[(Key, u32)],
     living: &Living,
     handle: Handle,
     found: Result<usize, usize>,
@@ -188,7 +189,7 @@ fn place_found(
 
 /// Drops the pairs that don't count. It takes no memory.
 #[inline(never)]
-fn sweep(pairs: &mut Vec<(Handle, u32)>, living: &Living)
+fn sweep(pairs: &mut Vec<(Key, u32)>, living: &Living)
     requires { T (map.is_sorted handle_cmp pairs.old.items) }
     ensures sorted { T (map.is_sorted handle_cmp pairs.new.items) }
     ensures counted { map.from_sorted pairs.new.items
@@ -196,13 +197,13 @@ fn sweep(pairs: &mut Vec<(Handle, u32)>, living: &Living)
     ensures len { vec_len pairs.new ≤ length living.now.entities }
     ensures capacity { vec_capacity pairs.new ≡ vec_capacity pairs.old }
 {
-    pairs.retain(|pair| has_handle_at(living, pair.0, pair.1 as usize));
+    pairs.retain(|pair| has_handle_at(living, pair.0.handle(), pair.1 as usize));
 }
 
 /// Puts a pair over that of its slot's last occupant, and returns whether it did: only if that one
 /// stands at the slot's number, doesn't count, and is the one before the gap for the new pair.
 #[inline(always)]
-fn put_over_last(pairs: &mut Vec<(Handle, u32)>, living: &Living, pair: (Handle, u32)) -> bool
+fn put_over_last(pairs: &mut Vec<(Key, u32)>, living: &Living, pair: (Key, u32)) -> bool
     requires { T (map.is_sorted handle_cmp pairs.old.items) }
     ensures sorted { T (map.is_sorted handle_cmp pairs.new.items) }
     ensures new { IsTrue result → map.get (counted living.now.entities
@@ -215,8 +216,8 @@ fn put_over_last(pairs: &mut Vec<(Handle, u32)>, living: &Living, pair: (Handle,
     ensures refused { ¬ (IsTrue result) → pairs.new.items ≡ pairs.old.items }
     ensures capacity { vec_capacity pairs.new ≡ vec_capacity pairs.old }
 {
-    let slot = pair.0.index() as usize;
-    if is_own(pairs, living, slot, pair.0) && is_gap(pairs, slot + 1, pair.0) {
+    let slot = pair.0.handle().index() as usize;
+    if is_own(pairs, living, slot, pair.0.handle()) && is_gap(pairs, slot + 1, pair.0.handle()) {
         pairs[slot] = pair;
         true
     } else {
@@ -227,7 +228,7 @@ fn put_over_last(pairs: &mut Vec<(Handle, u32)>, living: &Living, pair: (Handle,
 /// Puts a pair behind all others, and returns whether it did: only if there is room for it, and it
 /// belongs there.
 #[inline(always)]
-fn put_behind(pairs: &mut Vec<(Handle, u32)>, living: &Living, pair: (Handle, u32)) -> bool
+fn put_behind(pairs: &mut Vec<(Key, u32)>, living: &Living, pair: (Key, u32)) -> bool
     requires { T (map.is_sorted handle_cmp pairs.old.items) }
     ensures sorted { T (map.is_sorted handle_cmp pairs.new.items) }
     ensures new { IsTrue result → map.get (counted living.now.entities
@@ -241,7 +242,7 @@ fn put_behind(pairs: &mut Vec<(Handle, u32)>, living: &Living, pair: (Handle, u3
     ensures capacity { vec_capacity pairs.new ≡ vec_capacity pairs.old }
 {
     let end = pairs.len();
-    if end < pairs.capacity() && is_gap(pairs, end, pair.0) {
+    if end < pairs.capacity() && is_gap(pairs, end, pair.0.handle()) {
         pairs.push_reserved(pair);
         true
     } else {
@@ -253,10 +254,10 @@ fn put_behind(pairs: &mut Vec<(Handle, u32)>, living: &Living, pair: (Handle, u3
 /// more, some pairs don't count. Then it drops those, and looks for the handle again.
 #[inline(always)]
 fn put_found(
-    pairs: &mut Vec<(Handle, u32)>,
+    pairs: &mut Vec<(Key, u32)>,
     living: &Living,
     found: Result<usize, usize>,
-    pair: (Handle, u32),
+    pair: (Key, u32),
 )
     requires sorted { T (map.is_sorted handle_cmp pairs.old.items) }
     requires found { IfOk found (IsAt handle_cmp pairs.old.items pair.0) }
@@ -273,7 +274,7 @@ fn put_found(
         put_at(pairs, living, found, pair);
     } else {
         sweep(pairs, living);
-        let swept = search_slot(pairs, pair.0);
+        let swept = search_slot(pairs, pair.0.handle());
         put_at(pairs, living, swept, pair);
     }
 }
@@ -281,10 +282,10 @@ fn put_found(
 /// Puts a pair where its handle was found, or into the gap for it.
 #[inline(always)]
 fn put_at(
-    pairs: &mut Vec<(Handle, u32)>,
+    pairs: &mut Vec<(Key, u32)>,
     living: &Living,
     found: Result<usize, usize>,
-    pair: (Handle, u32),
+    pair: (Key, u32),
 )
     requires sorted { T (map.is_sorted handle_cmp pairs.old.items) }
     requires found { IfOk found (IsAt handle_cmp pairs.old.items pair.0) }
@@ -306,7 +307,7 @@ fn put_at(
 /// Puts a pair into the gap for it: over a pair beside the gap that doesn't count, or between the
 /// two.
 #[inline(always)]
-fn put_in_gap(pairs: &mut Vec<(Handle, u32)>, living: &Living, position: usize, pair: (Handle, u32))
+fn put_in_gap(pairs: &mut Vec<(Key, u32)>, living: &Living, position: usize, pair: (Key, u32))
     requires sorted { T (map.is_sorted handle_cmp pairs.old.items) }
     requires gap { IsGapFor handle_cmp pairs.old.items pair.0 position }
     requires room { vec_len pairs.old < vec_capacity pairs.old }
@@ -317,7 +318,7 @@ fn put_in_gap(pairs: &mut Vec<(Handle, u32)>, living: &Living, position: usize, 
         (map.from_sorted pairs.new.items) }
     ensures capacity { vec_capacity pairs.new ≡ vec_capacity pairs.old }
 {
-    match taken_over(pairs, living, position, pair.0) {
+    match taken_over(pairs, living, position, pair.0.handle()) {
         Some(other) => pairs[other] = pair,
         None if position == pairs.len() => pairs.push_reserved(pair),
         None => {
@@ -333,7 +334,7 @@ fn put_in_gap(pairs: &mut Vec<(Handle, u32)>, living: &Living, position: usize, 
 /// end a new pair moves nothing, so it takes over no other slot's.
 #[inline(always)]
 fn taken_over(
-    pairs: &[(Handle, u32)],
+    pairs: &[(Key, u32)],
     living: &Living,
     position: usize,
     handle: Handle,
@@ -363,21 +364,21 @@ fn taken_over(
 
 /// Whether a pair of the handle's slot stands there that doesn't count. The slot is compared first,
 /// so that no entity of another slot is looked at.
-fn is_own(pairs: &[(Handle, u32)], living: &Living, position: usize, handle: Handle) -> bool
+fn is_own(pairs: &[(Key, u32)], living: &Living, position: usize, handle: Handle) -> bool
     ensures { IsTrue result → IsFree living.now.entities pairs.now position }
 {
     position < pairs.len()
-        && pairs[position].0.index() == handle.index()
+        && pairs[position].0.handle().index() == handle.index()
         && is_free(pairs, living, position)
 }
 
 /// Whether a pair stands there that doesn't count.
-fn is_free(pairs: &[(Handle, u32)], living: &Living, position: usize) -> bool
+fn is_free(pairs: &[(Key, u32)], living: &Living, position: usize) -> bool
     ensures { IsTrue result → IsFree living.now.entities pairs.now position }
 {
     if position >= pairs.len() {
         return false;
     }
-    let (handle, place) = pairs[position];
-    !has_handle_at(living, handle, place as usize)
+    let (key, place) = pairs[position];
+    !has_handle_at(living, key.handle(), place as usize)
 }

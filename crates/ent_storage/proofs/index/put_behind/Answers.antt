@@ -9,7 +9,7 @@ use Rattle.ent_storage.proofs.index.put_behind.Goals as goal
 
 module _ (c : goal.After-push_reserved) where
   gap : IsGapFor handle_cmp c.args.pairs.now.items c.args.pair.0 c.len-end.result
-  gap = rw c.deref.ensures.value at c.is_gap.ensures c.if-is_gap.true
+  gap = rw (c.deref.ensures.value, c.handle.ensures) at c.is_gap.ensures c.if-is_gap.true
 
   end : insert c.args.pairs.now.items c.len-end.result c.args.pair
       ≡ c.push_reserved.new.self.items

@@ -11,7 +11,8 @@ use Rattle.ent_storage.proofs.index.put_over_last.Goals as goal
 
 module _ (c : goal.After-pairs-1) where
   gap : IsGapFor handle_cmp c.args.pairs.now.items c.args.pair.0 (c.index-slot.result + 1)
-  gap = rw c.deref-then-is_own.ensures.value at c.is_gap.ensures c.if-is_gap.true
+  gap = rw (c.deref-then-is_own.ensures.value, c.handle-then-is_own.ensures)
+      at c.is_gap.ensures c.if-is_gap.true
 
   free : IsFree c.args.living.now.entities c.args.pairs.now.items c.index-slot.result
   free = rw c.deref.ensures.value at c.is_own.ensures c.if-is_own.true
