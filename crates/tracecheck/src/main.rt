@@ -4,6 +4,8 @@
 
 mod checking;
 mod command_line;
+#[cfg(test)]
+mod failing;
 mod lines;
 mod program;
 mod progress;
