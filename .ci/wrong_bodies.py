@@ -101,7 +101,8 @@ class Prover:
 
     def words(self, crate, functions, kept):
         """The command that checks these functions, or all of them if none is named."""
-        words = [self.kit / "bin/rattle", "check", "--crate-name", crate, "src/lib.rt"]
+        root = "src/main.rt" if os.path.isfile(f"crates/{crate}/src/main.rt") else "src/lib.rt"
+        words = [self.kit / "bin/rattle", "check", "--crate-name", crate, root]
         for used in ["std", *self.uses[crate]]:
             own = self.top / f"crates/{used}/out/rlib/{used}.rlib"
             words += ["--extern", f"{used}={own if used in self.uses else self.kit / f'rlibs/{used}.rlib'}"]

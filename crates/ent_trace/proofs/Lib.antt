@@ -9,3 +9,5 @@ pub mod Complete
 pub mod Lifted
 pub mod Runs
 pub mod Keys
+pub mod WordParts
+pub mod InBrackets

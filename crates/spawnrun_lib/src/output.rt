@@ -3,7 +3,7 @@ ghost use Rattle.std.specs.Prelude.{◌≡◌, ◌≢◌, ◌+◌, ◌⊎◌, �
 ghost use Rattle.std.specs.Io.KnownBytes.{Appends};
 ghost use Rattle.spawnrun_lib.specs.Replay.{size_line};
 
-use crate::device::{Failed, Sink};
+use devices::{Failed, Sink};
 use crate::status::Status;
 use ent_handle::Memory;
 use std::alloc::Global;

@@ -1,7 +1,7 @@
 //! The program on the words that it was started with.
 ghost use Rattle.std.specs.Prelude.{◌≤◌};
 
-use crate::device::Counted;
+use devices::Counted;
 use crate::program::{execute, refuse_words};
 use std::env::Env;
 use std::io::{Read, Write};
