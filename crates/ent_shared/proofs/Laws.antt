@@ -1,5 +1,4 @@
--- What crates above need to know of records: how they make up the history, what they were given,
--- and what they have left.
+-- What crates above need to know of records: what they were given, one by one and all together.
 use Rattle.std.proofs.Common.{◌≡◌, ◌≢◌, ℕ, ℤ, List, [], ◌∷◌, ◌++◌}
 use Rattle.std.proofs.Common.{refl, sym, ap, subst, ◌∙◌, append_assoc, append-nil}
 use Rattle.std.proofs.Common.{AllPairs, IsPermutation}
@@ -20,7 +19,6 @@ use Rattle.ent_shared.specs.Moves.{after_meeting}
 use Rattle.ent_shared.specs.Order.{insert_reservation, by_falling_high, own_of_all}
 use Rattle.ent_shared.specs.Order.{history_of, handles_of}
 use Rattle.ent_shared.specs.Order.{handles_given}
-pub use Rattle.ent_shared.proofs.Returned.{length-served}
 use Rattle.ent_shared.proofs.Records.{own-made, own-met}
 
 -- A reservation and a meeting, and what they add to a record.
