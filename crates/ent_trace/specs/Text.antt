@@ -1,5 +1,5 @@
--- Traces as text: lines and words, the one spelling of each call with its answer, and what a line is
--- read as.
+-- Traces as text: lines and words, the one spelling of each call with its answer, and what a line
+-- is read as.
 use Rattle.std.specs.Prelude.{◌≡◌, ℕ, Bool, ◌&&◌, ◌||◌, not, List, [], ◌∷◌}
 use Rattle.std.specs.Prelude.{◌++◌, length, map, ◌==◌, if◌then◌else◌, codes}
 use Rattle.std.specs.Prelude.{Option, Some, None, Result, Ok, Err}
@@ -87,8 +87,8 @@ without_return [] = []
 without_return (byte ∷ []) = if byte == 13 then [] else byte ∷ []
 without_return (byte ∷ next ∷ more) = byte ∷ without_return (next ∷ more)
 
--- The lines, by the parts between the line feeds. A carriage return before a line feed is part of the
--- line's end. What stands after the last line feed is a line if it isn't empty.
+-- The lines, by the parts between the line feeds. A carriage return before a line feed is part of
+-- the line's end. What stands after the last line feed is a line if it isn't empty.
 abbrev pub ended : List (List ℕ) → List (List ℕ)
 ended [] = []
 ended (last ∷ []) = if length last == 0 then [] else last ∷ []
@@ -329,8 +329,8 @@ len_line words = do
   reply ← optional len_told told
   Ok (line.Len reply)
 
--- The call of a first word and those after it, or the first test that they fail: the first word, the
--- count of words, the numbers from the left, the handle, the answer. The number is that of the line.
+-- The call of a first word and those after it, or the first test that they fail: the first word,
+-- the count of words, the numbers from the left, the handle, the answer. The number is the line's.
 unfoldable pub call_of : ℕ → Word → List Word → Result Line Cause
 call_of number word others =
     if bytes_eq word (codes "reserve") then reserve_line number others

@@ -1,5 +1,6 @@
 //! The words of a line.
-ghost use Rattle.std.specs.Prelude.{◌≡◌, ◌<◌, ◌∷◌, ◌++◌, [], length, take, not, All, IfSome, IfNone, IfOk, IfErr, OnErr, false};
+ghost use Rattle.std.specs.Prelude.{◌≡◌, ◌<◌, ◌∷◌, ◌++◌, [], length, take, not, All, IfSome};
+ghost use Rattle.std.specs.Prelude.{IfNone, IfOk, IfErr, OnErr, false};
 ghost use Rattle.ent_trace.specs.Text.{before_comment, words_in, is_blank as is_blank_byte};
 ghost use Rattle.ent_trace.specs.Text.{no_argument, one_argument, two_arguments, ReadsAsView};
 ghost use Rattle.ent_trace.specs.Text.{before_arrow, is_arrow};

@@ -1,5 +1,6 @@
 //! Lines of a trace, read and compared one after the other.
-ghost use Rattle.std.specs.Prelude.{◌≡◌, ◌∷◌, ◌++◌, ◌+◌, [], length, List, ℕ, IfOk, IfErr, Some, Ok};
+ghost use Rattle.std.specs.Prelude.{◌≡◌, ◌∷◌, ◌++◌, ◌+◌, [], length, List, ℕ, IfOk, IfErr};
+ghost use Rattle.std.specs.Prelude.{Some, Ok};
 ghost use Rattle.ent_alloc.specs.Limits.{Limits as LimitsValue};
 ghost use Rattle.ent_trace.specs.Text.{line_of, words_of};
 ghost use Rattle.ent_trace.specs.declared.line.Line.{Line as LineValue};
@@ -30,8 +31,8 @@ impl From<AllocError> for End {
     }
 }
 
-/// Takes the lines of a trace as texts, one after the other. It holds the checker, and nothing of the
-/// lines.
+/// Takes the lines of a trace as texts, one after the other. It holds the checker, and nothing of
+/// the lines.
 #[derive(Drop)]
 pub struct Checking {
     alloc: Global,
@@ -64,7 +65,8 @@ impl Checking {
     ///
     /// # Errors
     ///
-    /// `Verdict` if the line is none, or if a reply isn't the allocator's. `Memory` if memory ran out.
+    /// `Verdict` if the line is none, or if an answer isn't the allocator's. `Memory` if memory ran
+    /// out.
     pub fn take(self, text: &[u8]) -> Result<Self, End>
         ensures taken { IfOk result (λ next. (limits : LimitsValue) (texts : List (List ℕ))
             → HasTaken limits texts self → HasTaken limits (texts ++ text.now ∷ []) next) }

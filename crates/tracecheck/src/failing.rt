@@ -112,8 +112,8 @@ fn the_write_fails(rt: HostRuntime) {
     assert!(rt; said.as_slice() == b"device\n".as_slice());
 }
 
-// It passes whichever single allocation is refused: `rt try --test --fail-alloc N -- refused_memory`
-// refuses the Nth.
+// It passes whichever single allocation is refused:
+// `rt try --test --fail-alloc N -- refused_memory` refuses the Nth.
 #[test]
 fn refused_memory_writes_nothing(rt: HostRuntime) {
     let (status, written, _) = run(rt.alloc(), NEVER, NEVER);

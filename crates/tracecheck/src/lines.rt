@@ -34,8 +34,8 @@ fn end_line(checking: Checking, pending: &mut Vec<u8>, bytes: &[u8]) -> Result<C
     Ok(checking)
 }
 
-/// Takes all lines that end in a piece of the text. What stands after the last line's end, if it has
-/// no end yet, is pending before and afterwards.
+/// Takes all lines that end in a piece of the text. What stands after the last line's end is pending,
+/// before and afterwards.
 pub fn feed(checking: Checking, pending: &mut Vec<u8>, piece: &[u8]) -> Result<Checking, End>
     ensures taken { IfOk result (λ next. (limits : LimitsValue) (text : List ℕ)
         → HasRead limits text checking pending.old.items
@@ -54,7 +54,7 @@ pub fn feed(checking: Checking, pending: &mut Vec<u8>, piece: &[u8]) -> Result<C
     Ok(checking)
 }
 
-/// Takes the last line, which has no end, if there is one, and says what is to be said of the trace.
+/// Takes the last line if there is one without an end, and says what is to be said of the trace.
 pub fn finish(checking: Checking, pending: &[u8]) -> End
     ensures { (limits : LimitsValue) (text : List ℕ) → HasRead limits text checking pending.now
         → MayEnd limits (lines_of text) result }

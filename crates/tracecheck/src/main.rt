@@ -1,5 +1,5 @@
-//! Compares a recorded trace of an entity allocator with the proved one: `tracecheck` reads the trace
-//! on standard input, and writes whether it agrees, or the first line that doesn't.
+//! Compares a recorded trace of an entity allocator with the proved one: `tracecheck` reads it on
+//! standard input, and writes whether it agrees, or the first line that doesn't.
 #![tactic(auto)]
 
 mod checking;

@@ -18,8 +18,8 @@ use std::{env, io};
 // The exit status for words that are no command line of the program, and for a request for help.
 const LINE_FAULT: u8 = 2;
 
-/// Checks the trace that the input gives, and returns the exit status. The words after the program's
-/// name give the limits.
+/// Checks the trace that the input gives, and returns the exit status. The words after the
+/// program's name give the limits.
 ///
 /// | Status | Meaning | On the error stream |
 /// |---|---|---|
@@ -30,8 +30,8 @@ const LINE_FAULT: u8 = 2;
 /// | 3 | Memory ran out. Nothing was written. | `memory` |
 /// | 4 | A call of the input or the output failed. | `device` |
 ///
-/// If `tells`, the error stream is also told how many lines were read, after each million. A failure
-/// of the error stream changes no status.
+/// If `tells`, the error stream is also told how many lines were read, after each million. A
+/// failure of the error stream changes no status.
 pub fn execute<S: AsStr, I: Source, O: Sink, E: Sink>(
     alloc: Global,
     words: &[S],
