@@ -6,7 +6,7 @@ Above each fenced block stands a line that says what the block is:
     <!-- from FILE -->       it stands in that file: each run of its lines between lines `..`, whatever their indentation
     <!-- prints COMMAND -->  that shell command prints the block; with lines `..`, each run of its lines
     <!-- run -->             commands to run, which must end with status 0
-    <!-- ran by the gate --> commands that `.ci/run` runs in another way, as `rt try` of what it has proved and built
+    <!-- ran by the gate --> commands that `.ci/run` runs in another way
     <!-- picture -->         a drawing
 
 A block without such a line is refused, so nothing that a page quotes goes uncompared. Two tables are compared too: the steps of
