@@ -9,6 +9,7 @@ ghost use Rattle.ent_trace.specs.Checker.{OnTooMany, IsTooMany, IsTooManyIn};
 
 use crate::calls::answered;
 use crate::difference::{Difference, Stop};
+use crate::front::front_at;
 use crate::line::{Line, Reservation};
 use crate::placed::Placed;
 use crate::placing::place_all;
@@ -171,9 +172,18 @@ impl Checker {
             latest,
             ..
         } = self;
+        // No call can be undone, so what a difference shows is looked up before it.
+        let cursor = entities.cursor();
+        let front = front_at(alloc, &entities, cursor)?;
         let expected = answered(alloc, &mut entities, &line)?;
         if let Some(expected) = expected {
-            return Err(Stop::Differs(Difference { number, expected }));
+            return Err(Stop::Differs(Difference {
+                number,
+                told: line,
+                expected,
+                front,
+                cursor,
+            }));
         }
         let wanted = entities.asked();
         Ok(Checker {
