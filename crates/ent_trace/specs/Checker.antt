@@ -19,7 +19,8 @@ use Rattle.ent_trace.specs.declared.placed.Placed.{Placed}
 use Rattle.ent_trace.specs.declared.difference.Difference.{Difference}
 use Rattle.ent_trace.specs.declared.difference.Stop.{Stop}
 use Rattle.ent_trace.specs.declared.difference.Stop.TheVariants as stop
-use Rattle.ent_trace.specs.Trace.{Agrees, Fits, AreAnswered, IsOrderOf, after_lines, answered_line}
+use Rattle.ent_trace.specs.Trace.{Agrees, Fits, AreAnswered, IsOrderOf, after_line, after_lines}
+use Rattle.ent_trace.specs.Trace.{answered_line}
 
 -- the allocator after all lines but the last reservations, which are not placed yet
 pub record Checked : Type 0 where
@@ -54,6 +55,14 @@ pub record IsSettled (c : Checked) (after : Allocator) : Type 0 where
   pub after_is : after ≡ after_lines c.allocator order
   pub only : (other : List Line) → IsOrderOf (reserve_lines c.run) other
       → AreAnswered c.allocator other → after_lines c.allocator other ≡ after
+
+-- The state after a line: a reservation joins the run, and any other call is made in the state after the
+-- run, where its reply fits.
+abbrev pub Reaches : Checked → Line → Checked → Type 0
+Reaches old (line.Reserve r) new = new ≡ record old { run = old.run ++ r ∷ [] }
+Reaches old l new =
+    (at : Allocator) × IsSettled old at × Fits at l
+    × (new ≡ record { allocator = after_line at l; run = [] })
 
 -- ---- where a trace doesn't agree
 

@@ -2,7 +2,7 @@
 ghost use Rattle.std.specs.Prelude.{◌≡◌, ◌+◌, ◌^◌, ◌<◌, ℕ, ◌∷◌, ◌++◌, [], IfOk, IfErr, OnOk};
 ghost use Rattle.ent_alloc.specs.Sequential.{opening, available};
 ghost use Rattle.ent_trace.specs.Trace.{Fits, IsAlone, after_line};
-ghost use Rattle.ent_trace.specs.Checker.{Follows, AgreesWith, IsSettled};
+ghost use Rattle.ent_trace.specs.Checker.{Follows, Reaches, AgreesWith, IsSettled};
 ghost use Rattle.ent_trace.specs.Checker.{OnDiffers, Differs, Shows, KeyOf};
 ghost use Rattle.ent_trace.specs.Checker.{HasNoOrder, NoneFollows};
 ghost use Rattle.ent_trace.specs.Checker.{OnTooMany, IsTooMany, IsTooManyIn};
@@ -85,6 +85,7 @@ impl Checker {
     /// - `Memory`: memory ran out.
     pub fn take(self, number: u64, line: Line) -> Result<Self, Stop>
         ensures follows { IfOk result (λ next. Follows self line next) }
+        ensures reaches { IfOk result (λ next. Reaches self line next) }
         ensures differs { IfErr result (λ stop.
             OnDiffers stop (Shows self number (line ∷ []))) }
         ensures none { IfErr result (λ stop. OnDiffers stop (λ d. NoneFollows self line)) }
@@ -115,6 +116,7 @@ impl Checker {
     fn end_run(self, number: u64, line: Line) -> Result<Self, Stop>
         requires { IsAlone line }
         ensures follows { IfOk result (λ next. Follows self line next) }
+        ensures reaches { IfOk result (λ next. Reaches self line next) }
         ensures differs { IfErr result (λ stop.
             OnDiffers stop (Shows self number (line ∷ []))) }
         ensures none { IfErr result (λ stop. OnDiffers stop (λ d. NoneFollows self line)) }
