@@ -1,6 +1,7 @@
 pub mod Lists
 pub mod Stops
 pub mod Parting
+pub mod Fronts
 pub mod Orders
 pub mod Sorted
 pub mod Legal

@@ -2,13 +2,14 @@
 ghost use Rattle.std.specs.Prelude.{◌≡◌, ◌+◌, ◌^◌, ◌<◌, ℕ, ◌∷◌, ◌++◌, [], IfOk, IfErr, OnOk};
 ghost use Rattle.ent_alloc.specs.Sequential.{opening, available};
 ghost use Rattle.ent_trace.specs.Trace.{Fits, IsAlone, after_line};
-ghost use Rattle.ent_trace.specs.Checker.{Follows, AgreesWith, IsSettled};
+ghost use Rattle.ent_trace.specs.Checker.{Follows, Reaches, AgreesWith, IsSettled};
 ghost use Rattle.ent_trace.specs.Checker.{OnDiffers, Differs, Shows, KeyOf};
 ghost use Rattle.ent_trace.specs.Checker.{HasNoOrder, NoneFollows};
 ghost use Rattle.ent_trace.specs.Checker.{OnTooMany, IsTooMany, IsTooManyIn};
 
 use crate::calls::answered;
 use crate::difference::{Difference, Stop};
+use crate::front::front_at;
 use crate::line::{Line, Reservation};
 use crate::placed::Placed;
 use crate::placing::place_all;
@@ -84,6 +85,7 @@ impl Checker {
     /// - `Memory`: memory ran out.
     pub fn take(self, number: u64, line: Line) -> Result<Self, Stop>
         ensures follows { IfOk result (λ next. Follows self line next) }
+        ensures reaches { IfOk result (λ next. Reaches self line next) }
         ensures differs { IfErr result (λ stop.
             OnDiffers stop (Shows self number (line ∷ []))) }
         ensures none { IfErr result (λ stop. OnDiffers stop (λ d. NoneFollows self line)) }
@@ -114,6 +116,7 @@ impl Checker {
     fn end_run(self, number: u64, line: Line) -> Result<Self, Stop>
         requires { IsAlone line }
         ensures follows { IfOk result (λ next. Follows self line next) }
+        ensures reaches { IfOk result (λ next. Reaches self line next) }
         ensures differs { IfErr result (λ stop.
             OnDiffers stop (Shows self number (line ∷ []))) }
         ensures none { IfErr result (λ stop. OnDiffers stop (λ d. NoneFollows self line)) }
@@ -171,9 +174,18 @@ impl Checker {
             latest,
             ..
         } = self;
+        // No call can be undone, so what a difference shows is looked up before it.
+        let cursor = entities.cursor();
+        let front = front_at(alloc, &entities, cursor)?;
         let expected = answered(alloc, &mut entities, &line)?;
         if let Some(expected) = expected {
-            return Err(Stop::Differs(Difference { number, expected }));
+            return Err(Stop::Differs(Difference {
+                number,
+                told: line,
+                expected,
+                front,
+                cursor,
+            }));
         }
         let wanted = entities.asked();
         Ok(Checker {

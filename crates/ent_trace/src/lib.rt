@@ -6,6 +6,7 @@ mod calls;
 mod checker;
 mod difference;
 mod fitting;
+mod front;
 mod line;
 mod placed;
 mod placing;
