@@ -97,13 +97,29 @@ HasNoOrder c = (order : List Line) → IsOrderOf (reserve_lines c.run) order
 abbrev pub NoneFollows : Checked → Line → Type 0
 NoneFollows c l = (rest : List Line) → AgreesWith c (l ∷ rest) → ⊥
 
+-- ---- where more is requested than an allocator counts
+
+-- what a stop for too many requests has to say
+abbrev pub OnTooMany : Stop → Type 0 → Type 0
+OnTooMany stop.TooMany P = P
+OnTooMany other P = Unit {0}
+
+abbrev pub requested_in : List Reservation → ℕ
+requested_in run = sum_by (λ (r : Reservation). r.requested) run
+
+-- with this reservation more than 2^50 handles were requested since the last flush
+abbrev pub IsTooManyIn : Checked → Reservation → Type 0
+IsTooManyIn c r = 2 ^ 50 < c.allocator.asked + requested_in c.run + r.requested
+
+-- the line is such a reservation
+abbrev pub IsTooMany : Checked → Line → Type 0
+IsTooMany c (line.Reserve r) = IsTooManyIn c r
+IsTooMany c other = ⊥
+
 -- ---- inside
 
 abbrev pub reservations_of : List Placed → List Reservation
 reservations_of run = map (λ (p : Placed). p.reservation) run
-
-abbrev pub requested_in : List Reservation → ℕ
-requested_in run = sum_by (λ (r : Reservation). r.requested) run
 
 -- a later one of the same caller has no lesser key
 abbrev pub ComesAfter : Placed → Placed → Type 0

@@ -5,6 +5,7 @@ ghost use Rattle.ent_trace.specs.Trace.{Fits, IsAlone, after_line};
 ghost use Rattle.ent_trace.specs.Checker.{Follows, AgreesWith, IsSettled};
 ghost use Rattle.ent_trace.specs.Checker.{OnDiffers, Differs, Shows, KeyOf};
 ghost use Rattle.ent_trace.specs.Checker.{HasNoOrder, NoneFollows};
+ghost use Rattle.ent_trace.specs.Checker.{OnTooMany, IsTooMany, IsTooManyIn};
 
 use crate::calls::answered;
 use crate::difference::{Difference, Stop};
@@ -86,6 +87,8 @@ impl Checker {
         ensures differs { IfErr result (λ stop.
             OnDiffers stop (Shows self number (line ∷ []))) }
         ensures none { IfErr result (λ stop. OnDiffers stop (λ d. NoneFollows self line)) }
+        ensures too_many { IfErr result (λ stop. OnTooMany stop (IsTooMany self line)) }
+        ensures few { OnOk result (¬ (IsTooMany self line)) }
     {
         if let Line::Reserve(reservation) = line {
             return self.add(reservation);
@@ -102,6 +105,7 @@ impl Checker {
         ensures agrees { OnOk result (AgreesWith self []) }
         ensures differs { IfErr result (λ stop. OnDiffers stop (Shows self 0 [])) }
         ensures none { IfErr result (λ stop. OnDiffers stop (λ d. AgreesWith self [] → ⊥)) }
+        ensures counted { IfErr result (λ stop. OnTooMany stop ⊥) }
     {
         self.settle()
     }
@@ -113,6 +117,7 @@ impl Checker {
         ensures differs { IfErr result (λ stop.
             OnDiffers stop (Shows self number (line ∷ []))) }
         ensures none { IfErr result (λ stop. OnDiffers stop (λ d. NoneFollows self line)) }
+        ensures counted { IfErr result (λ stop. OnTooMany stop ⊥) }
     {
         self.settle()?.call(number, line)
     }
@@ -124,6 +129,7 @@ impl Checker {
         ensures differs { IfErr result (λ stop.
             OnDiffers stop (λ d. (n : ℕ) → Shows self n [] d)) }
         ensures none { IfErr result (λ stop. OnDiffers stop (λ d. HasNoOrder self)) }
+        ensures counted { IfErr result (λ stop. OnTooMany stop ⊥) }
     {
         let Checker {
             alloc,
@@ -134,7 +140,7 @@ impl Checker {
         } = self;
         // The state is sound, so no handle has two places.
         prove_eq!(entities.cursor(), entities.cursor());
-        run.sort_by_key(|placed| placed.key)?;
+        run.sort_by_cached_key(|placed| placed.key)?;
         place_all(alloc, &mut entities, &run)?;
         run.clear();
         latest.clear();
@@ -156,6 +162,7 @@ impl Checker {
             next ≡ record { allocator = after_line self.allocator line; run = [] }) }
         ensures differs { IfErr result (λ stop.
             OnDiffers stop (Differs self.allocator number line)) }
+        ensures counted { IfErr result (λ stop. OnTooMany stop ⊥) }
     {
         let Checker {
             alloc,
@@ -183,6 +190,8 @@ impl Checker {
         ensures ok { IfOk result (λ next.
             next ≡ record self { run = self.run ++ reservation ∷ [] }) }
         ensures differs { IfErr result (λ stop. OnDiffers stop (λ d. ⊥)) }
+        ensures too_many { IfErr result (λ stop. OnTooMany stop (IsTooManyIn self reservation)) }
+        ensures few { OnOk result (¬ (IsTooManyIn self reservation)) }
     {
         let Checker {
             alloc,

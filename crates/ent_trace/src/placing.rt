@@ -3,7 +3,7 @@ ghost use Rattle.std.specs.Prelude.{◌≡◌, ℕ, ◌+◌, ◌^◌, ◌≤◌,
 ghost use Rattle.ent_alloc.specs.Sequential.{reply_to, after_take};
 ghost use Rattle.ent_trace.specs.Trace.{FitsReserved, AreAnswered, after_lines, reserve_reply};
 ghost use Rattle.ent_trace.specs.Checker.{reservations_of, reserve_lines, requested_in};
-ghost use Rattle.ent_trace.specs.Checker.{OnDiffers, Differs, Fails};
+ghost use Rattle.ent_trace.specs.Checker.{OnDiffers, OnTooMany, Differs, Fails};
 
 use crate::difference::{Difference, Stop};
 use crate::fitting::fits_reserved;
@@ -65,6 +65,7 @@ fn place(alloc: Global, entities: &mut Entities, reservation: &Reservation) -> R
         ≡ after_take entities.old.allocator reservation.now.requested) }
     ensures differs { IfErr result (λ stop. OnDiffers stop
         (Differs entities.old.allocator 0 (Line.Reserve reservation.now))) }
+    ensures counted { IfErr result (λ stop. OnTooMany stop ⊥) }
 {
     let given = reserve(alloc, entities, reservation.requested)?;
     if fits_reserved(&reservation.reply, &given) {
@@ -92,6 +93,7 @@ pub(crate) fn place_all(alloc: Global, entities: &mut Entities, run: &[Placed]) 
         ≡ after_lines entities.old.allocator (reserve_lines (reservations_of run.now))) }
     ensures differs { IfErr result (λ stop. OnDiffers stop (λ d. (n : ℕ)
         → Fails entities.old.allocator n (reserve_lines (reservations_of run.now)) d)) }
+    ensures counted { IfErr result (λ stop. OnTooMany stop ⊥) }
 {
     for placed in run {
         place(alloc, entities, &placed.reservation)?;

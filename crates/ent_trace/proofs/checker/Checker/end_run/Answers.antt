@@ -23,6 +23,7 @@ returns-in_err-settle c =
           (λ d. HasNoOrder self) (λ d. NoneFollows self l)
           (λ d none. settled-None self l c.requires none)
           c.in_err-settle.ensures.none);
+      counted = rw (p.1, p.2) c.in_err-settle.ensures.counted;
     }
 
 pub returns : goal.returns
@@ -49,4 +50,5 @@ returns c =
           (λ stop. on_differs stop (Differs at c.args.number l) (λ d. NoneFollows self l)
           (λ d differs. called-None self l at alone c.in_ok-settle.ensures.settled differs.unlike))
           c.call.ensures.differs;
+      counted = c.call.ensures.counted;
     }

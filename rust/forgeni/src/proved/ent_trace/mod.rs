@@ -1,0 +1,17 @@
+// Made of crates/ent_trace/src/lib.rt by rust/erase. It isn't edited by hand.
+
+//! Recorded traces of an entity allocator, checked against the proved one.
+
+mod calls;
+mod checker;
+mod difference;
+mod fitting;
+mod line;
+mod placed;
+mod placing;
+mod reply;
+
+pub use checker::Checker;
+pub use difference::{Difference, Stop};
+pub use line::{Line, Reservation};
+pub use reply::{AllocReply, FlushReply, FreeReply, ReserveReply};
