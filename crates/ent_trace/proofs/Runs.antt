@@ -101,6 +101,7 @@ module _ (old s : Allocator) (run : List Placed) (i : ℕ) where
         answered = tt;
         differs = record {
           unlike = differs.unlike;
+          told = differs.told;
           expected = differs.expected;
           number_is = differs.number_is;
         };

@@ -70,6 +70,7 @@ number_of number other = number
 -- The line's reply isn't the allocator's in this state, and the difference says which one is.
 pub record Differs (s : Allocator) (number : ℕ) (l : Line) (d : Difference) : Type 0 where
   pub unlike : ¬ (Fits s l)
+  pub told : d.told ≡ l
   pub expected : d.expected ≡ answered_line s l
   pub number_is : d.number ≡ number_of number l
 

@@ -378,5 +378,15 @@ abbrev pub joined : List Word → List ℕ
 joined [] = []
 joined (word ∷ others) = word ++ spaced others
 
+-- the words of the answer, if it is told
+abbrev pub answer_words : Line → List Word
+answer_words (line.Alloc (Some reply)) = alloc_words reply
+answer_words (line.Free h (Some reply)) = free_words reply
+answer_words (line.Flush (Some reply)) = flush_words reply
+answer_words (line.Reserve r) = reserve_words r.reply
+answer_words (line.State h (Some told)) = state_words told
+answer_words (line.Len (Some len)) = len_words len
+answer_words other = []
+
 abbrev pub line_text : Line → List ℕ
 line_text l = joined (line_words l)

@@ -21,4 +21,4 @@ pub use line::{Line, Reservation};
 pub use read_fault::{Cause, ReadFault};
 pub use reading::read_line;
 pub use reply::{AllocReply, FlushReply, FreeReply, ReserveReply};
-pub use writing::write_line;
+pub use writing::{write_answer, write_line};

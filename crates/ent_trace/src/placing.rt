@@ -56,6 +56,27 @@ fn reply_of(given: Result<HandleList, Space>) -> ReserveReply
     }
 }
 
+/// The reservation with a list of its own.
+fn copied(alloc: Global, reservation: &Reservation) -> Result<Reservation, Memory>
+    ensures { IfOk result (λ copy. copy ≡ reservation.now) }
+{
+    let reply = match &reservation.reply {
+        ReserveReply::Handles(handles) => {
+            let mut list = Vec::new(alloc);
+            list.extend_from_slice(handles.as_slice())?;
+            ReserveReply::Handles(HandleList::new(list))
+        }
+        ReserveReply::Space => ReserveReply::Space,
+        ReserveReply::SpaceLeft(left) => ReserveReply::SpaceLeft(*left),
+    };
+    Ok(Reservation {
+        number: reservation.number,
+        caller: reservation.caller,
+        requested: reservation.requested,
+        reply,
+    })
+}
+
 /// Makes a reservation of the run, and compares.
 fn place(alloc: Global, entities: &mut Entities, reservation: &Reservation) -> Result<(), Stop>
     requires { entities.old.allocator.asked + reservation.now.requested ≤ 2 ^ 50 }
@@ -80,6 +101,7 @@ fn place(alloc: Global, entities: &mut Entities, reservation: &Reservation) -> R
     };
     Err(Stop::Differs(Difference {
         number,
+        told: Line::Reserve(copied(alloc, reservation)?),
         expected: Line::Reserve(expected),
     }))
 }

@@ -3,7 +3,7 @@ ghost use Rattle.std.specs.Prelude.{◌≡◌, ◌++◌, ◌∷◌, [], map, OnO
 ghost use Rattle.ent_handle.specs.Text.{handle_text};
 ghost use Rattle.std.specs.Fmt.{decimal};
 ghost use Rattle.ent_trace.specs.Text.{alloc_words, free_words, flush_words, reserve_words};
-ghost use Rattle.ent_trace.specs.Text.{state_words, spaced, line_text};
+ghost use Rattle.ent_trace.specs.Text.{state_words, spaced, line_text, answer_words};
 
 use crate::line::{Line, Reservation};
 use crate::reply::{AllocReply, FlushReply, FreeReply, ReserveReply};
@@ -183,5 +183,24 @@ pub fn write_line(out: &mut Vec<u8>, line: &Line) -> Result<(), Memory>
                 }
             }
         }
+    }
+}
+
+/// Appends what the line says was answered, with a space before each word. Nothing if that isn't told.
+///
+/// # Errors
+///
+/// `Memory`: there is no memory for the text. What was appended isn't said then.
+pub fn write_answer(out: &mut Vec<u8>, line: &Line) -> Result<(), Memory>
+    ensures ok { OnOk result (out.new.items ≡ out.old.items ++ spaced (answer_words line.now)) }
+{
+    match line {
+        Line::Alloc(Some(reply)) => write_alloc(out, *reply),
+        Line::Free(_, Some(reply)) => write_free(out, *reply),
+        Line::Flush(Some(reply)) => write_flush(out, reply),
+        Line::Reserve(reservation) => write_reserved(out, &reservation.reply),
+        Line::State(_, Some(state)) => write_state(out, *state),
+        Line::Len(Some(len)) => append_number(out, *len),
+        _ => Ok(()),
     }
 }

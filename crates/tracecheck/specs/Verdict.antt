@@ -7,7 +7,7 @@ use Rattle.ent_alloc.specs.Limits.{Limits}
 use Rattle.ent_alloc.specs.Sequential.{opening}
 use Rattle.ent_trace.specs.Checker.{Checked, IsTooMany, Shows}
 use Rattle.ent_trace.specs.Trace.{Agrees}
-use Rattle.ent_trace.specs.Text.{cause_text, line_of, line_text, words_of}
+use Rattle.ent_trace.specs.Text.{answer_words, cause_text, line_of, line_text, spaced, words_of}
 use Rattle.ent_trace.specs.declared.difference.Difference.{Difference}
 use Rattle.ent_trace.specs.declared.difference.Stop.{Stop}
 use Rattle.ent_trace.specs.declared.difference.Stop.TheVariants as stop
@@ -95,8 +95,8 @@ refusal_text refusal.Requests = codes "requests"
 
 abbrev pub difference_text : Difference → List ℕ
 difference_text d =
-    codes "differs line " ++ decimal d.number ++ codes ": expected " ++ line_text d.expected
-    ++ codes "\n"
+    codes "differs line " ++ decimal d.number ++ codes ": " ++ line_text d.told
+    ++ codes ", expected" ++ spaced (answer_words d.expected) ++ codes "\n"
 
 abbrev pub verdict_text : Verdict → List ℕ
 verdict_text (verdict.Agrees lines given) =

@@ -156,7 +156,11 @@ impl Checker {
         } = self;
         let expected = answered(alloc, &mut entities, &line)?;
         if let Some(expected) = expected {
-            return Err(Stop::Differs(Difference { number, expected }));
+            return Err(Stop::Differs(Difference {
+                number,
+                told: line,
+                expected,
+            }));
         }
         let wanted = entities.asked();
         Ok(Checker {

@@ -11,6 +11,8 @@ use crate::kit::alloc::{AllocError, AllocFailed};
 pub struct Difference {
     /// The number of the line.
     pub number: u64,
+    /// The line as it stands there.
+    pub told: Line,
     /// The same call with the reply that the allocator gives there.
     pub expected: Line,
 }

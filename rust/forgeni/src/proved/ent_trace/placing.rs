@@ -58,6 +58,28 @@ fn reply_of(given: Result<HandleList, Space>) -> ReserveReply
     }
 }
 
+/// The reservation with a list of its own.
+#[inline]
+fn copied(alloc: Global, reservation: &Reservation) -> Result<Reservation, Memory>
+    // ensures { IfOk result (λ copy. copy ≡ reservation.now) }
+{
+    let reply = match &reservation.reply {
+        ReserveReply::Handles(handles) => {
+            let mut list = Vec::new(alloc);
+            list.extend_from_slice(handles.as_slice())?;
+            ReserveReply::Handles(HandleList::new(list))
+        }
+        ReserveReply::Space => ReserveReply::Space,
+        ReserveReply::SpaceLeft(left) => ReserveReply::SpaceLeft(*left),
+    };
+    Ok(Reservation {
+        number: reservation.number,
+        caller: reservation.caller,
+        requested: reservation.requested,
+        reply,
+    })
+}
+
 /// Makes a reservation of the run, and compares.
 #[inline]
 fn place(alloc: Global, entities: &mut Entities, reservation: &Reservation) -> Result<(), Stop>
@@ -83,6 +105,7 @@ fn place(alloc: Global, entities: &mut Entities, reservation: &Reservation) -> R
     };
     Err(Stop::Differs(Difference {
         number,
+        told: Line::Reserve(copied(alloc, reservation)?),
         expected: Line::Reserve(expected),
     }))
 }

@@ -195,3 +195,23 @@ pub fn write_line(out: &mut Vec<u8>, line: &Line) -> Result<(), Memory>
         }
     }
 }
+
+/// Appends what the line says was answered, with a space before each word. Nothing if that isn't told.
+///
+/// # Errors
+///
+/// `Memory`: there is no memory for the text. What was appended isn't said then.
+#[inline]
+pub fn write_answer(out: &mut Vec<u8>, line: &Line) -> Result<(), Memory>
+    // ensures ok { OnOk result (out.new.items ≡ out.old.items ++ spaced (answer_words line.now)) }
+{
+    match line {
+        Line::Alloc(Some(reply)) => write_alloc(out, *reply),
+        Line::Free(_, Some(reply)) => write_free(out, *reply),
+        Line::Flush(Some(reply)) => write_flush(out, reply),
+        Line::Reserve(reservation) => write_reserved(out, &reservation.reply),
+        Line::State(_, Some(state)) => write_state(out, *state),
+        Line::Len(Some(len)) => append_number(out, *len),
+        _ => Ok(()),
+    }
+}
