@@ -69,7 +69,7 @@ def changes(lines):
 def fault_of(program, case, at, line):
     """What is wrong with the run in which one line is this one, or None."""
     lines = case.input.decode().splitlines()
-    wanted = f"differs line {at + 1}: expected {lines[at]}\n"
+    wanted = f"differs line {at + 1}: {line.rstrip()}, expected{lines[at].partition(' =>')[2]}\n"
     given = "".join(f"{it}\n" for it in lines[:at] + [line] + lines[at + 1 :])
     ran = subprocess.run([program, *case.words[0]], input=given.encode(), capture_output=True)
     if (ran.returncode, ran.stdout.decode(), ran.stderr) == (1, wanted, b""):

@@ -6,7 +6,8 @@ use Rattle.std.proofs.lemmas.List.{append-nil}
 use Rattle.std.proofs.lemmas.List.Sums.{sum_by_push}
 use Rattle.ent_alloc.specs.Limits.{Limits}
 use Rattle.ent_alloc.specs.Sequential.{opening}
-use Rattle.ent_trace.specs.Checker.{AgreesWith, Follows, NoneFollows, OnDiffers, Shows}
+use Rattle.ent_trace.specs.Checker.{AgreesWith, Follows, IsTooMany, NoneFollows, OnDiffers}
+use Rattle.ent_trace.specs.Checker.{OnTooMany, Shows}
 use Rattle.ent_trace.specs.declared.difference.Stop.{Stop}
 use Rattle.ent_trace.specs.declared.difference.Stop.TheVariants as stop
 use Rattle.tracecheck.specs.Verdict.{MayEnd, end_of}
@@ -100,12 +101,16 @@ differs_here limits texts after text l old number d next named shows none h = di
 
 pub asks_here : (limits : Limits) (texts after : List (List ℕ)) (text : List ℕ) (l : Line)
     (old : Checking) (number : ℕ) → number ≡ old.lines + 1
-    → line_of number (words_of text) ≡ Ok (Some l) → HasTaken limits texts old
+    → line_of number (words_of text) ≡ Ok (Some l) → IsTooMany old.checker l
+    → HasTaken limits texts old
     → IsVerdict limits (texts ++ text ∷ after) (verdict.Refused number refusal.Requests)
-asks_here limits texts after text l old number next named h = asks_too_many number (record {
+asks_here limits texts after text l old number next named many h = asks_too_many number (record {
   calls = h.calls;
   next = l;
   stands = stands limits texts after text l old number next named h;
+  checked = old.checker;
+  follow = h.follow;
+  many = many;
 })
 
 pub none_here : (limits : Limits) (texts after : List (List ℕ)) (text : List ℕ) (c : Cause)
@@ -148,10 +153,11 @@ pub ends_at : (limits : Limits) (texts after : List (List ℕ)) (text : List ℕ
     (old : Checking) (number : ℕ) (s : Stop) → number ≡ old.lines + 1
     → line_of number (words_of text) ≡ Ok (Some l)
     → OnDiffers s (Shows old.checker number (l ∷ []))
-    → OnDiffers s (λ d. NoneFollows old.checker l) → HasTaken limits texts old
+    → OnDiffers s (λ d. NoneFollows old.checker l) → OnTooMany s (IsTooMany old.checker l)
+    → HasTaken limits texts old
     → MayEnd limits (texts ++ text ∷ after) (end_of number s)
-ends_at limits texts after text l old number (stop.Differs d) next named shows none h =
+ends_at limits texts after text l old number (stop.Differs d) next named shows none many h =
     differs_here limits texts after text l old number d next named shows none h
-ends_at limits texts after text l old number stop.TooMany next named shows none h =
-    asks_here limits texts after text l old number next named h
-ends_at limits texts after text l old number stop.Memory next named shows none h = tt
+ends_at limits texts after text l old number stop.TooMany next named shows none many h =
+    asks_here limits texts after text l old number next named many h
+ends_at limits texts after text l old number stop.Memory next named shows none many h = tt

@@ -5,9 +5,9 @@ use Rattle.std.specs.Fmt.{decimal}
 use Rattle.std.specs.List.{sum_by}
 use Rattle.ent_alloc.specs.Limits.{Limits}
 use Rattle.ent_alloc.specs.Sequential.{opening}
-use Rattle.ent_trace.specs.Checker.{Checked, Shows}
+use Rattle.ent_trace.specs.Checker.{Checked, IsTooMany, Shows}
 use Rattle.ent_trace.specs.Trace.{Agrees}
-use Rattle.ent_trace.specs.Text.{cause_text, line_of, line_text, words_of}
+use Rattle.ent_trace.specs.Text.{answer_words, cause_text, line_of, line_text, spaced, words_of}
 use Rattle.ent_trace.specs.declared.difference.Difference.{Difference}
 use Rattle.ent_trace.specs.declared.difference.Stop.{Stop}
 use Rattle.ent_trace.specs.declared.difference.Stop.TheVariants as stop
@@ -53,11 +53,14 @@ pub record DiffersInAll (limits : Limits) (lines : List (List ℕ)) (d : Differe
   pub shows : Shows checked 0 [] d
   pub none : Agrees (opening limits) calls → ⊥
 
--- a reservation stands there
-pub record AsksAt (lines : List (List ℕ)) (number : ℕ) : Type 0 where
+-- With the reservation that stands there, more is requested than an allocator counts.
+pub record AsksAt (limits : Limits) (lines : List (List ℕ)) (number : ℕ) : Type 0 where
   pub calls : List Line
   pub next : Line
   pub stands : StandsAt lines number calls next
+  pub checked : Checked
+  pub follow : AllFollow (opened limits) calls checked
+  pub many : IsTooMany checked next
 
 -- what may be said of the trace of these lines
 pub data IsVerdict (limits : Limits) (lines : List (List ℕ)) : Verdict → Type 0 where
@@ -70,7 +73,7 @@ pub data IsVerdict (limits : Limits) (lines : List (List ℕ)) : Verdict → Typ
   -- the first line that is none, and its first fault
   is_none : (number : ℕ) (cause : Cause) → calls_from 1 lines ≡ Err (number, cause)
       → IsVerdict limits lines (verdict.Refused number (refusal.Line cause))
-  asks_too_many : (number : ℕ) → AsksAt lines number
+  asks_too_many : (number : ℕ) → AsksAt limits lines number
       → IsVerdict limits lines (verdict.Refused number refusal.Requests)
 
 -- what may be said, unless memory ran out
@@ -92,8 +95,8 @@ refusal_text refusal.Requests = codes "requests"
 
 abbrev pub difference_text : Difference → List ℕ
 difference_text d =
-    codes "differs line " ++ decimal d.number ++ codes ": expected " ++ line_text d.expected
-    ++ codes "\n"
+    codes "differs line " ++ decimal d.number ++ codes ": " ++ line_text d.told
+    ++ codes ", expected" ++ spaced (answer_words d.expected) ++ codes "\n"
 
 abbrev pub verdict_text : Verdict → List ℕ
 verdict_text (verdict.Agrees lines given) =

@@ -3,7 +3,7 @@ ghost use Rattle.std.specs.Prelude.{◌≡◌, IfOk};
 ghost use Rattle.tracecheck.specs.Verdict.{difference_text, refusal_text, verdict_text};
 
 use ent_handle::Memory;
-use ent_trace::{Cause, Difference, write_line};
+use ent_trace::{Cause, Difference, write_answer, write_line};
 use std::alloc::Global;
 
 /// Why a text is no trace.
@@ -84,8 +84,10 @@ fn difference_text(alloc: Global, difference: &Difference) -> Result<Vec<u8>, Me
     ensures { IfOk result (λ text. text.items ≡ difference_text difference.now) }
 {
     let number = difference.number;
-    let mut text = format!(in alloc; "differs line {number}: expected ")?.into_bytes();
-    write_line(&mut text, &difference.expected)?;
+    let mut text = format!(in alloc; "differs line {number}: ")?.into_bytes();
+    write_line(&mut text, &difference.told)?;
+    text.extend_from_slice(b", expected")?;
+    write_answer(&mut text, &difference.expected)?;
     text.push(b'\n')?;
     Ok(text)
 }

@@ -12,4 +12,4 @@ pub returns-in-Err-clause-ends : goal.returns-in-Err-clause-ends
 returns-in-Err-clause-ends c = λ limits texts after text named taken.
     subst (MayEnd limits _) (sym c.end_of.ensures) (ends_at limits texts after text c.args.line
     c.args.self c.args.number c.in-Err.stop c.requires named c.in-Err.ensures.differs
-    c.in-Err.ensures.none taken)
+    c.in-Err.ensures.none c.in-Err.ensures.too_many taken)
