@@ -1,5 +1,6 @@
 pub mod Values
 pub mod NamesLaws
+pub mod BoundLaws
 pub mod Bundles
 pub mod Faults
 pub mod Keys
@@ -14,6 +15,7 @@ pub mod Openings
 pub mod PassedOver
 pub mod CutMeanings
 pub mod Listing
+pub mod Operations
 pub mod Puts
 pub mod Whole
 pub mod PartRanges
