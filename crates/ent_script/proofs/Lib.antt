@@ -2,6 +2,7 @@ pub mod Values
 pub mod NamesLaws
 pub mod BoundLaws
 pub mod Bundles
+pub mod Refilling
 pub mod Faults
 pub mod Keys
 pub mod Numbering
