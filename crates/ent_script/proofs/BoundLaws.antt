@@ -1,5 +1,5 @@
 -- Names that are texts of their own, and their numbers.
-use Rattle.std.proofs.Common.{◌≡◌, ◌∙◌, ℕ, Bool, cond, List, [], ◌∷◌, ◌++◌, length, map, Option, Some}
+use Rattle.std.proofs.Common.{◌≡◌, ◌∙◌, ℕ, cond, List, [], ◌∷◌, ◌++◌, length, map, Option, Some}
 use Rattle.std.proofs.Common.{None, sym, ap, bytes_eq, BTreeMap, Global, String, string_bytes}
 use Rattle.std.proofs.Common.{string_cmp}
 use Rattle.std.specs.BTreeMap.{get_by, Updates}

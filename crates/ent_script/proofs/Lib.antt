@@ -19,6 +19,7 @@ pub mod Listing
 pub mod Operations
 pub mod Puts
 pub mod Whole
+pub mod Headings
 pub mod PartRanges
 pub mod Ranges
 pub mod WorkedScripts

@@ -1,7 +1,7 @@
 -- Reading the operations of a system one after another, with the names that they bind.
 use Rattle.std.proofs.Common.{◌≡◌, ℕ, zero, suc, ◌+◌, ◌-◌, List, [], ◌∷◌, ◌++◌, length, take, drop}
-use Rattle.std.proofs.Common.{Some, None, Option, Result, Ok, Err, Bool, true, false, cond, ok_or}
-use Rattle.std.proofs.Common.{refl, sym, ap, ◌∙◌, arith, add-one, inl, inr, unwrap_or}
+use Rattle.std.proofs.Common.{Some, None, Option, Result, Ok, Bool, true, false, cond, ok_or}
+use Rattle.std.proofs.Common.{refl, sym, ap, ◌∙◌, arith, add-one, inl, inr}
 use Rattle.std.proofs.lemmas.List.Sums.{fold-append}
 use Rattle.std.specs.Prelude.{◌⊎◌, nat_le}
 use Rattle.json.specs.Token.{Token}

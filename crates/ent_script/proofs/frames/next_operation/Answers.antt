@@ -1,9 +1,6 @@
-use Rattle.std.proofs.Common.{◌≡◌, ◌∙◌, ℕ, List, Some, None, Result, sym, subst, ap, rules}
+use Rattle.std.proofs.Common.{◌≡◌, ◌∙◌, Result, sym, subst, ap, rules}
 use Rattle.std.specs.Prelude.{Err}
-use Rattle.json.specs.Token.{Token}
 use Rattle.json.specs.Json.{value}
-use Rattle.serde_json.specs.Data.{Data}
-use Rattle.serde_json.specs.Read.{of_json, converted}
 use Rattle.ent_script.specs.Names.{with_part}
 use Rattle.ent_script.specs.Reading.{at_operation, operation_of, births_before, ReadsAs}
 use Rattle.ent_script.specs.Streaming.{Streams}

@@ -1,7 +1,6 @@
 use Rattle.std.proofs.Common.{◌≡◌, ℕ, ◌+◌, ◌-◌, ◌<◌, List, [], ◌∷◌, ◌++◌, length, Some, None, sym}
 use Rattle.std.proofs.Common.{subst, ap, ◌∙◌, arith, Ok, Err}
 use Rattle.json.specs.Json.{after_end_array, items, value}
-use Rattle.serde_json.specs.Data.{Data}
 use Rattle.serde_json.specs.Read.{of_json, of_items, converted}
 use Rattle.ent_script.specs.Json.{list_of}
 use Rattle.ent_script.specs.Reading.{system_of, operation_at, at_operation, operation_of}
