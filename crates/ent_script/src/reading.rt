@@ -260,7 +260,7 @@ fn script_in(
 /// The script that a JSON text means.
 ///
 /// It takes time linear in the text, but for look-ups of names in logarithmic time. The text is
-/// read more than once, and of its values no more than those of one system are kept at a time.
+/// read more than once, and no more than one operation is kept at a time as a value.
 ///
 /// # Errors
 ///
