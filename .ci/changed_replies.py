@@ -20,6 +20,8 @@ from cases import cases_of
 
 ROWS = pathlib.Path("crates/tracecheck/cases/rows.cases")
 BUILT = pathlib.Path("crates/tracecheck/out/tracecheck")
+# The line that shows the state.
+STATE = r"pool (empty|[0-9]+v[0-9]+( [0-9]+v[0-9]+){0,6}|[0-9]+v[0-9]+( [0-9]+v[0-9]+){7} \.\.), cursor -?[0-9]+\n"
 # What each call may answer beside handles.
 WORDS = {
     "alloc": ["space", "needs flush"],
@@ -69,10 +71,12 @@ def changes(lines):
 def fault_of(program, case, at, line):
     """What is wrong with the run in which one line is this one, or None."""
     lines = case.input.decode().splitlines()
-    wanted = f"differs line {at + 1}: {line.rstrip()}, expected{lines[at].partition(' =>')[2]}\n"
+    answer = lines[at].partition("=>")[2].strip()
+    wanted = f"differs line {at + 1}: {line.strip()}, expected {answer}".strip()
     given = "".join(f"{it}\n" for it in lines[:at] + [line] + lines[at + 1 :])
     ran = subprocess.run([program, *case.words[0]], input=given.encode(), capture_output=True)
-    if (ran.returncode, ran.stdout.decode(), ran.stderr) == (1, wanted, b""):
+    first, _, second = ran.stdout.decode().partition("\n")
+    if (ran.returncode, first, ran.stderr) == (1, wanted, b"") and re.fullmatch(STATE, second):
         return None
     return f"{case.file}:{case.line}: {line!r} gives {ran.stdout + ran.stderr!r} and {ran.returncode}, and not {wanted!r}"
 

@@ -79,6 +79,16 @@ line_words (line.Reserve r) =
 line_words (line.State h told) = codes "state" ∷ handle_text h ∷ told_words state_words told
 line_words (line.Len told) = codes "len" ∷ told_words len_words told
 
+-- the words of the answer alone
+abbrev pub answer_words : Line → List Word
+answer_words (line.Alloc (Some reply)) = alloc_words reply
+answer_words (line.Free h (Some reply)) = free_words reply
+answer_words (line.Flush (Some reply)) = flush_words reply
+answer_words (line.Reserve r) = reserve_words r.reply
+answer_words (line.State h (Some reply)) = state_words reply
+answer_words (line.Len (Some reply)) = len_words reply
+answer_words untold = []
+
 -- ---- lines and words of a text
 
 -- without a carriage return at the end

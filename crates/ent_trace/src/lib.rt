@@ -22,4 +22,4 @@ pub use line::{Line, Reservation};
 pub use read_fault::{Cause, ReadFault};
 pub use reading::read_line;
 pub use reply::{AllocReply, FlushReply, FreeReply, ReserveReply};
-pub use writing::write_line;
+pub use writing::{append_answer, append_handles, write_line};

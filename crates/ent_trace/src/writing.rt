@@ -3,7 +3,7 @@ ghost use Rattle.std.specs.Prelude.{◌≡◌, ◌++◌, ◌∷◌, [], map, OnO
 ghost use Rattle.ent_handle.specs.Text.{handle_text};
 ghost use Rattle.std.specs.Fmt.{decimal};
 ghost use Rattle.ent_trace.specs.Text.{alloc_words, free_words, flush_words, reserve_words};
-ghost use Rattle.ent_trace.specs.Text.{state_words, spaced, line_text};
+ghost use Rattle.ent_trace.specs.Text.{state_words, spaced, answer_words, line_text};
 
 use crate::line::{Line, Reservation};
 use crate::reply::{AllocReply, FlushReply, FreeReply, ReserveReply};
@@ -37,8 +37,13 @@ fn append_handle(out: &mut Vec<u8>, handle: Handle) -> Result<(), Memory>
     handle.write_text(out)
 }
 
-fn append_handles(out: &mut Vec<u8>, handles: &[Handle]) -> Result<(), Memory>
-    ensures { OnOk result (out.new.items
+/// Appends the texts of handles, with a space before each.
+///
+/// # Errors
+///
+/// `Memory`: there is no memory for the texts. What was appended isn't said then.
+pub fn append_handles(out: &mut Vec<u8>, handles: &[Handle]) -> Result<(), Memory>
+    ensures ok { OnOk result (out.new.items
         ≡ out.old.items ++ spaced (map handle_text handles.now)) }
 {
     for handle in handles {
@@ -118,6 +123,26 @@ fn write_reserve(out: &mut Vec<u8>, reservation: &Reservation) -> Result<(), Mem
     append_number(out, reservation.requested)?;
     append(out, b" =>")?;
     write_reserved(out, &reservation.reply)
+}
+
+/// Appends the words of a line's answer, with a space before each. It appends nothing if no answer is
+/// told.
+///
+/// # Errors
+///
+/// `Memory`: there is no memory for the words. What was appended isn't said then.
+pub fn append_answer(out: &mut Vec<u8>, line: &Line) -> Result<(), Memory>
+    ensures ok { OnOk result (out.new.items ≡ out.old.items ++ spaced (answer_words line.now)) }
+{
+    match line {
+        Line::Alloc(Some(reply)) => write_alloc(out, *reply),
+        Line::Free(_, Some(reply)) => write_free(out, *reply),
+        Line::Flush(Some(reply)) => write_flush(out, reply),
+        Line::Reserve(reservation) => write_reserved(out, &reservation.reply),
+        Line::State(_, Some(state)) => write_state(out, *state),
+        Line::Len(Some(len)) => append_number(out, *len),
+        _ => Ok(()),
+    }
 }
 
 /// Appends the text of a line: the call, and what was answered if that is told, with one space

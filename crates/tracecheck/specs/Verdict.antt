@@ -1,13 +1,16 @@
 -- What is said of a trace, and when.
-use Rattle.std.specs.Prelude.{⊤, ◌≡◌, ℕ, ◌+◌, List, [], ◌∷◌, ◌++◌, length, codes}
-use Rattle.std.specs.Prelude.{Some, Ok, Err}
-use Rattle.std.specs.Fmt.{decimal}
+use Rattle.std.specs.Prelude.{⊤, ◌≡◌, ℕ, ◌+◌, ℤ, List, [], ◌∷◌, ◌++◌, length, map, codes}
+use Rattle.std.specs.Prelude.{◌==◌, if◌then◌else◌, Some, Ok, Err}
+use Rattle.std.specs.Fmt.{decimal, signed_decimal}
 use Rattle.std.specs.List.{sum_by}
+use Rattle.ent_handle.specs.Handle.{Handle}
+use Rattle.ent_handle.specs.Text.{handle_text}
 use Rattle.ent_alloc.specs.Limits.{Limits}
 use Rattle.ent_alloc.specs.Sequential.{opening}
 use Rattle.ent_trace.specs.Checker.{Checked, IsTooMany, Shows}
 use Rattle.ent_trace.specs.Trace.{Agrees}
-use Rattle.ent_trace.specs.Text.{answer_words, cause_text, line_of, line_text, spaced, words_of}
+use Rattle.ent_trace.specs.Text.{Word, answer_words, cause_text, line_of, line_text, spaced}
+use Rattle.ent_trace.specs.Text.{words_of}
 use Rattle.ent_trace.specs.declared.difference.Difference.{Difference}
 use Rattle.ent_trace.specs.declared.difference.Stop.{Stop}
 use Rattle.ent_trace.specs.declared.difference.Stop.TheVariants as stop
@@ -87,16 +90,28 @@ end_of number (stop.Differs d) = end.Verdict (verdict.Differs d)
 end_of number stop.TooMany = end.Verdict (verdict.Refused number refusal.Requests)
 end_of number stop.Memory = end.Memory
 
--- ---- the line that says it
+-- ---- the text that says it
 
 abbrev pub refusal_text : Refusal → List ℕ
 refusal_text (refusal.Line cause) = cause_text cause
 refusal_text refusal.Requests = codes "requests"
 
+-- The front of a pool. It shows 8 handles at most, so there may be more after 8.
+abbrev pub pool_words : List Handle → List Word
+pool_words [] = codes "empty" ∷ []
+pool_words (h ∷ front) =
+    map handle_text (h ∷ front) ++ (if length (h ∷ front) == 8 then codes ".." ∷ [] else [])
+
+-- the state in which a line differs
+abbrev pub state_text : List Handle → ℤ → List ℕ
+state_text front at =
+    codes "pool" ++ spaced (pool_words front) ++ codes ", cursor " ++ signed_decimal at ++ codes "\n"
+
 abbrev pub difference_text : Difference → List ℕ
 difference_text d =
     codes "differs line " ++ decimal d.number ++ codes ": " ++ line_text d.told
     ++ codes ", expected" ++ spaced (answer_words d.expected) ++ codes "\n"
+    ++ state_text d.front d.cursor
 
 abbrev pub verdict_text : Verdict → List ℕ
 verdict_text (verdict.Agrees lines given) =

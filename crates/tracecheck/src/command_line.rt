@@ -11,7 +11,7 @@ const PROGRAM_END: &str = "A trace of two lines:\n  \
      flush => born 0v1 1v1\n\n\
      Exit status:\n  \
      0  the trace agrees with the sequential allocator\n  \
-     1  the trace differs: one line of output names the line, and what the allocator answers\n  \
+     1  the trace differs: the output names the line, and what the allocator answers there\n  \
      2  the text is no trace, or the words are no command line, or ask for help\n  \
      3  memory ran out, and nothing was written\n  \
      4  reading or writing failed";

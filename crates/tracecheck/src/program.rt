@@ -24,7 +24,7 @@ const LINE_FAULT: u8 = 2;
 /// | Status | Meaning | On the error stream |
 /// |---|---|---|
 /// | 0 | The trace agrees, and one line of output says so. | nothing |
-/// | 1 | The trace differs. One line of output names the line. | nothing |
+/// | 1 | The trace differs. Two lines of output say where, and show the state. | nothing |
 /// | 2 | The text is no trace. One line of output names the line. | nothing |
 /// | 2 | The words are no command line, or ask for help. No device is used. | clap's text |
 /// | 3 | Memory ran out. Nothing was written. | `memory` |

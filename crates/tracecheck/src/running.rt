@@ -1,4 +1,4 @@
-//! The check of a trace: bytes in, one line out.
+//! The check of a trace: bytes in, a verdict out.
 ghost use Rattle.std.specs.Prelude.{◌≡◌, ◌≢◌, ◌+◌, ◌⊎◌, false, IfOk, IfSome, OnOk, OnErr};
 ghost use Rattle.std.specs.Io.KnownBytes.{Appends};
 ghost use Rattle.devices.specs.Device.{OneFails, Writes};

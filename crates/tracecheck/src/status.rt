@@ -7,7 +7,7 @@ ghost use Rattle.tracecheck.specs.Status.{exit_number};
 pub enum Status {
     /// The trace agrees, and that was written.
     Agrees,
-    /// The trace differs, and the line was written.
+    /// The trace differs, and that was written.
     Differs,
     /// The text is no trace, and that was written. Words that are no command line end so too.
     Refused,

@@ -1,10 +1,15 @@
 //! What is said of a trace.
-ghost use Rattle.std.specs.Prelude.{◌≡◌, IfOk};
-ghost use Rattle.tracecheck.specs.Verdict.{difference_text, refusal_text, verdict_text};
+ghost use Rattle.std.specs.Prelude.{◌≡◌, ◌++◌, codes, IfOk, OnOk};
+ghost use Rattle.ent_trace.specs.Text.{spaced};
+ghost use Rattle.tracecheck.specs.Verdict.{difference_text, pool_words, refusal_text};
+ghost use Rattle.tracecheck.specs.Verdict.{state_text, verdict_text};
 
-use ent_handle::Memory;
-use ent_trace::{Cause, Difference, write_answer, write_line};
+use ent_handle::{Handle, Memory};
+use ent_trace::{Cause, Difference, append_answer, append_handles, write_line};
 use std::alloc::Global;
+
+// A difference shows at most this many handles of a pool.
+const SHOWN: usize = 8;
 
 /// Why a text is no trace.
 #[derive(Clone, Copy, Debug, PartialEq, Eq)]
@@ -49,11 +54,11 @@ impl Refusal {
 }
 
 impl Verdict {
-    /// The line that says it, with its line feed.
+    /// The text that says it, with its line feeds: two lines for a difference, or else one.
     ///
     /// # Errors
     ///
-    /// `Memory`: there is no memory for the line.
+    /// `Memory`: there is no memory for the text.
     pub fn text(&self, alloc: Global) -> Result<Vec<u8>, Memory>
         ensures { IfOk result (λ text. text.items ≡ verdict_text self.now) }
     {
@@ -87,7 +92,42 @@ fn difference_text(alloc: Global, difference: &Difference) -> Result<Vec<u8>, Me
     let mut text = format!(in alloc; "differs line {number}: ")?.into_bytes();
     write_line(&mut text, &difference.told)?;
     text.extend_from_slice(b", expected")?;
-    write_answer(&mut text, &difference.expected)?;
+    append_answer(&mut text, &difference.expected)?;
     text.push(b'\n')?;
+    append_state(
+        alloc,
+        &mut text,
+        difference.front.as_slice(),
+        difference.cursor,
+    )?;
     Ok(text)
+}
+
+// Appends the line that shows the state in which a line of the trace differs.
+fn append_state(
+    alloc: Global,
+    out: &mut Vec<u8>,
+    front: &[Handle],
+    cursor: i64,
+) -> Result<(), Memory>
+    ensures { OnOk result (out.new.items ≡ out.old.items ++ state_text front.now cursor) }
+{
+    append_pool(out, front)?;
+    let cursor = format!(in alloc; ", cursor {cursor}\n")?;
+    Ok(out.extend_from_slice(cursor.as_bytes())?)
+}
+
+fn append_pool(out: &mut Vec<u8>, front: &[Handle]) -> Result<(), Memory>
+    ensures { OnOk result (out.new.items
+        ≡ out.old.items ++ codes "pool" ++ spaced (pool_words front.now)) }
+{
+    if front.is_empty() {
+        return Ok(out.extend_from_slice(b"pool empty")?);
+    }
+    out.extend_from_slice(b"pool")?;
+    append_handles(out, front)?;
+    if front.len() == SHOWN {
+        out.extend_from_slice(b" ..")?;
+    }
+    Ok(())
 }

@@ -54,8 +54,7 @@ use crate::errors::OutOfMemory;
 use crate::handle::Handle;
 use crate::kit::alloc::Global;
 use crate::limits::Limits;
-use crate::proved::ent_trace::{self, Line, Stop};
-use alloc::vec::Vec;
+use crate::proved::ent_trace::{self, Line};
 use core::fmt;
 use core::mem;
 
@@ -68,8 +67,6 @@ use core::mem;
 pub struct Checker {
     /// What compares, or why it has stopped.
     proved: Result<ent_trace::Checker, CheckError>,
-    /// The reservations that are not compared yet, with their numbers, for a difference to show.
-    run: Vec<(u64, Reservation)>,
     calls: u64,
 }
 
@@ -83,7 +80,6 @@ impl Checker {
     pub fn new(limits: Limits) -> Self {
         Self {
             proved: Ok(ent_trace::Checker::new(Global, line::limits(limits))),
-            run: Vec::new(),
             calls: 0,
         }
     }
@@ -108,16 +104,7 @@ impl Checker {
     pub fn call(&mut self, call: Call) -> Result<(), CheckError> {
         self.goes_on()?;
         self.calls += 1;
-        let number = self.calls;
-        let line = call.line(number);
-        self.take(number, line, &call)?;
-        match call {
-            Call::Reserve(reservation) => self.keep(number, reservation),
-            _ => {
-                self.run.clear();
-                Ok(())
-            }
-        }
+        self.take(self.calls, call.line(self.calls))
     }
 
     /// A handle was asked for, to be alive at once.
@@ -208,10 +195,7 @@ impl Checker {
             }
         }
         // A length that nobody was told ends the run, and changes nothing.
-        let last = Call::Len(0);
-        self.take(self.calls, Ok(Line::Len(None)), &last)?;
-        self.run.clear();
-        Ok(())
+        self.take(self.calls, Ok(Line::Len(None)))
     }
 
     /// There are no more calls. The last reservations are compared.
@@ -224,22 +208,17 @@ impl Checker {
         let proved = mem::replace(&mut self.proved, Err(CheckError::Memory))?;
         match proved.finish() {
             Ok(_) => Ok(()),
-            Err(stop) => Err(self.error(stop, &Call::Len(0))),
+            Err(stop) => Err(CheckError::of(stop)),
         }
     }
 
-    /// Lets the proved checker take a line, which is that of this call.
-    fn take(
-        &mut self,
-        number: u64,
-        line: Result<Line, OutOfMemory>,
-        call: &Call,
-    ) -> Result<(), CheckError> {
+    /// Lets the proved checker take a line.
+    fn take(&mut self, number: u64, line: Result<Line, OutOfMemory>) -> Result<(), CheckError> {
         // It is taken by value, and comes back only if nothing was wrong.
         self.proved = match mem::replace(&mut self.proved, Err(CheckError::Memory)) {
             Ok(proved) => line
                 .map_err(CheckError::from)
-                .and_then(|line| proved.take(number, line).map_err(|it| self.error(it, call))),
+                .and_then(|line| proved.take(number, line).map_err(CheckError::of)),
             stopped => stopped,
         };
         self.goes_on()
@@ -253,32 +232,6 @@ impl Checker {
     fn out_of_memory(&mut self) -> Result<(), CheckError> {
         self.proved = Err(CheckError::Memory);
         self.goes_on()
-    }
-
-    /// Keeps a reservation of the run.
-    fn keep(&mut self, number: u64, reservation: Reservation) -> Result<(), CheckError> {
-        if self.run.try_reserve(1).is_err() {
-            return self.out_of_memory();
-        }
-        self.run.push((number, reservation));
-        Ok(())
-    }
-
-    /// Why it stops at this call.
-    fn error(&self, stop: Stop, call: &Call) -> CheckError {
-        match stop {
-            Stop::Differs(difference) => {
-                let line = difference.number;
-                let kept = self.run.iter().find(|kept| kept.0 == line);
-                CheckError::Differs(Difference {
-                    line,
-                    told: kept.map_or_else(|| call.clone(), |kept| Call::Reserve(kept.1.clone())),
-                    expected: Call::of(difference.expected),
-                })
-            }
-            Stop::TooMany => CheckError::TooMany,
-            Stop::Memory => CheckError::Memory,
-        }
     }
 }
 

@@ -233,6 +233,9 @@ fn nothing_is_compared_after_a_difference() {
         line: 6,
         told: Call::Len(2),
         expected: Call::Len(1),
+        // The slot that was freed last stands first, and two wait.
+        front: handles("1v2 0v2 3v1 4v1 5v1 6v1 7v1 8v1"),
+        cursor: 2,
     };
     assert_eq!(wrong, Err(CheckError::Differs(difference.clone())));
     assert_eq!(checker.len(1), wrong);

@@ -1,7 +1,11 @@
 //! Why a checker stops.
 
 use super::call::Call;
+use super::line::list;
 use crate::errors::OutOfMemory;
+use crate::handle::Handle;
+use crate::proved::ent_trace::{self, Stop};
+use alloc::vec::Vec;
 use core::error::Error;
 use core::fmt;
 
@@ -17,6 +21,23 @@ pub struct Difference {
     pub told: Call,
     /// The same call with what the allocator answers there.
     pub expected: Call,
+    /// The front of the allocator's pool before that call: its first 8 handles, or all if there are
+    /// fewer.
+    pub front: Vec<Handle>,
+    /// The allocator's cursor before that call.
+    pub cursor: i64,
+}
+
+impl Difference {
+    fn of(difference: ent_trace::Difference) -> Self {
+        Self {
+            line: difference.number,
+            told: Call::of(difference.told),
+            expected: Call::of(difference.expected),
+            front: list(difference.front),
+            cursor: difference.cursor,
+        }
+    }
 }
 
 impl fmt::Display for Difference {
@@ -25,6 +46,7 @@ impl fmt::Display for Difference {
             line,
             told,
             expected,
+            ..
         } = self;
         write!(
             out,
@@ -48,6 +70,14 @@ pub enum CheckError {
 }
 
 impl CheckError {
+    pub(super) fn of(stop: Stop) -> Self {
+        match stop {
+            Stop::Differs(difference) => Self::Differs(Difference::of(difference)),
+            Stop::TooMany => Self::TooMany,
+            Stop::Memory => Self::Memory,
+        }
+    }
+
     /// The difference, if it is one.
     #[must_use]
     pub fn difference(&self) -> Option<&Difference> {

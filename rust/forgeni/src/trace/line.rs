@@ -146,6 +146,6 @@ fn proved_list(handles: &[Handle]) -> Result<HandleList, OutOfMemory> {
 }
 
 /// The handles, in the memory of the list.
-fn list(handles: HandleList) -> Vec<Handle> {
+pub(super) fn list(handles: HandleList) -> Vec<Handle> {
     all_handles(handles.into_vec())
 }

@@ -6,6 +6,7 @@ use crate::kit::prove_eq;
 use crate::kit::vec::Vec;
 use crate::proved::ent_trace::calls::answered;
 use crate::proved::ent_trace::difference::{Difference, Stop};
+use crate::proved::ent_trace::front::front_at;
 use crate::proved::ent_trace::line::{Line, Reservation};
 use crate::proved::ent_trace::placed::Placed;
 use crate::proved::ent_trace::placing::place_all;
@@ -63,6 +64,7 @@ impl Checker {
     #[inline]
     pub fn take(self, number: u64, line: Line) -> Result<Self, Stop>
         // ensures follows { IfOk result (λ next. Follows self line next) }
+        // ensures reaches { IfOk result (λ next. Reaches self line next) }
         // ensures differs { IfErr result (λ stop.
         //     OnDiffers stop (Shows self number (line ∷ []))) }
         // ensures none { IfErr result (λ stop. OnDiffers stop (λ d. NoneFollows self line)) }
@@ -95,6 +97,7 @@ impl Checker {
     fn end_run(self, number: u64, line: Line) -> Result<Self, Stop>
         // requires { IsAlone line }
         // ensures follows { IfOk result (λ next. Follows self line next) }
+        // ensures reaches { IfOk result (λ next. Reaches self line next) }
         // ensures differs { IfErr result (λ stop.
         //     OnDiffers stop (Shows self number (line ∷ []))) }
         // ensures none { IfErr result (λ stop. OnDiffers stop (λ d. NoneFollows self line)) }
@@ -154,9 +157,18 @@ impl Checker {
             latest,
             ..
         } = self;
+        // No call can be undone, so what a difference shows is looked up before it.
+        let cursor = entities.cursor();
+        let front = front_at(alloc, &entities, cursor)?;
         let expected = answered(alloc, &mut entities, &line)?;
         if let Some(expected) = expected {
-            return Err(Stop::Differs(Difference { number, expected }));
+            return Err(Stop::Differs(Difference {
+                number,
+                told: line,
+                expected,
+                front,
+                cursor,
+            }));
         }
         let wanted = entities.asked();
         Ok(Checker {

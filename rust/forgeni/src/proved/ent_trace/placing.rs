@@ -6,6 +6,7 @@ use crate::kit::prove_eq;
 use crate::kit::vec::Vec;
 use crate::proved::ent_trace::difference::{Difference, Stop};
 use crate::proved::ent_trace::fitting::fits_reserved;
+use crate::proved::ent_trace::front::front_at;
 use crate::proved::ent_trace::line::{Line, Reservation};
 use crate::proved::ent_trace::placed::Placed;
 use crate::proved::ent_trace::reply::ReserveReply;
@@ -58,6 +59,35 @@ fn reply_of(given: Result<HandleList, Space>) -> ReserveReply
     }
 }
 
+/// The same reservation with this reply.
+#[inline]
+fn with_reply(reservation: &Reservation, reply: ReserveReply) -> Reservation
+    // ensures { result ≡ record reservation.now { reply = reply } }
+{
+    Reservation {
+        number: reservation.number,
+        caller: reservation.caller,
+        requested: reservation.requested,
+        reply,
+    }
+}
+
+/// Copies a reply.
+#[inline]
+fn copied(alloc: Global, reply: &ReserveReply) -> Result<ReserveReply, Memory>
+    // ensures { IfOk result (λ copy. copy ≡ reply.now) }
+{
+    match reply {
+        ReserveReply::Handles(handles) => {
+            let mut copy = Vec::new(alloc);
+            copy.extend_from_slice(handles.as_slice())?;
+            Ok(ReserveReply::Handles(HandleList::new(copy)))
+        }
+        ReserveReply::Space => Ok(ReserveReply::Space),
+        ReserveReply::SpaceLeft(left) => Ok(ReserveReply::SpaceLeft(*left)),
+    }
+}
+
 /// Makes a reservation of the run, and compares.
 #[inline]
 fn place(alloc: Global, entities: &mut Entities, reservation: &Reservation) -> Result<(), Stop>
@@ -70,20 +100,18 @@ fn place(alloc: Global, entities: &mut Entities, reservation: &Reservation) -> R
     //     (Differs entities.old.allocator 0 (Line.Reserve reservation.now))) }
     // ensures counted { IfErr result (λ stop. OnTooMany stop ⊥) }
 {
+    let cursor = entities.cursor();
     let given = reserve(alloc, entities, reservation.requested)?;
     if fits_reserved(&reservation.reply, &given) {
         return Ok(());
     }
-    let number = reservation.number;
-    let expected = Reservation {
-        number,
-        caller: reservation.caller,
-        requested: reservation.requested,
-        reply: reply_of(given),
-    };
+    let expected = with_reply(reservation, reply_of(given));
     Err(Stop::Differs(Difference {
-        number,
+        number: reservation.number,
+        told: Line::Reserve(with_reply(reservation, copied(alloc, &reservation.reply)?)),
         expected: Line::Reserve(expected),
+        front: front_at(alloc, entities, cursor)?,
+        cursor,
     }))
 }
 
