@@ -124,8 +124,8 @@ fn read_call(alloc: Global, number: u64, word: &[u8], text: &[u8]) -> Result<Lin
 ///
 /// # Errors
 ///
-/// `Cause` if the line is no call with its answer, with the first of the causes that it has; `Memory`
-/// if memory ran out.
+/// `Cause` if the line is no call with its answer, with the first of the causes that it has;
+/// `Memory` if memory ran out.
 #[inline]
 pub fn read_line(alloc: Global, number: u64, line: &[u8]) -> Result<Option<Line>, ReadFault>
     // All of it, as a function of the words.
