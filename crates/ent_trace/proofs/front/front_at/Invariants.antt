@@ -1,4 +1,4 @@
-use Rattle.std.proofs.Common.{ℕ, ◌-◌, length}
+use Rattle.std.proofs.Common.{◌-◌, length}
 use Rattle.ent_trace.proofs.Fronts.{Listed}
 use Rattle.ent_trace.proofs.front.front_at.Given as goal
 
