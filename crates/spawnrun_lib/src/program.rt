@@ -12,11 +12,11 @@ ghost use Rattle.spawnrun_lib.specs.Replay.{input_limit};
 ghost use Rattle.spawnrun_lib.specs.Status.{exit_number, said, words_status};
 ghost use Rattle.spawnrun_lib.specs.Program.{AsksTo, HasAdvised, HasDone};
 
-use devices::{Sink, Source};
 use crate::replaying::replay;
 use crate::running::run;
 use crate::status::Status;
 use crate::task::{LineFault, Task, command_line};
+use devices::{Sink, Source};
 use std::alloc::{AllocError, Global};
 use std::convert::AsStr;
 use std::io;

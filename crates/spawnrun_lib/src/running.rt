@@ -6,10 +6,10 @@ ghost use Rattle.devices.specs.Device.{Takes, TakesAtMost, OneFails, Writes};
 ghost use Rattle.spawnrun_lib.specs.Replay.{input_limit};
 ghost use Rattle.spawnrun_lib.specs.Running.{HasRunScript};
 
-use devices::{Sink, Source};
 use crate::input::{INPUT_LIMIT, InputFault, read_all};
 use crate::output::{refuse, size_line, write};
 use crate::status::Status;
+use devices::{Sink, Source};
 use ent_handle::Memory;
 use ent_script::{ReadFault, read_script, write_refusal};
 use ent_script_report::Show;
