@@ -2,3 +2,4 @@ pub mod Joined
 pub mod Taking
 pub mod LinesRead
 pub mod InputRead
+pub mod LimitsOfWords

@@ -1,8 +1,11 @@
 //! The program: what its words ask for, done between two devices, and what it says on the error
 //! stream.
-ghost use Rattle.std.specs.Prelude.{◌≡◌, ◌≢◌, ◌≤◌, IfOk, OnErr, OnOk, false, string_bytes};
+ghost use Rattle.std.specs.Prelude.{◌≡◌, ◌≢◌, ◌≤◌, ◌⊎◌, IfOk, OnErr, OnOk, map, true, false};
+ghost use Rattle.std.specs.Prelude.{string_bytes};
 ghost use Rattle.std.specs.Io.KnownBytes.{Appends};
+ghost use Rattle.clap.specs.Words.{takes};
 ghost use Rattle.devices.specs.Device.{OneFails};
+ghost use Rattle.tracecheck.specs.CommandLine.{IsFaulty, program};
 ghost use Rattle.tracecheck.specs.Status.{HasSaid, exit_number, said};
 
 use crate::command_line::{LineFault, command_line};
@@ -41,16 +44,34 @@ pub fn execute<S: AsStr, I: Source, O: Sink, E: Sink>(
     tells: bool,
 ) -> u8
     ensures statuses { result ≤ 4 }
-    ensures agrees { result ≡ 0 → HasSaid Status.Agrees
+
+    // The trace was compared with an allocator of the limits that the words ask for.
+    ensures agrees { result ≡ 0 → HasSaid (map S.text words.now) Status.Agrees
         (I.remaining input.old) (O.written output.old) (O.written output.new) }
-    ensures differs { result ≡ 1 → HasSaid Status.Differs
+    ensures differs { result ≡ 1 → HasSaid (map S.text words.now) Status.Differs
         (I.remaining input.old) (O.written output.old) (O.written output.new) }
+
+    // The two meanings of 2. Words that clap takes end so only for the text.
+    ensures refused { result ≡ 2 → IsFaulty (map S.text words.now)
+        ⊎ HasSaid (map S.text words.now) Status.Refused
+        (I.remaining input.old) (O.written output.old) (O.written output.new) }
+    ensures taken { takes program (map S.text words.now) ≡ true → result ≡ 2
+        → HasSaid (map S.text words.now) Status.Refused
+        (I.remaining input.old) (O.written output.old) (O.written output.new) }
+
+    // Words that are no command line, or ask for help, have no other status, but 3 for want of
+    // memory. No device is used for them.
+    ensures faulty { IsFaulty (map S.text words.now) → result ≢ 3 → result ≡ 2 }
+    ensures unused_input { IsFaulty (map S.text words.now) → input.new ≡ input.old }
+    ensures unused_output { IsFaulty (map S.text words.now) → output.new ≡ output.old }
+
     ensures memory { result ≡ 3 → output.new ≡ output.old }
     ensures device { result ≡ 4 → OneFails
         (I.failures input.old) (I.failures input.new)
         (O.failures output.old) (O.failures output.new) }
     ensures input_unfailed { result ≢ 4 → I.failures input.new ≡ I.failures input.old }
     ensures output_unfailed { result ≢ 4 → O.failures output.new ≡ O.failures output.old }
+    ensures unread { I.failures input.new ≢ I.failures input.old → output.new ≡ output.old }
     ensures quiet { tells ≡ false → result ≤ 1 → errors.new ≡ errors.old }
 {
     match command_line(alloc, words) {
