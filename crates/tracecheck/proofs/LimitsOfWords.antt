@@ -1,63 +1,53 @@
 -- From the program's words to its limits: clap's matches, and the faults.
-use Rattle.std.proofs.Common.{◌≡◌, ◌∙◌, ℕ, List, [], ◌∷◌, codes, true, refl, sym, ap, subst}
-use Rattle.std.proofs.Common.{inl, inr, Option, Some, None}
-use Rattle.std.specs.Prelude.{◌≢◌, ◌↔◌, IfErr, IfOk, IfSome, IsErrAnd, IsSome, OnOk, Result}
-use Rattle.std.specs.Prelude.{Ok, Err, ok_or, option_map}
+use Rattle.std.proofs.Common.{◌≡◌, ◌∙◌, ◌^◌, ◌<◌, ◌≤◌, ℕ, List, [], ◌∷◌, codes, true, refl, sym, ap}
+use Rattle.std.proofs.Common.{subst, inl, inr, Option, Some}
+use Rattle.std.specs.Prelude.{◌≢◌, IfErr, IsErrAnd, Result, Ok, Err, option_map}
 use Rattle.std.specs.Str.Parse.{ExplainsUnsignedError, HasUnsignedDigitsIfOk, ParsesUnsigned}
 use Rattle.std.specs.Str.Parse.{digits_value, without_leading_plus}
 use Rattle.std.specs.declared.num.ParseIntError.{ParseIntError}
 use Rattle.clap.specs.Matches.{ReadsOne, one_text}
-use Rattle.clap.specs.Words.{App, HasKind, HasMatchesOf, IsAmong, Kinds, Row, Text, kind_of}
-use Rattle.clap.specs.Words.{fault_of, is_simple, is_simple_and_free, matches_of, rows_of}
+use Rattle.clap.specs.Words.{App, HasKind, HasMatchesOf, IsAmong, Kinds, Row, Text, fault_of}
+use Rattle.clap.specs.Words.{is_simple, is_simple_and_free, kind_of, matches_of, rows_of}
+use Rattle.clap.specs.Words.{without_minus}
 use Rattle.clap.specs.declared.error.Error.{Error}
 use Rattle.clap.specs.declared.error.ErrorKind.{ErrorKind}
 use Rattle.clap.specs.declared.error.ErrorKind.TheVariants.{OutOfMemory}
 use Rattle.clap.specs.declared.parser.ArgMatches.{ArgMatches}
 use Rattle.clap.specs.declared.parser.matches.Found.{Found}
+use Rattle.clap.proofs.CallerReads.{signed_reads}
 use Rattle.clap.proofs.OnLiterals.{clap_on_literals}
 use Rattle.clap.proofs.WalkLemmas.{one_text-rows}
-use Rattle.ent_alloc.specs.Limits.{AreLimits, Limits}
-use Rattle.tracecheck.specs.CommandLine.{AreGiven, AsksFor, IsFaultIn, IsFaultOf, given}
+use Rattle.ent_alloc.specs.Limits.{Limits}
+use Rattle.tracecheck.specs.CommandLine.{AreGiven, AsksFor, HasNumber, IsFaultIn, IsFaultOf, given}
 use Rattle.tracecheck.specs.CommandLine.{option_number, program}
 use Rattle.tracecheck.specs.declared.command_line.LineFault.{LineFault}
 use Rattle.tracecheck.specs.declared.command_line.LineFault.TheVariants.{Line, Memory}
 
--- ---- the limits of clap's matches
+-- ---- the numbers of the options
 
 -- what `FromStr` promises of a number of this many bits
 abbrev number_gives : ℕ → Text → Result ℕ ParseIntError → Type 0
 number_gives bits text r = ParsesUnsigned bits 10 text r × ExplainsUnsignedError 10 text r
     × HasUnsignedDigitsIfOk text r
 
--- a number that a getter reads is the option's
-pub number_read : (bits : ℕ) (option : Text) (found : Found) (r : Option ℕ) (n : ℕ)
-    → (one_text found option ≡ None → r ≡ None)
+-- the number that the getter of an option in range reads
+pub number_read : (bits : ℕ) (option : Text) (most : ℕ) (found : Found) (r : Option ℕ) → most
+    < 2 ^ bits → HasNumber option most (rows_of found)
     → ((text : Text) → one_text found option ≡ Some text → ReadsOne (number_gives bits) text r)
-    → r ≡ Some n → option_number option (rows_of found) ≡ Some n
-number_read bits option found r n none reads is =
-    ap (option_map (λ text. digits_value 10 (without_leading_plus text)))
-    (sym (one_text-rows found option)) ∙ go (one_text found option) none reads
-  where
-    go : (one : Option Text) → (one ≡ None → r ≡ None)
-        → ((text : Text) → one ≡ Some text → ReadsOne (number_gives bits) text r)
-        → option_map (λ text. digits_value 10 (without_leading_plus text)) one ≡ Some n
-    go None none reads =
-        let no : r ≡ None = none refl in
-        cc
-    go (Some text) none reads =
-        let read = subst (ReadsOne (number_gives bits) text) is (reads text refl) in
-        ap (λ n. Some n) (sym read.0.1)
-
--- limits that are made of both numbers
-pub AreGiven-new : (rows : List Row) (slots generations : ℕ) (r : Option Limits)
-    → option_number (codes "slots") rows ≡ Some slots
-    → option_number (codes "generations") rows ≡ Some generations
-    → (IsSome r ↔ AreLimits (record { slots = slots; generations = generations }))
-    → IfSome r (λ limits. limits ≡ record { slots = slots; generations = generations })
-    → IfSome r (AreGiven rows)
-AreGiven-new rows slots generations None has_slots has_generations in_range value = tt
-AreGiven-new rows slots generations (Some limits) has_slots has_generations in_range value =
-    subst (AreGiven rows) (sym value) (has_slots, has_generations, in_range.0 refl)
+    → (n : ℕ) × (r ≡ Some n) × (1 ≤ n) × (n ≤ most) × (option_number option (rows_of found)
+    ≡ Some n)
+number_read bits option most found r fits number reads =
+    let read = reads (without_minus number.text) (one_text-rows found option ∙ number.is) in
+    let known = signed_reads _ (number_gives bits) bits 1 most number.text r read
+    (λ text given gives. gives.0) fits number.within in
+    let given = subst (ReadsOne (number_gives bits) (without_minus number.text)) known.1 read in (
+      known.0,
+      known.1,
+      known.2,
+      known.3,
+      ap (option_map (λ text. digits_value 10 (without_leading_plus text))) number.is
+          ∙ ap (λ n. Some n) (sym given.0.1),
+    )
 
 -- ---- the program's command
 
@@ -73,37 +63,11 @@ pub is_free : (app : App) → app ≡ program → is_simple_and_free app ≡ tru
 is_free app is = ap is_simple_and_free is ∙ program-free
 
 -- the limits of the matches are those of the words
-pub AsksFor-matches : (app : App) (words : List Text) (m : ArgMatches) (r : Option Limits)
-    → app ≡ program → HasMatchesOf app words m → IfSome r (AreGiven (given m))
-    → IfSome r (AsksFor words)
-AsksFor-matches app words m None is matches in_matches = tt
-AsksFor-matches app words m (Some limits) is matches in_matches =
-    subst (λ rows. AreGiven rows limits) ((matches (ap is_simple is ∙ program-simple)).0
-    ∙ ap (λ a. matches_of a words) is) in_matches
-
--- ---- the results
-
--- the limits that are there are returned, and else want of memory
-pub IfOk-limits : (o : Option Limits) (r : Result Limits LineFault) (P : Limits → Type 0)
-    → r ≡ ok_or o Memory → IfSome o P → IfOk r P
-IfOk-limits o r P is some = subst (λ (r : Result Limits LineFault). IfOk r P) (sym is) (go o some)
-  where
-    go : (o : Option Limits) → IfSome o P → IfOk (ok_or o Memory) P
-    go None some = tt
-    go (Some limits) some = some
-
-pub OnOk-any : (r : Result Limits LineFault) (P : Type 0) → P → OnOk r P
-OnOk-any (Ok limits) P p = p
-OnOk-any (Err fault) P p = tt
-
-pub IfErr-memory : (o : Option Limits) (r : Result Limits LineFault) (P : LineFault → Type 0)
-    → r ≡ ok_or o Memory → P Memory → IfErr r P
-IfErr-memory o r P is memory =
-    subst (λ (r : Result Limits LineFault). IfErr r P) (sym is) (go o)
-  where
-    go : (o : Option Limits) → IfErr (ok_or o Memory) P
-    go None = memory
-    go (Some limits) = tt
+pub AsksFor-matches : (app : App) (words : List Text) (m : ArgMatches) (limits : Limits)
+    → app ≡ program → HasMatchesOf app words m → AreGiven (given m) limits → AsksFor words limits
+AsksFor-matches app words m limits is matches in_matches =
+    subst (λ (rows : List Row). AreGiven rows limits) ((matches (ap is_simple is
+    ∙ program-simple)).0 ∙ ap (λ (a : App). matches_of a words) is) in_matches
 
 -- ---- the faults
 

@@ -3,8 +3,10 @@ use Rattle.std.specs.Prelude.{⊤, ◌≡◌, ◌≢◌, ℕ, List, [], ◌∷�
 use Rattle.std.specs.Prelude.{option_map}
 use Rattle.std.specs.Str.Parse.{digits_value, without_leading_plus}
 use Rattle.clap.specs.Words.{App, IsAmong, Row, Rule, Text, fault_of, found_of, kind_of, matches_of}
-use Rattle.clap.specs.Words.{new_app, new_rule, one_of, rows_of, with_rule}
+use Rattle.clap.specs.Words.{IsSignedIn, new_app, new_rule, one_of, rows_of, with_rule}
+use Rattle.clap.specs.Words.{without_minus}
 use Rattle.clap.specs.Simple.{on_top}
+use Rattle.clap.specs.declared.builder.ArgAction.TheVariants.{Set}
 use Rattle.clap.specs.declared.builder.value_parser.ValueParser.TheVariants.{Signed}
 use Rattle.clap.specs.declared.parser.ArgMatches.{ArgMatches}
 use Rattle.clap.specs.declared.error.Error.{Error}
@@ -17,6 +19,7 @@ use Rattle.tracecheck.specs.declared.command_line.LineFault.TheVariants.{Line, M
 abbrev pub number_option : Text → ℕ → Text → Rule
 number_option name most default = record (new_rule name) {
   long = Some name;
+  action = Some Set;
   value_names = 1;
   parser = Some (Signed (pos 1) (pos most));
   defaults = default ∷ [];
@@ -43,6 +46,12 @@ given matches = rows_of (found_of matches)
 abbrev pub option_number : Text → List Row → Option ℕ
 option_number option rows =
     option_map (λ text. digits_value 10 (without_leading_plus text)) (one_of option rows)
+
+-- the option's value is a whole number from 1 to `most`, which may have a sign
+pub record HasNumber (option : Text) (most : ℕ) (rows : List Row) : Type 0 where
+  pub text : Text
+  pub is : one_of option rows ≡ Some (without_minus text)
+  pub within : IsSignedIn (pos 1) (pos most) text
 
 -- the limits are the numbers of the two options, and are in their ranges
 abbrev pub AreGiven : List Row → Limits → Type 0

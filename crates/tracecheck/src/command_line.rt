@@ -1,11 +1,12 @@
 //! The limits that the words after the program's name ask for.
-ghost use Rattle.std.specs.Prelude.{◌≡◌, [], IfOk, IfErr, IfSome, OnOk, map, true, false};
+ghost use Rattle.std.specs.Prelude.{◌≡◌, [], IfOk, IfErr, OnOk, Some, codes, map, true, false};
 ghost use Rattle.clap.specs.Words.{app_of, fault_of, rule_of, takes};
-ghost use Rattle.tracecheck.specs.CommandLine.{AreGiven, AsksFor, IsFaultIn, given};
-ghost use Rattle.tracecheck.specs.CommandLine.{number_option, program, top_command};
+ghost use Rattle.ent_alloc.specs.Limits.{AreLimits};
+ghost use Rattle.tracecheck.specs.CommandLine.{AsksFor, HasNumber, IsFaultIn, given};
+ghost use Rattle.tracecheck.specs.CommandLine.{number_option, option_number, program, top_command};
 
 use clap::error::ErrorKind;
-use clap::{Arg, ArgMatches, Command};
+use clap::{Arg, ArgAction, ArgMatches, Command};
 use ent_alloc::Limits;
 use std::alloc::{AllocError, Global};
 use std::convert::AsStr;
@@ -68,6 +69,7 @@ fn number_option<'a>(
     let range = clap::value_parser!(u32).range(1..=i64::from(most));
     Arg::new(alloc, name)
         .long(name)
+        .action(ArgAction::Set)
         .value_name("N")
         .value_parser(range)
         .default_value(default)
@@ -107,13 +109,17 @@ fn program<'a>(alloc: Global) -> Result<Command<'a>, AllocError>
         .bin_name("tracecheck")
 }
 
-// The limits that the options have, if each has a number in its range.
-fn limits_of(options: &ArgMatches<'_>) -> Option<Limits>
-    ensures { IfSome result (AreGiven (given options.now)) }
+fn limits_of(options: &ArgMatches<'_>) -> Limits
+    requires slots { HasNumber (codes "slots") 4294967295 (given options.now) }
+    requires generations { HasNumber (codes "generations") 2147483647 (given options.now) }
+    ensures slots { option_number (codes "slots") (given options.now) ≡ Some result.slots }
+    ensures generations { option_number (codes "generations") (given options.now)
+        ≡ Some result.generations }
+    ensures within { AreLimits result }
 {
-    let slots = options.get_one::<u32>("slots")?;
-    let generations = options.get_one::<u32>("generations")?;
-    Limits::new(slots, generations)
+    let slots = options.get_one::<u32>("slots").unwrap();
+    let generations = options.get_one::<u32>("generations").unwrap();
+    Limits::new(slots, generations).unwrap()
 }
 
 /// Reads the limits from the words after the program's name.
@@ -130,7 +136,5 @@ pub fn command_line<S: AsStr>(alloc: Global, words: &[S]) -> Result<Limits, Line
         takes program (map S.text words.now) ≡ true → fault ≡ LineFault.Memory) }
 {
     let matches = program(alloc)?.try_get_matches_from(words)?;
-    // Both options have a default, and clap takes no number out of their ranges. So there are
-    // limits.
-    limits_of(&matches).ok_or(LineFault::Memory)
+    Ok(limits_of(&matches))
 }
