@@ -1,5 +1,7 @@
 -- The program's exit status.
 use Rattle.std.specs.Prelude.{◌≡◌, ℕ, List, [], Option, codes}
+use Rattle.std.specs.declared.io.ErrorKind.{ErrorKind}
+use Rattle.std.specs.declared.io.ErrorKind.TheVariants.{InvalidData, OutOfMemory}
 use Rattle.clap.specs.Words.{Text}
 use Rattle.devices.specs.Device.{Writes}
 use Rattle.ent_alloc.specs.Limits.{Limits}
@@ -40,3 +42,9 @@ abbrev pub said : Status → List ℕ
 said status.Memory = codes "memory\n"
 said status.Device = codes "device\n"
 said other = []
+
+-- the exit status if the program's words can't be read
+abbrev pub words_status : ErrorKind → ℕ
+words_status OutOfMemory = 3
+words_status InvalidData = 2
+words_status other = 4

@@ -1,12 +1,13 @@
 //! The program: what its words ask for, done between two devices, and what it says on the error
 //! stream.
 ghost use Rattle.std.specs.Prelude.{◌≡◌, ◌≢◌, ◌≤◌, ◌⊎◌, IfOk, OnErr, OnOk, map, true, false};
-ghost use Rattle.std.specs.Prelude.{string_bytes};
+ghost use Rattle.std.specs.Prelude.{codes, string_bytes};
+ghost use Rattle.std.specs.IoError.{error_kind};
 ghost use Rattle.std.specs.Io.KnownBytes.{Appends};
 ghost use Rattle.clap.specs.Words.{takes};
 ghost use Rattle.devices.specs.Device.{OneFails};
 ghost use Rattle.tracecheck.specs.CommandLine.{IsFaulty, program};
-ghost use Rattle.tracecheck.specs.Status.{HasSaid, exit_number, said};
+ghost use Rattle.tracecheck.specs.Status.{HasSaid, exit_number, said, words_status};
 
 use crate::command_line::{LineFault, command_line};
 use crate::running::check_trace;
@@ -72,7 +73,17 @@ pub fn execute<S: AsStr, I: Source, O: Sink, E: Sink>(
     ensures input_unfailed { result ≢ 4 → I.failures input.new ≡ I.failures input.old }
     ensures output_unfailed { result ≢ 4 → O.failures output.new ≡ O.failures output.old }
     ensures unread { I.failures input.new ≢ I.failures input.old → output.new ≡ output.old }
+
+    // What the error stream tells.
     ensures quiet { tells ≡ false → result ≤ 1 → errors.new ≡ errors.old }
+    ensures quiet_refused { tells ≡ false → takes program (map S.text words.now) ≡ true
+        → result ≡ 2 → errors.new ≡ errors.old }
+    ensures memory_said { tells ≡ false → result ≡ 3
+        → E.failures errors.new ≡ E.failures errors.old
+        → Appends (E.written errors.old) (E.written errors.new) (codes "memory\n") }
+    ensures device_said { tells ≡ false → result ≡ 4
+        → E.failures errors.new ≡ E.failures errors.old
+        → Appends (E.written errors.old) (E.written errors.new) (codes "device\n") }
 {
     match command_line(alloc, words) {
         Ok(limits) => {
@@ -90,6 +101,8 @@ fn refuse_line<E: Sink>(text: Result<String, AllocError>, errors: &mut E) -> u8
     ensures text_said { IfOk text (λ text. E.failures errors.new ≡ E.failures errors.old
         → Appends (E.written errors.old) (E.written errors.new) (string_bytes text)) }
     ensures memory { OnErr text (result ≡ 3) }
+    ensures memory_said { OnErr text (E.failures errors.new ≡ E.failures errors.old
+        → Appends (E.written errors.old) (E.written errors.new) (codes "memory\n")) }
 {
     match text {
         Ok(text) => {
@@ -100,9 +113,17 @@ fn refuse_line<E: Sink>(text: Result<String, AllocError>, errors: &mut E) -> u8
     }
 }
 
-// Ends the program if its words can't be read, and returns the exit status.
+// Ends the program if its words can't be read, and returns the exit status: 3 if memory ran out, 2
+// if a word is no UTF-8, else 4.
 fn refuse_words<E: Sink>(error: &io::Error, errors: &mut E) -> u8
-    ensures { result ≤ 4 }
+    ensures status { result ≡ words_status (error_kind error.now) }
+    ensures memory_said { result ≡ 3 → E.failures errors.new ≡ E.failures errors.old
+        → Appends (E.written errors.old) (E.written errors.new) (codes "memory\n") }
+    ensures text_said { result ≡ 2 → E.failures errors.new ≡ E.failures errors.old
+        → Appends (E.written errors.old) (E.written errors.new)
+        (codes "error: invalid UTF-8 was detected in one or more arguments\n") }
+    ensures device_said { result ≡ 4 → E.failures errors.new ≡ E.failures errors.old
+        → Appends (E.written errors.old) (E.written errors.new) (codes "device\n") }
 {
     match error.kind() {
         ErrorKind::OutOfMemory => finish(errors, Status::Memory),
