@@ -2,3 +2,5 @@ pub mod Joined
 pub mod Taking
 pub mod LinesRead
 pub mod InputRead
+pub mod OptionsGiven
+pub mod LimitsOfWords

@@ -1,3 +1,4 @@
+pub mod CommandLine
 pub mod Calls
 pub mod Checking
 pub mod Verdict

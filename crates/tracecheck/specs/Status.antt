@@ -1,8 +1,12 @@
 -- The program's exit status.
 use Rattle.std.specs.Prelude.{◌≡◌, ℕ, List, [], Option, codes}
+use Rattle.std.specs.declared.io.ErrorKind.{ErrorKind}
+use Rattle.std.specs.declared.io.ErrorKind.TheVariants.{InvalidData, OutOfMemory}
+use Rattle.clap.specs.Words.{Text}
 use Rattle.devices.specs.Device.{Writes}
 use Rattle.ent_alloc.specs.Limits.{Limits}
 use Rattle.ent_trace.specs.Text.{lines_of}
+use Rattle.tracecheck.specs.CommandLine.{AsksFor}
 use Rattle.tracecheck.specs.Verdict.{IsVerdict, verdict_text}
 use Rattle.tracecheck.specs.declared.status.Status.{Status}
 use Rattle.tracecheck.specs.declared.status.Status.TheVariants as status
@@ -27,13 +31,20 @@ abbrev pub IsSaidOf : Limits → Status → List ℕ → List ℕ → Type 0
 IsSaidOf limits ended text written = (v : Verdict) × IsVerdict limits (lines_of text) v
     × (status_of v ≡ ended) × (written ≡ verdict_text v)
 
--- a line was written that may be said of the trace, if the devices tell
-abbrev pub HasSaid : Status → Option (List ℕ) → Option (List ℕ) → Option (List ℕ) → Type 0
-HasSaid ended input old new =
-    (limits : Limits) × Writes (IsSaidOf limits ended) input old new
+-- a line was written that may be said of the trace by the limits of the words, if the devices tell
+abbrev pub HasSaid : List Text → Status → Option (List ℕ) → Option (List ℕ) → Option (List ℕ)
+    → Type 0
+HasSaid words ended input old new =
+    (limits : Limits) × AsksFor words limits × Writes (IsSaidOf limits ended) input old new
 
 -- what the error stream is told of a status
 abbrev pub said : Status → List ℕ
 said status.Memory = codes "memory\n"
 said status.Device = codes "device\n"
 said other = []
+
+-- the exit status if the program's words can't be read
+abbrev pub words_status : ErrorKind → ℕ
+words_status OutOfMemory = 3
+words_status InvalidData = 2
+words_status other = 4

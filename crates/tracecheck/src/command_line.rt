@@ -1,6 +1,12 @@
 //! The limits that the words after the program's name ask for.
+ghost use Rattle.std.specs.Prelude.{◌≡◌, [], IfOk, IfErr, OnOk, Some, codes, map, true, false};
+ghost use Rattle.clap.specs.Words.{app_of, fault_of, rule_of, takes};
+ghost use Rattle.ent_alloc.specs.Limits.{AreLimits};
+ghost use Rattle.tracecheck.specs.CommandLine.{AsksFor, HasNumber, IsFaultIn, given};
+ghost use Rattle.tracecheck.specs.CommandLine.{number_option, option_number, program, top_command};
+
 use clap::error::ErrorKind;
-use clap::{Arg, ArgMatches, Command};
+use clap::{Arg, ArgAction, ArgMatches, Command};
 use ent_alloc::Limits;
 use std::alloc::{AllocError, Global};
 use std::convert::AsStr;
@@ -27,6 +33,10 @@ pub enum LineFault {
 }
 
 impl From<clap::Error> for LineFault {
+    ghost use Rattle.tracecheck.specs.CommandLine.{IsFaultOf};
+
+    ghost from_gives = { IsFaultOf };
+
     fn from(error: clap::Error) -> Self {
         if error.kind() == ErrorKind::OutOfMemory {
             LineFault::Memory
@@ -37,6 +47,10 @@ impl From<clap::Error> for LineFault {
 }
 
 impl From<AllocError> for LineFault {
+    ghost use Rattle.tracecheck.specs.declared.command_line.LineFault.TheVariants.{Memory};
+
+    ghost from_gives = { λ _ fault. fault ≡ Memory };
+
     fn from(_refused: AllocError) -> Self {
         LineFault::Memory
     }
@@ -48,17 +62,33 @@ fn number_option<'a>(
     most: u32,
     default: &'a str,
     help: &'a str,
-) -> Arg<'a> {
+) -> Arg<'a>
+    ensures rule { rule_of result ≡ number_option name.entry.now most default.entry.now }
+    ensures own { result.global ≡ false }
+{
     let range = clap::value_parser!(u32).range(1..=i64::from(most));
     Arg::new(alloc, name)
         .long(name)
+        .action(ArgAction::Set)
         .value_name("N")
         .value_parser(range)
         .default_value(default)
         .help(help)
 }
 
-fn program<'a>(alloc: Global) -> Result<Command<'a>, AllocError> {
+// The program without its options.
+fn top_command<'a>(alloc: Global) -> Command<'a>
+    ensures { app_of result ≡ top_command }
+{
+    Command::new(alloc, "tracecheck")
+        .about("Compares the trace on standard input with the proved allocator")
+        .after_help(PROGRAM_END)
+        .no_binary_name(true)
+}
+
+fn program<'a>(alloc: Global) -> Result<Command<'a>, AllocError>
+    ensures { IfOk result (λ c. app_of c ≡ program) }
+{
     let slots = number_option(
         alloc,
         "slots",
@@ -73,19 +103,23 @@ fn program<'a>(alloc: Global) -> Result<Command<'a>, AllocError> {
         "2147483647",
         "The last generation of a slot",
     );
-    Command::new(alloc, "tracecheck")
-        .about("Compares the trace on standard input with the proved allocator")
-        .after_help(PROGRAM_END)
-        .no_binary_name(true)
+    top_command(alloc)
         .arg(slots)?
         .arg(generations)?
         .bin_name("tracecheck")
 }
 
-fn limits_of(options: &ArgMatches<'_>) -> Option<Limits> {
-    let slots = options.get_one::<u32>("slots")?;
-    let generations = options.get_one::<u32>("generations")?;
-    Limits::new(slots, generations)
+fn limits_of(options: &ArgMatches<'_>) -> Limits
+    requires slots { HasNumber (codes "slots") 4294967295 (given options.now) }
+    requires generations { HasNumber (codes "generations") 2147483647 (given options.now) }
+    ensures slots { option_number (codes "slots") (given options.now) ≡ Some result.slots }
+    ensures generations { option_number (codes "generations") (given options.now)
+        ≡ Some result.generations }
+    ensures within { AreLimits result }
+{
+    let slots = options.get_one::<u32>("slots").unwrap();
+    let generations = options.get_one::<u32>("generations").unwrap();
+    Limits::new(slots, generations).unwrap()
 }
 
 /// Reads the limits from the words after the program's name.
@@ -93,8 +127,14 @@ fn limits_of(options: &ArgMatches<'_>) -> Option<Limits> {
 /// # Errors
 ///
 /// - `Line` if clap finds a fault in the words, or if they ask for help.
-/// - `Memory` if memory ran out.
-pub fn command_line<S: AsStr>(alloc: Global, words: &[S]) -> Result<Limits, LineFault> {
+/// - `Memory` if memory ran out. Words that clap takes are refused for this alone.
+pub fn command_line<S: AsStr>(alloc: Global, words: &[S]) -> Result<Limits, LineFault>
+    ensures asked { IfOk result (AsksFor (map S.text words.now)) }
+    ensures taken { OnOk result (fault_of program (map S.text words.now) ≡ []) }
+    ensures fault { IfErr result (IsFaultIn (map S.text words.now)) }
+    ensures refused { IfErr result (λ fault.
+        takes program (map S.text words.now) ≡ true → fault ≡ LineFault.Memory) }
+{
     let matches = program(alloc)?.try_get_matches_from(words)?;
-    Ok(limits_of(&matches).unwrap_or(Limits::default_limits()))
+    Ok(limits_of(&matches))
 }

@@ -1,9 +1,13 @@
 //! The program: what its words ask for, done between two devices, and what it says on the error
 //! stream.
-ghost use Rattle.std.specs.Prelude.{◌≡◌, ◌≢◌, ◌≤◌, IfOk, OnErr, OnOk, false, string_bytes};
+ghost use Rattle.std.specs.Prelude.{◌≡◌, ◌≢◌, ◌≤◌, ◌⊎◌, IfOk, OnErr, OnOk, map, true, false};
+ghost use Rattle.std.specs.Prelude.{codes, string_bytes};
+ghost use Rattle.std.specs.IoError.{error_kind};
 ghost use Rattle.std.specs.Io.KnownBytes.{Appends};
+ghost use Rattle.clap.specs.Words.{takes};
 ghost use Rattle.devices.specs.Device.{OneFails};
-ghost use Rattle.tracecheck.specs.Status.{HasSaid, exit_number, said};
+ghost use Rattle.tracecheck.specs.CommandLine.{IsFaulty, program};
+ghost use Rattle.tracecheck.specs.Status.{HasSaid, exit_number, said, words_status};
 
 use crate::command_line::{LineFault, command_line};
 use crate::running::check_trace;
@@ -41,17 +45,45 @@ pub fn execute<S: AsStr, I: Source, O: Sink, E: Sink>(
     tells: bool,
 ) -> u8
     ensures statuses { result ≤ 4 }
-    ensures agrees { result ≡ 0 → HasSaid Status.Agrees
+
+    // The trace was compared with an allocator of the limits that the words ask for.
+    ensures agrees { result ≡ 0 → HasSaid (map S.text words.now) Status.Agrees
         (I.remaining input.old) (O.written output.old) (O.written output.new) }
-    ensures differs { result ≡ 1 → HasSaid Status.Differs
+    ensures differs { result ≡ 1 → HasSaid (map S.text words.now) Status.Differs
         (I.remaining input.old) (O.written output.old) (O.written output.new) }
+
+    // The two meanings of 2. Words that clap takes end so only for the text.
+    ensures refused { result ≡ 2 → IsFaulty (map S.text words.now)
+        ⊎ HasSaid (map S.text words.now) Status.Refused
+        (I.remaining input.old) (O.written output.old) (O.written output.new) }
+    ensures taken { takes program (map S.text words.now) ≡ true → result ≡ 2
+        → HasSaid (map S.text words.now) Status.Refused
+        (I.remaining input.old) (O.written output.old) (O.written output.new) }
+
+    // Words that are no command line, or ask for help, have no other status, but 3 for want of
+    // memory. No device is used for them.
+    ensures faulty { IsFaulty (map S.text words.now) → result ≢ 3 → result ≡ 2 }
+    ensures unused_input { IsFaulty (map S.text words.now) → input.new ≡ input.old }
+    ensures unused_output { IsFaulty (map S.text words.now) → output.new ≡ output.old }
+
     ensures memory { result ≡ 3 → output.new ≡ output.old }
     ensures device { result ≡ 4 → OneFails
         (I.failures input.old) (I.failures input.new)
         (O.failures output.old) (O.failures output.new) }
     ensures input_unfailed { result ≢ 4 → I.failures input.new ≡ I.failures input.old }
     ensures output_unfailed { result ≢ 4 → O.failures output.new ≡ O.failures output.old }
+    ensures unread { I.failures input.new ≢ I.failures input.old → output.new ≡ output.old }
+
+    // What the error stream tells.
     ensures quiet { tells ≡ false → result ≤ 1 → errors.new ≡ errors.old }
+    ensures quiet_refused { tells ≡ false → takes program (map S.text words.now) ≡ true
+        → result ≡ 2 → errors.new ≡ errors.old }
+    ensures memory_said { tells ≡ false → result ≡ 3
+        → E.failures errors.new ≡ E.failures errors.old
+        → Appends (E.written errors.old) (E.written errors.new) (codes "memory\n") }
+    ensures device_said { tells ≡ false → result ≡ 4
+        → E.failures errors.new ≡ E.failures errors.old
+        → Appends (E.written errors.old) (E.written errors.new) (codes "device\n") }
 {
     match command_line(alloc, words) {
         Ok(limits) => {
@@ -69,6 +101,8 @@ fn refuse_line<E: Sink>(text: Result<String, AllocError>, errors: &mut E) -> u8
     ensures text_said { IfOk text (λ text. E.failures errors.new ≡ E.failures errors.old
         → Appends (E.written errors.old) (E.written errors.new) (string_bytes text)) }
     ensures memory { OnErr text (result ≡ 3) }
+    ensures memory_said { OnErr text (E.failures errors.new ≡ E.failures errors.old
+        → Appends (E.written errors.old) (E.written errors.new) (codes "memory\n")) }
 {
     match text {
         Ok(text) => {
@@ -79,9 +113,17 @@ fn refuse_line<E: Sink>(text: Result<String, AllocError>, errors: &mut E) -> u8
     }
 }
 
-// Ends the program if its words can't be read, and returns the exit status.
+// Ends the program if its words can't be read, and returns the exit status: 3 if memory ran out, 2
+// if a word is no UTF-8, else 4.
 fn refuse_words<E: Sink>(error: &io::Error, errors: &mut E) -> u8
-    ensures { result ≤ 4 }
+    ensures status { result ≡ words_status (error_kind error.now) }
+    ensures memory_said { result ≡ 3 → E.failures errors.new ≡ E.failures errors.old
+        → Appends (E.written errors.old) (E.written errors.new) (codes "memory\n") }
+    ensures text_said { result ≡ 2 → E.failures errors.new ≡ E.failures errors.old
+        → Appends (E.written errors.old) (E.written errors.new)
+        (codes "error: invalid UTF-8 was detected in one or more arguments\n") }
+    ensures device_said { result ≡ 4 → E.failures errors.new ≡ E.failures errors.old
+        → Appends (E.written errors.old) (E.written errors.new) (codes "device\n") }
 {
     match error.kind() {
         ErrorKind::OutOfMemory => finish(errors, Status::Memory),

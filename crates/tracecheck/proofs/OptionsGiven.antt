@@ -1,0 +1,280 @@
+-- What clap's facts of a parse say of an option with a default: it has a number in its range.
+use Rattle.std.proofs.Common.{◌≡◌, ◌∙◌, ◌⊎◌, ◌<◌, ◌≤◌, ℕ, Bool, true, false, List, [], ◌∷◌, cond}
+use Rattle.std.proofs.Common.{length, zero, suc, refl, sym, ap, subst, inl, inr, codes, arith, map}
+use Rattle.std.proofs.Common.{Option, Some, None, is_some}
+use Rattle.std.proofs.lemmas.Bool.{false≢true}
+use Rattle.std.proofs.lemmas.Slice.Eq.{bytes_eq-Decides}
+use Rattle.std.specs.Borrow.{Bor}
+use Rattle.std.specs.List.{All, find, list_all, slice_index_or}
+use Rattle.std.specs.Prelude.{option_and_then, option_map, pos, slice_get, unwrap_or}
+use Rattle.std.specs.Str.{bytes_eq}
+use Rattle.clap.specs.Built.{IsAuto, IsParsedFrom, SameRules}
+use Rattle.clap.specs.Facts.{Entry, EntryPasses, HasId, HasReading, IsCountArg, IsFilledEntry}
+use Rattle.clap.specs.Facts.{IsKnownGroup, MayBeEmpty, PassesArg, ValuesPass, WantsDefault, args_of}
+use Rattle.clap.specs.Facts.{groups_of, least_values, parser_of, parser_of_value, unwrap_or_range}
+use Rattle.clap.specs.Matches.{found_of, matched_of, one_text}
+use Rattle.clap.specs.Simple.{App, IsSimple, IsSimpleArg, app_of, is_ready}
+use Rattle.clap.specs.Simple.{is_ready_leaf}
+use Rattle.clap.specs.Values.{Accepts, IsSignedIn, read_as, reading_of}
+use Rattle.clap.specs.Walk.{Rule, Text, one_of, rows_of, rule_of, texts}
+use Rattle.clap.specs.Lexer.{without_minus}
+use Rattle.clap.specs.Texts.{items_of}
+use Rattle.clap.specs.declared.builder.ArgAction.{ArgAction}
+use Rattle.clap.specs.declared.builder.ArgAction.TheVariants.{Count, Set}
+use Rattle.clap.specs.declared.builder.arg.Arg.{Arg}
+use Rattle.clap.specs.declared.builder.command.Command.{Command}
+use Rattle.clap.specs.declared.builder.value_parser.Reading.{Reading}
+use Rattle.clap.specs.declared.builder.value_parser.Reading.TheVariants.{WithoutMinus}
+use Rattle.clap.specs.declared.builder.value_parser.ValueParser.{ValueParser}
+use Rattle.clap.specs.declared.builder.value_parser.ValueParser.TheVariants.{Signed}
+use Rattle.clap.specs.declared.parser.ArgMatches.{ArgMatches}
+use Rattle.clap.specs.declared.parser.matches.Found.{Found}
+use Rattle.clap.specs.declared.parser.matches.MatchedArg.{MatchedArg}
+use Rattle.clap.proofs.CallerLemmas.{default_present, entry_by_id, same_rules_by_id}
+use Rattle.clap.proofs.OnLiterals.{clap_on_literals}
+use Rattle.clap.proofs.SimpleLemmas.{ready_simple, simple_groups}
+use Rattle.clap.proofs.WalkLemmas.{one_text-rows}
+use Rattle.tracecheck.specs.CommandLine.{HasNumber, given, number_option, program}
+
+-- ---- the arguments of the program's command
+
+rule_at : (xs : List Arg) (k : ℕ) (d : Arg) → k < length xs
+    → rule_of (slice_index_or xs k d) ≡ slice_index_or (map rule_of xs) k (rule_of d)
+rule_at [] k d lt = absurd (omega arith)
+rule_at (x ∷ xs) zero d lt = refl
+rule_at (x ∷ xs) (suc k) d lt = rule_at xs k d (omega arith)
+
+rule_count : (xs : List Arg) → length (map rule_of xs) ≡ length xs
+rule_count [] = refl
+rule_count (x ∷ xs) = ap suc (rule_count xs)
+
+first_arg : (xs : List Arg) → 0 < length xs → Arg
+first_arg [] some = absurd (omega arith)
+first_arg (x ∷ xs) some = x
+
+some_text : (vs : List (Bor Text)) (text : Text) → texts vs ≡ text ∷ [] → 0 < length vs
+some_text [] text e = cc
+some_text (v ∷ vs) text e = omega arith
+
+-- ---- an entry of clap's matches
+
+-- an argument that takes one number from 1 to `most`
+record TakesNumber (most : ℕ) (a : Arg) : Type 0 where
+  pub parser : a.value_parser ≡ Some (Signed (pos 1) (pos most))
+  pub ignore_case : a.ignore_case ≡ false
+  pub action : a.action ≡ Some Set
+  pub delimiter : a.val_delim ≡ None
+  pub least : 1 ≤ least_values a
+
+-- an id is found where an entry has it
+has-found : (xs : List Entry) (id : Text) (i : ℕ) → i < length xs
+    → ((d : Entry) → bytes_eq (slice_index_or xs i d).0.now id ≡ true)
+    → is_some (option_map (λ (e : Entry). e.1) (find (λ (e : Entry). bytes_eq e.0.now id) xs)) ≡ true
+has-found [] id i lt at = absurd (omega arith)
+has-found (x ∷ xs) id i lt at = go (bytes_eq x.0.now id) refl i lt at (has-found xs id)
+  where
+    go : (same : Bool) → bytes_eq x.0.now id ≡ same → (i : ℕ) → i < length (x ∷ xs)
+        → ((d : Entry) → bytes_eq (slice_index_or (x ∷ xs) i d).0.now id ≡ true)
+        → ((j : ℕ) → j < length xs
+        → ((d : Entry) → bytes_eq (slice_index_or xs j d).0.now id ≡ true)
+        → is_some (option_map (λ (e : Entry). e.1) (find (λ (e : Entry). bytes_eq e.0.now id) xs)) ≡ true)
+        → is_some (option_map (λ (e : Entry). e.1)
+        (cond same (Some x) (find (λ (e : Entry). bytes_eq e.0.now id) xs))) ≡ true
+    go true is i lt at rest = refl
+    go false is zero lt at rest = absurd (false≢true (sym is ∙ at x))
+    go false is (suc j) lt at rest = rest j (omega arith) at
+
+module _ (c : Command) (id : Text) (most : ℕ) (no_groups : groups_of c ≡ [])
+    (named : id ≡ [] → ⊥)
+    (only : (j : ℕ) (a : Arg) → j < length (args_of c) → slice_index_or (args_of c) j a ≡ a
+    → bytes_eq a.id.now id ≡ true → TakesNumber most a) where
+  no_group : IsKnownGroup c id → ⊥
+  no_group (inl empty) = named empty
+  no_group (inr some) =
+      let none : 0 < 0 = rw no_groups at some in
+      absurd (omega arith)
+
+  no_count : IsCountArg c id → ⊥
+  no_count any =
+      let a = only any.0 any.1 any.2 any.3 any.4.0 in
+      let counts : unwrap_or any.1.action Set ≡ Count = any.4.1 in
+      let sets : Set ≡ Count = sym (ap (λ (o : Option ArgAction). unwrap_or o Set) a.action) ∙ counts in
+      cc
+
+  not_empty : (a : Arg) → TakesNumber most a → MayBeEmpty a → ⊥
+  not_empty a takes (inl none) =
+      let least = takes.least in
+      absurd (omega arith)
+  not_empty a takes (inr delimits) =
+      absurd (false≢true (sym (ap is_some takes.delimiter) ∙ delimits))
+
+  -- the entry of the id has a value
+  filled : (e : Entry) → e.0.now ≡ id → IsFilledEntry c e → 0 < length e.1.vals.items
+  filled e key (inl group) = absurd (no_group (subst (IsKnownGroup c) key group.1))
+  filled e key (inr (inl some)) = some
+  filled e key (inr (inr (inl counts))) = absurd (no_count (subst (IsCountArg c) key counts.1))
+  filled e key (inr (inr (inr any))) =
+      let same : bytes_eq any.1.id.now id ≡ true =
+      subst (λ (text : Text). bytes_eq any.1.id.now text ≡ true) key any.4.0 in
+      absurd (not_empty any.1 (only any.0 any.1 any.2 any.3 same) any.4.1)
+
+  -- which is read without its minus
+  read : (reading : Reading) → HasReading c id reading → reading ≡ WithoutMinus
+  read reading any =
+      let a = only any.0 any.1 any.2 any.3 any.4.0 in
+      sym any.4.1 ∙ ap (λ (o : Option ValueParser). reading_of (parser_of_value o)) a.parser
+
+  -- and in the range
+  accepted : (text : Text) → PassesArg c id text → IsSignedIn (pos 1) (pos most) text
+  accepted text any =
+      let a = only any.0 any.1 any.2 any.3 any.4.0 in
+      subst (λ (o : Option ValueParser). Accepts false (parser_of_value o) text) a.parser
+      (subst (λ (b : Bool). Accepts b (parser_of any.1) text) a.ignore_case any.4.1)
+
+  number_in : (f : Found) (x : MatchedArg) → matched_of f id ≡ Some x → x.reading ≡ WithoutMinus
+      → (vs : List (Bor Text)) → x.vals.items ≡ vs → All (λ v. PassesArg c id v.now) vs
+      → 0 < length vs → HasNumber id most (rows_of f)
+  number_in f x found reading [] is all some = absurd (omega arith)
+  number_in f x found reading (v ∷ vs) is all some = record {
+    text = v.now;
+    is = sym (one_text-rows f id)
+        ∙ (ap (option_and_then (λ (a : MatchedArg). option_map (λ (s : Bor Text). read_as a.reading s.now)
+        (slice_get a.vals.items 0))) found
+        ∙ (λ i. option_map (λ (s : Bor Text). read_as (reading i) s.now) (slice_get (is i) 0)));
+    within = accepted v.now (all 0 v (omega arith));
+  }
+
+  entry-number : (f : Found) (x : MatchedArg) → matched_of f id ≡ Some x
+      → ((e : Entry) × (e.1 ≡ x) × (bytes_eq e.0.now id ≡ true) × EntryPasses c e)
+      → HasNumber id most (rows_of f)
+  entry-number f x found got =
+      let e = got.0 in
+      let key : e.0.now ≡ id = (bytes_eq-Decides e.0.now id).0 got.2 in
+      let alone : e.1.is_group ≡ true → ⊥ = λ group.
+      no_group (subst (IsKnownGroup c) key (got.3.3 group)) in
+      number_in f e.1 (found ∙ ap (λ y. Some y) (sym got.1))
+      (read e.1.reading (subst (λ (text : Text). HasReading c text e.1.reading) key
+      (not_left (e.1.is_group ≡ true) _ alone got.3.4)))
+      e.1.vals.items refl
+      (subst (λ (text : Text). All (λ v. PassesArg c text v.now) e.1.vals.items) key
+      (not_left (e.1.is_group ≡ true) _ alone got.3.0))
+      (filled e key got.3.1)
+    where
+      not_left : (A B : Type 0) → (A → ⊥) → A ⊎ B → B
+      not_left A B never (inl a) = absurd (never a)
+      not_left A B never (inr b) = b
+
+  number-found : (f : Found) → ValuesPass c f → HasId f id → HasNumber id most (rows_of f)
+  number-found f values has =
+      go (matched_of f id) refl (has-found f.entries.items id has.0 has.1 has.2)
+    where
+      go : (o : Option MatchedArg) → matched_of f id ≡ o → is_some o ≡ true
+          → HasNumber id most (rows_of f)
+      go None e some = absurd (false≢true some)
+      go (Some x) e some =
+          entry-number f x e (entry_by_id (EntryPasses c) f.entries.items id x values e)
+
+-- ---- an option of the program
+
+-- two options of the program are never one
+abbrev Alone : ℕ → Text → Type 0
+Alone k option = (j : ℕ) (e : Rule) → j < 2
+    → bytes_eq (slice_index_or program.top.rules j e).id option ≡ true → j ≡ k
+
+program-ready : is_ready program.top ≡ true
+unfolding clap_on_literals
+program-ready = refl
+
+number-given : (cmd : Command) (m : ArgMatches) → app_of cmd ≡ program → IsParsedFrom cmd m
+    → (k : ℕ) (option : Text) (most : ℕ) (default : Text) → k < 2
+    → ((e : Rule) → slice_index_or program.top.rules k e ≡ number_option option most default)
+    → Alone k option → (option ≡ [] → ⊥)
+    → ((option ≡ codes "help") ⊎ (option ≡ codes "version") → ⊥)
+    → HasNumber option most (given m)
+number-given cmd m is p k option most default below at alone named own =
+    let rules : map rule_of (args_of cmd) ≡ program.top.rules = ap (λ (a : App). a.top.rules) is in
+    let count : length (args_of cmd) ≡ 2 = sym (rule_count (args_of cmd)) ∙ ap length rules in
+    let d : Arg = first_arg (args_of cmd) (omega arith) in
+    let a : Arg = slice_index_or (args_of cmd) k d in
+    let lt : k < length (args_of cmd) = omega arith in
+    let rule : rule_of a ≡ number_option option most default = rule_at (args_of cmd) k d lt
+    ∙ (ap (λ (rs : List Rule). slice_index_or rs k (rule_of d)) rules ∙ at (rule_of d)) in
+    let id : a.id.now ≡ option = ap (λ (r : Rule). r.id) rule in
+    let simple : IsSimple cmd = ready_simple cmd (ap (λ (a : App). is_ready a.top) is ∙ program-ready)
+    (ap (λ (a : App). list_all is_ready_leaf a.subs) is) in
+    let simple_arg : IsSimpleArg a = simple.args k d lt in
+    let set : a.action ≡ Some Set = ap (λ (r : Rule). r.action) rule in
+    let least : least_values a ≡ 1 =
+    ap (λ (r : Rule). (unwrap_or_range r.range).start_inclusive) rule in
+    let parsed = p.parsed (p.from.globals ∙ simple.globals) in
+    let groups : groups_of p.built ≡ [] = (p.from.same_groups (simple_groups cmd
+    (ap (λ (a : App). list_all (λ (r : Rule). r.is_simple) a.top.rules) is))).1 ∙ simple.groups in
+    let wants : WantsDefault a = (
+      simple_arg.default_ifs,
+      some_text (items_of a.default_vals) default (ap (λ (r : Rule). r.defaults) rule),
+    ) in
+    let unique : (j : ℕ) (e : Arg) → j < length (args_of cmd)
+    → bytes_eq (slice_index_or (args_of cmd) j e).id.now a.id.now ≡ true → j ≡ k =
+    λ j e low same. alone j (rule_of e) (omega arith)
+    (subst (λ (r : Rule). bytes_eq r.id option ≡ true)
+    (rule_at (args_of cmd) j e low
+    ∙ ap (λ (rs : List Rule). slice_index_or rs j (rule_of e)) rules)
+    (subst (λ (text : Text). bytes_eq (slice_index_or (args_of cmd) j e).id.now text ≡ true) id
+    same)) in
+    let free : IsAuto a → ⊥ = λ auto. own (renamed a.id.now option id auto) in
+    let only : (j : ℕ) (x : Arg) → j < length (args_of p.built)
+    → slice_index_or (args_of p.built) j x ≡ x → bytes_eq x.id.now option ≡ true
+    → TakesNumber most x =
+    λ j x high here same.
+    let kept : SameRules a x = same_rules_by_id cmd m p k d lt unique free j x high here
+    (subst (λ (text : Text). bytes_eq x.id.now text ≡ true) (sym id) same) in
+    record {
+      parser = kept.parser _ (ap (λ (r : Rule). r.parser) rule);
+      ignore_case = kept.ignore_case ∙ ap (λ (r : Rule). r.ignore_case) rule;
+      action = kept.action Set set;
+      delimiter = kept.val_delim ∙ simple_arg.delimiter;
+      least = kept.least set (omega (arith, least));
+    } in
+    number-found p.built option most groups named only (found_of m) parsed.values
+    (subst (λ (text : Text). HasId (found_of m) text) id
+    (default_present cmd m p simple.globals k d lt wants))
+  where
+    renamed : (name option : Text) → name ≡ option
+        → (name ≡ codes "help") ⊎ (name ≡ codes "version")
+        → (option ≡ codes "help") ⊎ (option ≡ codes "version")
+    renamed name option is (inl help) = inl (sym is ∙ help)
+    renamed name option is (inr version) = inr (sym is ∙ version)
+
+-- ---- both
+
+-- a text that differs from another
+differs : (a b : Text) → bytes_eq a b ≡ false → bytes_eq b b ≡ true → a ≡ b → ⊥
+differs a b other same e = false≢true (sym other ∙ (ap (λ text. bytes_eq text b) e ∙ same))
+
+not_auto : (option : Text) → bytes_eq option (codes "help") ≡ false
+    → bytes_eq option (codes "version") ≡ false
+    → (option ≡ codes "help") ⊎ (option ≡ codes "version") → ⊥
+not_auto option help version (inl e) = differs option (codes "help") help refl e
+not_auto option help version (inr e) = differs option (codes "version") version refl e
+
+slots-alone : Alone 0 (codes "slots")
+slots-alone zero e lt same = refl
+slots-alone (suc zero) e lt same = absurd (false≢true same)
+slots-alone (suc (suc j)) e lt same = absurd (omega arith)
+
+generations-alone : Alone 1 (codes "generations")
+generations-alone zero e lt same = absurd (false≢true same)
+generations-alone (suc zero) e lt same = refl
+generations-alone (suc (suc j)) e lt same = absurd (omega arith)
+
+pub slots-given : (cmd : Command) (m : ArgMatches) → app_of cmd ≡ program → IsParsedFrom cmd m
+    → HasNumber (codes "slots") 4294967295 (given m)
+slots-given cmd m is p = number-given cmd m is p 0 (codes "slots") 4294967295 (codes "4294967295")
+    (omega arith) (λ e. refl) slots-alone (differs (codes "slots") [] refl refl)
+    (not_auto (codes "slots") refl refl)
+
+pub generations-given : (cmd : Command) (m : ArgMatches) → app_of cmd ≡ program
+    → IsParsedFrom cmd m → HasNumber (codes "generations") 2147483647 (given m)
+generations-given cmd m is p = number-given cmd m is p 1 (codes "generations") 2147483647
+    (codes "2147483647") (omega arith) (λ e. refl) generations-alone
+    (differs (codes "generations") [] refl refl) (not_auto (codes "generations") refl refl)
