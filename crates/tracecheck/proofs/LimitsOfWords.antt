@@ -1,5 +1,5 @@
 -- From the program's words to its limits: clap's matches, and the faults.
-use Rattle.std.proofs.Common.{◌≡◌, ◌∙◌, ◌^◌, ◌<◌, ◌≤◌, ℕ, List, [], ◌∷◌, codes, true, refl, sym, ap}
+use Rattle.std.proofs.Common.{◌≡◌, ◌∙◌, ◌^◌, ◌<◌, ◌≤◌, ℕ, List, [], ◌∷◌, true, refl, sym, ap}
 use Rattle.std.proofs.Common.{subst, inl, inr, Option, Some}
 use Rattle.std.specs.Prelude.{◌≢◌, IfErr, IsErrAnd, Result, Ok, Err, option_map}
 use Rattle.std.specs.Str.Parse.{ExplainsUnsignedError, HasUnsignedDigitsIfOk, ParsesUnsigned}

@@ -12,12 +12,11 @@ use Rattle.clap.specs.Built.{IsAuto, IsParsedFrom, SameRules}
 use Rattle.clap.specs.Facts.{Entry, EntryPasses, HasId, HasReading, IsCountArg, IsFilledEntry}
 use Rattle.clap.specs.Facts.{IsKnownGroup, MayBeEmpty, PassesArg, ValuesPass, WantsDefault, args_of}
 use Rattle.clap.specs.Facts.{groups_of, least_values, parser_of, parser_of_value, unwrap_or_range}
-use Rattle.clap.specs.Matches.{found_of, matched_of, one_text}
+use Rattle.clap.specs.Matches.{found_of, matched_of}
 use Rattle.clap.specs.Simple.{App, IsSimple, IsSimpleArg, app_of, is_ready}
 use Rattle.clap.specs.Simple.{is_ready_leaf}
 use Rattle.clap.specs.Values.{Accepts, IsSignedIn, read_as, reading_of}
-use Rattle.clap.specs.Walk.{Rule, Text, one_of, rows_of, rule_of, texts}
-use Rattle.clap.specs.Lexer.{without_minus}
+use Rattle.clap.specs.Walk.{Rule, Text, rows_of, rule_of, texts}
 use Rattle.clap.specs.Texts.{items_of}
 use Rattle.clap.specs.declared.builder.ArgAction.{ArgAction}
 use Rattle.clap.specs.declared.builder.ArgAction.TheVariants.{Count, Set}
