@@ -47,4 +47,4 @@ said other = []
 abbrev pub words_status : ErrorKind → ℕ
 words_status OutOfMemory = 3
 words_status InvalidData = 2
-words_status other = 4
+words_status kind = 4
