@@ -26,7 +26,7 @@ cp "$top/HANDLES" "$copy"
 mkdir "$copy/crates"
 for crate in $(sed 's/[: ].*//' "$copy/crates.txt"); do
     cp -R "$top/crates/$crate" "$copy/crates"
-    rm -rf "$copy/crates/$crate/out" "$copy/crates/$crate/must-fail" "$copy/crates/$crate/wrong_bodies"
+    rm -rf "$copy/crates/$crate/out" "$copy/crates/$crate/wrong_bodies"
 done
 
 (cd "$copy" && rt ci)

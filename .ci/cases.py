@@ -1,10 +1,10 @@
 #!/usr/bin/env python3
-"""Runs the program on the cases of crates/spawnrun/cases and compares what it prints, what it says and how it ends.
+"""Runs a program on the cases of its folder and compares what it prints, what it says and how it ends.
 
-    cases.py [--program FILE].. [CASES..]
+    cases.py [--crate NAME] [--program FILE].. [CASES..]
 
-Without `--program` it runs the program as each compiler of the gate has built it. Without files it runs all cases. The page of
-crates/spawnrun says how a case is written. It runs at the top of the repository.
+The program is `spawnrun` without `--crate`. Without `--program` it runs the program as each compiler of the gate has built it. Without
+files it runs all cases of crates/NAME/cases. The page of crates/spawnrun says how a case is written. It runs at the top of the repository.
 """
 
 import argparse
@@ -16,8 +16,10 @@ import re
 import subprocess
 import sys
 
-FOLDER = pathlib.Path("crates/spawnrun/cases")
-BUILT = [pathlib.Path("crates/spawnrun/out/spawnrun"), pathlib.Path("crates/spawnrun/out/spawnrun.by-rattle")]
+# The status that each program ends with, by the first word of its output, where that is not 0.
+STATUSES = {"spawnrun": {"refused": 1}, "tracecheck": {"differs": 1, "refused": 2}}
+# Those that say on the error stream what a refused input lacks.
+ADVISING = {"spawnrun"}
 SECONDS = 120
 BETWEEN = {"*": b"", "*,": b",", "*_": b" "}
 ESCAPES = {"n": b"\n", "r": b"\r", "t": b"\t", "\\": b"\\"}
@@ -27,6 +29,7 @@ ESCAPES = {"n": b"\n", "r": b"\r", "t": b"\t", "\\": b"\\"}
 class Case:
     """One case: the words of each of its runs, and what goes in and comes out of all of them."""
 
+    crate: str
     file: pathlib.Path
     line: int
     words: list = dataclasses.field(default_factory=list)
@@ -50,7 +53,11 @@ class Case:
     def wanted_status(self):
         if self.status is not None:
             return self.status
-        return 1 if self.output.startswith(b"refused ") else 0
+        return STATUSES[self.crate].get(self.output.partition(b" ")[0].decode(), 0)
+
+    def is_advised(self):
+        """Whether the error stream is told of the input, in words that the case doesn't give."""
+        return self.crate in ADVISING and self.wanted_status() == 1 and not self.says
 
 
 def unescaped(text):
@@ -106,7 +113,7 @@ def take(case, mark, text):
         case.errors, case.says = case.errors + bytes_of(kind, text), True
 
 
-def cases_of(file):
+def cases_of(crate, file):
     """The cases of a file. Words and frame hold for those below too, until others stand there."""
     cases, words, around, case = [], [], b"@", None
     for number, line in enumerate(file.read_text().splitlines() + [""], 1):
@@ -125,7 +132,7 @@ def cases_of(file):
         if not re.fullmatch(r"[$~=]|[<>!](\\|\*[,_]?)?|<[<^|]", mark):
             sys.exit(f"{file}:{number}: {mark} is no mark of a case")
         if case is None:
-            case = Case(file, number, around=around)
+            case = Case(crate, file, number, around=around)
             case.settings = 0
         case.settings += mark in "$~"
         take(case, mark, text)
@@ -148,7 +155,7 @@ def fault_of(case, program, words, given):
         return f"ends with {ran.returncode}, and not with {wanted}: {shown(ran.stdout + ran.stderr)}"
     if ran.stdout != case.output:
         return f"prints {differing(ran.stdout, case.output)}"
-    if case.says or wanted != 1:
+    if not case.is_advised():
         return None if ran.stderr == case.errors else f"says {differing(ran.stderr, case.errors)}"
     return None if re.fullmatch(rb"[ -~]+\n", ran.stderr) else f"says no line of printable ASCII: {shown(ran.stderr)}"
 
@@ -178,14 +185,17 @@ def faults_of(case, program):
 
 def main():
     parser = argparse.ArgumentParser(description=__doc__.splitlines()[0])
+    parser.add_argument("--crate", choices=STATUSES, default="spawnrun")
     parser.add_argument("--program", action="append", type=pathlib.Path)
     parser.add_argument("files", nargs="*", type=pathlib.Path)
     given = parser.parse_args()
-    programs = given.program or [it for it in BUILT if it.exists()]
+    folder = pathlib.Path("crates") / given.crate
+    built = [folder / "out" / name for name in (given.crate, f"{given.crate}.by-rattle")]
+    programs = given.program or [it for it in built if it.exists()]
     if not programs:
-        sys.exit(f"{BUILT[0]} isn't built: .ci/run or ./prove.sh builds it")
-    files = given.files or sorted(FOLDER.glob("*.cases"))
-    cases = [(file, cases_of(file)) for file in files]
+        sys.exit(f"{built[0]} isn't built: .ci/run or ./prove.sh builds it")
+    files = given.files or sorted(folder.glob("cases/*.cases"))
+    cases = [(file, cases_of(given.crate, file)) for file in files]
     failed = False
     with concurrent.futures.ThreadPoolExecutor(os.cpu_count()) as pool:
         for file, those in cases:

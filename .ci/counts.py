@@ -26,7 +26,7 @@ def lines(folder, patterns):
 
 
 def is_library(path):
-    return not path.name.endswith("_tests") and not path.name.startswith(("bench_", "example_", "cases"))
+    return not path.name.endswith("_tests") and not path.name.startswith(("bench_", "example", "cases"))
 
 
 def counts(top):

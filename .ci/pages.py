@@ -10,7 +10,7 @@ Above each fenced block stands a line that says what the block is:
     <!-- picture -->         a drawing
 
 A block without such a line is refused, so nothing that a page quotes goes uncompared. Two tables are compared too: the steps of
-docs/SCHEDULES.md with what the program prints, and the refusals of docs/SCRIPTS.md, script by script.
+docs/SCHEDULES.md with what the program prints, and the refusals of docs/SCRIPTS.md, script by script. Links and paths lead to what is there.
 """
 
 import pathlib
@@ -114,12 +114,23 @@ def faults_of_refusals():
             yield f"{page}: {script} isn't refused with {line}"
 
 
+def faults_of_paths(page):
+    """Each link of a page leads to a file, and so does each path of a folder that is at the top or beside the page."""
+    text = re.sub(r"```.*?```|<!--.*?-->", "", page.read_text(), flags=re.S)
+    for path in re.findall(r"`([\w.]+/[\w./-]*\w)`", text):
+        near = [it / path for it in (page.parent, pathlib.Path()) if (it / path.split("/")[0]).is_dir()]
+        if near and "NAME" not in path and not any(it.exists() or it.with_suffix(".antt").exists() for it in near):
+            yield f"{page}: {path} isn't there"
+    yield from (f"{page}: no {it}" for it in re.findall(r"\]\(([^):]+)\)", text) if not (page.parent / it).exists())
+
+
 def main():
     faults, count = [], 0
-    pages = [pathlib.Path("README.md"), *sorted(pathlib.Path("docs").glob("*.md"))]
+    pages = [*sorted(pathlib.Path().glob("*.md")), *sorted(pathlib.Path("docs").glob("*.md"))]
     pages += sorted(pathlib.Path("crates").glob("*/README.md"))
     pages += sorted(pathlib.Path("rust").glob("*/README.md"))
     for page in pages:
+        faults += faults_of_paths(page)
         for at, mark, block in blocks_of(page):
             count += 1
             fault = fault_of(mark, block)

@@ -7,7 +7,7 @@
 
 A theorem is a block of the page that quotes the contract of a call. Below it stands a line `<!-- read -->`, and below that a list: the
 definitions that the clauses cite, those that these cite, and so on, with the lines of each file. A definition is counted with the comment
-above it, once, and a type with its model. What comes from the kit is no part of a list, and stands by name under `<!-- kit -->`.
+above it, once, and a type with its model. What comes from the kit is no part of a list: `show` names it, and `<!-- kit -->` counts it.
 
 The page is refused if a quote doesn't stand in its file, if it leaves out something that the call requires, or if a list isn't what the
 sources give. It needs no program, and runs at the top of the repository.
@@ -196,24 +196,30 @@ def theorems():
         yield name, file, code_of([within, *signature, *quoted]), [f"{PAGE}:{at}: {name} {it}" for it in faults if it]
 
 
-wrapped = functools.partial(textwrap.wrap, width=140, break_long_words=False, break_on_hyphens=False)
+
+def wrapped(text):
+    """The lines of a text. A `~` is a space at which no line ends."""
+    lines = textwrap.wrap(text, width=140, break_long_words=False, break_on_hyphens=False)
+    return [it.replace("~", " ") for it in lines]
+
 
 
 def reading(items, before):
     """The list of what there is to read for one theorem: how much, and where those lines stand that no theorem above it needs."""
-    files, known = lines_by_file(items), lines_by_file(before)
+    files, known, folders = lines_by_file(items), lines_by_file(before), collections.defaultdict(list)
     new = {it: len(set(lines) - set(known.get(it, []))) for it, lines in files.items()}
-    listed = ", ".join(f"`{it.relative_to(CRATES)}` {count}".replace(".antt", "") for it, count in new.items() if count)
+    for it, count in new.items():
+        folders[it.relative_to(CRATES).parent] += [f"{it.stem}~{count}"] if count else []
+    listed = "; ".join(f"`{it}` {', '.join(names)}" for it, names in folders.items() if names)
     total = sum(map(len, files.values()))
     added = f", {sum(new.values())} of them not above" if sum(new.values()) < total else ""
     return wrapped(f"To read: {total} lines in {len(files)} files{added if listed else ''}" + (f": {listed}." if listed else "."))
 
 
-def kit_names(kit):
-    by_module = collections.defaultdict(list)
-    for module, name in sorted(kit):
-        by_module[module.replace(".specs", "")].append(f"`{name}`")
-    return wrapped("; ".join(f"{module}: {' '.join(names)}" for module, names in by_module.items()) + ".")
+def kit_counted(kit):
+    """How many definitions of the kit are cited."""
+    modules = {module for module, _ in kit}
+    return wrapped(f"From the kit, which the gate doesn't prove again: {len(kit)} definitions in {len(modules)} modules. `show` names them.")
 
 
 def made():
@@ -227,7 +233,7 @@ def made():
     text = PAGE.read_text()
     if text.count("<!-- read -->") != len(lists):
         faults.append(f"{PAGE}: not each theorem has its line `<!-- read -->`")
-    lists += [reading(all_items, all_items), kit_names(all_kit)]
+    lists += [reading(all_items, all_items), kit_counted(all_kit)]
     parts = re.split(r"(<!-- (?:read|all|kit) -->\n)(?:.+\n)*", text)
     parts[2::2] = ["\n".join([*each, parts[2 * at + 2]]) for at, each in enumerate(lists)]
     return "".join(parts), faults
@@ -235,9 +241,11 @@ def made():
 
 def show(name):
     file, text = next((file, text) for each, file, text, _ in theorems() if each == name)
-    for path, numbers in lines_by_file(closure(file, text)[0]).items():
+    items, kit = closure(file, text)
+    for path, numbers in lines_by_file(items).items():
         lines = path.read_text().splitlines()
         print(f"\n== {path}", *(lines[it] for it in numbers), sep="\n")
+    print("\n== of the kit", *sorted(f"{module} {name}" for module, name in kit), sep="\n")
 
 
 def main():

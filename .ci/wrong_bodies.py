@@ -2,18 +2,16 @@
 """Wrong bodies: edits of a crate's code that the prover has to refuse, each by what its file names.
 
     .ci/wrong_bodies.py fit                   each fits the code, and says what refuses it
-    .ci/wrong_bodies.py said LOG              what `rt ci` printed of must-fail/ is what the files say
-    .ci/wrong_bodies.py try --gate            those of wrong_bodies/ with a line `gate` are refused by what their files say
+    .ci/wrong_bodies.py try --gate [CRATE..]  those with a line `gate` are refused by what their files say
     .ci/wrong_bodies.py try [CRATE..]         all of these crates, or of all crates
     .ci/wrong_bodies.py try --changed REV     all of the crates whose sources, specs or proofs differ from that commit
     .ci/wrong_bodies.py try --name ..         writes the line `refused by` into each file that has none
 
-An edit is a file `crates/CRATE/must-fail/NAME.edit`, which `rt ci` tries, or `crates/CRATE/wrong_bodies/NAME.edit`. It has pairs of lines:
-`old: TEXT`, which stands once in the file that a line `file: PATH` above names, and `new: TEXT`. Lines with `#` say what it does.
+An edit is a file `crates/CRATE/wrong_bodies/NAME.edit`. It has pairs of lines: `old: TEXT`, which stands once in the file that a line
+`file: PATH` above names, and `new: TEXT`. Lines with `#` say what it does.
 
 Its line `refused by: FUNCTION: GOAL` says which function the prover refuses then, and which goal of that proof it names. A goal's name ends
-with the name of a clause, of an invariant, or of what a call requires. Where `rt ci` prints another goal first, that one stands behind a
-comma. With a line `gate` the gate tries it.
+with the name of a clause, of an invariant, or of what a call requires. With a line `gate` the gate tries it.
 
 Only the function that the file names is checked, with those that it calls. So a try takes seconds where the check of a crate takes minutes.
 The script runs at the top of the repository, and needs `rt` on the PATH.
@@ -39,7 +37,6 @@ class Edit:
 
     def __init__(self, path):
         self.path, self.crate, self.name = path, path.parts[1], path.stem
-        self.is_must_fail = path.parts[2] == "must-fail"
         self.pairs, self.refused_by, self.is_of_gate = [], None, False
         file = old = None
         for line in path.read_text().splitlines():
@@ -50,8 +47,8 @@ class Edit:
             elif line.startswith("new:"):
                 self.pairs.append((file, old, line.removeprefix("new:").removeprefix(" ")))
             elif line.startswith("refused by: "):
-                function, _, goals = line.removeprefix("refused by: ").rpartition(": ")
-                self.refused_by = function, goals.split(", ")
+                function, _, goal = line.removeprefix("refused by: ").rpartition(": ")
+                self.refused_by = function, goal
             elif line == "gate":
                 self.is_of_gate = True
 
@@ -73,8 +70,7 @@ class Edit:
         texts = self.over({})
         if isinstance(texts, str):
             return texts
-        is_named = self.refused_by or not (self.is_must_fail or self.is_of_gate)
-        return None if is_named else "it has no line `refused by: FUNCTION: GOAL`"
+        return None if self.refused_by or not self.is_of_gate else "it has no line `refused by: FUNCTION: GOAL`"
 
     def functions(self):
         """The functions to check: the one that its file names, or those whose text it changes."""
@@ -82,7 +78,7 @@ class Edit:
 
 
 def edits_of(crates=("*",)):
-    paths = [it for name in crates for it in pathlib.Path("crates").glob(f"{name}/*/*.edit")]
+    paths = [it for name in crates for it in pathlib.Path("crates").glob(f"{name}/wrong_bodies/*.edit")]
     return [Edit(it) for it in sorted(paths)]
 
 
@@ -105,7 +101,8 @@ class Prover:
 
     def words(self, crate, functions, kept):
         """The command that checks these functions, or all of them if none is named."""
-        words = [self.kit / "bin/rattle", "check", "--crate-name", crate, "src/lib.rt"]
+        root = "src/main.rt" if os.path.isfile(f"crates/{crate}/src/main.rt") else "src/lib.rt"
+        words = [self.kit / "bin/rattle", "check", "--crate-name", crate, root]
         for used in ["std", *self.uses[crate]]:
             own = self.top / f"crates/{used}/out/rlib/{used}.rlib"
             words += ["--extern", f"{used}={own if used in self.uses else self.kit / f'rlibs/{used}.rlib'}"]
@@ -155,18 +152,6 @@ def refusals(crate, said):
     return {it: list(dict.fromkeys(goals)) for it, goals in found.items()}
 
 
-# A line of a check that `rt ci` shows of a refused edit, and those that it passes over: they name what the edit took away.
-SHOWN = re.compile(r"(?m)^(?!(?:note: )?(?:\./)?proofs/.*(?:has no field|is not in scope|has no `|was not admitted))"
-                   r"(?:note: \S+:\d+:\d+:.*|\S+:\d+:\d+: error.*)$")
-
-
-def first_printed(said):
-    """The goal in the line that `rt ci` shows of a refused edit, if it names one there."""
-    line = SHOWN.search(said)
-    goal = line and re.search(r"`([^`]+)`", line[0][:160])
-    return goal[1] if goal else None
-
-
 def of_clause_first(goals):
     """The goal that says most of the contract: one of a clause of the function, else of its invariant, else the first."""
     kinds = [r"^returns.*-clause-", r"^returns", r"invariant"]
@@ -213,18 +198,17 @@ def verdict(edit, status, said, names):
         errors = [it for it in said.splitlines() if "error" in it][:3] or said.splitlines()[-3:]
         return UNKNOWN, f"no verdict (status {status}): " + " | ".join(it[:200] for it in errors)
     if edit.refused_by:
-        function, goals = edit.refused_by
-        if goals[0] in found.get(function, []):
-            return REFUSED, f"by {function}: {goals[0]}"
+        function, goal = edit.refused_by
+        if goal in found.get(function, []):
+            return REFUSED, f"by {function}: {goal}"
         return OTHERWISE, "; ".join(f"{it}: {', '.join(goals[:6])}" for it, goals in found.items())
     own = goals_of(edit, found) or {it: goals for it, goals in found.items() if goals}
     if not own:
         return UNKNOWN, f"no goal is named: {', '.join(found)}"
     function, goal = min(((it, of_clause_first(own[it])) for it in own), key=lambda it: not it[1].startswith("returns"))
-    goals = [goal, first_printed(said)] if edit.is_must_fail else [goal]
     if names:
         text = edit.path.read_text().rstrip("\n")
-        edit.path.write_text(f"{text}\nrefused by: {function}: {', '.join(dict.fromkeys(it for it in goals if it))}\n")
+        edit.path.write_text(f"{text}\nrefused by: {function}: {goal}\n")
     return REFUSED, f"by {function}: {goal}"
 
 
@@ -246,7 +230,7 @@ def rounds_of(edits):
         functions = set(edit.functions())
         for group, taken, texts in rounds:
             made = edit.over(texts)
-            if functions and not functions & taken and len(group) < 8 and not edit.is_must_fail and isinstance(made, dict):
+            if functions and not functions & taken and len(group) < 8 and isinstance(made, dict):
                 group.append(edit)
                 taken.update(functions)
                 texts.update(made)
@@ -290,21 +274,6 @@ def try_crate(prover, crate, edits, names):
     return results
 
 
-def told(log):
-    """Compares what `rt ci` printed of each edit in must-fail/ with what its file says."""
-    printed = dict(re.findall(r"(?m)^(?:rt: )?must-fail (\S+)\.edit: refused, as it must be: (.*)$", pathlib.Path(log).read_text()))
-    faults = []
-    for edit in edits_of():
-        if edit.is_must_fail:
-            line = printed.get(f"{edit.crate}/{edit.name}", "nothing")
-            function, goals = edit.refused_by
-            folder = f"proofs/{function.replace('::', '/')}/"
-            if not any(f"`{it}`" in line for it in goals) or "proofs/" in line and folder not in line:
-                faults.append(f"{edit.path}: it is not refused by {function}: {goals}, but: {line}")
-    print(*faults, f"wrong bodies of must-fail/: {len(printed)} refused, {len(faults)} otherwise than they say", sep="\n")
-    return 1 if faults else 0
-
-
 def changed_since(revision):
     """The crates whose sources, specs or proofs differ from a commit, in what is committed or not."""
     said = subprocess.run(["git", "diff", "--name-only", revision, "--", "crates"], capture_output=True, text=True, check=True)
@@ -316,7 +285,7 @@ def changed_since(revision):
 def fit():
     edits = edits_of()
     faults = [f"{it.path}: {it.fault()}" for it in edits if it.fault()]
-    gate = sum(it.is_must_fail or it.is_of_gate for it in edits)
+    gate = sum(it.is_of_gate for it in edits)
     faults += [f"the gate tries {gate} wrong bodies, and at most {GATE} are wanted"] if gate > GATE else []
     unnamed = sum(not it.refused_by for it in edits)
     print(*faults, f"wrong bodies: {len(edits)}, {gate} of them in the gate, {unnamed} without a line `refused by`, {len(faults)} faults", sep="\n")
@@ -350,7 +319,6 @@ def main():
     words = argparse.ArgumentParser(description="Tries wrong bodies.")
     verbs = words.add_subparsers(dest="verb", required=True)
     verbs.add_parser("fit")
-    verbs.add_parser("said").add_argument("log")
     of_try = verbs.add_parser("try")
     of_try.add_argument("crates", nargs="*", metavar="CRATE")
     of_try.add_argument("--gate", action="store_true")
@@ -360,7 +328,7 @@ def main():
     options = words.parse_args()
     if options.verb == "try":
         return try_all(options)
-    return fit() if options.verb == "fit" else told(options.log)
+    return fit()
 
 
 if __name__ == "__main__":

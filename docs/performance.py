@@ -86,6 +86,11 @@ PARTS = {
     "`spawn`": "Whole entities",
     "`apply`": "The sync point",
 }
+# The first columns of the tables that have plain Rust alone beside us, and their groups.
+BESIDE_PLAIN = {
+    ("Command of `apply`", "Order"): "The sync point, by kind of command",
+    ("Work of a `Storage`", "Entities"): "A storage, by number of entities",
+}
 
 
 def groups_of(lines):
@@ -95,6 +100,10 @@ def groups_of(lines):
         part = next((it for begin, it in PARTS.items() if work.startswith(begin)), part)
         ratios = [numbers_of(plain)[0], numbers_of(slots)[0], None]
         groups.setdefault(part, []).append((work.replace("`", ""), ratios, numbers_of(by_place)[:2]))
+    for columns, part in BESIDE_PLAIN.items():
+        for work, of, _, _, plain, by_place in rows_with(lines, *columns):
+            label = f"{work.replace('`', '')}: {of}"
+            groups.setdefault(part, []).append((label, [numbers_of(plain)[0], None, None], numbers_of(by_place)[:2]))
     for work, entities, _, _, plain, by_place, _, slots in rows_with(lines, "Work", "Entities"):
         ratios = [numbers_of(plain)[0], numbers_of(slots)[0], None]
         label = f"{work.replace('`', '')}: {entities}"

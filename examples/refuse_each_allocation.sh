@@ -11,7 +11,7 @@ top=$(cd "$here/.." && pwd)
 room=$(mktemp -d)
 trap 'rm -rf "$room"' EXIT
 program=$here/../crates/spawnrun/out/spawnrun
-scripts=$here/../crates/example_scripts/data
+scripts=$here/../crates/examples/data
 [ -x "$program" ] || (cd "$here/../crates/spawnrun" && rt run >"$room/built" 2>&1)
 cc -O2 -shared -fPIC -o "$room/refuse.so" "$here/refuse_allocation.c"
 

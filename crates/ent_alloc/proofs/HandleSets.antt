@@ -73,12 +73,6 @@ pub inserted : (s : Handles) (h : Handle) → IsTrue (set.contains (set.insert s
 inserted s h = set.contains-insert handle_cmp_total s h h ∙ ap (λ b. b || set.contains s h)
     (itself h)
 
--- what was there stays
-pub inserted_keeps : (s : Handles) (h x : Handle) → IsTrue (set.contains s x)
-    → IsTrue (set.contains (set.insert s h) x)
-inserted_keeps s h x e = set.contains-insert handle_cmp_total s h x
-    ∙ ap (λ b. eq_by_cmp handle_cmp x h || b) e ∙ or_true _
-
 -- what is there after a remove was there, and is another
 pub in_removed : (s : Handles) (h x : Handle) → IsTrue (set.contains (set.remove s h) x) → (x ≢ h)
     × IsTrue (set.contains s x)

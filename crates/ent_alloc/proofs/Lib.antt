@@ -11,7 +11,6 @@ pub mod RequestLaws
 pub mod Settled
 pub mod Spans
 pub mod GivenOnce
-pub mod WorkedRequests
 pub mod Occupants
 pub mod KeptRows
 pub mod Reused

@@ -32,4 +32,6 @@ mod reserving;
 #[cfg(test)]
 mod storing;
 #[cfg(test)]
+mod tracing;
+#[cfg(test)]
 mod worker;

@@ -11,4 +11,3 @@ pub mod Pushes
 pub mod Gaining
 pub mod Issuing
 pub mod Extending
-pub mod WorkedQueues

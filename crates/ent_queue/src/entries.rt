@@ -81,6 +81,7 @@ impl ExactSizeIterator for Entries<'_> {
 }
 
 /// The command at the front of the bytes, and the bytes after it.
+#[inline(always)]
 fn read_entry(bytes: &[u8]) -> (Entry<'_>, &[u8])
     requires { (c : Command) × (rest : List ℕ) × BeginsWith c bytes.now rest }
     ensures entry { command_of result.0 ≡ unpacked_command bytes.now }

@@ -1,5 +1,5 @@
 -- Whole schedules: one event more, and one part after the other.
-use Rattle.std.proofs.Common.{◌≡◌, refl, ap, suc, List, [], ◌∷◌, ◌++◌, length}
+use Rattle.std.proofs.Common.{◌≡◌, refl, ap, List, [], ◌∷◌, ◌++◌}
 use Rattle.ent_replay.specs.declared.event.Event.{Event}
 use Rattle.ent_replay.specs.Schedule.{MachineState, outcome_of, after_event, outcomes_of}
 use Rattle.ent_replay.specs.Schedule.{after_events}
@@ -14,8 +14,3 @@ pub outcomes_of-append : (s : MachineState) (xs ys : List Event) → outcomes_of
 outcomes_of-append s [] ys = refl
 outcomes_of-append s (e ∷ xs) ys = ap (outcome_of s e ∷◌) (outcomes_of-append (after_event s e) xs
     ys)
-
-pub length-outcomes_of : (s : MachineState) (events : List Event) → length (outcomes_of s events)
-    ≡ length events
-length-outcomes_of s [] = refl
-length-outcomes_of s (e ∷ events) = ap suc (length-outcomes_of (after_event s e) events)

@@ -3,8 +3,8 @@
 use Rattle.std.proofs.Common.{◌≡◌, ℕ, zero, suc, ◌+◌, ◌<◌, ◌≤◌, List, [], ◌∷◌, ◌++◌, length, map}
 use Rattle.std.proofs.Common.{refl, ap, sym, ◌∙◌, arith, subst, Some, Bool, true, false, cond}
 use Rattle.std.proofs.Common.{eq-eqb, ne_eqb, append-nil, append_assoc, inl, inr, Result}
-use Rattle.std.proofs.Common.{get_or, swap, set, ◌≢◌, Option, None}
-use Rattle.std.specs.Prelude.{◌==◌, filter, slice_get, is_none}
+use Rattle.std.proofs.Common.{get_or, swap, set, ◌≢◌}
+use Rattle.std.specs.Prelude.{◌==◌, filter, slice_get}
 use Rattle.std.specs.List.{All, Contains, flat_map, range_with_len, position_from}
 use Rattle.std.specs.Ordering.{eq_by_cmp}
 use Rattle.std.specs.List.Sorted.{IsPermutation}
@@ -12,22 +12,21 @@ use Rattle.std.proofs.lemmas.Bool.{cases_eq}
 use Rattle.std.proofs.lemmas.Option.{get_or_from_slice_get, slice_get_within}
 use Rattle.std.proofs.lemmas.List.Concat.{flat_map-append}
 use Rattle.std.proofs.lemmas.List.Edits.{swap_is}
-use Rattle.std.proofs.lemmas.List.Elements.{All-nil, All-head, All-tail, All-append, All-weaker}
-use Rattle.std.proofs.lemmas.List.Elements.{All-contains, All-contains_itself}
+use Rattle.std.proofs.lemmas.List.Elements.{All-head, All-tail}
+use Rattle.std.proofs.lemmas.List.Elements.{All-contains}
 use Rattle.std.proofs.lemmas.List.Elements.{Contains-append_left, Contains-append_right}
 use Rattle.std.proofs.lemmas.List.Sorted.{IsPermutation-refl, IsPermutation-sym}
 use Rattle.std.proofs.lemmas.List.Sorted.{IsPermutation-trans, IsPermutation-keeps}
 use Rattle.std.proofs.lemmas.List.Sorted.{IsPermutation-append_left, IsPermutation-append_right}
-use Rattle.std.proofs.lemmas.List.Sorted.{IsPermutation-append_comm, All-permutation}
+use Rattle.std.proofs.lemmas.List.Sorted.{IsPermutation-append_comm}
 use Rattle.ent_handle.specs.Handle.{Handle, handle_cmp}
-use Rattle.ent_handle.specs.declared.birth.Birth.{Birth}
 use Rattle.ent_alloc.specs.declared.space.Space.{Space}
 use Rattle.ent_alloc.specs.Sequential.{born}
 use Rattle.ent_alloc.specs.Sound.{IsSound}
 use Rattle.ent_alloc.specs.History.{Call, handles_in, given_in, AreGivenOnce, after_history}
-use Rattle.ent_alloc.proofs.ListLaws.{filter_none, AllPairs-head, AllPairs-tail, AllPairs-left}
-use Rattle.ent_alloc.proofs.ListLaws.{AllPairs-right, AllPairs-across, AllPairs-IsPermutation}
-use Rattle.ent_alloc.proofs.HandleSets.{itself, other_handle, stands_in-from_Contains}
+use Rattle.ent_alloc.proofs.ListLaws.{AllPairs-head, AllPairs-tail}
+use Rattle.ent_alloc.proofs.ListLaws.{AllPairs-across, AllPairs-IsPermutation}
+use Rattle.ent_alloc.proofs.HandleSets.{itself, other_handle}
 use Rattle.ent_alloc.proofs.Flushes.{born-IsPermutation}
 use Rattle.ent_alloc.proofs.Histories.{given_in-distinct, given_in-taken}
 use Rattle.ent_shared.specs.declared.refused.Refused.TheVariants as why
@@ -35,8 +34,7 @@ use Rattle.ent_queue.specs.Command.{Command, Spawn, SpawnMany, Insert, Remove, D
 use Rattle.ent_queue.specs.Reserving.{stands_for}
 use Rattle.ent_world.specs.World.{World}
 use Rattle.ent_world.specs.OpenWorld.{View}
-use Rattle.ent_world.specs.Sync.{listed_by, handles_listed, at_ordinal, listed_birth, unlisted}
-use Rattle.ent_world.proofs.Numbered.{some_index}
+use Rattle.ent_world.specs.Sync.{listed_by, handles_listed}
 use Rattle.ent_runner.specs.Frame.{IsFrame, queue_at, commands_of}
 use Rattle.ent_runner.proofs.Lists.{each_of_all}
 
@@ -267,57 +265,6 @@ position_is (x ∷ hs) index (suc k) h once at =
     ap (λ b. cond b (Some index) (position_from (eq_by_cmp handle_cmp h) (index + 1) hs)) on
     ∙ (position_is hs (index + 1) k h (AllPairs-tail Differ x hs once) at ∙ ap Some next)
 
-queues_once : (queues : List (List Command)) (m n i j : ℕ) (h : Handle)
-    → AreGivenOnce (flat_map handles_listed queues) → Lists queues m i h → Lists queues n j h
-    → (m ≡ n) × (i ≡ j)
-queues_once [] m n i j h once at there = absurd (cc)
-queues_once (q ∷ qs) zero zero i j h once at there =
-    let own : AreGivenOnce (handles_listed q) = AllPairs-left Differ (handles_listed q)
-    (flat_map handles_listed qs) once in
-    let first : position_from (eq_by_cmp handle_cmp h) 0 (handles_listed q) ≡ Some (0 + i) =
-    position_is (handles_listed q) 0 i h own at in
-    let second : position_from (eq_by_cmp handle_cmp h) 0 (handles_listed q) ≡ Some (0 + j) =
-    position_is (handles_listed q) 0 j h own there in
-    let same : 0 + i ≡ 0 + j = cc in
-    (refl, omega arith)
-queues_once (q ∷ qs) zero (suc n) i j h once at there =
-    absurd (not_in_both (handles_listed q) (flat_map handles_listed qs) h once
-    (contains_at (handles_listed q) i h at) (contains_listed qs n j h there) refl)
-queues_once (q ∷ qs) (suc m) zero i j h once at there =
-    absurd (not_in_both (handles_listed q) (flat_map handles_listed qs) h once
-    (contains_at (handles_listed q) j h there) (contains_listed qs m i h at) refl)
-queues_once (q ∷ qs) (suc m) (suc n) i j h once at there =
-    let rest = queues_once qs m n i j h
-    (AllPairs-right Differ (handles_listed q) (flat_map handles_listed qs) once) at there in
-    (ap suc rest.0, rest.1)
-
--- who is listed has a birth by the queues
-abbrev HasBirth : List (List Command) → ℕ → Handle → Type 0
-HasBirth queues system h = is_none (listed_birth 0 system queues h) ≡ false
-
-all_have_births : (queues : List (List Command)) (system : ℕ)
-    → All (HasBirth queues system) (flat_map handles_listed queues)
-all_have_births [] system = All-nil (HasBirth [] system)
-all_have_births (q ∷ qs) system =
-    All-append (HasBirth (q ∷ qs) system) (handles_listed q) (flat_map handles_listed qs)
-    (λ k d within. own (get_or (handles_listed q) k d)
-    (All-contains_itself (handles_listed q) k d within))
-    (All-weaker (HasBirth qs (system + 1)) (HasBirth (q ∷ qs) system)
-    (λ h has. later (position_from (eq_by_cmp handle_cmp h) 0 (handles_listed q))
-    (listed_birth 0 (system + 1) qs h) has)
-    (flat_map handles_listed qs) (all_have_births qs (system + 1)))
-  where
-    own : (h : Handle) → Contains (handles_listed q) h → HasBirth (q ∷ qs) system h
-    own h here =
-        let index = some_index h 0 (handles_listed q)
-        (stands_in-from_Contains (handles_listed q) h here) in
-        ap (λ o. is_none (at_ordinal 0 system o (listed_birth 0 (system + 1) qs h))) index.1
-
-    later : (index : Option ℕ) (others : Option Birth) → is_none others ≡ false
-        → is_none (at_ordinal 0 system index others) ≡ false
-    later (Some k) others has = refl
-    later None others has = has
-
 -- ---- the law
 
 module _ {S : Type 0} (may : S → View → List Command → Type 0) (systems : List S) (workers : ℕ)
@@ -368,11 +315,6 @@ module _ {S : Type 0} (may : S → View → List Command → Type 0) (systems : 
         (IsPermutation-sym (flat_map handles_listed queues) (given_in history)
         listed-IsPermutation) (given_in-distinct before.allocator history sound frame.legal)
 
-    -- So a handle is listed by one queue at most, and under one ordinal.
-    pub listed-once : (m n i j : ℕ) (h : Handle) → Lists queues m i h → Lists queues n j h
-        → (m ≡ n) × (i ≡ j)
-    listed-once m n i j h at there = queues_once queues m n i j h listed-distinct at there
-
     module _ (flushed : before.allocator.asked ≡ 0) where
       -- The handles that the queues list are those that are born in the sync of the frame.
       pub listed-born : IsPermutation (flat_map handles_listed queues)
@@ -384,11 +326,3 @@ module _ {S : Type 0} (may : S → View → List Command → Type 0) (systems : 
           (IsPermutation-trans (given_in history) after.taken (born after)
           (given_in-taken before.allocator history sound frame.legal flushed)
           (born-IsPermutation after))
-
-      -- So nobody is born whom no queue lists.
-      pub none_unlisted : unlisted queues (born (after_history before.allocator history)) ≡ []
-      none_unlisted =
-          let handles : List Handle = born (after_history before.allocator history) in
-          filter_none (λ h. is_none (listed_birth 0 0 queues h)) handles
-          (All-permutation (HasBirth queues 0) (flat_map handles_listed queues) handles listed-born
-          (all_have_births queues 0))

@@ -99,14 +99,6 @@ at_within [] k within = absurd (omega arith)
 at_within (x ∷ xs) zero within = (x, refl)
 at_within (x ∷ xs) (suc k) within = at_within xs k (omega arith)
 
-pub sum_both : {X : Type 0} (f : X → ℕ) (xs : List X) → All (λ x. f x ≡ 0) xs → sum_by f xs ≡ 0
-sum_both f [] none = refl
-sum_both f (x ∷ xs) none =
-    let sums : sum_by f (x ∷ xs) ≡ f x + sum_by f xs = sum_by-cons f x xs in
-    let here = All-head (λ x. f x ≡ 0) x xs none in
-    let rest = sum_both f xs (All-tail (λ x. f x ≡ 0) x xs none) in
-    omega arith
-
 -- a number of a range is there once
 abbrev pub is_number : ℕ → ℕ → ℕ
 is_number n k = cond (k == n) 1 0

@@ -1,6 +1,6 @@
 -- Of a text that is read as a value: what each step of a reader finds.
-use Rattle.std.proofs.Common.{◌≡◌, ℕ, zero, suc, ◌-◌, ◌<◌, List, [], ◌∷◌, length, true, false}
-use Rattle.std.proofs.Common.{Option, Some, None, option_map, option_and_then, unwrap_or, is_some}
+use Rattle.std.proofs.Common.{◌≡◌, ℕ, zero, suc, ◌-◌, ◌<◌, List, [], ◌∷◌, length, false}
+use Rattle.std.proofs.Common.{Option, Some, None, option_map, option_and_then, unwrap_or}
 use Rattle.std.proofs.Common.{refl, sym, ap, ◌∙◌, arith}
 use Rattle.json.specs.Token.{Token}
 use Rattle.json.specs.Json as json

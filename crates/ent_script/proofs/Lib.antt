@@ -1,6 +1,8 @@
 pub mod Values
 pub mod NamesLaws
+pub mod BoundLaws
 pub mod Bundles
+pub mod Refilling
 pub mod Faults
 pub mod Keys
 pub mod Numbering
@@ -14,9 +16,9 @@ pub mod Openings
 pub mod PassedOver
 pub mod CutMeanings
 pub mod Listing
+pub mod Operations
 pub mod Puts
 pub mod Whole
+pub mod Headings
 pub mod PartRanges
 pub mod Ranges
-pub mod WorkedScripts
-pub mod WorkedRefusals

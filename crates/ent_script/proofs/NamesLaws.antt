@@ -72,7 +72,7 @@ at_end_by true text name names e none =
     ap (λ (found : Option ℕ). first_of found (Some (length names))) (sym absent)
 at_end_by false text name names e none = no_other (number_among text names)
 
-at_end : (text name : List ℕ) (names : List (List ℕ)) → number_among name names ≡ None
+pub at_end : (text name : List ℕ) (names : List (List ℕ)) → number_among name names ≡ None
     → cond (bytes_eq name text) (Some (length names)) (number_among text names)
     ≡ number_among text (names ++ name ∷ [])
 at_end text name names none = at_end_by (bytes_eq name text) text name names refl none

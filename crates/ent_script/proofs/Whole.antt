@@ -93,3 +93,8 @@ unfolding script_of
 names_refused d heading e a b =
     ap (λ (r : Result Heading ReadFault). r >>= after_heading d) a
     ∙ ap (λ (r : Result Names ReadFault). r >>= after_names d heading) b
+
+pub heading_refused : (d : Data) (e : ReadFault) → in_script (heading_of d) ≡ Err e
+    → script_of d ≡ Err e
+unfolding script_of
+heading_refused d e a = ap (λ (r : Result Heading ReadFault). r >>= after_heading d) a

@@ -7,15 +7,16 @@ use Rattle.json.specs.Json.{value, items}
 use Rattle.json.specs.declared.reader.Invalid.{Invalid}
 use Rattle.serde_json.specs.Data.{Data, array, Items}
 use Rattle.serde_json.specs.Find.{as_array}
-use Rattle.serde_json.specs.Read.{of_items, converted}
+use Rattle.serde_json.specs.Read.{of_items, converted, read}
 use Rattle.std.specs.Global.{Vec}
 use Rattle.serde_json.specs.View.{view}
 use Rattle.serde_json.specs.declared.value.Value.{Value}
 use Rattle.ent_script.specs.Cut.{cut}
 use Rattle.ent_script.specs.Json.{list_of, at_most}
-use Rattle.ent_script.specs.Reading.{◌>>=◌, numbered, frame_of}
+use Rattle.ent_script.specs.Reading.{◌>>=◌, numbered, frame_of, heading_of, in_script}
 use Rattle.ent_script.specs.declared.cause.ScriptCause.TheVariants as script_cause
 use Rattle.ent_script.specs.declared.format.Format.{Format}
+use Rattle.ent_script.specs.declared.heading.Heading.{Heading}
 use Rattle.ent_script.specs.declared.operation.Operation.{Operation}
 use Rattle.ent_script.specs.declared.read_fault.ReadFault.{ReadFault}
 use Rattle.ent_script.specs.declared.read_fault.ReadFault.TheVariants as fault
@@ -95,3 +96,7 @@ abbrev pub ran_out : {A : Type 0} → Result A ReadFault → Bool
 ran_out (Ok x) = false
 ran_out (Err fault.Memory) = true
 ran_out (Err e) = false
+
+-- The heading of the value that a text is read as.
+abbrev pub heading_of_text : List ℕ → Result Heading ReadFault
+heading_of_text text = ok_or (read text) fault.Json >>= λ d. in_script (heading_of d)

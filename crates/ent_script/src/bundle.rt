@@ -4,13 +4,17 @@ ghost use Rattle.ent_handle.specs.Component.{component_cmp};
 
 use ent_handle::{ComponentId, Memory};
 use ent_sorted::search;
+use smallvec::SmallVec;
 use std::alloc::Global;
 use std::marker::Model;
+
+/// How many components lie in the bundle itself.
+const INLINE: usize = 1;
 
 /// Components and their values, by strictly rising number. Contracts see the list of them.
 #[derive(Drop)]
 pub struct Bundle {
-    items: Vec<(ComponentId, i64)>,
+    items: SmallVec<(ComponentId, i64), INLINE>,
 }
 
 impl Model for Bundle {
@@ -34,7 +38,7 @@ impl Bundle {
         ensures { result ≡ [] }
     {
         Bundle {
-            items: Vec::new(alloc),
+            items: SmallVec::new(alloc),
         }
     }
 
@@ -43,7 +47,7 @@ impl Bundle {
         ensures { IfOk result (λ bundle. bundle ≡ []) }
     {
         Ok(Bundle {
-            items: Vec::with_capacity(alloc, count)?,
+            items: SmallVec::with_capacity(alloc, count)?,
         })
     }
 

@@ -1,4 +1,4 @@
-ghost use Rattle.std.specs.Prelude.{◌≡◌, ℕ, ◌<◌, ◌≤◌, List, length, map, Some, OnOk};
+ghost use Rattle.std.specs.Prelude.{◌≡◌, ℕ, ◌<◌, ◌≤◌, List, length, Some, OnOk};
 ghost use Rattle.json.specs.Json.{value, items};
 ghost use Rattle.json.specs.Token.{Token as SpecToken};
 ghost use Rattle.serde_json.specs.Data.{Data, Items, array};
@@ -6,13 +6,15 @@ ghost use Rattle.serde_json.specs.Read.{of_json, of_items, converted};
 ghost use Rattle.serde_json.specs.View.{view};
 ghost use Rattle.ent_script.specs.Names.{with_part};
 ghost use Rattle.ent_script.specs.Reading.{of_kind, operation_of, bound_name, at_operation};
-ghost use Rattle.ent_script.specs.Reading.{operation_at, system_of, frame_of, numbered};
+ghost use Rattle.ent_script.specs.Reading.{system_of, frame_of};
 ghost use Rattle.ent_script.specs.Reading.{births_before};
 ghost use Rattle.ent_script.specs.Reading.{ReadsPart, ReadsAs};
 ghost use Rattle.ent_script.specs.Streaming.{Streams, StreamsList, frames_of};
 
 use crate::at::At;
+use crate::bound::Bound;
 use crate::cause::{Cause, ScriptCause};
+use crate::cutting::read_cut;
 use crate::elements::name;
 use crate::format::Format;
 use crate::frame::Frame;
@@ -22,7 +24,7 @@ use crate::operation::Operation;
 use crate::part_fault::PartFault;
 use crate::parts::{binding, bundle, bundle_or_none, count, removed, target};
 use crate::read_fault::ReadFault;
-use crate::streaming::{begins_array, fault_of_array, read_elements};
+use crate::streaming::{begins_array, fault_of_array};
 use crate::system::System;
 use ent_handle::Memory;
 use json::Reader;
@@ -33,7 +35,7 @@ use std::alloc::Global;
 fn operation_of_kind(
     alloc: Global,
     components: &Names<'_>,
-    bound: &Names<'_>,
+    bound: &Bound,
     before: Option<usize>,
     value: &Value,
     kind: Kind,
@@ -80,7 +82,7 @@ fn operation_of_kind(
 fn operation(
     alloc: Global,
     components: &Names<'_>,
-    bound: &Names<'_>,
+    bound: &Bound,
     before: Option<usize>,
     value: &Value,
 ) -> Result<Operation, PartFault>
@@ -92,7 +94,7 @@ fn operation(
 }
 
 /// Adds the name that an operation binds, if it binds one.
-fn bind<'a>(bound: &mut Names<'a>, value: &'a Value) -> Result<(), Memory>
+fn bind(alloc: Global, bound: &mut Bound, value: &Value) -> Result<(), Memory>
     ensures { OnOk result (bound.new ≡ with_part bound.old (bound_name (view value.now))) }
 {
     let Some(part) = value.get("as") else {
@@ -101,7 +103,7 @@ fn bind<'a>(bound: &mut Names<'a>, value: &'a Value) -> Result<(), Memory>
     let Some(name) = name(part) else {
         return Ok(());
     };
-    bound.add(name)
+    bound.add(alloc, name)
 }
 
 /// The operation with this number in its system.
@@ -109,7 +111,7 @@ fn operation_at(
     alloc: Global,
     format: Format,
     components: &Names<'_>,
-    bound: &Names<'_>,
+    bound: &Bound,
     at: At,
     value: &Value,
 ) -> Result<Operation, ReadFault>
@@ -131,31 +133,72 @@ fn operation_at(
     }
 }
 
-/// The operations of a system, of which each may use the names that those before it bind.
+/// The operation that comes next. The name that it binds is added.
+fn next_operation(
+    alloc: Global,
+    format: Format,
+    components: &Names<'_>,
+    bound: &mut Bound,
+    at: At,
+    reader: &mut Reader<'_>,
+    depth: usize,
+) -> Result<Operation, ReadFault>
+    requires { length components.now ≤ 256 }
+    ensures value { (d : Data) (rest : List SpecToken)
+        → converted of_json (value depth reader.old) ≡ Some (d, rest)
+        → Streams result reader.new (at_operation at.frame at.system at.operation
+        (operation_of components.now bound.old (births_before format at.frame) d)) rest }
+    ensures binds { OnOk result ((d : Data) (rest : List SpecToken)
+        → converted of_json (value depth reader.old) ≡ Some (d, rest)
+        → bound.new ≡ with_part bound.old (bound_name d)) }
+    ensures shorter { OnOk result (length reader.new < length reader.old) }
+    ensures no_longer { length reader.new ≤ length reader.old }
+{
+    let value = read_cut(alloc, reader, depth, 2)?;
+    let operation = operation_at(alloc, format, components, bound, at, &value)?;
+    bind(alloc, bound, &value)?;
+    Ok(operation)
+}
+
+/// The operations of a system, of which the bracket was taken. Each may use the names that those
+/// before it bind.
 fn operations(
     alloc: Global,
     format: Format,
     components: &Names<'_>,
     frame: usize,
     system: usize,
-    values: &[Value],
+    reader: &mut Reader<'_>,
+    depth: usize,
 ) -> Result<System, ReadFault>
     requires { length components.now ≤ 256 }
-    ensures { ReadsAs result (numbered
-        (operation_at format components.now frame system (map view values.now)) 0
-        (map view values.now)) }
+    ensures value { (n : ℕ) (ds : Items) (rest : List SpecToken)
+        → converted of_items (items (value depth) n reader.old) ≡ Some (ds, rest)
+        → Streams result reader.new (system_of format components.now frame system (array ds))
+        rest }
+    ensures shorter { OnOk result (length reader.new ≤ length reader.old) }
+    ensures no_longer { length reader.new ≤ length reader.old }
 {
-    let mut bound = Names::new(alloc);
-    let mut operations = Vec::with_capacity(alloc, values.len())?;
-    for (number, value) in values.iter().enumerate() {
+    let limit = ReadFault::System { frame, system };
+    let mut bound = Bound::new(alloc);
+    let mut operations = Vec::new(alloc);
+    let mut number = 0;
+    'operations: while !reader.take_end_array() {
+        if number == 10_000 {
+            return Err(fault_of_array(reader, depth, 0, limit, limit));
+        }
         let at = At {
             frame,
             system,
             operation: number,
         };
-        let operation = operation_at(alloc, format, components, &bound, at, value)?;
-        operations.push(operation)?;
-        bind(&mut bound, value)?;
+        match next_operation(alloc, format, components, &mut bound, at, reader, depth) {
+            Ok(operation) => operations.push(operation)?,
+            Err(fault) => {
+                return Err(fault_of_array(reader, depth, 9_999 - number, fault, limit));
+            }
+        }
+        number += 1;
     }
     Ok(System::new(operations))
 }
@@ -178,13 +221,13 @@ fn system(
     ensures shorter { OnOk result (length reader.new < length reader.old) }
     ensures no_longer { length reader.new ≤ length reader.old }
 {
-    let Some(values) = read_elements(alloc, reader, depth, 2, 10_000)? else {
+    if !begins_array(reader, depth)? {
         return Err(ReadFault::System {
             frame,
             system: number,
         });
-    };
-    operations(alloc, format, components, frame, number, &values)
+    }
+    operations(alloc, format, components, frame, number, reader, depth - 1)
 }
 
 /// The systems of a frame, of which the bracket was taken.

@@ -3,6 +3,7 @@
 
 mod at;
 mod birth;
+mod bound;
 mod bundle;
 mod cause;
 mod cutting;

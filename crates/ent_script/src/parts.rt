@@ -7,6 +7,7 @@ ghost use Rattle.ent_script.specs.Reading.{count_of};
 ghost use Rattle.ent_script.specs.Reading.{binding_of, only, ReadsPart};
 
 use crate::birth::birth;
+use crate::bound::Bound;
 use crate::bundle::Bundle;
 use crate::cause::Cause;
 use crate::elements::{members, name, whole_within};
@@ -37,7 +38,7 @@ pub(crate) fn count(part: Option<&Value>) -> Result<u32, Cause>
 
 /// The number of the name that is bound: that of the name if it is bound, and else the next.
 #[tactic(auto, unfolding(crate::specs::Reading::binding_of))]
-pub(crate) fn binding(bound: &Names<'_>, part: Option<&Value>) -> Result<Option<usize>, Cause>
+pub(crate) fn binding(bound: &Bound, part: Option<&Value>) -> Result<Option<usize>, Cause>
     ensures { result ≡ binding_of bound.now (option_map (λ v. view v.now) part.entry) }
 {
     let Some(value) = part else {
@@ -69,7 +70,7 @@ fn target_birth(before: Option<usize>, text: &str) -> Result<Target, Cause>
 #[tactic(auto, unfolding(crate::specs::Reading::target_at))]
 fn target_at(
     components: &Names<'_>,
-    bound: &Names<'_>,
+    bound: &Bound,
     before: Option<usize>,
     key: &str,
     text: &str,
@@ -109,7 +110,7 @@ fn only(members: &Map<String, Value>) -> Option<(&str, &Value)>
 #[tactic(auto, unfolding(crate::specs::Reading::target_of))]
 pub(crate) fn target(
     components: &Names<'_>,
-    bound: &Names<'_>,
+    bound: &Bound,
     before: Option<usize>,
     part: Option<&Value>,
 ) -> Result<Target, Cause>

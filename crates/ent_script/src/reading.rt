@@ -1,5 +1,5 @@
 ghost use Rattle.std.specs.Prelude.{◌≡◌, ◌≤◌, length, map, option_map, IfOk, IfErr};
-ghost use Rattle.std.specs.Prelude.{string_bytes, ◌∷◌, ℕ, List, Some, false, is_some, codes};
+ghost use Rattle.std.specs.Prelude.{string_bytes, ◌∷◌, ℕ, List, Some, Ok, false, codes};
 ghost use Rattle.std.specs.Prelude.{option_and_then, IfSome};
 ghost use Rattle.std.specs.Bool.{MatchBool};
 ghost use Rattle.json.specs.Json.{value, members};
@@ -9,7 +9,7 @@ ghost use Rattle.serde_json.specs.Find.{get, get_member};
 ghost use Rattle.serde_json.specs.Read.{of_members, converted, read};
 ghost use Rattle.ent_script.specs.Json.{at_most};
 ghost use Rattle.ent_script.specs.Streaming.{begins_object, FindsElements, frames_of};
-ghost use Rattle.ent_script.specs.Streaming.{ran_out};
+ghost use Rattle.ent_script.specs.Streaming.{heading_of_text, ran_out};
 ghost use Rattle.ent_script.specs.declared.read_fault.ReadFault.TheVariants.{Memory};
 ghost use Rattle.serde_json.specs.View.{view};
 ghost use Rattle.ent_script.specs.Json.{whole_within as whole_of};
@@ -34,7 +34,7 @@ use crate::streaming::read_elements;
 use ent_alloc::Limits;
 use json::{Reader, Scratch, Token};
 use serde_json::Value;
-use std::alloc::{AllocError, Global};
+use std::alloc::Global;
 
 /// The whole number in this range that a part is, or this one if the part is absent.
 fn number_or(part: Option<&Value>, absent: u32, low: u32, high: u32) -> Option<u32>
@@ -121,12 +121,15 @@ fn owned(alloc: Global, names: &[&str]) -> Result<Vec<String>, ReadFault>
 /// How deep arrays and objects nest at most.
 const DEPTH: usize = 127;
 
-/// The heading that a text means, if it is JSON.
+/// The heading that a text means. If the text is no JSON, that is found first.
 fn heading_in(alloc: Global, text: &str, scratch: &mut Scratch) -> Result<Heading, ReadFault>
-    ensures { (d : Data) → read text.now ≡ Some d → ReadsAs result (in_script (heading_of d)) }
+    ensures { ReadsAs result (heading_of_text text.now) }
 {
     let mut reader = Reader::new(text, scratch)?;
     let value = read_cut(alloc, &mut reader, DEPTH, 1)?;
+    if reader.next().is_some() {
+        return Err(ReadFault::Json);
+    }
     Ok(heading(&value)?)
 }
 
@@ -236,12 +239,17 @@ fn frames_in(
     frames_inside(alloc, format, components, &mut reader, DEPTH - 1)
 }
 
-/// The script that a text means, if it is JSON.
+/// The script that a text with this heading means.
 #[tactic(auto, unfolding(crate::specs::Reading::script_of))]
-fn script_in(alloc: Global, text: &str, scratch: &mut Scratch) -> Result<Script, ReadFault>
-    ensures { (d : Data) → read text.now ≡ Some d → ReadsAs result (script_of d) }
+fn script_in(
+    alloc: Global,
+    heading: Heading,
+    text: &str,
+    scratch: &mut Scratch,
+) -> Result<Script, ReadFault>
+    ensures { (d : Data) → read text.now ≡ Some d → in_script (heading_of d) ≡ Ok heading
+        → ReadsAs result (script_of d) }
 {
-    let heading = heading_in(alloc, text, scratch)?;
     let values = components_in(alloc, text, scratch)?.ok_or(ScriptCause::Components)?;
     let components = different_names(alloc, &values)?;
     let frames = frames_in(alloc, heading.format, &components, text, scratch)?;
@@ -249,18 +257,10 @@ fn script_in(alloc: Global, text: &str, scratch: &mut Scratch) -> Result<Script,
     Ok(Script::new(heading.limits, names, frames))
 }
 
-/// Whether `serde_json` reads a value from the text.
-fn is_json(text: &str, scratch: &mut Scratch) -> Result<bool, AllocError>
-    ensures { IfOk result (λ is. is ≡ is_some (read text.now)) }
-{
-    let mut reader = Reader::new(text, scratch)?;
-    Ok(pass_value(&mut reader, DEPTH).is_ok() && reader.next().is_none())
-}
-
 /// The script that a JSON text means.
 ///
 /// It takes time linear in the text, but for look-ups of names in logarithmic time. The text is
-/// read more than once, and of its values no more than those of one system are kept at a time.
+/// read more than once, and no more than one operation is kept at a time as a value.
 ///
 /// # Errors
 ///
@@ -274,8 +274,6 @@ pub fn read_script(alloc: Global, text: &[u8]) -> Result<Script, ReadFault>
         return Err(ReadFault::Json);
     };
     let mut scratch = Scratch::new(alloc);
-    if !is_json(checked, &mut scratch)? {
-        return Err(ReadFault::Json);
-    }
-    script_in(alloc, checked, &mut scratch)
+    let heading = heading_in(alloc, checked, &mut scratch)?;
+    script_in(alloc, heading, checked, &mut scratch)
 }

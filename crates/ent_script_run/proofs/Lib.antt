@@ -7,9 +7,4 @@ pub mod Requested
 pub mod Enough
 pub mod TextsAlone
 pub mod SameText
-pub mod SmallWorlds
-pub mod WorkedWithoutSystems
-pub mod WorkedOnOneWorker
-pub mod WorkedOnTwoWorkers
-pub mod WorkedScriptsAlone
 pub mod WorkedPremises

@@ -11,19 +11,18 @@ use Rattle.ent_script.specs.declared.target.Target.TheVariants as target
 use Rattle.ent_script_system.specs.IssuedAlone.{NamesNoHandle, NeedsNoHandle}
 use Rattle.ent_world.specs.declared.fault.FaultKind.TheVariants as kind
 use Rattle.ent_script_run.specs.SameReport.{IsWithoutHandles, TellsNoRefusal, requested_in_all}
-use Rattle.ent_script_run.proofs.SmallWorlds.{item, limits}
 
 -- a script whose component is hp, and whose frames have one system each
 abbrev of_systems : List Operation → List Operation → Script
 of_systems first second = record {
-  limits = limits;
+  limits = record { slots = 5; generations = 9 };
   components = codes "hp" ∷ [];
   frames = (first ∷ []) ∷ (second ∷ []) ∷ [];
 }
 
--- one entity, then four more and three: eight requests, though five slots would do
+-- one entity, then four more and three: eight requests, though seven slots would do
 eight : requested_in_all (of_systems
-    (operation.Spawn (item 0 1 ∷ []) (Some 0) ∷ operation.Despawn (target.Name 0)
+    (operation.Spawn [] (Some 0) ∷ operation.Despawn (target.Name 0)
     ∷ operation.SpawnMany 4 [] None ∷ [])
     (operation.SpawnMany 3 [] None ∷ [])) ≡ 8
 eight = refl

@@ -9,6 +9,7 @@ mod columns;
 mod fault;
 mod index;
 mod items;
+mod key;
 mod living;
 mod looking;
 mod order;

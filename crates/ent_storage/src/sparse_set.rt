@@ -110,15 +110,11 @@ impl SparseSet {
             return Err(AllocError);
         }
         self.dense.reserve(1)?;
-        if place < self.sparse.len() {
-            return Ok(());
-        }
-        if place == self.sparse.len() {
-            self.sparse.push(0)?;
-            return Ok(());
-        }
         let places = place.checked_add(1).ok_or(AllocError)?;
-        self.sparse.resize(places, 0)
+        self.sparse
+            .reserve(places.saturating_sub(self.sparse.len()))?;
+        // All the room is put to use at once, so that the next places are there.
+        self.sparse.resize(self.sparse.capacity(), 0)
     }
 
     /// Takes the value of the place out, and returns it. It takes no memory.

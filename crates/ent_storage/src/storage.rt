@@ -99,6 +99,15 @@ impl Storage {
         room - self.living.len()
     }
 
+    /// Whether there is room for one more entity.
+    #[inline(always)]
+    fn has_spare(&self) -> bool
+        ensures { IsTrue result ↔ (0 < self.now.spare) }
+    {
+        let len = self.living.len();
+        len < self.living.capacity() && len < self.index.room()
+    }
+
     /// Makes room for `additional` more entities, so that `born` takes no memory for them. If there
     /// is room for that many already, it takes no memory and changes nothing.
     ///
@@ -159,7 +168,7 @@ impl Storage {
         ensures never_absent { ¬ (IsErrOf result StorageFault.Absent) }
         ensures err { OnErr result (self.new ≡ self.old) }
     {
-        if self.spare() == 0 {
+        if !self.has_spare() {
             if self.contains(handle) {
                 return Err(StorageFault::Present);
             }
@@ -168,9 +177,14 @@ impl Storage {
         self.born_within(handle, birth)
     }
 
-    /// Adds an entity without components, if there is room for it. The index is searched once.
+    /// Does what [`Storage::born`] does, where there is room: who enters many tests that once for all
+    /// of them. It takes no memory, and `spare` is then less by 1.
+    ///
+    /// # Errors
+    ///
+    /// `Present`: the entity is there already. Nothing is changed.
     #[inline(always)]
-    fn born_within(&mut self, handle: Handle, birth: Birth) -> Result<(), StorageFault>
+    pub fn born_within(&mut self, handle: Handle, birth: Birth) -> Result<(), StorageFault>
         requires room { 0 < self.old.spare }
         ensures ok { OnOk result
             (self.new.entities ≡ map.insert self.old.entities handle (newborn birth)) }
@@ -214,7 +228,18 @@ impl Storage {
             return Err(StorageFault::Absent);
         };
         let _ = self.despawn_at(place, handle);
+        self.forget(handle);
         Ok(())
+    }
+
+    /// Lets the index forget an entity that has gone, so that the next birth in its slot looks at
+    /// no entity.
+    #[inline(always)]
+    fn forget(&mut self, handle: Handle)
+        requires { map.get self.old.entities handle ≡ None }
+        ensures { self.new ≡ self.old }
+    {
+        self.index.forget(handle);
     }
 
     /// Takes out the entity at this place, which has to be that of the handle. Returns the handle

@@ -1,5 +1,5 @@
 -- What a spawn returns is the reply of a reservation, as each of its cases.
-use Rattle.std.proofs.Common.{◌≡◌, refl, ℕ, List, [], ◌∷◌, Result, Ok, Err, Vec, Global}
+use Rattle.std.proofs.Common.{◌≡◌, refl, [], ◌∷◌, Result, Ok, Err}
 use Rattle.std.specs.Prelude.{IfOk, IfErr}
 use Rattle.ent_handle.specs.Handle.{Handle}
 use Rattle.ent_alloc.specs.Sequential.{listed_alone}
@@ -8,7 +8,7 @@ use Rattle.ent_shared.specs.declared.refused.Refused.TheVariants.{Space, Quota}
 use Rattle.ent_shared.specs.Phase.{Shared, Reserver}
 use Rattle.ent_queue.specs.declared.fault.QueueFault.{QueueFault}
 use Rattle.ent_queue.specs.declared.fault.QueueFault.TheVariants as fault
-use Rattle.ent_queue.specs.Reserving.{IsReturned, queued, as_list}
+use Rattle.ent_queue.specs.Reserving.{IsReturned, queued}
 use Rattle.ent_total.specs.Issuing.{IsRefused}
 
 module _ (s : Shared) (b a : Reserver) where
@@ -26,20 +26,3 @@ module _ (s : Shared) (b a : Reserver) where
   refused_one (Err (fault.Space wanted left)) replies = replies (Err (Space wanted left)) refl
   refused_one (Err (fault.Quota left)) replies = replies (Err (Quota left)) refl
   refused_one (Err fault.Memory) replies = tt
-
-  module _ (n : ℕ) where
-    abbrev Replies : Result (Vec Handle Global) QueueFault → Type 0
-    Replies r = (reply : Result (List Handle) Refused) → as_list r ≡ queued reply
-        → IsReturned s b a n reply
-
-    pub given_many : (r : Result (Vec Handle Global) QueueFault) → Replies r
-        → IfOk r (λ handles. IsReturned s b a n (Ok handles.items))
-    given_many (Ok handles) replies = replies (Ok handles.items) refl
-    given_many (Err why) replies = tt
-
-    pub refused_many : (r : Result (Vec Handle Global) QueueFault) → Replies r
-        → IfErr r (IsRefused s b a n)
-    refused_many (Ok handles) replies = tt
-    refused_many (Err (fault.Space wanted left)) replies = replies (Err (Space wanted left)) refl
-    refused_many (Err (fault.Quota left)) replies = replies (Err (Quota left)) refl
-    refused_many (Err fault.Memory) replies = tt

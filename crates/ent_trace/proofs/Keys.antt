@@ -151,3 +151,13 @@ empty_keeps latest is q =
 pub no_run : (run : List Placed) → reservations_of run ≡ [] → run ≡ []
 no_run [] is = refl
 no_run (p ∷ run) is = absurd (let no : p.reservation ∷ reservations_of run ≡ [] = is in cc)
+
+-- a call that nothing overlaps leaves a checker without a run so
+pub IsChecking-called : (s t : Allocator) (wanted next : ℕ) (run : List Placed)
+    (latest : finite.FinMap nat_cmp ℕ) → reservations_of run ≡ [] → IsChecking s wanted run latest
+    → next ≡ t.asked → next ≤ 2 ^ 50 → IsChecking t next run latest
+IsChecking-called s t wanted next run latest none before is few =
+    let empty = no_run run none in
+    subst (λ ps. IsChecking t next ps latest) (sym empty)
+    (IsChecking-none t next latest is few
+    (λ q. before.last q ∙ ap (λ ps. keys_after (λ _. 0) ps q) empty))

@@ -1,6 +1,7 @@
 pub mod Lists
 pub mod Stops
 pub mod Parting
+pub mod Fronts
 pub mod Orders
 pub mod Sorted
 pub mod Legal
@@ -9,3 +10,5 @@ pub mod Complete
 pub mod Lifted
 pub mod Runs
 pub mod Keys
+pub mod WordParts
+pub mod InBrackets

@@ -7,7 +7,7 @@ use Rattle.ent_trace.specs.declared.line.Line.TheVariants as line
 use Rattle.ent_trace.specs.declared.line.Reservation.{Reservation}
 use Rattle.ent_trace.specs.Trace.{Fits, AreAnswered, after_line, after_lines, IsAlone, IsOrderOf, Agrees}
 use Rattle.ent_trace.specs.Checker.{Checked, reserve_lines, AgreesWith, IsSettled, Follows}
-use Rattle.ent_trace.specs.Checker.{Differs, Fails, Shows, HasNoOrder, NoneFollows}
+use Rattle.ent_trace.specs.Checker.{Reaches, Differs, Fails, Shows, HasNoOrder, NoneFollows}
 use Rattle.ent_trace.proofs.Parting.{parts, all_reserve}
 use Rattle.ent_trace.specs.declared.difference.Difference.{Difference}
 
@@ -194,3 +194,14 @@ ordered-Shows c order n d is fails = record {
   is_order = IsOrderOf-append (reserve_lines c.run) [] order [] is refl;
   fails = Fails-append c.allocator n order [] d fails;
 }
+
+-- a call that nothing overlaps is made in the state after the run
+pub alone_Reaches : (c : Checked) (l : Line) (new : Checked) (at : Allocator) → IsAlone l
+    → IsSettled c at → Fits at l → new ≡ record { allocator = after_line at l; run = [] }
+    → Reaches c l new
+alone_Reaches c (line.Reserve r) new at alone settled fits is = absurd alone
+alone_Reaches c (line.Alloc told) new at alone settled fits is = (at, settled, fits, is)
+alone_Reaches c (line.Free h told) new at alone settled fits is = (at, settled, fits, is)
+alone_Reaches c (line.Flush told) new at alone settled fits is = (at, settled, fits, is)
+alone_Reaches c (line.State h told) new at alone settled fits is = (at, settled, fits, is)
+alone_Reaches c (line.Len told) new at alone settled fits is = (at, settled, fits, is)

@@ -103,6 +103,9 @@ module _ (old s : Allocator) (run : List Placed) (i : ℕ) where
           unlike = differs.unlike;
           expected = differs.expected;
           number_is = differs.number_is;
+          told_is = differs.told_is;
+          front_is = differs.front_is;
+          cursor_is = differs.cursor_is;
         };
       })
 

@@ -1,14 +1,14 @@
 -- What a checker stands for, and what it says of a trace that doesn't agree.
 use Rattle.std.specs.Prelude.{◌≡◌, ℕ, zero, suc, ◌+◌, ◌^◌}
 use Rattle.std.specs.Prelude.{◌<◌, ◌≤◌, ◌==◌, if◌then◌else◌, ◌⊎◌, false}
-use Rattle.std.specs.Prelude.{List, [], ◌∷◌, ◌++◌, map, slice_get, Some, refl}
+use Rattle.std.specs.Prelude.{List, [], ◌∷◌, ◌++◌, map, slice_get, take, Some, refl}
 use Rattle.std.specs.List.{AllByRecursion, sum_by}
 use Rattle.std.specs.Option.{unwrap_or}
 use Rattle.std.specs.Ordering.{nat_cmp}
 use Rattle.std.specs.FinMap as finite
 use Rattle.std.specs.Coded.{Coded, code_by, coded×, coded_list}
 use Rattle.ent_handle.specs.Handle.{Handle}
-use Rattle.ent_alloc.specs.Sequential.{Allocator, allocator_code, available, stands_in}
+use Rattle.ent_alloc.specs.Sequential.{Allocator, allocator_code, available, cursor, stands_in}
 use Rattle.ent_trace.specs.contracts.line.Reservation as reservation
 use Rattle.ent_trace.specs.declared.line.Reservation.{Reservation}
 use Rattle.ent_trace.specs.declared.line.Line.{Line}
@@ -19,7 +19,8 @@ use Rattle.ent_trace.specs.declared.placed.Placed.{Placed}
 use Rattle.ent_trace.specs.declared.difference.Difference.{Difference}
 use Rattle.ent_trace.specs.declared.difference.Stop.{Stop}
 use Rattle.ent_trace.specs.declared.difference.Stop.TheVariants as stop
-use Rattle.ent_trace.specs.Trace.{Agrees, Fits, AreAnswered, IsOrderOf, after_lines, answered_line}
+use Rattle.ent_trace.specs.Trace.{Agrees, Fits, AreAnswered, IsOrderOf, after_line, after_lines}
+use Rattle.ent_trace.specs.Trace.{answered_line}
 
 -- the allocator after all lines but the last reservations, which are not placed yet
 pub record Checked : Type 0 where
@@ -55,6 +56,14 @@ pub record IsSettled (c : Checked) (after : Allocator) : Type 0 where
   pub only : (other : List Line) → IsOrderOf (reserve_lines c.run) other
       → AreAnswered c.allocator other → after_lines c.allocator other ≡ after
 
+-- The state after a line: a reservation joins the run, and any other call is made in the state after the
+-- run, where its reply fits.
+abbrev pub Reaches : Checked → Line → Checked → Type 0
+Reaches old (line.Reserve r) new = new ≡ record old { run = old.run ++ r ∷ [] }
+Reaches old l new =
+    (at : Allocator) × IsSettled old at × Fits at l
+    × (new ≡ record { allocator = after_line at l; run = [] })
+
 -- ---- where a trace doesn't agree
 
 -- what a stop for a difference has to say
@@ -67,11 +76,15 @@ abbrev pub number_of : ℕ → Line → ℕ
 number_of number (line.Reserve r) = r.number
 number_of number other = number
 
--- The line's reply isn't the allocator's in this state, and the difference says which one is.
+-- The line's reply isn't the allocator's in this state. The difference says what it is, and which one
+-- is the allocator's, and shows the state: the front of the pool, and the cursor.
 pub record Differs (s : Allocator) (number : ℕ) (l : Line) (d : Difference) : Type 0 where
   pub unlike : ¬ (Fits s l)
   pub expected : d.expected ≡ answered_line s l
   pub number_is : d.number ≡ number_of number l
+  pub told_is : d.told ≡ l
+  pub front_is : d.front ≡ take 8 s.pool
+  pub cursor_is : d.cursor ≡ cursor s
 
 -- In this order some lines agree, and the next one doesn't.
 pub record Fails (s : Allocator) (number : ℕ) (order : List Line) (d : Difference) : Type 0 where
@@ -97,13 +110,29 @@ HasNoOrder c = (order : List Line) → IsOrderOf (reserve_lines c.run) order
 abbrev pub NoneFollows : Checked → Line → Type 0
 NoneFollows c l = (rest : List Line) → AgreesWith c (l ∷ rest) → ⊥
 
+-- ---- where more is requested than an allocator counts
+
+-- what a stop for too many requests has to say
+abbrev pub OnTooMany : Stop → Type 0 → Type 0
+OnTooMany stop.TooMany P = P
+OnTooMany other P = Unit {0}
+
+abbrev pub requested_in : List Reservation → ℕ
+requested_in run = sum_by (λ (r : Reservation). r.requested) run
+
+-- with this reservation more than 2^50 handles were requested since the last flush
+abbrev pub IsTooManyIn : Checked → Reservation → Type 0
+IsTooManyIn c r = 2 ^ 50 < c.allocator.asked + requested_in c.run + r.requested
+
+-- the line is such a reservation
+abbrev pub IsTooMany : Checked → Line → Type 0
+IsTooMany c (line.Reserve r) = IsTooManyIn c r
+IsTooMany c other = ⊥
+
 -- ---- inside
 
 abbrev pub reservations_of : List Placed → List Reservation
 reservations_of run = map (λ (p : Placed). p.reservation) run
-
-abbrev pub requested_in : List Reservation → ℕ
-requested_in run = sum_by (λ (r : Reservation). r.requested) run
 
 -- a later one of the same caller has no lesser key
 abbrev pub ComesAfter : Placed → Placed → Type 0

@@ -1,2 +1,4 @@
 pub mod Trace
 pub mod Checker
+pub mod Text
+pub mod Words

@@ -2,12 +2,14 @@
 ghost use Rattle.std.specs.Prelude.{◌≡◌, ◌+◌, ◌^◌, ◌<◌, ℕ, ◌∷◌, ◌++◌, [], IfOk, IfErr, OnOk};
 ghost use Rattle.ent_alloc.specs.Sequential.{opening, available};
 ghost use Rattle.ent_trace.specs.Trace.{Fits, IsAlone, after_line};
-ghost use Rattle.ent_trace.specs.Checker.{Follows, AgreesWith, IsSettled};
+ghost use Rattle.ent_trace.specs.Checker.{Follows, Reaches, AgreesWith, IsSettled};
 ghost use Rattle.ent_trace.specs.Checker.{OnDiffers, Differs, Shows, KeyOf};
 ghost use Rattle.ent_trace.specs.Checker.{HasNoOrder, NoneFollows};
+ghost use Rattle.ent_trace.specs.Checker.{OnTooMany, IsTooMany, IsTooManyIn};
 
 use crate::calls::answered;
 use crate::difference::{Difference, Stop};
+use crate::front::front_at;
 use crate::line::{Line, Reservation};
 use crate::placed::Placed;
 use crate::placing::place_all;
@@ -83,9 +85,12 @@ impl Checker {
     /// - `Memory`: memory ran out.
     pub fn take(self, number: u64, line: Line) -> Result<Self, Stop>
         ensures follows { IfOk result (λ next. Follows self line next) }
+        ensures reaches { IfOk result (λ next. Reaches self line next) }
         ensures differs { IfErr result (λ stop.
             OnDiffers stop (Shows self number (line ∷ []))) }
         ensures none { IfErr result (λ stop. OnDiffers stop (λ d. NoneFollows self line)) }
+        ensures too_many { IfErr result (λ stop. OnTooMany stop (IsTooMany self line)) }
+        ensures few { OnOk result (¬ (IsTooMany self line)) }
     {
         if let Line::Reserve(reservation) = line {
             return self.add(reservation);
@@ -102,6 +107,7 @@ impl Checker {
         ensures agrees { OnOk result (AgreesWith self []) }
         ensures differs { IfErr result (λ stop. OnDiffers stop (Shows self 0 [])) }
         ensures none { IfErr result (λ stop. OnDiffers stop (λ d. AgreesWith self [] → ⊥)) }
+        ensures counted { IfErr result (λ stop. OnTooMany stop ⊥) }
     {
         self.settle()
     }
@@ -110,9 +116,11 @@ impl Checker {
     fn end_run(self, number: u64, line: Line) -> Result<Self, Stop>
         requires { IsAlone line }
         ensures follows { IfOk result (λ next. Follows self line next) }
+        ensures reaches { IfOk result (λ next. Reaches self line next) }
         ensures differs { IfErr result (λ stop.
             OnDiffers stop (Shows self number (line ∷ []))) }
         ensures none { IfErr result (λ stop. OnDiffers stop (λ d. NoneFollows self line)) }
+        ensures counted { IfErr result (λ stop. OnTooMany stop ⊥) }
     {
         self.settle()?.call(number, line)
     }
@@ -124,6 +132,7 @@ impl Checker {
         ensures differs { IfErr result (λ stop.
             OnDiffers stop (λ d. (n : ℕ) → Shows self n [] d)) }
         ensures none { IfErr result (λ stop. OnDiffers stop (λ d. HasNoOrder self)) }
+        ensures counted { IfErr result (λ stop. OnTooMany stop ⊥) }
     {
         let Checker {
             alloc,
@@ -134,7 +143,7 @@ impl Checker {
         } = self;
         // The state is sound, so no handle has two places.
         prove_eq!(entities.cursor(), entities.cursor());
-        run.sort_by_key(|placed| placed.key)?;
+        run.sort_by_cached_key(|placed| placed.key)?;
         place_all(alloc, &mut entities, &run)?;
         run.clear();
         latest.clear();
@@ -156,6 +165,7 @@ impl Checker {
             next ≡ record { allocator = after_line self.allocator line; run = [] }) }
         ensures differs { IfErr result (λ stop.
             OnDiffers stop (Differs self.allocator number line)) }
+        ensures counted { IfErr result (λ stop. OnTooMany stop ⊥) }
     {
         let Checker {
             alloc,
@@ -164,9 +174,18 @@ impl Checker {
             latest,
             ..
         } = self;
+        // No call can be undone, so what a difference shows is looked up before it.
+        let cursor = entities.cursor();
+        let front = front_at(alloc, &entities, cursor)?;
         let expected = answered(alloc, &mut entities, &line)?;
         if let Some(expected) = expected {
-            return Err(Stop::Differs(Difference { number, expected }));
+            return Err(Stop::Differs(Difference {
+                number,
+                told: line,
+                expected,
+                front,
+                cursor,
+            }));
         }
         let wanted = entities.asked();
         Ok(Checker {
@@ -183,6 +202,8 @@ impl Checker {
         ensures ok { IfOk result (λ next.
             next ≡ record self { run = self.run ++ reservation ∷ [] }) }
         ensures differs { IfErr result (λ stop. OnDiffers stop (λ d. ⊥)) }
+        ensures too_many { IfErr result (λ stop. OnTooMany stop (IsTooManyIn self reservation)) }
+        ensures few { OnOk result (¬ (IsTooManyIn self reservation)) }
     {
         let Checker {
             alloc,

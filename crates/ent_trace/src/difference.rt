@@ -4,6 +4,7 @@ ghost use Rattle.ent_trace.specs.declared.difference.Stop.TheVariants.{Memory as
 
 use crate::line::Line;
 use ent_handle::Memory;
+use ent_replay::HandleList;
 use std::alloc::{AllocError, AllocFailed};
 
 /// The first line whose reply isn't the allocator's.
@@ -11,8 +12,15 @@ use std::alloc::{AllocError, AllocFailed};
 pub struct Difference {
     /// The number of the line.
     pub number: u64,
+    /// The line as it was taken.
+    pub told: Line,
     /// The same call with the reply that the allocator gives there.
     pub expected: Line,
+    /// The front of the allocator's pool there, before the call: its first 8 handles, or all if there
+    /// are fewer.
+    pub front: HandleList,
+    /// The allocator's cursor there, before the call.
+    pub cursor: i64,
 }
 
 /// Why a checker stops.

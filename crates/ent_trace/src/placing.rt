@@ -3,10 +3,11 @@ ghost use Rattle.std.specs.Prelude.{◌≡◌, ℕ, ◌+◌, ◌^◌, ◌≤◌,
 ghost use Rattle.ent_alloc.specs.Sequential.{reply_to, after_take};
 ghost use Rattle.ent_trace.specs.Trace.{FitsReserved, AreAnswered, after_lines, reserve_reply};
 ghost use Rattle.ent_trace.specs.Checker.{reservations_of, reserve_lines, requested_in};
-ghost use Rattle.ent_trace.specs.Checker.{OnDiffers, Differs, Fails};
+ghost use Rattle.ent_trace.specs.Checker.{OnDiffers, OnTooMany, Differs, Fails};
 
 use crate::difference::{Difference, Stop};
 use crate::fitting::fits_reserved;
+use crate::front::front_at;
 use crate::line::{Line, Reservation};
 use crate::placed::Placed;
 use crate::reply::ReserveReply;
@@ -56,6 +57,33 @@ fn reply_of(given: Result<HandleList, Space>) -> ReserveReply
     }
 }
 
+/// The same reservation with this reply.
+fn with_reply(reservation: &Reservation, reply: ReserveReply) -> Reservation
+    ensures { result ≡ record reservation.now { reply = reply } }
+{
+    Reservation {
+        number: reservation.number,
+        caller: reservation.caller,
+        requested: reservation.requested,
+        reply,
+    }
+}
+
+/// Copies a reply.
+fn copied(alloc: Global, reply: &ReserveReply) -> Result<ReserveReply, Memory>
+    ensures { IfOk result (λ copy. copy ≡ reply.now) }
+{
+    match reply {
+        ReserveReply::Handles(handles) => {
+            let mut copy = Vec::new(alloc);
+            copy.extend_from_slice(handles.as_slice())?;
+            Ok(ReserveReply::Handles(HandleList::new(copy)))
+        }
+        ReserveReply::Space => Ok(ReserveReply::Space),
+        ReserveReply::SpaceLeft(left) => Ok(ReserveReply::SpaceLeft(*left)),
+    }
+}
+
 /// Makes a reservation of the run, and compares.
 fn place(alloc: Global, entities: &mut Entities, reservation: &Reservation) -> Result<(), Stop>
     requires { entities.old.allocator.asked + reservation.now.requested ≤ 2 ^ 50 }
@@ -65,21 +93,20 @@ fn place(alloc: Global, entities: &mut Entities, reservation: &Reservation) -> R
         ≡ after_take entities.old.allocator reservation.now.requested) }
     ensures differs { IfErr result (λ stop. OnDiffers stop
         (Differs entities.old.allocator 0 (Line.Reserve reservation.now))) }
+    ensures counted { IfErr result (λ stop. OnTooMany stop ⊥) }
 {
+    let cursor = entities.cursor();
     let given = reserve(alloc, entities, reservation.requested)?;
     if fits_reserved(&reservation.reply, &given) {
         return Ok(());
     }
-    let number = reservation.number;
-    let expected = Reservation {
-        number,
-        caller: reservation.caller,
-        requested: reservation.requested,
-        reply: reply_of(given),
-    };
+    let expected = with_reply(reservation, reply_of(given));
     Err(Stop::Differs(Difference {
-        number,
+        number: reservation.number,
+        told: Line::Reserve(with_reply(reservation, copied(alloc, &reservation.reply)?)),
         expected: Line::Reserve(expected),
+        front: front_at(alloc, entities, cursor)?,
+        cursor,
     }))
 }
 
@@ -92,6 +119,7 @@ pub(crate) fn place_all(alloc: Global, entities: &mut Entities, run: &[Placed]) 
         ≡ after_lines entities.old.allocator (reserve_lines (reservations_of run.now))) }
     ensures differs { IfErr result (λ stop. OnDiffers stop (λ d. (n : ℕ)
         → Fails entities.old.allocator n (reserve_lines (reservations_of run.now)) d)) }
+    ensures counted { IfErr result (λ stop. OnTooMany stop ⊥) }
 {
     for placed in run {
         place(alloc, entities, &placed.reservation)?;

@@ -3,7 +3,8 @@ use Rattle.std.proofs.Common.{◌≡◌, ◌≢◌, refl, sym, ap, ◌∙◌, �
 use Rattle.std.proofs.Common.{true≢false, ℕ, zero, suc, ◌-◌, List, [], ◌∷◌, ◌++◌, drop}
 use Rattle.std.proofs.Common.{slice_get, is_some, arith}
 use Rattle.std.proofs.lemmas.Option.{none-some, same_Some}
-use Rattle.std.proofs.Common.{Some, None, is_err, Result, Ok, Err, OnOk, IsErrOf, IsTrue, ◌||◌, ◌↔◌}
+use Rattle.std.proofs.Common.{Some, None, is_err, Result, Ok, Err, OnOk, IfErr, IsErrOf, IsTrue}
+use Rattle.std.proofs.Common.{◌||◌, ◌↔◌}
 use Rattle.std.specs.Ordering.{eq_by_cmp}
 use Rattle.std.specs.FinSet as set
 use Rattle.std.specs.FinMap as map
@@ -47,22 +48,26 @@ pub record HasEntered (before after : Store) (h : Handle) (birth : Birth) : Type
   pub places : after.places ≡ before.places ++ h ∷ []
   pub spare : after.spare + 1 ≡ before.spare
 
+abbrev is_present : StorageFault → Bool
+is_present Present = true
+is_present Memory = false
+is_present Absent = false
+
 pub has_entered : {X : Type 0} (before after : Store) (h : Handle) (birth : Birth)
-    (r : Result X StorageFault) → map.contains_key before.entities h ≡ false → 0 < before.spare
+    (r : Result X StorageFault) → map.contains_key before.entities h ≡ false
     → OnOk r (after.entities ≡ map.insert before.entities h (newborn birth))
-    → OnOk r (0 < before.spare → after.spare + 1 ≡ before.spare)
+    → OnOk r (after.spare + 1 ≡ before.spare)
     → OnOk r (after.places ≡ before.places ++ h ∷ [])
     → (IsErrOf r Present ↔ IsTrue (map.contains_key before.entities h))
-    → (IsErrOf r Memory → before.spare ≡ 0) → ¬ (IsErrOf r Absent)
-    → HasEntered before after h birth
-has_entered before after h birth (Ok x) new room ok less places present memory absent =
-    record { entities = ok; places = places; spare = less room }
-has_entered before after h birth (Err Present) new room ok less places present memory absent =
+    → IfErr r (λ fault. fault ≡ Present) → HasEntered before after h birth
+has_entered before after h birth (Ok x) new ok less places present only =
+    record { entities = ok; places = places; spare = less }
+has_entered before after h birth (Err Present) new ok less places present only =
     absurd (true≢false (sym (present.0 refl) ∙ new))
-has_entered before after h birth (Err Memory) new room ok less places present memory absent =
-    let none = memory refl in absurd (omega arith)
-has_entered before after h birth (Err Absent) new room ok less places present memory absent =
-    absurd (absent refl)
+has_entered before after h birth (Err Memory) new ok less places present only =
+    absurd (true≢false (sym (ap is_present only)))
+has_entered before after h birth (Err Absent) new ok less places present only =
+    absurd (true≢false (sym (ap is_present only)))
 
 -- who was refused and is new found no room
 pub no_room : {X : Type 0} (before : Store) (h : Handle) (r : Result X StorageFault)

@@ -1,4 +1,3 @@
-pub mod TakenInSteps
 pub mod ParsedOptions
 pub mod MovedNames
 pub mod MovedFaults

@@ -2,7 +2,7 @@
 use Rattle.std.proofs.Common.{◌≡◌, ◌≢◌, ◌∙◌, List, ℕ, Option, Some, None, length, ◌<◌, sym, subst}
 use Rattle.std.proofs.Common.{refl, IfSome, IfOk, OnOk, OnErr}
 use Rattle.std.specs.Prelude.{Result, Ok, Err}
-use Rattle.spawnrun_lib.specs.Device.{Writes}
+use Rattle.devices.specs.Device.{Writes}
 use Rattle.spawnrun_lib.specs.declared.status.Status.{Status}
 use Rattle.spawnrun_lib.specs.declared.status.Status.TheVariants.{Memory, Refused}
 use Rattle.std.specs.Global.{Vec}

@@ -1,5 +1,3 @@
-pub mod Device
-pub mod Counted
 pub mod CommandLine
 pub mod Advice
 pub mod Program

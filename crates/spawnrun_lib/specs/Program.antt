@@ -6,7 +6,7 @@ use Rattle.spawnrun_lib.specs.declared.task.Task.{Task}
 use Rattle.spawnrun_lib.specs.declared.task.Task.TheVariants.{Replay, Run}
 use Rattle.spawnrun_lib.specs.Advice.{AdvisesOnSchedule, AdvisesOnScript}
 use Rattle.spawnrun_lib.specs.CommandLine.{AsksFor}
-use Rattle.spawnrun_lib.specs.Device.{Writes}
+use Rattle.devices.specs.Device.{Writes}
 use Rattle.spawnrun_lib.specs.Replay.{HasReplayed}
 use Rattle.spawnrun_lib.specs.Running.{HasRunScript}
 

@@ -12,7 +12,7 @@ use Rattle.ent_replay.specs.declared.Event.{Event}
 use Rattle.ent_replay.specs.declared.Outcome.{Outcome}
 use Rattle.ent_replay.specs.declared.ReadFault.TheVariants.{Line}
 use Rattle.ent_replay.specs.declared.ReplayFault.{ReplayFault}
-use Rattle.spawnrun_lib.specs.Device.{Writes}
+use Rattle.devices.specs.Device.{Writes}
 use Rattle.spawnrun_lib.specs.declared.status.Status.{Status}
 use Rattle.spawnrun_lib.specs.declared.status.Status.TheVariants.{Done, Refused}
 

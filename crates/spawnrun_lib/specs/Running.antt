@@ -11,7 +11,7 @@ use Rattle.ent_script_run.specs.Given.{handles_in_run}
 use Rattle.ent_script_run.specs.Report.{Execution, IsReport, IsReportOf}
 use Rattle.ent_script_run.specs.SameReport.{IsWithoutHandles, HasEnoughSlots, TellsNoRefusal}
 use Rattle.ent_script_run.specs.ScriptAlone.{text_alone}
-use Rattle.spawnrun_lib.specs.Device.{Writes}
+use Rattle.devices.specs.Device.{Writes}
 use Rattle.spawnrun_lib.specs.Replay.{input_limit, size_line}
 use Rattle.spawnrun_lib.specs.declared.status.Status.{Status}
 use Rattle.spawnrun_lib.specs.declared.status.Status.TheVariants.{Done, Refused}

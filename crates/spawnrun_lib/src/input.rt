@@ -2,10 +2,10 @@
 ghost use Rattle.std.specs.Prelude.{◌≡◌, ◌≢◌, ◌+◌, ◌<◌, ◌≤◌, length, vec_len, Err, IfOk, OnOk};
 ghost use Rattle.std.specs.Prelude.{IfSome};
 ghost use Rattle.std.specs.Io.KnownBytes.{Consumes, IsAtEnd};
-ghost use Rattle.spawnrun_lib.specs.Device.{Takes, TakesAtMost};
+ghost use Rattle.devices.specs.Device.{Takes, TakesAtMost};
 ghost use Rattle.spawnrun_lib.specs.declared.input.InputFault.TheVariants.{TooLong, Memory, Device};
 
-use crate::device::{Failed, Source};
+use devices::{Failed, Source};
 use std::alloc::{AllocError, Global};
 
 /// The longest input that the program reads, in bytes.

@@ -6,7 +6,6 @@
 //! memory.
 #![tactic(auto)]
 
-mod device;
 mod input;
 mod output;
 mod program;
@@ -16,7 +15,7 @@ mod starting;
 mod status;
 mod task;
 
-pub use device::{Counted, Failed, Sink, Source};
+pub use devices::{Counted, Failed, Sink, Source};
 pub use input::{INPUT_LIMIT, InputFault, read_all};
 pub use program::{execute, refuse_words};
 pub use replaying::replay;

@@ -3,8 +3,8 @@ ghost use Rattle.std.specs.Prelude.{◌≡◌, ◌≢◌, ◌+◌, ◌⊎◌, �
 ghost use Rattle.std.specs.Io.KnownBytes.{Appends};
 ghost use Rattle.spawnrun_lib.specs.Replay.{size_line};
 
-use crate::device::{Failed, Sink};
 use crate::status::Status;
+use devices::{Failed, Sink};
 use ent_handle::Memory;
 use std::alloc::Global;
 

@@ -7,16 +7,16 @@ ghost use Rattle.std.specs.IoError.{error_kind};
 ghost use Rattle.std.specs.Io.KnownBytes.{Appends};
 ghost use Rattle.clap.specs.Words.{fault_of, takes};
 ghost use Rattle.spawnrun_lib.specs.CommandLine.{IsFaulty, program};
-ghost use Rattle.spawnrun_lib.specs.Device.{OneFails, Takes, TakesAtMost};
+ghost use Rattle.devices.specs.Device.{OneFails, Takes, TakesAtMost};
 ghost use Rattle.spawnrun_lib.specs.Replay.{input_limit};
 ghost use Rattle.spawnrun_lib.specs.Status.{exit_number, said, words_status};
 ghost use Rattle.spawnrun_lib.specs.Program.{AsksTo, HasAdvised, HasDone};
 
-use crate::device::{Sink, Source};
 use crate::replaying::replay;
 use crate::running::run;
 use crate::status::Status;
 use crate::task::{LineFault, Task, command_line};
+use devices::{Sink, Source};
 use std::alloc::{AllocError, Global};
 use std::convert::AsStr;
 use std::io;

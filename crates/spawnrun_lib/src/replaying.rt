@@ -2,13 +2,13 @@
 ghost use Rattle.std.specs.Prelude.{◌≡◌, ◌≢◌, ◌+◌, min, length, All, Err, IfOk, IfSome};
 ghost use Rattle.ent_replay.specs.Schedule.{outcomes_of, starting};
 ghost use Rattle.spawnrun_lib.specs.Advice.{AdvisesOnSchedule};
-ghost use Rattle.spawnrun_lib.specs.Device.{Takes, TakesAtMost, OneFails, Writes};
+ghost use Rattle.devices.specs.Device.{Takes, TakesAtMost, OneFails, Writes};
 ghost use Rattle.spawnrun_lib.specs.Replay.{HasReplayed, input_limit, outcome_lines, refused_line};
 
-use crate::device::{Sink, Source};
 use crate::input::{INPUT_LIMIT, InputFault, read_all};
 use crate::output::{refuse, size_line, write};
 use crate::status::Status;
+use devices::{Sink, Source};
 use ent_alloc::Limits;
 use ent_handle::Memory;
 use ent_replay::{

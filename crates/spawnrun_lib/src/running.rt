@@ -2,14 +2,14 @@
 ghost use Rattle.std.specs.Prelude.{◌≡◌, ◌≢◌, ◌+◌, ◌<◌, ◌≤◌, min, length, IfOk, IfSome, OnOk};
 ghost use Rattle.ent_script.specs.Refusal.{refusal_line};
 ghost use Rattle.spawnrun_lib.specs.Advice.{AdvisesOnScript};
-ghost use Rattle.spawnrun_lib.specs.Device.{Takes, TakesAtMost, OneFails, Writes};
+ghost use Rattle.devices.specs.Device.{Takes, TakesAtMost, OneFails, Writes};
 ghost use Rattle.spawnrun_lib.specs.Replay.{input_limit};
 ghost use Rattle.spawnrun_lib.specs.Running.{HasRunScript};
 
-use crate::device::{Sink, Source};
 use crate::input::{INPUT_LIMIT, InputFault, read_all};
 use crate::output::{refuse, size_line, write};
 use crate::status::Status;
+use devices::{Sink, Source};
 use ent_handle::Memory;
 use ent_script::{ReadFault, read_script, write_refusal};
 use ent_script_report::Show;

@@ -1,8 +1,8 @@
 //! The program on the words that it was started with.
 ghost use Rattle.std.specs.Prelude.{◌≤◌};
 
-use crate::device::Counted;
 use crate::program::{execute, refuse_words};
+use devices::Counted;
 use std::env::Env;
 use std::io::{Read, Write};
 use std::thread::Threads;

@@ -1,7 +1,7 @@
-//! Tests of what no clause of `ent_trace`, of the script crates and of `spawnrun_lib` says and no run
-//! of the program shows, in a crate of their own, so that each library is proved once: devices that
-//! fail, memory that is refused, and values of single calls. What a run shows is a case of the
-//! program (`crates/spawnrun/cases`).
+//! Tests of what no clause of the script crates and of `spawnrun_lib` says and no run of the program
+//! shows, in a crate of their own, so that each library is proved once: devices that fail, memory
+//! that is refused, and values of single calls. What a run shows is a case of the program
+//! (`crates/spawnrun/cases`).
 #![tactic(auto)]
 
 #[cfg(test)]
@@ -20,7 +20,5 @@ mod report_memory;
 mod script;
 #[cfg(test)]
 mod script_memory;
-#[cfg(test)]
-mod tracing;
 #[cfg(test)]
 mod words;

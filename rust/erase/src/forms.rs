@@ -230,7 +230,7 @@ pub static PACKAGE: Forms = Forms {
 const MODULES: &[Module] = &[
     module("atomic_table", "crate::kit::atomic_table", TABLE),
     module("either", "crate::kit::either", &["Either", "Left", "Right"]),
-    module("itoa", "crate::kit::itoa", &["Buffer"]),
+    module("itoa", "crate::kit::itoa", &["Buffer", "Integer"]),
     module("smallvec", "crate::kit::smallvec", &["SmallVec"]),
     module(
         "std::alloc",
@@ -238,7 +238,11 @@ const MODULES: &[Module] = &[
         &["AllocError", "AllocFailed", "Global"],
     ),
     module("std::cmp", "core::cmp", &["Ordering", "Reverse"]),
-    module("std::collections", "alloc::collections", &["LinkedList"]),
+    module(
+        "std::collections",
+        "crate::kit::collections",
+        &["BTreeMap", "LinkedList"],
+    ),
     module("std::error", "core::error", &["Error"]),
     module(
         "std::fmt",
@@ -296,6 +300,7 @@ const METHODS: &[&str] = &[
     "close_with",
     "cmp",
     "contains",
+    "copied",
     "count",
     "enumerate",
     "extend_from_slice",
@@ -347,6 +352,7 @@ const METHODS: &[&str] = &[
     "saturating_mul",
     "saturating_sub",
     "size_hint",
+    "sort_by_cached_key",
     "sort_by_key",
     "sort_unstable",
     "split_at",
@@ -361,6 +367,7 @@ const METHODS: &[&str] = &[
     "to_le_bytes",
     "truncate",
     "unwrap",
+    "unwrap_or",
     "word",
     "write_str",
     "zip",
@@ -369,6 +376,7 @@ const METHODS: &[&str] = &[
 const ASSOCIATED: &[Associated] = &[
     ("Arc", &["new", "ptr_eq", "try_clone", "try_unwrap"]),
     ("Table", &["of_words"]),
+    ("BTreeMap", &["new"]),
     ("Badge", &["blank"]),
     ("Buffer", &["new"]),
     ("NonZeroU32", &["new"]),

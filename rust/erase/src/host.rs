@@ -33,7 +33,6 @@ const fn import(name: &'static str, path: &'static str) -> Import {
 
 const MODULES: &[Module] = &[
     module("anyhow", "crate::host::anyhow", &["Result", "ensure"]),
-    module("itoa", "crate::host::itoa", &["Buffer", "Integer"]),
     module(
         "std::collections",
         "crate::host::collections",
@@ -88,7 +87,6 @@ const METHODS: &[&str] = &[
     "as_str",
     "bytes",
     "checked_rem",
-    "copied",
     "div_ceil",
     "ends_with",
     "eq",
@@ -110,7 +108,6 @@ const METHODS: &[&str] = &[
     "trim",
     "step_by",
     "store",
-    "unwrap_or",
     "wrapping_add",
     "wrapping_mul",
     "wrapping_sub",
@@ -120,7 +117,6 @@ const METHODS: &[&str] = &[
 const ASSOCIATED: &[Associated] = &[
     ("AtomicBool", &["new"]),
     ("AtomicU32", &["new"]),
-    ("BTreeMap", &["new"]),
     ("Fail", &["new"]),
     ("HashMap", &["new"]),
     ("Ordering", &["Equal", "Greater", "Less", "SeqCst"]),

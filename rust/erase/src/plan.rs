@@ -14,7 +14,7 @@ use std::fs;
 use std::path::{Path, PathBuf};
 
 /// The crates that the package's face calls. They are erased with all that they stand on.
-const TOPS: &[&str] = &["ent_map", "ent_runner", "ent_total"];
+const TOPS: &[&str] = &["ent_map", "ent_runner", "ent_total", "ent_trace"];
 
 /// The tests of those crates, and what tests alone use.
 const TESTS: &[&str] = &["cases", "ent_lower_tests", "ent_upper_tests"];

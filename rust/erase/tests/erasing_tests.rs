@@ -79,7 +79,7 @@ fn paths_of_the_host() {
     gives(
         "use itoa::{Buffer, Integer};\nuse std::process::Abort;\nuse std::thread::{Threads, join_mut, map_vec};\n\
          use std::thread;\n\nfn a(b: String) {\n    thread::yield_now();\n}\n",
-        "use crate::host::string::String;\nuse crate::host::itoa::{Buffer, Integer};\n\
+        "use crate::host::string::String;\nuse crate::kit::itoa::{Buffer, Integer};\n\
          use crate::host::rt::Abort;\nuse crate::host::thread::{Threads, join_mut, map_vec};\n\
          use crate::host::thread;\n\n#[inline]\nfn a(b: String) {\n    thread::yield_now();\n}\n",
     );

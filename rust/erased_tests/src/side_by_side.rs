@@ -5,9 +5,9 @@
 
 use crate::kit::alloc::Global;
 use crate::kit::vec::Vec;
-use crate::made::ent_replay::{read_schedule, write_outcome, Event, Machine, Outcome, ReadFault};
 use crate::proved::ent_alloc::Limits;
 use crate::proved::ent_handle::Handle;
+use crate::proved::ent_replay::{read_schedule, write_outcome, Event, Machine, Outcome, ReadFault};
 use std::ffi::OsString;
 use std::io::Write;
 use std::process::{Command, Stdio};

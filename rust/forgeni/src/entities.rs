@@ -29,11 +29,19 @@ pub enum State {
 
 impl State {
     #[inline]
-    fn of(proved: ent_alloc::State) -> Self {
+    pub(crate) fn of(proved: ent_alloc::State) -> Self {
         match proved {
             ent_alloc::State::Alive => Self::Alive,
             ent_alloc::State::Reserved => Self::Reserved,
             ent_alloc::State::Gone => Self::Gone,
+        }
+    }
+
+    pub(crate) const fn proved(self) -> ent_alloc::State {
+        match self {
+            Self::Alive => ent_alloc::State::Alive,
+            Self::Reserved => ent_alloc::State::Reserved,
+            Self::Gone => ent_alloc::State::Gone,
         }
     }
 }

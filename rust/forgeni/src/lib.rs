@@ -83,6 +83,11 @@
 //! systems. Who has threads of its own uses [`World::open`], [`Commands`], [`OpenWorld::close`] and
 //! [`World::apply`].
 //!
+//! # An allocator of your own
+//!
+//! A [`trace::Checker`] is fed what another allocator was asked and what it answered, and says where its
+//! answers aren't those of the proved one. Reservations of threads may be handed in in any order.
+//!
 //! # What may go wrong
 //!
 //! Each error goes by `?` into a `Box<dyn Error + Send + Sync>`. One that hands something back has it
@@ -115,6 +120,10 @@
 //! - [`Report::born`], [`Report::faults`], [`Storage::items`] and [`World::items`] make a list.
 //! - [`Entities::share`], [`Entities::phase`] and [`World::open`] make an `Arc`. They ask for as much memory before, and
 //!   say so if it is refused. So only another thread can take it in between.
+//! - Handles of a slice or an array become an answer of a [`trace::Call`], or a [`trace::Checker`]
+//!   returns an error, which it copies.
+//! - A [`trace::Checker`] notes the first reservation of a caller in a run. It asks for as much memory
+//!   before, as for an `Arc`.
 //! - A [`HandleMap`] is cloned, extended, collected, or used up by an iterator. `Reservers::into_inner`
 //!   makes a list.
 //! - A close after one that was refused with [`CloseError::InUse`] may make a list.
@@ -181,6 +190,7 @@ mod sync;
 mod system;
 #[cfg(feature = "std")]
 mod system_commands;
+pub mod trace;
 #[cfg(feature = "std")]
 mod view;
 mod world;

@@ -58,7 +58,7 @@ impl Storage {
     ///
     /// `Present` or `Memory`, and then nothing has changed.
     #[doc = include_str!("proved/ent_storage/storage.born.md")]
-    #[inline]
+    #[inline(always)]
     pub fn born(&mut self, handle: Handle, birth: Birth) -> Result<(), BornError> {
         Ok(self.proved.born(handle.proved(), birth)?)
     }

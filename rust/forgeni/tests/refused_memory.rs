@@ -7,11 +7,12 @@ mod common;
 mod refusing;
 
 use common::handle;
+use forgeni::trace::{Call, CheckError, Checker, FreeReply, Log, Reservation};
 use forgeni::{
     run_frame, AllocError, Birth, BornError, CommandQueue, Commands, ComponentId, Entities, Fault,
     FinishError, FrameError, FreeError, GoOnError, Handle, HandleMap, InsertError, InsertionError,
-    OpenError, OpenWorld, OutOfMemory, Queues, Refused, Report, RequestManyError, ShareError,
-    SpawnError, State, Storage, SyncError, SystemCommands, View, World,
+    Limits, OpenError, OpenWorld, OutOfMemory, Queues, Refused, Report, RequestManyError,
+    ShareError, SpawnError, State, Storage, SyncError, SystemCommands, View, World,
 };
 use refusing::{refusing, Refusal};
 
@@ -351,6 +352,63 @@ fn calls_of_a_map() {
         let (capacity, also) = insist(refusal, OutOfMemory, with_capacity);
         assert!(capacity >= 1000);
         refused + also
+    });
+}
+
+/// Two entities lived, and one of them still does. Then three callers reserved.
+fn traced() -> Vec<Call> {
+    let mut calls = vec![
+        Call::Alloc(handle(0, 1).into()),
+        Call::Alloc(handle(1, 1).into()),
+        Call::Free(handle(0, 1), FreeReply::Freed),
+        Call::Reserve(Reservation::new(2, 1, handle(0, 2))),
+    ];
+    for index in 2..32 {
+        let caller = index % 3;
+        let one = Reservation::new(caller, 1, handle(index, 1));
+        calls.push(Call::Reserve(one));
+    }
+    let born = (2..32).map(|index| handle(index, 1)).chain([handle(0, 2)]);
+    calls.push(Call::Flush(born.collect::<Vec<Handle>>().into()));
+    calls.push(Call::Len(32));
+    calls
+}
+
+/// After memory ran out, a checker takes no more calls: what it would say of them isn't known.
+#[test]
+fn calls_of_a_checker() {
+    each_block_in_turn(|refusal| {
+        let (mut checker, calls) = (Checker::new(Limits::GREATEST), traced());
+        let run = [0, 1].map(|caller| Reservation::new(caller, 1, handle(33 - caller, 1)));
+        let (checked, refused) = refusing(refusal, || {
+            calls.into_iter().try_for_each(|call| checker.call(call))?;
+            checker.run(&run)
+        });
+        if checked == Err(CheckError::Memory) {
+            assert!(refused > 0, "nothing was refused");
+            assert_eq!(checker.len(32), checked);
+            assert_eq!(checker.run(&run), checked);
+        } else {
+            assert_eq!((checked, refused), (Ok(()), 0));
+            checker.finish().expect("it agrees");
+        }
+        refused
+    });
+}
+
+/// What a log was refused memory for isn't in it.
+#[test]
+fn calls_of_a_log() {
+    each_in_turn(|refusal| {
+        let mut log = Log::new(3);
+        let given: Vec<Vec<Handle>> = (0..9).map(|index| vec![handle(index, 1)]).collect();
+        let (pushed, refused) = refusing(refusal, || {
+            let push = |given| usize::from(log.push(1, given).is_ok());
+            given.into_iter().map(push).sum::<usize>()
+        });
+        assert_eq!(pushed, log.reservations().len());
+        assert_eq!(pushed < 9, refused > 0);
+        refused
     });
 }
 

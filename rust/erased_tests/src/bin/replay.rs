@@ -10,29 +10,10 @@ mod kit;
 #[path = "../../../forgeni/src/proved/mod.rs"]
 mod proved;
 
-#[rustfmt::skip]
-#[path = "../made/ent_replay/mod.rs"]
-#[allow(dead_code, unused_imports, unused_variables, clippy::all)]
-mod ent_replay;
-#[path = "../host/collections.rs"]
-#[allow(dead_code)]
-mod collections;
-#[path = "../host/itoa.rs"]
-#[allow(dead_code)]
-mod itoa;
-
-// The places that the erased sources name.
-mod host {
-    pub(crate) use crate::{collections, itoa};
-}
-mod made {
-    pub(crate) use crate::ent_replay;
-}
-
-use ent_replay::{read_schedule, write_outcome, Machine};
 use kit::alloc::Global;
 use kit::vec::Vec as List;
 use proved::ent_alloc::Limits;
+use proved::ent_replay::{read_schedule, write_outcome, Machine};
 use std::error::Error;
 use std::io::{self, Read, Write};
 

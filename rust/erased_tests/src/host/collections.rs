@@ -1,35 +1,10 @@
 //! The kit's maps: each call that may grow one returns a `Result`.
 
+pub use crate::kit::collections::BTreeMap;
+
 use crate::kit::alloc::{AllocError, Global};
 use std::hash::Hash;
-use std::ops::{Deref, DerefMut};
-
-/// A map by rising key.
-pub struct BTreeMap<K, V>(std::collections::BTreeMap<K, V>);
-
-impl<K: Ord, V> BTreeMap<K, V> {
-    pub fn new(_alloc: Global) -> Self {
-        BTreeMap(std::collections::BTreeMap::new())
-    }
-
-    pub fn insert(&mut self, key: K, value: V) -> Result<Option<V>, AllocError> {
-        Ok(self.0.insert(key, value))
-    }
-}
-
-impl<K, V> Deref for BTreeMap<K, V> {
-    type Target = std::collections::BTreeMap<K, V>;
-
-    fn deref(&self) -> &Self::Target {
-        &self.0
-    }
-}
-
-impl<K, V> DerefMut for BTreeMap<K, V> {
-    fn deref_mut(&mut self) -> &mut Self::Target {
-        &mut self.0
-    }
-}
+use std::ops::Deref;
 
 /// A map by hash.
 pub struct HashMap<K, V>(std::collections::HashMap<K, V>);

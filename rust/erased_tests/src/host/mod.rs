@@ -4,7 +4,6 @@ pub mod anyhow;
 pub mod collections;
 pub mod env;
 pub mod fs;
-pub mod itoa;
 pub mod rt;
 pub mod slice;
 pub mod string;

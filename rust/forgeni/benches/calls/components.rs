@@ -3,13 +3,13 @@
 use crate::entities::{READS, SCATTERED};
 use crate::plain::slot_map as plain;
 use crate::refusing::held;
-use crate::{line_of_rounds, peers, rounds, shift, timed, Places, Run};
+use crate::{line_of_rounds, peers, places, rounds, shift, timed, Places, Run};
 use forgeni::{Entities, Handle, HandleMap};
 use std::hint::black_box;
 use std::sync::atomic::{AtomicU32, Ordering};
 
 /// How many entities there are.
-const SIZES: [u32; 3] = [1_000, 100_000, 1_000_000];
+pub const SIZES: [u32; 3] = [1_000, 100_000, 1_000_000];
 
 /// How many a run goes through at least, again and again where there are fewer.
 const LEAST: u32 = 100_000;
@@ -17,13 +17,24 @@ const LEAST: u32 = 100_000;
 /// How many entities the run has that is timed now.
 static SIZE: AtomicU32 = AtomicU32::new(0);
 
-fn size() -> u32 {
+pub fn size() -> u32 {
     SIZE.load(Ordering::Relaxed)
 }
 
+/// Says how many entities the runs that follow have.
+pub fn set_size(size: u32) {
+    SIZE.store(size, Ordering::Relaxed);
+}
+
 /// How often a run goes through all.
-fn times() -> u32 {
+pub fn times() -> u32 {
     LEAST.div_ceil(size())
+}
+
+/// How often each place is timed: with the most entities a third as often.
+pub fn rounds_of_size() -> usize {
+    let part = if size() > LEAST { 3 } else { 1 };
+    rounds().div_ceil(part)
 }
 
 /// Who lives, and one component of each.
@@ -34,7 +45,11 @@ pub trait Side: Default {
     fn spawn(&mut self, value: i64) -> Self::Key;
     fn get(&self, key: Self::Key) -> Option<i64>;
     fn despawn(&mut self, key: Self::Key) -> bool;
-    /// The sum of all values, by a walk over them.
+}
+
+/// One whose values can be walked over.
+pub trait Walked: Side {
+    /// The sum of all values.
     fn sum(&self) -> i64;
 }
 
@@ -63,7 +78,9 @@ impl Side for Ours {
     fn despawn(&mut self, one: Handle) -> bool {
         self.entities.free(one).is_ok() && self.values.remove(one).is_some()
     }
+}
 
+impl Walked for Ours {
     #[inline(always)]
     fn sum(&self) -> i64 {
         self.values.values().sum()
@@ -95,7 +112,9 @@ impl Side for Plain {
     fn despawn(&mut self, key: plain::Key) -> bool {
         self.keys.remove(key) && self.values.remove(key).is_some()
     }
+}
 
+impl Walked for Plain {
     #[inline(always)]
     fn sum(&self) -> i64 {
         self.values.iter().map(|(_, value)| value).sum()
@@ -110,30 +129,24 @@ pub struct Components {
     bytes: fn() -> isize,
 }
 
-macro_rules! places_of {
-    ($work:ident, $side:ty, $($step:expr)?) => {
-        [
-            $work::<$side, $($step,)? 0>, $work::<$side, $($step,)? 1>,
-            $work::<$side, $($step,)? 2>, $work::<$side, $($step,)? 3>,
-            $work::<$side, $($step,)? 4>, $work::<$side, $($step,)? 5>,
-            $work::<$side, $($step,)? 6>, $work::<$side, $($step,)? 7>,
-        ]
-    };
-}
-
 impl Components {
-    pub const fn of<S: Side>() -> Self {
+    pub const fn of<S: Walked>() -> Self {
         Self {
-            lives: [places_of!(life, S, 1), places_of!(life, S, SCATTERED)],
-            reads: [places_of!(read, S, 1), places_of!(read, S, SCATTERED)],
-            walk: places_of!(walk, S,),
+            lives: lives::<S>(),
+            reads: [places!(read, S, 1), places!(read, S, SCATTERED)],
+            walk: places!(walk, S),
             bytes: bytes::<S>,
         }
     }
 }
 
+/// All are spawned, read and despawned, by rising spawns and by scattered ones.
+pub const fn lives<S: Side>() -> [Places; 2] {
+    [places!(life, S, 1), places!(life, S, SCATTERED)]
+}
+
 /// The numbers of all entities, each a step after the one before.
-fn by_step(step: u32) -> impl Iterator<Item = usize> {
+pub fn by_step(step: u32) -> impl Iterator<Item = usize> {
     let size = size();
     (0..size).scan(0, move |at, _| {
         let this = *at;
@@ -183,7 +196,7 @@ fn read<S: Side, const STEP: u32, const PLACE: usize>() -> Run {
     timed(|| (0..times()).map(|_| read_all(&side, &keys, STEP)).sum())
 }
 
-fn walk<S: Side, const PLACE: usize>() -> Run {
+fn walk<S: Walked, const PLACE: usize>() -> Run {
     shift::<PLACE>();
     let (side, _keys) = full::<S>();
     timed(|| {
@@ -230,7 +243,7 @@ pub fn tables() {
     println!("| Entities | Bytes an entity, here | Plain Rust | slotmap |");
     println!("|---|---|---|---|");
     for size in SIZES {
-        SIZE.store(size, Ordering::Relaxed);
+        set_size(size);
         let each = |bytes: fn() -> isize| format!("{:.1}", bytes() as f64 / f64::from(size));
         let peer = peer
             .as_ref()
@@ -244,16 +257,11 @@ pub fn tables() {
     }
 }
 
-/// A line of each size. The greatest one is timed a third as often.
+/// A line of each size.
 fn lines(name: &str, ours: Places, plain: Places, peer: Option<Places>) {
     for size in SIZES {
-        SIZE.store(size, Ordering::Relaxed);
-        let rounds = if size > LEAST {
-            rounds().div_ceil(3)
-        } else {
-            rounds()
-        };
+        set_size(size);
         let name = format!("{name} | {size}");
-        line_of_rounds(rounds, &name, size * times(), ours, plain, peer);
+        line_of_rounds(rounds_of_size(), &name, size * times(), ours, plain, peer);
     }
 }

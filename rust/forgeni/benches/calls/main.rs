@@ -7,6 +7,7 @@
 //! ratio of one place. `benches/run.sh` brings the crates slotmap and sharded-slab too, if they are
 //! installed.
 
+mod births;
 mod components;
 mod entities;
 mod frames;
@@ -38,12 +39,14 @@ struct Run {
 /// A work, once at each of its places.
 type Places = [fn() -> Run; 8];
 
-/// The places of a work: a function whose parameter `PLACE` moves its loop.
+/// The places of a work: a function whose last parameter, `PLACE`, moves its loop.
 macro_rules! places {
-    ($($work:ident)::+) => {
+    ($work:ident $(, $before:tt)*) => {
         [
-            $($work)::+::<0>, $($work)::+::<1>, $($work)::+::<2>, $($work)::+::<3>,
-            $($work)::+::<4>, $($work)::+::<5>, $($work)::+::<6>, $($work)::+::<7>,
+            $work::<$($before,)* 0>, $work::<$($before,)* 1>,
+            $work::<$($before,)* 2>, $work::<$($before,)* 3>,
+            $work::<$($before,)* 4>, $work::<$($before,)* 5>,
+            $work::<$($before,)* 6>, $work::<$($before,)* 7>,
         ]
     };
 }
@@ -68,6 +71,14 @@ fn main() {
         slots::lines();
         entities::lines();
         sync::lines();
+        println!();
+    }
+    if wanted("kinds") {
+        sync::table();
+        println!();
+    }
+    if wanted("births") {
+        births::table();
         println!();
     }
     if wanted("components") {
@@ -132,7 +143,22 @@ fn line_of_rounds(
         .into_iter()
         .flatten()
         .collect();
-    let times = times(rounds, name, &sides);
+    let each = cells(rounds, name, count, &sides);
+    match each.get(2) {
+        Some(peer) => println!(" {peer:.2} | {:.2} |", each[0] / peer),
+        None => println!(" | |"),
+    }
+}
+
+/// Prints a line without a slot map.
+fn line_of_two(rounds: usize, name: &str, count: u32, ours: Places, plain: Places) {
+    cells(rounds, name, count, &[ours, plain]);
+    println!();
+}
+
+/// Prints the cells of the first two sides, and hands back the nanoseconds a step of each side.
+fn cells(rounds: usize, name: &str, count: u32, sides: &[Places]) -> Vec<f64> {
+    let times = times(rounds, name, sides);
     let each: Vec<f64> = times
         .iter()
         .map(|places| median(places.clone()) * 1e9 / f64::from(count))
@@ -149,10 +175,7 @@ fn line_of_rounds(
         "| {name} | {ours:.2} | {plain:.2} | {:.2} | {least:.2} to {most:.2} |",
         ours / plain
     );
-    match each.get(2) {
-        Some(peer) => println!(" {peer:.2} | {:.2} |", ours / peer),
-        None => println!(" | |"),
-    }
+    each
 }
 
 /// The median of the seconds of each place of each side.

@@ -34,7 +34,7 @@ pub use slots::SLOTS;
 #[cfg(slotmap)]
 mod slots {
     use super::Slots;
-    use crate::components::{Components, Side};
+    use crate::components::{Components, Side, Walked};
     use crate::entities::{by_step, READS, SCATTERED};
     use crate::{places, shift, timed, Run, COUNT};
     use slotmap::{DefaultKey, Key, SecondaryMap, SlotMap};
@@ -75,7 +75,9 @@ mod slots {
         fn despawn(&mut self, key: DefaultKey) -> bool {
             self.keys.remove(key).is_some() && self.values.remove(key).is_some()
         }
+    }
 
+    impl Walked for Both {
         #[inline(always)]
         fn sum(&self) -> i64 {
             self.values.iter().map(|(_, value)| value).sum()

@@ -12,6 +12,7 @@
 
 pub mod alloc;
 pub mod atomic_table;
+pub mod collections;
 pub mod either;
 pub mod itoa;
 #[cfg(test)]

@@ -1,7 +1,8 @@
-//! A stable sort that asks for its memory first.
+//! Stable sorts that ask for their memory first.
 
 use super::alloc::{AllocError, Global};
 use super::vec::Vec;
+use core::mem;
 
 /// A list of at most this length is sorted in its place.
 const FEW: usize = 20;
@@ -67,10 +68,43 @@ fn insertion_sort<T: Copy, K: Ord>(items: &mut [T], key: &impl Fn(&T) -> K) {
     }
 }
 
+/// Sorts items that may not be copied by their keys, of which each is asked for once. Those of one key keep
+/// their order. After an `Err` no item has moved.
+pub(super) fn sort_in_cycles<T, K: Ord>(
+    items: &mut [T],
+    key: &impl Fn(&T) -> K,
+) -> Result<(), AllocError> {
+    let mut order = Vec::with_capacity(Global, items.len())?;
+    for (place, item) in items.iter().enumerate() {
+        order.push_reserved((key(item), place));
+    }
+    // No two of these are equal, so this keeps the order of one key. It asks for no memory.
+    order.sort_unstable();
+    arrange(items, &mut order);
+    Ok(())
+}
+
+/// Moves to each position the item whose place the order has there, one cycle after the other.
+fn arrange<T, K>(items: &mut [T], order: &mut [(K, usize)]) {
+    for first in 0..items.len() {
+        let mut to = first;
+        loop {
+            // A position that has its item has itself in the order.
+            let from = mem::replace(&mut order[to].1, to);
+            if from == first {
+                break;
+            }
+            items.swap(to, from);
+            to = from;
+        }
+    }
+}
+
 #[cfg(test)]
 mod tests {
     use super::super::refusing::refuse;
     use super::*;
+    use ::alloc::string::ToString;
 
     /// Pairs with few keys, and each with its first position.
     fn pairs(count: u32, keys: u32) -> ::alloc::vec::Vec<(u32, u32)> {
@@ -93,6 +127,46 @@ mod tests {
                 assert_eq!(ours, wanted, "{count} items with {keys} keys");
             }
         }
+    }
+
+    #[test]
+    fn what_is_not_copied_is_sorted_as_rust_does() {
+        for count in [0, 1, 2, 3, 20, 21, 1000] {
+            for keys in [1, 2, 7, 1000] {
+                let text = |pair: (u32, u32)| (pair.0, pair.1.to_string());
+                let texts = || pairs(count, keys).into_iter().map(text);
+                let mut ours: ::alloc::vec::Vec<_> = texts().collect();
+                let mut wanted: ::alloc::vec::Vec<_> = texts().collect();
+                wanted.sort_by_key(|pair| pair.0);
+                sort_in_cycles(&mut ours, &|pair| pair.0).expect("memory");
+                assert_eq!(ours, wanted, "{count} items with {keys} keys");
+            }
+        }
+    }
+
+    #[test]
+    fn lists_that_fall_or_were_moved_by_one() {
+        for count in [2, 3, 500_u32] {
+            let lists: [::alloc::vec::Vec<u32>; 3] = [
+                (0..count).rev().collect(),
+                (0..count).map(|key| (key + 1) % count).collect(),
+                (0..count).map(|key| (key + count - 1) % count).collect(),
+            ];
+            for mut list in lists {
+                sort_in_cycles(&mut list, &|key| *key).expect("memory");
+                assert!(list.into_iter().eq(0..count), "{count} items");
+            }
+        }
+    }
+
+    #[test]
+    fn a_refused_sort_in_cycles_moves_nothing_and_no_items_need_none() {
+        let mut items = pairs(5, 3);
+        let before = items.clone();
+        let refused = refuse(|| sort_in_cycles(&mut items, &|pair| pair.0));
+        assert_eq!((refused, items), (Err(AllocError), before));
+        let none: &mut [u32] = &mut [];
+        refuse(|| sort_in_cycles(none, &|key| *key)).expect("nothing is asked for");
     }
 
     #[test]

@@ -1,7 +1,7 @@
 //! The kit's `Vec`: each call that may grow it returns a `Result`.
 
 use super::alloc::{AllocError, AllocFailed, Global};
-use super::sorting::merge_sort;
+use super::sorting::{merge_sort, sort_in_cycles};
 use core::fmt;
 use core::ops::{Deref, DerefMut};
 use core::slice;
@@ -156,6 +156,12 @@ impl<T> Vec<T> {
         T: Copy,
     {
         merge_sort(&mut self.0, &key)
+    }
+
+    /// The contract: the items rise by their keys, and those of one key keep their order. All memory
+    /// is asked for before an item moves, and none for no items.
+    pub fn sort_by_cached_key<K: Ord>(&mut self, key: impl Fn(&T) -> K) -> Result<(), AllocError> {
+        sort_in_cycles(&mut self.0, &key)
     }
 }
 

@@ -12,6 +12,7 @@ pub fn small(slots: u32, generations: u32) -> Entities {
 }
 
 /// The allocator as its rules say it, for one caller, with no care for speed.
+#[derive(Clone, PartialEq)]
 pub struct Model {
     pub slots: u32,
     pub generations: u32,

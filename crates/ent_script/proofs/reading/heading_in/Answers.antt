@@ -1,7 +1,7 @@
-use Rattle.std.proofs.Common.{◌≡◌, ℕ, List, Some, Result, sym, subst, ap, ◌∙◌, rules}
+use Rattle.std.proofs.Common.{◌≡◌, ◌∙◌, ℕ, List, Some, Result, sym, subst, ap, rules, is_some, arith}
+use Rattle.std.proofs.Common.{true, false}
 use Rattle.std.specs.Prelude.{Err}
-use Rattle.json.specs.Lex.{tokens}
-use Rattle.json.specs.Token.{Token}
+use Rattle.json.specs.Reads.{token_of}
 use Rattle.json.specs.Json.{value}
 use Rattle.serde_json.specs.Data.{Data}
 use Rattle.serde_json.specs.Read.{of_json, converted, read}
@@ -13,31 +13,52 @@ use Rattle.ent_script.specs.declared.heading.Heading.{Heading}
 use Rattle.ent_script.specs.declared.read_fault.ReadFault.{ReadFault}
 use Rattle.ent_script.specs.declared.read_fault.ReadFault.TheVariants.{Script}
 use Rattle.ent_script.proofs.CutMeanings.{heading_of-cut}
-use Rattle.ent_script.proofs.Finding.{whole_text, first_of}
+use Rattle.ent_script.proofs.Headings.{headed, refused, longer, whole, reads_fault}
 use Rattle.ent_script.proofs.reading.heading_in.Goals as goal
 
-meant : (text : List ℕ) (ts left : List Token) (d was : Data) (v : Value) → read text ≡ Some d → ts
-    ≡ tokens text
-    → converted of_json (value 127 ts) ≡ Some (was, left) → view v ≡ cut 1 was → heading_of (view v)
-    ≡ heading_of d
-meant text ts left d was v e is found seen =
-    let both = sym found ∙ ap (λ x. converted of_json (value 127 x)) is ∙ whole_text text d e in
-    let same : was ≡ d = ap (first_of was) both in
-    ap heading_of seen ∙ heading_of-cut was ∙ ap heading_of same
+pub returns-in_err-value : goal.returns-in_err-value
+returns-in_err-value c =
+    let fault = c.in_err-value.field-0.0 in
+    let is : c.from_residual-in_err-value.result ≡ Err fault = search rules in
+    subst (λ (r : Result Heading ReadFault). ReadsAs r (headed (read c.args.text.now))) (sym is)
+    (reads_fault fault c.args.text.now c.in_err-value.ensures.kind
+    (λ same. refused c.args.text.now
+    (ap (λ ts. converted of_json (value 127 ts)) (sym c.in_ok-reader.ensures.ok)
+    ∙ c.in_err-value.ensures.json (ap (λ (f : ReadFault). Err f) same))))
+
+pub returns-then-is_some : goal.returns-then-is_some
+returns-then-is_some c =
+    let was = c.in_ok-value.ensures.ok in
+    let some : is_some c.next.result ≡ true = grind arith in
+    ap headed
+    (longer c.next.result (λ t. token_of t) c.args.text.now was.0 c.read_cut.new.reader
+    c.next.new.self some c.next.ensures.value
+    (ap (λ ts. converted of_json (value 127 ts)) (sym c.in_ok-reader.ensures.ok) ∙ was.1))
+
+meant : (text : List ℕ) (was : Data) (v : Value) → read text ≡ Some was → view v ≡ cut 1 was
+    → headed (read text) ≡ in_script (heading_of (view v))
+meant text was v is seen =
+    ap headed is ∙ ap (in_script {A = Heading}) (sym (heading_of-cut was) ∙ ap heading_of (sym seen))
 
 pub returns-in_err-heading : goal.returns-in_err-heading
-returns-in_err-heading c d e =
+returns-in_err-heading c =
     let was = c.in_ok-value.ensures.ok in
-    let means = meant c.args.text.now _ _ d was.0 c.in_ok-value.value e c.in_ok-reader.ensures.ok
-    was.1 was.2 in
+    let none : is_some c.next.result ≡ false = grind arith in
+    let is = whole c.next.result (λ t. token_of t) c.args.text.now was.0 c.read_cut.new.reader
+    c.next.new.self none c.next.ensures.value
+    (ap (λ ts. converted of_json (value 127 ts)) (sym c.in_ok-reader.ensures.ok) ∙ was.1) in
     let cause = c.in_err-heading.field-0.0 in
-    let is : c.from_residual-in_err-heading.result ≡ Err (Script cause) = search rules in
-    subst (λ (r : Result Heading ReadFault). ReadsAs r (in_script (heading_of d))) (sym is)
-    (ap (in_script {A = Heading}) (sym means ∙ sym c.in_err-heading.ensures))
+    let result : c.from_residual-in_err-heading.result ≡ Err (Script cause) = search rules in
+    subst (λ (r : Result Heading ReadFault). ReadsAs r (headed (read c.args.text.now))) (sym result)
+    (meant c.args.text.now was.0 c.in_ok-value.value is was.2
+    ∙ ap (in_script {A = Heading}) (sym c.in_err-heading.ensures))
 
 pub returns : goal.returns
-returns c d e =
+returns c =
     let was = c.in_ok-value.ensures.ok in
-    let means = meant c.args.text.now _ _ d was.0 c.in_ok-value.value e c.in_ok-reader.ensures.ok
-    was.1 was.2 in
-    ap (in_script {A = Heading}) (sym means ∙ sym c.in_ok-heading.ensures)
+    let none : is_some c.next.result ≡ false = grind arith in
+    let is = whole c.next.result (λ t. token_of t) c.args.text.now was.0 c.read_cut.new.reader
+    c.next.new.self none c.next.ensures.value
+    (ap (λ ts. converted of_json (value 127 ts)) (sym c.in_ok-reader.ensures.ok) ∙ was.1) in
+    meant c.args.text.now was.0 c.in_ok-value.value is was.2
+    ∙ ap (in_script {A = Heading}) (sym c.in_ok-heading.ensures)

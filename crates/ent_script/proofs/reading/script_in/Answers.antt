@@ -47,8 +47,7 @@ same_names c d e =
     ∙ c.in_ok-components_in.ensures.found d e)
 
 pub returns-in_err-values : goal.returns-in_err-values
-returns-in_err-values c d e =
-    let said = c.in_ok-heading.ensures d e in
+returns-in_err-values c d e said =
     let none : None ≡ option_map (map (cut 0)) (option_and_then (at_most 256) (Part d)) =
     sym
     (ap
@@ -57,44 +56,41 @@ returns-in_err-values c d e =
     c.in_ok-components_in.ensures.found d e in
     let is : c.from_residual-in_err-values.result ≡ Err (Script Components) = search rules in
     subst (λ (r : Result Whole ReadFault). ReadsAs r (script_of d)) (sym is)
-    (names_refused d c.in_ok-heading.heading (Script Components) said (no_names (Part d) none))
+    (names_refused d c.args.heading (Script Components) said (no_names (Part d) none))
 
 pub returns-in_err-components : goal.returns-in_err-components
-returns-in_err-components c d e =
-    let said = c.in_ok-heading.ensures d e in
+returns-in_err-components c d e said =
     let same = same_names (goal.at.returns-in_err-components c).After-deref d e in
     let fault = c.in_err-components.field-0.0 in
     let is : c.from_residual-in_err-components.result ≡ Err fault = search rules in
     returned fault c.from_residual-in_err-components.result (script_of d) is
     (passes_on fault (in_script (numbered (component_at (map view c.deref.result.now)) 0
     (map view c.deref.result.now))) (script_of d) c.in_err-components.ensures.names
-    (λ means. names_refused d c.in_ok-heading.heading fault said (sym same ∙ means)))
+    (λ means. names_refused d c.args.heading fault said (sym same ∙ means)))
 
 pub returns-in_err-frames : goal.returns-in_err-frames
-returns-in_err-frames c d e =
-    let said = c.in_ok-heading.ensures d e in
+returns-in_err-frames c d e said =
     let names = c.in_ok-components.components in
     let same = same_names (goal.at.returns-in_err-frames c).After-deref d e in
     let fault = c.in_err-frames.field-0.0 in
     let is : c.from_residual-in_err-frames.result ≡ Err fault = search rules in
     returned fault c.from_residual-in_err-frames.result (script_of d) is
-    (passes_from_list fault (frames_of c.in_ok-heading.heading.format names (get (codes "frames") d))
+    (passes_from_list fault (frames_of c.args.heading.format names (get (codes "frames") d))
     (script_of d) (c.in_err-frames.ensures d e)
-    (λ means. script_is d c.in_ok-heading.heading names said
+    (λ means. script_is d c.args.heading names said
     (sym same ∙ c.in_ok-components.ensures.names)
     ∙ ap
     (λ (r : Result (List (List (List Operation))) ReadFault). r >>= λ frames. all_of
-    c.in_ok-heading.heading names frames) means))
+    c.args.heading names frames) means))
 
 pub returns : goal.returns
-returns c d e =
-    let said = c.in_ok-heading.ensures d e in
+returns c d e said =
     let names = c.in_ok-components.components in
     let same = same_names (goal.at.returns c).After-deref d e in
-    script_is d c.in_ok-heading.heading names said (sym same ∙ c.in_ok-components.ensures.names)
+    script_is d c.args.heading names said (sym same ∙ c.in_ok-components.ensures.names)
     ∙ ap
     (λ (r : Result (List (List (List Operation))) ReadFault). r >>= λ frames. all_of
-    c.in_ok-heading.heading names frames) (c.in_ok-frames.ensures d e)
-    ∙ ap (λ (cs : List (List ℕ)). all_of c.in_ok-heading.heading cs c.in_ok-frames.frames.items)
+    c.args.heading names frames) (c.in_ok-frames.ensures d e)
+    ∙ ap (λ (cs : List (List ℕ)). all_of c.args.heading cs c.in_ok-frames.frames.items)
     (sym (c.in_ok-names.ensures.ok ∙ c.as_slice.ensures))
     ∙ ap (λ (s : Whole). done s) (sym c.new.ensures)

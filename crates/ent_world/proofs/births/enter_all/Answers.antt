@@ -25,9 +25,10 @@ loop-handle-preserved c =
     let new = subst (λ hs. AreNew hs before.entities) next c.loop-handle.invariant.new in
     let room : length rest + 1 ≤ before.spare =
     omega (arith, c.loop-handle.invariant.room, ap length next) in
-    let done = has_entered before c.born.new.self h c.first_birth-birth.result c.born.result new.0
-    (omega (arith, room)) c.born.ensures.ok c.born.ensures.spare c.born.ensures.places
-    c.born.ensures.present c.born.ensures.memory_without_room c.born.ensures.never_absent in
+    let done = has_entered before c.born_within.new.self h c.first_birth-birth.result
+    c.born_within.result new.0 c.born_within.ensures.ok c.born_within.ensures.spare
+    c.born_within.ensures.places c.born_within.ensures.present
+    c.born_within.ensures.only_present in
     record {
       new = subst (AreNew rest) (sym done.entities)
           (new_later h (newborn c.first_birth-birth.result) rest before.entities new.1 new.2);

@@ -2,7 +2,7 @@
 
 //! What one worker has claimed. Contracts speak of it, and no value of it is ever made.
 
-use alloc::collections::LinkedList;
+use crate::kit::collections::LinkedList;
 
 /// One claimer's record.
 pub struct ClaimRecord {

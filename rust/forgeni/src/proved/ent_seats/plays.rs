@@ -3,7 +3,7 @@
 //! What a seat knows, and what a step makes of it.
 
 use crate::kit::atomic_table::{Join, Play, Split};
-use alloc::collections::LinkedList;
+use crate::kit::collections::LinkedList;
 
 /// What a seat knows: the records of those that it stands for. No value of it is ever made.
 pub type SeatRecords<R> = LinkedList<R>;

@@ -4,7 +4,7 @@
 
 use crate::proved::ent_alloc::{Entities, Space};
 use crate::proved::ent_handle::Handle;
-use alloc::collections::LinkedList;
+use crate::kit::collections::LinkedList;
 
 /// The allocator as it was shared, without the rows that a program keeps beside its state: what a
 /// caller does has nothing to do with them, so its record says nothing of them.

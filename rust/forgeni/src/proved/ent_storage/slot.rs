@@ -1,19 +1,19 @@
 // Made of crates/ent_storage/src/slot.rt by rust/erase. It isn't edited by hand.
 
+use super::key::Key;
 use crate::proved::ent_handle::Handle;
-use crate::proved::ent_sorted::search;
 
 /// The position of the handle, or the position where it would go. It is looked for at its slot's
 /// number first, and only then by a binary search.
 #[inline(always)]
-pub fn search_slot(pairs: &[(Handle, u32)], handle: Handle) -> Result<usize, usize>
+pub fn search_slot(pairs: &[(Key, u32)], handle: Handle) -> Result<usize, usize>
     // requires { T (is_sorted handle_cmp pairs.now) }
     // ensures found { IfOk result (IsAt handle_cmp pairs.now handle) }
     // ensures absent { IfErr result (IsGapFor handle_cmp pairs.now handle) }
 {
     let slot = handle.index() as usize;
     if slot < pairs.len() {
-        if pairs[slot].0 == handle {
+        if pairs[slot].0.handle() == handle {
             return Ok(slot);
         }
         // The next occupant of the slot goes behind the pair that stands there.
@@ -27,9 +27,32 @@ pub fn search_slot(pairs: &[(Handle, u32)], handle: Handle) -> Result<usize, usi
     search(pairs, handle)
 }
 
+/// The position of the handle, or the position where it would go, by a binary search.
+#[inline]
+fn search(pairs: &[(Key, u32)], handle: Handle) -> Result<usize, usize>
+    // requires { T (is_sorted handle_cmp pairs.now) }
+    // ensures found { IfOk result (IsAt handle_cmp pairs.now handle) }
+    // ensures absent { IfErr result (IsGapFor handle_cmp pairs.now handle) }
+{
+    pairs.binary_search_by_key(&handle, |pair| pair.0.handle())
+}
+
+/// The slot's number, if the handle stands there.
+#[inline(always)]
+pub fn at_slot(pairs: &[(Key, u32)], handle: Handle) -> Option<usize>
+    // ensures { IfSome result (IsAt handle_cmp pairs.now handle) }
+{
+    let slot = handle.index() as usize;
+    if slot < pairs.len() && pairs[slot].0.handle() == handle {
+        Some(slot)
+    } else {
+        None
+    }
+}
+
 /// Whether the handle would go to that position.
 #[inline(always)]
-fn is_gap(pairs: &[(Handle, u32)], position: usize, handle: Handle) -> bool
+pub fn is_gap(pairs: &[(Key, u32)], position: usize, handle: Handle) -> bool
     // requires { T (is_sorted handle_cmp pairs.now) }
     // ensures { IsTrue result → IsGapFor handle_cmp pairs.now handle position }
 {
@@ -41,21 +64,21 @@ fn is_gap(pairs: &[(Handle, u32)], position: usize, handle: Handle) -> bool
 
 /// Whether the handle comes after the pair before the position, if there is one.
 #[inline]
-fn is_after(pairs: &[(Handle, u32)], position: usize, handle: Handle) -> bool
+fn is_after(pairs: &[(Key, u32)], position: usize, handle: Handle) -> bool
     // ensures { IsTrue result → (k : ℕ) → k + 1 ≡ position
     //     → HoldsAt (λ pair. handle_cmp pair.0 handle ≡ Less) pairs.now k }
 {
     match position.checked_sub(1) {
-        Some(before) => before < pairs.len() && pairs[before].0 < handle,
+        Some(before) => before < pairs.len() && pairs[before].0.handle() < handle,
         None => true,
     }
 }
 
 /// Whether the handle comes before the pair at the position, if there is one.
 #[inline]
-fn is_before(pairs: &[(Handle, u32)], position: usize, handle: Handle) -> bool
+fn is_before(pairs: &[(Key, u32)], position: usize, handle: Handle) -> bool
     // ensures { IsTrue result → position < length pairs.now
     //     → HoldsAt (λ pair. handle_cmp pair.0 handle ≡ Greater) pairs.now position }
 {
-    position >= pairs.len() || handle < pairs[position].0
+    position >= pairs.len() || handle < pairs[position].0.handle()
 }

@@ -123,7 +123,7 @@ impl World {
     }
 
     /// Applies what is left of a queue from a stop in it on, in the order of issue.
-    #[inline]
+    #[inline(always)]
     fn apply_queue(
         &mut self,
         from: Stop,
@@ -163,7 +163,7 @@ impl World {
     }
 
     /// Applies what is left of one command.
-    #[inline]
+    #[inline(always)]
     fn apply_command(
         &mut self,
         from: Stop,
@@ -190,10 +190,8 @@ impl World {
         let at = from.at;
         match entry {
             Entry::Spawn(handle, bundle) | Entry::Insert(handle, bundle) => {
-                if applying.read(bundle).is_err() {
-                    return Err(from);
-                }
-                self.insert_items(at, handle, applying).map_err(|_| from)
+                self.insert_bundle(at, handle, bundle, applying)
+                    .map_err(|_| from)
             }
             Entry::SpawnMany(handles, bundle) => self.insert_each(from, handles, bundle, applying),
             Entry::Remove(handle, id) => self
@@ -205,7 +203,7 @@ impl World {
     }
 
     /// Gives each of the entities the components, but for the first ones, which are done.
-    #[inline]
+    #[inline(never)]
     fn insert_each(
         &mut self,
         from: Stop,
@@ -251,9 +249,61 @@ impl World {
         Ok(())
     }
 
+    /// Gives the entity the components of the bundle, instead of those that it has under the same
+    /// numbers. A bundle of one component, the most frequent one, needs no list.
+    #[inline(always)]
+    fn insert_bundle(
+        &mut self,
+        at: At,
+        handle: Handle,
+        bundle: BundleRef<'_>,
+        applying: &mut Applying,
+    ) -> Result<(), Memory>
+        // requires { self.old.allocator.asked ≡ 0 }
+        // ensures flushed { self.new.allocator.asked ≡ 0 }
+        // ensures ok { OnOk result (applied self.new applying.new.faults.items
+        //     ≡ on_entity at.system at.command (after_insert bundle.entry) handle
+        //     (applied self.old applying.old.faults.items)) }
+        // ensures err { OnErr result (applied self.new applying.new.faults.items
+        //     ≡ applied self.old applying.old.faults.items) }
+        // ensures memory { OnErr result (insert_takes_memory self.new bundle.entry handle ≡ true) }
+    {
+        if bundle.len() == 1 {
+            let Some(only) = bundle.iter().next() else {
+                unreachable!()
+            };
+            return self.insert_only(at, handle, only, applying);
+        }
+        applying.read(bundle)?;
+        self.insert_items(at, handle, applying)
+    }
+
+    /// Gives the entity one component, instead of the one that it has under the same number.
+    #[inline(always)]
+    fn insert_only(
+        &mut self,
+        at: At,
+        handle: Handle,
+        item: (ComponentId, i64),
+        applying: &mut Applying,
+    ) -> Result<(), Memory>
+        // requires { self.old.allocator.asked ≡ 0 }
+        // ensures flushed { self.new.allocator.asked ≡ 0 }
+        // ensures ok { OnOk result (applied self.new applying.new.faults.items
+        //     ≡ on_entity at.system at.command (after_insert (item ∷ [])) handle
+        //     (applied self.old applying.old.faults.items)) }
+        // ensures err { OnErr result (applied self.new applying.new.faults.items
+        //     ≡ applied self.old applying.old.faults.items) }
+    {
+        let Some(place) = place_of(&self.entities, handle) else {
+            return applying.add_fault(at, FaultKind::NotAlive(handle));
+        };
+        self.storage.insert_at(place, handle, &[item])
+    }
+
     /// Gives the entity the components that were read last, instead of those that it has under
     /// the same numbers.
-    #[inline]
+    #[inline(never)]
     fn insert_items(
         &mut self,
         at: At,

@@ -29,7 +29,7 @@ pub(super) fn enter_all(storage: &mut Storage, phase: u64, handles: &[Handle])
 {
     let birth = first_birth(phase, NO_SYSTEM);
     for handle in handles {
-        let _ = storage.born(*handle, birth);
+        let _ = storage.born_within(*handle, birth);
     }
 }
 

@@ -1,7 +1,9 @@
 use Rattle.std.proofs.Common.{ap, sym, ◌∙◌, is_some}
 use Rattle.std.proofs.lemmas.Bool.{false≢true}
 use Rattle.std.specs.FinMap as map
-use Rattle.ent_handle.specs.Handle.{handle_cmp_total as total, handle_cmp-IsAntisymmetric as same}
+use Rattle.ent_handle.specs.Handle.{handle_cmp, handle_cmp_total as total}
+use Rattle.ent_handle.specs.Handle.{handle_cmp-IsAntisymmetric as same}
+use Rattle.ent_sorted.specs.Position.{IsAt}
 use Rattle.ent_storage.specs.Places.{Places}
 use Rattle.ent_storage.proofs.Rising.{get_in_gap, rising_set, map_set}
 use Rattle.ent_storage.proofs.SamePlaces.{same_places}
@@ -9,15 +11,18 @@ use Rattle.ent_storage.proofs.index.Index.set_place.Goals as goal
 
 pub invariant_of-self : goal.invariant_of-self
 invariant_of-self c =
-    let at = rw c.deref.ensures.value at c.in-Ok.ensures.found in
+    let at : IsAt handle_cmp c.self.inside.pairs.items c.of.result c.in-Ok.position =
+    rw (c.of.ensures, sym c.deref.ensures.value) c.in-Ok.ensures.found in
     rising_set total same _ c.self.invariant _ _ c.args.place at
 
 pub returns-in-Ok : goal.returns-in-Ok
 returns-in-Ok c =
-    let at = rw c.deref.ensures.value at c.in-Ok.ensures.found in
+    let at : IsAt handle_cmp c.self.inside.pairs.items c.of.result c.in-Ok.position =
+    rw (c.of.ensures, sym c.deref.ensures.value) c.in-Ok.ensures.found in
     let by_handle =
     map_set total same _ c.self.invariant _ _ c.args.place at
-    ∙ ap (λ (p : Places). map.insert p.by_handle c.args.handle c.args.place) c.self.view_is in
+    ∙ ap (λ (p : Places). map.insert p.by_handle c.of.result c.args.place) c.self.view_is
+    ∙ ap (λ h. map.insert c.args.self.now.by_handle h c.args.place) c.of.ensures in
     same_places _ _ by_handle (ap (λ (p : Places). p.room) c.self.view_is)
 
 pub returns-in_default : goal.returns-in_default

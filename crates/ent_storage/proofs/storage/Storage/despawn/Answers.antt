@@ -1,6 +1,15 @@
-use Rattle.std.proofs.Common.{refl}
+use Rattle.std.proofs.Common.{refl, ap, ◌∙◌}
+use Rattle.std.specs.FinMap as map
+use Rattle.ent_handle.specs.Handle.{handle_cmp_total as total, handle_cmp-IsAntisymmetric as same}
+use Rattle.ent_storage.proofs.Keys.{get-remove_same}
 use Rattle.ent_storage.proofs.Placed.{is_inside}
 use Rattle.ent_storage.proofs.storage.Storage.despawn.Goals as goal
+
+-- who was taken out is not there
+pub forget-requires : goal.forget-requires
+forget-requires c =
+    ap (λ m. map.get m c.args.handle) c.despawn_at.ensures.entities
+    ∙ get-remove_same total same _ c.args.handle c.args.handle refl
 
 -- it was taken out at its place
 pub returns-clause-places : goal.returns-clause-places
@@ -8,5 +17,5 @@ returns-clause-places c =
     let at = (c.in-Some.ensures.at c.in-Some.place).0 refl in (
       c.in-Some.place,
       is_inside _ c.in-Some.place c.args.handle at,
-      (at, c.despawn_at.ensures.places),
+      (at, rw c.forget.ensures c.despawn_at.ensures.places),
     )

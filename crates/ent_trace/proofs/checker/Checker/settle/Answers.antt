@@ -22,17 +22,17 @@ requests : (c : After-deref) → requested_in (reservations_of c.deref.result.no
     ≡ requested_in (reservations_of c.self.inside.run.items)
 requests c =
     ap (λ (ps : List Placed). requested_in (reservations_of ps)) c.deref.ensures.value
-    ∙ requested-sorted c.self.inside.run.items c.sort_by_key.new.self.items
-    c.in_ok-sort_by_key.ensures.permutation
+    ∙ requested-sorted c.self.inside.run.items c.sort_by_cached_key.new.self.items
+    c.in_ok-sort_by_cached_key.ensures.permutation
 
 -- it is an order of the run
 ordered : (c : After-deref) → IsOrderOf (lines c.self.inside.run.items) (lines c.deref.result.now)
 ordered c =
-    let sorted = c.sort_by_key.new.self.items in
+    let sorted = c.sort_by_cached_key.new.self.items in
     let run = c.self.inside.run.items in
     let up : IsRising sorted = rising sorted (IsNonDecreasingBy-from_sort_by_key key sorted
-    c.in_ok-sort_by_key.ensures.sorted (λ a r q k. search rules)) in
-    let alike : TieAlike sorted run = c.in_ok-sort_by_key.ensures.stable key
+    c.in_ok-sort_by_cached_key.ensures.sorted (λ a r q k. search rules)) in
+    let alike : TieAlike sorted run = c.in_ok-sort_by_cached_key.ensures.stable key
     (answers_always _ _ _ (λ f a r q k. search rules)) in
     subst (λ ps. IsOrderOf (lines run) (lines ps)) (sym c.deref.ensures.value)
     (sorted-IsOrderOf sorted run up alike c.self.invariant.steady)
@@ -45,17 +45,17 @@ best : (c : After-deref) (other : List Line)
     × (after_lines c.self.inside.entities.allocator other
     ≡ after_lines c.self.inside.entities.allocator (lines c.deref.result.now))
 best c other is all =
-    let sorted = c.sort_by_key.new.self.items in
+    let sorted = c.sort_by_cached_key.new.self.items in
     let run = c.self.inside.run.items in
     let s = c.self.inside.entities.allocator in
     let up : IsRising sorted = rising sorted (IsNonDecreasingBy-from_sort_by_key key sorted
-    c.in_ok-sort_by_key.ensures.sorted (λ a r q k. search rules)) in
-    let alike : TieAlike sorted run = c.in_ok-sort_by_key.ensures.stable key
+    c.in_ok-sort_by_cached_key.ensures.sorted (λ a r q k. search rules)) in
+    let alike : TieAlike sorted run = c.in_ok-sort_by_cached_key.ensures.stable key
     (answers_always _ _ _ (λ f a r q k. search rules)) in
     subst (λ ps. AreAnswered s (lines ps) × (after_lines s other ≡ after_lines s (lines ps)))
     (sym c.deref.ensures.value)
     (sorted_run s sorted run other c.cursor.ensures.sound c.self.invariant.keyed up alike
-    (requested-sorted run sorted c.in_ok-sort_by_key.ensures.permutation) is all)
+    (requested-sorted run sorted c.in_ok-sort_by_cached_key.ensures.permutation) is all)
 
 pub place_all-requires : goal.place_all-requires
 place_all-requires c =

@@ -1,0 +1,8 @@
+//! What a program reads from and writes to: a file, a terminal, or memory.
+#![tactic(auto)]
+
+mod counted;
+mod device;
+
+pub use counted::Counted;
+pub use device::{Failed, Sink, Source};

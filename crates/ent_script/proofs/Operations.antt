@@ -1,0 +1,143 @@
+-- Reading the operations of a system one after another, with the names that they bind.
+use Rattle.std.proofs.Common.{◌≡◌, ℕ, zero, suc, ◌+◌, ◌-◌, List, [], ◌∷◌, ◌++◌, length, take, drop}
+use Rattle.std.proofs.Common.{Some, None, Option, Result, Ok, Bool, true, false, cond, ok_or}
+use Rattle.std.proofs.Common.{refl, sym, ap, ◌∙◌, arith, add-one, inl, inr}
+use Rattle.std.proofs.lemmas.List.Sums.{fold-append}
+use Rattle.std.specs.Prelude.{◌⊎◌, nat_le}
+use Rattle.json.specs.Token.{Token}
+use Rattle.json.specs.Json as json
+use Rattle.json.specs.Json.{Parse, after_end_array, items}
+use Rattle.serde_json.specs.Data.{Data, Items}
+use Rattle.serde_json.specs.Read.{of_json, of_items, converted}
+use Rattle.serde_json.specs.View.{view}
+use Rattle.serde_json.specs.declared.value.Value.{Value}
+use Rattle.ent_script.specs.Cut.{cut}
+use Rattle.ent_script.specs.Json.{list_of}
+use Rattle.ent_script.specs.Names.{with_part, names_in}
+use Rattle.ent_script.specs.Reading.{◌>>=◌, numbered, at_operation, operation_of, bound_name}
+use Rattle.ent_script.specs.Streaming.{Streams}
+use Rattle.ent_script.specs.declared.operation.Operation.{Operation}
+use Rattle.ent_script.specs.declared.read_fault.ReadFault.{ReadFault}
+use Rattle.ent_script.specs.declared.read_fault.ReadFault.TheVariants.{Json, Memory}
+use Rattle.ent_script.proofs.CutMeanings.{operation_of-cut, bound_name-cut}
+use Rattle.ent_script.proofs.Finding.{next_item, first_of, second_of}
+use Rattle.ent_script.proofs.Listing.{listed}
+use Rattle.ent_script.proofs.Numbering.{onto, onto_none, onto_one}
+
+pub memory_only : (e : ReadFault) → (e ≡ Json) ⊎ (e ≡ Memory) → (e ≡ Json → ⊥) → e ≡ Memory
+memory_only e (inl is) other = absurd (other is)
+memory_only e (inr is) other = is
+
+-- a cut value that was read, and the value that the tokens have
+pub cut_read : (p : Parse json.Json) (ts left rest : List Token) (d was : Data) (v : Value)
+    → converted of_json (p ts) ≡ Some (was, left) → view v ≡ cut 2 was
+    → converted of_json (p ts) ≡ Some (d, rest) → (view v ≡ cut 2 d) × (left ≡ rest)
+cut_read p ts left rest d was v found seen e =
+    let both = sym found ∙ e in
+    (seen ∙ ap (cut 2) (ap (first_of was) both), ap (second_of left) both)
+
+pub operation_read : (components bound : List (List ℕ)) (before : Option ℕ)
+    (frame system number : ℕ) (v : Value) (d : Data) → view v ≡ cut 2 d
+    → at_operation frame system number (operation_of components bound before (view v))
+    ≡ at_operation frame system number (operation_of components bound before d)
+operation_read components bound before frame system number v d seen =
+    ap (λ x. at_operation frame system number (operation_of components bound before x)) seen
+    ∙ ap (at_operation {A = Operation} frame system number)
+    (operation_of-cut components bound before d)
+
+pub bound_read : (v : Value) (d : Data) → view v ≡ cut 2 d → bound_name (view v) ≡ bound_name d
+bound_read v d seen = ap bound_name seen ∙ bound_name-cut d
+
+abbrev tail_of : List Data → List Data
+tail_of [] = []
+tail_of (d ∷ ds) = ds
+
+abbrev head_or : Data → List Data → Data
+head_or d [] = d
+head_or d (first ∷ ds) = first
+
+here : (ds : List Data) (i : ℕ) (d : Data) (later : List Data) → drop i ds ≡ d ∷ later
+    → (drop (suc i) ds ≡ later) × (take (suc i) ds ≡ take i ds ++ d ∷ [])
+here [] zero d later e = absurd (cc e)
+here [] (suc i) d later e = absurd (cc e)
+here (x ∷ ds) zero d later e = (ap tail_of e, ap (λ y. y ∷ []) (ap (head_or x) e))
+here (x ∷ ds) (suc i) d later e =
+    let both = here ds i d later e in (both.0, ap (λ ys. x ∷ ys) both.1)
+
+names_here : (ds : List Data) (i : ℕ) (d : Data) (later : List Data) → drop i ds ≡ d ∷ later
+    → names_in bound_name (take (i + 1) ds)
+    ≡ with_part (names_in bound_name (take i ds)) (bound_name d)
+names_here ds i d later e =
+    ap (λ (n : ℕ). names_in bound_name (take n ds)) (add-one i)
+    ∙ ap (names_in bound_name) (here ds i d later e).1
+    ∙ fold-append (λ names x. with_part names (bound_name x)) [] (take i ds) (d ∷ [])
+
+-- of an array that is read as ds, so many operations were taken, which bind these names
+abbrev pub Reached : {A : Type 0} → Parse json.Json → (ℕ → Data → Result A ReadFault) → List A → ℕ
+    → List Token → Items → List Token → List (List ℕ) → Type 0
+Reached p f done number now ds rest bound = (m : ℕ) × (later : Items)
+    × (converted of_items (items p m now) ≡ Some (later, rest))
+    × (length (list_of ds) ≡ number + length (list_of later))
+    × (onto done (numbered f number (list_of later)) ≡ numbered f 0 (list_of ds))
+    × (drop number (list_of ds) ≡ list_of later)
+    × (bound ≡ names_in bound_name (take number (list_of ds)))
+
+module _ {A : Type 0} (p : Parse json.Json) (f : ℕ → Data → Result A ReadFault) where
+  pub reached_start : (n : ℕ) (ts : List Token) (ds : Items) (rest : List Token)
+      (bound : List (List ℕ)) → bound ≡ [] → converted of_items (items p n ts) ≡ Some (ds, rest)
+      → Reached p f [] 0 ts ds rest bound
+  reached_start n ts ds rest bound none e = (
+    n,
+    ds,
+    e,
+    omega arith,
+    onto_none (numbered f 0 (list_of ds)),
+    refl,
+    none,
+  )
+
+  pub reached_next : (done : List A) (number : ℕ) (now left : List Token) (x : A) (ds : Items)
+      (rest : List Token) (bound after : List (List ℕ))
+      → Reached p f done number now ds rest bound → after_end_array now ≡ None
+      → ((d : Data) (r : List Token) → converted of_json (p now) ≡ Some (d, r)
+      → Streams (Ok x) left (f number d) r)
+      → ((d : Data) (r : List Token) → converted of_json (p now) ≡ Some (d, r)
+      → after ≡ with_part bound (bound_name d))
+      → Reached p f (done ++ x ∷ []) (number + 1) left ds rest after
+  reached_next done number now left x ds rest bound after at going reads binds =
+      let next = next_item p at.0 now rest at.1 going at.2 in
+      let is = reads next.0 next.1 next.4 in
+      let later : list_of at.1 ≡ next.0 ∷ list_of next.2 = ap list_of next.3 in
+      let now : drop number (list_of ds) ≡ next.0 ∷ list_of next.2 = at.5 ∙ later in (
+        at.0 - 1,
+        next.2,
+        ap (λ ts. converted of_items (items p (at.0 - 1) ts)) is.1 ∙ next.5,
+        omega (arith, at.3, ap length later),
+        sym (onto_one done x (numbered f (number + 1) (list_of next.2)))
+            ∙ sym
+            (ap
+            (λ (r : Result A ReadFault). onto done
+            (r >>= λ y. numbered f (number + 1) (list_of next.2) >>= λ ys. Ok (y ∷ ys)))
+            is.0)
+            ∙ sym (ap (λ (xs : List Data). onto done (numbered f number xs)) later)
+            ∙ at.4,
+        ap (λ (n : ℕ). drop n (list_of ds)) (add-one number)
+            ∙ (here (list_of ds) number next.0 (list_of next.2) now).0,
+        binds next.0 next.1 next.4
+            ∙ ap (λ (ns : List (List ℕ)). with_part ns (bound_name next.0)) at.6
+            ∙ sym (names_here (list_of ds) number next.0 (list_of next.2) now),
+      )
+
+listed_by : {A : Type 0} (b : Bool) (g : List Data → ℕ → Data → Result A ReadFault)
+    (limit : ReadFault) (ds : List Data)
+    → (ok_or (cond b (Some ds) None) limit >>= λ xs. numbered (g xs) 0 xs)
+    ≡ (ok_or (cond b (Some ds) None) limit >>= λ xs. numbered (g ds) 0 xs)
+listed_by true g limit ds = refl
+listed_by false g limit ds = refl
+
+-- elements that mean something among all of them
+pub listed_among : {A : Type 0} (most : ℕ) (g : List Data → ℕ → Data → Result A ReadFault)
+    (limit : ReadFault) (ds : List Data)
+    → (ok_or (cond (nat_le (length ds) most) (Some ds) None) limit >>= λ xs. numbered (g xs) 0 xs)
+    ≡ listed most (g ds) limit ds
+listed_among most g limit ds = listed_by (nat_le (length ds) most) g limit ds

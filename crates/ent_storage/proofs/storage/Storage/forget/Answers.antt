@@ -1,0 +1,27 @@
+use Rattle.std.proofs.Common.{is_some, sym, ap, ◌∙◌}
+use Rattle.std.proofs.lemmas.Bool.{false≢true}
+use Rattle.std.specs.FinMap as map
+use Rattle.ent_storage.specs.EntityMap.{Store}
+use Rattle.ent_storage.specs.Indexed.{counted}
+use Rattle.ent_storage.proofs.Counted.{counted_gives, indexed_counted}
+use Rattle.ent_storage.proofs.Placed.{placed_known}
+use Rattle.ent_storage.proofs.storage.Storage.forget.Goals as goal
+
+-- who is not there has no place that counts, and the others keep theirs
+pub invariant_of-self : goal.invariant_of-self
+invariant_of-self c =
+    let living = c.self.inside.living.entities in
+    let index = c.self.inside.index.by_handle in
+    let gone = ap is_some (ap (λ (s : Store). map.get s.entities c.args.handle) c.self.view_is
+    ∙ c.requires) in
+    let none = placed_known living (counted living index) c.self.invariant.indexed c.args.handle
+    ∙ gone in
+    record {
+      indexed = indexed_counted living c.forget.new.self.by_handle (counted living index)
+          c.self.invariant.indexed
+          (λ q i there. c.forget.ensures.kept q i
+          (λ is. absurd (false≢true (sym none
+          ∙ ap (λ h. is_some (map.get (counted living index) h)) (sym is) ∙ ap is_some there)))
+          (counted_gives living index q i there).0);
+      fits = rw c.forget.ensures.room c.self.invariant.fits;
+    }

@@ -1,0 +1,87 @@
+-- The front of the pool at a position, handle by handle.
+use Rattle.std.proofs.Common.{◌≡◌, refl, sym, ap, ◌∙◌, ℕ, zero, suc, ◌+◌, ◌-◌, ◌<◌, ◌≤◌, ℤ, pos}
+use Rattle.std.proofs.Common.{negsuc, ◌+ℤ◌, ◌-ℤ◌, ◌≤ℤ◌, List, [], ◌∷◌, ◌++◌, length, take, drop}
+use Rattle.std.proofs.Common.{slice_get, Some, None, append-nil, arith}
+use Rattle.std.proofs.lemmas.Int.{ints}
+use Rattle.std.proofs.lemmas.List.{drop-drop, append_assoc, length-append}
+use Rattle.std.proofs.lemmas.Option.{slice_get_within}
+use Rattle.ent_handle.specs.Handle.{Handle}
+use Rattle.ent_alloc.specs.Sequential.{Allocator, available, top, cursor, asked_at, pool_at, after_take}
+use Rattle.ent_alloc.specs.Sound.{IsSound}
+use Rattle.ent_alloc.proofs.Listing.{drop_at}
+use Rattle.ent_alloc.proofs.PoolLaw.{pool_at-cursor, pool_at-later, top-after_take}
+
+-- one position below, one more was asked for
+asked_below : (high : ℕ) (p : ℤ) → p ≤ℤ pos high → asked_at high (p -ℤ pos 1) ≡ asked_at high p + 1
+asked_below high (pos zero) below = omega (arith, ints)
+asked_below high (pos (suc p)) below =
+    let less : pos (suc p) -ℤ pos 1 ≡ pos p = omega (arith, ints) in
+    ap (asked_at high) less ∙ omega (arith, ints, below)
+asked_below high (negsuc p) below = omega (arith, ints)
+
+pool_below : (s : Allocator) (p : ℤ) → p ≤ℤ pos (top s) → pool_at s (p -ℤ pos 1)
+    ≡ drop 1 (pool_at s p)
+pool_below s p below =
+    ap (λ n. drop n (available s)) (asked_below (top s) p below)
+    ∙ sym (drop-drop 1 (asked_at (top s) p) (available s))
+
+-- nothing of an empty list
+none_of : (k : ℕ) → take {A = Handle} k [] ≡ []
+none_of zero = refl
+none_of (suc k) = refl
+
+empty : (pool : List Handle) → slice_get pool 0 ≡ None → pool ≡ []
+empty [] is = refl
+empty (h ∷ pool) is = absurd cc
+
+-- what is listed of the front, and what is left of it
+pub record Listed (s : Allocator) (start next : ℤ) (front : List Handle) : Type 0 where
+  pub is : front ++ take (8 - length front) (pool_at s next) ≡ take 8 (pool_at s start)
+  pub few : length front ≤ 8
+  pub above : start ≡ next +ℤ pos (length front)
+
+module _ (s : Allocator) (start next : ℤ) (front : List Handle)
+    (listed : Listed s start next front) where
+  pub Listed-next : next ≤ℤ pos (top s) → length front < 8 → (h : Handle)
+      → slice_get (pool_at s next) 0 ≡ Some h → Listed s start (next -ℤ pos 1) (front ++ h ∷ [])
+  Listed-next below more h is =
+      let pool = pool_at s next in
+      let whole : pool ≡ h ∷ drop 1 pool = drop_at pool 0 h (slice_get_within pool 0 h is) is in
+      let left : 8 - length front ≡ suc (7 - length front) = omega arith in
+      let long : length (front ++ h ∷ []) ≡ length front + 1 = length-append front (h ∷ []) in
+      let less : 8 - length (front ++ h ∷ []) ≡ 7 - length front = omega arith in
+      let above = listed.above in
+      record {
+        is = append_assoc front (h ∷ []) (take (8 - length (front ++ h ∷ []))
+            (pool_at s (next -ℤ pos 1)))
+            ∙ (λ i. front ++ h ∷ take (less i) (pool_below s next below i))
+            ∙ sym (λ i. front ++ take (left i) (whole i)) ∙ listed.is;
+        few = omega arith;
+        above = omega (arith, ints);
+      }
+
+  pub Listed-full : 8 ≤ length front → front ≡ take 8 (pool_at s start)
+  Listed-full full =
+      let none : 0 ≡ 8 - length front = omega arith in
+      sym (append-nil front) ∙ (λ i. front ++ take (none i) (pool_at s next)) ∙ listed.is
+
+  pub Listed-all : slice_get (pool_at s next) 0 ≡ None → front ≡ take 8 (pool_at s start)
+  Listed-all out =
+      sym (append-nil front) ∙ ap (λ xs. front ++ xs) (sym (none_of (8 - length front)))
+      ∙ ap (λ pool. front ++ take (8 - length front) pool) (sym (empty (pool_at s next) out))
+      ∙ listed.is
+
+-- at the cursor it is the front of the pool
+pub front_here : (s : Allocator) (at : ℤ) → IsSound s → at ≡ cursor s
+    → take 8 (pool_at s at) ≡ take 8 s.pool
+front_here s at sound is =
+    ap (λ p. take 8 (pool_at s p)) is ∙ ap (take 8) (pool_at-cursor s sound)
+
+-- and after a request that found the cursor there
+pub front_before : (s t : Allocator) (n : ℕ) (at : ℤ) → IsSound s → t ≡ after_take s n
+    → at ≡ cursor s → take 8 (pool_at t at) ≡ take 8 s.pool
+front_before s t n at sound after is =
+    (λ i. take 8 (pool_at (after i) (is i))) ∙ ap (take 8) (pool_at-later s (n ∷ []) sound)
+
+pub top_before : (s t : Allocator) (n : ℕ) → IsSound s → t ≡ after_take s n → top t ≡ top s
+top_before s t n sound after = ap top after ∙ top-after_take s n sound

@@ -1,0 +1,69 @@
+-- The calls of lines that follow others, and what follows after them.
+use Rattle.std.proofs.Common.{◌≡◌, ℕ, ◌+◌, List, [], ◌∷◌, ◌++◌, length, Option, Some, None, Result}
+use Rattle.std.proofs.Common.{Ok, Err, refl, sym, ap, subst, ◌∙◌, append_assoc, arith}
+use Rattle.ent_trace.specs.Checker.{Checked, AgreesWith, Follows}
+use Rattle.ent_trace.specs.Text.{line_of, words_of}
+use Rattle.ent_trace.specs.declared.line.Line.{Line}
+use Rattle.ent_trace.specs.declared.read_fault.Cause.{Cause}
+use Rattle.tracecheck.specs.Calls.{Refused, calls_from, goes_on}
+use Rattle.tracecheck.specs.Checking.{AllFollow}
+
+-- these calls, and then what is read after them
+abbrev pub with_front : List Line → Result (List Line) Refused → Result (List Line) Refused
+with_front front (Ok calls) = Ok (front ++ calls)
+with_front front (Err refused) = Err refused
+
+abbrev read : List Line → Result (List Line) Refused
+read calls = Ok calls
+
+front_of_none : (r : Result (List Line) Refused) → with_front [] r ≡ r
+front_of_none (Ok calls) = refl
+front_of_none (Err refused) = refl
+
+one_more : (number : ℕ) (l : Line) (front : List Line) (r : Result (List Line) Refused)
+    → goes_on number (Ok (Some l)) (with_front front r) ≡ with_front (l ∷ front) r
+one_more number l front (Ok calls) = refl
+one_more number l front (Err refused) = refl
+
+step : (number : ℕ) (r : Result (Option Line) Cause) (others all rest : Result (List Line) Refused)
+    (calls : List Line)
+    → ((front : List Line) → others ≡ Ok front → all ≡ with_front front rest)
+    → goes_on number r others ≡ Ok calls → goes_on number r all ≡ with_front calls rest
+step number (Err c) others all rest calls later e = absurd cc
+step number (Ok None) others all rest calls later e = later calls e
+step number (Ok (Some l)) (Err refused) all rest calls later e = absurd cc
+step number (Ok (Some l)) (Ok front) all rest calls later e =
+    let is : read (l ∷ front) ≡ read calls = e in
+    let same : l ∷ front ≡ calls = cc in
+    ap (goes_on number (Ok (Some l))) (later front refl) ∙ one_more number l front rest
+    ∙ ap (λ (ls : List Line). with_front ls rest) same
+
+pub calls_from-append : (number : ℕ) (texts more : List (List ℕ)) (calls : List Line)
+    → calls_from number texts ≡ Ok calls
+    → calls_from number (texts ++ more) ≡ with_front calls (calls_from (number + length texts) more)
+calls_from-append number [] more calls e =
+    let is : read [] ≡ read calls = e in
+    let same : [] ≡ calls = cc in
+    let here : number ≡ number + length {A = List ℕ} [] = omega arith in
+    ap (λ n. calls_from n more) here ∙ sym (front_of_none (calls_from (number + length {A = List ℕ} []) more))
+    ∙ ap (λ (ls : List Line). with_front ls (calls_from (number + length {A = List ℕ} []) more)) same
+calls_from-append number (text ∷ texts) more calls e =
+    let later : number + 1 + length texts ≡ number + length (text ∷ texts) = omega arith in
+    step number (line_of number (words_of text)) (calls_from (number + 1) texts)
+    (calls_from (number + 1) (texts ++ more)) (calls_from (number + length (text ∷ texts)) more) calls
+    (λ front is. calls_from-append (number + 1) texts more front is
+    ∙ ap (λ n. with_front front (calls_from n more)) later) e
+
+-- ---- one more call
+
+pub AllFollow-none : (c : Checked) → AllFollow c [] c
+AllFollow-none c = record { sound = λ rest h. h; complete = λ rest h. h }
+
+pub AllFollow-call : (old middle new : Checked) (calls : List Line) (l : Line)
+    → AllFollow old calls middle → Follows middle l new → AllFollow old (calls ++ l ∷ []) new
+AllFollow-call old middle new calls l follow next = record {
+  sound = λ rest h. subst (AgreesWith old) (sym (append_assoc calls (l ∷ []) rest))
+      (follow.sound (l ∷ rest) (next.sound rest h));
+  complete = λ rest h. next.complete rest (follow.complete (l ∷ rest)
+      (subst (AgreesWith old) (append_assoc calls (l ∷ []) rest) h));
+}

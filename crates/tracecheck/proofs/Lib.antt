@@ -1,0 +1,4 @@
+pub mod Joined
+pub mod Taking
+pub mod LinesRead
+pub mod InputRead

@@ -1,0 +1,132 @@
+-- Lines that end with a line feed, and the last, which may have no end.
+use Rattle.std.proofs.Common.{◌≡◌, ◌≢◌, ℕ, ◌<◌, eqb, false, List, [], ◌∷◌, ◌++◌, length, All}
+use Rattle.std.proofs.Common.{refl, sym, ap, ◌∙◌, append_assoc, arith}
+use Rattle.std.proofs.lemmas.Bool.{cond-false, ne_eqb}
+use Rattle.std.proofs.lemmas.List.{append-nil, nil_from_length}
+use Rattle.std.proofs.lemmas.List.Elements.{All-append}
+use Rattle.ent_replay.proofs.ScheduleWords.{parts_whole, parts_first, parts_nonempty}
+use Rattle.ent_alloc.specs.Limits.{Limits}
+use Rattle.ent_trace.specs.Text.{ended, lines_of, without_return}
+use Rattle.tracecheck.specs.Checking.{HasRead, HasTaken}
+use Rattle.tracecheck.specs.declared.checking.Checking.{Checking}
+
+abbrev pub IsUnended : List ℕ → Type 0
+IsUnended bytes = All (λ byte. byte ≢ 10) bytes
+
+-- ---- a carriage return at the end
+
+pub without_return-return : (front : List ℕ) → without_return (front ++ 13 ∷ []) ≡ front
+without_return-return [] = refl
+without_return-return (byte ∷ []) = refl
+without_return-return (byte ∷ next ∷ more) =
+    ap (λ (bs : List ℕ). byte ∷ bs) (without_return-return (next ∷ more))
+
+pub without_return-other : (front : List ℕ) (last : ℕ) → last ≢ 13
+    → without_return (front ++ last ∷ []) ≡ front ++ last ∷ []
+without_return-other [] last other = cond-false (eqb last 13) [] (last ∷ []) (ne_eqb last 13 other)
+without_return-other (byte ∷ []) last other =
+    ap (λ (bs : List ℕ). byte ∷ bs) (without_return-other [] last other)
+without_return-other (byte ∷ next ∷ more) last other =
+    ap (λ (bs : List ℕ). byte ∷ bs) (without_return-other (next ∷ more) last other)
+
+-- ---- lines
+
+ended-cons : (part : List ℕ) (parts : List (List ℕ)) → 0 < length parts
+    → ended (part ∷ parts) ≡ without_return part ∷ ended parts
+ended-cons part [] long = absurd (omega arith)
+ended-cons part (next ∷ more) long = refl
+
+pub lines_first : (line others : List ℕ) → IsUnended line
+    → lines_of (line ++ 10 ∷ others) ≡ without_return line ∷ lines_of others
+lines_first line others all =
+    ap ended (parts_first 10 (line ++ 10 ∷ others) line others refl all)
+    ∙ ended-cons line _ (parts_nonempty 10 others)
+
+pub lines_none : (bytes : List ℕ) → length bytes ≡ 0 → lines_of bytes ≡ []
+lines_none bytes none = ap lines_of (nil_from_length bytes none)
+
+pub lines_last : (line : List ℕ) → eqb (length line) 0 ≡ false → IsUnended line
+    → lines_of line ≡ line ∷ []
+lines_last line long all =
+    ap ended (parts_whole 10 line all) ∙ cond-false (eqb (length line) 0) [] (line ∷ []) long
+
+-- ---- what was read
+
+pub cut_line : (limits : Limits) (text : List ℕ) (old : Checking) (pending bytes : List ℕ)
+    → IsUnended bytes → (h : HasRead limits text old pending) → (more : List ℕ)
+    → lines_of (text ++ bytes ++ 10 ∷ more)
+    ≡ h.texts ++ without_return (pending ++ bytes) ∷ lines_of more
+cut_line limits text old pending bytes all h more =
+    ap lines_of (append_assoc text bytes (10 ∷ more)) ∙ h.lines (bytes ++ 10 ∷ more)
+    ∙ ap (λ (bs : List ℕ). h.texts ++ lines_of bs) (sym (append_assoc pending bytes (10 ∷ more)))
+    ∙ ap (λ (ls : List (List ℕ)). h.texts ++ ls)
+    (lines_first (pending ++ bytes) more (All-append (λ byte. byte ≢ 10) pending bytes h.unended all))
+
+pub HasRead-line : (limits : Limits) (text : List ℕ) (old new : Checking)
+    (pending bytes : List ℕ) → IsUnended bytes → (h : HasRead limits text old pending)
+    → HasTaken limits (h.texts ++ without_return (pending ++ bytes) ∷ []) new
+    → HasRead limits (text ++ bytes ++ 10 ∷ []) new []
+HasRead-line limits text old new pending bytes all h taken = record {
+  texts = h.texts ++ without_return (pending ++ bytes) ∷ [];
+  taken = taken;
+  unended = λ k d lt. absurd (omega (arith, lt));
+  lines = λ more.
+      ap lines_of (append_assoc (text ++ bytes) (10 ∷ []) more)
+      ∙ cut_line limits text old pending bytes all h more
+      ∙ sym (append_assoc h.texts (without_return (pending ++ bytes) ∷ []) (lines_of more));
+}
+
+pub HasRead-bytes : (limits : Limits) (text : List ℕ) (old : Checking)
+    (pending bytes : List ℕ) → IsUnended bytes → HasRead limits text old pending
+    → HasRead limits (text ++ bytes) old (pending ++ bytes)
+HasRead-bytes limits text old pending bytes all h = record {
+  texts = h.texts;
+  taken = h.taken;
+  unended = All-append (λ byte. byte ≢ 10) pending bytes h.unended all;
+  lines = λ more.
+      ap lines_of (append_assoc text bytes more) ∙ h.lines (bytes ++ more)
+      ∙ ap (λ (bs : List ℕ). h.texts ++ lines_of bs) (sym (append_assoc pending bytes more));
+}
+
+-- nothing was read yet
+pub HasRead-none : (limits : Limits) (c : Checking) → HasTaken limits [] c
+    → HasRead limits [] c []
+HasRead-none limits c taken = record {
+  texts = [];
+  taken = taken;
+  unended = λ k d lt. absurd (omega (arith, lt));
+  lines = λ more. refl;
+}
+
+-- all lines of the text, if nothing comes any more
+pub lines_now : (limits : Limits) (text : List ℕ) (old : Checking) (pending : List ℕ)
+    → (h : HasRead limits text old pending) → lines_of text ≡ h.texts ++ lines_of pending
+lines_now limits text old pending h =
+    ap lines_of (sym (append-nil text)) ∙ h.lines []
+    ∙ ap (λ (bs : List ℕ). h.texts ++ lines_of bs) (append-nil pending)
+
+-- ---- a piece
+
+-- one more line of the piece is taken
+pub piece_front : (piece front rest line others : List ℕ) → piece ≡ front ++ rest
+    → rest ≡ line ++ 10 ∷ others → piece ≡ (front ++ line ++ 10 ∷ []) ++ others
+piece_front piece front rest line others whole parts =
+    whole ∙ ap (λ (bs : List ℕ). front ++ bs) parts ∙ sym (append_assoc front line (10 ∷ others))
+    ∙ sym (append_assoc (front ++ line) (10 ∷ []) others)
+
+pub text_front : (text front line : List ℕ)
+    → text ++ (front ++ line ++ 10 ∷ []) ≡ text ++ front ++ line ++ 10 ∷ []
+text_front text front line =
+    sym (append_assoc text (front ++ line) (10 ∷ []))
+    ∙ ap (λ (bs : List ℕ). bs ++ 10 ∷ []) (sym (append_assoc text front line))
+
+-- what comes after a line of a piece
+pub piece_rest : (text piece front rest line others more : List ℕ) → piece ≡ front ++ rest
+    → rest ≡ line ++ 10 ∷ others
+    → text ++ piece ++ more ≡ text ++ front ++ line ++ 10 ∷ (others ++ more)
+piece_rest text piece front rest line others more whole parts =
+    ap (λ (bs : List ℕ). text ++ bs ++ more) (piece_front piece front rest line others whole parts)
+    ∙ ap (λ (bs : List ℕ). bs ++ more) (sym (append_assoc text (front ++ line ++ 10 ∷ []) others)
+    ∙ ap (λ (bs : List ℕ). bs ++ others) (text_front text front line))
+    ∙ append_assoc (text ++ front ++ line ++ 10 ∷ []) others more
+    ∙ append_assoc (text ++ front ++ line) (10 ∷ []) (others ++ more)

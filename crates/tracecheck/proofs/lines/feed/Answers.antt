@@ -1,0 +1,40 @@
+use Rattle.std.proofs.Common.{◌++◌, ◌∷◌, [], List, ℕ, subst, sym, append_assoc}
+use Rattle.std.proofs.lemmas.Result.{err_from_is_err_and}
+use Rattle.ent_trace.specs.Text.{lines_of}
+use Rattle.tracecheck.specs.Checking.{HasRead}
+use Rattle.tracecheck.specs.Verdict.{MayEnd}
+use Rattle.tracecheck.proofs.LinesRead.{HasRead-bytes, piece_front, piece_rest, text_front}
+use Rattle.tracecheck.proofs.lines.feed.Goals as goal
+
+pub returns-in_err-checking-clause-ends : goal.returns-in_err-checking-clause-ends
+returns-in_err-checking-clause-ends c =
+    let p = err_from_is_err_and c.from_residual.result c.from_residual.ensures.1 in
+    let before = c.loop-line.invariant in
+    rw (p.1, p.2) (λ limits text more read.
+    subst (λ (bs : List ℕ). MayEnd limits (lines_of bs) c.in_err-checking.field-0.0)
+    (sym (piece_rest text c.args.piece.now before.0 c.loop-line.rest.now c.in-Some.line.now
+    c.in-Some.others.now more before.1 c.in-Some.ensures.found))
+    (c.in_err-checking.ensures.ends limits (text ++ before.0) (c.in-Some.others.now ++ more)
+    (before.2 limits text read)))
+
+pub loop-line-preserved : goal.loop-line-preserved
+loop-line-preserved c =
+    let before = c.loop-line.invariant in (
+      before.0 ++ c.in-Some.line.now ++ 10 ∷ [],
+      piece_front c.args.piece.now before.0 c.loop-line.rest.now c.in-Some.line.now
+          c.in-Some.others.now before.1 c.in-Some.ensures.found,
+      λ limits text read. subst (λ (bs : List ℕ).
+          HasRead limits bs c.in_ok-checking.checking c.end_line.new.pending.items)
+          (sym (text_front text before.0 c.in-Some.line.now))
+          (c.in_ok-checking.ensures.taken limits (text ++ before.0) (before.2 limits text read)),
+    )
+
+pub returns-clause-taken : goal.returns-clause-taken
+returns-clause-taken c = λ limits text read.
+    let before = c.loop-line.invariant in
+    rw (c.in_ok-extend_from_slice.ensures.items, before.1)
+    (subst (λ (bs : List ℕ). HasRead limits bs c.loop-line.checking
+    (c.loop-line.pending.items ++ c.loop-line.rest.now))
+    (append_assoc text before.0 c.loop-line.rest.now)
+    (HasRead-bytes limits (text ++ before.0) c.loop-line.checking c.loop-line.pending.items
+    c.loop-line.rest.now c.in_default.ensures.none (before.2 limits text read)))

@@ -1,0 +1,32 @@
+use Rattle.std.proofs.Common.{◌++◌, ◌∷◌, [], List, ℕ, subst, sym, ap, ◌∙◌}
+use Rattle.std.proofs.lemmas.Bool.{eqb-true}
+use Rattle.std.proofs.lemmas.List.{append-nil}
+use Rattle.tracecheck.specs.Verdict.{MayEnd}
+use Rattle.tracecheck.proofs.LinesRead.{lines_now, lines_none, lines_last}
+use Rattle.tracecheck.proofs.lines.finish.Goals as goal
+
+pub returns-then-is_empty : goal.returns-then-is_empty
+returns-then-is_empty c = λ limits text read.
+    let none = eqb-true _ _ (sym c.is_empty.ensures ∙ c.if-is_empty.true) in
+    let all = lines_now limits text c.args.checking c.args.pending.now read
+    ∙ ap (λ (ls : List (List ℕ)). read.texts ++ ls) (lines_none c.args.pending.now none)
+    ∙ append-nil read.texts in
+    subst (λ (ls : List (List ℕ)). MayEnd limits ls c.finish.result) (sym all)
+    (c.finish.ensures limits read.texts read.taken)
+
+pub returns-in-Ok : goal.returns-in-Ok
+returns-in-Ok c = λ limits text read.
+    let all = lines_now limits text c.args.checking c.args.pending.now read
+    ∙ ap (λ (ls : List (List ℕ)). read.texts ++ ls) (lines_last c.args.pending.now
+    (sym c.is_empty.ensures ∙ c.if-is_empty.false) read.unended) in
+    subst (λ (ls : List (List ℕ)). MayEnd limits ls c.finish-in-Ok.result) (sym all)
+    (c.finish-in-Ok.ensures limits (read.texts ++ c.args.pending.now ∷ [])
+    (c.in-Ok.ensures.taken limits read.texts read.taken))
+
+pub returns-in-Err : goal.returns-in-Err
+returns-in-Err c = λ limits text read.
+    let all = lines_now limits text c.args.checking c.args.pending.now read
+    ∙ ap (λ (ls : List (List ℕ)). read.texts ++ ls) (lines_last c.args.pending.now
+    (sym c.is_empty.ensures ∙ c.if-is_empty.false) read.unended) in
+    subst (λ (ls : List (List ℕ)). MayEnd limits ls c.in-Err.end) (sym all)
+    (c.in-Err.ensures.ends limits read.texts [] read.taken)

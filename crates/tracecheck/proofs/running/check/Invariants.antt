@@ -1,0 +1,16 @@
+use Rattle.std.proofs.Common.{◌≡◌, List, ℕ, false}
+use Rattle.std.specs.Io.KnownBytes.{Consumes}
+use Rattle.tracecheck.specs.Checking.{HasRead}
+use Rattle.tracecheck.proofs.running.check.Given as goal
+
+-- a text was taken of the input, and it was read
+abbrev pub invariant-loop : goal.invariant-loop
+invariant-loop g l =
+    let device = g.I.Source in
+    record {
+      read : (text : List ℕ)
+          × Consumes (device.remaining l.initial.input) (device.remaining l.input) text
+          × HasRead l.fn.limits text l.checking l.pending.items;
+      failures : device.failures l.input ≡ device.failures l.initial.input;
+      quiet : l.tells ≡ false → l.errors ≡ l.initial.errors;
+    }

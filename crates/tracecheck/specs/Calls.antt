@@ -1,0 +1,41 @@
+-- The calls of a text, line by line, and how many handles they say were given out.
+use Rattle.std.specs.Prelude.{ℕ, ◌+◌, List, [], ◌∷◌, length, Option, Some, None, Result, Ok, Err}
+use Rattle.ent_trace.specs.Text.{line_of, lines_of, words_of}
+use Rattle.ent_trace.specs.declared.read_fault.Cause.{Cause}
+use Rattle.ent_trace.specs.declared.line.Line.{Line}
+use Rattle.ent_trace.specs.declared.line.Line.TheVariants as line
+use Rattle.ent_trace.specs.declared.reply.AllocReply.TheVariants as alloc
+use Rattle.ent_trace.specs.declared.reply.ReserveReply.{ReserveReply}
+use Rattle.ent_trace.specs.declared.reply.ReserveReply.TheVariants as reserve
+
+-- the number of a line that is none, and why
+abbrev pub Refused : Type 0
+Refused = ℕ × Cause
+
+-- the call of a line, if it has words, before those of the lines after it
+abbrev pub goes_on : ℕ → Result (Option Line) Cause → Result (List Line) Refused
+    → Result (List Line) Refused
+goes_on number (Err c) others = Err (number, c)
+goes_on number (Ok None) others = others
+goes_on number (Ok (Some l)) (Ok calls) = Ok (l ∷ calls)
+goes_on number (Ok (Some l)) (Err refused) = Err refused
+
+-- the calls of lines that are numbered from this one on, or the first line that is none
+abbrev pub calls_from : ℕ → List (List ℕ) → Result (List Line) Refused
+calls_from number [] = Ok []
+calls_from number (text ∷ more) =
+    goes_on number (line_of number (words_of text)) (calls_from (number + 1) more)
+
+-- the calls of a whole text
+abbrev pub trace_of : List ℕ → Result (List Line) Refused
+trace_of text = calls_from 1 (lines_of text)
+
+abbrev pub listed_in : ReserveReply → ℕ
+listed_in (reserve.Handles handles) = length handles
+listed_in other = 0
+
+-- how many handles a call says were given out
+abbrev pub given_in : Line → ℕ
+given_in (line.Alloc (Some (alloc.Handle h))) = 1
+given_in (line.Reserve r) = listed_in r.reply
+given_in other = 0

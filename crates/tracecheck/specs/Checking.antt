@@ -1,0 +1,36 @@
+-- What was taken of a trace so far.
+use Rattle.std.specs.Prelude.{◌≡◌, ◌≢◌, ℕ, List, [], ◌++◌, length, All, Ok}
+use Rattle.std.specs.List.{sum_by}
+use Rattle.ent_alloc.specs.Limits.{Limits}
+use Rattle.ent_alloc.specs.Sequential.{opening}
+use Rattle.ent_trace.specs.Checker.{Checked, AgreesWith}
+use Rattle.ent_trace.specs.Text.{lines_of}
+use Rattle.ent_trace.specs.declared.line.Line.{Line}
+use Rattle.tracecheck.specs.Calls.{calls_from, given_in}
+use Rattle.tracecheck.specs.declared.checking.Checking.{Checking}
+
+-- no line is checked yet
+abbrev pub opened : Limits → Checked
+opened limits = record { allocator = opening limits; run = [] }
+
+-- before and after these calls: the same calls may follow
+pub record AllFollow (old : Checked) (calls : List Line) (new : Checked) : Type 0 where
+  pub sound : (rest : List Line) → AgreesWith new rest → AgreesWith old (calls ++ rest)
+  pub complete : (rest : List Line) → AgreesWith old (calls ++ rest) → AgreesWith new rest
+
+-- these lines were taken, from the first on
+pub record HasTaken (limits : Limits) (texts : List (List ℕ)) (c : Checking) : Type 0 where
+  pub calls : List Line
+  pub read : calls_from 1 texts ≡ Ok calls
+  pub follow : AllFollow (opened limits) calls c.checker
+  pub lines : c.lines ≡ length texts
+  pub given : c.given ≡ sum_by given_in calls
+
+-- This text was read: its lines that have an end are taken, and what stands after them is pending.
+pub record HasRead (limits : Limits) (text : List ℕ) (c : Checking) (pending : List ℕ)
+    : Type 0 where
+  pub texts : List (List ℕ)
+  pub taken : HasTaken limits texts c
+  pub unended : All (λ byte. byte ≢ 10) pending
+  -- whatever comes then
+  pub lines : (more : List ℕ) → lines_of (text ++ more) ≡ texts ++ lines_of (pending ++ more)

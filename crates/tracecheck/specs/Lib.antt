@@ -1,0 +1,4 @@
+pub mod Calls
+pub mod Checking
+pub mod Verdict
+pub mod Status

@@ -1,0 +1,122 @@
+-- What is said of a trace, and when.
+use Rattle.std.specs.Prelude.{⊤, ◌≡◌, ℕ, ◌+◌, ℤ, List, [], ◌∷◌, ◌++◌, length, map, codes}
+use Rattle.std.specs.Prelude.{◌==◌, if◌then◌else◌, Some, Ok, Err}
+use Rattle.std.specs.Fmt.{decimal, signed_decimal}
+use Rattle.std.specs.List.{sum_by}
+use Rattle.ent_handle.specs.Handle.{Handle}
+use Rattle.ent_handle.specs.Text.{handle_text}
+use Rattle.ent_alloc.specs.Limits.{Limits}
+use Rattle.ent_alloc.specs.Sequential.{opening}
+use Rattle.ent_trace.specs.Checker.{Checked, IsTooMany, Shows}
+use Rattle.ent_trace.specs.Trace.{Agrees}
+use Rattle.ent_trace.specs.Text.{Word, answer_words, cause_text, line_of, line_text, spaced}
+use Rattle.ent_trace.specs.Text.{words_of}
+use Rattle.ent_trace.specs.declared.difference.Difference.{Difference}
+use Rattle.ent_trace.specs.declared.difference.Stop.{Stop}
+use Rattle.ent_trace.specs.declared.difference.Stop.TheVariants as stop
+use Rattle.ent_trace.specs.declared.line.Line.{Line}
+use Rattle.ent_trace.specs.declared.read_fault.Cause.{Cause}
+use Rattle.tracecheck.specs.Calls.{calls_from, given_in}
+use Rattle.tracecheck.specs.Checking.{AllFollow, opened}
+use Rattle.tracecheck.specs.declared.checking.End.{End}
+use Rattle.tracecheck.specs.declared.checking.End.TheVariants as end
+use Rattle.tracecheck.specs.declared.verdict.Refusal.{Refusal}
+use Rattle.tracecheck.specs.declared.verdict.Refusal.TheVariants as refusal
+use Rattle.tracecheck.specs.declared.verdict.Verdict.{Verdict}
+use Rattle.tracecheck.specs.declared.verdict.Verdict.TheVariants as verdict
+
+-- The lines before this one have these calls, and this one has a call too.
+pub record StandsAt (lines : List (List ℕ)) (number : ℕ) (calls : List Line) (next : Line)
+    : Type 0 where
+  pub before : List (List ℕ)
+  pub text : List ℕ
+  pub after : List (List ℕ)
+  pub is : lines ≡ before ++ text ∷ after
+  pub number_is : number ≡ length before + 1
+  pub read : calls_from 1 before ≡ Ok calls
+  pub named : line_of number (words_of text) ≡ Ok (Some next)
+
+-- The difference is shown by the lines up to one of them. No trace that goes on after it agrees.
+pub record DiffersAt (limits : Limits) (lines : List (List ℕ)) (d : Difference) : Type 0 where
+  pub number : ℕ
+  pub calls : List Line
+  pub next : Line
+  pub stands : StandsAt lines number calls next
+  pub checked : Checked
+  pub follow : AllFollow (opened limits) calls checked
+  pub shows : Shows checked number (next ∷ []) d
+  pub none : (rest : List Line) → Agrees (opening limits) (calls ++ next ∷ rest) → ⊥
+
+-- The difference is shown by all lines.
+pub record DiffersInAll (limits : Limits) (lines : List (List ℕ)) (d : Difference) : Type 0 where
+  pub calls : List Line
+  pub read : calls_from 1 lines ≡ Ok calls
+  pub checked : Checked
+  pub follow : AllFollow (opened limits) calls checked
+  pub shows : Shows checked 0 [] d
+  pub none : Agrees (opening limits) calls → ⊥
+
+-- With the reservation that stands there, more is requested than an allocator counts.
+pub record AsksAt (limits : Limits) (lines : List (List ℕ)) (number : ℕ) : Type 0 where
+  pub calls : List Line
+  pub next : Line
+  pub stands : StandsAt lines number calls next
+  pub checked : Checked
+  pub follow : AllFollow (opened limits) calls checked
+  pub many : IsTooMany checked next
+
+-- what may be said of the trace of these lines
+pub data IsVerdict (limits : Limits) (lines : List (List ℕ)) : Verdict → Type 0 where
+  -- they are a trace, and it agrees
+  agrees : (calls : List Line) → calls_from 1 lines ≡ Ok calls → Agrees (opening limits) calls
+      → IsVerdict limits lines (verdict.Agrees (length lines) (sum_by given_in calls))
+  differs : (d : Difference) → DiffersAt limits lines d → IsVerdict limits lines (verdict.Differs d)
+  differs_in_all : (d : Difference) → DiffersInAll limits lines d
+      → IsVerdict limits lines (verdict.Differs d)
+  -- the first line that is none, and its first fault
+  is_none : (number : ℕ) (cause : Cause) → calls_from 1 lines ≡ Err (number, cause)
+      → IsVerdict limits lines (verdict.Refused number (refusal.Line cause))
+  asks_too_many : (number : ℕ) → AsksAt limits lines number
+      → IsVerdict limits lines (verdict.Refused number refusal.Requests)
+
+-- what may be said, unless memory ran out
+abbrev pub MayEnd : Limits → List (List ℕ) → End → Type 0
+MayEnd limits lines (end.Verdict v) = IsVerdict limits lines v
+MayEnd limits lines end.Memory = ⊤
+
+-- what a stop at the line of this number says
+abbrev pub end_of : ℕ → Stop → End
+end_of number (stop.Differs d) = end.Verdict (verdict.Differs d)
+end_of number stop.TooMany = end.Verdict (verdict.Refused number refusal.Requests)
+end_of number stop.Memory = end.Memory
+
+-- ---- the text that says it
+
+abbrev pub refusal_text : Refusal → List ℕ
+refusal_text (refusal.Line cause) = cause_text cause
+refusal_text refusal.Requests = codes "requests"
+
+-- The front of a pool. It shows 8 handles at most, so there may be more after 8.
+abbrev pub pool_words : List Handle → List Word
+pool_words [] = codes "empty" ∷ []
+pool_words (h ∷ front) =
+    map handle_text (h ∷ front) ++ (if length (h ∷ front) == 8 then codes ".." ∷ [] else [])
+
+-- the state in which a line differs
+abbrev pub state_text : List Handle → ℤ → List ℕ
+state_text front at =
+    codes "pool" ++ spaced (pool_words front) ++ codes ", cursor " ++ signed_decimal at ++ codes "\n"
+
+abbrev pub difference_text : Difference → List ℕ
+difference_text d =
+    codes "differs line " ++ decimal d.number ++ codes ": " ++ line_text d.told
+    ++ codes ", expected" ++ spaced (answer_words d.expected) ++ codes "\n"
+    ++ state_text d.front d.cursor
+
+abbrev pub verdict_text : Verdict → List ℕ
+verdict_text (verdict.Agrees lines given) =
+    codes "agrees: " ++ decimal lines ++ codes " lines, " ++ decimal given
+    ++ codes " handles given\n"
+verdict_text (verdict.Differs d) = difference_text d
+verdict_text (verdict.Refused line r) =
+    codes "refused line " ++ decimal line ++ codes " " ++ refusal_text r ++ codes "\n"

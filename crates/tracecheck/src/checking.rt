@@ -1,0 +1,191 @@
+//! Lines of a trace, read and compared one after the other.
+ghost use Rattle.std.specs.Prelude.{◌≡◌, ◌∷◌, ◌++◌, ◌+◌, [], length, List, ℕ, IfOk, IfErr};
+ghost use Rattle.std.specs.Prelude.{Some, Ok};
+ghost use Rattle.ent_alloc.specs.Limits.{Limits as LimitsValue};
+ghost use Rattle.ent_trace.specs.Text.{line_of, words_of};
+ghost use Rattle.ent_trace.specs.declared.line.Line.{Line as LineValue};
+ghost use Rattle.tracecheck.specs.Calls.{given_in, listed_in};
+ghost use Rattle.tracecheck.specs.Checking.{HasTaken};
+ghost use Rattle.tracecheck.specs.Verdict.{MayEnd, end_of};
+ghost use Rattle.tracecheck.specs.declared.checking.End.TheVariants.{Memory as EndMemory};
+
+use crate::verdict::{Refusal, Verdict};
+use ent_alloc::Limits;
+use ent_trace::{AllocReply, Checker, Line, ReadFault, ReserveReply, Stop, read_line};
+use std::alloc::{AllocError, Global};
+
+/// Why the lines of a trace are not taken any further.
+#[derive(Debug, Drop)]
+pub enum End {
+    /// What is to be said of the trace.
+    Verdict(Verdict),
+    /// Memory ran out, or no number was left for a line or for the handles given.
+    Memory,
+}
+
+impl From<AllocError> for End {
+    ghost from_gives = { λ _ made. made ≡ EndMemory };
+
+    fn from(_refused: AllocError) -> Self {
+        End::Memory
+    }
+}
+
+/// Takes the lines of a trace as texts, one after the other. It holds the checker, and nothing of
+/// the lines.
+#[derive(Drop)]
+pub struct Checking {
+    alloc: Global,
+    checker: Checker,
+    lines: u64,
+    given: u64,
+}
+
+impl Checking {
+    /// One that has taken no line. It takes no memory.
+    pub fn new(alloc: Global, limits: Limits) -> Self
+        ensures { HasTaken limits [] result }
+    {
+        Checking {
+            alloc,
+            checker: Checker::new(alloc, limits),
+            lines: 0,
+            given: 0,
+        }
+    }
+
+    /// How many lines were taken.
+    pub fn lines(&self) -> u64
+        ensures { result ≡ self.now.lines }
+    {
+        self.lines
+    }
+
+    /// Takes the next line, which is given without the bytes that end it.
+    ///
+    /// # Errors
+    ///
+    /// `Verdict` if the line is none, or if an answer isn't the allocator's. `Memory` if memory ran
+    /// out.
+    pub fn take(self, text: &[u8]) -> Result<Self, End>
+        ensures taken { IfOk result (λ next. (limits : LimitsValue) (texts : List (List ℕ))
+            → HasTaken limits texts self → HasTaken limits (texts ++ text.now ∷ []) next) }
+        ensures ends { IfErr result (λ end. (limits : LimitsValue)
+            (texts after : List (List ℕ)) → HasTaken limits texts self
+            → MayEnd limits (texts ++ text.now ∷ after) end) }
+    {
+        let Some(number) = self.lines.checked_add(1) else {
+            return Err(End::Memory);
+        };
+        match read_line(self.alloc, number, text) {
+            Ok(Some(line)) => self.take_call(number, line),
+            Ok(None) => Ok(self.take_none(number)),
+            Err(ReadFault::Cause(cause)) => Err(End::Verdict(Verdict::Refused {
+                line: number,
+                refusal: Refusal::Line(cause),
+            })),
+            Err(ReadFault::Memory) => Err(End::Memory),
+        }
+    }
+
+    // Takes a line without words.
+    fn take_none(self, number: u64) -> Self
+        ensures { result ≡ record self { lines = number } }
+    {
+        let Checking {
+            alloc,
+            checker,
+            lines: _,
+            given,
+        } = self;
+        Checking {
+            alloc,
+            checker,
+            lines: number,
+            given,
+        }
+    }
+
+    // Takes the call of the line that has this number.
+    fn take_call(self, number: u64, line: Line) -> Result<Self, End>
+        requires { number ≡ self.lines + 1 }
+        ensures taken { IfOk result (λ next. (limits : LimitsValue) (texts : List (List ℕ))
+            (text : List ℕ) → line_of number (words_of text) ≡ Ok (Some line)
+            → HasTaken limits texts self → HasTaken limits (texts ++ text ∷ []) next) }
+        ensures ends { IfErr result (λ end. (limits : LimitsValue)
+            (texts after : List (List ℕ)) (text : List ℕ)
+            → line_of number (words_of text) ≡ Ok (Some line) → HasTaken limits texts self
+            → MayEnd limits (texts ++ text ∷ after) end) }
+    {
+        let Checking {
+            alloc,
+            checker,
+            lines: _,
+            given,
+        } = self;
+        let Some(given) = given.checked_add(given_in(&line)) else {
+            return Err(End::Memory);
+        };
+        match checker.take(number, line) {
+            Ok(checker) => Ok(Checking {
+                alloc,
+                checker,
+                lines: number,
+                given,
+            }),
+            Err(stop) => Err(end_of(number, stop)),
+        }
+    }
+
+    /// Says what is to be said of a trace that ends here.
+    pub fn finish(self) -> End
+        ensures { (limits : LimitsValue) (texts : List (List ℕ)) → HasTaken limits texts self
+            → MayEnd limits texts result }
+    {
+        let Checking {
+            alloc: _,
+            checker,
+            lines,
+            given,
+        } = self;
+        match checker.finish() {
+            Ok(_) => End::Verdict(Verdict::Agrees { lines, given }),
+            Err(Stop::Differs(difference)) => End::Verdict(Verdict::Differs(difference)),
+            Err(_) => End::Memory,
+        }
+    }
+}
+
+// What a stop at the line of this number says of the trace.
+fn end_of(number: u64, stop: Stop) -> End
+    ensures { result ≡ end_of number stop }
+{
+    match stop {
+        Stop::Differs(difference) => End::Verdict(Verdict::Differs(difference)),
+        Stop::TooMany => End::Verdict(Verdict::Refused {
+            line: number,
+            refusal: Refusal::Requests,
+        }),
+        Stop::Memory => End::Memory,
+    }
+}
+
+// How many handles a call says were given out.
+fn given_in(line: &Line) -> u64
+    ensures { result ≡ given_in line.now }
+{
+    match line {
+        Line::Alloc(Some(AllocReply::Handle(_))) => 1,
+        Line::Reserve(reservation) => listed_in(&reservation.reply),
+        _ => 0,
+    }
+}
+
+fn listed_in(reply: &ReserveReply) -> u64
+    ensures { result ≡ listed_in reply.now }
+{
+    match reply {
+        ReserveReply::Handles(handles) => handles.len() as u64,
+        _ => 0,
+    }
+}

@@ -1,0 +1,24 @@
+//! Compares a recorded trace of an entity allocator with the proved one: `tracecheck` reads it on
+//! standard input, and writes whether it agrees, or the first line that doesn't.
+#![tactic(auto)]
+
+mod checking;
+mod command_line;
+#[cfg(test)]
+mod failing;
+mod lines;
+mod program;
+mod progress;
+mod running;
+mod status;
+mod verdict;
+
+use program::start;
+use std::io::IsTerminal;
+use std::process::ExitCode;
+
+fn main(rt: HostRuntime) -> ExitCode {
+    let errors = rt.stderr();
+    let tells = errors.is_terminal();
+    ExitCode::from(start(&rt, rt.stdin(), rt.stdout(), errors, tells))
+}

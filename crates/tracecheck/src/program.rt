@@ -1,0 +1,144 @@
+//! The program: what its words ask for, done between two devices, and what it says on the error
+//! stream.
+ghost use Rattle.std.specs.Prelude.{◌≡◌, ◌≢◌, ◌≤◌, IfOk, OnErr, OnOk, false, string_bytes};
+ghost use Rattle.std.specs.Io.KnownBytes.{Appends};
+ghost use Rattle.devices.specs.Device.{OneFails};
+ghost use Rattle.tracecheck.specs.Status.{HasSaid, exit_number, said};
+
+use crate::command_line::{LineFault, command_line};
+use crate::running::check_trace;
+use crate::status::Status;
+use devices::{Counted, Sink, Source};
+use std::alloc::{AllocError, Global};
+use std::convert::AsStr;
+use std::env::Env;
+use std::io::{ErrorKind, Read, Write};
+use std::{env, io};
+
+// The exit status for words that are no command line of the program, and for a request for help.
+const LINE_FAULT: u8 = 2;
+
+/// Checks the trace that the input gives, and returns the exit status. The words after the
+/// program's name give the limits.
+///
+/// | Status | Meaning | On the error stream |
+/// |---|---|---|
+/// | 0 | The trace agrees, and one line of output says so. | nothing |
+/// | 1 | The trace differs. Two lines of output say where, and show the state. | nothing |
+/// | 2 | The text is no trace. One line of output names the line. | nothing |
+/// | 2 | The words are no command line, or ask for help. No device is used. | clap's text |
+/// | 3 | Memory ran out. Nothing was written. | `memory` |
+/// | 4 | A call of the input or the output failed. | `device` |
+///
+/// If `tells`, the error stream is also told how many lines were read, after each million. A
+/// failure of the error stream changes no status.
+pub fn execute<S: AsStr, I: Source, O: Sink, E: Sink>(
+    alloc: Global,
+    words: &[S],
+    input: &mut I,
+    output: &mut O,
+    errors: &mut E,
+    tells: bool,
+) -> u8
+    ensures statuses { result ≤ 4 }
+    ensures agrees { result ≡ 0 → HasSaid Status.Agrees
+        (I.remaining input.old) (O.written output.old) (O.written output.new) }
+    ensures differs { result ≡ 1 → HasSaid Status.Differs
+        (I.remaining input.old) (O.written output.old) (O.written output.new) }
+    ensures memory { result ≡ 3 → output.new ≡ output.old }
+    ensures device { result ≡ 4 → OneFails
+        (I.failures input.old) (I.failures input.new)
+        (O.failures output.old) (O.failures output.new) }
+    ensures input_unfailed { result ≢ 4 → I.failures input.new ≡ I.failures input.old }
+    ensures output_unfailed { result ≢ 4 → O.failures output.new ≡ O.failures output.old }
+    ensures quiet { tells ≡ false → result ≤ 1 → errors.new ≡ errors.old }
+{
+    match command_line(alloc, words) {
+        Ok(limits) => {
+            let status = check_trace(alloc, input, output, errors, tells, limits);
+            finish(errors, status)
+        }
+        Err(LineFault::Line(error)) => refuse_line(format!(in alloc; "{error}"), errors),
+        Err(LineFault::Memory) => finish(errors, Status::Memory),
+    }
+}
+
+// Ends the program with clap's text on words that are no command line, if there was memory for it.
+fn refuse_line<E: Sink>(text: Result<String, AllocError>, errors: &mut E) -> u8
+    ensures status { OnOk text (result ≡ 2) }
+    ensures text_said { IfOk text (λ text. E.failures errors.new ≡ E.failures errors.old
+        → Appends (E.written errors.old) (E.written errors.new) (string_bytes text)) }
+    ensures memory { OnErr text (result ≡ 3) }
+{
+    match text {
+        Ok(text) => {
+            let _ = errors.put(text.as_bytes());
+            LINE_FAULT
+        }
+        Err(AllocError) => finish(errors, Status::Memory),
+    }
+}
+
+// Ends the program if its words can't be read, and returns the exit status.
+fn refuse_words<E: Sink>(error: &io::Error, errors: &mut E) -> u8
+    ensures { result ≤ 4 }
+{
+    match error.kind() {
+        ErrorKind::OutOfMemory => finish(errors, Status::Memory),
+        ErrorKind::InvalidData => {
+            let _ = errors.put(b"error: invalid UTF-8 was detected in one or more arguments\n");
+            LINE_FAULT
+        }
+        _ => finish(errors, Status::Device),
+    }
+}
+
+// Says on the error stream what the output doesn't show, and gives the status its number.
+fn finish<E: Sink>(errors: &mut E, status: Status) -> u8
+    ensures number { result ≡ exit_number status }
+    ensures quiet { result ≤ 2 → errors.new ≡ errors.old }
+    ensures said { E.failures errors.new ≡ E.failures errors.old
+        → Appends (E.written errors.old) (E.written errors.new) (said status) }
+{
+    let _ = match status {
+        Status::Agrees | Status::Differs | Status::Refused => Ok(()),
+        Status::Memory => errors.put(b"memory\n"),
+        Status::Device => errors.put(b"device\n"),
+    };
+    status.number()
+}
+
+/// Runs the program on the words that it was started with, and returns its exit status.
+pub fn start<R, I: Read + Drop, O: Write + Drop, E: Write + Drop>(
+    rt: &R,
+    input: I,
+    output: O,
+    errors: E,
+    tells: bool,
+) -> u8
+where
+    R: Env + AllocGlobal,
+    ensures { result ≤ 4 }
+{
+    let mut input = Counted::new(input);
+    let mut output = Counted::new(output);
+    let mut errors = Counted::new(errors);
+    match words(rt) {
+        Ok(words) => execute(
+            rt.alloc(),
+            &words,
+            &mut input,
+            &mut output,
+            &mut errors,
+            tells,
+        ),
+        Err(error) => refuse_words(&error, &mut errors),
+    }
+}
+
+// The words after the program's name.
+fn words(rt: &(impl Env + AllocGlobal)) -> io::Result<Vec<String>> {
+    let mut words = env::args(rt)?;
+    let _ = words.next();
+    Ok(words.collect(rt.alloc())?)
+}

@@ -1,0 +1,87 @@
+//! The kit's map by rising key: a call that may grow it returns a `Result`.
+
+pub use ::alloc::collections::LinkedList;
+
+use super::alloc::{AllocError, Global};
+use super::vec::Vec;
+use core::ops::{Deref, DerefMut};
+
+/// A map by rising key. It is Rust's.
+pub struct BTreeMap<K, V>(::alloc::collections::BTreeMap<K, V>);
+
+/// At least as much memory as a node of Rust's map takes: at most 11 pairs and 12 nodes below, and where
+/// it hangs.
+#[repr(C)]
+struct Node<K, V>([Option<(K, V)>; 11], [usize; 14]);
+
+/// A map of less than 2^32 keys has no more levels than this, and an insertion makes at most one node
+/// for each, and one above.
+const LEVELS: usize = 14;
+
+impl<K: Ord, V> BTreeMap<K, V> {
+    /// The contract: no pairs. It takes no memory.
+    pub fn new(_alloc: Global) -> Self {
+        BTreeMap(::alloc::collections::BTreeMap::new())
+    }
+
+    /// The contract: the key has the value, and the one that it had comes back; or an `Err`, and nothing
+    /// has changed. It takes no memory for a key that has a value.
+    ///
+    /// Rust has no stable map that returns if memory is refused. So as much as it can take is asked for
+    /// and given back first. If another thread takes it meanwhile, and no other memory is left, the
+    /// program ends.
+    pub fn insert(&mut self, key: K, value: V) -> Result<Option<V>, AllocError> {
+        if let Some(old) = self.0.get_mut(&key) {
+            return Ok(Some(core::mem::replace(old, value)));
+        }
+        let room = Vec::<Node<K, V>>::with_capacity(Global, LEVELS)?;
+        drop(core::hint::black_box(room));
+        Ok(self.0.insert(key, value))
+    }
+}
+
+impl<K, V> Deref for BTreeMap<K, V> {
+    type Target = ::alloc::collections::BTreeMap<K, V>;
+
+    fn deref(&self) -> &Self::Target {
+        &self.0
+    }
+}
+
+impl<K, V> DerefMut for BTreeMap<K, V> {
+    fn deref_mut(&mut self) -> &mut Self::Target {
+        &mut self.0
+    }
+}
+
+#[cfg(test)]
+mod tests {
+    use super::super::refusing::refuse;
+    use super::*;
+
+    #[test]
+    fn it_is_a_map_by_rising_key() {
+        let mut map = BTreeMap::new(Global);
+        for key in [5_u32, 1, 9, 1] {
+            map.insert(key, key * 2).expect("memory");
+        }
+        assert!(map.iter().eq([(&1, &2), (&5, &10), (&9, &18)]));
+        assert_eq!(map.insert(5, 0), Ok(Some(10)));
+        assert_eq!(map.insert(6, 1), Ok(None));
+        assert_eq!(map.get(&5), Some(&0));
+        assert_eq!(map.remove(&5), Some(0));
+        map.clear();
+        assert!(map.is_empty());
+    }
+
+    #[test]
+    fn a_refused_insertion_changes_nothing_and_a_key_with_a_value_needs_none() {
+        let mut map = BTreeMap::new(Global);
+        assert_eq!(refuse(|| map.insert(1_u32, 2_u64)), Err(AllocError));
+        assert!(map.is_empty());
+        map.insert(1, 2).expect("memory");
+        assert_eq!(refuse(|| map.insert(1, 3)), Ok(Some(2)));
+        assert_eq!(refuse(|| map.insert(2, 3)), Err(AllocError));
+        assert!(map.iter().eq([(&1, &3)]));
+    }
+}

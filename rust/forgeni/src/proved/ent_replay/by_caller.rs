@@ -1,0 +1,79 @@
+// Made of crates/ent_replay/src/by_caller.rt by rust/erase. It isn't edited by hand.
+
+use crate::proved::ent_handle::Memory;
+use crate::kit::alloc::Global;
+use crate::kit::collections::BTreeMap;
+
+/// A value for each of some callers.
+pub struct ByCaller<V> {
+    values: BTreeMap<u32, V>,
+}
+
+impl<V: Copy> ByCaller<V> {
+    /// No caller has a value. It takes no memory.
+    #[inline]
+    pub fn new(alloc: Global) -> Self
+        // ensures { result ≡ map.empty }
+    {
+        ByCaller {
+            values: BTreeMap::new(alloc),
+        }
+    }
+
+    /// Whether no caller has a value.
+    #[inline]
+    pub fn is_empty(&self) -> bool
+        // ensures { IsTrue result ↔ (self.now ≡ map.empty) }
+    {
+        self.values.is_empty()
+    }
+
+    /// The caller's value, found in logarithmic time.
+    #[inline]
+    pub fn get(&self, caller: u32) -> Option<V>
+        // ensures { result ≡ map.get self.now caller }
+    {
+        self.values.get(&caller).copied()
+    }
+
+    /// Writes the caller's value.
+    ///
+    /// # Errors
+    ///
+    /// Nothing changes if memory runs out.
+    #[inline]
+    pub fn insert(&mut self, caller: u32, value: V) -> Result<(), Memory>
+        // ensures ok { OnOk result (self.new ≡ map.insert self.old caller value) }
+        // ensures err { OnErr result (self.new ≡ self.old) }
+    {
+        self.values.insert(caller, value)?;
+        Ok(())
+    }
+
+    /// Writes the value of a caller that has one. It takes no memory.
+    #[inline]
+    pub fn replace(&mut self, caller: u32, value: V)
+        // requires { IsSome (map.get self.old caller) }
+        // ensures { self.new ≡ map.insert self.old caller value }
+    {
+        if let Some(old) = self.values.get_mut(&caller) {
+            *old = value;
+        }
+    }
+
+    /// Takes the caller's value out, if there is one.
+    #[inline]
+    pub fn remove(&mut self, caller: u32)
+        // ensures { self.new ≡ map.remove self.old caller }
+    {
+        let _ = self.values.remove(&caller);
+    }
+
+    /// Takes all values out.
+    #[inline]
+    pub fn clear(&mut self)
+        // ensures { self.new ≡ map.empty }
+    {
+        self.values.clear();
+    }
+}

@@ -1,0 +1,25 @@
+// Made of crates/ent_replay/src/lib.rt by rust/erase. It isn't edited by hand.
+
+//! Schedules of allocator events: their text, the machine that applies them, and the lines that
+//! report their outcomes.
+
+mod by_caller;
+mod event;
+mod fault;
+mod handle_list;
+mod machine;
+mod outcome;
+mod read_fault;
+mod reading;
+mod stored_call;
+mod writing;
+
+pub use by_caller::ByCaller;
+pub use event::Event;
+pub use fault::ReplayFault;
+pub use handle_list::HandleList;
+pub use machine::{Machine, RunMemory};
+pub use outcome::Outcome;
+pub use read_fault::{Cause, ReadFault};
+pub use reading::read_schedule;
+pub use writing::write_outcome;

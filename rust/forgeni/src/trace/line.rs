@@ -1,0 +1,151 @@
+//! Calls as the proved checker takes them.
+
+use super::call::{Call, Reservation};
+use super::reply::{AllocReply, FlushReply, FreeReply, ReserveReply};
+use crate::entities::State;
+use crate::errors::OutOfMemory;
+use crate::handle::Handle;
+use crate::kit::alloc::Global;
+use crate::kit::vec::Vec as List;
+use crate::limits::Limits;
+use crate::lists::all_handles;
+use crate::proved::ent_replay::HandleList;
+use crate::proved::ent_trace::{self, Line};
+use crate::proved::{ent_alloc, ent_handle};
+use alloc::vec::Vec;
+
+/// The limits as they are. Those of an allocator of this package keep a handle back.
+pub(super) fn limits(limits: Limits) -> ent_alloc::Limits {
+    ent_alloc::Limits::new(limits.slots(), limits.generations()).unwrap_or_default()
+}
+
+impl Call {
+    /// The call as a line of this number.
+    pub(super) fn line(&self, number: u64) -> Result<Line, OutOfMemory> {
+        Ok(match self {
+            Self::Alloc(reply) => Line::Alloc(reply.proved()),
+            Self::Free(handle, reply) => Line::Free(handle.proved(), reply.proved()),
+            Self::Flush(reply) => Line::Flush(reply.proved()?),
+            Self::Reserve(reservation) => Line::Reserve(ent_trace::Reservation {
+                number,
+                caller: reservation.caller,
+                requested: reservation.requested,
+                reply: reservation.reply.proved()?,
+            }),
+            Self::State(handle, state) => Line::State(handle.proved(), Some(state.proved())),
+            Self::Len(len) => Line::Len(Some(*len)),
+        })
+    }
+
+    /// The call of a line that the proved checker gives.
+    pub(super) fn of(line: Line) -> Self {
+        match line {
+            Line::Alloc(reply) => Self::Alloc(reply.map_or(AllocReply::Untold, AllocReply::of)),
+            Line::Free(handle, reply) => Self::Free(
+                Handle::of(handle),
+                reply.map_or(FreeReply::Untold, FreeReply::of),
+            ),
+            Line::Flush(reply) => Self::Flush(reply.map_or(FlushReply::Untold, FlushReply::of)),
+            Line::Reserve(it) => Self::Reserve(Reservation {
+                caller: it.caller,
+                requested: it.requested,
+                reply: ReserveReply::of(it.reply),
+            }),
+            Line::State(handle, state) => {
+                Self::State(Handle::of(handle), state.map_or(State::Gone, State::of))
+            }
+            Line::Len(len) => Self::Len(len.unwrap_or(0)),
+        }
+    }
+}
+
+impl AllocReply {
+    fn proved(self) -> Option<ent_trace::AllocReply> {
+        match self {
+            Self::Handle(handle) => Some(ent_trace::AllocReply::Handle(handle.proved())),
+            Self::Space => Some(ent_trace::AllocReply::Space),
+            Self::NeedsFlush => Some(ent_trace::AllocReply::NeedsFlush),
+            Self::Untold => None,
+        }
+    }
+
+    fn of(reply: ent_trace::AllocReply) -> Self {
+        match reply {
+            ent_trace::AllocReply::Handle(handle) => Self::Handle(Handle::of(handle)),
+            ent_trace::AllocReply::Space => Self::Space,
+            ent_trace::AllocReply::NeedsFlush => Self::NeedsFlush,
+        }
+    }
+}
+
+impl FreeReply {
+    fn proved(self) -> Option<ent_trace::FreeReply> {
+        match self {
+            Self::Freed => Some(ent_trace::FreeReply::Freed),
+            Self::Next(handle) => Some(ent_trace::FreeReply::Next(handle.proved())),
+            Self::Retired => Some(ent_trace::FreeReply::Retired),
+            Self::NotAlive => Some(ent_trace::FreeReply::NotAlive),
+            Self::NeedsFlush => Some(ent_trace::FreeReply::NeedsFlush),
+            Self::Untold => None,
+        }
+    }
+
+    fn of(reply: ent_trace::FreeReply) -> Self {
+        match reply {
+            ent_trace::FreeReply::Freed => Self::Freed,
+            ent_trace::FreeReply::Next(handle) => Self::Next(Handle::of(handle)),
+            ent_trace::FreeReply::Retired => Self::Retired,
+            ent_trace::FreeReply::NotAlive => Self::NotAlive,
+            ent_trace::FreeReply::NeedsFlush => Self::NeedsFlush,
+        }
+    }
+}
+
+impl FlushReply {
+    fn proved(&self) -> Result<Option<ent_trace::FlushReply>, OutOfMemory> {
+        Ok(match self {
+            Self::Born(handles) => Some(ent_trace::FlushReply::Born(proved_list(handles)?)),
+            Self::Count(count) => Some(ent_trace::FlushReply::Count(*count)),
+            Self::Untold => None,
+        })
+    }
+
+    fn of(reply: ent_trace::FlushReply) -> Self {
+        match reply {
+            ent_trace::FlushReply::Born(handles) => Self::Born(list(handles)),
+            ent_trace::FlushReply::Count(count) => Self::Count(count),
+        }
+    }
+}
+
+impl ReserveReply {
+    fn proved(&self) -> Result<ent_trace::ReserveReply, OutOfMemory> {
+        Ok(match self {
+            Self::Handles(handles) => ent_trace::ReserveReply::Handles(proved_list(handles)?),
+            Self::Space => ent_trace::ReserveReply::Space,
+            Self::SpaceLeft(left) => ent_trace::ReserveReply::SpaceLeft(*left),
+        })
+    }
+
+    fn of(reply: ent_trace::ReserveReply) -> Self {
+        match reply {
+            ent_trace::ReserveReply::Handles(handles) => Self::Handles(list(handles)),
+            ent_trace::ReserveReply::Space => Self::Space,
+            ent_trace::ReserveReply::SpaceLeft(left) => Self::SpaceLeft(left),
+        }
+    }
+}
+
+/// A copy of the handles.
+fn proved_list(handles: &[Handle]) -> Result<HandleList, OutOfMemory> {
+    let mut list: List<ent_handle::Handle> = List::with_capacity(Global, handles.len())?;
+    for handle in handles {
+        list.push_reserved(handle.proved());
+    }
+    Ok(HandleList::new(list))
+}
+
+/// The handles, in the memory of the list.
+pub(super) fn list(handles: HandleList) -> Vec<Handle> {
+    all_handles(handles.into_vec())
+}
