@@ -51,8 +51,8 @@ fn check<I: Source, E: Sink>(
     Ok(End::Memory)
 }
 
-/// Checks the trace that the input gives against an allocator of these limits, and writes the line
-/// that says what was found.
+/// Checks the trace that the input gives against an allocator of these limits, and writes what was
+/// found: one line, or two for a difference.
 ///
 /// It holds the checker, the line that has no end yet, and one piece of the input. So an input may
 /// have any length. It stops at the first line that is none or differs.
@@ -101,7 +101,7 @@ fn status_of(verdict: &Verdict) -> Status
     }
 }
 
-// Writes the line that says it.
+// Writes the text that says it.
 fn say<O: Sink>(alloc: Global, output: &mut O, verdict: &Verdict) -> Status
     ensures ends { (result ≡ status_of verdict.now) ⊎ (result ≡ Status.Memory)
         ⊎ (result ≡ Status.Device) }
