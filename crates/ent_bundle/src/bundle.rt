@@ -3,40 +3,37 @@ ghost use Rattle.std.specs.Prelude.{OnOk, OnErr, IfOk};
 ghost use Rattle.std.specs.FinMap.{put, find};
 ghost use Rattle.ent_handle.specs.Component.{component_cmp};
 ghost use Rattle.ent_handle.specs.declared.component.ComponentId.{ComponentId as Id};
-ghost use Rattle.ent_queue.specs.Command.{IsBundle, bundle_of};
+ghost use Rattle.ent_bundle.specs.Bundle.{IsBundle, bundle_of};
 
+use crate::pairs::search;
 use ent_handle::{ComponentId, Memory};
-use ent_sorted::search;
 use smallvec::SmallVec;
 use std::alloc::Global;
 use std::marker::Model;
 
-/// How many components lie in the bundle itself.
-const INLINE: usize = 4;
-
-/// Components and their values, by strictly rising number.
+/// Components and their values, by strictly rising number. Contracts see the list of them.
 ///
-/// A bundle of up to four components takes no memory.
+/// Up to `INLINE` components lie in the bundle itself, and take no memory.
 #[derive(Drop)]
-pub struct Bundle {
+pub struct Bundle<const INLINE: usize> {
     items: SmallVec<(ComponentId, i64), INLINE>,
 }
 
-impl Model for Bundle {
+impl<const INLINE: usize> Model for Bundle<INLINE> {
     ghost use Rattle.std.specs.Prelude.{ℤ, List};
     ghost use Rattle.ent_handle.specs.declared.component.ComponentId.{ComponentId};
 
     ghost Value = { List (ComponentId × ℤ) };
 
     ghost use Rattle.std.specs.Prelude.{◌≤◌};
-    ghost use Rattle.ent_queue.specs.Command.{IsBundle};
+    ghost use Rattle.ent_bundle.specs.Bundle.{IsBundle};
 
     ghost view = { λ b. b.items.items };
 
-    ghost invariant = { λ b. IsBundle b.items.items × (4 ≤ b.items.capacity) };
+    ghost invariant = { λ b. IsBundle b.items.items × (INLINE ≤ b.items.capacity) };
 }
 
-impl Bundle {
+impl<const INLINE: usize> Bundle<INLINE> {
     /// A bundle with no components.
     pub fn new(alloc: Global) -> Self
         ensures { result ≡ [] }
@@ -46,17 +43,31 @@ impl Bundle {
         }
     }
 
+    /// A bundle with no components, and room for so many.
+    ///
+    /// # Errors
+    ///
+    /// `Memory`, which needs a count of more than `INLINE`.
+    pub fn with_capacity(alloc: Global, count: usize) -> Result<Self, Memory>
+        ensures ok { IfOk result (λ bundle. bundle ≡ []) }
+        ensures memory { OnErr result (INLINE < count) }
+    {
+        Ok(Bundle {
+            items: SmallVec::with_capacity(alloc, count)?,
+        })
+    }
+
     /// A bundle of these components, in any order. Of one that stands there twice the last value
     /// counts.
     ///
     /// # Errors
     ///
-    /// `Memory`, which needs more than four different components. Nothing is left behind.
+    /// `Memory`, which needs more than `INLINE` different components. Nothing is left behind.
     pub fn of(alloc: Global, items: &[(ComponentId, i64)]) -> Result<Self, Memory>
         ensures ok { IfOk result (λ bundle. bundle ≡ bundle_of items.now) }
         ensures last { IfOk result (λ bundle. (id : Id) →
             find component_cmp id bundle ≡ find component_cmp id (reverse items.now)) }
-        ensures memory { OnErr result (4 < length (bundle_of items.now)) }
+        ensures memory { OnErr result (INLINE < length (bundle_of items.now)) }
     {
         let mut bundle = Bundle::new(alloc);
         for (id, value) in items {
@@ -69,12 +80,12 @@ impl Bundle {
     ///
     /// # Errors
     ///
-    /// `Memory`, which needs a component that is not there and at least four that are. Nothing has
-    /// changed.
+    /// `Memory`, which needs a component that is not there and at least `INLINE` that are. Nothing
+    /// has changed.
     pub fn put(&mut self, id: ComponentId, value: i64) -> Result<(), Memory>
         ensures ok { OnOk result (self.new ≡ put component_cmp id value self.old) }
         ensures memory { OnErr result
-            ((4 ≤ length self.old) × (find component_cmp id self.old ≡ None)) }
+            ((INLINE ≤ length self.old) × (find component_cmp id self.old ≡ None)) }
         ensures err { OnErr result (self.new ≡ self.old) }
     {
         match search(self.items.as_slice(), id) {

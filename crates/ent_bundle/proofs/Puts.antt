@@ -1,5 +1,5 @@
 -- Components that are put one after the other.
-use Rattle.std.proofs.Common.{◌≡◌, ◌∙◌, refl, ap, sym, subst, arith, ◌+◌, ◌<◌, ◌≤◌, ℤ, List, []}
+use Rattle.std.proofs.Common.{◌≡◌, ◌∙◌, refl, ap, sym, subst, arith, ◌+◌, ◌<◌, ◌≤◌, ℕ, ℤ, List, []}
 use Rattle.std.proofs.Common.{◌∷◌, length, reverse, true, false, T, cond, is_some, Some, None}
 use mathlib.Core.List.{reverse_aux}
 use Rattle.std.specs.FinMap.{put, find, is_sorted}
@@ -7,7 +7,7 @@ use Rattle.std.specs.FinMap.Entries.{find-put, length-put, is_sorted-put}
 use Rattle.std.specs.Ordering.{eq_by_cmp}
 use Rattle.ent_handle.specs.declared.component.ComponentId.{ComponentId}
 use Rattle.ent_handle.specs.Component.{component_cmp, component_cmp_total}
-use Rattle.ent_queue.specs.Command.{Bundle, with_put, bundle_of}
+use Rattle.ent_bundle.specs.Bundle.{Bundle, with_put, bundle_of}
 
 -- A later item counts before an earlier one, and before what was held.
 find_with : (id : ComponentId) (held earlier items : List (ComponentId × ℤ))
@@ -53,12 +53,12 @@ no_shorter held (item ∷ items) rising =
     (still_rising item.0 item.1 held rising) in
     omega arith
 
--- Where four are held, one that is not there makes more than four.
-pub more_than_four : (held : Bundle) (id : ComponentId) (value : ℤ)
+-- Where at least n are held, one that is not there makes more than n.
+pub more_than : (n : ℕ) (held : Bundle) (id : ComponentId) (value : ℤ)
     (items : List (ComponentId × ℤ)) → T (is_sorted component_cmp held)
-    → 4 ≤ length held → find component_cmp id held ≡ None
-    → 4 < length (with_put (put component_cmp id value held) items)
-more_than_four held id value items rising full absent =
+    → n ≤ length held → find component_cmp id held ≡ None
+    → n < length (with_put (put component_cmp id value held) items)
+more_than n held id value items rising full absent =
     let one : length (put component_cmp id value held) ≡ length held + 1 =
     grown id value held rising
     ∙ ap (λ o. cond (is_some o) (length held) (length held + 1)) absent in

@@ -6,23 +6,24 @@ use Rattle.std.proofs.Math.ListN.{length-set}
 use Rattle.std.proofs.lemmas.Int.{to_z-of_z}
 use Rattle.std.specs.FinMap.{put, find, is_sorted}
 use Rattle.ent_handle.specs.Component.{component_cmp, component_cmp_total as total}
-use Rattle.ent_queue.specs.Command.{Bundle, IsBundle}
-use Rattle.ent_sorted.specs.Position.{IsAt, IsGapFor}
-use Rattle.ent_sorted.proofs.Putting.{find_in_gap, written, inserted}
+use Rattle.ent_bundle.specs.Bundle.{Bundle, IsBundle}
+use Rattle.ent_bundle.specs.Position.{IsAt, IsGapFor}
+use Rattle.ent_bundle.proofs.Putting.{find_in_gap, written, inserted}
 use Rattle.std.proofs.lemmas.Bool.{cases_lt, false≢true}
-use Rattle.ent_queue.proofs.Results.{OnErr-always}
-use Rattle.ent_queue.proofs.Bundles.{bundle_put, refill_whole}
-use Rattle.ent_queue.proofs.bundle.Bundle.put.Goals as goal
+use Rattle.ent_bundle.proofs.Results.{OnErr-always}
+use Rattle.ent_bundle.proofs.Bundles.{bundle_put, refill_whole}
+use Rattle.ent_bundle.proofs.bundle.Bundle.put.Goals as goal
+use Rattle.ent_bundle.proofs.bundle.Bundle.put.Given.{Over}
 
 -- what is written over
-over : (c : goal.After-self-1) → refill (length c.self.inside.items.items) c.self.inside.items.items
+over : (g : Over) (c : goal.After-self-1 g) → refill (length c.self.inside.items.items) c.self.inside.items.items
     (set c.deref_mut.result.now c.in-Ok.index (
       (get_or c.deref_mut.result.now c.in-Ok.index (record { 0 = 0 }, pos 0)).0,
       cast_signed w64
           (cast_unsigned w64 c.args.value),
     )) ≡ put component_cmp c.args.id c.args.value
     c.self.inside.items.items
-over c =
+over g c =
     let es = c.self.inside.items.items in
     let index = c.in-Ok.index in
     let at = subst (λ (b : Bundle). IsAt component_cmp b c.args.id index) c.as_slice.ensures
@@ -36,19 +37,19 @@ over c =
     c.self.invariant.0.rising at refl (to_z-of_z w64 c.args.value c.ranges.value)
 
 pub invariant_of-self : goal.invariant_of-self
-invariant_of-self c = (
-  subst IsBundle (sym (over c)) (bundle_put c.args.id c.args.value (search rules)
+invariant_of-self g c = (
+  subst IsBundle (sym (over g c)) (bundle_put c.args.id c.args.value (search rules)
       c.ranges.value c.self.inside.items.items c.self.invariant.0),
   c.self.invariant.1,
 )
 
 pub returns-in-Ok-clause-ok : goal.returns-in-Ok-clause-ok
-returns-in-Ok-clause-ok c = over c ∙ ap (put component_cmp c.args.id c.args.value) c.self.view_is
+returns-in-Ok-clause-ok g c = over g c ∙ ap (put component_cmp c.args.id c.args.value) c.self.view_is
 
 -- what is added
-added : (c : goal.In_ok-insert-in-Err) → c.insert.new.self.items ≡ put component_cmp c.args.id
+added : (g : Over) (c : goal.In_ok-insert-in-Err g) → c.insert.new.self.items ≡ put component_cmp c.args.id
     c.args.value c.self.inside.items.items
-added c =
+added g c =
     let es = c.self.inside.items.items in
     let gap = subst (λ (b : Bundle). IsGapFor component_cmp b c.args.id c.in-Err.index)
     c.as_slice.ensures c.in-Err.ensures.absent in
@@ -57,32 +58,32 @@ added c =
     (to_z-of_z w64 c.args.value c.ranges.value)
 
 pub invariant_of-self-in-Continue-1 : goal.invariant_of-self-in-Continue-1
-invariant_of-self-in-Continue-1 c = (
-  subst IsBundle (sym (added c)) (bundle_put c.args.id c.args.value (search rules)
+invariant_of-self-in-Continue-1 g c = (
+  subst IsBundle (sym (added g c)) (bundle_put c.args.id c.args.value (search rules)
       c.ranges.value c.self.inside.items.items c.self.invariant.0),
   omega
       (arith, c.insert.ensures.capacity, c.self.invariant.1),
 )
 
 pub returns-in_ok-insert-in-Err-clause-ok : goal.returns-in_ok-insert-in-Err-clause-ok
-returns-in_ok-insert-in-Err-clause-ok c = added c ∙ ap (put component_cmp c.args.id c.args.value)
+returns-in_ok-insert-in-Err-clause-ok g c = added g c ∙ ap (put component_cmp c.args.id c.args.value)
     c.self.view_is
 
 pub returns-in_err-insert-in-Err-clause-memory : goal.returns-in_err-insert-in-Err-clause-memory
-returns-in_err-insert-in-Err-clause-memory c =
+returns-in_err-insert-in-Err-clause-memory g c =
     let es = c.self.inside.items.items in
     let gap = subst (λ (b : Bundle). IsGapFor component_cmp b c.args.id c.in-Err.index)
     c.as_slice.ensures c.in-Err.ensures.absent in
     let none = find_in_gap total es c.args.id c.in-Err.index gap in
-    let full : 4 ≤ length es =
+    let full : g.row.INLINE ≤ length es =
     elim (cases_lt c.self.inside.items.capacity (length es + 1)) [
       | inl below ↦ omega (arith, below, c.self.invariant.1)
       | inr room ↦ absurd (false≢true (c.in_err-insert-in-Err.ensures.succeeds room))
     ] in
     OnErr-always c.from_residual.result
-    (subst (λ xs. (4 ≤ length xs) × (find component_cmp c.args.id xs ≡ None)) c.self.view_is
+    (subst (λ xs. (g.row.INLINE ≤ length xs) × (find component_cmp c.args.id xs ≡ None)) c.self.view_is
     (full, none))
 
 pub search-requires : goal.search-requires
-search-requires c = subst (λ (b : Bundle). T (is_sorted component_cmp b)) (sym c.as_slice.ensures)
+search-requires g c = subst (λ (b : Bundle). T (is_sorted component_cmp b)) (sym c.as_slice.ensures)
     c.self.invariant.0.rising

@@ -4,13 +4,13 @@ use Rattle.std.proofs.lemmas.Int.{to_z-of_z}
 use Rattle.std.proofs.lemmas.List.{drop_all, drop_more}
 use Rattle.std.specs.FinMap.{put, find, is_sorted}
 use Rattle.ent_handle.specs.Component.{component_cmp}
-use Rattle.ent_queue.specs.Command.{Bundle, with_put, bundle_of}
-use Rattle.ent_queue.proofs.Putting.{last_value, more_than_four, still_rising}
-use Rattle.ent_queue.proofs.Results.{OnErr-always}
-use Rattle.ent_queue.proofs.bundle.Bundle.of.Goals as goal
+use Rattle.ent_bundle.specs.Bundle.{Bundle, with_put, bundle_of}
+use Rattle.ent_bundle.proofs.Puts.{last_value, more_than, still_rising}
+use Rattle.ent_bundle.proofs.Results.{OnErr-always}
+use Rattle.ent_bundle.proofs.bundle.Bundle.of.Goals as goal
 
 pub loop-id-preserved : goal.loop-id-preserved
-loop-id-preserved c =
+loop-id-preserved g c =
     let items = c.args.items.now in
     let at = c.loop-id.id-index in
     let item = get_or items at (record { 0 = 0 }, pos 0) in
@@ -29,7 +29,7 @@ loop-id-preserved c =
     }
 
 pub returns-in_err-put-clause-memory : goal.returns-in_err-put-clause-memory
-returns-in_err-put-clause-memory c =
+returns-in_err-put-clause-memory g c =
     let items = c.args.items.now in
     let at = c.loop-id.id-index in
     let item = get_or items at (record { 0 = 0 }, pos 0) in
@@ -40,11 +40,11 @@ returns-in_err-put-clause-memory c =
     let rising = c.loop-id.invariant.rising in
     let whole : with_put held (item ∷ others) ≡ bundle_of items =
     ap (with_put held) (sym next) ∙ c.loop-id.invariant.left in
-    OnErr-always c.from_residual.result (subst (λ (b : Bundle). 4 < length b) whole
-    (more_than_four held item.0 item.1 others rising needs.0 needs.1))
+    OnErr-always c.from_residual.result (subst (λ (b : Bundle). g.row.INLINE < length b) whole
+    (more_than g.row.INLINE held item.0 item.1 others rising needs.0 needs.1))
 
 pub returns-clause-last : goal.returns-clause-last
-returns-clause-last c id =
+returns-clause-last g c id =
     let items = c.args.items.now in
     let done = drop_all c.loop-id.id-index items (omega arith) in
     let whole : c.loop-id.bundle ≡ bundle_of items =
