@@ -3,8 +3,10 @@ use Rattle.std.proofs.Common.{◌≡◌, refl, ℕ, ◌+◌, ◌*◌, ◌<◌, �
 use Rattle.std.proofs.Common.{arith, ap, sym, ◌∙◌, subst, length-drop, slice_index}
 use Rattle.std.specs.List.{All, flat_map}
 use Rattle.ent_handle.specs.Handle.{Handle, IsHandle}
-use Rattle.ent_queue.specs.Command.{Bundle, Command, Spawn, SpawnMany, Insert, Remove, Despawn}
-use Rattle.ent_queue.specs.Command.{Refused, IsBundle, IsRefusal, IsCommand}
+use Rattle.ent_bundle.specs.Bundle.{Bundle}
+use Rattle.ent_queue.specs.Command.{Command, Spawn, SpawnMany, Insert, Remove, Despawn}
+use Rattle.ent_bundle.specs.Bundle.{IsBundle}
+use Rattle.ent_queue.specs.Command.{Refused, IsRefusal, IsCommand}
 use Rattle.ent_queue.specs.Packing.{bytes_4, handle_bytes, bundle_bytes, refusal_bytes}
 use Rattle.ent_queue.specs.Packing.{command_bytes}
 use Rattle.ent_queue.specs.Unpacking.{number_2, number_4, unpacked_handle, unpacked_handles}

@@ -1,10 +1,6 @@
 pub mod Numbers
 pub mod Parts
 pub mod Chunks
-pub mod Few
-pub mod Results
-pub mod Bundles
-pub mod Putting
 pub mod Queues
 pub mod Fronts
 pub mod Pushes

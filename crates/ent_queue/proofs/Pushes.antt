@@ -5,7 +5,8 @@ use Rattle.std.proofs.Math.Facts.{Fits-of_lt}
 use Rattle.std.specs.List.{All, flat_map}
 use Rattle.std.proofs.lemmas.List.Elements.{All-nil, All-push}
 use Rattle.ent_handle.specs.Handle.{Handle}
-use Rattle.ent_queue.specs.Command.{Command, Bundle, Spawn, SpawnMany, Insert, Remove, Despawn}
+use Rattle.ent_bundle.specs.Bundle.{Bundle}
+use Rattle.ent_queue.specs.Command.{Command, Spawn, SpawnMany, Insert, Remove, Despawn}
 use Rattle.ent_queue.specs.Command.{Refused, IsCommand}
 use Rattle.ent_queue.specs.Packing.{command_bytes, queue_bytes, bytes_4, handle_bytes, bundle_bytes}
 use Rattle.ent_queue.specs.Unpacking.{unpacked_commands, ArePacked}

@@ -8,8 +8,10 @@ use Rattle.std.proofs.Math.Seq.{drop-append_seam}
 use Rattle.ent_handle.specs.Handle.{Handle, IsHandle, bits}
 use Rattle.ent_shared.specs.declared.refused.Refused.{Refused as Refusal}
 use Rattle.ent_shared.specs.declared.refused.Refused.TheVariants.{Space, Quota}
-use Rattle.ent_queue.specs.Command.{Bundle, Command, Spawn, SpawnMany, Insert, Remove, Despawn}
-use Rattle.ent_queue.specs.Command.{Refused, IsBundle, IsRefusal, IsCommand}
+use Rattle.ent_bundle.specs.Bundle.{Bundle}
+use Rattle.ent_queue.specs.Command.{Command, Spawn, SpawnMany, Insert, Remove, Despawn}
+use Rattle.ent_bundle.specs.Bundle.{IsBundle}
+use Rattle.ent_queue.specs.Command.{Refused, IsRefusal, IsCommand}
 use Rattle.ent_queue.specs.Packing.{bytes_4, bytes_8, handle_bytes, bundle_bytes, refusal_bytes}
 use Rattle.ent_queue.specs.Packing.{command_bytes, queue_bytes}
 use Rattle.ent_queue.specs.Unpacking.{number_4, number_8, unpacked_handle, unpacked_handles}
@@ -22,7 +24,7 @@ use Rattle.ent_queue.proofs.Numbers.{unpacked_handle-bytes, length-bytes_4, leng
 use Rattle.ent_queue.proofs.Parts.{length-handles, unpacked_handles-bytes, drop-handles}
 use Rattle.ent_queue.proofs.Parts.{BundleBegins}
 use Rattle.ent_queue.proofs.Parts.{bundle_begins}
-use Rattle.ent_queue.proofs.Few.{few_items}
+use Rattle.ent_bundle.proofs.Few.{few_items}
 
 -- What the parts after the byte for a kind say: a handle and a bundle, many handles and a bundle,
 -- and a refusal.

@@ -1,18 +1,11 @@
 -- Commands: what a system asks of the world. A queue of them stands for their list.
-use Rattle.std.specs.Prelude.{◌≡◌, ℕ, ℤ, ◌^◌, ◌<◌, T, List, [], ◌∷◌, length}
+use Rattle.std.specs.Prelude.{◌≡◌, ℕ, ◌^◌, ◌<◌, List, length}
 use Rattle.std.specs.List.{All}
-use Rattle.std.specs.Int.{w64}
-use Rattle.std.specs.Int.RustNames.{FitsSigned}
-use Rattle.std.specs.FinMap.{is_sorted, put}
 use Rattle.ent_handle.specs.declared.component.ComponentId.{ComponentId}
-use Rattle.ent_handle.specs.Component.{component_cmp}
 use Rattle.ent_handle.specs.Handle.{Handle, IsHandle}
+use Rattle.ent_bundle.specs.Bundle.{Bundle, IsBundle}
 use Rattle.ent_shared.specs.declared.refused.Refused.{Refused as Refusal}
 use Rattle.ent_shared.specs.declared.refused.Refused.TheVariants.{Space, Quota}
-
--- components and their values, by strictly rising number
-abbrev pub Bundle : Type 0
-Bundle = List (ComponentId × ℤ)
 
 -- Spawn and SpawnMany give what was reserved its components, Insert sets components of an entity,
 -- Remove takes one away, Despawn takes the entity. Refused stands for a request that was
@@ -24,24 +17,6 @@ pub data Command : Type 0 where
   Remove : Handle → ComponentId → Command
   Despawn : Handle → Command
   Refused : ℕ → Refusal → Command
-
--- a component's number is a byte, and its value has 64 bits
-pub record IsItem (item : ComponentId × ℤ) : Type 0 where
-  pub id : item.0.0 < 2 ^ 8
-  pub value : FitsSigned w64 item.1
-
-pub record IsBundle (items : Bundle) : Type 0 where
-  pub rising : T (is_sorted component_cmp items)
-  pub each : All IsItem items
-
--- the bundle after each of the items was put into it, the first item first
-abbrev pub with_put : Bundle → List (ComponentId × ℤ) → Bundle
-with_put held [] = held
-with_put held (item ∷ items) = with_put (put component_cmp item.0 item.1 held) items
-
--- the bundle of these components: of one that stands there twice the last value
-abbrev pub bundle_of : List (ComponentId × ℤ) → Bundle
-bundle_of items = with_put [] items
 
 -- the ranges of what a refusal says
 abbrev pub HasRange : Refusal → Type 0

@@ -6,9 +6,9 @@ ghost use Rattle.ent_shared.specs.Phase.{IsOf};
 ghost use Rattle.ent_alloc.specs.Sequential.{listed_alone};
 ghost use Rattle.ent_queue.specs.Command.{Spawn, SpawnMany, Insert, Remove, Despawn};
 
-use crate::bundle::Bundle;
 use crate::fault::QueueFault;
 use crate::queue::CommandQueue;
+use ent_bundle::Bundle;
 use ent_handle::{ComponentId, Handle, Memory};
 use ent_shared::{Reserver, Shared};
 use std::alloc::Global;
@@ -68,13 +68,15 @@ impl<'a> Commands<'a> {
     ///
     /// [`QueueFault::Memory`], and then neither the queue nor the reserver has changed.
     /// [`QueueFault::Space`] and [`QueueFault::Quota`] as [`Shared::reserve`] returns them; the
-    /// queue then keeps the refusal, and [`QueueFault::or_memory`] lets a system go on. After any
-    /// of them the bundle is dropped.
-    pub fn spawn(&mut self, bundle: Bundle) -> Result<Handle, QueueFault>
+    /// queue then keeps the refusal, and [`QueueFault::or_memory`] lets a system go on.
+    pub fn spawn<const INLINE: usize>(
+        &mut self,
+        bundle: &Bundle<INLINE>,
+    ) -> Result<Handle, QueueFault>
         requires { IsReady self.old }
         ensures extends { Extends self.old self.new }
         ensures ok { IfOk result (λ handle.
-            queue_of self.new ≡ queue_of self.old ++ Spawn handle bundle ∷ []) }
+            queue_of self.new ≡ queue_of self.old ++ Spawn handle bundle.now ∷ []) }
         ensures refused { IfErr result (λ fault.
             queue_of self.new ≡ queue_of self.old ++ refused_by 1 fault) }
         ensures memory { IsErrOf result QueueFault.Memory
@@ -93,11 +95,15 @@ impl<'a> Commands<'a> {
     /// # Errors
     ///
     /// As [`Commands::spawn`], with [`Shared::reserve_many`] instead of [`Shared::reserve`].
-    pub fn spawn_many(&mut self, n: u32, bundle: Bundle) -> Result<Vec<Handle>, QueueFault>
+    pub fn spawn_many<const INLINE: usize>(
+        &mut self,
+        n: u32,
+        bundle: &Bundle<INLINE>,
+    ) -> Result<Vec<Handle>, QueueFault>
         requires { IsReady self.old }
         ensures extends { Extends self.old self.new }
         ensures ok { IfOk result (λ handles.
-            queue_of self.new ≡ queue_of self.old ++ SpawnMany handles.items bundle ∷ []) }
+            queue_of self.new ≡ queue_of self.old ++ SpawnMany handles.items bundle.now ∷ []) }
         ensures length { IfOk result (λ handles. length handles.items ≡ n) }
         ensures refused { IfErr result (λ fault.
             queue_of self.new ≡ queue_of self.old ++ refused_by n fault) }
@@ -118,14 +124,17 @@ impl<'a> Commands<'a> {
     ///
     /// # Errors
     ///
-    /// `Memory`, and then nothing has changed. The bundle is dropped, and it has no `clone`: who
-    /// wants to try again keeps the list of its components, for [`Bundle::of`].
-    pub fn insert(&mut self, handle: Handle, bundle: Bundle) -> Result<(), Memory>
+    /// `Memory`, and then nothing has changed.
+    pub fn insert<const INLINE: usize>(
+        &mut self,
+        handle: Handle,
+        bundle: &Bundle<INLINE>,
+    ) -> Result<(), Memory>
         requires { IsReady self.old }
         ensures extends { Extends self.old self.new }
         ensures reserver { reserver_of self.new ≡ reserver_of self.old }
         ensures ok { OnOk result
-            (queue_of self.new ≡ queue_of self.old ++ Insert handle bundle ∷ []) }
+            (queue_of self.new ≡ queue_of self.old ++ Insert handle bundle.now ∷ []) }
         ensures err { OnErr result (queue_of self.new ≡ queue_of self.old) }
     {
         self.queue.insert(handle, bundle.items())

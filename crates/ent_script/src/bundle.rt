@@ -3,7 +3,7 @@ ghost use Rattle.std.specs.FinMap.{put, is_sorted};
 ghost use Rattle.ent_handle.specs.Component.{component_cmp};
 
 use ent_handle::{ComponentId, Memory};
-use ent_sorted::search;
+use ent_bundle::search;
 use smallvec::SmallVec;
 use std::alloc::Global;
 use std::marker::Model;

@@ -6,8 +6,8 @@ use Rattle.std.specs.FinMap.{put, is_sorted}
 use Rattle.std.specs.FinMap.Entries.{by_order, below_all}
 use Rattle.ent_handle.specs.declared.component.ComponentId.{ComponentId}
 use Rattle.ent_handle.specs.Component.{component_cmp, component_cmp_total}
-use Rattle.ent_queue.specs.Command.{Bundle}
-use Rattle.ent_sorted.proofs.Rising.{first, second, less}
+use Rattle.ent_bundle.specs.Bundle.{Bundle}
+use Rattle.ent_bundle.proofs.Rising.{first, second, less}
 
 at_seam : (low : ComponentId) (item : ComponentId × ℤ) (items rest : Bundle)
     → T (below_all component_cmp low (items ++ item ∷ rest)) → component_cmp low item.0 ≡ Less

@@ -23,7 +23,8 @@ use Rattle.ent_alloc.specs.History.{Call, after_history, given_in}
 use Rattle.ent_alloc.proofs.Histories.{given_in-taken}
 use Rattle.ent_storage.specs.BirthOrder.{ListsWith}
 use Rattle.ent_storage.specs.EntityMap.{Entity, EntityMap, birth_of}
-use Rattle.ent_queue.specs.Command.{Bundle, Command}
+use Rattle.ent_bundle.specs.Bundle.{Bundle}
+use Rattle.ent_queue.specs.Command.{Command}
 use Rattle.ent_world.specs.BirthsAlone.{BirthMap}
 use Rattle.ent_world.specs.Effects.{applied}
 use Rattle.ent_world.specs.Named.{AreNamed, AreNames, AreNamedBy, AreBelow}

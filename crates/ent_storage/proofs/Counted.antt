@@ -11,7 +11,7 @@ use Rattle.std.proofs.lemmas.Bool.{false≢true}
 use Rattle.std.proofs.lemmas.List.{get_or-map, get_or_default, length-map, length-set}
 use Rattle.std.proofs.lemmas.List.{length_push}
 use Rattle.std.specs.List.{AllWithin, insert}
-use Rattle.ent_sorted.specs.Position.{IsGapFor}
+use Rattle.ent_bundle.specs.Position.{IsGapFor}
 use Rattle.std.proofs.lemmas.List.Elements.{filter_passes}
 use Rattle.std.proofs.lemmas.Map.Keys.{IsDistinct-from_apart}
 use Rattle.std.proofs.lemmas.Map.Views.{Contains-from_any}
@@ -27,7 +27,7 @@ use Rattle.ent_storage.proofs.Keys.{get-remove_same, get-remove_other}
 use Rattle.ent_storage.proofs.Indexed.{some_not_none, some_entity, indexed_set, indexed_push}
 use Rattle.ent_storage.proofs.Indexed.{indexed_none, read_handle}
 use Rattle.ent_storage.specs.Components.{Components}
-use Rattle.ent_sorted.proofs.Rising.{rising_at}
+use Rattle.ent_bundle.proofs.Rising.{rising_at}
 use Rattle.ent_storage.proofs.Rising.{equal}
 use Rattle.ent_storage.proofs.Rising.{get_at, map_insert}
 use Rattle.ent_storage.proofs.Overwritten.{is_sorted-filter, find-filter, passed, is_sorted-set}

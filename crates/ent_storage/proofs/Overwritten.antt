@@ -10,7 +10,7 @@ use Rattle.std.specs.List.{AllWithin}
 use Rattle.std.specs.FinMap.{IsAntisymmetric, find, is_sorted}
 use Rattle.std.specs.FinMap.Entries.{below_all}
 use Rattle.ent_storage.proofs.Keys.{tied, apart}
-use Rattle.ent_sorted.proofs.Rising.{first, second, less, turn}
+use Rattle.ent_bundle.proofs.Rising.{first, second, less, turn}
 use Rattle.ent_storage.proofs.Rising.{equal}
 
 both : (a b : Bool) → T a → T b → T (a && b)

@@ -10,9 +10,9 @@ use Rattle.std.proofs.lemmas.Bool.{cases_lt}
 use Rattle.std.specs.FinMap as map
 use Rattle.std.specs.FinMap.{IsAntisymmetric, find, put, is_sorted}
 use Rattle.std.specs.FinMap.Entries.{is_sorted-put}
-use Rattle.ent_sorted.specs.Position.{IsAt, IsGapFor}
-use Rattle.ent_sorted.proofs.Rising.{first, second, turn, below_at, rising_at}
-use Rattle.ent_sorted.proofs.Putting.{find_in_gap, inserted, written}
+use Rattle.ent_bundle.specs.Position.{IsAt, IsGapFor}
+use Rattle.ent_bundle.proofs.Rising.{first, second, turn, below_at, rising_at}
+use Rattle.ent_bundle.proofs.Putting.{find_in_gap, inserted, written}
 
 pub equal : (r : Ordering) → T (is_eq r) → r ≡ Equal
 equal Less h = absurd h

@@ -28,7 +28,8 @@ use Rattle.ent_alloc.proofs.ListLaws.{AllPairs-IsPermutation}
 use Rattle.ent_alloc.proofs.Replies.{apart_both}
 use Rattle.ent_alloc.proofs.Flushes.{born-not_live, born-IsPermutation}
 use Rattle.ent_storage.specs.EntityMap.{Entity, EntityMap, newborn, with_components}
-use Rattle.ent_queue.specs.Command.{Bundle, Command, Spawn, SpawnMany, Insert, Remove, Despawn}
+use Rattle.ent_bundle.specs.Bundle.{Bundle}
+use Rattle.ent_queue.specs.Command.{Command, Spawn, SpawnMany, Insert, Remove, Despawn}
 use Rattle.ent_queue.specs.Command.{Refused}
 use Rattle.ent_world.specs.World.{World, IsWorld}
 use Rattle.ent_world.specs.Sync.{ordinal, listed_by, handles_listed, ordinal_among, at_ordinal}

@@ -12,7 +12,8 @@ use Rattle.ent_alloc.proofs.Soundness.{after_alloc-sound}
 use Rattle.ent_shared.specs.Phase.{after_loss}
 use Rattle.ent_storage.specs.Components.{Components}
 use Rattle.ent_storage.specs.EntityMap.{EntityMap, with_components}
-use Rattle.ent_queue.specs.Command.{Bundle, Command}
+use Rattle.ent_bundle.specs.Bundle.{Bundle}
+use Rattle.ent_queue.specs.Command.{Command}
 use Rattle.ent_world.specs.World.{World, IsWorld, lives_in}
 use Rattle.ent_world.specs.Effects.{Applied, after_spawn, after_despawn, after_queues, spawned}
 use Rattle.ent_world.specs.Sync.{after_births, birth_in}

@@ -4,7 +4,7 @@ use Rattle.std.proofs.lemmas.Int.{to_z-of_z}
 use Rattle.std.proofs.lemmas.List.{drop_all, drop_more}
 use Rattle.std.specs.FinMap.{put, is_sorted}
 use Rattle.ent_handle.specs.Component.{component_cmp}
-use Rattle.ent_queue.specs.Command.{Bundle}
+use Rattle.ent_bundle.specs.Bundle.{Bundle}
 use Rattle.ent_script_system.proofs.Bundles.{put_last}
 use Rattle.ent_script_system.proofs.bundle.copied_bundle.Goals as goal
 

@@ -2,7 +2,7 @@ use Rattle.std.proofs.Common.{◌≡◌, length, ap, sym, ◌∙◌, arith}
 use Rattle.std.specs.List.{insert}
 use Rattle.ent_handle.specs.Handle.{handle_cmp, handle_cmp_total as total}
 use Rattle.ent_handle.specs.Handle.{handle_cmp-IsAntisymmetric as same}
-use Rattle.ent_sorted.specs.Position.{IsGapFor}
+use Rattle.ent_bundle.specs.Position.{IsGapFor}
 use Rattle.ent_storage.proofs.Counted.{gap_placed, gap_kept, counted_none}
 use Rattle.ent_storage.proofs.Rising.{get_in_gap, insert_end, rising_insert}
 use Rattle.ent_storage.proofs.index.put_behind.Goals as goal

@@ -3,7 +3,7 @@ use Rattle.std.specs.List.{AllWithin}
 use Rattle.std.specs.declared.cmp.Ordering.TheVariants.{Less, Greater}
 use Rattle.ent_handle.specs.Handle.{handle_cmp, handle_cmp_total as total}
 use Rattle.ent_handle.specs.Handle.{handle_cmp-IsAntisymmetric as same}
-use Rattle.ent_sorted.specs.Position.{IsGapFor}
+use Rattle.ent_bundle.specs.Position.{IsGapFor}
 use Rattle.ent_storage.specs.Indexed.{IsFree}
 use Rattle.ent_storage.proofs.Counted.{over_sorted, over_placed, over_kept, counted_none}
 use Rattle.ent_storage.proofs.Rising.{get_in_gap}

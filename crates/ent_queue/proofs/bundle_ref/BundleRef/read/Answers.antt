@@ -1,6 +1,6 @@
 use Rattle.std.proofs.Common.{refl, ap, map, sym, subst, arith, ◌∙◌, ◌≡◌, ◌/◌, length, drop}
 use Rattle.std.specs.Simd.{first_chunks}
-use Rattle.ent_queue.specs.Command.{IsBundle}
+use Rattle.ent_bundle.specs.Bundle.{IsBundle}
 use Rattle.ent_queue.specs.Unpacking.{unpacked_item, number_2}
 use Rattle.ent_queue.proofs.Chunks.{chunks_of_front}
 use Rattle.ent_queue.proofs.bundle_ref.BundleRef.read.Goals as goal

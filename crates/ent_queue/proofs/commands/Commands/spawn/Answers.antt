@@ -4,7 +4,7 @@ use Rattle.ent_queue.proofs.Issuing.{extends_added, added_spawn}
 use Rattle.ent_queue.proofs.commands.Commands.spawn.Goals as goal
 
 pub returns-clause-extends : goal.returns-clause-extends
-returns-clause-extends c =
+returns-clause-extends g c =
     extends_added c.args.self.now _ refl refl c.spawn.ensures.stays
     (added_spawn (shared_of c.args.self.now) (reserver_of c.args.self.now)
     c.spawn.new.reserver (queue_of c.args.self.now) c.spawn.new.self c.items.result.now

@@ -4,7 +4,7 @@ use Rattle.ent_queue.proofs.Issuing.{extends_added, added_many}
 use Rattle.ent_queue.proofs.commands.Commands.spawn_many.Goals as goal
 
 pub returns-clause-extends : goal.returns-clause-extends
-returns-clause-extends c =
+returns-clause-extends g c =
     extends_added c.args.self.now _ refl refl c.spawn_many.ensures.stays
     (added_many (shared_of c.args.self.now) (reserver_of c.args.self.now)
     c.spawn_many.new.reserver (queue_of c.args.self.now) c.spawn_many.new.self c.args.n

@@ -6,8 +6,8 @@ use Rattle.std.specs.FinMap.Entries.{is_sorted-put}
 use Rattle.std.specs.Int.{w64, cast_signed, cast_unsigned}
 use Rattle.std.specs.List.{refill}
 use Rattle.ent_handle.specs.Component.{component_cmp, component_cmp_total as total}
-use Rattle.ent_sorted.specs.Position.{IsAt, IsGapFor}
-use Rattle.ent_sorted.proofs.Putting.{written, inserted}
+use Rattle.ent_bundle.specs.Position.{IsAt, IsGapFor}
+use Rattle.ent_bundle.proofs.Putting.{written, inserted}
 use Rattle.ent_script.proofs.Bundles.{Bundle}
 use Rattle.ent_script.proofs.Refilling.{refill_whole}
 use Rattle.ent_script.proofs.bundle.Bundle.put.Goals as goal

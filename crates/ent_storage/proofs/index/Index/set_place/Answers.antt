@@ -3,7 +3,7 @@ use Rattle.std.proofs.lemmas.Bool.{false≢true}
 use Rattle.std.specs.FinMap as map
 use Rattle.ent_handle.specs.Handle.{handle_cmp, handle_cmp_total as total}
 use Rattle.ent_handle.specs.Handle.{handle_cmp-IsAntisymmetric as same}
-use Rattle.ent_sorted.specs.Position.{IsAt}
+use Rattle.ent_bundle.specs.Position.{IsAt}
 use Rattle.ent_storage.specs.Places.{Places}
 use Rattle.ent_storage.proofs.Rising.{get_in_gap, rising_set, map_set}
 use Rattle.ent_storage.proofs.SamePlaces.{same_places}

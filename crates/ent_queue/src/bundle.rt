@@ -1,0 +1,4 @@
+/// Components and their values, by strictly rising number.
+///
+/// A bundle of up to four components takes no memory.
+pub type Bundle = ent_bundle::Bundle<4>;
