@@ -79,7 +79,7 @@ fn copy(
 {
     for handle in view.with(from)? {
         if let Some(value) = view.get(handle, from) {
-            commands.insert(handle, Bundle::of(alloc, &[(to, value)])?)?;
+            commands.insert(handle, &Bundle::of(alloc, &[(to, value)])?)?;
         }
     }
     Ok(())

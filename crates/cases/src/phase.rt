@@ -125,9 +125,9 @@ pub fn issue(alloc: Global, commands: &mut Commands<'_>, call: &Call<'_>, out: &
         return out.word("out of memory");
     };
     match call.name {
-        "spawn" => out.given(commands.spawn(bundle)),
-        "spawn_many" => out.list(commands.spawn_many(call.number(), bundle)),
-        "insert" => out.done(commands.insert(call.handle, bundle)),
+        "spawn" => out.given(commands.spawn(&bundle)),
+        "spawn_many" => out.list(commands.spawn_many(call.number(), &bundle)),
+        "insert" => out.done(commands.insert(call.handle, &bundle)),
         "remove" => out.done(commands.remove(call.handle, call.id())),
         "despawn" => out.done(commands.despawn(call.handle)),
         _ => out.word("no such call"),

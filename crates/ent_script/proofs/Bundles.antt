@@ -1,24 +1,20 @@
 -- Reading the members of a bundle one after another.
 use Rattle.std.proofs.Common.{◌≡◌, ℕ, ℤ, List, [], ◌∷◌, Result, Ok, Err, refl, ap, ◌∙◌}
-use Rattle.std.specs.List.{fold}
 use Rattle.std.specs.FinMap.{put}
 use Rattle.serde_json.specs.Data.{Data}
 use Rattle.ent_handle.specs.declared.component.ComponentId.{ComponentId}
 use Rattle.ent_handle.specs.Component.{component_cmp}
+use Rattle.ent_bundle.specs.Bundle.{Bundle, with_put, bundle_of}
 use Rattle.ent_script.specs.declared.cause.Cause.{Cause}
-use Rattle.ent_script.specs.Reading.{◌>>=◌, item_of, items_of, by_number}
-
-abbrev pub Bundle : Type 0
-Bundle = List (ComponentId × ℤ)
+use Rattle.ent_script.specs.Reading.{◌>>=◌, item_of, items_of}
 
 -- the bundle so far, with what is read after it
 abbrev pub onto : Bundle → Result Bundle Cause → Result Bundle Cause
-onto bundle (Ok items) = Ok (fold (λ b item. put component_cmp item.0 item.1 b) bundle
-    items)
+onto bundle (Ok items) = Ok (with_put bundle items)
 onto bundle (Err c) = Err c
 
 pub onto_none : (read : Result Bundle Cause) → onto [] read
-    ≡ (read >>= λ items. Ok (by_number items))
+    ≡ (read >>= λ items. Ok (bundle_of items))
 onto_none (Ok items) = refl
 onto_none (Err c) = refl
 

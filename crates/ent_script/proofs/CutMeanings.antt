@@ -16,7 +16,8 @@ use Rattle.ent_script.specs.Json.{members, pairs_of, keys_among, whole, whole_wi
 use Rattle.ent_script.specs.Names.{as_name, number_among, names_in, with_part}
 use Rattle.ent_script.specs.Reading.{◌>>=◌, has_keys, item_of, items_of, bundle_by, read_bundle}
 use Rattle.ent_script.specs.Reading.{with_of, count_of, binding_of, removed_of, only, target_of}
-use Rattle.ent_script.specs.Reading.{target_at, by_number}
+use Rattle.ent_bundle.specs.Bundle.{bundle_of}
+use Rattle.ent_script.specs.Reading.{target_at}
 use Rattle.ent_script.specs.Reading.{is_spawn, is_spawn_many, is_insert, is_remove, is_despawn}
 use Rattle.ent_script.specs.Reading.{kind_of, of_kind, operation_of, operation_at, at_operation}
 use Rattle.ent_script.specs.Reading.{bound_name, births_before, format_of, heading_of, or_absent}
@@ -160,7 +161,7 @@ bundle_option : (l : ℕ) (components : List (List ℕ)) (o : Option (List (List
     (ok_or o cause.Bundle >>= bundle_by components)
 bundle_option l components None = refl
 bundle_option l components (Some ms) = ap
-    (λ (is : Result (List (ComponentId × ℤ)) Cause). is >>= λ items. Ok (by_number items))
+    (λ (is : Result (List (ComponentId × ℤ)) Cause). is >>= λ items. Ok (bundle_of items))
     (items_of-cut l components ms)
 
 bundle-cut : (l : ℕ) (components : List (List ℕ)) (o : Option Data) → read_bundle components

@@ -2,7 +2,6 @@ pub mod Values
 pub mod NamesLaws
 pub mod BoundLaws
 pub mod Bundles
-pub mod Refilling
 pub mod Faults
 pub mod Keys
 pub mod Numbering

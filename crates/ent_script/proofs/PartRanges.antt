@@ -8,7 +8,7 @@ use Rattle.std.proofs.lemmas.Bool.{and_parts, ltb-true}
 use Rattle.std.specs.Prelude.{IfOk, nat_le, nat_lt, ◌==◌}
 use Rattle.std.specs.declared.cmp.Ordering.{Ordering}
 use Rattle.std.specs.declared.cmp.Ordering.TheVariants.{Less, Equal, Greater}
-use Rattle.std.specs.List.{AllByRecursion, fold, slice_split}
+use Rattle.std.specs.List.{AllByRecursion, slice_split}
 use Rattle.std.specs.FinMap.{put}
 use Rattle.std.specs.FinMap.Entries.{by_order}
 use Rattle.serde_json.specs.Data.{Data}
@@ -19,6 +19,7 @@ use Rattle.ent_handle.specs.Text.{handle_of}
 use Rattle.ent_handle.specs.declared.text.TextFault.{TextFault}
 use Rattle.ent_handle.specs.declared.component.ComponentId.{ComponentId}
 use Rattle.ent_handle.specs.Component.{component_cmp}
+use Rattle.ent_bundle.specs.Bundle.{with_put}
 use Rattle.ent_script.specs.declared.cause.Cause.{Cause}
 use Rattle.ent_script.specs.declared.cause.Cause.TheVariants as cause
 use Rattle.ent_script.specs.declared.format.Format.{Format}
@@ -172,11 +173,11 @@ insert_in n (e ∷ es) id value h all =
     (e ∷ put component_cmp id value es)
     (h, all) (all.0, all.1) (all.0, insert_in n es id value h all.1)
 
-fold_in : (n : ℕ) (bundle items : List (ComponentId × ℤ)) → IsBundleOf n bundle → IsBundleOf n items
-    → IsBundleOf n (fold (λ b item. put component_cmp item.0 item.1 b) bundle items)
-fold_in n bundle [] h all = h
-fold_in n bundle (item ∷ items) h all =
-    fold_in n (put component_cmp item.0 item.1 bundle) items
+with_put_in : (n : ℕ) (bundle items : List (ComponentId × ℤ)) → IsBundleOf n bundle → IsBundleOf n items
+    → IsBundleOf n (with_put bundle items)
+with_put_in n bundle [] h all = h
+with_put_in n bundle (item ∷ items) h all =
+    with_put_in n (put component_cmp item.0 item.1 bundle) items
     (insert_in n bundle item.0 item.1 all.0 h) all.1
 
 bundle_in : (components : List (List ℕ)) (part : Option Data) → IfOk (read_bundle components part)
@@ -187,7 +188,7 @@ bundle_in components part =
     cause.Bundle) _ (always (ok_or (option_and_then members part) cause.Bundle))
     (λ ms _. then_ok (IsBundleOf (length components)) (IsBundleOf (length components))
     (items_of components ms) _ (items_in components ms)
-    (λ items h. fold_in (length components) [] items tt h))
+    (λ items h. with_put_in (length components) [] items tt h))
 
 with_in : (components : List (List ℕ)) (part : Option Data) → IfOk (with_of components part)
     (IsBundleOf (length components))

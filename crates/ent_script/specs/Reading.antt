@@ -3,16 +3,15 @@ use Rattle.std.specs.Prelude.{◌≡◌, ℕ, ℤ, ◌+◌, Bool, false, ◌&&�
 use Rattle.std.specs.Prelude.{◌==◌, nat_lt, if◌then◌else◌, Option, Some, None, option_map}
 use Rattle.std.specs.Prelude.{option_and_then, is_some, unwrap_or, ok_or, Result, Ok, Err, ⊤}
 use Rattle.std.specs.Global.{Vec}
-use Rattle.std.specs.List.{fold, list_all, slice_split}
+use Rattle.std.specs.List.{list_all, slice_split}
 use Rattle.std.specs.Str.{bytes_eq, is_utf8}
-use Rattle.std.specs.FinMap.{put}
 use Rattle.serde_json.specs.Data.{Data}
 use Rattle.serde_json.specs.Find.{get, as_str}
 use Rattle.serde_json.specs.Read.{read}
 use Rattle.ent_handle.specs.declared.birth.Birth.{Birth}
 use Rattle.ent_handle.specs.declared.component.ComponentId.{ComponentId}
-use Rattle.ent_handle.specs.Component.{component_cmp}
 use Rattle.ent_handle.specs.Text.{handle_of, number_of}
+use Rattle.ent_bundle.specs.Bundle.{bundle_of}
 use Rattle.ent_script.specs.Json.{at_most, members, keys_among, whole, whole_within}
 use Rattle.ent_script.specs.Names.{as_name, number_among, names_in}
 use Rattle.ent_script.specs.Script.{Script}
@@ -78,15 +77,11 @@ items_of components (m ∷ ms) = do
   items ← items_of components ms
   Ok (item ∷ items)
 
--- by the numbers of the components
-abbrev pub by_number : List (ComponentId × ℤ) → List (ComponentId × ℤ)
-by_number items = fold (λ bundle item. put component_cmp item.0 item.1 bundle) [] items
-
 -- the bundle of an object's members
 abbrev pub bundle_by : List (List ℕ) → List (List ℕ × Data) → Result (List (ComponentId × ℤ)) Cause
 bundle_by components ms = do
   items ← items_of components ms
-  Ok (by_number items)
+  Ok (bundle_of items)
 
 unfoldable pub read_bundle : List (List ℕ) → Option Data → Result (List (ComponentId × ℤ)) Cause
 read_bundle components part = do

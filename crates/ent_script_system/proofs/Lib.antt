@@ -1,5 +1,4 @@
 pub mod Binding
-pub mod Bundles
 pub mod OneCourse
 mod RisingLists
 mod WorkedSystems

@@ -6,13 +6,11 @@ ghost use Rattle.ent_script_system.specs.Parts.{HasStoppedAmong, HasStoppedOn};
 ghost use Rattle.ent_script_system.specs.Rolls.{IsRollOf};
 
 use crate::bindings::Bindings;
-use crate::bundle::copied_bundle;
 use crate::roll::Roll;
 use ent_handle::{ComponentId, Handle, Memory};
 use ent_queue::Commands;
 use ent_script::{Bundle, Target};
 use ent_world::View;
-use std::alloc::Global;
 
 /// What an operation does to each entity of its target.
 #[derive(Clone, Copy)]
@@ -30,7 +28,6 @@ impl Change<'_> {
     #[tactic(auto, using(ent_queue::proofs::Extending::extends_then))]
     pub(crate) fn on_target(
         self,
-        alloc: Global,
         view: &View<'_>,
         target: Target,
         names: &Bindings,
@@ -47,11 +44,11 @@ impl Change<'_> {
             (command_on self.entry) commands.old commands.new) }
     {
         match target {
-            Target::Name(name) => self.on_each(alloc, names.get(name), commands),
-            Target::Handle(handle) => self.on_each(alloc, &[handle], commands),
-            Target::Each(id) => self.on_each(alloc, &view.with(id)?, commands),
+            Target::Name(name) => self.on_each(names.get(name), commands),
+            Target::Handle(handle) => self.on_each(&[handle], commands),
+            Target::Each(id) => self.on_each(&view.with(id)?, commands),
             Target::Birth(birth) => match roll.find(view, birth)? {
-                Some(handle) => self.on_each(alloc, &[handle], commands),
+                Some(handle) => self.on_each(&[handle], commands),
                 None => Ok(()),
             },
         }
@@ -61,7 +58,6 @@ impl Change<'_> {
     #[tactic(auto, using(ent_queue::proofs::Extending::extends_then))]
     fn on_each(
         self,
-        alloc: Global,
         handles: &[Handle],
         commands: &mut Commands<'_>,
     ) -> Result<(), Memory>
@@ -73,7 +69,7 @@ impl Change<'_> {
             commands.old commands.new) }
     {
         for handle in handles {
-            self.on_one(alloc, *handle, commands)?;
+            self.on_one(*handle, commands)?;
         }
         Ok(())
     }
@@ -81,7 +77,6 @@ impl Change<'_> {
     /// Issues the change for one handle.
     fn on_one(
         self,
-        alloc: Global,
         handle: Handle,
         commands: &mut Commands<'_>,
     ) -> Result<(), Memory>
@@ -92,7 +87,7 @@ impl Change<'_> {
         ensures err { OnErr result (queue_of commands.new ≡ queue_of commands.old) }
     {
         match self {
-            Change::Insert(bundle) => commands.insert(handle, copied_bundle(alloc, bundle)?),
+            Change::Insert(bundle) => commands.insert(handle, bundle),
             Change::Remove(id) => commands.remove(handle, id),
             Change::Despawn => commands.despawn(handle),
         }

@@ -2,7 +2,6 @@
 #![tactic(auto)]
 
 mod bindings;
-mod bundle;
 mod change;
 mod roll;
 mod script_system;

@@ -89,15 +89,15 @@ fn issue(
             count,
             bundle,
             binds,
-        } => spawn_many(alloc, *count, bundle, *binds, names, commands),
+        } => spawn_many(*count, bundle, *binds, names, commands),
         Operation::Insert { bundle, target } => {
-            Change::Insert(bundle).on_target(alloc, view, *target, names, roll, commands)
+            Change::Insert(bundle).on_target(view, *target, names, roll, commands)
         }
         Operation::Remove { component, target } => {
-            Change::Remove(*component).on_target(alloc, view, *target, names, roll, commands)
+            Change::Remove(*component).on_target(view, *target, names, roll, commands)
         }
         Operation::Despawn { target } => {
-            Change::Despawn.on_target(alloc, view, *target, names, roll, commands)
+            Change::Despawn.on_target(view, *target, names, roll, commands)
         }
     }
 }

@@ -5,9 +5,9 @@ ghost use Rattle.ent_script.specs.declared.operation.Operation.TheVariants.{Spaw
 ghost use Rattle.ent_script_system.specs.Parts.{HasIssued};
 
 use crate::bindings::Bindings;
-use crate::bundle::copied_bundle;
 use ent_handle::Memory;
-use ent_queue::{Bundle, Commands, QueueFault};
+use ent_queue::{Commands, QueueFault};
+use ent_script::Bundle;
 use std::alloc::Global;
 
 /// Spawns one entity, and binds the name to the list of its handle. After a refusal, which the
@@ -18,18 +18,17 @@ use std::alloc::Global;
 /// `Memory`: nothing was issued.
 pub(crate) fn spawn(
     alloc: Global,
-    said: &ent_script::Bundle,
+    bundle: &Bundle,
     binds: Option<usize>,
     names: &mut Bindings,
     commands: &mut Commands<'_>,
 ) -> Result<(), Memory>
     requires { IsReady commands.old }
     ensures extends { Extends commands.old commands.new }
-    ensures issued { OnOk result ((view : View) → HasIssued view (Spawn said.now binds)
+    ensures issued { OnOk result ((view : View) → HasIssued view (Spawn bundle.now binds)
         commands.old commands.new names.old names.new) }
     ensures err { OnErr result (queue_of commands.new ≡ queue_of commands.old) }
 {
-    let bundle = copied_bundle(alloc, said)?;
     match binds {
         Some(name) => spawn_named(alloc, bundle, name, names, commands),
         None => match commands.spawn(bundle) {
@@ -41,14 +40,14 @@ pub(crate) fn spawn(
 
 fn spawn_named(
     alloc: Global,
-    bundle: Bundle,
+    bundle: &Bundle,
     name: usize,
     names: &mut Bindings,
     commands: &mut Commands<'_>,
 ) -> Result<(), Memory>
     requires { IsReady commands.old }
     ensures extends { Extends commands.old commands.new }
-    ensures issued { OnOk result ((view : View) → HasIssued view (Spawn bundle (Some name))
+    ensures issued { OnOk result ((view : View) → HasIssued view (Spawn bundle.now (Some name))
         commands.old commands.new names.old names.new) }
     ensures err { OnErr result (queue_of commands.new ≡ queue_of commands.old) }
 {
@@ -72,20 +71,18 @@ fn spawn_named(
 ///
 /// `Memory`: nothing was issued.
 pub(crate) fn spawn_many(
-    alloc: Global,
     count: u32,
-    said: &ent_script::Bundle,
+    bundle: &Bundle,
     binds: Option<usize>,
     names: &mut Bindings,
     commands: &mut Commands<'_>,
 ) -> Result<(), Memory>
     requires { IsReady commands.old }
     ensures extends { Extends commands.old commands.new }
-    ensures issued { OnOk result ((view : View) → HasIssued view (SpawnMany count said.now binds)
+    ensures issued { OnOk result ((view : View) → HasIssued view (SpawnMany count bundle.now binds)
         commands.old commands.new names.old names.new) }
     ensures err { OnErr result (queue_of commands.new ≡ queue_of commands.old) }
 {
-    let bundle = copied_bundle(alloc, said)?;
     match binds {
         Some(name) => spawn_many_named(count, bundle, name, names, commands),
         None => match commands.spawn_many(count, bundle) {
@@ -97,7 +94,7 @@ pub(crate) fn spawn_many(
 
 fn spawn_many_named(
     count: u32,
-    bundle: Bundle,
+    bundle: &Bundle,
     name: usize,
     names: &mut Bindings,
     commands: &mut Commands<'_>,
@@ -105,7 +102,7 @@ fn spawn_many_named(
     requires { IsReady commands.old }
     ensures extends { Extends commands.old commands.new }
     ensures issued { OnOk result ((view : View)
-        → HasIssued view (SpawnMany count bundle (Some name))
+        → HasIssued view (SpawnMany count bundle.now (Some name))
         commands.old commands.new names.old names.new) }
     ensures err { OnErr result (queue_of commands.new ≡ queue_of commands.old) }
 {

@@ -56,10 +56,10 @@ impl<J: Numbering> Issuer<J> {
     /// # Errors
     ///
     /// As [`Commands::spawn`].
-    pub fn spawn(&mut self, alloc: Global, bundle: Bundle) -> Result<Handle, QueueFault>
+    pub fn spawn(&mut self, alloc: Global, bundle: &Bundle) -> Result<Handle, QueueFault>
         ensures extends { Extends self.old self.new }
         ensures ok { IfOk result (λ handle.
-            self.new.queue ≡ self.old.queue ++ Spawn handle bundle ∷ []) }
+            self.new.queue ≡ self.old.queue ++ Spawn handle bundle.now ∷ []) }
         ensures refused { IfErr result (λ fault.
             self.new.queue ≡ self.old.queue ++ refused_by 1 fault) }
         ensures memory { IsErrOf result QueueFault.Memory → self.new ≡ self.old }
@@ -86,11 +86,11 @@ impl<J: Numbering> Issuer<J> {
         &mut self,
         alloc: Global,
         n: u32,
-        bundle: Bundle,
+        bundle: &Bundle,
     ) -> Result<Vec<Handle>, QueueFault>
         ensures extends { Extends self.old self.new }
         ensures ok { IfOk result (λ handles.
-            self.new.queue ≡ self.old.queue ++ SpawnMany handles.items bundle ∷ []) }
+            self.new.queue ≡ self.old.queue ++ SpawnMany handles.items bundle.now ∷ []) }
         ensures length { IfOk result (λ handles. length handles.items ≡ n) }
         ensures refused { IfErr result (λ fault.
             self.new.queue ≡ self.old.queue ++ refused_by n fault) }
@@ -114,9 +114,9 @@ impl<J: Numbering> Issuer<J> {
     /// # Errors
     ///
     /// `Memory`, and then nothing has changed.
-    pub fn insert(&mut self, alloc: Global, handle: Handle, bundle: Bundle) -> Result<(), Memory>
+    pub fn insert(&mut self, alloc: Global, handle: Handle, bundle: &Bundle) -> Result<(), Memory>
         ensures ok { OnOk result (self.new ≡ record self.old {
-          queue = self.old.queue ++ Insert handle bundle ∷ [];
+          queue = self.old.queue ++ Insert handle bundle.now ∷ [];
         }) }
         ensures memory { OnErr result (self.new ≡ self.old) }
     {

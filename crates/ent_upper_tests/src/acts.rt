@@ -132,7 +132,7 @@ fn spawn(alloc: Global, commands: &mut Commands<'_>, value: i64) -> Result<(), M
     ensures { Extends commands.old commands.new }
 {
     let bundle = one(alloc, value)?;
-    match commands.spawn(bundle) {
+    match commands.spawn(&bundle) {
         Err(QueueFault::Memory) => Err(Memory),
         _ => Ok(()),
     }
@@ -148,7 +148,7 @@ fn spawn_many(
     ensures { Extends commands.old commands.new }
 {
     let bundle = one(alloc, value)?;
-    match commands.spawn_many(count, bundle) {
+    match commands.spawn_many(count, &bundle) {
         Err(QueueFault::Memory) => Err(Memory),
         _ => Ok(()),
     }
@@ -175,5 +175,5 @@ fn insert(
     ensures { Extends commands.old commands.new }
 {
     let bundle = one(alloc, value)?;
-    commands.insert(handle, bundle)
+    commands.insert(handle, &bundle)
 }

@@ -46,15 +46,15 @@ pub fn issue(
 {
     match call {
         Call::Spawn(items) => {
-            let handle = commands.spawn(bundle(rt, alloc, items))?;
+            let handle = commands.spawn(&bundle(rt, alloc, items))?;
             Ok(Given::One(handle))
         }
         Call::SpawnMany(n, items) => {
-            let handles = commands.spawn_many(n, bundle(rt, alloc, items))?;
+            let handles = commands.spawn_many(n, &bundle(rt, alloc, items))?;
             Ok(Given::Many(handles))
         }
         Call::Insert(entity, items) => {
-            done(commands.insert(handle(rt, entity), bundle(rt, alloc, items)))
+            done(commands.insert(handle(rt, entity), &bundle(rt, alloc, items)))
         }
         Call::Remove(entity, id) => done(commands.remove(handle(rt, entity), ComponentId(id))),
         Call::Despawn(entity) => done(commands.despawn(handle(rt, entity))),

@@ -30,9 +30,9 @@ fn issue(alloc: Global, shared: &Shared, reserver: &mut Reserver) -> Result<Comm
 {
     // Each spawn reserves its handle at once.
     let mut commands = Commands::new(alloc, shared, reserver);
-    let oak = commands.spawn(Bundle::of(alloc, &[(AGE, 1)])?)?;
-    let ash = commands.spawn(Bundle::new(alloc))?;
-    commands.insert(oak, Bundle::of(alloc, &[(AGE, 2)])?)?;
+    let oak = commands.spawn(&Bundle::of(alloc, &[(AGE, 1)])?)?;
+    let ash = commands.spawn(&Bundle::new(alloc))?;
+    commands.insert(oak, &Bundle::of(alloc, &[(AGE, 2)])?)?;
     commands.despawn(ash)?;
     Ok(commands.finish())
 }

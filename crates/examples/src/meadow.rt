@@ -23,7 +23,7 @@ impl System for Sow {
         _view: &View<'_>,
         commands: &mut Commands<'_>,
     ) -> Result<(), Memory> {
-        if let Err(fault) = commands.spawn(Bundle::of(alloc, &[(AGE, 0)])?) {
+        if let Err(fault) = commands.spawn(&Bundle::of(alloc, &[(AGE, 0)])?) {
             fault.or_memory()?;
         }
         Ok(())
@@ -46,7 +46,7 @@ impl System for Grow {
     ) -> Result<(), Memory> {
         for plant in view.with(AGE)? {
             if let Some(age) = view.get(plant, AGE) {
-                commands.insert(plant, Bundle::of(alloc, &[(AGE, age.saturating_add(1))])?)?;
+                commands.insert(plant, &Bundle::of(alloc, &[(AGE, age.saturating_add(1))])?)?;
             }
         }
         Ok(())

@@ -380,7 +380,7 @@ const ASSOCIATED: &[Associated] = &[
     ("Badge", &["blank"]),
     ("Buffer", &["new"]),
     ("NonZeroU32", &["new"]),
-    ("SmallVec", &["new"]),
+    ("SmallVec", &["new", "with_capacity"]),
     ("Vec", &["new", "with_capacity"]),
     ("str", &["from_utf8"]),
     ("i64", &["MAX", "MIN", "from"]),

@@ -40,7 +40,7 @@ impl Commands {
     #[inline]
     pub fn spawn(&mut self, components: &[(ComponentId, i64)]) -> Result<Handle, SpawnError> {
         let bundle = Bundle::of(Global, components)?;
-        Ok(Handle::of(self.proved.spawn(Global, bundle)?))
+        Ok(Handle::of(self.proved.spawn(Global, &bundle)?))
     }
 
     /// Reserves `count` handles at once, each of which is to have the components.
@@ -56,7 +56,7 @@ impl Commands {
         components: &[(ComponentId, i64)],
     ) -> Result<Vec<Handle>, SpawnError> {
         let bundle = Bundle::of(Global, components)?;
-        Ok(all_handles(self.proved.spawn_many(Global, count, bundle)?))
+        Ok(all_handles(self.proved.spawn_many(Global, count, &bundle)?))
     }
 
     /// Gives the entity the components, instead of those that it has under the same numbers.
@@ -72,7 +72,7 @@ impl Commands {
         components: &[(ComponentId, i64)],
     ) -> Result<(), OutOfMemory> {
         let bundle = Bundle::of(Global, components)?;
-        Ok(self.proved.insert(Global, handle.proved(), bundle)?)
+        Ok(self.proved.insert(Global, handle.proved(), &bundle)?)
     }
 
     /// Takes the component out of the entity, if it has it.

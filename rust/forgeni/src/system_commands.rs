@@ -34,7 +34,7 @@ impl<'a, 'w> SystemCommands<'a, 'w> {
     #[inline]
     pub fn spawn(&mut self, components: &[(ComponentId, i64)]) -> Result<Handle, SpawnError> {
         let bundle = Bundle::of(Global, components)?;
-        Ok(Handle::of(self.proved.spawn(bundle)?))
+        Ok(Handle::of(self.proved.spawn(&bundle)?))
     }
 
     /// Reserves `count` handles at once, each of which is to have the components.
@@ -50,7 +50,7 @@ impl<'a, 'w> SystemCommands<'a, 'w> {
         components: &[(ComponentId, i64)],
     ) -> Result<Vec<Handle>, SpawnError> {
         let bundle = Bundle::of(Global, components)?;
-        Ok(all_handles(self.proved.spawn_many(count, bundle)?))
+        Ok(all_handles(self.proved.spawn_many(count, &bundle)?))
     }
 
     /// Gives the entity the components, instead of those that it has under the same numbers.
@@ -66,7 +66,7 @@ impl<'a, 'w> SystemCommands<'a, 'w> {
         components: &[(ComponentId, i64)],
     ) -> Result<(), OutOfMemory> {
         let bundle = Bundle::of(Global, components)?;
-        Ok(self.proved.insert(handle.proved(), bundle)?)
+        Ok(self.proved.insert(handle.proved(), &bundle)?)
     }
 
     /// Takes the component out of the entity, if it has it.

@@ -26,7 +26,7 @@ impl System for Launch {
         _view: &View<'_>,
         commands: &mut Commands<'_>,
     ) -> Result<(), Memory> {
-        match commands.spawn_many(self.count, one(alloc, AGE, 0)?) {
+        match commands.spawn_many(self.count, &one(alloc, AGE, 0)?) {
             Err(QueueFault::Memory) => Err(Memory),
             // A refusal stands in the queue, and the sync point reports it.
             _ => Ok(()),
@@ -73,7 +73,7 @@ impl Age {
     {
         match view.get(handle, AGE) {
             Some(age) if age < self.limit => {
-                commands.insert(handle, one(alloc, AGE, age.saturating_add(1))?)
+                commands.insert(handle, &one(alloc, AGE, age.saturating_add(1))?)
             }
             Some(_) => commands.despawn(handle),
             None => Ok(()),
@@ -99,7 +99,7 @@ impl System for Aim {
         commands: &mut Commands<'_>,
     ) -> Result<(), Memory> {
         match view.with(AGE)?.get(self.rank) {
-            Some(handle) => commands.insert(*handle, one(alloc, TARGET, 1)?),
+            Some(handle) => commands.insert(*handle, &one(alloc, TARGET, 1)?),
             None => Ok(()),
         }
     }

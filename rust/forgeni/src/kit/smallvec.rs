@@ -1,6 +1,6 @@
 //! The kit's `smallvec`: a list whose first items stand in itself.
 
-use super::alloc::{AllocFailed, Global};
+use super::alloc::{AllocError, AllocFailed, Global};
 use super::vec::Vec;
 use core::ops::{Deref, DerefMut};
 
@@ -21,6 +21,15 @@ impl<T: Copy + Default, const N: usize> SmallVec<T, N> {
             len: 0,
             items: [T::default(); N],
         }
+    }
+
+    /// The contract: no items, and room for that many. It succeeds if `count` is at most `N`.
+    #[inline]
+    pub fn with_capacity(alloc: Global, count: usize) -> Result<Self, AllocError> {
+        if count <= N {
+            return Ok(SmallVec::new(alloc));
+        }
+        Ok(SmallVec::Heap(Vec::with_capacity(alloc, count)?))
     }
 
     #[inline]
@@ -97,6 +106,18 @@ mod tests {
     fn it_begins_empty() {
         assert!(SmallVec::<u32, 4>::new(Global).is_empty());
         assert!(SmallVec::<u32, 0>::new(Global).as_slice().is_empty());
+    }
+
+    #[test]
+    fn more_room_than_its_own_takes_memory() {
+        let of = |count| SmallVec::<u32, 4>::with_capacity(Global, count);
+        assert!(refuse(|| of(4)).is_ok_and(|list| list.is_empty()));
+        assert!(refuse(|| of(5)).is_err());
+        let mut list = of(5).expect("memory");
+        for item in 0..5 {
+            refuse(|| list.insert(0, item)).expect("there is room");
+        }
+        assert_eq!(list.as_slice(), [4, 3, 2, 1, 0]);
     }
 
     #[test]

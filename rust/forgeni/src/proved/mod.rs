@@ -11,6 +11,7 @@
 #![allow(dead_code, unused_imports, unused_variables, clippy::all)]
 
 pub mod ent_alloc;
+pub mod ent_bundle;
 pub mod ent_claims;
 pub mod ent_handle;
 pub mod ent_map;
@@ -19,7 +20,6 @@ pub mod ent_replay;
 pub mod ent_runner;
 pub mod ent_seats;
 pub mod ent_shared;
-pub mod ent_sorted;
 pub mod ent_storage;
 pub mod ent_total;
 pub mod ent_trace;

@@ -1,9 +1,9 @@
 // Made of crates/ent_queue/src/commands.rt by rust/erase. It isn't edited by hand.
 
 use crate::kit::vec::Vec;
-use crate::proved::ent_queue::bundle::Bundle;
 use crate::proved::ent_queue::fault::QueueFault;
 use crate::proved::ent_queue::queue::CommandQueue;
+use crate::proved::ent_bundle::Bundle;
 use crate::proved::ent_handle::{ComponentId, Handle, Memory};
 use crate::proved::ent_shared::{Reserver, Shared};
 use crate::kit::alloc::Global;
@@ -61,14 +61,16 @@ impl<'a> Commands<'a> {
     ///
     /// [`QueueFault::Memory`], and then neither the queue nor the reserver has changed.
     /// [`QueueFault::Space`] and [`QueueFault::Quota`] as [`Shared::reserve`] returns them; the
-    /// queue then keeps the refusal, and [`QueueFault::or_memory`] lets a system go on. After any
-    /// of them the bundle is dropped.
+    /// queue then keeps the refusal, and [`QueueFault::or_memory`] lets a system go on.
     #[inline]
-    pub fn spawn(&mut self, bundle: Bundle) -> Result<Handle, QueueFault>
+    pub fn spawn<const INLINE: usize>(
+        &mut self,
+        bundle: &Bundle<INLINE>,
+    ) -> Result<Handle, QueueFault>
         // requires { IsReady self.old }
         // ensures extends { Extends self.old self.new }
         // ensures ok { IfOk result (λ handle.
-        //     queue_of self.new ≡ queue_of self.old ++ Spawn handle bundle ∷ []) }
+        //     queue_of self.new ≡ queue_of self.old ++ Spawn handle bundle.now ∷ []) }
         // ensures refused { IfErr result (λ fault.
         //     queue_of self.new ≡ queue_of self.old ++ refused_by 1 fault) }
         // ensures memory { IsErrOf result QueueFault.Memory
@@ -88,11 +90,15 @@ impl<'a> Commands<'a> {
     ///
     /// As [`Commands::spawn`], with [`Shared::reserve_many`] instead of [`Shared::reserve`].
     #[inline]
-    pub fn spawn_many(&mut self, n: u32, bundle: Bundle) -> Result<Vec<Handle>, QueueFault>
+    pub fn spawn_many<const INLINE: usize>(
+        &mut self,
+        n: u32,
+        bundle: &Bundle<INLINE>,
+    ) -> Result<Vec<Handle>, QueueFault>
         // requires { IsReady self.old }
         // ensures extends { Extends self.old self.new }
         // ensures ok { IfOk result (λ handles.
-        //     queue_of self.new ≡ queue_of self.old ++ SpawnMany handles.items bundle ∷ []) }
+        //     queue_of self.new ≡ queue_of self.old ++ SpawnMany handles.items bundle.now ∷ []) }
         // ensures length { IfOk result (λ handles. length handles.items ≡ n) }
         // ensures refused { IfErr result (λ fault.
         //     queue_of self.new ≡ queue_of self.old ++ refused_by n fault) }
@@ -113,15 +119,18 @@ impl<'a> Commands<'a> {
     ///
     /// # Errors
     ///
-    /// `Memory`, and then nothing has changed. The bundle is dropped, and it has no `clone`: who
-    /// wants to try again keeps the list of its components, for [`Bundle::of`].
+    /// `Memory`, and then nothing has changed.
     #[inline]
-    pub fn insert(&mut self, handle: Handle, bundle: Bundle) -> Result<(), Memory>
+    pub fn insert<const INLINE: usize>(
+        &mut self,
+        handle: Handle,
+        bundle: &Bundle<INLINE>,
+    ) -> Result<(), Memory>
         // requires { IsReady self.old }
         // ensures extends { Extends self.old self.new }
         // ensures reserver { reserver_of self.new ≡ reserver_of self.old }
         // ensures ok { OnOk result
-        //     (queue_of self.new ≡ queue_of self.old ++ Insert handle bundle ∷ []) }
+        //     (queue_of self.new ≡ queue_of self.old ++ Insert handle bundle.now ∷ []) }
         // ensures err { OnErr result (queue_of self.new ≡ queue_of self.old) }
     {
         self.queue.insert(handle, bundle.items())

@@ -1,0 +1,89 @@
+// Made of crates/ent_bundle/src/bundle.rt by rust/erase. It isn't edited by hand.
+
+use crate::proved::ent_bundle::pairs::search;
+use crate::proved::ent_handle::{ComponentId, Memory};
+use crate::kit::smallvec::SmallVec;
+use crate::kit::alloc::Global;
+
+/// Components and their values, by strictly rising number. Contracts see the list of them.
+///
+/// Up to `INLINE` components lie in the bundle itself, and take no memory.
+pub struct Bundle<const INLINE: usize> {
+    items: SmallVec<(ComponentId, i64), INLINE>,
+}
+
+impl<const INLINE: usize> Bundle<INLINE> {
+    /// A bundle with no components.
+    #[inline]
+    pub fn new(alloc: Global) -> Self
+        // ensures { result ≡ [] }
+    {
+        Bundle {
+            items: SmallVec::new(alloc),
+        }
+    }
+
+    /// A bundle with no components, and room for so many.
+    ///
+    /// # Errors
+    ///
+    /// `Memory`, which needs a count of more than `INLINE`.
+    #[inline]
+    pub fn with_capacity(alloc: Global, count: usize) -> Result<Self, Memory>
+        // ensures ok { IfOk result (λ bundle. bundle ≡ []) }
+        // ensures memory { OnErr result (INLINE < count) }
+    {
+        Ok(Bundle {
+            items: SmallVec::with_capacity(alloc, count)?,
+        })
+    }
+
+    /// A bundle of these components, in any order. Of one that stands there twice the last value
+    /// counts.
+    ///
+    /// # Errors
+    ///
+    /// `Memory`, which needs more than `INLINE` different components. Nothing is left behind.
+    #[inline]
+    pub fn of(alloc: Global, items: &[(ComponentId, i64)]) -> Result<Self, Memory>
+        // ensures ok { IfOk result (λ bundle. bundle ≡ bundle_of items.now) }
+        // ensures last { IfOk result (λ bundle. (id : Id) →
+        //     find component_cmp id bundle ≡ find component_cmp id (reverse items.now)) }
+        // ensures memory { OnErr result (INLINE < length (bundle_of items.now)) }
+    {
+        let mut bundle = Bundle::new(alloc);
+        for (id, value) in items {
+            bundle.put(*id, *value)?;
+        }
+        Ok(bundle)
+    }
+
+    /// Puts the component's value, instead of the one that is there.
+    ///
+    /// # Errors
+    ///
+    /// `Memory`, which needs a component that is not there and at least `INLINE` that are. Nothing
+    /// has changed.
+    #[inline]
+    pub fn put(&mut self, id: ComponentId, value: i64) -> Result<(), Memory>
+        // ensures ok { OnOk result (self.new ≡ put component_cmp id value self.old) }
+        // ensures memory { OnErr result
+        //     ((INLINE ≤ length self.old) × (find component_cmp id self.old ≡ None)) }
+        // ensures err { OnErr result (self.new ≡ self.old) }
+    {
+        match search(self.items.as_slice(), id) {
+            Ok(index) => self.items[index].1 = value,
+            Err(index) => self.items.insert(index, (id, value))?,
+        }
+        Ok(())
+    }
+
+    /// The components and their values, by strictly rising number.
+    #[inline]
+    pub fn items(&self) -> &[(ComponentId, i64)]
+        // ensures items { result.now ≡ self.now }
+        // ensures is { IsBundle self.now }
+    {
+        self.items.as_slice()
+    }
+}
