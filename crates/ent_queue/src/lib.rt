@@ -1,4 +1,4 @@
-//! Bundles of components, and queues of commands that systems write and a world applies.
+//! Queues of commands that systems write and a world applies.
 #![tactic(auto)]
 
 mod bundle;
