@@ -141,6 +141,8 @@ def cited(file, text):
     for head, _, name in (it.partition(".") for it in words):
         if head in modules:
             found.add(definition(modules[head], name.split(".")[0]))
+    for crate, name in re.findall(r"\b(\w+)::(\w+)", text):
+        found.add(type_in(crate, [], name))
     return found - {None}
 
 
