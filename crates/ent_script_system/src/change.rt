@@ -56,11 +56,7 @@ impl Change<'_> {
 
     /// Issues the change for each of the handles, in order.
     #[tactic(auto, using(ent_queue::proofs::Extending::extends_then))]
-    fn on_each(
-        self,
-        handles: &[Handle],
-        commands: &mut Commands<'_>,
-    ) -> Result<(), Memory>
+    fn on_each(self, handles: &[Handle], commands: &mut Commands<'_>) -> Result<(), Memory>
         requires { IsReady commands.old }
         ensures extends { Extends commands.old commands.new }
         ensures ok { OnOk result (queue_of commands.new
@@ -75,11 +71,7 @@ impl Change<'_> {
     }
 
     /// Issues the change for one handle.
-    fn on_one(
-        self,
-        handle: Handle,
-        commands: &mut Commands<'_>,
-    ) -> Result<(), Memory>
+    fn on_one(self, handle: Handle, commands: &mut Commands<'_>) -> Result<(), Memory>
         requires { IsReady commands.old }
         ensures extends { Extends commands.old commands.new }
         ensures ok { OnOk result (queue_of commands.new
