@@ -8,4 +8,4 @@ done_text done of = codes "\r" ++ decimal done ++ codes " of " ++ decimal of ++ 
 
 -- what empties the line
 abbrev pub empty_text : List ℕ
-empty_text = codes "\r\x1b[K"
+empty_text = codes "\r\u{1b}[K"

@@ -25,11 +25,7 @@ pub(crate) fn write<O: Sink>(output: &mut O, text: &[u8], status: Status) -> Sta
 
 /// Writes the line that refuses an input. If the line went out, the error stream is told what the
 /// test wants that failed, and what it found.
-pub(crate) fn refuse<O: Sink, E: Sink>(
-    output: &mut O,
-    errors: &mut E,
-    refusal: &Refusal,
-) -> Status
+pub(crate) fn refuse<O: Sink, E: Sink>(output: &mut O, errors: &mut E, refusal: &Refusal) -> Status
     ensures ends { (result ≡ Status.Refused) ⊎ (result ≡ Status.Device) }
     ensures written { result ≡ Status.Refused
         → Appends (O.written output.old) (O.written output.new) refusal.now.line.items }

@@ -1,5 +1,6 @@
 //! The run of a script: bytes in, bytes out.
 ghost use Rattle.std.specs.Prelude.{◌≡◌, ◌≢◌, ◌+◌, ◌<◌, ◌≤◌, min, length, IfOk, IfSome, OnOk};
+ghost use Rattle.std.specs.Thread.{IsSync};
 ghost use Rattle.ent_script.specs.Refusal.{refusal_line};
 ghost use Rattle.devices.specs.Device.{OneFails, Takes, TakesAtMost};
 ghost use Rattle.spawnrun_lib.specs.CommandLine.{AreWorkers};
@@ -28,7 +29,7 @@ struct Scripts<'a, R> {
 impl<R: Threads + Sync> Work for Scripts<'_, R> {
     ghost makes = { λ scripts. Runs scripts.workers scripts.show };
 
-    ghost can_make = { λ scripts. AreWorkers scripts.workers };
+    ghost can_make = { λ scripts. IsSync R.row × AreWorkers scripts.workers };
 
     fn make<P: Progress>(
         self,

@@ -1,11 +1,10 @@
 use Rattle.std.proofs.Common.{◌≡◌, ◌∙◌, ap, subst, sym}
 use Rattle.std.specs.Prelude.{Ok, Err}
-use Rattle.ent_replay.specs.Schedule.{outcomes_of, starting}
 use Rattle.ent_replay.specs.ScheduleText.{schedule_of}
 use Rattle.ent_replay.specs.declared.ReadFault.TheVariants.{Line}
 use Rattle.std.specs.Fmt.InlineText.{inline_text}
 use Rattle.spawnrun_advice.specs.Found.{line_found}
-use Rattle.spawnrun_lib.specs.Replay.{Replays, outcome_lines, runs, spells_none}
+use Rattle.spawnrun_lib.specs.Replay.{Replays, refused_line, runs, spells_none}
 use Rattle.spawnrun_lib.specs.Work.{Output, Refusal}
 use Rattle.spawnrun_lib.proofs.replaying.SchedulesWork.make.Goals as goal
 
@@ -35,5 +34,5 @@ returns-in-Err-Line g c =
     at c.in_ok-refused_line-in-Err-Line.ensures in
     let wants = rw c.in-Err-Line.cause-is at c.line_wants.ensures in
     subst (λ known. Replays limits input (Refusal known c.line_wants.result.now found)) (sym text)
-    (subst (λ known. Replays limits input (Refusal _ known found)) (sym wants)
+    (subst (λ known. Replays limits input (Refusal (refused_line line cause) known found)) (sym wants)
     (spells_none line cause found spelled tells c.schedule_found.ensures.printable))
