@@ -62,6 +62,7 @@ impl<'a, R: Clock, T: Sink> Teller<'a, R, T> {
         is_due
     }
 
+    // Writes how many are done over what the line has.
     fn put_done(&mut self, done: usize, of: usize) -> Result<(), Failed>
         ensures said { OnOk result (Appends (T.written self.old.terminal)
             (T.written self.new.terminal) (done_text done of)) }

@@ -29,6 +29,7 @@ struct Scripts<'a, R> {
 impl<R: Threads + Sync> Work for Scripts<'_, R> {
     ghost makes = { λ scripts. Runs scripts.workers scripts.show };
 
+    // The threads of a frame share the handle.
     ghost can_make = { λ scripts. IsSync R.row × AreWorkers scripts.workers };
 
     fn make<P: Progress>(
