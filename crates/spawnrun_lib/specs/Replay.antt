@@ -14,7 +14,7 @@ use Rattle.ent_replay.specs.declared.ReplayFault.{ReplayFault}
 use Rattle.spawnrun_advice.specs.Found.{line_found}
 use Rattle.spawnrun_advice.specs.Shown.{ArePrintable}
 use Rattle.spawnrun_advice.specs.Wants.{line_wants}
-use Rattle.spawnrun_lib.specs.Work.{Made, Output, Refusal}
+use Rattle.spawnrun_lib.specs.Work.{Refusal}
 
 -- a line for each outcome or fault
 abbrev pub outcome_lines : List (Result Outcome ReplayFault) → List ℕ
@@ -25,13 +25,18 @@ abbrev pub refused_line : ℕ → Cause → List ℕ
 refused_line line cause =
     codes "refused line " ++ decimal line ++ codes " " ++ line_cause_text cause ++ codes "\n"
 
--- what is made of an input that is not too long
-pub data Replays (limits : Limits) (input : List ℕ) : Made → Type 0 where
-  -- the outcomes of the schedule that the input spells
-  runs : (events : List Event) → schedule_of input ≡ Ok events
-      → Replays limits input (Output (outcome_lines (outcomes_of (starting limits) events)))
-  -- the input spells no schedule: what the first test wants that it fails, and the line that does
-  spells_none : (line : ℕ) (cause : Cause) (found : List ℕ)
-      → schedule_of input ≡ Err (Line line cause) → found ≡ line_found input line
-      → ArePrintable found
-      → Replays limits input (Refusal (refused_line line cause) (line_wants cause) found)
+-- the text is the outcomes of the schedule that the input spells
+abbrev pub Replays : Limits → List ℕ → List ℕ → Type 0
+Replays limits input text = (events : List Event) × (schedule_of input ≡ Ok events)
+    × (text ≡ outcome_lines (outcomes_of (starting limits) events))
+
+-- The input spells no schedule. The refusal has what the first test wants that it fails, and the
+-- line that does.
+pub record SpellsNone (input : List ℕ) (refusal : Refusal) : Type 0 where
+  pub line : ℕ
+  pub cause : Cause
+  pub spells_none : schedule_of input ≡ Err (Line line cause)
+  pub refused : refusal.line ≡ refused_line line cause
+  pub wants : refusal.wants ≡ line_wants cause
+  pub found : refusal.found ≡ line_found input line
+  pub printable : ArePrintable refusal.found

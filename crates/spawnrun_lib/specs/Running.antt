@@ -14,7 +14,7 @@ use Rattle.ent_script_run.specs.ScriptAlone.{text_alone}
 use Rattle.spawnrun_advice.specs.Found.{TellsOfScript}
 use Rattle.spawnrun_advice.specs.Shown.{ArePrintable}
 use Rattle.spawnrun_advice.specs.Wants.{script_wants}
-use Rattle.spawnrun_lib.specs.Work.{Made, Output, Refusal}
+use Rattle.spawnrun_lib.specs.Work.{Refusal}
 
 -- a report that the run of a script may write
 pub record IsScriptReport (script : Script) (workers : ℕ) (show : Show) (text : List ℕ)
@@ -34,12 +34,17 @@ pub record IsScriptReport (script : Script) (workers : ℕ) (show : Show) (text 
   pub enough : show ≡ Births → IsWithoutHandles script → HasEnoughSlots script
       → text ≡ text_alone script
 
--- what is made of an input that is not too long
-pub data Runs (workers : ℕ) (show : Show) (input : List ℕ) : Made → Type 0 where
-  -- a report of the script that the input means
-  runs : (script : Script) (text : List ℕ) → script_of_text input ≡ Ok script
-      → IsScriptReport script workers show text → Runs workers show input (Output text)
-  -- the input means no script: what the first test wants that it fails, and what that found
-  means_none : (fault : ReadFault) (found : List ℕ) → script_of_text input ≡ Err fault
-      → TellsOfScript input fault found → ArePrintable found
-      → Runs workers show input (Refusal (refusal_line fault) (script_wants fault) found)
+-- the text is a report of the script that the input means
+abbrev pub Runs : ℕ → Show → List ℕ → List ℕ → Type 0
+Runs workers show input text = (script : Script) × (script_of_text input ≡ Ok script)
+    × IsScriptReport script workers show text
+
+-- The input means no script. The refusal has what the first test wants that it fails, and what that
+-- found.
+pub record MeansNone (input : List ℕ) (refusal : Refusal) : Type 0 where
+  pub fault : ReadFault
+  pub means_none : script_of_text input ≡ Err fault
+  pub refused : refusal.line ≡ refusal_line fault
+  pub wants : refusal.wants ≡ script_wants fault
+  pub found : TellsOfScript input fault refusal.found
+  pub printable : ArePrintable refusal.found

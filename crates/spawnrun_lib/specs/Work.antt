@@ -1,10 +1,8 @@
--- The work on an input: what is made of it, what is written, and how it ends.
+-- The work on an input: when it is accepted or refused, and what is written.
 use Rattle.std.specs.Prelude.{◌≡◌, ℕ, ◌<◌, ◌≤◌, List, [], ◌++◌, length, codes, Option}
 use Rattle.std.specs.Fmt.InlineText.{inline_text}
 use Rattle.devices.specs.Device.{Writes}
 use Rattle.spawnrun_advice.specs.Wants.{size_wants}
-use Rattle.spawnrun_lib.specs.declared.status.Status.{Status}
-use Rattle.spawnrun_lib.specs.declared.status.Status.TheVariants as status
 use Rattle.spawnrun_lib.specs.declared.work.Product.{Product}
 use Rattle.spawnrun_lib.specs.declared.work.Product.TheVariants as product
 use Rattle.spawnrun_lib.specs.declared.work.Refusal.{Refusal as RefusalValue}
@@ -17,43 +15,54 @@ input_limit = 67108864
 abbrev pub size_line : List ℕ
 size_line = codes "refused size\n"
 
--- what is made of an input
-pub data Made : Type 0 where
-  -- it is accepted, and this is the output
-  Output : (text : List ℕ) → Made
-  -- It is refused by this line. A test wants this, and found that.
-  Refusal : (line wants found : List ℕ) → Made
+-- an input is accepted with this output, if one within the limit gives it
+abbrev pub Accepts : (List ℕ → List ℕ → Type 0) → List ℕ → List ℕ → Type 0
+Accepts Gives input text = (length input ≤ input_limit) × Gives input text
 
--- what may be made of an input of any length, if this may be made of those within the limit
-pub data Gives (P : List ℕ → Made → Type 0) (input : List ℕ) : Made → Type 0 where
-  is_within : (made : Made) → length input ≤ input_limit → P input made → Gives P input made
-  is_too_long : input_limit < length input → Gives P input (Refusal size_line size_wants [])
+-- what is said of an input that is refused: the line, what a test wants, and what it found
+pub record Refusal : Type 0 where
+  pub line : List ℕ
+  pub wants : List ℕ
+  pub found : List ℕ
 
--- what the work writes, if it ends so
-abbrev pub Ends : (List ℕ → Made → Type 0) → Status → List ℕ → List ℕ → Type 0
-Ends P status.Done input text = Gives P input (Output text)
-Ends P status.Refused input line = (wants found : List ℕ) × Gives P input (Refusal line wants found)
-Ends P other input text = ⊥
+-- an input is refused so, if a test refuses those within the limit so
+pub data Refuses (Fails : List ℕ → Refusal → Type 0) (input : List ℕ) : Refusal → Type 0 where
+  fails : (refusal : Refusal) → length input ≤ input_limit → Fails input refusal
+      → Refuses Fails input refusal
+  is_too_long : input_limit < length input
+      → Refuses Fails input (record { line = size_line; wants = size_wants; found = [] })
 
--- one line on an input that is refused: what a test wants, and what it found
-abbrev pub Advises : (List ℕ → Made → Type 0) → List ℕ → List ℕ → Type 0
-Advises P input advice = (line wants found : List ℕ)
-    × Gives P input (Refusal line wants found) × (advice ≡ wants ++ found ++ codes "\n")
+-- the line that refuses it
+abbrev pub RefusesBy : (List ℕ → Refusal → Type 0) → List ℕ → List ℕ → Type 0
+RefusesBy Fails input line = (refusal : Refusal) × Refuses Fails input refusal
+    × (line ≡ refusal.line)
 
--- work that ends so has written what it has to, if the devices tell
-abbrev pub HasWritten : (List ℕ → Made → Type 0) → Status
+-- one line on it: what a test wants, and what it found
+abbrev pub Advises : (List ℕ → Refusal → Type 0) → List ℕ → List ℕ → Type 0
+Advises Fails input advice = (refusal : Refusal) × Refuses Fails input refusal
+    × (advice ≡ refusal.wants ++ refusal.found ++ codes "\n")
+
+-- the output of the input was written, if the devices tell
+abbrev pub HasDone : (List ℕ → List ℕ → Type 0)
     → Option (List ℕ) → Option (List ℕ) → Option (List ℕ) → Type 0
-HasWritten P ended = Writes (Ends P ended)
+HasDone Gives = Writes (Accepts Gives)
 
--- and it has told the error stream why the input is refused
-abbrev pub HasAdvised : (List ℕ → Made → Type 0)
+-- the line that refuses it was
+abbrev pub HasRefused : (List ℕ → Refusal → Type 0)
     → Option (List ℕ) → Option (List ℕ) → Option (List ℕ) → Type 0
-HasAdvised P = Writes (Advises P)
+HasRefused Fails = Writes (RefusesBy Fails)
+
+-- and the error stream was told why
+abbrev pub HasAdvised : (List ℕ → Refusal → Type 0)
+    → Option (List ℕ) → Option (List ℕ) → Option (List ℕ) → Type 0
+HasAdvised Fails = Writes (Advises Fails)
 
 -- what a refusal says
-abbrev pub refusal_of : RefusalValue → Made
-refusal_of r = Refusal r.line.items r.wants.now (inline_text r.found)
+abbrev pub refusal_of : RefusalValue → Refusal
+refusal_of r = record { line = r.line.items; wants = r.wants.now; found = inline_text r.found }
 
-abbrev pub made_of : Product → Made
-made_of (product.Output text) = Output text.items
-made_of (product.Refusal r) = refusal_of r
+-- an output that an input gives, or a refusal of it
+abbrev pub IsProductOf : (List ℕ → List ℕ → Type 0) → (List ℕ → Refusal → Type 0)
+    → List ℕ → Product → Type 0
+IsProductOf Gives Fails input (product.Output text) = Gives input text.items
+IsProductOf Gives Fails input (product.Refusal r) = Fails input (refusal_of r)

@@ -9,8 +9,8 @@ ghost use Rattle.clap.specs.Words.{fault_of, takes};
 ghost use Rattle.spawnrun_lib.specs.CommandLine.{IsFaulty, program};
 ghost use Rattle.devices.specs.Device.{OneFails, Takes, TakesAtMost};
 ghost use Rattle.spawnrun_lib.specs.Status.{exit_number, said, words_status};
-ghost use Rattle.spawnrun_lib.specs.Program.{AsksTo, Makes};
-ghost use Rattle.spawnrun_lib.specs.Work.{HasAdvised, HasWritten, input_limit};
+ghost use Rattle.spawnrun_lib.specs.Program.{AsksTo, Fails, Gives};
+ghost use Rattle.spawnrun_lib.specs.Work.{HasAdvised, HasDone, HasRefused, input_limit};
 
 use crate::replaying::replay;
 use crate::running::run;
@@ -52,11 +52,9 @@ where
     ensures statuses { result ≤ 4 }
 
     // A replay or a run was done, or its input refused.
-    ensures done { result ≡ 0 → AsksTo (map S.text words.now) (λ task.
-        HasWritten (Makes task) Status.Done
+    ensures done { result ≡ 0 → AsksTo (map S.text words.now) (λ task. HasDone (Gives task)
         (I.remaining input.old) (O.written output.old) (O.written output.new)) }
-    ensures refused { result ≡ 1 → AsksTo (map S.text words.now) (λ task.
-        HasWritten (Makes task) Status.Refused
+    ensures refused { result ≡ 1 → AsksTo (map S.text words.now) (λ task. HasRefused (Fails task)
         (I.remaining input.old) (O.written output.old) (O.written output.new)) }
 
     // The words are no command line, or ask for help. They have no other status, but 3 for want of
@@ -86,7 +84,7 @@ where
     // What the error stream tells.
     ensures quiet { result ≡ 0 → errors.new ≡ errors.old }
     ensures advised { result ≡ 1 → E.failures errors.new ≡ E.failures errors.old
-        → AsksTo (map S.text words.now) (λ task. HasAdvised (Makes task)
+        → AsksTo (map S.text words.now) (λ task. HasAdvised (Fails task)
         (I.remaining input.old) (E.written errors.old) (E.written errors.new)) }
     ensures memory_said { result ≡ 3 → E.failures errors.new ≡ E.failures errors.old
         → Appends (E.written errors.old) (E.written errors.new) (codes "memory\n") }

@@ -2,8 +2,8 @@
 ghost use Rattle.std.specs.Prelude.{⊤, ◌≡◌, ◌≢◌, ◌+◌, min, length, Err, IfOk, IfSome, OnOk};
 ghost use Rattle.ent_replay.specs.Schedule.{after_event, outcome_of, outcomes_of, starting};
 ghost use Rattle.devices.specs.Device.{OneFails, Takes, TakesAtMost};
-ghost use Rattle.spawnrun_lib.specs.Replay.{Replays, outcome_lines, refused_line};
-ghost use Rattle.spawnrun_lib.specs.Work.{HasAdvised, HasWritten, input_limit};
+ghost use Rattle.spawnrun_lib.specs.Replay.{Replays, SpellsNone, outcome_lines, refused_line};
+ghost use Rattle.spawnrun_lib.specs.Work.{HasAdvised, HasDone, HasRefused, input_limit};
 
 use crate::status::Status;
 use crate::work::{Product, Refusal, Work, do_work};
@@ -27,7 +27,9 @@ struct Schedules {
 }
 
 impl Work for Schedules {
-    ghost makes = { λ schedules. Replays schedules.limits };
+    ghost gives = { λ schedules. Replays schedules.limits };
+
+    ghost fails = { λ _. SpellsNone };
 
     ghost can_make = { λ _. ⊤ };
 
@@ -66,9 +68,9 @@ pub fn replay<I: Source, O: Sink, E: Sink, P: Progress>(
     progress: &mut P,
     limits: Limits,
 ) -> Status
-    ensures done { result ≡ Status.Done → HasWritten (Replays limits) Status.Done
+    ensures done { result ≡ Status.Done → HasDone (Replays limits)
         (I.remaining input.old) (O.written output.old) (O.written output.new) }
-    ensures refused { result ≡ Status.Refused → HasWritten (Replays limits) Status.Refused
+    ensures refused { result ≡ Status.Refused → HasRefused SpellsNone
         (I.remaining input.old) (O.written output.old) (O.written output.new) }
     ensures memory { result ≡ Status.Memory → output.new ≡ output.old }
 
@@ -84,7 +86,7 @@ pub fn replay<I: Source, O: Sink, E: Sink, P: Progress>(
     // What the error stream tells.
     ensures quiet { result ≢ Status.Refused → errors.new ≡ errors.old }
     ensures advised { result ≡ Status.Refused → E.failures errors.new ≡ E.failures errors.old
-        → HasAdvised (Replays limits)
+        → HasAdvised SpellsNone
         (I.remaining input.old) (E.written errors.old) (E.written errors.new) }
 
     // What is taken of an input that didn't fail: all of it, or one byte more than the limit.

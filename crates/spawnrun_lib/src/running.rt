@@ -4,8 +4,8 @@ ghost use Rattle.std.specs.Thread.{IsSync};
 ghost use Rattle.ent_script.specs.Refusal.{refusal_line};
 ghost use Rattle.devices.specs.Device.{OneFails, Takes, TakesAtMost};
 ghost use Rattle.spawnrun_lib.specs.CommandLine.{AreWorkers};
-ghost use Rattle.spawnrun_lib.specs.Running.{Runs};
-ghost use Rattle.spawnrun_lib.specs.Work.{HasAdvised, HasWritten, input_limit};
+ghost use Rattle.spawnrun_lib.specs.Running.{MeansNone, Runs};
+ghost use Rattle.spawnrun_lib.specs.Work.{HasAdvised, HasDone, HasRefused, input_limit};
 
 use crate::status::Status;
 use crate::work::{Product, Refusal, Work, do_work};
@@ -27,7 +27,9 @@ struct Scripts<'a, R> {
 }
 
 impl<R: Threads + Sync> Work for Scripts<'_, R> {
-    ghost makes = { λ scripts. Runs scripts.workers scripts.show };
+    ghost gives = { λ scripts. Runs scripts.workers scripts.show };
+
+    ghost fails = { λ _. MeansNone };
 
     // The threads of a frame share the handle.
     ghost can_make = { λ scripts. IsSync R.row × AreWorkers scripts.workers };
@@ -82,9 +84,9 @@ where
     requires some { 0 < workers }
     requires few { workers ≤ 64 }
 
-    ensures done { result ≡ Status.Done → HasWritten (Runs workers show) Status.Done
+    ensures done { result ≡ Status.Done → HasDone (Runs workers show)
         (I.remaining input.old) (O.written output.old) (O.written output.new) }
-    ensures refused { result ≡ Status.Refused → HasWritten (Runs workers show) Status.Refused
+    ensures refused { result ≡ Status.Refused → HasRefused MeansNone
         (I.remaining input.old) (O.written output.old) (O.written output.new) }
     ensures memory { result ≡ Status.Memory → output.new ≡ output.old }
 
@@ -100,7 +102,7 @@ where
     // What the error stream tells.
     ensures quiet { result ≢ Status.Refused → errors.new ≡ errors.old }
     ensures advised { result ≡ Status.Refused → E.failures errors.new ≡ E.failures errors.old
-        → HasAdvised (Runs workers show)
+        → HasAdvised MeansNone
         (I.remaining input.old) (E.written errors.old) (E.written errors.new) }
 
     // What is taken of an input that didn't fail: all of it, or one byte more than the limit.

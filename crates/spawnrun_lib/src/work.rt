@@ -3,8 +3,9 @@ ghost use Rattle.std.specs.Prelude.{◌≡◌, ◌≢◌, ◌+◌, ◌⊎◌, �
 ghost use Rattle.std.specs.Prelude.{min, length};
 ghost use Rattle.devices.specs.Device.{OneFails, Takes, TakesAtMost};
 ghost use Rattle.spawnrun_advice.specs.Wants.{size_wants};
-ghost use Rattle.spawnrun_lib.specs.Work.{Gives, HasAdvised, HasWritten, Made, input_limit};
-ghost use Rattle.spawnrun_lib.specs.Work.{made_of, refusal_of, size_line};
+ghost use Rattle.spawnrun_lib.specs.Work.{Accepts, HasAdvised, HasDone, HasRefused, IsProductOf};
+ghost use Rattle.spawnrun_lib.specs.Work.{Refusal as Refused, Refuses, input_limit, refusal_of};
+ghost use Rattle.spawnrun_lib.specs.Work.{size_line};
 
 use crate::input::{INPUT_LIMIT, InputFault, read_all};
 use crate::output::{refuse, write};
@@ -37,8 +38,11 @@ pub(crate) struct Refusal {
 
 /// Work on an input that was read whole.
 pub(crate) trait Work: Drop {
-    /// What may be made of an input.
-    ghost makes: { Self → List ℕ → Made → Type 0 };
+    /// The outputs that an input gives.
+    ghost gives: { Self → List ℕ → List ℕ → Type 0 };
+
+    /// How an input fails a test.
+    ghost fails: { Self → List ℕ → Refused → Type 0 };
 
     /// Whether the work can be done: its numbers are in their ranges.
     ghost can_make: { Self → Type 0 };
@@ -51,7 +55,7 @@ pub(crate) trait Work: Drop {
         progress: &mut P,
     ) -> Result<Product, Memory>
         requires { can_make self }
-        ensures { IfOk result (λ product. makes self input.items (made_of product)) };
+        ensures { IfOk result (IsProductOf (gives self) (fails self) input.items) };
 }
 
 /// Reads all of the input, does the work, and writes what it made.
@@ -74,9 +78,9 @@ pub(crate) fn do_work<W: Work, I: Source, O: Sink, E: Sink, P: Progress>(
     work: W,
 ) -> Status
     requires { W.can_make work }
-    ensures done { result ≡ Status.Done → HasWritten (W.makes work) Status.Done
+    ensures done { result ≡ Status.Done → HasDone (W.gives work)
         (I.remaining input.old) (O.written output.old) (O.written output.new) }
-    ensures refused { result ≡ Status.Refused → HasWritten (W.makes work) Status.Refused
+    ensures refused { result ≡ Status.Refused → HasRefused (W.fails work)
         (I.remaining input.old) (O.written output.old) (O.written output.new) }
     ensures memory { result ≡ Status.Memory → output.new ≡ output.old }
 
@@ -92,7 +96,7 @@ pub(crate) fn do_work<W: Work, I: Source, O: Sink, E: Sink, P: Progress>(
     // What the error stream tells.
     ensures quiet { result ≢ Status.Refused → errors.new ≡ errors.old }
     ensures advised { result ≡ Status.Refused → E.failures errors.new ≡ E.failures errors.old
-        → HasAdvised (W.makes work)
+        → HasAdvised (W.fails work)
         (I.remaining input.old) (E.written errors.old) (E.written errors.new) }
 
     // What is taken of an input that didn't fail: all of it, or one byte more than the limit.
@@ -120,7 +124,7 @@ fn product_of<W: Work, I: Source, P: Progress>(
 ) -> Result<Product, Status>
     requires { W.can_make work }
     ensures gives { IfOk result (λ product. IfSome (I.remaining input.old) (λ all.
-        Gives (W.makes work) all (made_of product))) }
+        IsProductOf (Accepts (W.gives work)) (Refuses (W.fails work)) all product)) }
     ensures ends { IfErr result (λ status. (status ≡ Status.Memory) ⊎ (status ≡ Status.Device)) }
     ensures failed { result ≡ Err Status.Device
         → I.failures input.new ≡ I.failures input.old + 1 }
@@ -142,7 +146,8 @@ fn product_of<W: Work, I: Source, P: Progress>(
 
 // What is said of an input that is too long.
 fn too_long(alloc: Global) -> Result<Refusal, Memory>
-    ensures { IfOk result (λ refusal. refusal_of refusal ≡ Made.Refusal size_line size_wants []) }
+    ensures { IfOk result (λ refusal. refusal_of refusal
+        ≡ record { line = size_line; wants = size_wants; found = [] }) }
 {
     Ok(Refusal {
         line: Vec::from_slice(alloc, b"refused size\n")?,
