@@ -2,6 +2,8 @@
 #![tactic(auto)]
 
 mod frame;
+mod progress;
 mod run;
 
+pub use progress::Progress;
 pub use run::run_script;

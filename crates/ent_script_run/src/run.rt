@@ -9,6 +9,7 @@ ghost use Rattle.ent_script_run.specs.SameReport.{HasEnoughSlots, IsWithoutHandl
 ghost use Rattle.ent_script_run.specs.ScriptAlone.{text_alone};
 
 use crate::frame;
+use crate::progress::Progress;
 use ent_handle::Memory;
 use ent_script::{Frame, Script};
 use ent_script_report::{Show, write_frame, write_world};
@@ -17,13 +18,14 @@ use std::alloc::Global;
 use std::thread::Threads;
 
 /// Runs the frames one after the other, and appends the text of each.
-fn run_frames<R>(
+fn run_frames<R, P: Progress>(
     rt: &R,
     alloc: Global,
     world: &mut World,
     frames: &[Frame],
     workers: usize,
     show: Show,
+    progress: &mut P,
 ) -> Result<Vec<u8>, Memory>
 where
     R: Threads + Sync,
@@ -36,6 +38,7 @@ where
 {
     let mut text = Vec::new(alloc);
     for (number, systems) in frames.iter().enumerate() {
+        progress.tell(number, frames.len());
         let report = frame::run(rt, alloc, world, systems.systems(), workers)?;
         write_frame(number as u64, &report, show, &mut text)?;
     }
@@ -44,12 +47,13 @@ where
 
 /// Runs the frames over a world that begins empty, and appends the text of the world that they
 /// leave.
-fn report<R>(
+fn report<R, P: Progress>(
     rt: &R,
     alloc: Global,
     script: &Script,
     workers: usize,
     show: Show,
+    progress: &mut P,
 ) -> Result<Vec<u8>, Memory>
 where
     R: Threads + Sync,
@@ -59,7 +63,8 @@ where
     ensures { IfOk result (λ text. IsReport script.now workers show text.items) }
 {
     let mut world = World::new(alloc, script.limits());
-    let mut text = run_frames(rt, alloc, &mut world, script.frames(), workers, show)?;
+    let frames = script.frames();
+    let mut text = run_frames(rt, alloc, &mut world, frames, workers, show, progress)?;
     write_world(&world, script.components(), show, &mut text)?;
     Ok(text)
 }
@@ -73,15 +78,18 @@ where
 /// request is refused if the script spawns no more entities in all than it has slots. What a frame
 /// has done is kept as text alone, so memory grows with the world, the text and the longest frame.
 ///
+/// Before each frame `progress` is told how many are done. `()` is for who doesn't want to know.
+///
 /// # Errors
 ///
 /// `Memory` if memory was refused at any point of the run.
-pub fn run_script<R>(
+pub fn run_script<R, P: Progress>(
     rt: &R,
     alloc: Global,
     script: &Script,
     workers: usize,
     show: Show,
+    progress: &mut P,
 ) -> Result<Vec<u8>, Memory>
 where
     R: Threads + Sync,
@@ -110,5 +118,7 @@ where
     ensures enough { show ≡ Show.Births → IsWithoutHandles script.now → HasEnoughSlots script.now
         → IfOk result (λ text. text.items ≡ text_alone script.now) }
 {
-    report(rt, alloc, script, workers, show)
+    let report = report(rt, alloc, script, workers, show, progress);
+    progress.end();
+    report
 }

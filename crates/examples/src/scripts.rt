@@ -90,6 +90,6 @@ where
     requires some { 0 < workers }
     requires few { workers ≤ 64 }
 {
-    let report = run_script(rt, rt.alloc(), script, workers, show)?;
+    let report = run_script(rt, rt.alloc(), script, workers, show, &mut ())?;
     Ok(report.as_slice() == wanted)
 }

@@ -3,8 +3,12 @@
 #![tactic(auto)]
 
 use spawnrun_lib::start;
+use std::io::IsTerminal;
 use std::process::ExitCode;
 
 fn main(rt: HostRuntime) -> ExitCode {
-    ExitCode::from(start(&rt, rt.stdin(), rt.stdout(), rt.stderr()))
+    let terminal = rt.stderr();
+    let tells = terminal.is_terminal();
+    let errors = rt.stderr();
+    ExitCode::from(start(&rt, rt.stdin(), rt.stdout(), errors, terminal, tells))
 }

@@ -4,5 +4,6 @@ pub mod MovedFaults
 pub mod MovedTakes
 pub mod CommandLineOptions
 pub mod TaskOfWords
-pub mod WrittenOfInput
-pub mod OutputOfScript
+pub mod GivenInput
+pub mod FaultRead
+pub mod EventsApplied

@@ -1,6 +1,7 @@
 pub mod CommandLine
-pub mod Advice
 pub mod Program
 pub mod Status
+pub mod Work
 pub mod Replay
 pub mod Running
+pub mod Progress

@@ -1,24 +1,22 @@
 -- What the program's words ask for.
-use Rattle.std.specs.Prelude.{ℕ, List, Option}
+use Rattle.std.specs.Prelude.{ℕ, List}
 use Rattle.clap.specs.Words.{Text}
-use Rattle.spawnrun_lib.specs.declared.status.Status.{Status}
 use Rattle.spawnrun_lib.specs.declared.task.Task.{Task}
 use Rattle.spawnrun_lib.specs.declared.task.Task.TheVariants.{Replay, Run}
-use Rattle.spawnrun_lib.specs.Advice.{AdvisesOnSchedule, AdvisesOnScript}
 use Rattle.spawnrun_lib.specs.CommandLine.{AsksFor}
-use Rattle.devices.specs.Device.{Writes}
-use Rattle.spawnrun_lib.specs.Replay.{HasReplayed}
-use Rattle.spawnrun_lib.specs.Running.{HasRunScript}
+use Rattle.spawnrun_lib.specs.Replay.{Replays, SpellsNone}
+use Rattle.spawnrun_lib.specs.Running.{MeansNone, Runs}
+use Rattle.spawnrun_lib.specs.Work.{Refusal}
 
--- a task that ends so has written what it has to, if the devices tell
-abbrev pub HasDone : Task → Status → Option (List ℕ) → Option (List ℕ) → Option (List ℕ) → Type 0
-HasDone (Replay limits) status = HasReplayed limits status
-HasDone (Run workers show) status = HasRunScript workers show status
+-- what a task gives for an input
+abbrev pub Gives : Task → List ℕ → List ℕ → Type 0
+Gives (Replay limits) = Replays limits
+Gives (Run workers show) = Runs workers show
 
--- a task that refuses its input has told the error stream why, if the devices tell
-abbrev pub HasAdvised : Task → Option (List ℕ) → Option (List ℕ) → Option (List ℕ) → Type 0
-HasAdvised (Replay limits) = Writes AdvisesOnSchedule
-HasAdvised (Run workers show) = Writes AdvisesOnScript
+-- how it refuses one
+abbrev pub Fails : Task → List ℕ → Refusal → Type 0
+Fails (Replay limits) = SpellsNone
+Fails (Run workers show) = MeansNone
 
 -- the words ask for a task of which this holds
 abbrev pub AsksTo : List Text → (Task → Type 0) → Type 0

@@ -1,5 +1,5 @@
--- What the run of a script writes, and how it ends.
-use Rattle.std.specs.Prelude.{◌≡◌, ℕ, ◌<◌, ◌≤◌, List, length, Option, Ok, Err}
+-- What is made of a script.
+use Rattle.std.specs.Prelude.{◌≡◌, ℕ, List, Ok, Err}
 use Rattle.ent_script.specs.Reading.{script_of_text}
 use Rattle.ent_script.specs.Refusal.{refusal_line}
 use Rattle.ent_script.specs.Script.{Script}
@@ -11,10 +11,10 @@ use Rattle.ent_script_run.specs.Given.{handles_in_run}
 use Rattle.ent_script_run.specs.Report.{Execution, IsReport, IsReportOf}
 use Rattle.ent_script_run.specs.SameReport.{IsWithoutHandles, HasEnoughSlots, TellsNoRefusal}
 use Rattle.ent_script_run.specs.ScriptAlone.{text_alone}
-use Rattle.devices.specs.Device.{Writes}
-use Rattle.spawnrun_lib.specs.Replay.{input_limit, size_line}
-use Rattle.spawnrun_lib.specs.declared.status.Status.{Status}
-use Rattle.spawnrun_lib.specs.declared.status.Status.TheVariants.{Done, Refused}
+use Rattle.spawnrun_advice.specs.Found.{TellsOfScript}
+use Rattle.spawnrun_advice.specs.Shown.{ArePrintable}
+use Rattle.spawnrun_advice.specs.Wants.{script_wants}
+use Rattle.spawnrun_lib.specs.Work.{Refusal}
 
 -- a report that the run of a script may write
 pub record IsScriptReport (script : Script) (workers : ℕ) (show : Show) (text : List ℕ)
@@ -34,19 +34,17 @@ pub record IsScriptReport (script : Script) (workers : ℕ) (show : Show) (text 
   pub enough : show ≡ Births → IsWithoutHandles script → HasEnoughSlots script
       → text ≡ text_alone script
 
--- how the run of an input ends, and what it writes
-pub data RunEnds (workers : ℕ) (show : Show) (input : List ℕ) : Status → List ℕ → Type 0 where
-  -- a report of the script that the input means
-  runs : (script : Script) (text : List ℕ) → length input ≤ input_limit
-      → script_of_text input ≡ Ok script → IsScriptReport script workers show text
-      → RunEnds workers show input Done text
-  -- the input is too long
-  is_too_long : input_limit < length input → RunEnds workers show input Refused size_line
-  -- the input means no script
-  means_none : (fault : ReadFault) → length input ≤ input_limit
-      → script_of_text input ≡ Err fault → RunEnds workers show input Refused (refusal_line fault)
+-- the text is a report of the script that the input means
+abbrev pub Runs : ℕ → Show → List ℕ → List ℕ → Type 0
+Runs workers show input text = (script : Script) × (script_of_text input ≡ Ok script)
+    × IsScriptReport script workers show text
 
--- a run that ends so has written what it gives for the input, if the devices tell
-abbrev pub HasRunScript : ℕ → Show → Status
-    → Option (List ℕ) → Option (List ℕ) → Option (List ℕ) → Type 0
-HasRunScript workers show status = Writes (λ input text. RunEnds workers show input status text)
+-- The input means no script. The refusal has what the first test wants that it fails, and what that
+-- found.
+pub record MeansNone (input : List ℕ) (refusal : Refusal) : Type 0 where
+  pub fault : ReadFault
+  pub means_none : script_of_text input ≡ Err fault
+  pub refused : refusal.line ≡ refusal_line fault
+  pub wants : refusal.wants ≡ script_wants fault
+  pub found : TellsOfScript input fault refusal.found
+  pub printable : ArePrintable refusal.found

@@ -9,13 +9,16 @@
 mod input;
 mod output;
 mod program;
+mod progress;
 mod replaying;
 mod running;
 mod starting;
 mod status;
 mod task;
+mod work;
 
 pub use devices::{Counted, Failed, Sink, Source};
+pub use ent_script_run::Progress;
 pub use input::{INPUT_LIMIT, InputFault, read_all};
 pub use program::{execute, refuse_words};
 pub use replaying::replay;

@@ -8,15 +8,16 @@ ghost use Rattle.std.specs.Io.KnownBytes.{Appends};
 ghost use Rattle.clap.specs.Words.{fault_of, takes};
 ghost use Rattle.spawnrun_lib.specs.CommandLine.{IsFaulty, program};
 ghost use Rattle.devices.specs.Device.{OneFails, Takes, TakesAtMost};
-ghost use Rattle.spawnrun_lib.specs.Replay.{input_limit};
 ghost use Rattle.spawnrun_lib.specs.Status.{exit_number, said, words_status};
-ghost use Rattle.spawnrun_lib.specs.Program.{AsksTo, HasAdvised, HasDone};
+ghost use Rattle.spawnrun_lib.specs.Program.{AsksTo, Fails, Gives};
+ghost use Rattle.spawnrun_lib.specs.Work.{HasAdvised, HasDone, HasRefused, input_limit};
 
 use crate::replaying::replay;
 use crate::running::run;
 use crate::status::Status;
 use crate::task::{LineFault, Task, command_line};
 use devices::{Sink, Source};
+use ent_script_run::Progress;
 use std::alloc::{AllocError, Global};
 use std::convert::AsStr;
 use std::io;
@@ -36,24 +37,24 @@ const LINE_FAULT: u8 = 2;
 /// | 3 | Memory ran out. Nothing was written. | `memory` |
 /// | 4 | A call of the input or the output failed. | `device` |
 ///
-/// A failure of the error stream changes no status.
-pub fn execute<R, S: AsStr, I: Source, O: Sink, E: Sink>(
+/// A failure of the error stream changes no status. `progress` is told how far the task is.
+pub fn execute<R, S: AsStr, I: Source, O: Sink, E: Sink, P: Progress>(
     rt: &R,
     alloc: Global,
     words: &[S],
     input: &mut I,
     output: &mut O,
     errors: &mut E,
+    progress: &mut P,
 ) -> u8
 where
     R: Threads + Sync,
     ensures statuses { result ≤ 4 }
 
     // A replay or a run was done, or its input refused.
-    ensures done { result ≡ 0 → AsksTo (map S.text words.now) (λ task. HasDone task Status.Done
+    ensures done { result ≡ 0 → AsksTo (map S.text words.now) (λ task. HasDone (Gives task)
         (I.remaining input.old) (O.written output.old) (O.written output.new)) }
-    ensures refused { result ≡ 1 → AsksTo (map S.text words.now) (λ task.
-        HasDone task Status.Refused
+    ensures refused { result ≡ 1 → AsksTo (map S.text words.now) (λ task. HasRefused (Fails task)
         (I.remaining input.old) (O.written output.old) (O.written output.new)) }
 
     // The words are no command line, or ask for help. They have no other status, but 3 for want of
@@ -83,7 +84,7 @@ where
     // What the error stream tells.
     ensures quiet { result ≡ 0 → errors.new ≡ errors.old }
     ensures advised { result ≡ 1 → E.failures errors.new ≡ E.failures errors.old
-        → AsksTo (map S.text words.now) (λ task. HasAdvised task
+        → AsksTo (map S.text words.now) (λ task. HasAdvised (Fails task)
         (I.remaining input.old) (E.written errors.old) (E.written errors.new)) }
     ensures memory_said { result ≡ 3 → E.failures errors.new ≡ E.failures errors.old
         → Appends (E.written errors.old) (E.written errors.new) (codes "memory\n") }
@@ -93,9 +94,9 @@ where
     match command_line(alloc, words) {
         Ok(task) => {
             let status = match task {
-                Task::Replay(limits) => replay(alloc, input, output, errors, limits),
+                Task::Replay(limits) => replay(alloc, input, output, errors, progress, limits),
                 Task::Run { workers, show } => {
-                    run(rt, alloc, input, output, errors, workers, show)
+                    run(rt, alloc, input, output, errors, progress, workers, show)
                 }
             };
             finish(errors, status)

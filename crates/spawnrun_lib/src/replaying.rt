@@ -1,44 +1,76 @@
 //! The run of a schedule: bytes in, bytes out.
-ghost use Rattle.std.specs.Prelude.{◌≡◌, ◌≢◌, ◌+◌, min, length, All, Err, IfOk, IfSome};
-ghost use Rattle.ent_replay.specs.Schedule.{outcomes_of, starting};
-ghost use Rattle.spawnrun_lib.specs.Advice.{AdvisesOnSchedule};
-ghost use Rattle.devices.specs.Device.{Takes, TakesAtMost, OneFails, Writes};
-ghost use Rattle.spawnrun_lib.specs.Replay.{HasReplayed, input_limit, outcome_lines, refused_line};
+ghost use Rattle.std.specs.Prelude.{⊤, ◌≡◌, ◌≢◌, ◌+◌, min, length, Err, IfOk, IfSome, OnOk};
+ghost use Rattle.ent_replay.specs.Schedule.{after_event, outcome_of, outcomes_of, starting};
+ghost use Rattle.devices.specs.Device.{OneFails, Takes, TakesAtMost};
+ghost use Rattle.spawnrun_lib.specs.Replay.{Replays, SpellsNone, outcome_lines, refused_line};
+ghost use Rattle.spawnrun_lib.specs.Work.{HasAdvised, HasDone, HasRefused, input_limit};
 
-use crate::input::{INPUT_LIMIT, InputFault, read_all};
-use crate::output::{refuse, size_line, write};
 use crate::status::Status;
+use crate::work::{Product, Refusal, Work, do_work};
 use devices::{Sink, Source};
 use ent_alloc::Limits;
 use ent_handle::Memory;
 use ent_replay::{
     Cause, Event, Machine, Outcome, ReadFault, ReplayFault, read_schedule, write_outcome,
 };
-use spawnrun_advice::{line_wants, schedule_found, size_wants};
+use ent_script_run::Progress;
+use spawnrun_advice::{line_wants, schedule_found};
 use std::alloc::Global;
 
+// After how many events it is told how far a run is.
+const STEP: usize = 65_536;
+
+// Runs schedules over an empty allocator of these limits.
+#[derive(Drop)]
+struct Schedules {
+    limits: Limits,
+}
+
+impl Work for Schedules {
+    ghost gives = { λ schedules. Replays schedules.limits };
+
+    ghost fails = { λ _. SpellsNone };
+
+    ghost can_make = { λ _. ⊤ };
+
+    fn make<P: Progress>(
+        self,
+        alloc: Global,
+        input: Vec<u8>,
+        progress: &mut P,
+    ) -> Result<Product, Memory> {
+        match read_schedule(alloc, &input) {
+            Ok(events) => {
+                let text = outcome_text(alloc, self.limits, &events, progress);
+                progress.end();
+                Ok(Product::Output(text?))
+            }
+            Err(ReadFault::Line { line, cause }) => Ok(Product::Refusal(Refusal {
+                line: refused_line(alloc, line, cause)?,
+                wants: line_wants(cause),
+                found: schedule_found(&input, line),
+            })),
+            Err(ReadFault::Memory) => Err(Memory),
+        }
+    }
+}
+
 /// Runs the schedule that the input spells over an empty allocator of these limits, and writes a
-/// line for each event.
+/// line for each event. An input that is no schedule is refused by one line.
 ///
-/// No event is applied before the whole input is read, and nothing is written before all of the
-/// output is made. An input of more than 67,108,864 bytes is refused by one line, and so is one
-/// that is no schedule. Of a longer input just one byte more than the limit is taken.
-///
-/// After `Memory`, or a failure of the input, the output is as it was. `Device` is one failed call
-/// of one of the two devices.
-///
-/// Only a refused input is told to the error stream: what the input has to be, and what was found
-/// instead. If the error stream fails, nothing else changes.
-pub fn replay<I: Source, O: Sink, E: Sink>(
+/// It reads and writes as `run` does: all of the input before an event is applied, and all of the
+/// output at once.
+pub fn replay<I: Source, O: Sink, E: Sink, P: Progress>(
     alloc: Global,
     input: &mut I,
     output: &mut O,
     errors: &mut E,
+    progress: &mut P,
     limits: Limits,
 ) -> Status
-    ensures done { result ≡ Status.Done → HasReplayed limits Status.Done
+    ensures done { result ≡ Status.Done → HasDone (Replays limits)
         (I.remaining input.old) (O.written output.old) (O.written output.new) }
-    ensures refused { result ≡ Status.Refused → HasReplayed limits Status.Refused
+    ensures refused { result ≡ Status.Refused → HasRefused SpellsNone
         (I.remaining input.old) (O.written output.old) (O.written output.new) }
     ensures memory { result ≡ Status.Memory → output.new ≡ output.old }
 
@@ -54,8 +86,8 @@ pub fn replay<I: Source, O: Sink, E: Sink>(
     // What the error stream tells.
     ensures quiet { result ≢ Status.Refused → errors.new ≡ errors.old }
     ensures advised { result ≡ Status.Refused → E.failures errors.new ≡ E.failures errors.old
-        → Writes AdvisesOnSchedule (I.remaining input.old) (E.written errors.old)
-        (E.written errors.new) }
+        → HasAdvised SpellsNone
+        (I.remaining input.old) (E.written errors.old) (E.written errors.new) }
 
     // What is taken of an input that didn't fail: all of it, or one byte more than the limit.
     ensures reads { I.failures input.new ≡ I.failures input.old → result ≢ Status.Memory
@@ -65,47 +97,42 @@ pub fn replay<I: Source, O: Sink, E: Sink>(
     ensures stops { I.failures input.new ≡ I.failures input.old
         → TakesAtMost (I.remaining input.old) (I.remaining input.new) (input_limit + 1) }
 {
-    match read_all(alloc, input, INPUT_LIMIT) {
-        Ok(bytes) => match read_schedule(alloc, &bytes) {
-            Ok(events) => write(output, outcome_text(alloc, limits, &events), Status::Done),
-            Err(ReadFault::Line { line, cause }) => {
-                let text = refused_line(alloc, line, cause);
-                let found = schedule_found(&bytes, line);
-                refuse(output, errors, text, line_wants(cause), found.as_str())
-            }
-            Err(ReadFault::Memory) => Status::Memory,
-        },
-        Err(InputFault::TooLong) => refuse(output, errors, size_line(alloc), size_wants(), ""),
-        Err(InputFault::Memory) => Status::Memory,
-        Err(InputFault::Device) => Status::Device,
-    }
+    let work = Schedules { limits };
+    do_work(alloc, input, output, errors, progress, work)
 }
 
 // The lines of what the events give, from an empty allocator.
-fn outcome_text(alloc: Global, limits: Limits, events: &[Event]) -> Result<Vec<u8>, Memory>
+fn outcome_text<P: Progress>(
+    alloc: Global,
+    limits: Limits,
+    events: &[Event],
+    progress: &mut P,
+) -> Result<Vec<u8>, Memory>
     ensures { IfOk result (λ text.
         text.items ≡ outcome_lines (outcomes_of (starting limits) events.now)) }
 {
     let mut machine = Machine::new(alloc, limits)?;
-    match machine.run(events) {
-        Ok(outcomes) => outcome_lines(alloc, &outcomes),
-        Err(_) => Err(Memory),
-    }
-}
-
-// A line for each outcome or fault, in order.
-fn outcome_lines(
-    alloc: Global,
-    outcomes: &[Result<Outcome, ReplayFault>],
-) -> Result<Vec<u8>, Memory>
-    requires { All (λ outcome. outcome ≢ Err ReplayFault.Memory) outcomes.now }
-    ensures { IfOk result (λ text. text.items ≡ outcome_lines outcomes.now) }
-{
     let mut text = Vec::new(alloc);
-    for outcome in outcomes {
-        write_outcome(outcome, &mut text)?;
+    for (done, event) in events.iter().enumerate() {
+        if done % STEP == 0 {
+            progress.tell(done, events.len());
+        }
+        let outcome = apply(&mut machine, *event)?;
+        write_outcome(&outcome, &mut text)?;
     }
     Ok(text)
+}
+
+// Applies one event, if there is memory for it.
+fn apply(machine: &mut Machine, event: Event) -> Result<Result<Outcome, ReplayFault>, Memory>
+    ensures outcome { IfOk result (λ outcome. outcome ≡ outcome_of machine.old event) }
+    ensures memory { IfOk result (λ outcome. outcome ≢ Err ReplayFault.Memory) }
+    ensures state { OnOk result (machine.new ≡ after_event machine.old event) }
+{
+    match machine.step(event) {
+        Err(ReplayFault::Memory) => Err(Memory),
+        outcome => Ok(outcome),
+    }
 }
 
 // The line that refuses a text, whose line of this number names no event.

@@ -1,22 +1,61 @@
 //! The run of a script: bytes in, bytes out.
 ghost use Rattle.std.specs.Prelude.{◌≡◌, ◌≢◌, ◌+◌, ◌<◌, ◌≤◌, min, length, IfOk, IfSome, OnOk};
+ghost use Rattle.std.specs.Thread.{IsSync};
 ghost use Rattle.ent_script.specs.Refusal.{refusal_line};
-ghost use Rattle.spawnrun_lib.specs.Advice.{AdvisesOnScript};
-ghost use Rattle.devices.specs.Device.{Takes, TakesAtMost, OneFails, Writes};
-ghost use Rattle.spawnrun_lib.specs.Replay.{input_limit};
-ghost use Rattle.spawnrun_lib.specs.Running.{HasRunScript};
+ghost use Rattle.devices.specs.Device.{OneFails, Takes, TakesAtMost};
+ghost use Rattle.spawnrun_lib.specs.CommandLine.{AreWorkers};
+ghost use Rattle.spawnrun_lib.specs.Running.{MeansNone, Runs};
+ghost use Rattle.spawnrun_lib.specs.Work.{HasAdvised, HasDone, HasRefused, input_limit};
 
-use crate::input::{INPUT_LIMIT, InputFault, read_all};
-use crate::output::{refuse, size_line, write};
 use crate::status::Status;
+use crate::work::{Product, Refusal, Work, do_work};
 use devices::{Sink, Source};
 use ent_handle::Memory;
 use ent_script::{ReadFault, read_script, write_refusal};
 use ent_script_report::Show;
-use ent_script_run::run_script;
-use spawnrun_advice::{script_found, script_wants, size_wants};
+use ent_script_run::{Progress, run_script};
+use spawnrun_advice::{script_found, script_wants};
 use std::alloc::Global;
 use std::thread::Threads;
+
+// Runs scripts over an empty world, each frame on that many workers.
+#[derive(Drop)]
+struct Scripts<'a, R> {
+    rt: &'a R,
+    workers: usize,
+    show: Show,
+}
+
+impl<R: Threads + Sync> Work for Scripts<'_, R> {
+    ghost gives = { λ scripts. Runs scripts.workers scripts.show };
+
+    ghost fails = { λ _. MeansNone };
+
+    // The threads of a frame share the handle.
+    ghost can_make = { λ scripts. IsSync R.row × AreWorkers scripts.workers };
+
+    fn make<P: Progress>(
+        self,
+        alloc: Global,
+        input: Vec<u8>,
+        progress: &mut P,
+    ) -> Result<Product, Memory> {
+        match read_script(alloc, &input) {
+            Ok(script) => {
+                // The text is given back before the frames run.
+                drop(input);
+                let Scripts { rt, workers, show } = self;
+                let report = run_script(rt, alloc, &script, workers, show, progress)?;
+                Ok(Product::Output(report))
+            }
+            Err(fault) => Ok(Product::Refusal(Refusal {
+                line: refusal_line(alloc, fault)?,
+                wants: script_wants(fault),
+                found: script_found(alloc, &input, fault),
+            })),
+        }
+    }
+}
 
 /// Runs the script that the input means over an empty world, each frame on that many workers, and
 /// writes its report.
@@ -30,12 +69,13 @@ use std::thread::Threads;
 ///
 /// Only a refused input is told to the error stream: what the input has to be, and what was found
 /// instead. If the error stream fails, nothing else changes.
-pub fn run<R, I: Source, O: Sink, E: Sink>(
+pub fn run<R, I: Source, O: Sink, E: Sink, P: Progress>(
     rt: &R,
     alloc: Global,
     input: &mut I,
     output: &mut O,
     errors: &mut E,
+    progress: &mut P,
     workers: usize,
     show: Show,
 ) -> Status
@@ -44,9 +84,9 @@ where
     requires some { 0 < workers }
     requires few { workers ≤ 64 }
 
-    ensures done { result ≡ Status.Done → HasRunScript workers show Status.Done
+    ensures done { result ≡ Status.Done → HasDone (Runs workers show)
         (I.remaining input.old) (O.written output.old) (O.written output.new) }
-    ensures refused { result ≡ Status.Refused → HasRunScript workers show Status.Refused
+    ensures refused { result ≡ Status.Refused → HasRefused MeansNone
         (I.remaining input.old) (O.written output.old) (O.written output.new) }
     ensures memory { result ≡ Status.Memory → output.new ≡ output.old }
 
@@ -62,8 +102,8 @@ where
     // What the error stream tells.
     ensures quiet { result ≢ Status.Refused → errors.new ≡ errors.old }
     ensures advised { result ≡ Status.Refused → E.failures errors.new ≡ E.failures errors.old
-        → Writes AdvisesOnScript (I.remaining input.old) (E.written errors.old)
-        (E.written errors.new) }
+        → HasAdvised MeansNone
+        (I.remaining input.old) (E.written errors.old) (E.written errors.new) }
 
     // What is taken of an input that didn't fail: all of it, or one byte more than the limit.
     ensures reads { I.failures input.new ≡ I.failures input.old → result ≢ Status.Memory
@@ -73,24 +113,8 @@ where
     ensures stops { I.failures input.new ≡ I.failures input.old
         → TakesAtMost (I.remaining input.old) (I.remaining input.new) (input_limit + 1) }
 {
-    match read_all(alloc, input, INPUT_LIMIT) {
-        Ok(bytes) => match read_script(alloc, &bytes) {
-            Ok(script) => {
-                // The text is given back before the frames run.
-                drop(bytes);
-                let report = run_script(rt, alloc, &script, workers, show);
-                write(output, report, Status::Done)
-            }
-            Err(fault) => {
-                let line = refusal_line(alloc, fault);
-                let found = script_found(alloc, &bytes, fault);
-                refuse(output, errors, line, script_wants(fault), found.as_str())
-            }
-        },
-        Err(InputFault::TooLong) => refuse(output, errors, size_line(alloc), size_wants(), ""),
-        Err(InputFault::Memory) => Status::Memory,
-        Err(InputFault::Device) => Status::Device,
-    }
+    let work = Scripts { rt, workers, show };
+    do_work(alloc, input, output, errors, progress, work)
 }
 
 // The line that refuses a text that is no script. Want of memory is no refusal.

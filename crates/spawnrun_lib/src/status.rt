@@ -2,6 +2,8 @@
 ghost use Rattle.std.specs.Prelude.{◌≡◌};
 ghost use Rattle.spawnrun_lib.specs.Status.{exit_number};
 
+use ent_handle::Memory;
+
 /// How a run of the program ended.
 ///
 /// Its number is the program's exit status. The number 2 stands for words that are no command line.
@@ -15,6 +17,16 @@ pub enum Status {
     Memory,
     /// A call of a device failed. How much went out isn't said.
     Device,
+}
+
+impl From<Memory> for Status {
+    ghost use Rattle.spawnrun_lib.specs.declared.status.Status.TheVariants as status;
+
+    ghost from_gives = { λ _ made. made ≡ status.Memory };
+
+    fn from(_refused: Memory) -> Self {
+        Status::Memory
+    }
 }
 
 impl Status {

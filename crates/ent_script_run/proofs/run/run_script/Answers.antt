@@ -9,27 +9,27 @@ use Rattle.ent_script_run.proofs.run.run_script.Goals as goal
 
 pub returns-clause-only : goal.returns-clause-only
 returns-clause-only g c alone =
-    IfOk-weaker c.report.result _ _ (λ text is other also.
+    IfOk-weaker c.report-report.result _ _ (λ text is other also.
     one_report c.args.script.now c.args.show text.items other
     (subst (λ (n : ℕ). IsReport c.args.script.now n c.args.show text.items) alone is)
-    (subst (λ (n : ℕ). IsReport c.args.script.now n c.args.show other) alone also)) c.report.ensures
+    (subst (λ (n : ℕ). IsReport c.args.script.now n c.args.show other) alone also)) c.report-report.ensures
 
 pub returns-clause-given_once : goal.returns-clause-given_once
 returns-clause-given_once g c =
-    IfOk-weaker c.report.result _ _ (λ text is executions report.
+    IfOk-weaker c.report-report.result _ _ (λ text is executions report.
     given_once c.args.script.now c.args.workers c.args.show executions text.items
-    c.requires.ranges.limits report) c.report.ensures
+    c.requires.ranges.limits report) c.report-report.ensures
 
 pub returns-clause-same : goal.returns-clause-same
 returns-clause-same g c births free =
-    IfOk-weaker c.report.result _ _ (λ text is none.
+    IfOk-weaker c.report-report.result _ _ (λ text is none.
     same_text c.args.script.now c.args.workers text.items c.requires.ranges
     (subst (λ (show : Show). IsReport c.args.script.now c.args.workers show text.items) births is)
-    free none) c.report.ensures
+    free none) c.report-report.ensures
 
 pub returns-clause-enough : goal.returns-clause-enough
 returns-clause-enough g c births free enough =
-    IfOk-weaker c.report.result _ _ (λ text is.
+    IfOk-weaker c.report-report.result _ _ (λ text is.
     enough_text c.args.script.now c.args.workers text.items c.requires.ranges
     (subst (λ (show : Show). IsReport c.args.script.now c.args.workers show text.items) births is)
-    free enough) c.report.ensures
+    free enough) c.report-report.ensures

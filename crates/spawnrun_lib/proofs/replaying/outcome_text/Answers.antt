@@ -1,12 +1,28 @@
-use Rattle.std.proofs.Common.{◌≢◌, ◌∙◌, All, Result, Err, subst, sym}
-use Rattle.ent_replay.specs.declared.Outcome.{Outcome}
-use Rattle.ent_replay.specs.declared.ReplayFault.{ReplayFault}
-use Rattle.ent_replay.specs.declared.ReplayFault.TheVariants as fault
-use Rattle.ent_replay.proofs.Moves.{outcomes-not_memory}
+use Rattle.std.proofs.Common.{◌≡◌, ◌+◌, ◌∙◌, ◌++◌, ◌∷◌, [], ap, arith, sym, take}
+use Rattle.std.proofs.lemmas.List.{take_more}
+use Rattle.ent_replay.specs.declared.event.Event.{Event}
+use Rattle.ent_replay.specs.OutcomeText.{line_of}
+use Rattle.ent_replay.specs.Schedule.{after_event, outcome_of, starting}
+use Rattle.spawnrun_lib.proofs.EventsApplied.{after-more, lines-more}
 use Rattle.spawnrun_lib.proofs.replaying.outcome_text.Goals as goal
 
-pub outcome_lines-requires : goal.outcome_lines-requires
-outcome_lines-requires c =
-    subst (All (λ (outcome : Result Outcome ReplayFault). outcome ≢ Err fault.Memory))
-    (sym (c.deref.ensures.value ∙ c.in-Ok.ensures.outcomes))
-    (outcomes-not_memory c.in_ok-machine.machine c.args.events.now)
+pub loop-done-preserved : goal.loop-done-preserved
+loop-done-preserved g c =
+    let s = starting c.args.limits in
+    let events = c.args.events.now in
+    let done = c.loop-done.done in
+    let event = c.index-events-done.result in
+    let more : take (done + 1) events ≡ take done events ++ event ∷ [] =
+    take_more events done event (omega arith)
+    ∙ ap (λ (x : Event). take done events ++ x ∷ []) (sym c.index-events-done.is) in
+    record {
+      machine =
+          c.in_ok-outcome.ensures.state
+          ∙ ap (λ known. after_event known event) c.loop-done.invariant.machine
+          ∙ sym (after-more s (take done events) (take (done + 1) events) event more);
+      text =
+          c.in_ok-write_outcome.ensures.ok
+          ∙ (λ i. c.loop-done.invariant.text i ++ line_of ((c.in_ok-outcome.ensures.outcome
+          ∙ ap (λ known. outcome_of known event) c.loop-done.invariant.machine) i))
+          ∙ sym (lines-more s (take done events) (take (done + 1) events) event more);
+    }

@@ -1,0 +1,107 @@
+//! How far a run is, told on a terminal.
+ghost use Rattle.std.specs.Prelude.{◌≡◌, ◌+◌, ◌⊎◌, true, false, None, OnErr, OnOk};
+ghost use Rattle.std.specs.Io.KnownBytes.{Appends};
+ghost use Rattle.spawnrun_lib.specs.Progress.{done_text, empty_text};
+
+use devices::{Failed, Sink};
+use ent_script_run::Progress;
+use itoa::Buffer;
+use std::time::{Clock, Duration, Instant};
+
+// How often it is told, in seconds.
+const STEP: u64 = 1;
+
+/// Tells a terminal once a second how far a run is. Each line stands over the one before, and the
+/// last is removed. A failure of the terminal changes nothing.
+#[derive(Drop)]
+pub(crate) struct Teller<'a, R, T> {
+    clock: &'a R,
+    terminal: T,
+    // When it was told, or when it began. `None` if it is never told.
+    last: Option<Instant>,
+    is_shown: bool,
+}
+
+impl<'a, R: Clock, T: Sink> Teller<'a, R, T> {
+    /// One that has told nothing. It never tells anything if that isn't wanted, or if the clock
+    /// can't be read.
+    pub fn new(clock: &'a R, terminal: T, is_wanted: bool) -> Self
+        ensures terminal { result.terminal ≡ terminal }
+        ensures unwanted { is_wanted ≡ false → result.last ≡ None }
+        ensures shown { result.is_shown ≡ false }
+    {
+        let last = if is_wanted {
+            Instant::now(clock).ok()
+        } else {
+            None
+        };
+        Teller {
+            clock,
+            terminal,
+            last,
+            is_shown: false,
+        }
+    }
+
+    // Whether the last time is a second ago. The next time is a second from now then.
+    fn is_due(&mut self) -> bool
+        ensures never { self.old.last ≡ None → (result ≡ false) × (self.new ≡ self.old) }
+        ensures terminal { self.new.terminal ≡ self.old.terminal }
+        ensures shown { self.new.is_shown ≡ self.old.is_shown }
+    {
+        let Some(last) = self.last else {
+            return false;
+        };
+        let Ok(now) = Instant::now(self.clock) else {
+            return false;
+        };
+        let is_due = now.duration_since(last) >= Duration::from_secs(STEP);
+        if is_due {
+            self.last = Some(now);
+        }
+        is_due
+    }
+
+    // Writes how many are done over what the line has.
+    fn put_done(&mut self, done: usize, of: usize) -> Result<(), Failed>
+        ensures said { OnOk result (Appends (T.written self.old.terminal)
+            (T.written self.new.terminal) (done_text done of)) }
+        ensures failed { OnErr result (T.failures self.new.terminal
+            ≡ T.failures self.old.terminal + 1) }
+        ensures shown { self.new.is_shown ≡ self.old.is_shown }
+    {
+        self.terminal.put(b"\r")?;
+        self.terminal.put(Buffer::new().format(done).as_bytes())?;
+        self.terminal.put(b" of ")?;
+        self.terminal.put(Buffer::new().format(of).as_bytes())?;
+        self.terminal.put(b" done")
+    }
+}
+
+impl<R: Clock, T: Sink> Progress for Teller<'_, R, T> {
+    fn tell(&mut self, done: usize, of: usize)
+        ensures never { self.old.last ≡ None → self.new ≡ self.old }
+        ensures told { T.failures self.new.terminal ≡ T.failures self.old.terminal
+            → (self.new.terminal ≡ self.old.terminal) ⊎ Appends (T.written self.old.terminal)
+            (T.written self.new.terminal) (done_text done of) }
+        ensures shown { self.new.is_shown ≡ false → self.new.terminal ≡ self.old.terminal }
+    {
+        if self.is_due() {
+            self.is_shown = true;
+            let _ = self.put_done(done, of);
+        }
+    }
+
+    fn end(&mut self)
+        ensures quiet { self.old.is_shown ≡ false → self.new ≡ self.old }
+        ensures emptied { self.old.is_shown ≡ true
+            → T.failures self.new.terminal ≡ T.failures self.old.terminal
+            → Appends (T.written self.old.terminal) (T.written self.new.terminal) empty_text }
+        ensures shown { self.new.is_shown ≡ false }
+    {
+        if self.is_shown {
+            self.is_shown = false;
+            let _ = self.terminal.put(b"\r\x1b[K");
+        }
+    }
+}
