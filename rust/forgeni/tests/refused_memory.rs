@@ -543,7 +543,7 @@ fn a_spawn_by_command_reserves_once() {
         let (open, mut only) = phase();
         let (all, refused) = insist(refusal, SpawnError::Memory, || only.spawn_many(50, &MANY));
         let (world, report) = applied(open, only.finish());
-        assert_eq!((report.born(), world.len()), (all, 52));
+        assert_eq!((report.born(), world.len()), (&all[..], 52));
         refused
     });
 }
@@ -616,15 +616,15 @@ fn with_queues() -> (World, Queues) {
 /// is left of it.
 fn ended(world: &mut World, done: Result<Report, SyncError>) -> Vec<Fault> {
     match done {
-        Ok(report) => report.faults(),
+        Ok(report) => report.faults().to_vec(),
         Err(SyncError::Memory(queues)) => {
             let Err(SyncError::OtherWorld(queues)) = two().apply(queues) else {
                 panic!("it is another world");
             };
-            world.apply(queues).expect("memory").faults()
+            world.apply(queues).expect("memory").faults().to_vec()
         }
         Err(SyncError::Stopped(stopped)) => {
-            let mut faults = stopped.so_far.faults();
+            let mut faults = stopped.so_far.faults().to_vec();
             let Err(GoOnError::OtherWorld(stopped)) = stopped.go_on(&mut two()) else {
                 panic!("it is another world");
             };
@@ -678,7 +678,7 @@ fn first_stop() -> Refusal {
 #[test]
 fn what_goes_on_goes_on_again() {
     let (mut world, queues) = with_queues();
-    let wanted = world.apply(queues).expect("memory").faults();
+    let wanted = world.apply(queues).expect("memory").faults().to_vec();
     let world = all(&world);
     let first = first_stop();
     each_in_turn(|refusal| {
@@ -687,7 +687,7 @@ fn what_goes_on_goes_on_again() {
         let Err(SyncError::Stopped(stopped)) = done else {
             panic!("it doesn't stop");
         };
-        let mut faults = stopped.so_far.faults();
+        let mut faults = stopped.so_far.faults().to_vec();
         let (done, refused) = refusing(refusal, || stopped.go_on(&mut again));
         match done {
             Ok(report) => faults.extend(report.faults()),
@@ -751,7 +751,7 @@ fn after_a_frame() -> (Vec<Fault>, Vec<Told>) {
         (report.born().len(), report.faults().len(), world.len()),
         (4, 2, 4)
     );
-    (report.faults(), all(&world))
+    (report.faults().to_vec(), all(&world))
 }
 
 /// The world is the one before, but for what the systems that ran had reserved.
@@ -772,13 +772,13 @@ fn frames() {
         let mut world = two();
         let (done, refused) = refusing(refusal, || run_frame(&mut world, &SYSTEMS, 1));
         let faults = match done {
-            Ok(report) => report.faults(),
+            Ok(report) => report.faults().to_vec(),
             Err(FrameError::Memory) => {
                 before += 1;
                 assert_eq!(all(&world), all(&two()));
                 assert!(!world.needs_flush());
                 let again = run_frame(&mut world, &SYSTEMS, 1);
-                again.expect("memory").faults()
+                again.expect("memory").faults().to_vec()
             }
             Err(FrameError::Lost) => {
                 lost += 1;
