@@ -52,16 +52,16 @@ each() {
     echo "$(basename "$input"): each of $reads reads and a write failed, and without that $wanted"
 }
 
-# 50 bytes of two callers, in 8 reads, and the one at the end.
+# 50 bytes of two callers, in 8 reads, and the one at the end. Where a line ends the check, nothing is read behind it.
 printf 'alloc => 0v1\nreserve 2 1 => 2v1\nreserve 1 1 => 1v1' >"$out/agrees"
 printf 'alloc => 0v1\nfree 0v1 => freed next 0v3\n' >"$out/differs"
 printf 'alloc => 0v1\nx\n' >"$out/refused"
 : >"$out/nothing"
 each "$out/agrees" 9 0 'agrees: 3 lines, 3 handles given\n'
 each "$out/nothing" 1 0 'agrees: 0 lines, 0 handles given\n'
-each "$out/differs" 7 1 \
-    'differs line 2: free 0v1 => freed next 0v3, expected freed next 0v2\npool 1v1, cursor 1\n' --slots 2
-each "$out/refused" 4 2 'refused line 2 word\n'
+each "$out/differs" 6 1 \
+    'differs line 2: free 0v1 => freed next 0v3, expected freed next 0v2\npool 1v1, cursor 0\n' --slots 2
+each "$out/refused" 3 2 'refused line 2 word\n'
 
 # Words that are refused use no device: neither call is made.
 read=1 write=1
