@@ -662,6 +662,19 @@ fn a_sync_point_goes_on_wherever_it_stopped() {
     assert!(stops.iter().any(|stop| stop.0 == 1), "{stops:?}");
 }
 
+/// It has its lists, and lends them and gives them away without memory.
+#[test]
+fn a_report_takes_no_memory() {
+    let (mut world, queues) = with_queues();
+    let report = world.apply(queues).expect("memory");
+    let (born, faults) = (report.born().to_vec(), report.faults().to_vec());
+    let none = Refusal::All { after: 0 };
+    let (lent, refused) = refusing(none, || (report.born().len(), report.faults().len()));
+    assert_eq!((lent, refused), ((born.len(), faults.len()), 0));
+    let (parts, refused) = refusing(none, || report.into_parts());
+    assert_eq!((parts, refused), ((born, faults), 0));
+}
+
 /// The refusal at which the sync point stops first.
 fn first_stop() -> Refusal {
     (0..1_000)
