@@ -6,6 +6,7 @@
 - clauses: lines with `ensures` in the sources of crates, but for tests, examples and benchmarks;
 - expectations of tests: the comparisons and the rows of tables in crates/*_tests and in the tests of rust/;
 - expectations of cases: the answers, outputs, messages and exit statuses in the files of cases;
+- expectations of scripts: the calls in examples/*.sh of a function that ends the script unless a run goes as the line says;
 - wrong bodies in the gate, and all of them.
 
 It runs at the top of the repository.
@@ -29,6 +30,15 @@ def is_library(path):
     return not path.name.endswith("_tests") and not path.name.startswith(("bench_", "example", "cases"))
 
 
+def checks(script):
+    """The lines of a script, outside of its functions, that call one which looks at a run."""
+    is_outside = True
+    for line in script.read_text().splitlines():
+        is_outside = (is_outside and not line.endswith("() {")) or line == "}"
+        if is_outside and re.match(r"\s*(at_most|each|ends|full|prints|refused|spared|takes|tested) ", line):
+            yield line
+
+
 def counts(top):
     """The counts of a tree, by name."""
     top = pathlib.Path(top)
@@ -46,6 +56,7 @@ def counts(top):
         "tests": sum("#[test]" in it for it in tests),
         "expectations of tests": sum(bool(re.search(compared, it)) for it in tests),
         "expectations of cases": answers,
+        "expectations of scripts": sum(len([*checks(it)]) for it in top.glob("examples/*.sh")),
         "wrong bodies": len(edits),
         "of them in the gate": of_gate,
     }

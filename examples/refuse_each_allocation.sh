@@ -1,18 +1,19 @@
 #!/bin/sh
-# Runs the program with each of its allocations refused in turn: schedules, scripts on one worker and on eight, with a bundle that takes
-# memory and with many births as targets, and a script that is refused. Each run must end as an undisturbed one does (the program may do
-# without that piece of memory), or with status 3, `memory` on standard error and nothing else. Then it runs each test of refused memory in
-# the same way: it must pass, whichever allocation is refused. And it counts what tests of things that take no memory ask for. It needs `cc`
-# on the path, and the program and the tests as `.ci/run` built them. If the program wasn't built, `rt`, which then proves it first; tests
-# that weren't built are left out.
+# Runs the programs with each of their allocations refused in turn: schedules, scripts on one worker and on eight, with a bundle that takes
+# memory and with many births as targets, a script that is refused, and traces that agree, differ or are none. Each run must end as an
+# undisturbed one does (the program may do without that piece of memory), or with status 3, `memory` on standard error and nothing else. Then
+# it runs each test of refused memory in the same way: it must pass, whichever allocation is refused. And it counts what tests of things that
+# take no memory ask for. It needs `cc` on the path, and the programs and the tests as `.ci/run` built them. If a program wasn't built, `rt`,
+# which then proves it first; tests that weren't built are left out.
 set -eu
 here=$(cd "$(dirname "$0")" && pwd)
 top=$(cd "$here/.." && pwd)
 room=$(mktemp -d)
 trap 'rm -rf "$room"' EXIT
-program=$here/../crates/spawnrun/out/spawnrun
 scripts=$here/../crates/examples/data
-[ -x "$program" ] || (cd "$here/../crates/spawnrun" && rt run >"$room/built" 2>&1)
+for name in spawnrun tracecheck; do
+    [ -x "$top/crates/$name/out/$name" ] || (cd "$top/crates/$name" && rt run </dev/null >"$room/built" 2>&1) || true
+done
 cc -O2 -shared -fPIC -o "$room/refuse.so" "$here/refuse_allocation.c"
 
 # run NUMBER INPUT WORDS..: the program with that allocation refused. It sets status, and makes the file refused if it came so far.
@@ -41,13 +42,13 @@ each() {
         elif [ "$status" = "$wanted" ] && cmp -s "$room/printed" "$room/wanted"; then
             beyond=0 undisturbed=$((undisturbed + 1))
         else
-            echo "$*: allocation $allocation: wrong, status $status"
+            echo "$(basename "$program") $*: allocation $allocation: wrong, status $status"
             exit 1
         fi
     done
     name=$(basename "$1")
     shift
-    echo "$* on $name: status $wanted, $memory times memory, $undisturbed times undisturbed"
+    echo "$(basename "$program") $* on $name: status $wanted, $memory times memory, $undisturbed times undisturbed"
     [ "$memory" -gt 0 ]
 }
 
@@ -68,6 +69,7 @@ awk 'BEGIN {
     for (i = 0; i < 50; i++) printf "%s{\"insert\":{\"hp\":%d},\"on\":{\"birth\":\"0.0.%d\"}}", i ? "," : "", i, i
     print "]]]}"
 }' >"$room/births.json"
+program=$top/crates/spawnrun/out/spawnrun
 each "$here/one_caller.txt" replay
 each "$here/two_callers.txt" replay
 each "$room/targets.json" run --show handles
@@ -76,6 +78,15 @@ each "$room/births.json" run
 each "$scripts/reuse.json" run --show handles
 each "$scripts/spawners.json" run --workers 8
 each "$room/no_script.json" run
+
+printf 'alloc => 0v1\nreserve 2 1 => 2v1\nreserve 1 1 => 1v1' >"$room/agrees"
+printf 'reserve 1 2 => 0v1 1v1\nflush => born (2)\nfree 0v1 => freed next 0v3\n' >"$room/differs"
+printf 'alloc => 0v1\nx\n' >"$room/refused_line"
+program=$top/crates/tracecheck/out/tracecheck
+each "$room/agrees"
+each "$room/differs" --slots 9 --generations 2
+each "$room/refused_line"
+each "$room/agrees" --slots 0
 
 # tested CRATE: the same of each test of the crate that takes whichever allocation is refused, as it was compiled. It must pass.
 tested() {

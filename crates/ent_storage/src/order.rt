@@ -19,21 +19,25 @@ pub fn handles_in_order(
     if births.is_empty() {
         return Ok(Vec::new(alloc));
     }
-    gather(&mut births);
+    sort_births(&mut births);
     births.sort_unstable();
     handles(alloc, &births)
 }
 
-/// Brings the births of each system together and keeps their order among themselves, in which they
-/// mostly are already: the slots of one system rise, even if other systems reserved between them.
-/// So the sort that follows finds little left to do. If the systems are few, both together take a
-/// third to a half of what a sort alone takes.
+/// Sorts by birth alone. What is left for the sort that follows are entities of one birth, so it
+/// mostly makes one pass. This one takes its memory, and is quicker: the slots of one system rise,
+/// even if other systems reserved between them, and it merges what rises already.
 ///
 /// Without memory for its buffer it changes nothing.
-fn gather(births: &mut Vec<(Birth, Handle)>)
+fn sort_births(births: &mut Vec<(Birth, Handle)>)
     ensures { IsPermutation births.old.items births.new.items }
 {
-    let _ = births.sort_by_key(|pair| (pair.0.frame, pair.0.system));
+    let _ = births.sort_by_key(|pair| packed(pair.0));
+}
+
+// One number that has the order of the births: it is compared at once.
+fn packed(birth: Birth) -> u128 {
+    (birth.frame as u128) << 64 | (birth.system as u128) << 32 | birth.ordinal as u128
 }
 
 fn handles(alloc: Global, births: &[(Birth, Handle)]) -> Result<Vec<Handle>, AllocError>

@@ -4,8 +4,6 @@
 
 mod checking;
 mod command_line;
-#[cfg(test)]
-mod failing;
 mod lines;
 mod program;
 mod progress;

@@ -117,7 +117,7 @@
 //! handle without a value. Where Rust has no form
 //! that can be refused memory, the process ends, as it does of `Vec` and `Arc`:
 //!
-//! - [`Report::born`], [`Report::faults`], [`Storage::items`] and [`World::items`] make a list.
+//! - [`Storage::items`] and [`World::items`] make a list.
 //! - [`Entities::share`], [`Entities::phase`] and [`World::open`] make an `Arc`. They ask for as much memory before, and
 //!   say so if it is refused. So only another thread can take it in between.
 //! - Handles of a slice or an array become an answer of a [`trace::Call`], or a [`trace::Checker`]

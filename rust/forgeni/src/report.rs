@@ -1,9 +1,9 @@
 //! What a sync point has done.
 
 use crate::handle::Handle;
+use crate::lists::all_handles;
 use crate::proved::ent_world;
 use alloc::vec::Vec;
-use core::fmt;
 
 /// Why a command had no effect.
 #[derive(Clone, Copy, Debug, PartialEq, Eq, Hash)]
@@ -45,8 +45,8 @@ pub struct Fault {
     pub kind: FaultKind,
 }
 
-impl From<&ent_world::Fault> for Fault {
-    fn from(fault: &ent_world::Fault) -> Self {
+impl From<ent_world::Fault> for Fault {
+    fn from(fault: ent_world::Fault) -> Self {
         Self {
             system: fault.system,
             command: fault.command,
@@ -56,37 +56,38 @@ impl From<&ent_world::Fault> for Fault {
 }
 
 /// What a sync point has done: who was born, and which commands had no effect.
+#[derive(Debug)]
 pub struct Report {
-    proved: ent_world::SyncReport,
+    born: Vec<Handle>,
+    faults: Vec<Fault>,
 }
 
 impl Report {
+    /// In the memory of the proved one: the two kinds of faults have one layout, so `collect` asks
+    /// for none.
     pub(crate) fn of(proved: ent_world::SyncReport) -> Self {
-        Self { proved }
+        let faults: Vec<ent_world::Fault> = proved.faults.into();
+        Self {
+            born: all_handles(proved.born),
+            faults: faults.into_iter().map(Fault::from).collect(),
+        }
     }
 
     /// The handles that came to life, in the order of the flush.
-    ///
-    /// Where memory runs out for the list, it ends as `Vec` does.
     #[must_use]
-    pub fn born(&self) -> Vec<Handle> {
-        self.proved.born.iter().copied().map(Handle::of).collect()
+    pub fn born(&self) -> &[Handle] {
+        &self.born
     }
 
     /// The commands without effect, in their order.
-    ///
-    /// Where memory runs out for the list, it ends as `Vec` does.
     #[must_use]
-    pub fn faults(&self) -> Vec<Fault> {
-        self.proved.faults.iter().map(Fault::from).collect()
+    pub fn faults(&self) -> &[Fault] {
+        &self.faults
     }
-}
 
-impl fmt::Debug for Report {
-    fn fmt(&self, out: &mut fmt::Formatter<'_>) -> fmt::Result {
-        out.debug_struct("Report")
-            .field("born", &self.born())
-            .field("faults", &self.faults())
-            .finish()
+    /// Both lists, to keep: those of [`born`](Self::born) and of [`faults`](Self::faults).
+    #[must_use]
+    pub fn into_parts(self) -> (Vec<Handle>, Vec<Fault>) {
+        (self.born, self.faults)
     }
 }

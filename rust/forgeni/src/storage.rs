@@ -135,7 +135,7 @@ impl Storage {
         self.proved.items(handle.proved()).map(Iterator::collect)
     }
 
-    /// The handles of all entities, by birth and then by handle. The time is that of two sorts.
+    /// The handles of all entities, by birth and then by handle. The time is that of a sort.
     ///
     /// # Errors
     ///

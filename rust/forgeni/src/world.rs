@@ -160,7 +160,7 @@ impl World {
         Some(items.collect())
     }
 
-    /// The handles of all entities, by birth and then by handle. The time is that of two sorts.
+    /// The handles of all entities, by birth and then by handle. The time is that of a sort.
     ///
     /// # Errors
     ///

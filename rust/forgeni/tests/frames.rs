@@ -165,7 +165,7 @@ fn story(world: &World, report: &Report) -> Story {
         let birth = world.birth(one).expect("alive");
         (birth, world.items(one).expect("alive"))
     };
-    let faults = report.faults().into_iter().map(|fault| {
+    let faults = report.faults().iter().map(|fault| {
         let kind = match fault.kind {
             FaultKind::NotAlive(_) => None,
             refused => Some(refused),

@@ -173,7 +173,7 @@ fn with_ample_memory() -> Made {
     let (mut world, queues) = prepared();
     let report = world.apply(queues).expect("memory is ample");
     assert_eq!(report.born().len(), COUNT as usize);
-    (living(&world), report.faults())
+    (living(&world), report.faults().to_vec())
 }
 
 fn compare() {

@@ -543,7 +543,7 @@ fn a_spawn_by_command_reserves_once() {
         let (open, mut only) = phase();
         let (all, refused) = insist(refusal, SpawnError::Memory, || only.spawn_many(50, &MANY));
         let (world, report) = applied(open, only.finish());
-        assert_eq!((report.born(), world.len()), (all, 52));
+        assert_eq!((report.born(), world.len()), (&all[..], 52));
         refused
     });
 }
@@ -616,15 +616,15 @@ fn with_queues() -> (World, Queues) {
 /// is left of it.
 fn ended(world: &mut World, done: Result<Report, SyncError>) -> Vec<Fault> {
     match done {
-        Ok(report) => report.faults(),
+        Ok(report) => report.faults().to_vec(),
         Err(SyncError::Memory(queues)) => {
             let Err(SyncError::OtherWorld(queues)) = two().apply(queues) else {
                 panic!("it is another world");
             };
-            world.apply(queues).expect("memory").faults()
+            world.apply(queues).expect("memory").faults().to_vec()
         }
         Err(SyncError::Stopped(stopped)) => {
-            let mut faults = stopped.so_far.faults();
+            let mut faults = stopped.so_far.faults().to_vec();
             let Err(GoOnError::OtherWorld(stopped)) = stopped.go_on(&mut two()) else {
                 panic!("it is another world");
             };
@@ -662,6 +662,19 @@ fn a_sync_point_goes_on_wherever_it_stopped() {
     assert!(stops.iter().any(|stop| stop.0 == 1), "{stops:?}");
 }
 
+/// It has its lists, and lends them and gives them away without memory.
+#[test]
+fn a_report_takes_no_memory() {
+    let (mut world, queues) = with_queues();
+    let report = world.apply(queues).expect("memory");
+    let (born, faults) = (report.born().to_vec(), report.faults().to_vec());
+    let none = Refusal::All { after: 0 };
+    let (lent, refused) = refusing(none, || (report.born().len(), report.faults().len()));
+    assert_eq!((lent, refused), ((born.len(), faults.len()), 0));
+    let (parts, refused) = refusing(none, || report.into_parts());
+    assert_eq!((parts, refused), ((born, faults), 0));
+}
+
 /// The refusal at which the sync point stops first.
 fn first_stop() -> Refusal {
     (0..1_000)
@@ -678,7 +691,7 @@ fn first_stop() -> Refusal {
 #[test]
 fn what_goes_on_goes_on_again() {
     let (mut world, queues) = with_queues();
-    let wanted = world.apply(queues).expect("memory").faults();
+    let wanted = world.apply(queues).expect("memory").faults().to_vec();
     let world = all(&world);
     let first = first_stop();
     each_in_turn(|refusal| {
@@ -687,7 +700,7 @@ fn what_goes_on_goes_on_again() {
         let Err(SyncError::Stopped(stopped)) = done else {
             panic!("it doesn't stop");
         };
-        let mut faults = stopped.so_far.faults();
+        let mut faults = stopped.so_far.faults().to_vec();
         let (done, refused) = refusing(refusal, || stopped.go_on(&mut again));
         match done {
             Ok(report) => faults.extend(report.faults()),
@@ -751,7 +764,7 @@ fn after_a_frame() -> (Vec<Fault>, Vec<Told>) {
         (report.born().len(), report.faults().len(), world.len()),
         (4, 2, 4)
     );
-    (report.faults(), all(&world))
+    (report.faults().to_vec(), all(&world))
 }
 
 /// The world is the one before, but for what the systems that ran had reserved.
@@ -772,13 +785,13 @@ fn frames() {
         let mut world = two();
         let (done, refused) = refusing(refusal, || run_frame(&mut world, &SYSTEMS, 1));
         let faults = match done {
-            Ok(report) => report.faults(),
+            Ok(report) => report.faults().to_vec(),
             Err(FrameError::Memory) => {
                 before += 1;
                 assert_eq!(all(&world), all(&two()));
                 assert!(!world.needs_flush());
                 let again = run_frame(&mut world, &SYSTEMS, 1);
-                again.expect("memory").faults()
+                again.expect("memory").faults().to_vec()
             }
             Err(FrameError::Lost) => {
                 lost += 1;

@@ -272,10 +272,8 @@ fn entities_of_one_command() {
         assert_eq!(given.len(), MANY as usize);
     });
     let report = world.apply(queues).expect("memory is ample");
-    assert!(report
-        .born()
-        .into_iter()
-        .eq((0..MANY).map(|index| handle(index, 1))));
+    let born = report.born().iter().copied();
+    assert!(born.eq((0..MANY).map(|index| handle(index, 1))));
     for index in 0..MANY {
         assert_eq!(world.birth(handle(index, 1)), Some(nth_birth(0, 0, index)));
         assert_eq!(world.items(handle(index, 1)).as_ref(), Some(&bundle));
@@ -319,7 +317,7 @@ fn faults_of_one_sync_point() {
         command,
         kind: FaultKind::NotAlive(one),
     });
-    assert!(report.faults().into_iter().eq(faults));
+    assert!(report.faults().iter().copied().eq(faults));
 }
 
 /// Phases of each number of reservers that there may be, each of whom reserves one handle.
@@ -357,7 +355,8 @@ fn queues_of_a_phase() {
             system.spawn(&[(HP, value)]).expect("memory is ample");
         });
         world = opened.0;
-        let born = world.apply(opened.1).expect("memory is ample").born();
+        let report = world.apply(opened.1).expect("memory is ample");
+        let born = report.born();
         assert_eq!(born.len(), count);
         let last = world.birth(born[count - 1]);
         assert_eq!(last, Some(nth_birth(count as u64 - 1, count as u32 - 1, 0)));
@@ -421,9 +420,8 @@ fn entities_of_a_frame() {
             .try_for_each(|one| commands.insert(one, &[(HP, 1)]))
     };
     let mut world = World::new();
-    let born = run_frame(&mut world, &[spawn], 1)
-        .expect("memory is ample")
-        .born();
+    let report = run_frame(&mut world, &[spawn], 1).expect("memory is ample");
+    let born = report.born();
     assert_eq!(born.len(), MANY as usize);
     run_frame(&mut world, &[age, age], 2).expect("memory is ample");
     assert!(born.iter().all(|one| world.get(*one, HP) == Some(1)));

@@ -213,7 +213,7 @@ impl Living {
         //     ≡ map (λ pair. born_at self.now.entities pair.0) pairs.now) }
         // ensures memory { OnErr result (0 < length pairs.now) }
     {
-        let mut births = Vec::new(alloc);
+        let mut births = Vec::with_capacity(alloc, pairs.len())?;
         for pair in pairs {
             let resident = self.residents[pair.0];
             births.push((resident.birth, resident.handle))?;
