@@ -13,8 +13,9 @@ An edit is a file `crates/CRATE/wrong_bodies/NAME.edit`. It has pairs of lines: 
 Its line `refused by: FUNCTION: GOAL` says which function the prover refuses then, and which goal of that proof it names. A goal's name ends
 with the name of a clause, of an invariant, or of what a call requires. With a line `gate` the gate tries it.
 
-Only the function that the file names is checked, with those that it calls. So a try takes seconds where the check of a crate takes minutes.
-The script runs at the top of the repository, and needs `rt` on the PATH.
+Only the function that the file names is checked. Of those that it calls the contracts count, which no edit changes: a hole stands for each
+proof of theirs. So a try takes seconds where the check of a crate takes minutes. The script runs at the top of the repository, and needs
+`rt` on the PATH.
 """
 
 import argparse
@@ -111,7 +112,7 @@ class Prover:
             words += ["-L", f"dependency={self.top / f'crates/{used}/out/rlib'}"]
         words += ["--antt-project", self.kit / "rattle/logic/antt-project.json", "--logic-built", self.kit / "logic_built"]
         words += ["--crate-type", "staticlib"] if "staticlib" in self.marks[crate] else []
-        words += ["--links", f"{crate}=", "--jobs", "1", "--incremental", kept]
+        words += ["--links", f"{crate}=", "--jobs", "1", "--incremental", kept, "--allow-holes"]
         return [str(it) for it in [*words, *(word for it in functions for word in ("--only", it))]]
 
     def build_below(self, crate):
@@ -123,16 +124,53 @@ class Prover:
                 sys.exit(f"the libraries below {crate} are not built: {said.stdout[-500:]}{said.stderr[-500:]}")
 
     def check(self, crate, texts, functions, kept):
-        """The status and what is printed of a check of the crate with these texts in place of its own."""
-        with tempfile.TemporaryDirectory() as room:
-            for part in PARTS:
-                if os.path.isdir(f"crates/{crate}/{part}"):
-                    shutil.copytree(f"crates/{crate}/{part}", f"{room}/{part}")
-            for path, text in texts.items():
-                pathlib.Path(room, path).write_text(text)
-            how = {"cwd": room, "stdout": subprocess.PIPE, "stderr": subprocess.STDOUT, "errors": "replace"}
-            said = subprocess.run(self.words(crate, functions, kept), **how)
+        """The status and what is printed of a check of these functions with these texts in place of the crate's own."""
+        for has_holes in (True, False):
+            with tempfile.TemporaryDirectory() as room:
+                room = pathlib.Path(room)
+                for part in PARTS:
+                    if os.path.isdir(f"crates/{crate}/{part}"):
+                        shutil.copytree(f"crates/{crate}/{part}", room / part)
+                for path, text in texts.items():
+                    (room / path).write_text(text)
+                if has_holes and functions:
+                    put_holes(room, crate, functions)
+                how = {"cwd": room, "stdout": subprocess.PIPE, "stderr": subprocess.STDOUT, "errors": "replace"}
+                said = subprocess.run(self.words(crate, functions, kept), **how)
+                if not re.search(HOLE_REFUSED, said.stdout):
+                    return said.returncode, with_functions(room, said.stdout)
         return said.returncode, said.stdout
+
+
+# A hole that isn't the proof of its function, as of a function with a form of its own.
+HOLE_REFUSED = r"(?m)^(?:\./)?proofs/\S+/Proof\.antt:\d+:\d+: error"
+
+
+def put_holes(room, crate, functions):
+    """Takes the answers of all other functions away, and leaves a hole for the proof of each."""
+    for answers in sorted(room.glob("proofs/**/Answers.antt")):
+        path = answers.parent.relative_to(room / "proofs").parts
+        is_tried = any(f"::{'::'.join(path)}".endswith(f"::{it}") for it in functions)
+        if is_tried or path[-1].startswith("+"):
+            continue
+        answers.unlink()
+        answers.with_name("Invariants.antt").unlink(missing_ok=True)
+        name, module = path[-1], ".".join(path)
+        answers.with_name("Proof.antt").write_text(
+            f"use Rattle.{crate}.proofs.{module}.Statement.{{statement}}\n\n"
+            f"pub {name}_spec : {{M : Type 1}} → statement M\n{name}_spec = ?\n"
+        )
+
+
+def with_functions(room, said):
+    """What is printed, with the function's name before each place of the source where a goal is open."""
+
+    def named(note):
+        lines = (room / note[1]).read_text().splitlines()[: int(note[2])]
+        names = [it[1] for it in (re.search(r"\bfn (\w+)", line) for line in lines) if it]
+        return f"note: {names[-1] if names else '?'}: {note[0].removeprefix('note: ')}"
+
+    return re.sub(r"(?m)^note: (src/[^\s:]+):(\d+):", named, said)
 
 
 def refusals(crate, said):
@@ -145,10 +183,10 @@ def refusals(crate, said):
             found[function].append(goal)
     for function, goals in re.findall(rf"(?m)^fn {crate}::(\S+): no proof: .*?`search` did not prove (.*)$", said):
         found[function] += re.findall(r"`([^`]+)`", goals)
-    # Open goals stand at a place of the source. Where one function alone is refused, they are its own.
-    open_goals = re.findall(r"(?m)^note: src/\S+: it is not proved .*?\(`([^`]+)`\)", said)
-    if len(found) == 1:
-        found[next(iter(found))] += open_goals
+    for name, goal in re.findall(r"(?m)^note: (\w+): src/\S+: it is not proved .*?\(`([^`]+)`\)", said):
+        owners = [it for it in found if it.split("::")[-1] == name] or list(found)
+        if len(owners) == 1:
+            found[owners[0]].append(goal)
     return {it: list(dict.fromkeys(goals)) for it, goals in found.items()}
 
 
