@@ -2,16 +2,16 @@
 # Runs the program with each of its allocations refused in turn: schedules, scripts on one worker and on eight, with a bundle that takes
 # memory and with many births as targets, and a script that is refused. Each run must end as an undisturbed one does (the program may do
 # without that piece of memory), or with status 3, `memory` on standard error and nothing else. Then it runs each test of refused memory in
-# the same way: it must pass, whichever allocation is refused. And it counts what tests of things that take no memory ask for. It needs `cc`
-# on the path, and the program and the tests as `.ci/run` built them. If the program wasn't built, `rt`, which then proves it first; tests
-# that weren't built are left out.
+# the same way, and the files `*_refused.txt` of `crates/cases`: they must pass, whichever allocation is refused. And it counts what tests
+# of things that take no memory ask for. It needs `cc` on the path, and the program, the tests and the cases as `.ci/run` built them. If the
+# program wasn't built, `rt`, which then proves it first; what else wasn't built is left out.
 set -eu
 here=$(cd "$(dirname "$0")" && pwd)
 top=$(cd "$here/.." && pwd)
 room=$(mktemp -d)
 trap 'rm -rf "$room"' EXIT
 program=$here/../crates/spawnrun/out/spawnrun
-scripts=$here/../crates/examples/data
+scripts=$here/data
 [ -x "$program" ] || (cd "$here/../crates/spawnrun" && rt run >"$room/built" 2>&1)
 cc -O2 -shared -fPIC -o "$room/refuse.so" "$here/refuse_allocation.c"
 
@@ -77,30 +77,46 @@ each "$scripts/reuse.json" run --show handles
 each "$scripts/spawners.json" run --workers 8
 each "$room/no_script.json" run
 
-# tested CRATE: the same of each test of the crate that takes whichever allocation is refused, as it was compiled. It must pass.
+# passes WHAT WORDS..: every allocation of these words in turn. They must end with 0.
+passes() {
+    what=$1
+    shift
+    beyond=0 allocation=0 passed=0
+    while [ "$beyond" -lt 4 ]; do
+        allocation=$((allocation + 1))
+        rm -f "$room/refused"
+        status=0
+        LD_PRELOAD=$room/refuse.so REFUSE=$allocation REFUSED=$room/refused "$@" >"$room/printed" 2>&1 || status=$?
+        if [ ! -e "$room/refused" ]; then
+            beyond=$((beyond + 1))
+        elif [ "$status" = 0 ]; then
+            beyond=0 passed=$((passed + 1))
+        else
+            cat "$room/printed"
+            echo "$what: allocation $allocation: wrong, status $status"
+            exit 1
+        fi
+    done
+    echo "$what: passed $passed times"
+    [ "$passed" -gt 0 ]
+}
+
+# tested CRATE: each test of the crate that takes whichever allocation is refused, as it was compiled.
 tested() {
     tests=$top/crates/$1/out/$1_tests
     [ -x "$tests" ] || { echo "$1: its tests are not built, .ci/run builds them"; return; }
-    for test in $("$tests" --list 2>/dev/null | sed -n 's/: test$//p' | grep -E 'refused_(memory|share|opening)'); do
-        beyond=0 allocation=0 passed=0
-        while [ "$beyond" -lt 4 ]; do
-            allocation=$((allocation + 1))
-            rm -f "$room/refused"
-            status=0
-            LD_PRELOAD=$room/refuse.so REFUSE=$allocation REFUSED=$room/refused \
-                "$tests" "$test" >"$room/printed" 2>&1 || status=$?
-            if [ ! -e "$room/refused" ]; then
-                beyond=$((beyond + 1))
-            elif [ "$status" = 0 ]; then
-                beyond=0 passed=$((passed + 1))
-            else
-                cat "$room/printed"
-                echo "$1 $test: allocation $allocation: wrong, status $status"
-                exit 1
-            fi
-        done
-        echo "$1 $test: passed $passed times"
-        [ "$passed" -gt 0 ]
+    for test in $("$tests" --list 2>/dev/null | sed -n 's/: test$//p' | grep -E 'refused_(memory|opening)'); do
+        passes "$1 $test" "$tests" "$test"
+    done
+}
+
+# answered: the files of calls that take whichever allocation is refused.
+answered() {
+    cases=$top/crates/cases/out/cases
+    [ -x "$cases" ] || { echo "the cases are not built, .ci/run builds them"; return; }
+    cd "$top/crates/cases/data"
+    for file in *_refused.txt; do
+        passes "$file" "$cases" "$file"
     done
 }
 
@@ -123,3 +139,4 @@ for tests in "$top"/crates/*_tests; do
     tested "$(basename "$tests")"
     spared "$(basename "$tests")"
 done
+answered

@@ -85,6 +85,10 @@ impl Layer for Allocating {
         None
     }
 
+    fn is_at(&mut self, _stop: [u32; 3]) -> bool {
+        false
+    }
+
     fn answer(&mut self, call: &Call<'_>, out: &mut Out) {
         let [first, second, _] = call.numbers;
         match call.name {

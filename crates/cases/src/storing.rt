@@ -31,6 +31,10 @@ impl Layer for Storing {
         None
     }
 
+    fn is_at(&mut self, _stop: [u32; 3]) -> bool {
+        false
+    }
+
     fn answer(&mut self, call: &Call<'_>, out: &mut Out) {
         match call.name {
             "new" => {

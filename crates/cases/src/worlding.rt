@@ -29,6 +29,10 @@ pub struct Worlding {
     born: Vec<Handle>,
     /// The faults of the last sync point.
     faults: Vec<Fault>,
+    /// Where that sync point stopped: a system, a command and how many handles of it are done.
+    stop: Option<(usize, usize, usize)>,
+    /// A line has told that place.
+    is_told: bool,
     alloc: Global,
 }
 
@@ -41,6 +45,8 @@ impl Worlding {
             systems: Vec::new(alloc),
             born: Vec::new(alloc),
             faults: Vec::new(alloc),
+            stop: None,
+            is_told: false,
             alloc,
         }
     }
@@ -59,6 +65,7 @@ impl Worlding {
         match call.name {
             "flush" => self.flush(),
             "apply" => self.apply(),
+            "go_on" => self.go_on(),
             _ => self.apply_from(call.numbers),
         }
     }
@@ -143,15 +150,53 @@ impl Worlding {
 
     /// Goes on with the queues at that handle of that command of that system.
     fn apply_from(&mut self, [system, command, done]: [u32; 3]) -> &'static str {
-        let (system, command, done) = (system as usize, command as usize, done as usize);
+        match self.applied_from(system as usize, command as usize, done as usize) {
+            Some(applied) => self.keep(applied),
+            None => "no such command",
+        }
+    }
+
+    /// What is left of the queues there. `None` if there is no such place, or the world can't go on.
+    fn applied_from(
+        &mut self,
+        system: usize,
+        command: usize,
+        done: usize,
+    ) -> Option<Result<SyncReport, SyncFault>> {
         let Some(world) = &mut self.world else {
-            return "a phase is open";
+            return None;
         };
         if world.needs_flush() || done >= stops_at(&self.queues, system, command) {
-            return "no such command";
+            return None;
         }
-        let applied = world.apply_from(&self.queues, system, command, done);
-        self.keep(applied)
+        Some(world.apply_from(&self.queues, system, command, done))
+    }
+
+    /// Goes on where the sync point stopped, if it did. A line has told that place before.
+    fn go_on(&mut self) -> &'static str {
+        let Some((system, command, done)) = self.stop else {
+            return "done";
+        };
+        if !self.is_told {
+            return "it stopped at no place that is told";
+        }
+        match self.applied_from(system, command, done) {
+            Some(Ok(rest)) => self.keep_rest(&rest),
+            Some(Err(_)) => "out of memory",
+            None => "no such command",
+        }
+    }
+
+    /// Nobody more is born, and there may be more faults.
+    fn keep_rest(&mut self, rest: &SyncReport) -> &'static str {
+        self.stop = None;
+        if !rest.born.is_empty() {
+            return "more are born";
+        }
+        match self.faults.extend_from_slice(&rest.faults) {
+            Ok(()) => "done",
+            Err(_) => "out of memory",
+        }
     }
 
     /// A call of one of the systems.
@@ -222,15 +267,32 @@ impl Worlding {
         }
     }
 
+    /// Keeps the report, also that of a sync point which stopped at a command.
     fn keep(&mut self, applied: Result<SyncReport, SyncFault>) -> &'static str {
+        self.stop = None;
+        self.is_told = false;
         match applied {
-            Ok(SyncReport { born, faults }) => {
-                self.born = born;
-                self.faults = faults;
-                "done"
+            Ok(report) => self.keep_report(report),
+            Err(
+                SyncFault::Memory {
+                    system,
+                    command,
+                    done,
+                    so_far,
+                },
+            ) => {
+                self.stop = Some((system, command, done));
+                self.keep_report(so_far)
             }
-            Err(_) => "out of memory",
+            Err(SyncFault::FlushMemory) => "out of memory",
         }
+    }
+
+    fn keep_report(&mut self, report: SyncReport) -> &'static str {
+        let SyncReport { born, faults } = report;
+        self.born = born;
+        self.faults = faults;
+        "done"
     }
 }
 
@@ -239,13 +301,19 @@ impl Layer for Worlding {
         Some(self)
     }
 
+    fn is_at(&mut self, [system, command, done]: [u32; 3]) -> bool {
+        let is_here = self.stop == Some((system as usize, command as usize, done as usize));
+        self.is_told = self.is_told || is_here;
+        is_here
+    }
+
     fn answer(&mut self, call: &Call<'_>, out: &mut Out) {
         if let Some(system) = call.system {
             return self.in_phase(system, call, out);
         }
         match call.name {
             "world" | "open" | "close" | "close_lost" => out.word(self.set_up(call)),
-            "flush" | "apply" | "apply_from" => out.word(self.sync(call)),
+            "flush" | "apply" | "apply_from" | "go_on" => out.word(self.sync(call)),
             "system" | "no_systems" => out.word(self.set_systems(call)),
             _ => self.tell(call, out),
         }
@@ -277,7 +345,8 @@ fn write_list(alloc: Global, call: &Call<'_>, out: &mut Out) {
 fn write_put(alloc: Global, call: &Call<'_>, out: &mut Out) {
     let mut bundle = Bundle::new(alloc);
     for (id, value) in &call.items {
-        if bundle.put(*id, *value).is_err() {
+        // A refused put leaves the bundle as it was, so the next one goes on with it.
+        if bundle.put(*id, *value).is_err() && bundle.put(*id, *value).is_err() {
             out.word("out of memory");
         }
     }
