@@ -85,7 +85,7 @@ impl Layer for Allocating {
         None
     }
 
-    fn is_at(&mut self, _stop: [u32; 3]) -> bool {
+    fn holds(&mut self, _when: &Call<'_>) -> bool {
         false
     }
 

@@ -20,8 +20,8 @@ pub trait Layer {
     /// Makes the call, and writes what it returned.
     fn answer(&mut self, call: &Call<'_>, out: &mut Out);
 
-    /// Whether the last sync point stopped at that system, command and handle.
-    fn is_at(&mut self, stop: [u32; 3]) -> bool;
+    /// Whether that is how the last sync point or frame went.
+    fn holds(&mut self, when: &Call<'_>) -> bool;
 
     /// What runs frames, if this layer does.
     fn worlding(&mut self) -> Option<&mut Worlding>;
@@ -169,9 +169,9 @@ fn make<R: Threads + Sync, L: Layer>(
         return out.word(REFUSED);
     };
     // Only a frame starts threads.
-    if call.name == "frame" {
+    if call.name == "frame" || call.name == "try_frame" {
         match layer.worlding() {
-            Some(world) => out.word(world.frame(rt, call.number() as usize)),
+            Some(world) => out.word(world.answer_frame(rt, &call)),
             None => out.word("no such call"),
         }
     } else {
@@ -179,26 +179,27 @@ fn make<R: Threads + Sync, L: Layer>(
     }
 }
 
-/// The call of the line. That of `at 0 2 1: CALL` is made only if a sync point stopped there.
+/// The call of the line. That of `at 0 2 1: CALL` is made only if a sync point stopped there; and so
+/// with the other words of `when_of`.
 fn call_now<'a, L: Layer>(
     alloc: Global,
     layer: &mut L,
     line: &'a str,
 ) -> Result<Option<&'a str>, Memory> {
-    let Some((stop, call)) = stop_of(line) else {
+    let Some((when, call)) = when_of(line) else {
         return Ok(Some(line));
     };
-    let stop = Call::read(alloc, stop)?;
-    if layer.is_at(stop.numbers) {
+    let when = Call::read(alloc, when)?;
+    if layer.holds(&when) {
         return Ok(Some(call));
     }
     Ok(None)
 }
 
-fn stop_of(line: &str) -> Option<(&str, &str)> {
-    let (stop, call) = line.split_once(": ")?;
-    if stop.starts_with("at ") {
-        return Some((stop, call));
+fn when_of(line: &str) -> Option<(&str, &str)> {
+    let (when, call) = line.split_once(": ")?;
+    if when.starts_with("at ") || when.starts_with("lost") || when == "kept" {
+        return Some((when, call));
     }
     None
 }

@@ -31,7 +31,7 @@ impl Layer for Storing {
         None
     }
 
-    fn is_at(&mut self, _stop: [u32; 3]) -> bool {
+    fn holds(&mut self, _when: &Call<'_>) -> bool {
         false
     }
 

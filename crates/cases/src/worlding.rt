@@ -15,6 +15,9 @@ use ent_world::{Fault, SyncFault, SyncReport, World};
 use std::alloc::Global;
 use std::thread::Threads;
 
+/// What a frame answers whose systems were refused memory.
+const LOST: &str = "out of memory while the systems ran";
+
 /// A world, as calls change it.
 #[derive(Drop)]
 pub struct Worlding {
@@ -33,6 +36,8 @@ pub struct Worlding {
     stop: Option<(usize, usize, usize)>,
     /// A line has told that place.
     is_told: bool,
+    /// The last frame that might be lost was.
+    is_lost: bool,
     alloc: Global,
 }
 
@@ -47,6 +52,7 @@ impl Worlding {
             faults: Vec::new(alloc),
             stop: None,
             is_told: false,
+            is_lost: false,
             alloc,
         }
     }
@@ -172,6 +178,21 @@ impl Worlding {
         Some(world.apply_from(&self.queues, system, command, done))
     }
 
+    /// Whether the sync point stopped there.
+    fn is_at(&mut self, [system, command, done]: [u32; 3]) -> bool {
+        let is_here = self.stop == Some((system as usize, command as usize, done as usize));
+        self.is_told = self.is_told || is_here;
+        is_here
+    }
+
+    /// Whether there is a world in which so many live.
+    fn lives(&self, count: usize) -> bool {
+        match &self.world {
+            Some(world) => world.len() == count,
+            None => false,
+        }
+    }
+
     /// Goes on where the sync point stopped, if it did. A line has told that place before.
     fn go_on(&mut self) -> &'static str {
         let Some((system, command, done)) = self.stop else {
@@ -248,8 +269,17 @@ impl Worlding {
         }
     }
 
+    pub fn answer_frame<R: Threads + Sync>(&mut self, rt: &R, call: &Call<'_>) -> &'static str {
+        let answer = self.frame(rt, call.number() as usize);
+        if call.name == "frame" {
+            return answer;
+        }
+        self.is_lost = answer == LOST;
+        if self.is_lost { "done" } else { answer }
+    }
+
     /// A frame of the systems that were listed.
-    pub fn frame<R: Threads + Sync>(&mut self, rt: &R, workers: usize) -> &'static str {
+    fn frame<R: Threads + Sync>(&mut self, rt: &R, workers: usize) -> &'static str {
         let Some(world) = &mut self.world else {
             return "a phase is open";
         };
@@ -261,9 +291,15 @@ impl Worlding {
                 self.queues = queues;
                 self.keep(Ok(sync))
             }
-            Err(FrameFault::Memory) => "out of memory before any system ran",
-            Err(FrameFault::Lost) => "out of memory while the systems ran",
-            Err(FrameFault::Sync { .. }) => "the sync point stopped",
+            Err(FrameFault::Memory) => "out of memory",
+            Err(FrameFault::Lost) => LOST,
+            Err(FrameFault::Sync { fault, queues }) => {
+                self.queues = queues;
+                match fault {
+                    SyncFault::FlushMemory => self.apply(),
+                    stopped => self.keep(Err(stopped)),
+                }
+            }
         }
     }
 
@@ -301,10 +337,13 @@ impl Layer for Worlding {
         Some(self)
     }
 
-    fn is_at(&mut self, [system, command, done]: [u32; 3]) -> bool {
-        let is_here = self.stop == Some((system as usize, command as usize, done as usize));
-        self.is_told = self.is_told || is_here;
-        is_here
+    fn holds(&mut self, when: &Call<'_>) -> bool {
+        match when.name {
+            "at" => self.is_at(when.numbers),
+            "lost" => self.is_lost,
+            "lost_of" => self.is_lost && self.lives(when.number() as usize),
+            _ => !self.is_lost,
+        }
     }
 
     fn answer(&mut self, call: &Call<'_>, out: &mut Out) {

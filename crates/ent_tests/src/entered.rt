@@ -102,3 +102,27 @@ fn a_worker_that_stops_does_no_more(rt: HostRuntime) {
         assert_entered(&rt, alloc, &acts, workers, entered);
     }
 }
+
+/// Systems that do not fail, as no more than one allocation is refused.
+const SURE: [Act; 2] = [Act::SpawnSurely(5), Act::SpawnSurely(7)];
+
+/// One worker runs systems that do not fail. So the entries of the gate tell where memory was
+/// refused: before the first system, between the two, where the list of what the worker ran grows,
+/// or after both. Each system that was entered has reserved one handle.
+#[test]
+fn refused_memory_and_what_was_entered(rt: HostRuntime) {
+    let alloc = rt.alloc();
+    let counts = Counts::new(&rt, alloc, 2);
+    let systems = all_counted(&rt, alloc, &counts, &SURE);
+    let mut world = World::new(alloc, Limits::default_limits());
+    let entered = match tried(&rt, alloc, &mut world, &systems, 1, &counts) {
+        Err(FrameFault::Memory) => 0,
+        Err(FrameFault::Lost) => 1,
+        _ => 2,
+    };
+    counts.assert_first(&rt, entered, 1);
+    if world.needs_flush() {
+        world.flush().expect(&rt, "memory for the flush");
+    }
+    assert_eq!(rt; world.len(), entered);
+}

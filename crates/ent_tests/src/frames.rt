@@ -1,8 +1,4 @@
 //! Frames, with what they require tested before.
-ghost use Rattle.std.specs.Prelude.{◌≡◌};
-ghost use Rattle.ent_world.specs.Sync.{IsStop};
-ghost use Rattle.ent_runner.specs.Frame.{IfStoppedAt};
-
 use ent_handle::Handle;
 use ent_runner::{FrameFault, FrameReport, Gate, System, run_frame};
 use ent_world::World;
@@ -23,9 +19,6 @@ where
     R: Threads + Sync + Abort,
     S: System + Sync,
     G: Gate + Sync,
-    ensures stop { IfStoppedAt result (λ system command done _ queues.
-        IsStop system command done queues) }
-    ensures stop_flushed { IfStoppedAt result (λ _ _ _ _ _. world.new.allocator.asked ≡ 0) }
 {
     assert!(rt; !world.needs_flush());
     assert!(rt; systems.len() <= 65_536);

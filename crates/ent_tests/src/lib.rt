@@ -17,15 +17,9 @@ mod counts;
 #[cfg(test)]
 mod entered;
 #[cfg(test)]
-mod frame_memory;
-#[cfg(test)]
 mod frames;
 #[cfg(test)]
-mod going_on;
-#[cfg(test)]
 mod handle_memory;
-#[cfg(test)]
-mod leaks;
 #[cfg(test)]
 mod making;
 #[cfg(test)]

@@ -1,8 +1,8 @@
-//! Worlds, queues and faults as text, so that a test compares all of one at once. Memory
+//! Worlds and queues as text, so that a test compares all of one at once. Memory
 //! that is refused once is asked for again.
 use ent_handle::Handle;
 use ent_queue::{BundleRef, CommandQueue, Entry};
-use ent_world::{Fault, FaultKind, World};
+use ent_world::World;
 use std::alloc::{AllocError, Global};
 use std::process::Abort;
 
@@ -89,23 +89,4 @@ fn write_bundle(text: &mut String, bundle: &BundleRef<'_>) -> Result<(), AllocEr
         write!(text, " {number}={value}")?;
     }
     Ok(())
-}
-
-/// The faults, a line each: system, command and reason.
-pub fn faults(rt: &impl Abort, alloc: Global, faults: &[Fault]) -> String {
-    let mut text = text(rt, alloc);
-    for fault in faults {
-        write_fault(&mut text, fault).expect(rt, "room");
-    }
-    text
-}
-
-fn write_fault(text: &mut String, fault: &Fault) -> Result<(), AllocError> {
-    let (system, command) = (fault.system, fault.command);
-    write!(text, "{system} {command} ")?;
-    match fault.kind {
-        FaultKind::NotAlive(handle) => writeln!(text, "not alive {handle}"),
-        FaultKind::Space { wanted, left } => writeln!(text, "{wanted} wanted and {left} left"),
-        FaultKind::Quota { left } => writeln!(text, "credit {left}"),
-    }
 }

@@ -1,7 +1,7 @@
 use Rattle.std.proofs.Common.{All}
 use Rattle.ent_shared.specs.Phase.{IsOf}
-use Rattle.ent_lower_tests.specs.declared.caller.Caller.{Caller}
-use Rattle.ent_lower_tests.proofs.phase.callers.Given as goal
+use Rattle.ent_tests.specs.declared.caller.Caller.{Caller}
+use Rattle.ent_tests.proofs.phase.callers.Given as goal
 
 abbrev pub invariant-loop-some : goal.invariant-loop-some
 invariant-loop-some g l = record {

@@ -1,7 +1,7 @@
 use Rattle.std.proofs.Common.{All}
 use Rattle.ent_shared.specs.Phase.{IsOf}
-use Rattle.ent_lower_tests.specs.declared.caller.Caller.{Caller}
-use Rattle.ent_lower_tests.proofs.phase.closed.Given as goal
+use Rattle.ent_tests.specs.declared.caller.Caller.{Caller}
+use Rattle.ent_tests.proofs.phase.closed.Given as goal
 
 abbrev pub invariant-loop : goal.invariant-loop
 invariant-loop g l = record {

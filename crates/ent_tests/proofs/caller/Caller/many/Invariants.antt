@@ -1,5 +1,5 @@
 use Rattle.ent_shared.specs.Phase.{IsOf}
-use Rattle.ent_lower_tests.proofs.caller.Caller.many.Given as goal
+use Rattle.ent_tests.proofs.caller.Caller.many.Given as goal
 
 -- the reserver stays one of this allocator
 abbrev pub invariant-loop-handle : goal.invariant-loop-handle
