@@ -31,6 +31,7 @@ each() {
     run 0 "$@"
     wanted=$status undisturbed=0 memory=0 allocation=0 beyond=0
     cp "$room/printed" "$room/wanted"
+    cp "$room/said" "$room/wanted_said"
     while [ "$beyond" -lt 4 ]; do
         allocation=$((allocation + 1))
         run "$allocation" "$@"
@@ -38,7 +39,7 @@ each() {
             beyond=$((beyond + 1))
         elif [ "$status" = 3 ] && [ ! -s "$room/printed" ] && [ "$(cat "$room/said")" = memory ]; then
             beyond=0 memory=$((memory + 1))
-        elif [ "$status" = "$wanted" ] && cmp -s "$room/printed" "$room/wanted"; then
+        elif [ "$status" = "$wanted" ] && cmp -s "$room/printed" "$room/wanted" && cmp -s "$room/said" "$room/wanted_said"; then
             beyond=0 undisturbed=$((undisturbed + 1))
         else
             echo "$*: allocation $allocation: wrong, status $status"
@@ -68,6 +69,12 @@ awk 'BEGIN {
     for (i = 0; i < 50; i++) printf "%s{\"insert\":{\"hp\":%d},\"on\":{\"birth\":\"0.0.%d\"}}", i ? "," : "", i, i
     print "]]]}"
 }' >"$room/births.json"
+printf 'alloc\nalloc\nfree 0v1\nbegin 1 2\nstep 1\nanswer 1\nflush\n' >"$room/events"
+printf '{"components":[],"frames":1}' >"$room/no_frames.json"
+each "$room/events" replay
+each "$room/targets.json" run --workers 2
+each "$room/no_frames.json" run
+each "$room/events" replay --help
 each "$here/one_caller.txt" replay
 each "$here/two_callers.txt" replay
 each "$room/targets.json" run --show handles

@@ -22,9 +22,9 @@ mod writing;
 use allocating::Allocating;
 use anyhow::{Result, ensure};
 use case::Case;
+use std::env;
 use std::rt::Files;
 use std::thread::Threads;
-use std::env;
 use storing::Storing;
 use worlding::Worlding;
 

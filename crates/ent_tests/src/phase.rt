@@ -129,7 +129,10 @@ fn beside<R: Threads + Sync + Abort>(
     requires { All (λ c. IsOf shared.now c.reserver) callers.items }
     ensures { All (λ c. IsOf shared.now c.reserver) result.items }
 {
-    map_vec(rt, callers, &|caller| caller.beside(shared, meeting)).expect(rt, "memory for the callers")
+    map_vec(rt, callers, &|caller| caller.beside(shared, meeting)).expect(
+        rt,
+        "memory for the callers",
+    )
 }
 
 fn assert_saw_all(rt: &impl Abort, callers: &[Caller]) {
