@@ -57,6 +57,9 @@ fn run(
         _ => {
             let mut out = Out::new(alloc);
             issue(alloc, commands, &call, &mut out);
+            if out.text.as_str() == "out of memory" {
+                return Err(Memory);
+            }
             Ok(())
         }
     }
