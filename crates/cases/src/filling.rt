@@ -98,6 +98,9 @@ fn term_of(term: &str, round: Round) -> i64 {
     match term {
         "n" => i64::from(round.n),
         "m" => i64::from(round.m),
-        _ => term.parse().unwrap_or(-1),
+        _ => match term.parse::<u32>() {
+            Ok(number) => i64::from(number),
+            Err(_) => -1,
+        },
     }
 }
