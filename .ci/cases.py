@@ -101,6 +101,8 @@ def take(case, mark, text):
         case.status = int(text)
     elif mark == "<<":
         case.source = text
+    elif mark == ">>":
+        case.output += pathlib.Path(text).read_bytes()
     elif mark == "<^":
         case.input = b",".join([case.input] * int(text))
     elif mark == "<|":
@@ -129,7 +131,7 @@ def cases_of(crate, file):
             case = None
             continue
         mark, _, text = line.partition(" ")
-        if not re.fullmatch(r"[$~=]|[<>!](\\|\*[,_]?)?|<[<^|]", mark):
+        if not re.fullmatch(r"[$~=]|[<>!](\\|\*[,_]?)?|<[<^|]|>>", mark):
             sys.exit(f"{file}:{number}: {mark} is no mark of a case")
         if case is None:
             case = Case(crate, file, number, around=around)

@@ -4,7 +4,7 @@
     .ci/counts.py [REV..]     a column for each of these commits, and one for what stands here
 
 - clauses: lines with `ensures` in the sources of crates, but for tests, examples and benchmarks;
-- expectations of tests: the comparisons and the rows of tables in crates/*_tests and in the tests of rust/;
+- expectations of tests: the comparisons and the rows of tables in crates/*_tests, in the tests of rust/ and in rust/erased_tests;
 - expectations of cases: the answers, outputs, messages and exit statuses in the files of cases;
 - expectations of scripts: the calls in examples/*.sh of a function that ends the script unless a run goes as the line says;
 - wrong bodies in the gate, and all of them.
@@ -44,10 +44,10 @@ def counts(top):
     top = pathlib.Path(top)
     crates = [it for it in top.glob("crates/*") if (it / "src").is_dir()]
     clauses = sum("ensures" in it.split("//")[0] for crate in crates if is_library(crate) for it in lines(crate, ["src/**/*.rt"]))
-    tests = [*lines(top, ["crates/*_tests/src/**/*.rt"]), *lines(top, ["rust/*/tests/**/*.rs"])]
+    tests = list(lines(top, ["crates/*_tests/src/**/*.rt", "rust/*/tests/**/*.rs", "rust/erased_tests/src/*.rs", "rust/erased_tests/src/values/*.rs"]))
     compared = r"\b(assert|assert_eq|assert_ne|prove|prove_eq)!\(|\bexpect\(|^\s*\(\s*(b?r?#*\"|&)"
     cases = [*lines(top, ["crates/*/cases/*", "crates/cases*/data/*"])]
-    answers = sum(" => " in it or it.startswith(("> ", ">\\ ", "! ", "= ")) or it == ">" for it in cases)
+    answers = sum(" => " in it or it.startswith(("> ", ">\\ ", ">> ", "! ", "= ")) or it == ">" for it in cases)
     edits = [it for it in top.glob("crates/*/*/*.edit")]
     of_gate = sum(it.parent.name == "must-fail" or "\ngate\n" in it.read_text() for it in edits)
     return {

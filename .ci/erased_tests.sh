@@ -10,8 +10,6 @@ SPAWNRUN=$PWD/crates/spawnrun/out/spawnrun
 export SPAWNRUN
 cargo run --offline --quiet --manifest-path rust/erase/Cargo.toml -- --tests
 cd rust/erased_tests
-# Some tests look at how much memory the process has, which other tests change.
-export RUST_TEST_THREADS=1
 cargo test --offline --quiet -- --include-ignored
 cargo build --offline --quiet --bin replay
 example=../../examples/one_caller.txt

@@ -9,7 +9,7 @@ out=$(mktemp -d)
 trap 'rm -rf "$out"' EXIT
 
 program=$here/../crates/spawnrun/out/spawnrun
-scripts=$here/../crates/examples/data
+scripts=$here/data
 [ -x "$program" ] || (cd "$here/../crates/spawnrun" && rt run >"$out/built" 2>&1)
 : >"$out/nothing"
 

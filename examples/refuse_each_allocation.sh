@@ -2,15 +2,15 @@
 # Runs the programs with each of their allocations refused in turn: schedules, scripts on one worker and on eight, with a bundle that takes
 # memory and with many births as targets, a script that is refused, and traces that agree, differ or are none. Each run must end as an
 # undisturbed one does (the program may do without that piece of memory), or with status 3, `memory` on standard error and nothing else. Then
-# it runs each test of refused memory in the same way: it must pass, whichever allocation is refused. And it counts what tests of things that
-# take no memory ask for. It needs `cc` on the path, and the programs and the tests as `.ci/run` built them. If a program wasn't built, `rt`,
-# which then proves it first; tests that weren't built are left out.
+# it runs each test of refused memory in the same way, and the files `*_refused.txt` of `crates/cases`: they must pass, whichever allocation
+# is refused. And it counts what tests of things that take no memory ask for. It needs `cc` on the path, and the programs, the tests and the
+# cases as `.ci/run` built them. If a program wasn't built, `rt`, which then proves it first; what else wasn't built is left out.
 set -eu
 here=$(cd "$(dirname "$0")" && pwd)
 top=$(cd "$here/.." && pwd)
 room=$(mktemp -d)
 trap 'rm -rf "$room"' EXIT
-scripts=$here/../crates/examples/data
+scripts=$here/data
 for name in spawnrun tracecheck; do
     [ -x "$top/crates/$name/out/$name" ] || (cd "$top/crates/$name" && rt run </dev/null >"$room/built" 2>&1) || true
 done
@@ -32,6 +32,7 @@ each() {
     run 0 "$@"
     wanted=$status undisturbed=0 memory=0 allocation=0 beyond=0
     cp "$room/printed" "$room/wanted"
+    cp "$room/said" "$room/wanted_said"
     while [ "$beyond" -lt 4 ]; do
         allocation=$((allocation + 1))
         run "$allocation" "$@"
@@ -39,7 +40,7 @@ each() {
             beyond=$((beyond + 1))
         elif [ "$status" = 3 ] && [ ! -s "$room/printed" ] && [ "$(cat "$room/said")" = memory ]; then
             beyond=0 memory=$((memory + 1))
-        elif [ "$status" = "$wanted" ] && cmp -s "$room/printed" "$room/wanted"; then
+        elif [ "$status" = "$wanted" ] && cmp -s "$room/printed" "$room/wanted" && cmp -s "$room/said" "$room/wanted_said"; then
             beyond=0 undisturbed=$((undisturbed + 1))
         else
             echo "$(basename "$program") $*: allocation $allocation: wrong, status $status"
@@ -70,6 +71,12 @@ awk 'BEGIN {
     print "]]]}"
 }' >"$room/births.json"
 program=$top/crates/spawnrun/out/spawnrun
+printf 'alloc\nalloc\nfree 0v1\nbegin 1 2\nstep 1\nanswer 1\nflush\n' >"$room/events"
+printf '{"components":[],"frames":1}' >"$room/no_frames.json"
+each "$room/events" replay
+each "$room/targets.json" run --workers 2
+each "$room/no_frames.json" run
+each "$room/events" replay --help
 each "$here/one_caller.txt" replay
 each "$here/two_callers.txt" replay
 each "$room/targets.json" run --show handles
@@ -88,30 +95,46 @@ each "$room/differs" --slots 9 --generations 2
 each "$room/refused_line"
 each "$room/agrees" --slots 0
 
-# tested CRATE: the same of each test of the crate that takes whichever allocation is refused, as it was compiled. It must pass.
+# passes WHAT WORDS..: every allocation of these words in turn. They must end with 0.
+passes() {
+    what=$1
+    shift
+    beyond=0 allocation=0 passed=0
+    while [ "$beyond" -lt 4 ]; do
+        allocation=$((allocation + 1))
+        rm -f "$room/refused"
+        status=0
+        LD_PRELOAD=$room/refuse.so REFUSE=$allocation REFUSED=$room/refused "$@" >"$room/printed" 2>&1 || status=$?
+        if [ ! -e "$room/refused" ]; then
+            beyond=$((beyond + 1))
+        elif [ "$status" = 0 ]; then
+            beyond=0 passed=$((passed + 1))
+        else
+            cat "$room/printed"
+            echo "$what: allocation $allocation: wrong, status $status"
+            exit 1
+        fi
+    done
+    echo "$what: passed $passed times"
+    [ "$passed" -gt 0 ]
+}
+
+# tested CRATE: each test of the crate that takes whichever allocation is refused, as it was compiled.
 tested() {
     tests=$top/crates/$1/out/$1_tests
     [ -x "$tests" ] || { echo "$1: its tests are not built, .ci/run builds them"; return; }
-    for test in $("$tests" --list 2>/dev/null | sed -n 's/: test$//p' | grep -E 'refused_(memory|share|opening)'); do
-        beyond=0 allocation=0 passed=0
-        while [ "$beyond" -lt 4 ]; do
-            allocation=$((allocation + 1))
-            rm -f "$room/refused"
-            status=0
-            LD_PRELOAD=$room/refuse.so REFUSE=$allocation REFUSED=$room/refused \
-                "$tests" "$test" >"$room/printed" 2>&1 || status=$?
-            if [ ! -e "$room/refused" ]; then
-                beyond=$((beyond + 1))
-            elif [ "$status" = 0 ]; then
-                beyond=0 passed=$((passed + 1))
-            else
-                cat "$room/printed"
-                echo "$1 $test: allocation $allocation: wrong, status $status"
-                exit 1
-            fi
-        done
-        echo "$1 $test: passed $passed times"
-        [ "$passed" -gt 0 ]
+    for test in $("$tests" --list 2>/dev/null | sed -n 's/: test$//p' | grep -E 'refused_(memory|opening)'); do
+        passes "$1 $test" "$tests" "$test"
+    done
+}
+
+# answered: the files of calls that take whichever allocation is refused.
+answered() {
+    cases=$top/crates/cases/out/cases
+    [ -x "$cases" ] || { echo "the cases are not built, .ci/run builds them"; return; }
+    cd "$top/crates/cases/data"
+    for file in *_refused.txt; do
+        passes "$file" "$cases" "$file"
     done
 }
 
@@ -134,3 +157,4 @@ for tests in "$top"/crates/*_tests; do
     tested "$(basename "$tests")"
     spared "$(basename "$tests")"
 done
+answered

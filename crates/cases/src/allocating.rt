@@ -85,6 +85,10 @@ impl Layer for Allocating {
         None
     }
 
+    fn holds(&mut self, _when: &Call<'_>) -> bool {
+        false
+    }
+
     fn answer(&mut self, call: &Call<'_>, out: &mut Out) {
         let [first, second, _] = call.numbers;
         match call.name {

@@ -91,10 +91,15 @@ impl<'a> Call<'a> {
         self.numbers[0]
     }
 
-    /// The component of that number. The greatest is 255, and stands for what is greater.
+    /// The component of that number.
     pub fn id(&self) -> ComponentId {
-        ComponentId(self.number().min(255) as u8)
+        component(self.number())
     }
+}
+
+/// The component of that number. The greatest is 255, and stands for what is greater.
+pub fn component(number: u32) -> ComponentId {
+    ComponentId(number.min(255) as u8)
 }
 
 fn birth_of(word: &str) -> Option<Birth> {

@@ -3,7 +3,7 @@
 ghost use Rattle.std.specs.Prelude.{◌≤◌, length};
 
 use crate::call::Call;
-use crate::filling::{Round, filled};
+use crate::filling::{Round, filled_at_last};
 use crate::numbers::Numbers;
 use crate::worlding::Worlding;
 use crate::writing::Out;
@@ -12,10 +12,16 @@ use ent_handle::Memory;
 use std::alloc::Global;
 use std::thread::Threads;
 
+/// What a call answers if memory was refused to it.
+const REFUSED: &str = "out of memory";
+
 /// What the calls are made of.
 pub trait Layer {
     /// Makes the call, and writes what it returned.
     fn answer(&mut self, call: &Call<'_>, out: &mut Out);
+
+    /// Whether that is how the last sync point or frame went.
+    fn holds(&mut self, when: &Call<'_>) -> bool;
 
     /// What runs frames, if this layer does.
     fn worlding(&mut self) -> Option<&mut Worlding>;
@@ -49,7 +55,10 @@ impl<'a> Case<'a> {
         layer: &mut L,
         text: &str,
     ) -> Result<()> {
-        let lines = lines_of(self.alloc, text)?;
+        let lines = match lines_of(self.alloc, text) {
+            Err(Memory) => lines_of(self.alloc, text),
+            made => made,
+        }?;
         let mut next = 0;
         for (at, line) in lines.iter().enumerate() {
             if at >= next {
@@ -111,26 +120,34 @@ impl<'a> Case<'a> {
             return Ok(());
         }
         let (call, answer) = line.split_once("=>").unwrap_or((line, "an answer"));
-        let call = filled(self.alloc, call.trim(), round)?;
-        let answer = filled(self.alloc, answer.trim(), round)?;
+        let call = filled_at_last(self.alloc, call.trim(), round)?;
+        let answer = filled_at_last(self.alloc, answer.trim(), round)?;
         self.make(rt, layer, call.as_str(), answer.as_str())
     }
 
-    /// Makes one call, and compares.
+    /// Makes one call, and compares. A call that memory was refused to has changed nothing, so it is
+    /// made once more.
     fn make<R: Print + Threads + Sync, L: Layer>(
         &mut self,
         rt: &R,
         layer: &mut L,
-        call: &str,
+        line: &str,
         wanted: &str,
     ) -> Result<()> {
-        let mut out = Out::new(self.alloc);
-        make(rt, self.alloc, layer, call, &mut out)?;
-        self.compare(rt, call, &out, wanted)
+        self.calls = self.calls.saturating_add(1);
+        let Some(call) = call_now(self.alloc, layer, line)? else {
+            return Ok(());
+        };
+        let mut out = Out::with_room(self.alloc)?;
+        make(rt, self.alloc, layer, call, &mut out);
+        if out.text.as_str() == REFUSED && wanted != REFUSED {
+            out = Out::with_room(self.alloc)?;
+            make(rt, self.alloc, layer, call, &mut out);
+        }
+        self.compare(rt, line, &out, wanted)
     }
 
     fn compare(&mut self, rt: &impl Print, call: &str, out: &Out, wanted: &str) -> Result<()> {
-        self.calls = self.calls.saturating_add(1);
         if !out.is_cut && out.text.trim() == wanted {
             return Ok(());
         }
@@ -147,18 +164,44 @@ fn make<R: Threads + Sync, L: Layer>(
     layer: &mut L,
     line: &str,
     out: &mut Out,
-) -> Result<(), Memory> {
-    let call = Call::read(alloc, line)?;
+) {
+    let Ok(call) = Call::read(alloc, line) else {
+        return out.word(REFUSED);
+    };
     // Only a frame starts threads.
-    if call.name == "frame" {
+    if call.name == "frame" || call.name == "try_frame" {
         match layer.worlding() {
-            Some(world) => out.word(world.frame(rt, call.number() as usize)),
+            Some(world) => out.word(world.answer_frame(rt, &call)),
             None => out.word("no such call"),
         }
     } else {
         layer.answer(&call, out);
     }
-    Ok(())
+}
+
+/// The call of the line. That of `at 0 2 1: CALL` is made only if a sync point stopped there; and so
+/// with the other words of `when_of`.
+fn call_now<'a, L: Layer>(
+    alloc: Global,
+    layer: &mut L,
+    line: &'a str,
+) -> Result<Option<&'a str>, Memory> {
+    let Some((when, call)) = when_of(line) else {
+        return Ok(Some(line));
+    };
+    let when = Call::read(alloc, when)?;
+    if layer.holds(&when) {
+        return Ok(Some(call));
+    }
+    Ok(None)
+}
+
+fn when_of(line: &str) -> Option<(&str, &str)> {
+    let (when, call) = line.split_once(": ")?;
+    if when.starts_with("at ") || when.starts_with("lost") || when == "kept" {
+        return Some((when, call));
+    }
+    None
 }
 
 fn lines_of(alloc: Global, text: &str) -> Result<Vec<&str>, Memory> {

@@ -16,7 +16,7 @@ pub struct Round {
 /// `{..}` is a number: `{n}`, `{m+1}`, `{9-n}`, `{n*256+m}`, or `{~n}`, which is scattered over all
 /// numbers below 2^32, each `n` to another one. `[0..3 {n}v1]` is `0v1 1v1 2v1`: there `n` has each
 /// of the numbers.
-pub fn filled(alloc: Global, text: &str, round: Round) -> Result<String, Memory> {
+fn filled(alloc: Global, text: &str, round: Round) -> Result<String, Memory> {
     let mut out = String::new(alloc);
     for part in text.split('[') {
         match part.split_once(']') {
@@ -28,6 +28,14 @@ pub fn filled(alloc: Global, text: &str, round: Round) -> Result<String, Memory>
         }
     }
     Ok(out)
+}
+
+/// The same, also if memory is refused to it once.
+pub fn filled_at_last(alloc: Global, text: &str, round: Round) -> Result<String, Memory> {
+    match filled(alloc, text, round) {
+        Err(Memory) => filled(alloc, text, round),
+        made => made,
+    }
 }
 
 fn fill_list(out: &mut String, list: &str, round: Round) -> Result<(), Memory> {
@@ -90,6 +98,9 @@ fn term_of(term: &str, round: Round) -> i64 {
     match term {
         "n" => i64::from(round.n),
         "m" => i64::from(round.m),
-        _ => term.parse().unwrap_or(-1),
+        _ => match term.parse::<u32>() {
+            Ok(number) => i64::from(number),
+            Err(_) => -1,
+        },
     }
 }

@@ -1,7 +1,7 @@
 //! Systems that issue what a case lists.
 ghost use Rattle.ent_queue.specs.Commands.{IsReady, Extends};
 
-use crate::call::Call;
+use crate::call::{Call, component};
 use crate::phase::issue;
 use crate::writing::Out;
 use ent_handle::{ComponentId, Memory};
@@ -57,13 +57,12 @@ fn run(
         _ => {
             let mut out = Out::new(alloc);
             issue(alloc, commands, &call, &mut out);
+            if out.text.as_str() == "out of memory" {
+                return Err(Memory);
+            }
             Ok(())
         }
     }
-}
-
-fn component(number: u32) -> ComponentId {
-    ComponentId(number.min(255) as u8)
 }
 
 #[tactic(auto, using(ent_queue::proofs::Extending::extends_nothing, ent_queue::proofs::Extending::extends_then))]

@@ -1,7 +1,8 @@
 //! Runs the cases of `data/`: calls, each with what it has to return. It fails if any returns
 //! something else.
 //!
-//! The files lie in the folder that the program runs in. Its words name them.
+//! The files lie in the folder that the program runs in. Its words name them. Memory that is refused
+//! once is asked for again, so a run whose file allows it ends as one to which none is refused.
 #![tactic(auto)]
 
 mod allocating;
@@ -28,7 +29,10 @@ use storing::Storing;
 use worlding::Worlding;
 
 fn main(rt: HostRuntime) -> Result<()> {
-    let mut words = env::args(&rt)?;
+    let mut words = match env::args(&rt) {
+        Err(_) => env::args(&rt),
+        words => words,
+    }?;
     let _ = words.next();
     let mut differ = 0;
     for name in words {
@@ -43,7 +47,10 @@ fn compare<R>(rt: &R, name: &str) -> Result<u64>
 where
     R: Files + Print + Threads + Sync + AllocGlobal,
 {
-    let text = std::fs::read_to_string(rt, name)?;
+    let text = match std::fs::read_to_string(rt, name) {
+        Err(_) => std::fs::read_to_string(rt, name),
+        text => text,
+    }?;
     run(rt, name, text.as_str())
 }
 

@@ -96,7 +96,10 @@ fn answer(
     ensures { IsOf shared.now reserver.new }
 {
     match call.name {
-        "begin" => out.done(queues.push(Commands::new(alloc, shared, reserver).finish())),
+        "begin" => match queues.push(Commands::new(alloc, shared, reserver).finish()) {
+            Ok(()) => out.word("done"),
+            Err(_) => out.word("out of memory"),
+        },
         "left" => out.show(&reserver.left()),
         "reserve" => out.given(shared.reserve(reserver)),
         "reserve_many" => match shared.reserve_many(reserver, call.number()) {

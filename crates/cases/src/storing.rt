@@ -31,6 +31,10 @@ impl Layer for Storing {
         None
     }
 
+    fn holds(&mut self, _when: &Call<'_>) -> bool {
+        false
+    }
+
     fn answer(&mut self, call: &Call<'_>, out: &mut Out) {
         match call.name {
             "new" => {
@@ -41,7 +45,7 @@ impl Layer for Storing {
                 self.noted = self.storage.spare();
                 out.word("done");
             }
-            "spare_since" => out.value(change_of(self.noted, self.storage.spare())),
+            "spare_since" => write_change(self.noted, self.storage.spare(), out),
             "born" | "insert" | "despawn" | "reserve" => out.done(change(&mut self.storage, call)),
             "remove" => remove(&mut self.storage, call, out),
             name => match name.strip_suffix("_at") {
@@ -53,9 +57,13 @@ impl Layer for Storing {
 }
 
 /// How much more there is now, or less.
-fn change_of(before: usize, now: usize) -> Option<i64> {
-    let (before, now) = (i64::try_from(before).ok()?, i64::try_from(now).ok()?);
-    now.checked_sub(before)
+fn write_change(before: usize, now: usize, out: &mut Out) {
+    if now < before {
+        out.word("-");
+        out.show(&(before - now));
+    } else {
+        out.show(&(now - before));
+    }
 }
 
 fn change(storage: &mut Storage, call: &Call<'_>) -> Result<(), StorageFault> {

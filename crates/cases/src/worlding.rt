@@ -15,6 +15,9 @@ use ent_world::{Fault, SyncFault, SyncReport, World};
 use std::alloc::Global;
 use std::thread::Threads;
 
+/// What a frame answers whose systems were refused memory.
+const LOST: &str = "out of memory while the systems ran";
+
 /// A world, as calls change it.
 #[derive(Drop)]
 pub struct Worlding {
@@ -29,6 +32,12 @@ pub struct Worlding {
     born: Vec<Handle>,
     /// The faults of the last sync point.
     faults: Vec<Fault>,
+    /// Where that sync point stopped: a system, a command and how many handles of it are done.
+    stop: Option<(usize, usize, usize)>,
+    /// A line has told that place.
+    is_told: bool,
+    /// The last frame that might be lost was.
+    is_lost: bool,
     alloc: Global,
 }
 
@@ -41,6 +50,9 @@ impl Worlding {
             systems: Vec::new(alloc),
             born: Vec::new(alloc),
             faults: Vec::new(alloc),
+            stop: None,
+            is_told: false,
+            is_lost: false,
             alloc,
         }
     }
@@ -59,6 +71,7 @@ impl Worlding {
         match call.name {
             "flush" => self.flush(),
             "apply" => self.apply(),
+            "go_on" => self.go_on(),
             _ => self.apply_from(call.numbers),
         }
     }
@@ -143,15 +156,68 @@ impl Worlding {
 
     /// Goes on with the queues at that handle of that command of that system.
     fn apply_from(&mut self, [system, command, done]: [u32; 3]) -> &'static str {
-        let (system, command, done) = (system as usize, command as usize, done as usize);
+        match self.applied_from(system as usize, command as usize, done as usize) {
+            Some(applied) => self.keep(applied),
+            None => "no such command",
+        }
+    }
+
+    /// What is left of the queues there. `None` if there is no such place, or the world can't go on.
+    fn applied_from(
+        &mut self,
+        system: usize,
+        command: usize,
+        done: usize,
+    ) -> Option<Result<SyncReport, SyncFault>> {
         let Some(world) = &mut self.world else {
-            return "a phase is open";
+            return None;
         };
         if world.needs_flush() || done >= stops_at(&self.queues, system, command) {
-            return "no such command";
+            return None;
         }
-        let applied = world.apply_from(&self.queues, system, command, done);
-        self.keep(applied)
+        Some(world.apply_from(&self.queues, system, command, done))
+    }
+
+    /// Whether the sync point stopped there.
+    fn is_at(&mut self, [system, command, done]: [u32; 3]) -> bool {
+        let is_here = self.stop == Some((system as usize, command as usize, done as usize));
+        self.is_told = self.is_told || is_here;
+        is_here
+    }
+
+    /// Whether there is a world in which so many live.
+    fn lives(&self, count: usize) -> bool {
+        match &self.world {
+            Some(world) => world.len() == count,
+            None => false,
+        }
+    }
+
+    /// Goes on where the sync point stopped, if it did. A line has told that place before.
+    fn go_on(&mut self) -> &'static str {
+        let Some((system, command, done)) = self.stop else {
+            return "done";
+        };
+        if !self.is_told {
+            return "it stopped at no place that is told";
+        }
+        match self.applied_from(system, command, done) {
+            Some(Ok(rest)) => self.keep_rest(&rest),
+            Some(Err(_)) => "out of memory",
+            None => "no such command",
+        }
+    }
+
+    /// Nobody more is born, and there may be more faults.
+    fn keep_rest(&mut self, rest: &SyncReport) -> &'static str {
+        self.stop = None;
+        if !rest.born.is_empty() {
+            return "more are born";
+        }
+        match self.faults.extend_from_slice(&rest.faults) {
+            Ok(()) => "done",
+            Err(_) => "out of memory",
+        }
     }
 
     /// A call of one of the systems.
@@ -203,8 +269,17 @@ impl Worlding {
         }
     }
 
+    pub fn answer_frame<R: Threads + Sync>(&mut self, rt: &R, call: &Call<'_>) -> &'static str {
+        let answer = self.frame(rt, call.number() as usize);
+        if call.name == "frame" {
+            return answer;
+        }
+        self.is_lost = answer == LOST;
+        if self.is_lost { "done" } else { answer }
+    }
+
     /// A frame of the systems that were listed.
-    pub fn frame<R: Threads + Sync>(&mut self, rt: &R, workers: usize) -> &'static str {
+    fn frame<R: Threads + Sync>(&mut self, rt: &R, workers: usize) -> &'static str {
         let Some(world) = &mut self.world else {
             return "a phase is open";
         };
@@ -216,21 +291,44 @@ impl Worlding {
                 self.queues = queues;
                 self.keep(Ok(sync))
             }
-            Err(FrameFault::Memory) => "out of memory before any system ran",
-            Err(FrameFault::Lost) => "out of memory while the systems ran",
-            Err(FrameFault::Sync { .. }) => "the sync point stopped",
+            Err(FrameFault::Memory) => "out of memory",
+            Err(FrameFault::Lost) => LOST,
+            Err(FrameFault::Sync { fault, queues }) => {
+                self.queues = queues;
+                match fault {
+                    SyncFault::FlushMemory => self.apply(),
+                    stopped => self.keep(Err(stopped)),
+                }
+            }
         }
     }
 
+    /// Keeps the report, also that of a sync point which stopped at a command.
     fn keep(&mut self, applied: Result<SyncReport, SyncFault>) -> &'static str {
+        self.stop = None;
+        self.is_told = false;
         match applied {
-            Ok(SyncReport { born, faults }) => {
-                self.born = born;
-                self.faults = faults;
-                "done"
+            Ok(report) => self.keep_report(report),
+            Err(
+                SyncFault::Memory {
+                    system,
+                    command,
+                    done,
+                    so_far,
+                },
+            ) => {
+                self.stop = Some((system, command, done));
+                self.keep_report(so_far)
             }
-            Err(_) => "out of memory",
+            Err(SyncFault::FlushMemory) => "out of memory",
         }
+    }
+
+    fn keep_report(&mut self, report: SyncReport) -> &'static str {
+        let SyncReport { born, faults } = report;
+        self.born = born;
+        self.faults = faults;
+        "done"
     }
 }
 
@@ -239,13 +337,22 @@ impl Layer for Worlding {
         Some(self)
     }
 
+    fn holds(&mut self, when: &Call<'_>) -> bool {
+        match when.name {
+            "at" => self.is_at(when.numbers),
+            "lost" => self.is_lost,
+            "lost_of" => self.is_lost && self.lives(when.number() as usize),
+            _ => !self.is_lost,
+        }
+    }
+
     fn answer(&mut self, call: &Call<'_>, out: &mut Out) {
         if let Some(system) = call.system {
             return self.in_phase(system, call, out);
         }
         match call.name {
             "world" | "open" | "close" | "close_lost" => out.word(self.set_up(call)),
-            "flush" | "apply" | "apply_from" => out.word(self.sync(call)),
+            "flush" | "apply" | "apply_from" | "go_on" => out.word(self.sync(call)),
             "system" | "no_systems" => out.word(self.set_systems(call)),
             _ => self.tell(call, out),
         }
@@ -277,7 +384,8 @@ fn write_list(alloc: Global, call: &Call<'_>, out: &mut Out) {
 fn write_put(alloc: Global, call: &Call<'_>, out: &mut Out) {
     let mut bundle = Bundle::new(alloc);
     for (id, value) in &call.items {
-        if bundle.put(*id, *value).is_err() {
+        // A refused put leaves the bundle as it was, so the next one goes on with it.
+        if bundle.put(*id, *value).is_err() && bundle.put(*id, *value).is_err() {
             out.word("out of memory");
         }
     }

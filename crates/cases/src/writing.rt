@@ -4,7 +4,7 @@ use ent_alloc::Reserved;
 use ent_handle::{Birth, ComponentId, Handle};
 use ent_storage::Items;
 use ent_world::{Fault, FaultKind};
-use std::alloc::Global;
+use std::alloc::{AllocError, Global};
 use std::fmt::Display;
 
 /// What a call returned: words with spaces between them. Of what isn't there it is `none`, and of a
@@ -22,6 +22,18 @@ impl Out {
             text: String::new(alloc),
             is_cut: false,
         }
+    }
+
+    /// With room for a line, also if memory is refused to it once. So nothing of an answer is lost.
+    pub fn with_room(alloc: Global) -> Result<Self, AllocError> {
+        let text = match String::with_capacity(alloc, 4096) {
+            Err(_) => String::with_capacity(alloc, 4096),
+            made => made,
+        }?;
+        Ok(Out {
+            text,
+            is_cut: false,
+        })
     }
 
     pub fn word(&mut self, word: &str) {

@@ -3,7 +3,6 @@ ghost use Rattle.std.specs.Prelude.{◌≡◌, ◌==◌, if◌then◌else◌, []
 
 use spawnrun_lib::{Failed, Sink, Source};
 use std::alloc::Global;
-use std::process::Abort;
 
 /// For a device that never fails.
 pub const NEVER: u64 = u64::MAX;
@@ -86,18 +85,6 @@ impl MemorySink {
             calls,
             failures: 0,
         }
-    }
-
-    /// One that never fails, with room for so many bytes, also if memory is refused to it once.
-    pub fn with_room(rt: &impl Abort, alloc: Global, room: usize) -> Self
-        ensures tells { result.bytes.items ≡ [] }
-        ensures fails_at { result.failures ≡ 0 }
-    {
-        let mut sink = MemorySink::new(alloc, NEVER);
-        if sink.bytes.reserve(room).is_err() {
-            sink.bytes.reserve(room).expect(rt, "memory for the room");
-        }
-        sink
     }
 }
 

@@ -17,7 +17,7 @@ use std::path::{Path, PathBuf};
 const TOPS: &[&str] = &["ent_map", "ent_runner", "ent_total", "ent_trace"];
 
 /// The tests of those crates, and what tests alone use.
-const TESTS: &[&str] = &["cases", "ent_lower_tests", "ent_upper_tests"];
+const TESTS: &[&str] = &["cases", "ent_tests"];
 
 /// A folder of results in the repository. Nothing else stands in it.
 pub struct Target {

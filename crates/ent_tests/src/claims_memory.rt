@@ -1,0 +1,29 @@
+//! Memory that is refused to the beginning of claiming.
+ghost use Rattle.std.specs.Prelude.{All};
+ghost use Rattle.ent_claims.specs.Claims.{IsClaimerOf};
+
+use ent_claims::{Claimer, Claims};
+use ent_handle::Memory;
+use std::process::Abort;
+
+/// Passes whichever single allocation is refused.
+#[test]
+fn a_refused_opening_can_be_tried_again(rt: HostRuntime) {
+    let alloc = rt.alloc();
+    let opened = match Claims::open(alloc, 2, 2) {
+        Ok(opened) => Ok(opened),
+        Err(Memory) => Claims::open(alloc, 2, 2),
+    };
+    let (claims, mut claimers) = opened.expect(&rt, "memory at the second try");
+    let mut first = last(&rt, &claims, &mut claimers);
+    assert!(rt; claimers.len() == 1 && claims.next(&mut first) == Some(0));
+}
+
+/// The last claimer of a list.
+fn last(rt: &impl Abort, claims: &Claims, claimers: &mut Vec<Claimer>) -> Claimer
+    requires { All (IsClaimerOf claims.now) claimers.old.items }
+    ensures { IsClaimerOf claims.now result }
+{
+    let _claims = claims;
+    claimers.pop().expect(rt, "a claimer for each")
+}

@@ -1,0 +1,76 @@
+//! How the faults of requests, queues, sync points and frames read, and what a system makes of one.
+
+use crate::kit::alloc::Global;
+use crate::kit::vec::Vec;
+use crate::proved::ent_handle::Memory;
+use crate::proved::ent_queue::QueueFault;
+use crate::proved::ent_runner::FrameFault;
+use crate::proved::ent_shared::Refused;
+use crate::proved::ent_world::{SyncFault, SyncReport};
+
+const SPACE: QueueFault = QueueFault::Space { wanted: 3, left: 2 };
+
+const QUOTA: QueueFault = QueueFault::Quota { left: 1 };
+
+#[test]
+fn texts_of_refusals() {
+    let space = Refused::Space { wanted: 7, left: 3 };
+    assert_eq!(space.to_string(), "7 wanted and 3 left");
+    let quota = Refused::Quota { left: 1_099_511_627_775 };
+    assert_eq!(quota.to_string(), "the credit left is 1099511627775");
+}
+
+#[test]
+fn a_refusal_ends_no_system() {
+    assert_eq!(SPACE.or_memory(), Ok(()));
+    assert_eq!(QUOTA.or_memory(), Ok(()));
+}
+
+#[test]
+fn want_of_memory_ends_a_system() {
+    assert_eq!(QueueFault::Memory.or_memory(), Err(Memory));
+}
+
+#[test]
+fn texts_of_the_faults_of_a_queue() {
+    assert_eq!(SPACE.to_string(), "3 wanted and 2 left");
+    assert_eq!(QUOTA.to_string(), "the credit left is 1");
+    assert_eq!(QueueFault::Memory.to_string(), "out of memory");
+}
+
+fn at_command(command: usize, system: usize) -> SyncFault {
+    SyncFault::Memory {
+        system,
+        command,
+        done: 7,
+        so_far: SyncReport {
+            born: Vec::new(Global),
+            faults: Vec::new(Global),
+        },
+    }
+}
+
+/// A sync point that stopped, without queues.
+fn stopped(fault: SyncFault) -> FrameFault {
+    FrameFault::Sync {
+        fault,
+        queues: Vec::new(Global),
+    }
+}
+
+#[test]
+fn texts_of_the_faults_of_a_sync_point() {
+    assert_eq!(SyncFault::FlushMemory.to_string(), "out of memory for the flush");
+    let command = "out of memory at command 5 of system 3";
+    assert_eq!(at_command(5, 3).to_string(), command);
+}
+
+#[test]
+fn texts_of_the_faults_of_a_frame() {
+    assert_eq!(FrameFault::Memory.to_string(), "out of memory before any system ran");
+    assert_eq!(FrameFault::Lost.to_string(), "out of memory while the systems ran");
+    let flush = "the sync point stopped: out of memory for the flush";
+    assert_eq!(stopped(SyncFault::FlushMemory).to_string(), flush);
+    let command = "the sync point stopped: out of memory at command 3 of system 5";
+    assert_eq!(stopped(at_command(3, 5)).to_string(), command);
+}

@@ -1,0 +1,9 @@
+//! Single calls of the erased code, and the values that they have to return: those that no line of a
+//! case can write.
+
+mod allocators;
+mod claims;
+mod faults;
+mod handles;
+mod maps;
+mod replays;
