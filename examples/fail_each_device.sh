@@ -1,24 +1,27 @@
 #!/bin/sh
-# Runs the program with each read of its input failing in turn, with its write failing, and with what it says on standard error failing. A
-# read or a write that fails ends it with 4, and then it has written nothing and says `device`. A failure of standard error changes no
-# status. Words that ask for no task use no device but standard error. It needs `cc` on the path, and the program as `.ci/run` or `prove.sh`
-# built it. If it wasn't built, `rt`, which then proves it first.
+# Runs the programs with each read of their input failing in turn, with their write failing, and with what they say on standard error
+# failing, on input that comes in pieces of 7 bytes. A read or a write that fails ends a run with 4, and then it has written nothing and says
+# `device`. Without a failure it ends as its words and its input say. A failure of standard error changes no status. Words that are refused
+# use no device but standard error. Then `tracecheck` runs on a folder, which can't be read, and into a device that is full. It needs `cc` on
+# the path, `/dev/full`, and the programs as `.ci/run` or `prove.sh` built them. If one wasn't built, `rt`, which then proves it first.
 set -eu
 here=$(cd "$(dirname "$0")" && pwd)
 room=$(mktemp -d)
 trap 'rm -rf "$room"' EXIT
-program=$here/../crates/spawnrun/out/spawnrun
-[ -x "$program" ] || (cd "$here/../crates/spawnrun" && rt run >"$room/built" 2>&1)
 cc -O2 -shared -fPIC -o "$room/fail.so" "$here/fail_device.c" -ldl
 
-printf 'alloc\nalloc\nfree 0v1\nflush\n' >"$room/schedule"
-# Two systems that spawn in one frame.
-printf '{"components":["hp"],"frames":[[[{"spawn":{"hp":5}}],[{"spawn":{"hp":7}}]]]}' >"$room/script"
-printf 'al\n' >"$room/no_schedule"
-printf '[]' >"$room/no_script"
-printf 'alloc\n' >"$room/one"
-printf 'alloc_\n' >"$room/none"
-: >"$room/nothing"
+# of PROGRAM: the next runs are its.
+of() {
+    name=$1 program=$here/../crates/$1/out/$1
+    [ -x "$program" ] || (cd "$here/../crates/$1" && rt run </dev/null >"$room/built" 2>&1)
+}
+
+# wrong WHY..: ends the script.
+wrong() {
+    echo "$name $*, and printed and said:"
+    cat "$room/printed" "$room/said"
+    exit 1
+}
 
 # ends STATUS INPUT SETTINGS WORDS..: with these settings of the failing devices the program ends so.
 ends() {
@@ -26,57 +29,104 @@ ends() {
     shift 3
     status=0
     env LD_PRELOAD="$room/fail.so" $settings "$program" "$@" <"$room/$input" >"$room/printed" 2>"$room/said" || status=$?
-    [ "$status" = "$wanted" ] || { echo "spawnrun $* on $input, $settings: status $status, and not $wanted"; exit 1; }
+    [ "$status" = "$wanted" ] || wrong "$* on $input, $settings: status $status, and not $wanted"
+}
+
+# prints TEXT: the last run has printed just that, and has said nothing.
+prints() {
+    printf "$1" | cmp -s - "$room/printed" && [ ! -s "$room/said" ] || wrong "on $input: not as it should"
 }
 
 # fails INPUT SETTINGS WORDS..: so that it ends with 4, has written nothing, and says `device` alone.
 fails() {
     ends 4 "$@"
-    [ ! -s "$room/printed" ] && [ "$(cat "$room/said")" = device ] || { echo "spawnrun on $1, $2: wrong"; cat "$room/said"; exit 1; }
+    [ ! -s "$room/printed" ] && [ "$(cat "$room/said")" = device ] || wrong "on $1, $2: not as it should"
 }
 
-# reads INPUT COUNT TASK: there are so many reads, the last one at the end of the input.
+# reads INPUT COUNT STATUS WORDS..: there are so many reads, each of which fails, and without a failure it ends so. The one at the end of the
+# input is one of them.
 reads() {
-    number=0
-    while [ "$number" -lt "$2" ]; do
-        fails "$1" "READS=$number" "$3"
+    read_from=$1 count=$2 whole=$3 number=0
+    shift 3
+    while [ "$number" -lt "$count" ]; do
+        fails "$read_from" "READS=$number" "$@"
         number=$((number + 1))
     done
-    ends 0 "$1" "READS=$2" "$3"
-    [ -s "$room/printed" ] || { echo "spawnrun $3 on $1: nothing is printed"; exit 1; }
-    echo "spawnrun $3 on $1: each of $2 reads"
+    ends "$whole" "$read_from" "READS=$count" "$@"
+    [ -s "$room/printed" ] || wrong "$* on $read_from: nothing is printed"
+    echo "$name $* on $read_from: each of $count reads, and $whole"
 }
 
-reads schedule 5 replay
-reads script 12 run
-
-# written STATUS INPUT TASK: there is one write, and with it the program ends so.
+# written STATUS INPUT WORDS..: there is one write, and with it the program ends so.
 written() {
-    fails "$2" WRITES=0 "$3"
-    ends "$1" "$2" WRITES=1 "$3"
-    [ -s "$room/printed" ] || { echo "spawnrun $3 on $2: nothing is printed"; exit 1; }
-    echo "spawnrun $3 on $2: the write"
+    whole=$1 written=$2
+    shift 2
+    fails "$written" WRITES=0 "$@"
+    ends "$whole" "$written" WRITES=1 "$@"
+    [ -s "$room/printed" ] || wrong "$* on $written: nothing is printed"
+    echo "$name $* on $written: the write"
 }
 
+# unused WORDS..: words that ask for no task.
+unused() {
+    ends 2 one 'READS=0 WRITES=0' "$@"
+    [ ! -s "$room/printed" ] && [ "$(cat "$room/said")" != device ] || wrong "$*: it uses a device"
+    ends 2 nothing 'WRITES=0 SAYS=0' "$@"
+    echo "$name $*: no device"
+}
+
+printf 'alloc\n' >"$room/one"
+: >"$room/nothing"
+
+of spawnrun
+printf 'alloc\nalloc\nfree 0v1\nflush\n' >"$room/schedule"
+# Two systems that spawn in one frame.
+printf '{"components":["hp"],"frames":[[[{"spawn":{"hp":5}}],[{"spawn":{"hp":7}}]]]}' >"$room/script"
+printf 'al\n' >"$room/no_schedule"
+printf '[]' >"$room/no_script"
+printf 'alloc_\n' >"$room/none"
+reads schedule 5 0 replay
+reads script 12 0 run
 written 0 schedule replay
 written 1 no_schedule replay
 written 0 script run
 written 1 no_script run
-
-# unused WORDS..: words that ask for no task.
-unused() {
-    ends 2 one WRITES=0 "$@"
-    [ ! -s "$room/printed" ] && [ "$(cat "$room/said")" != device ] || { echo "spawnrun $*: it uses a device"; exit 1; }
-    ends 2 nothing 'WRITES=0 SAYS=0' "$@"
-    echo "spawnrun $*: no device"
-}
-
 unused
 unused --help
 unused run --help
 unused replay --help
-
 ends 0 one SAYS=0 replay
 ends 1 none SAYS=0 replay
 ends 4 one 'WRITES=0 SAYS=0' replay
 echo 'a failure of standard error changes no status'
+
+of tracecheck
+# 50 bytes of two callers, in 8 reads, and the one at the end. Where a line ends the check, nothing is read behind it.
+printf 'alloc => 0v1\nreserve 2 1 => 2v1\nreserve 1 1 => 1v1' >"$room/agrees"
+printf 'alloc => 0v1\nfree 0v1 => freed next 0v3\n' >"$room/differs"
+printf 'alloc => 0v1\nx\n' >"$room/refused"
+reads agrees 9 0
+prints 'agrees: 3 lines, 3 handles given\n'
+reads nothing 1 0
+prints 'agrees: 0 lines, 0 handles given\n'
+reads differs 6 1 --slots 2
+prints 'differs line 2: free 0v1 => freed next 0v3, expected freed next 0v2\npool 1v1, cursor 0\n'
+reads refused 3 2
+prints 'refused line 2 word\n'
+written 0 agrees
+written 0 nothing
+written 1 differs --slots 2
+written 2 refused
+unused --slots 0
+ends 2 one '' --slots 0
+printf "error: invalid value '0' for '--slots <N>': 0 is not in 1..=4294967295\n\nFor more information, try '--help'.\n" |
+    cmp -s - "$room/said" || wrong "--slots 0: not as it should"
+
+mkdir "$room/folder"
+fails folder SAYS=9
+echo 'tracecheck on a folder'
+status=0
+"$program" <"$room/agrees" >/dev/full 2>"$room/said" || status=$?
+: >"$room/printed"
+[ "$status" = 4 ] && [ "$(cat "$room/said")" = device ] || wrong "into a device that is full: status $status"
+echo 'tracecheck into a device that is full'
