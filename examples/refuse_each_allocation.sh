@@ -26,6 +26,12 @@ run() {
         "$program" "$@" <"$input" >"$room/printed" 2>"$room/said" || status=$?
 }
 
+# Whether the program has said how what it says undisturbed begins. Without memory it leaves out what was found.
+is_heard() {
+    [ -s "$room/said" ] || [ ! -s "$room/wanted_said" ] || return 1
+    case $(cat "$room/wanted_said") in "$(cat "$room/said")"*) ;; *) return 1 ;; esac
+}
+
 # each INPUT WORDS..: every allocation of that run in turn, until four numbers in a row were not reached, since workers don't always need
 # the same number.
 each() {
@@ -40,7 +46,7 @@ each() {
             beyond=$((beyond + 1))
         elif [ "$status" = 3 ] && [ ! -s "$room/printed" ] && [ "$(cat "$room/said")" = memory ]; then
             beyond=0 memory=$((memory + 1))
-        elif [ "$status" = "$wanted" ] && cmp -s "$room/printed" "$room/wanted" && cmp -s "$room/said" "$room/wanted_said"; then
+        elif [ "$status" = "$wanted" ] && cmp -s "$room/printed" "$room/wanted" && is_heard; then
             beyond=0 undisturbed=$((undisturbed + 1))
         else
             echo "$(basename "$program") $*: allocation $allocation: wrong, status $status"
