@@ -32,8 +32,8 @@ use Rattle.ent_runner.specs.Frame.{view_of}
 use Rattle.ent_runner.proofs.Lists.{all_from_each, all_flat, flat_all}
 use Rattle.ent_script.specs.Script.{Script}
 use Rattle.ent_script.specs.declared.operation.Operation.{Operation}
-use Rattle.ent_script_system.specs.IssuedAlone.{IsGranted, AreGranted}
-use Rattle.ent_script_system.specs.Issuing.{MayIssue}
+use Rattle.ent_script_run.specs.IssuedAlone.{IsGranted, AreGranted}
+use Rattle.ent_script_run.specs.Issuing.{MayIssue}
 use Rattle.ent_script_run.specs.Report.{Execution, AreExecutions, synced}
 use Rattle.ent_script_run.specs.SameReport.{requested_by_operation, HasEnoughSlots}
 use Rattle.ent_script_run.proofs.NoRefusal.{WereGranted}

@@ -14,7 +14,7 @@ use Rattle.ent_script.specs.declared.operation.Operation.{Operation}
 use Rattle.ent_script_run.specs.Report.{Execution, AreExecutions, synced, IsReportOf}
 use Rattle.ent_script_run.specs.Given.{handles_in_run}
 use Rattle.ent_alloc.specs.History.{AreGivenOnce}
-use Rattle.ent_script_report.specs.declared.show.Show.{Show}
+use Rattle.ent_script_run.specs.declared.show.Show.{Show}
 
 more_given : (workers : ℕ) (w : World) (frames : List (List (List Operation)))
     (executions : List Execution) (given : List Handle)

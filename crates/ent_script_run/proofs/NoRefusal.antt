@@ -21,9 +21,9 @@ use Rattle.ent_world.specs.Effects.{after_queues}
 use Rattle.ent_world.specs.Sync.{after_births, sync}
 use Rattle.ent_runner.specs.Frame.{reserved_by}
 use Rattle.ent_script.specs.Script.{Script}
-use Rattle.ent_script_system.specs.IssuedAlone.{IsGranted, AreGranted}
-use Rattle.ent_script_report.specs.declared.show.Show.TheVariants.{Births}
-use Rattle.ent_script_report.specs.FrameText.{kind_text, fault_line, frame_line}
+use Rattle.ent_script_run.specs.IssuedAlone.{IsGranted, AreGranted}
+use Rattle.ent_script_run.specs.declared.show.Show.TheVariants.{Births}
+use Rattle.ent_script_run.specs.FrameText.{kind_text, fault_line, frame_line}
 use Rattle.ent_script_run.specs.Report.{Execution, synced, born_in, frames_text, IsReportOf}
 use Rattle.ent_script_run.specs.SameReport.{IsRefusedRequest, IsLines, TellsNoRefusal}
 

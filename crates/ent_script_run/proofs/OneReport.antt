@@ -3,10 +3,10 @@ use Rattle.std.proofs.Common.{◌≡◌, refl, ap, sym, subst, ◌∙◌, ℕ, L
 use Rattle.ent_world.specs.World.{World, first_world}
 use Rattle.ent_script.specs.Script.{Script}
 use Rattle.ent_script.specs.declared.operation.Operation.{Operation}
-use Rattle.ent_script_system.proofs.OneCourse.{one_course}
-use Rattle.ent_script_report.specs.declared.show.Show.{Show}
-use Rattle.ent_script_report.specs.WorldText.{IsWorldText}
-use Rattle.ent_script_report.proofs.OneText.{one_text}
+use Rattle.ent_script_run.proofs.OneCourse.{one_course}
+use Rattle.ent_script_run.specs.declared.show.Show.{Show}
+use Rattle.ent_script_run.specs.WorldText.{IsWorldText}
+use Rattle.ent_script_run.proofs.OneText.{one_text}
 use Rattle.ent_script_run.specs.Report.{Execution, AreExecutions, synced, last_world, frames_text}
 use Rattle.ent_script_run.specs.Report.{IsReport}
 

@@ -23,8 +23,8 @@ use Rattle.ent_runner.specs.Frame.{IsFrame, queue_at, commands_of}
 use Rattle.ent_runner.proofs.Lists.{sum_map}
 use Rattle.ent_script.specs.declared.operation.Operation.{Operation}
 use Rattle.ent_script.specs.declared.operation.Operation.TheVariants as operation
-use Rattle.ent_script_system.specs.Issuing.{Bindings, names_after, IsSpawn, IsSpawnMany, Issues}
-use Rattle.ent_script_system.specs.Issuing.{IssuesAll, MayIssue}
+use Rattle.ent_script_run.specs.Issuing.{Bindings, names_after, IsSpawn, IsSpawnMany, Issues}
+use Rattle.ent_script_run.specs.Issuing.{IssuesAll, MayIssue}
 use Rattle.ent_script_run.specs.SameReport.{requested_by_operation}
 
 -- ---- sums

@@ -9,10 +9,10 @@ use Rattle.ent_world.specs.declared.fault.Fault.{Fault}
 use Rattle.ent_runner.specs.Frame.{IsFrame, Ends}
 use Rattle.ent_script.specs.Script.{Script}
 use Rattle.ent_script.specs.declared.operation.Operation.{Operation}
-use Rattle.ent_script_system.specs.Issuing.{MayIssue}
-use Rattle.ent_script_report.specs.declared.show.Show.{Show}
-use Rattle.ent_script_report.specs.FrameText.{frame_text}
-use Rattle.ent_script_report.specs.WorldText.{IsWorldText}
+use Rattle.ent_script_run.specs.Issuing.{MayIssue}
+use Rattle.ent_script_run.specs.declared.show.Show.{Show}
+use Rattle.ent_script_run.specs.FrameText.{frame_text}
+use Rattle.ent_script_run.specs.WorldText.{IsWorldText}
 use Rattle.ent_script_run.specs.Report.{Execution, AreExecutions, synced, born_in, last_world}
 use Rattle.ent_script_run.specs.Report.{frames_text, IsReport}
 use Rattle.ent_script_run.specs.Course.{HaveGone}

@@ -16,10 +16,10 @@ use Rattle.ent_world.proofs.GivenOnce.{first_world-sound, first_world-living}
 use Rattle.ent_script.specs.Ranges.{IsScript}
 use Rattle.ent_script.specs.Script.{Script}
 use Rattle.ent_script.specs.declared.operation.Operation.{Operation}
-use Rattle.ent_script_system.specs.FrameAlone.{IsFrameAlone, queues_by_births}
-use Rattle.ent_script_system.specs.IssuedAlone.{NamesNoHandle, AreGranted}
-use Rattle.ent_script_system.proofs.FramesAlone.{frame-alone}
-use Rattle.ent_script_report.specs.declared.show.Show.TheVariants.{Births}
+use Rattle.ent_script_run.specs.FrameAlone.{IsFrameAlone, queues_by_births}
+use Rattle.ent_script_run.specs.IssuedAlone.{NamesNoHandle, AreGranted}
+use Rattle.ent_script_run.proofs.FramesAlone.{frame-alone}
+use Rattle.ent_script_run.specs.declared.show.Show.TheVariants.{Births}
 use Rattle.ent_script_run.specs.Report.{Execution, AreExecutions, synced, IsReportOf, IsReport}
 use Rattle.ent_script_run.specs.SameReport.{IsWithoutHandles, HasEnoughSlots, TellsNoRefusal}
 use Rattle.ent_script_run.specs.ScriptAlone.{text_alone}

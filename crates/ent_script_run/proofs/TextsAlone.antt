@@ -39,11 +39,11 @@ use Rattle.ent_world.specs.Named.{AreNamed, AreNames, IsThere, IsSameFault}
 use Rattle.ent_world.proofs.Named.{entity_there}
 use Rattle.ent_world.proofs.NamedLists.{listed-named}
 use Rattle.ent_script.specs.declared.operation.Operation.{Operation}
-use Rattle.ent_script_system.specs.FrameAlone.{IsFrameAlone, queues_by_births}
-use Rattle.ent_script_report.specs.declared.show.Show.TheVariants.{Births}
-use Rattle.ent_script_report.specs.FrameText.{kind_text, fault_line, frame_line, frame_text}
-use Rattle.ent_script_report.specs.WorldText.{IsWorldText, line_in, entity_line, alive_line}
-use Rattle.ent_script_report.specs.WorldText.{birth_text, item_text}
+use Rattle.ent_script_run.specs.FrameAlone.{IsFrameAlone, queues_by_births}
+use Rattle.ent_script_run.specs.declared.show.Show.TheVariants.{Births}
+use Rattle.ent_script_run.specs.FrameText.{kind_text, fault_line, frame_line, frame_text}
+use Rattle.ent_script_run.specs.WorldText.{IsWorldText, line_in, entity_line, alive_line}
+use Rattle.ent_script_run.specs.WorldText.{birth_text, item_text}
 use Rattle.ent_script_run.specs.Report.{Execution, synced, born_in, last_world, frames_text}
 use Rattle.ent_script_run.specs.ScriptAlone.{birth_fault_line, birth_line, frame_text_alone}
 use Rattle.ent_script_run.specs.ScriptAlone.{text_from}

@@ -8,7 +8,7 @@ use Rattle.ent_script.specs.Script.{Script}
 use Rattle.ent_script.specs.declared.operation.Operation.{Operation}
 use Rattle.ent_script.specs.declared.operation.Operation.TheVariants as operation
 use Rattle.ent_script.specs.declared.target.Target.TheVariants as target
-use Rattle.ent_script_system.specs.IssuedAlone.{NamesNoHandle, NeedsNoHandle}
+use Rattle.ent_script_run.specs.IssuedAlone.{NamesNoHandle, NeedsNoHandle}
 use Rattle.ent_world.specs.declared.fault.FaultKind.TheVariants as kind
 use Rattle.ent_script_run.specs.SameReport.{IsWithoutHandles, TellsNoRefusal, requested_in_all}
 

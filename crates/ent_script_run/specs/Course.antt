@@ -3,7 +3,7 @@ use Rattle.std.specs.Prelude.{◌≡◌, ℕ, ◌≤◌, List, length}
 use Rattle.std.specs.List.{All}
 use Rattle.ent_world.specs.World.{World}
 use Rattle.ent_script.specs.declared.operation.Operation.{Operation}
-use Rattle.ent_script_report.specs.declared.show.Show.{Show}
+use Rattle.ent_script_run.specs.declared.show.Show.{Show}
 use Rattle.ent_script_run.specs.Report.{Execution, AreExecutions, last_world, frames_text}
 
 -- These frames were run from the first world on, and have left this world and this text.

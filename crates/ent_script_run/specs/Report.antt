@@ -10,10 +10,10 @@ use Rattle.ent_world.specs.World.{World, first_world}
 use Rattle.ent_runner.specs.Frame.{IsFrame, reserved_by}
 use Rattle.ent_script.specs.Script.{Script}
 use Rattle.ent_script.specs.declared.operation.Operation.{Operation}
-use Rattle.ent_script_system.specs.Issuing.{MayIssue}
-use Rattle.ent_script_report.specs.declared.show.Show.{Show}
-use Rattle.ent_script_report.specs.FrameText.{frame_text}
-use Rattle.ent_script_report.specs.WorldText.{IsWorldText}
+use Rattle.ent_script_run.specs.Issuing.{MayIssue}
+use Rattle.ent_script_run.specs.declared.show.Show.{Show}
+use Rattle.ent_script_run.specs.FrameText.{frame_text}
+use Rattle.ent_script_run.specs.WorldText.{IsWorldText}
 
 -- How a frame went: the queues of its systems, and all reservations in one order.
 pub record Execution : Type 0 where

@@ -8,9 +8,9 @@ use Rattle.ent_world.specs.declared.fault.FaultKind.TheVariants as kind
 use Rattle.ent_script.specs.Script.{Script}
 use Rattle.ent_script.specs.declared.operation.Operation.{Operation}
 use Rattle.ent_script.specs.declared.operation.Operation.TheVariants as operation
-use Rattle.ent_script_system.specs.IssuedAlone.{NamesNoHandle}
-use Rattle.ent_script_report.specs.declared.show.Show.TheVariants.{Births}
-use Rattle.ent_script_report.specs.FrameText.{fault_line}
+use Rattle.ent_script_run.specs.IssuedAlone.{NamesNoHandle}
+use Rattle.ent_script_run.specs.declared.show.Show.TheVariants.{Births}
+use Rattle.ent_script_run.specs.FrameText.{fault_line}
 
 -- ---- of a script
 

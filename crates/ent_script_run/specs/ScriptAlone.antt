@@ -1,6 +1,6 @@
 -- Births alone: the text of a script if nothing is refused to it, told by births. There is no
 -- handle in it, no allocator, no reservation and no worker. What the systems issue is in
--- `IssuedAlone` of `ent_script_system`, and what the commands do in `BirthsAlone` of `ent_world`.
+-- `IssuedAlone`, and what the commands do in `BirthsAlone` of `ent_world`.
 use Rattle.std.specs.Prelude.{ℕ, ◌+◌, List, [], ◌∷◌, ◌++◌, length, codes}
 use Rattle.std.specs.Fmt.{decimal}
 use Rattle.std.specs.List.{flat_map}
@@ -10,9 +10,9 @@ use Rattle.ent_world.specs.BirthsAlone.{BirthMap, BirthCommand, BirthFault, Appl
 use Rattle.ent_world.specs.BirthsAlone.{births_in, frame_alone}
 use Rattle.ent_script.specs.Script.{Script}
 use Rattle.ent_script.specs.declared.operation.Operation.{Operation}
-use Rattle.ent_script_system.specs.IssuedAlone.{queues_alone}
-use Rattle.ent_script_report.specs.FrameText.{frame_line}
-use Rattle.ent_script_report.specs.WorldText.{birth_text, item_text, alive_line}
+use Rattle.ent_script_run.specs.IssuedAlone.{queues_alone}
+use Rattle.ent_script_run.specs.FrameText.{frame_line}
+use Rattle.ent_script_run.specs.WorldText.{birth_text, item_text, alive_line}
 
 abbrev pub birth_fault_line : BirthFault → List ℕ
 birth_fault_line fault =

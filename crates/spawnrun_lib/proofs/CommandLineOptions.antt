@@ -19,8 +19,8 @@ use Rattle.clap.specs.Walk.{finished, walk, answers_to, nothing_held, rows_after
 use Rattle.clap.specs.Faults.{check_fault, entered_fault, level_fault}
 use Rattle.clap.specs.declared.builder.value_parser.ValueParser.TheVariants.{Signed}
 use Rattle.clap.proofs.ValueTestLemmas.{accepts-Accepts}
-use Rattle.ent_script_report.specs.declared.Show.{Show}
-use Rattle.ent_script_report.specs.declared.Show.TheVariants.{Births, Handles}
+use Rattle.ent_script_run.specs.declared.Show.{Show}
+use Rattle.ent_script_run.specs.declared.Show.TheVariants.{Births, Handles}
 use Rattle.std.specs.Borrow.{Bor}
 use Rattle.std.specs.Str.{bytes_eq}
 use Rattle.std.proofs.lemmas.Slice.Eq.{bytes_eq-Decides}

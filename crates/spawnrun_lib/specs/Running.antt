@@ -4,8 +4,8 @@ use Rattle.ent_script.specs.Reading.{script_of_text}
 use Rattle.ent_script.specs.Refusal.{refusal_line}
 use Rattle.ent_script.specs.Script.{Script}
 use Rattle.ent_script.specs.declared.ReadFault.{ReadFault}
-use Rattle.ent_script_report.specs.declared.Show.{Show}
-use Rattle.ent_script_report.specs.declared.Show.TheVariants.{Births}
+use Rattle.ent_script_run.specs.declared.Show.{Show}
+use Rattle.ent_script_run.specs.declared.Show.TheVariants.{Births}
 use Rattle.ent_alloc.specs.History.{AreGivenOnce}
 use Rattle.ent_script_run.specs.Given.{handles_in_run}
 use Rattle.ent_script_run.specs.Report.{Execution, IsReport, IsReportOf}

@@ -12,7 +12,7 @@ ghost use Rattle.spawnrun_lib.specs.CommandLine.{show_text, top_command};
 use clap::error::ErrorKind;
 use clap::{Arg, ArgMatches, Command};
 use ent_alloc::Limits;
-use ent_script_report::Show;
+use ent_script_run::Show;
 use std::alloc::{AllocError, Global};
 use std::convert::AsStr;
 

@@ -3,7 +3,7 @@
 use ent_alloc::Limits;
 use ent_handle::{Birth, ComponentId, Handle, Memory};
 use ent_queue::Bundle;
-use ent_script_report::{Show, write_frame, write_world};
+use ent_script_run::{Show, write_frame, write_world};
 use ent_world::{Fault, FaultKind, SyncReport, World};
 use std::alloc::Global;
 

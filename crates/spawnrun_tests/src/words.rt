@@ -1,5 +1,5 @@
 use ent_alloc::Limits;
-use ent_script_report::Show;
+use ent_script_run::Show;
 use spawnrun_lib::{Task, command_line};
 use std::test::Fail;
 

@@ -1,7 +1,7 @@
 use Rattle.std.proofs.Common.{◌+◌, ℕ, List, subst, sym, take}
 use Rattle.ent_runner.specs.Frame.{Ends}
 use Rattle.ent_script.specs.declared.operation.Operation.{Operation}
-use Rattle.ent_script_system.specs.Issuing.{MayIssue}
+use Rattle.ent_script_run.specs.Issuing.{MayIssue}
 use Rattle.ent_script_run.specs.Course.{HaveGone}
 use Rattle.ent_script_run.proofs.Running.{has_run}
 use Rattle.ent_script_run.proofs.run.run_frames.Goals as goal

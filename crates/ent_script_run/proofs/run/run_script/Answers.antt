@@ -1,5 +1,5 @@
 use Rattle.std.proofs.Common.{ℕ, subst}
-use Rattle.ent_script_report.specs.declared.show.Show.{Show}
+use Rattle.ent_script_run.specs.declared.show.Show.{Show}
 use Rattle.std.proofs.lemmas.Result.{IfOk-weaker}
 use Rattle.ent_script_run.specs.Report.{IsReport}
 use Rattle.ent_script_run.proofs.OneReport.{one_report}

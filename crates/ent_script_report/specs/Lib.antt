@@ -1,2 +1,0 @@
-pub mod FrameText
-pub mod WorldText

@@ -1,0 +1,270 @@
+-- A frame of scripted systems does to births alone what it does to the world, on every number of
+-- workers, if no request was refused and the systems name no handles.
+use Rattle.std.proofs.Common.{◌≡◌, refl, sym, ap, ◌∙◌, subst, ℕ, suc, ◌+◌, ◌^◌, ◌<◌, ◌≤◌}
+use Rattle.std.proofs.Common.{true, List, [], ◌∷◌, map, length, All, slice_get, flat_map}
+use Rattle.std.proofs.Common.{Option, Some, None, is_some, option_map, unwrap_or, cond, arith}
+use Rattle.std.proofs.Common.{IsSomeAnd}
+use Rattle.std.specs.FinMap as finite
+use Rattle.std.specs.FinMap.{find}
+use Rattle.std.proofs.Math.Nat.{min-eq_left}
+use Rattle.std.proofs.lemmas.List.{length-append, length-map}
+use Rattle.std.proofs.lemmas.List.Elements.{All-nil, All-cons, All-head, All-tail, All-weaker}
+use Rattle.std.proofs.lemmas.List.Elements.{All-contains_itself}
+use Rattle.std.proofs.lemmas.List.Sorted.{IsPermutation-sym, IsPermutation-trans}
+use Rattle.std.proofs.lemmas.List.Sorted.{length_permutation}
+use Rattle.std.proofs.lemmas.Option.{none-some, same_Some}
+use Rattle.ent_handle.specs.declared.birth.Birth.{Birth}
+use Rattle.ent_handle.specs.declared.component.ComponentId.{ComponentId}
+use Rattle.ent_handle.specs.Birth.{birth_cmp}
+use Rattle.ent_handle.specs.Component.{component_cmp}
+use Rattle.ent_handle.specs.Handle.{Handle}
+use Rattle.ent_alloc.specs.Sequential.{born}
+use Rattle.ent_alloc.specs.History.{Call, after_history, given_in}
+use Rattle.ent_alloc.proofs.Histories.{given_in-taken}
+use Rattle.ent_storage.specs.BirthOrder.{ListsWith}
+use Rattle.ent_storage.specs.EntityMap.{Entity, EntityMap, birth_of}
+use Rattle.ent_bundle.specs.Bundle.{Bundle}
+use Rattle.ent_queue.specs.Command.{Command}
+use Rattle.ent_world.specs.BirthsAlone.{BirthMap}
+use Rattle.ent_world.specs.Effects.{applied}
+use Rattle.ent_world.specs.Named.{AreNamed, AreNames, AreNamedBy, AreBelow}
+use Rattle.ent_world.specs.Named.{AreListed, IsThere}
+use Rattle.ent_world.specs.Sync.{sync, after_births, handles_listed}
+use Rattle.ent_world.specs.World.{World, IsWorld}
+use Rattle.ent_world.proofs.GivenOnce.{IsFlushed, flushed-kept}
+use Rattle.ent_world.proofs.Kept.{IsKept, after_queues-keeps}
+use Rattle.ent_world.proofs.NamedFrames.{frame-named, queues_births, sync-below}
+use Rattle.ent_world.proofs.NamedLists.{listed-named}
+use Rattle.ent_world.proofs.Worlds.{after_births-world, after_history-world}
+use Rattle.ent_runner.specs.Frame.{IsFrame, queue_at, reserved_by, view_of}
+use Rattle.ent_runner.proofs.ListedBirths.{listed-few, listed-enters, listed-new}
+use Rattle.ent_runner.proofs.ListedBirths.{unlisted-stays}
+use Rattle.ent_runner.proofs.ListedOnce.{Lists, listed-IsPermutation, listed-born}
+use Rattle.ent_runner.proofs.Lists.{map_map_is}
+use Rattle.ent_script.specs.declared.operation.Operation.{Operation}
+use Rattle.ent_script.specs.declared.target.Target.TheVariants as target
+use Rattle.ent_script_run.specs.Issuing.{IsOfBirth, MayIssue}
+use Rattle.ent_script_run.specs.IssuedAlone.{births_meant, queues_alone, NamesNoHandle}
+use Rattle.ent_script_run.specs.IssuedAlone.{IsGranted, AreGranted}
+use Rattle.ent_script_run.specs.FrameAlone.{IsFrameAlone, queues_by_births}
+use Rattle.ent_script_run.proofs.QueuesAlone.{AreInOrder, queue-alone}
+
+-- no queue lists more handles than all queues together
+each_few : (most : ℕ) (queues : List (List Command))
+    → length (flat_map handles_listed queues) ≤ most
+    → All (λ queue. length (handles_listed queue) ≤ most) queues
+each_few most [] few = All-nil (λ queue. length (handles_listed queue) ≤ most)
+each_few most (q ∷ queues) few =
+    let both = length-append (handles_listed q) (flat_map handles_listed queues) in
+    All-cons (λ queue. length (handles_listed queue) ≤ most) q queues (omega arith)
+    (each_few most queues (omega arith))
+
+-- the number of the phase stays
+phase-kept : (phase : ℕ) → IsKept (λ w. w.phase ≡ phase)
+phase-kept phase = record {
+  components = λ change h w there before. before;
+  despawn = λ h w there before. before;
+}
+
+-- an entity that has a birth is there
+entity_at : (m : EntityMap) (h : Handle) (birth : Birth) → birth_of m h ≡ Some birth
+    → (e : Entity) × (finite.get m h ≡ Some e) × (e.birth ≡ birth)
+entity_at m h birth is = by (finite.get m h) refl is
+  where
+    by : (o : Option Entity) → finite.get m h ≡ o → option_map (λ e. e.birth) o ≡ Some birth
+        → (e : Entity) × (finite.get m h ≡ Some e) × (e.birth ≡ birth)
+    by None at none = absurd (none-some birth none)
+    by (Some e) at some = (e, at, same_Some _ _ some)
+
+module _ (systems : List (List Operation)) (workers : ℕ) (w : World)
+    (queues : List (List Command)) (history : List Call) (view : BirthMap)
+    (frame : IsFrame MayIssue systems workers w queues history) (is_world : IsWorld w)
+    (flushed : w.allocator.asked ≡ 0) (named : AreNamed w.entities view)
+    (below : AreBelow w.phase w.entities) (early : w.phase + 1 < 2 ^ 64)
+    (free : All NamesNoHandle systems) (granted : AreGranted queues) where
+  abbrev reserved : World
+  reserved = reserved_by history w
+
+  abbrev all_born : EntityMap
+  all_born = (after_births queues reserved).entities
+
+  is_reserved : IsWorld reserved
+  is_reserved = after_history-world history w is_world
+
+  -- the name of a handle is its birth, if it is there after the births
+  name : Handle → Birth
+  name h = unwrap_or (birth_of all_born h) (record { frame = 0; system = 0; ordinal = 0 })
+
+  names : AreNames name all_born
+  unfolding name
+  names h e is = ap (λ o. unwrap_or (option_map (λ e. e.birth) o)
+      (record { frame = 0; system = 0; ordinal = 0 })) is
+
+  -- who was there has not changed
+  stays : (h : Handle) (e : Entity) → finite.get w.entities h ≡ Some e
+      → finite.get all_born h ≡ Some e
+  stays h e is =
+      unlisted-stays MayIssue systems workers w queues history frame is_world.sound flushed h
+      (λ listed. none-some e (sym (listed-new MayIssue systems workers w queues history frame
+      is_world.sound flushed is_world.living listed.0 listed.1 h listed.3) ∙ is))
+      ∙ is
+
+  old_names : AreNames name w.entities
+  old_names h e is = names h e (stays h e is)
+
+  old_there : (h : Handle) → IsThere w.entities h → IsThere all_born h
+  old_there h there = by (finite.get w.entities h) refl there
+    where
+      by : (o : Option Entity) → finite.get w.entities h ≡ o → is_some o ≡ true
+          → IsThere all_born h
+      by None is some = cc
+      by (Some e) is some = ap is_some (stays h e is)
+
+  -- a handle that a queue lists is there, with the birth of its position
+  placed : (system k : ℕ) (h : Handle) → Lists queues system k h → IsThere all_born h
+      × (name h ≡ record { frame = w.phase; system = system; ordinal = k })
+  placed system k h at =
+      let there = listed-enters MayIssue systems workers w queues history frame is_world.sound
+      flushed system k h at in
+      (ap is_some there, names h _ there)
+
+  in_order : (system k : ℕ) (hs : List Handle) → ((j : ℕ) (h : Handle) → slice_get hs j ≡ Some h
+      → IsThere all_born h
+      × (name h ≡ record { frame = w.phase; system = system; ordinal = k + j }))
+      → AreInOrder name all_born w.phase system k hs
+  in_order system k [] at = tt
+  in_order system k (h ∷ hs) at =
+      let same : k + 0 ≡ k = omega arith in
+      let first = at 0 h refl in (
+        first.0,
+        first.1 ∙ ap (λ n. record { frame = w.phase; system = system; ordinal = n }) same,
+        in_order system (k + 1) hs (λ j g is.
+            let next : k + suc j ≡ (k + 1) + j = omega arith in
+            let one = at (suc j) g is in (
+              one.0,
+              one.1 ∙ ap (λ n. record { frame = w.phase; system = system; ordinal = n }) next,
+            )),
+      )
+
+  -- the entities of an `each`, in the order of births
+  each_named : (id : ComponentId) (hs : List Handle) → ListsWith id w.entities hs
+      → All (IsThere all_born) hs
+      × (births_meant view (λ n. []) (target.Each id) ≡ map name hs)
+  each_named id hs lists = (
+    All-weaker _ (IsThere all_born) (λ h has. old_there h (there_of _ (finite.get w.entities h)
+        ((lists.holds h).0 has))) hs (All-contains_itself hs),
+    ap (map (λ entity. entity.0)) (sym (listed-named name w.entities view named old_names
+        (λ e. finite.contains_key e.components id)
+        (λ items. is_some (find component_cmp id items))
+        (λ e. ap is_some (finite.get-entries e.components id)) hs lists))
+        ∙ map_map_is (λ entity. entity.0) _ hs,
+  )
+    where
+      there_of : (P : Entity → Type 0) (o : Option Entity) → IsSomeAnd o P → is_some o ≡ true
+      there_of P None none = absurd none
+      there_of P (Some e) is = refl
+
+  -- the entity of a birth
+  birth_named : (birth : Birth) (hs : List Handle) → IsOfBirth (view_of w) birth hs
+      → All (IsThere all_born) hs
+      × (births_meant view (λ n. []) (target.Birth birth) ≡ map name hs)
+  birth_named birth [] none = (All-nil (IsThere all_born), nobody (find birth_cmp birth view) refl)
+    where
+      nobody : (o : Option Bundle) → find birth_cmp birth view ≡ o
+          → cond (is_some o) (birth ∷ []) [] ≡ []
+      nobody None e = refl
+      nobody (Some items) e = let one = named.only birth items e in absurd (none one.0 one.1)
+  birth_named birth (h ∷ []) (own, least) =
+      let e = entity_at w.entities h birth own in
+      let same : name h ≡ birth = old_names h e.0 e.1 ∙ e.2 in
+      let there = ap (λ b. find birth_cmp b view) (sym e.2) ∙ named.there h e.0 e.1 in (
+        All-cons (IsThere all_born) h [] (old_there h (ap is_some e.1))
+            (All-nil (IsThere all_born)),
+        ap (λ o. cond (is_some o) (birth ∷ []) []) there ∙ ap (λ b. b ∷ []) (sym same),
+      )
+  birth_named birth (h ∷ k ∷ hs) none = absurd none
+
+  -- each system's queue, from a system on
+  all_named : (system : ℕ) (qs : List (List Command)) (ss : List (List Operation))
+      → length qs ≡ length ss → All NamesNoHandle ss → All (All IsGranted) qs
+      → ((n : ℕ) (ops : List Operation) → slice_get ss n ≡ Some ops
+      → MayIssue ops (view_of w) (queue_at qs n))
+      → ((n k : ℕ) (h : Handle) → Lists qs n k h → IsThere all_born h
+      × (name h ≡ record { frame = w.phase; system = system + n; ordinal = k }))
+      → AreNamedBy name all_born qs (queues_alone w.phase system view ss)
+  all_named system [] [] same free granted may at = tt
+  all_named system [] (ops ∷ ss) same free granted may at = absurd (omega arith)
+  all_named system (q ∷ qs) [] same free granted may at = absurd (omega arith)
+  all_named system (q ∷ qs) (ops ∷ ss) same free granted may at =
+      let here : system + 0 ≡ system = omega arith in (
+        queue-alone name all_born w.phase system (view_of w) view each_named birth_named ops q
+            (in_order system 0 (handles_listed q) (λ j h is.
+            let one = at 0 j h is in
+            let own : j ≡ 0 + j = omega arith in (
+              one.0,
+              one.1 ∙ (λ i. record { frame = w.phase; system = here i; ordinal = own i }),
+            )))
+            (All-head (All IsGranted) q qs granted) (All-head NamesNoHandle ops ss free)
+            (may 0 ops refl),
+        all_named (system + 1) qs ss (omega arith) (All-tail NamesNoHandle ops ss free)
+            (All-tail (All IsGranted) q qs granted) (λ n. may (suc n))
+            (λ n k h is.
+            let next : system + suc n ≡ (system + 1) + n = omega arith in
+            let one = at (suc n) k h is in (
+              one.0,
+              one.1 ∙ ap (λ s. record { frame = w.phase; system = s; ordinal = k }) next,
+            )),
+      )
+
+  are_named : AreNamedBy name all_born queues (queues_by_births w view systems)
+  are_named = all_named 0 queues systems frame.count free granted frame.each_system
+      (λ n k h is.
+      let same : n ≡ 0 + n = omega arith in
+      let one = placed n k h is in
+      (one.0, one.1 ∙ ap (λ s. record { frame = w.phase; system = s; ordinal = k }) same))
+
+  -- the queues list just what is reserved, each handle once
+  are_listed : AreListed queues reserved.allocator
+  are_listed =
+      let all : List Handle = flat_map handles_listed queues in
+      let taken : List Handle = (after_history w.allocator history).taken in
+      let few : length all < 2 ^ 32 = listed-few MayIssue systems workers w queues history frame
+      is_world.sound flushed in
+      record {
+        listed = IsPermutation-sym all taken (IsPermutation-trans all (given_in history) taken
+            (listed-IsPermutation MayIssue systems workers w queues history frame)
+            (given_in-taken w.allocator history is_world.sound frame.legal flushed));
+        ordinals = each_few (2 ^ 32) queues (omega arith);
+      }
+
+  -- ---- the world after it
+
+  synced : IsFlushed (sync queues reserved).world
+  synced =
+      let born_world = after_births-world queues reserved is_reserved in
+      after_queues-keeps IsFlushed flushed-kept 0 queues
+      (applied (after_births queues reserved) [])
+      (record { asked = refl; sound = born_world.sound; living = born_world.living })
+
+  next_number : (sync queues reserved).world.phase ≡ w.phase + 1
+  next_number = after_queues-keeps (λ w'. w'.phase ≡ w.phase + 1) (phase-kept (w.phase + 1)) 0
+      queues (applied (after_births queues reserved) []) (min-eq_left (omega arith))
+
+  pub frame-alone : IsFrameAlone w queues history systems view
+  frame-alone = record {
+    name = name;
+    after = frame-named queues reserved view is_reserved named below are_listed name names
+        (queues_by_births w view systems) are_named;
+    born_are =
+        length_permutation (flat_map handles_listed queues)
+        (born (after_history w.allocator history))
+        (listed-born MayIssue systems workers w queues history frame is_world.sound flushed)
+        ∙ sym (length-map (flat_map handles_listed queues) name)
+        ∙ ap length (sym (queues_births name all_born queues (queues_by_births w view systems)
+        are_named));
+    world = record { sound = synced.sound; living = synced.living };
+    flushed = synced.asked;
+    phase = next_number;
+    below = subst (λ n. AreBelow n (sync queues reserved).world.entities) (sym next_number)
+        (sync-below queues reserved below);
+  }

@@ -1,0 +1,86 @@
+-- A system whose first operations have run.
+use Rattle.std.proofs.Common.{◌≡◌, refl, ap, sym, subst, ◌∙◌, ℕ, ◌+◌, ◌<◌, List, [], ◌∷◌, ◌++◌}
+use Rattle.std.proofs.Common.{length, get_or, drop, inl, inr}
+use Rattle.std.proofs.Common.{append_assoc, append-nil}
+use Rattle.std.proofs.lemmas.List.{drop_more}
+use Rattle.ent_handle.specs.Handle.{Handle}
+use Rattle.ent_queue.specs.Command.{Command}
+use Rattle.ent_queue.specs.Commands.{Issued, queue_of}
+use Rattle.ent_world.specs.OpenWorld.{View}
+use Rattle.ent_script.specs.declared.operation.Operation.{Operation}
+use Rattle.ent_script_run.specs.Issuing.{Bindings, unbound, IssuesAll, MayIssue, StopsAmong}
+use Rattle.ent_script_run.specs.Issuing.{MayStop}
+use Rattle.ent_script_run.specs.Parts.{names_of, HasIssued, HasStopped}
+
+-- The first i operations have issued what was added; whatever the others may issue, all may issue
+-- both.
+pub record HasRun (view : View) (ops : List Operation) (i : ℕ) (names : Bindings)
+    (start now : List Command) : Type 0 where
+  pub added : List Command
+  pub queue : now ≡ start ++ added
+  pub rest : (cs : List Command) → IssuesAll view names (drop i ops) cs → IssuesAll view unbound ops
+      (added ++ cs)
+  pub stop : (cs : List Command) → StopsAmong view names (drop i ops) cs
+      → StopsAmong view unbound ops (added ++ cs)
+
+pub has_begun : (view : View) (ops : List Operation) (start : List Command)
+    (lists : List (List Handle)) → lists ≡ [] → HasRun view ops 0 (names_of lists) start start
+has_begun view ops start lists none =
+    let names : names_of lists ≡ unbound = ap names_of none in
+    record {
+      added = [];
+      queue = sym (append-nil start);
+      rest = λ cs may. subst (λ (n : Bindings). IssuesAll view n ops cs) names may;
+      stop = λ cs may. subst (λ (n : Bindings). StopsAmong view n ops cs) names may;
+    }
+
+pub has_gone_on : (view : View) (ops : List Operation) (i : ℕ) (op : Operation)
+    (start : List Command) (before after : Issued) (lists lists_after : List (List Handle)) → i
+    < length ops → op ≡ get_or ops i op → HasRun view ops i (names_of lists) start (queue_of before)
+    → HasIssued view op before after lists lists_after
+    → HasRun view ops (i + 1) (names_of lists_after) start (queue_of after)
+has_gone_on view ops i op start before after lists lists_after within is run step =
+    let from : drop i ops ≡ op ∷ drop (i + 1) ops = drop_more ops i op within
+    ∙ ap (λ (o : Operation). o ∷ drop (i + 1) ops) (sym is) in
+    record {
+      added = run.added ++ step.issued;
+      queue = step.queue ∙ ap (λ (q : List Command). q ++ step.issued) run.queue
+          ∙ append_assoc start run.added step.issued;
+      rest = λ cs may.
+          let names = subst (λ (n : Bindings). IssuesAll view n (drop (i + 1) ops) cs) step.names
+          may in
+          subst (λ (q : List Command). IssuesAll view unbound ops q)
+          (sym (append_assoc run.added step.issued cs))
+          (run.rest (step.issued ++ cs)
+          (subst (λ (os : List Operation). IssuesAll view (names_of lists) os (step.issued
+          ++ cs)) (sym from) (step.issued, cs, refl, step.may, names)));
+      stop = λ cs may.
+          let names = subst (λ (n : Bindings). StopsAmong view n (drop (i + 1) ops) cs) step.names
+          may in
+          subst (λ (q : List Command). StopsAmong view unbound ops q)
+          (sym (append_assoc run.added step.issued cs))
+          (run.stop (step.issued ++ cs)
+          (subst (λ (os : List Operation). StopsAmong view (names_of lists) os (step.issued
+          ++ cs)) (sym from) (inr (step.issued, cs, refl, step.may, names))));
+    }
+
+pub has_stopped : (view : View) (ops : List Operation) (i : ℕ) (op : Operation)
+    (start : List Command) (before after : Issued) (lists : List (List Handle)) → i < length ops
+    → op ≡ get_or ops i op → HasRun view ops i (names_of lists) start (queue_of before)
+    → start ≡ [] → HasStopped view op before after lists → MayStop ops view (queue_of after)
+has_stopped view ops i op start before after lists within is run empty stopped =
+    let from : drop i ops ≡ op ∷ drop (i + 1) ops = drop_more ops i op within
+    ∙ ap (λ (o : Operation). o ∷ drop (i + 1) ops) (sym is) in
+    subst (λ (q : List Command). StopsAmong view unbound ops q)
+    (sym (stopped.queue ∙ ap (λ (q : List Command). q ++ stopped.issued)
+    (run.queue ∙ ap (λ (q : List Command). q ++ run.added) empty)))
+    (run.stop stopped.issued (subst (λ (os : List Operation). StopsAmong view (names_of lists) os
+    stopped.issued) (sym from) (inl stopped.may)))
+
+pub has_ended : (view : View) (ops : List Operation) (i : ℕ) (names : Bindings)
+    (start now : List Command) → drop i ops ≡ [] → HasRun view ops i names start now → start ≡ []
+    → MayIssue ops view now
+has_ended view ops i names start now none run empty =
+    subst (λ (q : List Command). IssuesAll view unbound ops q)
+    (append-nil run.added ∙ sym (run.queue ∙ ap (λ (q : List Command). q ++ run.added) empty))
+    (run.rest [] (subst (λ (os : List Operation). IssuesAll view names os []) (sym none) refl))

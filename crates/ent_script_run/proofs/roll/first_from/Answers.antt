@@ -1,0 +1,12 @@
+use Rattle.std.proofs.Common.{rules}
+use Rattle.std.proofs.lemmas.List.Sorted.{IsPartitionPoint-from_clause}
+use Rattle.ent_script_run.specs.Rolls.{is_before}
+use Rattle.ent_script_run.proofs.Rolls.{parted}
+use Rattle.ent_script_run.proofs.roll.first_from.Goals as goal
+
+pub returns : goal.returns
+returns c =
+    IsPartitionPoint-from_clause (is_before c.args.view.now c.args.birth) _ _
+    c.partition_point.ensures.partitioned
+    (parted c.args.view.now c.args.birth c.args.handles.now c.requires)
+    (λ a r q k. search rules)

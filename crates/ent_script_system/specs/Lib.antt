@@ -1,5 +1,0 @@
-pub mod Issuing
-pub mod Rolls
-pub mod Parts
-pub mod IssuedAlone
-pub mod FrameAlone
