@@ -4,10 +4,10 @@ ghost use Rattle.ent_queue.specs.Command.{Command};
 ghost use Rattle.ent_runner.specs.Frame.{Ends};
 ghost use Rattle.ent_script_run.specs.Issuing.{MayIssue};
 
+use crate::script_system::ScriptSystem;
 use ent_handle::Memory;
 use ent_runner::{NoGate, run_frame};
 use ent_script::System;
-use crate::script_system::ScriptSystem;
 use ent_world::{SyncReport, World};
 use std::alloc::Global;
 use std::thread::Threads;

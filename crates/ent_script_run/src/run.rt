@@ -9,12 +9,12 @@ ghost use Rattle.ent_script_run.specs.SameReport.{HasEnoughSlots, IsWithoutHandl
 ghost use Rattle.ent_script_run.specs.ScriptAlone.{text_alone};
 
 use crate::frame;
-use crate::progress::Progress;
-use ent_handle::Memory;
-use ent_script::{Frame, Script};
 use crate::frame_text::write_frame;
+use crate::progress::Progress;
 use crate::show::Show;
 use crate::world_text::write_world;
+use ent_handle::Memory;
+use ent_script::{Frame, Script};
 use ent_world::World;
 use std::alloc::Global;
 use std::thread::Threads;
