@@ -44,7 +44,8 @@ def counts(top):
     top = pathlib.Path(top)
     crates = [it for it in top.glob("crates/*") if (it / "src").is_dir()]
     clauses = sum("ensures" in it.split("//")[0] for crate in crates if is_library(crate) for it in lines(crate, ["src/**/*.rt"]))
-    tests = list(lines(top, ["crates/*_tests/src/**/*.rt", "rust/*/tests/**/*.rs", "rust/erased_tests/src/*.rs", "rust/erased_tests/src/values/*.rs"]))
+    erased = "rust/erased_tests/src"
+    tests = [*lines(top, ["crates/*_tests/src/**/*.rt", "rust/*/tests/**/*.rs", f"{erased}/*.rs", f"{erased}/values/*.rs"])]
     compared = r"\b(assert|assert_eq|assert_ne|prove|prove_eq)!\(|\bexpect\(|^\s*\(\s*(b?r?#*\"|&)"
     cases = [*lines(top, ["crates/*/cases/*", "crates/cases*/data/*"])]
     answers = sum(" => " in it or it.startswith(("> ", ">\\ ", ">> ", "! ", "= ")) or it == ">" for it in cases)
