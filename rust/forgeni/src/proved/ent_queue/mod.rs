@@ -1,6 +1,6 @@
 // Made of crates/ent_queue/src/lib.rt by rust/erase. It isn't edited by hand.
 
-//! Bundles of components, and queues of commands that systems write and a world applies.
+//! Queues of commands that systems write and a world applies.
 
 mod bundle;
 mod bundle_ref;
