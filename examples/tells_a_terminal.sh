@@ -26,6 +26,6 @@ tells() {
 }
 
 tells 0 '' "$here/one_caller.txt" replay
-tells 0 '' "$here/../crates/examples/data/reuse.json" run
+tells 0 '' "$here/data/reuse.json" run
 tells 1.1 '\r0 of 7 done\r\033[K' "$here/one_caller.txt" replay
-tells 1.1 '\r0 of 3 done\r\033[K' "$here/../crates/examples/data/reuse.json" run
+tells 1.1 '\r0 of 3 done\r\033[K' "$here/data/reuse.json" run
