@@ -10,7 +10,10 @@ fn the_greatest_limits() {
     let mut entities = Entities::new(Global, Limits::default_limits());
     assert!(entities.room() == u32::MAX && entities.top() == 0);
     assert!(!entities.needs_flush() && entities.is_empty());
-    let reserved = entities.reply(Span::new(0, u32::MAX)).ok().expect("all are left");
+    let reserved = entities
+        .reply(Span::new(0, u32::MAX))
+        .ok()
+        .expect("all are left");
     assert_eq!(reserved.len(), 4_294_967_295);
     entities.settle(-5, -5);
     assert_eq!(entities.cursor(), -5);

@@ -16,7 +16,9 @@ const QUOTA: QueueFault = QueueFault::Quota { left: 1 };
 fn texts_of_refusals() {
     let space = Refused::Space { wanted: 7, left: 3 };
     assert_eq!(space.to_string(), "7 wanted and 3 left");
-    let quota = Refused::Quota { left: 1_099_511_627_775 };
+    let quota = Refused::Quota {
+        left: 1_099_511_627_775,
+    };
     assert_eq!(quota.to_string(), "the credit left is 1099511627775");
 }
 
@@ -60,15 +62,24 @@ fn stopped(fault: SyncFault) -> FrameFault {
 
 #[test]
 fn texts_of_the_faults_of_a_sync_point() {
-    assert_eq!(SyncFault::FlushMemory.to_string(), "out of memory for the flush");
+    assert_eq!(
+        SyncFault::FlushMemory.to_string(),
+        "out of memory for the flush"
+    );
     let command = "out of memory at command 5 of system 3";
     assert_eq!(at_command(5, 3).to_string(), command);
 }
 
 #[test]
 fn texts_of_the_faults_of_a_frame() {
-    assert_eq!(FrameFault::Memory.to_string(), "out of memory before any system ran");
-    assert_eq!(FrameFault::Lost.to_string(), "out of memory while the systems ran");
+    assert_eq!(
+        FrameFault::Memory.to_string(),
+        "out of memory before any system ran"
+    );
+    assert_eq!(
+        FrameFault::Lost.to_string(),
+        "out of memory while the systems ran"
+    );
     let flush = "the sync point stopped: out of memory for the flush";
     assert_eq!(stopped(SyncFault::FlushMemory).to_string(), flush);
     let command = "the sync point stopped: out of memory at command 3 of system 5";

@@ -65,5 +65,8 @@ fn order_and_hash() {
     assert!((first.index(), first.generation()) == (0, 2) && first < second);
     // A hash map finds the second one by its text.
     let names = HashMap::from([(first, 'a'), (second, 'b')]);
-    assert_eq!(names.get(&Handle::read_text(b"1v1").expect("a handle")), Some(&'b'));
+    assert_eq!(
+        names.get(&Handle::read_text(b"1v1").expect("a handle")),
+        Some(&'b')
+    );
 }

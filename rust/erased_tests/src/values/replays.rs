@@ -74,7 +74,10 @@ fn lists_of_handles() {
     let handle = Handle::new(2, 1).expect("a handle");
     let list = HandleList::new(Vec::from_slice(Global, &[handle, handle]).expect("memory for two"));
     let none = HandleList::new(Vec::new(Global));
-    assert_eq!((list.len(), list.is_empty(), none.is_empty()), (2, false, true));
+    assert_eq!(
+        (list.len(), list.is_empty(), none.is_empty()),
+        (2, false, true)
+    );
     assert!(list != none);
     assert_eq!(list.into_vec().as_slice(), [handle, handle]);
 }
