@@ -16,8 +16,7 @@ use Rattle.ent_world.specs.declared.fault.FaultKind.{FaultKind}
 use Rattle.ent_world.specs.declared.fault.FaultKind.TheVariants as kind
 use Rattle.ent_world.specs.World.{World, first_world, lives_in}
 use Rattle.ent_world.specs.Effects.{Applied, applied, on_entity, on_each, with_fault}
-use Rattle.ent_world.specs.Effects.{after_command, after_commands}
-use Rattle.ent_world.specs.Effects.{after_queues}
+use Rattle.ent_world.specs.Effects.{after_command, after_commands, after_queues}
 use Rattle.ent_world.specs.Sync.{after_births, sync}
 use Rattle.ent_runner.specs.Frame.{reserved_by}
 use Rattle.ent_script.specs.Script.{Script}
