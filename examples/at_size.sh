@@ -20,7 +20,7 @@ tested() {
     for test in $passed; do echo "forgeni, $test: passed"; done
 }
 
-# The first would take minutes if they weren't optimised. The second take no time.
+# The first are for optimised code, as their file says. The second take no time.
 tested --release --test sizes
 tested --lib room::
 
