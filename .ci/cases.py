@@ -75,7 +75,8 @@ def many(text, between):
     pieces = re.split(rb"#(\*[0-9]+)?", unescaped(pattern))
     texts, factors = pieces[::2], [int(it[1:]) if it else 1 for it in pieces[1::2]]
     if not factors:
-        return between.join([texts[0]] * (last + 1 - first))
+        # One repetition, since a list of as many items as an input may have bytes takes seconds.
+        return ((texts[0] + between) * (last + 1 - first)).removesuffix(between)
     each = (b"".join([texts[0], *(b"%d%b" % (at * it, text) for it, text in zip(factors, texts[1:]))]) for at in range(first, last + 1))
     return between.join(each)
 

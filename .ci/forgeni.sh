@@ -7,6 +7,13 @@ if grep -rnw unsafe --include=*.rs .. | grep -v "forbid(unsafe_code)"; then
     echo "rust: unsafe code"
     exit 1
 fi
+for test in tests/*.rs; do
+    name=$(basename "$test" .rs)
+    grep -qx "mod $name;" tests/all.rs || grep -qx "name = \"$name\"" Cargo.toml || {
+        echo "rust/forgeni: $test is neither in tests/all.rs nor a program of its own in Cargo.toml, so it isn't run"
+        exit 1
+    }
+done
 cargo test --offline
 RUSTDOCFLAGS="-D warnings" cargo doc --offline --no-deps
 if cargo clippy --version >/dev/null 2>&1; then
@@ -23,5 +30,5 @@ empty=$(mktemp -d)
 trap 'rm -rf "$empty"' EXIT
 cargo package --offline --no-verify --allow-dirty --quiet --target-dir "$empty/packed"
 tar -xzf "$empty"/packed/package/forgeni-*.crate -C "$empty"
-(cd "$empty"/forgeni-* && cargo build --offline --release --quiet)
+(cd "$empty"/forgeni-* && cargo build --offline --quiet)
 echo "rust/forgeni: its archive builds by itself"

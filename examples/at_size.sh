@@ -12,15 +12,16 @@ trap 'rm -rf "$out"' EXIT
 program=$here/../crates/spawnrun/out/spawnrun
 [ -x "$program" ] || (cd "$here/../crates/spawnrun" && rt run >"$out/built" 2>&1)
 
-# tested WORDS..: tests of the package, as optimised code. All that is named has to be there and to pass.
+# tested WORDS..: tests of the package. All that is named has to be there and to pass.
 tested() {
-    (cd "$here/../rust/forgeni" && cargo test --offline --release "$@") >"$out/printed" 2>&1 || { cat "$out/printed"; exit 1; }
+    (cd "$here/../rust/forgeni" && cargo test --offline "$@") >"$out/printed" 2>&1 || { cat "$out/printed"; exit 1; }
     passed=$(sed -n 's/^test \(.*\) \.\.\. ok$/\1/p' "$out/printed")
     [ -n "$passed" ] || { echo "cargo test $*: no test ran"; exit 1; }
     for test in $passed; do echo "forgeni, $test: passed"; done
 }
 
-tested --test sizes
+# The first are for optimised code, as their file says. The second take no time.
+tested --release --test sizes
 tested --lib room::
 
 python3 - "$out" <<'END'

@@ -1,7 +1,7 @@
 #!/bin/sh
 # Shows that a program which closes a `Shared` while it holds a reply of it doesn't compile: keeps a reply in a copy of the example of two
-# threads in crates/examples, uses it after the close, and fails unless the compiler refuses the move. It proves nothing, and needs `rt` and
-# `patch` on the path.
+# threads in crates/examples, uses it after the close, and fails unless the compiler refuses the move. It proves nothing, and needs `rt`,
+# `patch` and `timeout` on the path.
 set -eu
 top=$(cd "$(dirname "$0")/.." && pwd)
 copy=$(mktemp -d)
@@ -35,7 +35,8 @@ patch --quiet -p1 <<'PATCH'
 +    println!(rt; "{} held", held.len())?;
 +    Ok(given)
 PATCH
-rt try >"$copy/said" 2>&1 || true
+# The quick pass over the sources, which comes before the first proof, refuses it.
+timeout 300 rt check >"$copy/said" 2>&1 || true
 grep 'cannot move out of `shared` because it is borrowed' "$copy/said" || {
     cat "$copy/said"
     exit 1

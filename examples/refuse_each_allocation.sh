@@ -16,14 +16,29 @@ for name in spawnrun tracecheck; do
 done
 cc -O2 -shared -fPIC -o "$room/refuse.so" "$here/refuse_allocation.c"
 
-# run NUMBER INPUT WORDS..: the program with that allocation refused. It sets status, and makes the file refused if it came so far.
+# Thousands of runs follow, so what looks at one starts no process where the shell itself can look.
+
+# next_refused: names a file that isn't there. It is made if the run comes to the allocation that is refused.
+files=0
+next_refused() {
+    files=$((files + 1))
+    refused=$room/refused.$files
+}
+
+# run NUMBER INPUT WORDS..: the program with that allocation refused. It sets status.
 run() {
     number=$1 input=$2
     shift 2
-    rm -f "$room/refused"
+    next_refused
     status=0
-    LD_PRELOAD=$room/refuse.so REFUSE=$number REFUSED=$room/refused \
+    LD_PRELOAD=$room/refuse.so REFUSE=$number REFUSED=$refused \
         "$program" "$@" <"$input" >"$room/printed" 2>"$room/said" || status=$?
+}
+
+# Whether the program has said `memory`, in a line, and nothing else.
+says_memory() {
+    first='' second=''
+    { IFS= read -r first && ! IFS= read -r second; } <"$room/said" && [ "$first" = memory ] && [ -z "$second" ]
 }
 
 # Whether the program has said how what it says undisturbed begins. Without memory it leaves out what was found.
@@ -42,9 +57,9 @@ each() {
     while [ "$beyond" -lt 4 ]; do
         allocation=$((allocation + 1))
         run "$allocation" "$@"
-        if [ ! -e "$room/refused" ]; then
+        if [ ! -e "$refused" ]; then
             beyond=$((beyond + 1))
-        elif [ "$status" = 3 ] && [ ! -s "$room/printed" ] && [ "$(cat "$room/said")" = memory ]; then
+        elif [ "$status" = 3 ] && [ ! -s "$room/printed" ] && says_memory; then
             beyond=0 memory=$((memory + 1))
         elif [ "$status" = "$wanted" ] && cmp -s "$room/printed" "$room/wanted" && is_heard; then
             beyond=0 undisturbed=$((undisturbed + 1))
@@ -108,10 +123,10 @@ passes() {
     beyond=0 allocation=0 passed=0
     while [ "$beyond" -lt 4 ]; do
         allocation=$((allocation + 1))
-        rm -f "$room/refused"
+        next_refused
         status=0
-        LD_PRELOAD=$room/refuse.so REFUSE=$allocation REFUSED=$room/refused "$@" >"$room/printed" 2>&1 || status=$?
-        if [ ! -e "$room/refused" ]; then
+        LD_PRELOAD=$room/refuse.so REFUSE=$allocation REFUSED=$refused "$@" >"$room/printed" 2>&1 || status=$?
+        if [ ! -e "$refused" ]; then
             beyond=$((beyond + 1))
         elif [ "$status" = 0 ]; then
             beyond=0 passed=$((passed + 1))
@@ -149,12 +164,12 @@ spared() {
     tests=$top/crates/$1/out/$1_tests
     [ -x "$tests" ] || return 0
     for test in $("$tests" --list 2>/dev/null | sed -n 's/: test$//p' | grep takes_no_memory); do
-        rm -f "$room/refused"
-        LD_PRELOAD=$room/refuse.so REFUSE=1000 REFUSED=$room/refused "$tests" "$test" >"$room/printed" 2>&1 || {
+        next_refused
+        LD_PRELOAD=$room/refuse.so REFUSE=1000 REFUSED=$refused "$tests" "$test" >"$room/printed" 2>&1 || {
             cat "$room/printed"
             exit 1
         }
-        [ ! -e "$room/refused" ] || { echo "$1 $test: it takes memory"; exit 1; }
+        [ ! -e "$refused" ] || { echo "$1 $test: it takes memory"; exit 1; }
         echo "$1 $test: takes none"
     done
 }

@@ -1,9 +1,7 @@
 //! Frames. What one makes doesn't depend on the number of its workers, and is what the same systems
 //! make one after the other by `World::open` and `World::apply`.
 
-mod common;
-
-use common::{handle, seeds, Numbers};
+use crate::common::{handle, seeds, Numbers};
 use forgeni::{
     run_frame, Birth, Commands, ComponentId, FaultKind, FrameError, Handle, Limits, OutOfMemory,
     Report, SpawnError, System, SystemCommands, View, World,

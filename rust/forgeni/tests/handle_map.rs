@@ -1,9 +1,7 @@
 //! Maps from handles beside `HashMap`: random calls, at three types of values, each of which is
 //! dropped exactly once. `FORGENI_SEEDS` sets how many seeds are run, `FORGENI_SEED` runs one alone.
 
-mod common;
-
-use common::{handle, seeds, Numbers};
+use crate::common::{handle, seeds, Numbers};
 use forgeni::{Handle, HandleMap, InsertionError};
 use std::cell::Cell;
 use std::collections::HashMap;

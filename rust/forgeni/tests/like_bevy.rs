@@ -2,9 +2,7 @@
 //! worlds that reserve), asked of this one. Above each test stands which behaviour of Bevy it shows,
 //! and where this allocator is meant to differ.
 
-mod common;
-
-use common::{handle, small};
+use crate::common::{handle, small};
 use forgeni::{ComponentId, Entities, Freed, Handle, Limits, State, World};
 use std::collections::hash_map::RandomState;
 use std::collections::HashSet;

@@ -1,9 +1,7 @@
 //! What the tests of hecs ask of its own allocator, asked of this one. Above each test stands which
 //! behaviour of hecs it shows, and where this allocator is meant to differ.
 
-mod common;
-
-use common::{handle, small, Numbers};
+use crate::common::{handle, small, Numbers};
 use forgeni::{Entities, FreeError, Handle, State};
 use std::collections::{HashMap, HashSet};
 

@@ -2,9 +2,7 @@
 //! `HandleMap`: the two together are a slot map, and the second one alone is a secondary map. Above
 //! each test stands which behaviour of slotmap it shows, and where this package is meant to differ.
 
-mod common;
-
-use common::{handle, Numbers};
+use crate::common::{handle, small, Numbers};
 use forgeni::{Entities, FreeError, Handle, HandleMap, InsertionError};
 use std::collections::{HashMap, HashSet};
 use std::mem::size_of;
@@ -253,7 +251,7 @@ fn room_for_all() {
 /// live. Here the slot is retired.
 #[test]
 fn no_key_comes_again() {
-    let mut entities = common::small(1, 50);
+    let mut entities = small(1, 50);
     let mut told = HashSet::new();
     while let Ok(one) = entities.alloc() {
         assert!(told.insert(one));

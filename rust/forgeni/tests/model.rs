@@ -1,9 +1,7 @@
 //! Random calls by one caller, compared with a model in plain Rust. `FORGENI_SEEDS` sets how many
 //! seeds are run, `FORGENI_SEED` runs one alone.
 
-mod common;
-
-use common::{handle, seeds, small, Model, Numbers};
+use crate::common::{handle, seeds, small, Model, Numbers};
 use forgeni::{AllocError, Handle, Refused, RequestError, RequestManyError, State};
 
 fn run(seed: u64) {

@@ -1,9 +1,7 @@
 //! A caller's code panics in the middle of a call, or beside one. The panic is handed on, and what
 //! it found half done is a state that the package speaks of, with nothing lost.
 
-mod common;
-
-use common::{handle, small};
+use crate::common::{handle, small};
 use forgeni::{
     run_frame, Birth, Commands, ComponentId, Entities, FinishError, FrameError, OutOfMemory,
     System, SystemCommands, View, World,

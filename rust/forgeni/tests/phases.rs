@@ -1,9 +1,7 @@
 //! A phase on a borrow of the allocator, and pools of reservers: whatever its closure does, the
 //! allocator is back at the end, with all that was reserved.
 
-mod common;
-
-use common::{handle, seeds, small, Model, Numbers};
+use crate::common::{handle, seeds, small, Model, Numbers};
 use forgeni::{Entities, Handle, Lent, OtherPhase, Refused, ShareError};
 use std::collections::HashSet;
 use std::mem;

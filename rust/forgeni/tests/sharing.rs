@@ -1,8 +1,6 @@
 //! Worked examples of phases, written by hand, and what stands after each misuse.
 
-mod common;
-
-use common::{handle, small};
+use crate::common::{handle, small};
 use forgeni::{
     AllocError, CloseError, Entities, OtherPhase, Refused, Reserver, ShareError, Shared,
 };

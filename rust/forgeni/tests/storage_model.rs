@@ -1,12 +1,9 @@
 //! Random calls of a storage, compared with a map in plain Rust.
 
-mod common;
-mod worlds;
-
-use common::{handle, seeds, Numbers};
+use crate::common::{handle, seeds, Numbers};
+use crate::worlds::{any_birth, any_component, any_components, Components};
 use forgeni::{Absent, Birth, BornError, ComponentId, Handle, InsertError, Storage};
 use std::collections::btree_map::{BTreeMap, Entry};
-use worlds::{any_birth, any_component, any_components, Components};
 
 /// The handles and births of a storage: few, so that they meet often.
 fn any_handle(numbers: &mut Numbers) -> Handle {

@@ -2,9 +2,7 @@
 //! pool, and a sequential allocator that serves the requests in that order says the same.
 //! `FORGENI_SEEDS` sets how many seeds are run, `FORGENI_SEED` runs one alone.
 
-mod common;
-
-use common::{seeds, small, Model, Numbers};
+use crate::common::{seeds, small, Model, Numbers};
 use forgeni::{Entities, Handle, Refused, Reserver, State};
 use std::collections::{HashMap, HashSet};
 use std::sync::Barrier;

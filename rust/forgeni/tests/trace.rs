@@ -1,9 +1,7 @@
 //! Traces by hand: what the checker says of the faults that people have made, of each form of a reply, and
 //! of its own bounds. The replies that are expected are worked out by the rules of the allocator.
 
-mod common;
-
-use common::handle;
+use crate::common::handle;
 use forgeni::trace::{AllocReply, Call, CheckError, Checker, FlushReply, FreeReply};
 use forgeni::trace::{Difference, Log, Recorder, Reservation, ReserveReply};
 use forgeni::{Entities, Handle, Limits, State};

@@ -2,9 +2,7 @@
 //! says of each is what a search over all orders finds, which knows nothing of positions and keys.
 //! `FORGENI_SEEDS` sets how many seeds are run, `FORGENI_SEED` runs one alone.
 
-mod common;
-
-use common::{handle, seeds, Model, Numbers};
+use crate::common::{handle, seeds, Model, Numbers};
 use forgeni::trace::{AllocReply, Call, CheckError, Checker, FlushReply, FreeReply};
 use forgeni::trace::{Reservation, ReserveReply};
 use forgeni::{AllocError, FreeError, Freed, Handle, Limits, Refused, State};

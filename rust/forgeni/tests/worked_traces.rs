@@ -1,9 +1,7 @@
 //! Worked examples as traces. Each agrees; and with one answer changed, in each of many ways, it differs at
 //! the line of that answer, where the answer of the example is what was expected.
 
-mod common;
-
-use common::handle;
+use crate::common::handle;
 use forgeni::trace::{AllocReply, Call, CheckError, Checker, FlushReply, FreeReply};
 use forgeni::trace::{Reservation, ReserveReply};
 use forgeni::{Handle, Limits};

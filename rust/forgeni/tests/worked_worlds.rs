@@ -1,8 +1,6 @@
 //! Worked examples of a world and its phases, written by hand.
 
-mod common;
-
-use common::handle;
+use crate::common::handle;
 use forgeni::{
     AllocError, Birth, Commands, ComponentId, Fault, FaultKind, FinishError, FreeError, Freed,
     Limits, OpenError, SpawnError, SyncError, SyncErrorKind, World,

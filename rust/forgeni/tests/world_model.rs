@@ -1,16 +1,13 @@
 //! A world, and its sync point after systems on threads, compared with a world in plain Rust.
 
-mod common;
-mod worlds;
-
-use common::{handle, seeds, Numbers};
+use crate::common::{handle, seeds, Numbers};
+use crate::worlds::{any_components, pick, Command, WorldModel};
 use forgeni::{
     AllocError, Birth, CommandQueue, Commands, ComponentId, FaultKind, FreeError, Freed, Handle,
     Limits, SpawnError, World,
 };
 use std::collections::BTreeSet;
 use std::thread;
-use worlds::{any_components, pick, Command, WorldModel};
 
 /// What the world says of everything is what the model says.
 fn compare(world: &World, model: &WorldModel, place: &str) {

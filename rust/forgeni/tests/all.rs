@@ -1,0 +1,27 @@
+//! The tests that can share a program, which is built and linked once. Those that stand in a program of their own need one: `counted`
+//! is run under callgrind by its name, `memory` and `refused_memory` have little memory or an allocator that refuses, and `sizes` is
+//! also run as optimised code.
+
+mod common;
+mod worlds;
+
+mod errors;
+mod frames;
+mod handle_map;
+mod handles;
+mod like_bevy;
+mod like_hecs;
+mod like_slotmap;
+mod model;
+mod panics;
+mod phases;
+mod recording;
+mod sharing;
+mod storage_model;
+mod threads;
+mod trace;
+mod trace_model;
+mod worked_calls;
+mod worked_traces;
+mod worked_worlds;
+mod world_model;
