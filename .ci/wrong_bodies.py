@@ -153,32 +153,18 @@ def lacks_only_holes(said):
 
 def put_holes(room, crate, functions):
     """Takes the answers of all other functions away, and leaves a hole for the proof of each."""
-    for path in with_proofs(room, crate):
+    for answers in sorted(room.glob("proofs/**/Answers.antt")):
+        path = answers.parent.relative_to(room / "proofs").parts
         is_tried = any(f"::{'::'.join(path)}".endswith(f"::{it}") for it in functions)
         if is_tried or path[-1].startswith("+"):
             continue
-        folder = room.joinpath("proofs", *path)
-        folder.mkdir(parents=True, exist_ok=True)
-        for name in ("Answers.antt", "Invariants.antt"):
-            (folder / name).unlink(missing_ok=True)
+        answers.unlink()
+        answers.with_name("Invariants.antt").unlink(missing_ok=True)
         name, module = path[-1], ".".join(path)
-        (folder / "Proof.antt").write_text(
+        answers.with_name("Proof.antt").write_text(
             f"use Rattle.{crate}.proofs.{module}.Statement.{{statement}}\n\n"
             f"pub {name}_spec : {{M : Type 1}} → statement M\n{name}_spec = ?\n"
         )
-
-
-def with_proofs(room, crate):
-    """The paths of the functions that have answers, and of those that are proved without, as the crate's library lists them if it is built."""
-    paths = {it.parent.relative_to(room / "proofs").parts for it in room.glob("proofs/**/Answers.antt")}
-    listed = pathlib.Path(f"crates/{crate}/out/rlib/{crate}.rlib/toolchain/checked.json")
-    if listed.is_file():
-        source = "\n".join(it.read_text() for it in room.glob("src/**/*.rt"))
-        # Functions of a cycle have one proof together.
-        written = set(re.findall(r"\bfn (\w+)", source)) - set(re.findall(r"#\[cycle\(\w+\)\]\s*(?:pub(?:\([a-z]+\))? )?fn (\w+)", source))
-        found = re.findall(rf'"part/Rattle-{crate}-proofs\.([\w.]+)\.Code"', listed.read_text())
-        paths |= {tuple(it.split(".")) for it in found if it.split(".")[-1] in written}
-    return sorted(paths)
 
 
 def with_functions(room, said):
