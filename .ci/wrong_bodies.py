@@ -189,9 +189,10 @@ def refusals(crate, said):
     for function, goals in re.findall(rf"(?m)^fn {crate}::(\S+): no proof: .*?`search` did not prove (.*)$", said):
         found[function] += re.findall(r"`([^`]+)`", goals)
     for name, file, goal in re.findall(r"(?m)^note: (\w+): src/(\S+)\.rt:\S+ it is not proved .*?\(`([^`]+)`\)", said):
-        owners = [it for it in found if it.split("::")[-1] == name] or list(found)
+        owners = [it for it in found if it.split("::")[-1] == name]
         if len(owners) > 1:
             owners = [it for it in owners if it.startswith(file.replace("/", "::") + "::")]
+        owners = owners or list(found)
         if len(owners) == 1:
             found[owners[0]].append(goal)
     return {it: list(dict.fromkeys(goals)) for it, goals in found.items()}
