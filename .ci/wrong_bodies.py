@@ -14,8 +14,8 @@ Its line `refused by: FUNCTION: GOAL` says which function the prover refuses the
 with the name of a clause, of an invariant, or of what a call requires. With a line `gate` the gate tries it.
 
 Only the function that the file names is checked. Of those that it calls the contracts count, which no edit changes: a hole stands for each
-proof of theirs. So a try takes seconds where the check of a crate takes minutes. The script runs at the top of the repository, and needs
-`rt` on the PATH.
+proof of theirs that has answers. So a try takes seconds where the check of a crate takes minutes. Edits of several functions of a crate are
+tried in one check, two of one function in two. The script runs at the top of the repository, and needs `rt` on the PATH.
 """
 
 import argparse
@@ -188,8 +188,11 @@ def refusals(crate, said):
             found[function].append(goal)
     for function, goals in re.findall(rf"(?m)^fn {crate}::(\S+): no proof: .*?`search` did not prove (.*)$", said):
         found[function] += re.findall(r"`([^`]+)`", goals)
-    for name, goal in re.findall(r"(?m)^note: (\w+): src/\S+: it is not proved .*?\(`([^`]+)`\)", said):
-        owners = [it for it in found if it.split("::")[-1] == name] or list(found)
+    for name, file, goal in re.findall(r"(?m)^note: (\w+): src/(\S+)\.rt:\S+ it is not proved .*?\(`([^`]+)`\)", said):
+        owners = [it for it in found if it.split("::")[-1] == name]
+        if len(owners) > 1:
+            owners = [it for it in owners if it.startswith(file.replace("/", "::") + "::")]
+        owners = owners or list(found)
         if len(owners) == 1:
             found[owners[0]].append(goal)
     return {it: list(dict.fromkeys(goals)) for it, goals in found.items()}
