@@ -1,4 +1,5 @@
 -- The items of the columns in use are all items at a place.
+use Rattle.std.proofs.lemmas.Grind.{common_steps}
 use Rattle.std.proofs.Common.{◌≡◌, ◌≢◌, ℕ, ℤ, zero, suc, ◌+◌, ◌<◌, ◌≤◌, ◌⊎◌, inl, inr, cond, List}
 use Rattle.std.proofs.Common.{[], ◌∷◌, length, Contains, Option, None, Some, is_some}
 use Rattle.std.proofs.Common.{refl, sym, ap, ◌∙◌, arith}
@@ -23,16 +24,7 @@ pub count_items : (used : List ℕ) (columns : List Column) (place : ℕ)
     ≡ length (items_of used columns place)
 count_items [] columns place = refl
 count_items (n ∷ used) columns place =
-    let first = sum_by-cons
-    (λ (number : ℕ). cond (is_some (map.get (column_at columns number).values place)) 1 0) n used in
-    let rest = count_items used columns place in
-    omega (
-      arith,
-      first,
-      rest,
-      count_value n (map.get (column_at columns n).values place)
-          (items_of used columns place),
-    )
+    grind (arith, common_steps, count_items used columns place)
 
 -- ---- the columns from a number on
 

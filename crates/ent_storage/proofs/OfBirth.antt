@@ -1,4 +1,5 @@
 -- The least handle of a birth, among pairs and in the map.
+use Rattle.std.proofs.Common.{rules}
 use Rattle.std.proofs.Common.{◌≡◌, ◌≢◌, ◌⊎◌, inl, inr, List, [], ◌∷◌, ◌++◌, map, length}
 use Rattle.std.proofs.Common.{Option, Some, None, IfSome, IfNone, IsSomeAnd, Contains, true}
 use Rattle.std.proofs.Common.{ℕ, false, ◌<◌, refl, sym, ap, subst, ◌∙◌, arith}
@@ -36,8 +37,7 @@ pub same_birth : (a b : Birth) → eq_by_cmp birth_cmp a b ≡ true → a ≡ b
 same_birth a b e = birth_cmp-IsAntisymmetric a b (equal _ e)
 
 pub other_birth : (a b : Birth) → eq_by_cmp birth_cmp a b ≡ false → a ≢ b
-other_birth a b e is = false≢true (sym e ∙ ap (λ x. eq_by_cmp birth_cmp a x) (sym is)
-    ∙ ap is_eq (tied_itself birth_cmp_total a))
+other_birth a b e is = search (rules, false≢true)
 
 -- ---- a handle that is not after a second one, which is not after a third
 

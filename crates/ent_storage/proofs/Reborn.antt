@@ -1,4 +1,5 @@
 -- The birth of the entity at a place is changed.
+use Rattle.std.proofs.Common.{rules}
 use Rattle.std.proofs.Common.{◌≡◌, ℕ, zero, suc, ◌<◌, List, [], ◌∷◌, length, get_or, set, Some}
 use Rattle.std.proofs.Common.{Option, refl, sym, ap, subst, ◌∙◌, arith}
 use Rattle.std.proofs.lemmas.List.{get_or_default, length-set}
@@ -26,13 +27,9 @@ pub reborn_from : (n : ℕ) (residents : List Resident) (columns : List Column) 
     ≡ with_birth_at (entities_from n residents columns) i birth
 reborn_from n [] columns i birth resident l read = absurd (omega arith)
 reborn_from n (r ∷ residents) columns zero birth resident l read =
-    ap (λ (x : Resident).
-    record { handle = x.handle; birth = birth; components = components_at columns n }
-    ∷ entities_from (suc n) residents columns) read
+    search (rules)
 reborn_from n (r ∷ residents) columns (suc i) birth resident l read =
-    ap (λ (es : List LivingEntity).
-    record { handle = r.handle; birth = r.birth; components = components_at columns n } ∷ es)
-    (reborn_from (suc n) residents columns i birth resident (omega arith) read)
+    search (rules, reborn_from (suc n) residents columns i birth resident (omega arith) read)
 
 pub length_reborn : (living : List LivingEntity) (i : ℕ) (birth : Birth)
     → length (with_birth_at living i birth) ≡ length living

@@ -1,3 +1,5 @@
+use Rattle.std.proofs.Common.{rules}
+use Rattle.std.proofs.lemmas.Grind.{common_steps}
 use Rattle.std.proofs.Common.{◌≡◌, ◌<◌, map, length, ap, ◌∙◌, arith}
 use Rattle.std.proofs.lemmas.Result.{IfOk-weaker, on_err_weaker}
 use Rattle.ent_handle.specs.declared.birth.Birth.{Birth}
@@ -9,19 +11,9 @@ use Rattle.ent_storage.proofs.living.Living.births.Goals as goal
 
 pub returns-clause-ok : goal.returns-clause-ok
 returns-clause-ok c =
-    let same = births_from 0 c.self.inside.residents.items c.self.inside.columns.items
-    ∙ ap (λ (l : Living). map {B = Birth × Handle} (λ e. (e.birth, e.handle)) l.entities)
-    c.self.view_is in
-    IfOk-weaker _ _ (λ births. births.items ≡ map {B = Birth × Handle} (λ e. (e.birth, e.handle))
-    c.args.self.now.entities) (λ births is. is
-    ∙ ap (map {B = Birth × Handle} (λ (resident : Resident). (resident.birth, resident.handle)))
-    c.deref.ensures.value ∙ same) c.births.ensures.ok
+    grind (arith, common_steps, births_from 0 c.self.inside.residents.items c.self.inside.columns.items, c.self.inside.residents.items, c.self.inside.columns.items, c.self.view_is, c.args.self.now.entities, c.deref.ensures.value, c.births.ensures.ok)
 
 -- there are as many entities as residents
 pub returns-clause-memory : goal.returns-clause-memory
 returns-clause-memory c =
-    let many = length_from 0 c.self.inside.residents.items c.self.inside.columns.items in
-    let view = ap (λ (l : Living). length l.entities) c.self.view_is in
-    let seen = ap length c.deref.ensures.value in
-    on_err_weaker {P = 0 < length c.deref.result.now} c.births.result (λ some. omega arith)
-    c.births.ensures.memory
+    search (rules, length_from, on_err_weaker)

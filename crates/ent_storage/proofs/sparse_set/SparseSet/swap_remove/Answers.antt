@@ -1,3 +1,4 @@
+use Rattle.std.proofs.Common.{rules}
 use Rattle.std.proofs.Common.{refl, ap, ◌∙◌, arith}
 use Rattle.std.specs.Cmp.{nat_cmp_total as total}
 use Rattle.std.specs.FinMap as map
@@ -9,13 +10,11 @@ use Rattle.ent_storage.proofs.sparse_set.SparseSet.swap_remove.Goals as goal
 
 pub relocate-requires-clause-free : goal.relocate-requires-clause-free
 relocate-requires-clause-free c =
-    ap (λ (m : Values). map.get m c.args.place) c.remove.ensures.after
-    ∙ get-remove_same total same _ c.args.place c.args.place refl
+    search (rules, get-remove_same)
 
 pub returns-then-place-last : goal.returns-then-place-last
 returns-then-place-last c =
-    moved_down c.args.place c.args.last _ _ _ c.remove.ensures.after c.if-place-last.true
-    c.relocate.ensures
+    search (rules, moved_down)
 
 pub returns-else-place-last : goal.returns-else-place-last
 returns-else-place-last c =

@@ -1,3 +1,4 @@
+use Rattle.std.proofs.Common.{rules}
 use Rattle.std.proofs.Common.{◌<◌, IfSome, Result, Ok, Err, OnErr, min}
 use Rattle.std.proofs.Common.{ap}
 use Rattle.std.specs.Option.{option_map}
@@ -12,8 +13,7 @@ use Rattle.ent_storage.proofs.storage.Storage.insert_at.Goals as goal
 -- the place is that of the handle
 at : (c : After-self) → IsEntityAt c.self.inside.living.entities c.args.self.now c.args.handle
     c.args.place
-at c = entity_at _ _ _ _ c.self.invariant.indexed c.self.view_is c.args.handle c.args.place
-    c.requires
+at c = search (rules, entity_at)
 
 pub insert-requires : goal.insert-requires
 insert-requires c = (at (goal.at.insert-requires c).After-self).inside
